@@ -1,0 +1,37 @@
+-- All settings of a road at one step.
+use Rattle.std.specs.Prelude.{◌≡◌, ℕ, ◌<◌, ◌≤◌, Bool, true, List, [], length, map}
+use Rattle.std.specs.List.{All}
+use Rattle.std.specs.List.Sorted.{IsStrictlyIncreasing}
+use Rattle.road_plan.specs.Plan.{Plan}
+use Rattle.road_plan.specs.declared.limits.TheConstants.{GREATEST_LIMIT, CERTAIN}
+
+-- A speed limit and a slowing chance for each zone, an inflow chance for each inlet, the blocked cells, and for each
+-- detector whether it is on.
+pub record Settings : Type 0 where
+  pub limits : List ℕ
+  pub chances : List ℕ
+  pub inflows : List ℕ
+  pub blocks : List ℕ
+  pub watched : List Bool
+
+-- one allowed number for each zone, inlet and detector of the plan; the blocked cells rise and are on the road
+pub record Fits (p : Plan) (s : Settings) : Type 0 where
+  pub limit_each : length s.limits ≡ length p.zones
+  pub limits_allowed : All (λ limit. limit ≤ GREATEST_LIMIT) s.limits
+  pub chance_each : length s.chances ≡ length p.zones
+  pub chances_allowed : All (λ chance. chance ≤ CERTAIN) s.chances
+  pub inflow_each : length s.inflows ≡ length p.inlets
+  pub inflows_allowed : All (λ inflow. inflow ≤ CERTAIN) s.inflows
+  pub blocks_rise : IsStrictlyIncreasing s.blocks
+  pub blocks_on_road : All (λ cell. cell < p.cells) s.blocks
+  pub watch_each : length s.watched ≡ length p.detectors
+
+-- the plan's own settings: its numbers, no blocked cell, every detector on
+abbrev pub defaults : Plan → Settings
+defaults p = record {
+  limits = map (λ zone. zone.0) p.zones;
+  chances = map (λ zone. zone.1) p.zones;
+  inflows = map (λ inlet. inlet.1) p.inlets;
+  blocks = [];
+  watched = map (λ site. true) p.detectors;
+}

@@ -1,0 +1,42 @@
+//! The limits of the laboratory. Every other crate takes them from here.
+
+/// The fewest cells of a road.
+pub const LEAST_LENGTH: u32 = 8;
+/// The most cells of a road.
+pub const GREATEST_LENGTH: u32 = 8_192;
+/// The most cells of the deleted zone at the end of a road; it has one at least.
+pub const GREATEST_EXIT: u32 = 64;
+/// The most zones of a road.
+pub const MOST_ZONES: usize = 64;
+/// The most inlets of a road.
+pub const MOST_INLETS: usize = 16;
+/// The most inlets that the program serves today: a plan with more is refused. This is the one place to change.
+pub const SERVED_INLETS: usize = 1;
+/// The most detectors of a road.
+pub const MOST_DETECTORS: usize = 64;
+/// The greatest speed limit, in cells per step.
+pub const GREATEST_LIMIT: u32 = 9;
+/// A chance that always comes: chances are counted in 1/65,536.
+pub const CERTAIN: u32 = 65_536;
+/// The most replicas of a world; they are numbered from 0.
+pub const MOST_REPLICAS: u32 = 64;
+/// The greatest step of an edit.
+pub const LAST_EDIT_STEP: u32 = 65_535;
+/// The greatest horizon, in steps.
+pub const GREATEST_HORIZON: u32 = 65_536;
+/// The greatest count of a stamp; the least is 1.
+pub const GREATEST_COUNT: u64 = 281_474_976_710_656;
+/// The least number of an imported edit's stamp: smaller ones are the replicas'.
+pub const FIRST_IMPORT_NUMBER: u16 = 64;
+/// The most reader sessions of one shared replica.
+pub const MOST_SESSIONS: u32 = 8;
+/// The most workers of a crew.
+pub const MOST_WORKERS: u32 = 16;
+/// The most rows of one space-time diagram.
+pub const MOST_ROWS: u32 = 1_024;
+/// The most bytes of a line of input, its newline not counted.
+pub const LONGEST_LINE: usize = 65_536;
+/// The most lines of input after the plan line.
+pub const MOST_LINES: u32 = 1_000_000;
+/// The most bytes of input.
+pub const MOST_BYTES: u64 = 4_294_967_296;

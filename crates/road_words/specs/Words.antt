@@ -1,0 +1,26 @@
+-- The random words of a plan: one for each stream and place.
+use Rattle.std.specs.Prelude.{ℕ, ◌+◌, ◌*◌, ◌%◌, List, ◌++◌, replicate}
+use Rattle.std.specs.Int.{w64, to_be_bytes}
+use Rattle.rand_chacha.specs.ChaCha.{word_at, key_of}
+use Rattle.road_plan.specs.declared.parts.WordKind.{WordKind}
+use Rattle.road_plan.specs.declared.parts.WordKind.TheVariants.{Seeded, Steady}
+
+-- the word of ChaCha8 (Bernstein 2008, four double rounds) for a key of 32 bytes
+abbrev pub chacha_word : List ℕ → ℕ → ℕ → ℕ
+chacha_word key stream place = word_at 4 (key_of key) stream place
+
+-- a seed's key: its eight big-endian bytes, then 24 zeros
+abbrev pub key_bytes : ℕ → List ℕ
+key_bytes seed = to_be_bytes w64 seed ++ replicate 24 0
+
+abbrev pub seeded_word : ℕ → ℕ → ℕ → ℕ
+seeded_word seed stream place = chacha_word (key_bytes seed) stream place
+
+-- a word that is no random one: its upper 16 bits follow a line through stream and place, its lower 16 bits are 0
+abbrev pub steady_word : ℕ → ℕ → ℕ
+steady_word stream place = (stream * 40503 + place * 30011) % 65536 * 65536
+
+-- the word that a plan names
+abbrev pub word : WordKind → ℕ → ℕ → ℕ
+word (Seeded seed) stream place = seeded_word seed stream place
+word Steady stream place = steady_word stream place
