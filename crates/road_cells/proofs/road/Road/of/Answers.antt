@@ -1,0 +1,5 @@
+use Rattle.road_cells.specs.CarsLaws.{cars_of-array_of}
+use Rattle.road_cells.proofs.road.Road.of.Goals as goal
+
+pub returns-clause-cars : goal.returns-clause-cars
+returns-clause-cars c = cars_of-array_of c.args.cars.items c.requires

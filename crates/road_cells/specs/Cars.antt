@@ -1,0 +1,50 @@
+-- The cars of an array, in rising cells, and the array that cars make.
+use Rattle.std.specs.Prelude.{ℕ, ◌+◌, ◌≤◌, max, List, [], ◌∷◌, nat_eq, if◌then◌else◌}
+use Rattle.std.specs.List.{slice_index_or}
+use Rattle.std.specs.declared.option.Option.{Option}
+use Rattle.std.specs.declared.option.Option.TheVariants.{None, Some}
+use Rattle.road_cells.specs.Array.{Array, Vehicle, array}
+use Rattle.road_cells.specs.declared.car.Car.{Car}
+
+-- a car is a vehicle at a cell
+abbrev pub vehicle_of : Car → Vehicle
+vehicle_of car = record { number = car.number; speed = car.speed }
+
+abbrev pub car_of : ℕ → Vehicle → Car
+car_of c v = record { number = v.number; cell = c; speed = v.speed }
+
+-- the cars of an array whose first place is cell k
+abbrev pub cars_from : ℕ → Array → List Car
+cars_from k [] = []
+cars_from k (None ∷ places) = cars_from (k + 1) places
+cars_from k (Some v ∷ places) = car_of k v ∷ cars_from (k + 1) places
+
+-- the cars of an array, in rising cells
+abbrev pub cars_of : Array → List Car
+cars_of a = cars_from 0 a
+
+-- the cell of the k-th car, counted from 0
+abbrev pub cell_at : List Car → ℕ → ℕ
+cell_at cars k = (slice_index_or cars k (car_of 0 (record { number = 0; speed = 0 }))).cell
+
+-- the cells of cars strictly rise, from k on
+abbrev pub RiseFrom : ℕ → List Car → Type 0
+RiseFrom k [] = Unit {0}
+RiseFrom k (car ∷ cars) = (k ≤ car.cell) × RiseFrom (car.cell + 1) cars
+
+abbrev pub Rise : List Car → Type 0
+Rise cars = RiseFrom 0 cars
+
+-- which of the cars stands at a cell
+abbrev pub standing : ℕ → List Car → Option Vehicle
+standing c [] = None
+standing c (car ∷ cars) = if nat_eq car.cell c then Some (vehicle_of car) else standing c cars
+
+-- one above the greatest cell
+abbrev pub end_of : List Car → ℕ
+end_of [] = 0
+end_of (car ∷ cars) = max (car.cell + 1) (end_of cars)
+
+-- the array that cars make
+abbrev pub array_of : List Car → Array
+array_of cars = array (end_of cars) (λ c. standing c cars)

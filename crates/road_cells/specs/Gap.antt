@@ -1,0 +1,21 @@
+-- The free cells in front of a cell.
+use Rattle.std.specs.Prelude.{ℕ, ◌+◌, ◌||◌, Bool, List, nat_eq, is_some}
+use Rattle.std.specs.List.{list_any, position_or_len}
+use Rattle.road_cells.specs.Array.{Array, vehicle_at, numbers}
+use Rattle.road_cells.specs.declared.car.TheConstants.{GREATEST_SPEED}
+
+-- how many cells from c on come before the first that passes the test, n at most
+unfoldable pub free_before : (ℕ → Bool) → ℕ → ℕ → ℕ
+free_before test c n = position_or_len test (numbers c n)
+
+-- whether a cell is one of the blocked ones
+abbrev pub is_blocked : List ℕ → ℕ → Bool
+is_blocked blocks c = list_any (nat_eq c) blocks
+
+-- whether a cell holds a car or is blocked
+abbrev pub is_taken : List ℕ → Array → ℕ → Bool
+is_taken blocks a c = is_some (vehicle_at a c) || is_blocked blocks c
+
+-- the free cells in front of cell c, at most as many as a car can drive in a step
+abbrev pub free_cells : List ℕ → Array → ℕ → ℕ
+free_cells blocks a c = free_before (is_taken blocks a) (c + 1) GREATEST_SPEED

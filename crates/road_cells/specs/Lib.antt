@@ -1,0 +1,7 @@
+pub mod Array
+pub mod ArrayLaws
+pub mod Cars
+pub mod CarsLaws
+pub mod CarsPlaces
+pub mod Gap
+pub mod GapLaws

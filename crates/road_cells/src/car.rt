@@ -1,0 +1,13 @@
+/// The greatest speed of a car, in cells per step.
+pub const GREATEST_SPEED: u8 = 9;
+
+/// A car on the road.
+#[derive(Clone, Copy, Debug, PartialEq, Eq)]
+pub struct Car {
+    /// Its number, its own for good.
+    pub number: u64,
+    /// The cell where it stands.
+    pub cell: u32,
+    /// Its speed, in cells per step.
+    pub speed: u8,
+}

@@ -1,0 +1,127 @@
+ghost use Rattle.std.specs.Prelude.{◌≡◌, ℕ, ◌+◌, ◌<◌, ◌-◌, min, [], length, is_some, IfOk};
+ghost use Rattle.std.specs.List.Sorted.{IsNonDecreasing};
+ghost use Rattle.std.specs.Option.{option_map};
+ghost use Rattle.road_cells.specs.Array.{vehicle_at};
+ghost use Rattle.road_cells.specs.Cars.{Rise, cars_of, car_of, array_of, cell_at, standing};
+ghost use Rattle.road_cells.specs.Gap.{free_before, free_cells, is_blocked};
+
+use crate::car::{Car, GREATEST_SPEED};
+use std::alloc::{AllocError, Global};
+use std::marker::Model;
+
+/// A road: an array of cells, each empty or taken by a car.
+#[derive(Drop)]
+pub struct Road {
+    cars: Vec<Car>,
+}
+
+impl Model for Road {
+    ghost use Rattle.road_cells.specs.Array.{Array};
+    ghost use Rattle.road_cells.specs.Cars.{Rise, array_of};
+
+    ghost Value = { Array };
+
+    ghost view = { λ road. array_of road.cars.items };
+
+    ghost invariant = { λ road. Rise road.cars.items };
+}
+
+impl Road {
+    /// The empty road. It takes no memory.
+    pub fn empty(alloc: Global) -> Self
+        ensures { result ≡ [] }
+    {
+        Road {
+            cars: Vec::new(alloc),
+        }
+    }
+
+    /// The road of cars in strictly rising cells. It takes no memory.
+    pub fn of(cars: Vec<Car>) -> Self
+        requires { Rise cars.items }
+        ensures road { result ≡ array_of cars.items }
+        ensures cars { cars_of result ≡ cars.items }
+    {
+        Road { cars }
+    }
+
+    /// The cars, in strictly rising cells.
+    pub fn into_cars(self) -> Vec<Car>
+        ensures all { result.items ≡ cars_of self }
+        ensures rise { Rise result.items }
+    {
+        self.cars
+    }
+
+    /// The cars, in strictly rising cells.
+    pub fn cars(&self) -> &[Car]
+        ensures all { result.now ≡ cars_of self.now }
+        ensures rise { Rise result.now }
+    {
+        self.cars.as_slice()
+    }
+
+    /// The car at a cell, found by a binary search.
+    pub fn car_at(&self, cell: u32) -> Option<Car>
+        ensures { result ≡ option_map (car_of cell) (vehicle_at self.now cell) }
+    {
+        match self.cars.binary_search_by_key(&cell, |car| car.cell) {
+            Ok(place) => Some(self.cars[place]),
+            Err(_) => None,
+        }
+    }
+
+    /// The free cells in front of the car at a place of the list, up to the next car or blocked cell: at most
+    /// `GREATEST_SPEED`. A road has no end here: every cell behind the last car is free.
+    pub fn gap(&self, place: usize, blocks: &[u32]) -> u8
+        requires car { place < length (cars_of self.now) }
+        requires rising { IsNonDecreasing blocks.now }
+        ensures { result ≡ free_cells blocks.now self.now (cell_at (cars_of self.now) place) }
+    {
+        let cars = self.cars();
+        let to_car = free_to_car(cars, place);
+        let to_block = free_to_block(cars[place].cell, blocks);
+        to_car.min(to_block)
+    }
+
+    /// A copy of the road.
+    pub fn copied(&self) -> Result<Road, AllocError>
+        ensures { IfOk result (λ road. road ≡ self.now) }
+    {
+        Ok(Road {
+            cars: self.cars.clone()?,
+        })
+    }
+}
+
+// The free cells in front of a car, as far as the next car.
+fn free_to_car(cars: &[Car], place: usize) -> u8
+    requires car { place < length cars.now }
+    requires rising { Rise cars.now }
+    ensures { result ≡ free_before (λ c. is_some (standing c cars.now)) (cell_at cars.now place + 1) GREATEST_SPEED }
+{
+    match cars.get(place + 1) {
+        Some(next) => free_between(cars[place].cell, next.cell),
+        None => GREATEST_SPEED,
+    }
+}
+
+// The free cells in front of a cell, as far as the next blocked cell.
+fn free_to_block(cell: u32, blocks: &[u32]) -> u8
+    requires { IsNonDecreasing blocks.now }
+    ensures { result ≡ free_before (is_blocked blocks.now) (cell + 1) GREATEST_SPEED }
+{
+    let next = blocks.partition_point(|block| *block <= cell);
+    match blocks.get(next) {
+        Some(block) => free_between(cell, *block),
+        None => GREATEST_SPEED,
+    }
+}
+
+// The cells between two cells, at most `GREATEST_SPEED`.
+fn free_between(cell: u32, next: u32) -> u8
+    requires { cell < next }
+    ensures { result ≡ min GREATEST_SPEED (next - (cell + 1)) }
+{
+    (next - cell - 1).min(u32::from(GREATEST_SPEED)) as u8
+}
