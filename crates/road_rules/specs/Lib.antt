@@ -1,0 +1,3 @@
+pub mod Speeds
+pub mod Motion
+pub mod MotionLaws

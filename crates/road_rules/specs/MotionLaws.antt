@@ -1,0 +1,214 @@
+-- The motion of an array is that of the list of its cars.
+use Rattle.std.specs.Prelude.{◌≡◌, ℕ, zero, suc, ◌+◌, ◌<◌, ◌≤◌, ◌==◌, max, true, false, cond, if◌then◌else◌, List, [], ◌∷◌, map, length, slice_index, nat_lt, refl}
+use Rattle.std.specs.List.{count_by}
+use Rattle.std.specs.declared.option.Option.{Option}
+use Rattle.std.specs.declared.option.Option.TheVariants.{None, Some}
+use Rattle.std.proofs.Common.{sym, ap, ◌∙◌, arith, inl, inr}
+use Rattle.std.proofs.lemmas.Bool.{cases_lt, lt-ltb}
+use Rattle.std.proofs.lemmas.Bool.Decides.{nat_tests}
+use Rattle.std.proofs.lemmas.List.Sums.{sum_by-cons}
+use Rattle.road_cells.specs.Array.{Array, Vehicle, vehicle_at, array, numbers}
+use Rattle.road_cells.specs.ArrayLaws.{vehicle_at-array, past_array, array-same}
+use Rattle.road_cells.specs.Cars.{cars_from, cars_of, cell_at, vehicle_of, RiseFrom, Rise, standing, end_of, array_of}
+use Rattle.road_cells.specs.CarsLaws.{vehicle_at-array_of, standing-past, rise-cars_from}
+use Rattle.road_cells.specs.CarsPlaces.{rise-from}
+use Rattle.road_cells.specs.declared.car.Car.{Car}
+use Rattle.road_cells.specs.declared.car.TheConstants.{GREATEST_SPEED}
+use Rattle.road_rules.specs.Motion.{first_some, first_of, coming, arriving, moved, speed_at, moved_at, MayMove}
+
+-- a car at a new speed, that many cells further on
+abbrev pub advanced_by : ℕ → Car → Car
+advanced_by speed car = record { number = car.number; cell = car.cell + speed; speed = speed }
+
+-- each car at the speed that a function gives it
+abbrev pub advanced : (ℕ → Vehicle → ℕ) → List Car → List Car
+advanced speed [] = []
+advanced speed (car ∷ cars) = advanced_by (speed car.cell (vehicle_of car)) car ∷ advanced speed cars
+
+-- each car at the speed of its place in a list
+abbrev pub advanced_at : List ℕ → List Car → List Car
+advanced_at speeds [] = []
+advanced_at [] (car ∷ cars) = []
+advanced_at (v ∷ speeds) (car ∷ cars) = advanced_by v car ∷ advanced_at speeds cars
+
+-- ---- a search of the cells is a search of the cars
+
+first_car : {X : Type 0} → (ℕ → Vehicle → Option X) → List Car → Option X
+first_car h [] = None
+first_car h (car ∷ cars) = first_some (h car.cell (vehicle_of car)) (first_car h cars)
+
+if_there : {X : Type 0} → (Vehicle → Option X) → Option Vehicle → Option X
+if_there h None = None
+if_there h (Some v) = h v
+
+module _ {X : Type 0} (h : ℕ → Vehicle → Option X) where
+  searched : (n k : ℕ) (places : Array) (at : ℕ → Option Vehicle) → length places ≤ n → ((j : ℕ) → at (k + j) ≡ vehicle_at places j) → first_of (λ c. if_there (h c) (at c)) (numbers k n) ≡ first_car h (cars_from k places)
+  unfolding first_car if_there
+  searched zero k [] at few same = refl
+  searched zero k (x ∷ places) at few same = absurd (omega arith)
+  searched (suc n) k [] at few same =
+      let here : k + 0 ≡ k = omega arith in
+      ap (λ o. first_some (if_there (h k) o) (first_of (λ c. if_there (h c) (at c)) (numbers (k + 1) n))) (ap at (sym here) ∙ same 0)
+      ∙ searched n (k + 1) [] at (omega arith) (λ j. let next : (k + 1) + j ≡ k + suc j = omega arith in ap at next ∙ same (suc j))
+  searched (suc n) k (x ∷ places) at few same =
+      let here : k + 0 ≡ k = omega arith in
+      ap (λ o. first_some (if_there (h k) o) (first_of (λ c. if_there (h c) (at c)) (numbers (k + 1) n))) (ap at (sym here) ∙ same 0)
+      ∙ ap (first_some (if_there (h k) x)) (searched n (k + 1) places at (omega arith) (λ j. let next : (k + 1) + j ≡ k + suc j = omega arith in ap at next ∙ same (suc j)))
+      ∙ split x
+    where
+      split : (x : Option Vehicle) → first_some (if_there (h k) x) (first_car h (cars_from (k + 1) places)) ≡ first_car h (cars_from k (x ∷ places))
+      split None = refl
+      split (Some v) = refl
+
+comes : (ℕ → Vehicle → ℕ) → ℕ → ℕ → Vehicle → Option Vehicle
+comes speed j c v = if c + speed c v == j then Some (record { number = v.number; speed = speed c v }) else None
+
+coming-comes : (speed : ℕ → Vehicle → ℕ) (j c : ℕ) (o : Option Vehicle) → coming j c (speed c) o ≡ if_there (comes speed j c) o
+unfolding comes if_there
+coming-comes speed j c None = refl
+coming-comes speed j c (Some v) = refl
+
+first_of-same : {X : Type 0} (f g : ℕ → Option X) (cs : List ℕ) → ((c : ℕ) → f c ≡ g c) → first_of f cs ≡ first_of g cs
+first_of-same f g [] same = refl
+first_of-same f g (c ∷ cs) same = λ i. first_some (same c i) (first_of-same f g cs same i)
+
+first_car-comes : (speed : ℕ → Vehicle → ℕ) (j : ℕ) (cars : List Car) → first_car (comes speed j) cars ≡ standing j (advanced speed cars)
+unfolding first_car comes
+first_car-comes speed j [] = refl
+first_car-comes speed j (car ∷ cars) =
+    let v = speed car.cell (vehicle_of car) in
+    elim (car.cell + v == j) as (λ b. first_some (cond b (Some (record { number = car.number; speed = v })) None) (first_car (comes speed j) cars) ≡ cond b (Some (record { number = car.number; speed = v })) (standing j (advanced speed cars))) [ true ↦ refl | false ↦ first_car-comes speed j cars ]
+
+-- who arrives at a place is who stands there once each car has advanced
+pub arriving-standing : (speed : ℕ → Vehicle → ℕ) (a : Array) (j : ℕ) → arriving speed a j ≡ standing j (advanced speed (cars_of a))
+arriving-standing speed a j =
+    first_of-same _ _ (numbers 0 (length a)) (λ c. coming-comes speed j c (vehicle_at a c))
+    ∙ searched (comes speed j) (length a) 0 a (vehicle_at a) (omega arith) (λ k. let here : 0 + k ≡ k = omega arith in ap (vehicle_at a) here)
+    ∙ first_car-comes speed j (cars_of a)
+
+-- ---- the speed of a car is that of its place in the list
+
+count-step : (c : ℕ) (car : Car) (cars : List Car) → count_by (λ x. nat_lt x.cell c) (car ∷ cars) ≡ cond (nat_lt car.cell c) 1 0 + count_by (λ x. nat_lt x.cell c) cars
+count-step c car cars = sum_by-cons (λ x. cond (nat_lt x.cell c) 1 0) car cars
+
+not_lt : (m n : ℕ) → n ≤ m → nat_lt m n ≡ false
+not_lt m n le = grind (arith, nat_tests)
+
+-- a car that is not before c does not count
+count-out : (c : ℕ) (car : Car) (cars : List Car) → nat_lt car.cell c ≡ false → count_by (λ x. nat_lt x.cell c) (car ∷ cars) ≡ count_by (λ x. nat_lt x.cell c) cars
+count-out c car cars out =
+    let rest : 0 + count_by (λ x. nat_lt x.cell c) cars ≡ count_by (λ x. nat_lt x.cell c) cars = omega arith in
+    count-step c car cars ∙ ap (λ b. cond {A = ℕ} b 1 0 + count_by (λ x. nat_lt x.cell c) cars) out ∙ rest
+
+-- a car that is before c counts
+count-in : (c : ℕ) (car : Car) (cars : List Car) → nat_lt car.cell c ≡ true → count_by (λ x. nat_lt x.cell c) (car ∷ cars) ≡ 1 + count_by (λ x. nat_lt x.cell c) cars
+count-in c car cars before = count-step c car cars ∙ ap (λ b. cond {A = ℕ} b 1 0 + count_by (λ x. nat_lt x.cell c) cars) before
+
+-- of cars that rise from c on none counts
+count-none : (c k : ℕ) (cars : List Car) → c ≤ k → RiseFrom k cars → count_by (λ x. nat_lt x.cell c) cars ≡ 0
+count-none c k [] le rise = refl
+count-none c k (car ∷ cars) le rise =
+    let from : k ≤ car.cell = rise.0 in
+    count-out c car cars (not_lt car.cell c (omega arith)) ∙ count-none c (car.cell + 1) cars (omega arith) rise.1
+
+-- as many cars stand before the k-th car as there are before it in the list
+pub count-before : (m : ℕ) (cars : List Car) (k : ℕ) → RiseFrom m cars → k < length cars → count_by (λ x. nat_lt x.cell (cell_at cars k)) cars ≡ k
+count-before m [] k rise below = absurd (omega arith)
+count-before m (car ∷ cars) zero rise below = count-none car.cell car.cell (car ∷ cars) (omega arith) ((omega arith), rise.1)
+count-before m (car ∷ cars) (suc k) rise below =
+    let further = rise-from (car.cell + 1) cars k rise.1 (omega arith) in
+    let rest = count-before (car.cell + 1) cars k rise.1 (omega arith) in
+    let both : 1 + count_by (λ x. nat_lt x.cell (cell_at cars k)) cars ≡ suc k = omega arith in
+    count-in (cell_at cars k) car cars (lt-ltb car.cell (cell_at cars k) (omega arith)) ∙ both
+
+-- where a function gives each car the speed of its place
+pub advanced-at : (cars : List Car) (speeds : List ℕ) (f : ℕ → ℕ) → length speeds ≡ length cars → ((k : ℕ) → k < length cars → f (cell_at cars k) ≡ slice_index speeds k) → advanced (λ c v. f c) cars ≡ advanced_at speeds cars
+advanced-at [] [] f long is = refl
+advanced-at [] (v ∷ speeds) f long is = refl
+advanced-at (car ∷ cars) [] f long is = absurd (omega arith)
+advanced-at (car ∷ cars) (v ∷ speeds) f long is = λ i. advanced_by (is 0 (omega arith) i) car ∷ advanced-at cars speeds f (omega arith) (λ k below. is (suc k) (omega arith)) i
+
+-- the cars after motion at speeds in their order
+pub advanced-speed_at : (a : Array) (speeds : List ℕ) → length speeds ≡ length (cars_of a) → advanced (λ c v. speed_at a speeds c) (cars_of a) ≡ advanced_at speeds (cars_of a)
+advanced-speed_at a speeds long =
+    advanced-at (cars_of a) speeds (speed_at a speeds) long (λ k below. ap (slice_index speeds) (count-before 0 (cars_of a) k (rise-cars_from 0 a) below))
+
+advanced-listed : (speed : ℕ → Vehicle → ℕ) (cars : List Car) → advanced_at (map (λ car. speed car.cell (vehicle_of car)) cars) cars ≡ advanced speed cars
+advanced-listed speed [] = refl
+advanced-listed speed (car ∷ cars) = ap (λ rest. advanced_by (speed car.cell (vehicle_of car)) car ∷ rest) (advanced-listed speed cars)
+
+length-listed : (f : Car → ℕ) (cars : List Car) → length (map f cars) ≡ length cars
+length-listed f [] = refl
+length-listed f (car ∷ cars) = ap suc (length-listed f cars)
+
+-- motion at the speeds that a function gives, listed in the order of the cars, is motion by the function
+pub moved_at-listed : (speed : ℕ → Vehicle → ℕ) (a : Array) → moved_at (map (λ car. speed car.cell (vehicle_of car)) (cars_of a)) a ≡ moved speed a
+moved_at-listed speed a = ap (array (length a + GREATEST_SPEED)) (λ i j. each j i)
+  where
+    speeds : List ℕ
+    speeds = map (λ car. speed car.cell (vehicle_of car)) (cars_of a)
+
+    each : (j : ℕ) → arriving (λ c v. speed_at a (map (λ car. speed car.cell (vehicle_of car)) (cars_of a)) c) a j ≡ arriving speed a j
+    each j =
+        let vs = map (λ car. speed car.cell (vehicle_of car)) (cars_of a) in
+        arriving-standing (λ c v. speed_at a vs c) a j
+        ∙ ap (standing j) (advanced-speed_at a vs (length-listed (λ car. speed car.cell (vehicle_of car)) (cars_of a)) ∙ advanced-listed speed (cars_of a))
+        ∙ sym (arriving-standing speed a j)
+
+-- ---- the cars after motion make the array after motion
+
+-- each car's cell is below the end of its array
+pub cell_at-end : (m : ℕ) (places : Array) (k : ℕ) → k < length (cars_from m places) → cell_at (cars_from m places) k < m + length places
+cell_at-end m [] k below = absurd (omega arith)
+cell_at-end m (None ∷ places) k below = let rest = cell_at-end (m + 1) places k below in omega arith
+cell_at-end m (Some v ∷ places) zero below = omega arith
+cell_at-end m (Some v ∷ places) (suc k) below = let rest = cell_at-end (m + 1) places k (omega arith) in omega arith
+
+end-advanced_at : (cars : List Car) (speeds : List ℕ) (n : ℕ) → ((k : ℕ) → k < length cars → cell_at cars k < n) → ((k : ℕ) → k < length speeds → slice_index speeds k ≤ GREATEST_SPEED) → end_of (advanced_at speeds cars) ≤ n + GREATEST_SPEED
+end-advanced_at [] speeds n low slow = omega arith
+end-advanced_at (car ∷ cars) [] n low slow = omega arith
+end-advanced_at (car ∷ cars) (v ∷ speeds) n low slow =
+    let cell : car.cell < n = low 0 (omega arith) in
+    let speed : v ≤ GREATEST_SPEED = slow 0 (omega arith) in
+    let rest = end-advanced_at cars speeds n (λ k below. low (suc k) (omega arith)) (λ k below. slow (suc k) (omega arith)) in
+    most (car.cell + v + 1) (end_of (advanced_at speeds cars)) (n + GREATEST_SPEED) (omega arith) rest
+  where
+    most : (x y z : ℕ) → x ≤ z → y ≤ z → max x y ≤ z
+    most x y z p q = omega arith
+
+-- motion is the array of the cars that have advanced
+pub moved_at-array_of : (a : Array) (speeds : List ℕ) → MayMove a speeds → moved_at speeds a ≡ array_of (advanced_at speeds (cars_of a))
+moved_at-array_of a speeds may = array-same (length a + GREATEST_SPEED) (end_of cars) (arriving by_place a) (λ c. standing c cars) (λ j. elim (cases_lt j (length a + GREATEST_SPEED)) as (λ _. vehicle_at (moved_at speeds a) j ≡ vehicle_at (array_of cars) j) [
+  | inl below ↦ vehicle_at-array (length a + GREATEST_SPEED) (arriving by_place a) j below ∙ here j ∙ sym (vehicle_at-array_of cars j)
+  | inr past ↦ past_array (length a + GREATEST_SPEED) (arriving by_place a) j past ∙ sym (standing-past cars j (let low = ends in omega arith)) ∙ sym (vehicle_at-array_of cars j)
+])
+  where
+    by_place : ℕ → Vehicle → ℕ
+    by_place c v = speed_at a speeds c
+
+    cars : List Car
+    cars = advanced_at speeds (cars_of a)
+
+    here : (j : ℕ) → arriving (λ c v. speed_at a speeds c) a j ≡ standing j (advanced_at speeds (cars_of a))
+    here j = arriving-standing (λ c v. speed_at a speeds c) a j ∙ ap (standing j) (advanced-speed_at a speeds may.one_each)
+
+    ends : end_of (advanced_at speeds (cars_of a)) ≤ length a + GREATEST_SPEED
+    ends = end-advanced_at (cars_of a) speeds (length a) (λ k below. let low = cell_at-end 0 a k below in omega arith) (λ k below. may.slow_enough k 0 below)
+
+rise-further : (k m : ℕ) (cars : List Car) → RiseFrom k cars → (0 < length cars → m ≤ cell_at cars 0) → RiseFrom m cars
+rise-further k m [] rise from = tt
+rise-further k m (car ∷ cars) rise from = (from (omega arith), rise.1)
+
+rise-advanced : (m : ℕ) (cars : List Car) (speeds : List ℕ) → RiseFrom m cars → length speeds ≡ length cars → ((k : ℕ) → suc k < length speeds → cell_at cars k + slice_index speeds k < cell_at cars (suc k)) → RiseFrom m (advanced_at speeds cars)
+rise-advanced m [] speeds rise long apart = tt
+rise-advanced m (car ∷ cars) [] rise long apart = tt
+rise-advanced m (car ∷ cars) (v ∷ speeds) rise long apart = (
+  let from = rise.0 in omega arith,
+  rise-advanced (car.cell + v + 1) cars speeds
+      (rise-further (car.cell + 1) (car.cell + v + 1) cars rise.1 (λ some. let next : car.cell + v < cell_at cars 0 = apart 0 (omega arith) in omega arith))
+      (omega arith) (λ k below. apart (suc k) (omega arith)),
+)
+
+-- cars that may move still rise
+pub rise-advanced_at : (a : Array) (speeds : List ℕ) → MayMove a speeds → Rise (advanced_at speeds (cars_of a))
+rise-advanced_at a speeds may = rise-advanced 0 (cars_of a) speeds (rise-cars_from 0 a) may.one_each (λ k below. let next : k + 1 ≡ suc k = omega arith in let free = may.apart k (omega arith) in let same = ap (cell_at (cars_of a)) next in omega arith)

@@ -1,0 +1,22 @@
+-- The rules on the speed of one vehicle (Nagel and Schreckenberg 1992).
+use Rattle.std.specs.Prelude.{ℕ, ◌+◌, ◌-◌, ◌/◌, min, Bool, nat_lt, nat_le, ◌&&◌, if◌then◌else◌}
+
+-- rules 1 and 2: accelerate by one, but neither above the limit nor past the free cells
+abbrev pub wanted : ℕ → ℕ → ℕ → ℕ
+wanted speed limit free = min (min (speed + 1) limit) free
+
+-- rule 1: where the next vehicle is more than v + 1 sites away, a speed below the greatest grows by one
+abbrev pub accelerated : ℕ → ℕ → ℕ → ℕ
+accelerated v greatest distance = if nat_lt v greatest && nat_lt (v + 1) distance then v + 1 else v
+
+-- rule 2: where the next vehicle is at most v sites away, the speed falls to one below that distance
+abbrev pub braked : ℕ → ℕ → ℕ
+braked v distance = if nat_le distance v then distance - 1 else v
+
+-- whether a word has its event under a chance in 1/65,536
+abbrev pub has_event : ℕ → ℕ → Bool
+has_event word chance = nat_lt (word / 65536) chance
+
+-- rule 3: where the event comes, the speed falls by one, but not below 0
+abbrev pub slowed : ℕ → Bool → ℕ
+slowed v event = if event then v - 1 else v

@@ -1,0 +1,33 @@
+ghost use Rattle.std.specs.Prelude.{◌≡◌, ◌≤◌, length, IfOk};
+ghost use Rattle.road_rules.specs.Motion.{moved_at, MayMove};
+ghost use Rattle.road_rules.specs.MotionLaws.{advanced_by};
+
+use road_cells::{Car, Road};
+use std::alloc::{AllocError, Global};
+
+/// Rule 4: each car advances by its speed. `speeds` has one speed for each car, in the order of the cars, each at most
+/// 9 and at most the free cells before the next car. No cell is above 65,535.
+pub fn moved(alloc: Global, road: &Road, speeds: &[u8]) -> Result<Road, AllocError>
+    requires low { length road.now ≤ 65536 }
+    requires may { MayMove road.now speeds.now }
+    ensures { IfOk result (λ moved. moved ≡ moved_at speeds.now road.now) }
+{
+    let cars = road.cars();
+    let mut moved = Vec::with_capacity(alloc, cars.len())?;
+    for (place, car) in cars.iter().enumerate() {
+        moved.push(advanced(*car, speeds[place]))?;
+    }
+    Ok(Road::of(moved))
+}
+
+// A car after its motion.
+fn advanced(car: Car, speed: u8) -> Car
+    requires { car.cell ≤ 65535 }
+    ensures { result ≡ advanced_by speed car }
+{
+    Car {
+        number: car.number,
+        cell: car.cell + u32::from(speed),
+        speed,
+    }
+}
