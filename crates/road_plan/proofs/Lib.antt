@@ -1,0 +1,2 @@
+pub mod Inlets
+pub mod Faultless
