@@ -1,17 +1,17 @@
 -- A plan without a fault is within the limits.
-use Rattle.std.proofs.Common.{arith, ◌≡◌, ℕ, ◌+◌, ◌<◌, ◌≤◌, Bool, true, false, not, ◌&&◌, ◌||◌, List, [], ◌∷◌, length, map, nat_eq, nat_lt, nat_le, refl, sym}
-use Rattle.std.specs.Prelude.{if◌then◌else◌, ◌-◌, ◌==◌}
+use Rattle.std.proofs.Common.{arith, ◌≡◌, ℕ, ◌<◌, ◌≤◌, Bool, true, false, not, ◌||◌, List, [], ◌∷◌, length, nat_eq, nat_lt, nat_le, refl, sym}
+use Rattle.std.specs.Prelude.{if◌then◌else◌, ◌==◌}
 use Rattle.std.specs.List.{All, AllByRecursion, IsDistinct, list_all, list_any}
 use Rattle.std.proofs.lemmas.List.Elements.{All-from_recursion}
-use Rattle.std.proofs.lemmas.Bool.{and_parts, leb-true, true≢false}
+use Rattle.std.proofs.lemmas.Bool.{and_parts, true≢false}
 use Rattle.std.proofs.lemmas.Bool.Decides.{nat_tests}
 use Rattle.std.proofs.lemmas.Option.{none-some}
 use Rattle.std.specs.declared.option.Option.{Option}
 use Rattle.std.specs.declared.option.Option.TheVariants.{None, Some}
-use Rattle.road_plan.specs.Plan.{Plan, IsWithinLimits, road_end, zone_of}
+use Rattle.road_plan.specs.Plan.{Plan, IsWithinLimits, road_end}
 use Rattle.road_plan.specs.Refusals.{fault_of, has_length, has_exit, has_zones, has_inlets, has_detectors, has_defaults, all_differ}
 use Rattle.road_plan.specs.declared.faults.PlanFault.{PlanFault}
-use Rattle.road_plan.specs.declared.limits.TheConstants.{LEAST_LENGTH, GREATEST_LENGTH, GREATEST_EXIT, MOST_ZONES, MOST_INLETS, SERVED_INLETS, MOST_DETECTORS, GREATEST_LIMIT, CERTAIN}
+use Rattle.road_plan.specs.declared.limits.TheConstants.{MOST_INLETS, SERVED_INLETS, GREATEST_LIMIT, CERTAIN}
 
 -- where each passes a test, each has what the test gives
 each_passed : {X : Type 0} (test : X → Bool) (P : X → Type 0) → ((x : X) → test x ≡ true → P x) → (xs : List X) → list_all test xs ≡ true → AllByRecursion P xs

@@ -1,4 +1,4 @@
-ghost use Rattle.std.specs.Prelude.{◌≡◌, IfOk, map};
+ghost use Rattle.std.specs.Prelude.{◌≡◌, IfOk, map, true};
 ghost use Rattle.road_plan.specs.Settings.{defaults, Fits};
 
 use crate::plan::Plan;
@@ -40,7 +40,7 @@ impl Settings {
             chances: chances_of(alloc, plan.zones())?,
             inflows: inflows_of(alloc, plan.inlets())?,
             blocks: Vec::new(alloc),
-            watched: vec![in alloc; true; plan.detectors().len()]?,
+            watched: all_on(alloc, plan.detectors())?,
         })
     }
 
@@ -84,19 +84,26 @@ impl Settings {
 fn limits_of(alloc: Global, zones: &[(u32, u32)]) -> Result<Vec<u32>, OutOfMemory>
     ensures { IfOk result (λ limits. limits.items ≡ map (λ zone. zone.0) zones.now) }
 {
-    zones.iter().map(|zone| zone.0).try_collect(alloc)
+    zones.iter().map(|zone| zone.0).collect(alloc)
 }
 
 /// The slowing chances of these zones.
 fn chances_of(alloc: Global, zones: &[(u32, u32)]) -> Result<Vec<u32>, OutOfMemory>
     ensures { IfOk result (λ chances. chances.items ≡ map (λ zone. zone.1) zones.now) }
 {
-    zones.iter().map(|zone| zone.1).try_collect(alloc)
+    zones.iter().map(|zone| zone.1).collect(alloc)
 }
 
 /// The inflow chances of these inlets.
 fn inflows_of(alloc: Global, inlets: &[(u32, u32)]) -> Result<Vec<u32>, OutOfMemory>
     ensures { IfOk result (λ inflows. inflows.items ≡ map (λ inlet. inlet.1) inlets.now) }
 {
-    inlets.iter().map(|inlet| inlet.1).try_collect(alloc)
+    inlets.iter().map(|inlet| inlet.1).collect(alloc)
+}
+
+/// Each of these detectors on.
+fn all_on(alloc: Global, detectors: &[u32]) -> Result<Vec<bool>, OutOfMemory>
+    ensures { IfOk result (λ watched. watched.items ≡ map (λ site. true) detectors.now) }
+{
+    detectors.iter().map(|_| true).collect(alloc)
 }

@@ -1,4 +1,4 @@
-use Rattle.std.proofs.Common.{length, ◌≡◌, map, ℕ, ◌+◌, ◌-◌, ◌*◌, ◌<◌, ◌≤◌}
+use Rattle.std.proofs.Common.{length}
 use Rattle.road_plan.proofs.checks.+have_own_cells.Given as goal
 
 -- each call has one inlet less
