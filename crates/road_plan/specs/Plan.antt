@@ -1,5 +1,5 @@
 -- A plan of a road, as contracts see it.
-use Rattle.std.specs.Prelude.{◌≡◌, ◌≢◌, ℕ, ◌+◌, ◌-◌, ◌/◌, ◌<◌, ◌≤◌, List, length, map}
+use Rattle.std.specs.Prelude.{◌≡◌, ℕ, ◌+◌, ◌-◌, ◌/◌, ◌<◌, ◌≤◌, List, length, map}
 use Rattle.std.specs.List.{All, IsDistinct}
 use Rattle.std.specs.Prelude.{nat_eq}
 use Rattle.road_plan.specs.declared.parts.WordKind.{WordKind}

@@ -4,8 +4,8 @@ use Rattle.std.specs.List.{list_all, list_any}
 use Rattle.std.specs.declared.option.Option.{Option}
 use Rattle.std.specs.declared.option.Option.TheVariants.{None, Some}
 use Rattle.road_plan.specs.Plan.{Plan, road_end, zone_of}
-use Rattle.road_plan.specs.declared.plan.PlanFault.{PlanFault}
-use Rattle.road_plan.specs.declared.plan.PlanFault.TheVariants.{Length, Exit, Zones, Inlets, Detectors, Default}
+use Rattle.road_plan.specs.declared.faults.PlanFault.{PlanFault}
+use Rattle.road_plan.specs.declared.faults.PlanFault.TheVariants.{Length, Exit, Zones, Inlets, Detectors, Default}
 use Rattle.road_plan.specs.declared.limits.TheConstants.{LEAST_LENGTH, GREATEST_LENGTH, GREATEST_EXIT, MOST_ZONES, SERVED_INLETS, MOST_DETECTORS, GREATEST_LIMIT, CERTAIN}
 
 -- whether the road is neither too short nor too long

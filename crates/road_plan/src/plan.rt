@@ -1,13 +1,14 @@
-ghost use Rattle.std.specs.Prelude.{◌≡◌, IsOk, IfOk, IfErr};
+ghost use Rattle.std.specs.Prelude.{◌≡◌, IfOk, IfErr, Some, None};
 ghost use Rattle.road_plan.specs.Plan.{plan_of, IsWithinLimits};
 ghost use Rattle.road_plan.specs.Refusals.{fault_of};
 
+use crate::checks::first_fault;
+use crate::faults::PlanFault;
 use crate::parts::{PlanParts, WordKind};
 use std::marker::Model;
-use thiserror::Error;
 
-/// A plan within the limits of the laboratory.
-#[derive(Drop)]
+/// A plan within the limits of the laboratory. It never changes.
+#[derive(Debug, Drop)]
 pub struct Plan {
     parts: PlanParts,
 }
@@ -22,26 +23,20 @@ impl Model for Plan {
     ghost invariant = { λ p. IsWithinLimits (plan_of p.parts) };
 }
 
-/// Why a plan is refused, in the order in which the causes are asked.
-#[derive(Clone, Copy, Debug, PartialEq, Eq, Error)]
-pub enum PlanFault {
-    #[error("Length")]
-    Length,
-    #[error("Exit")]
-    Exit,
-    #[error("Zones")]
-    Zones,
-    #[error("Inlets")]
-    Inlets,
-    #[error("Detectors")]
-    Detectors,
-    #[error("Default")]
-    Default,
-    #[error("OutOfMemory")]
-    OutOfMemory,
-}
-
 impl Plan {
+    /// The plan of these parts. A refusal names the first fault in the order of `PlanFault`; it is never
+    /// `OutOfMemory`, since the parts become the plan and nothing is copied.
+    pub fn new(parts: PlanParts) -> Result<Plan, PlanFault>
+        ensures made { IfOk result (λ plan. plan ≡ plan_of parts) }
+        ensures faultless { IfOk result (λ _. fault_of (plan_of parts) ≡ None) }
+        ensures refused { IfErr result (λ fault. fault_of (plan_of parts) ≡ Some fault) }
+    {
+        match first_fault(&parts) {
+            Some(fault) => Err(fault),
+            None => Ok(Plan { parts }),
+        }
+    }
+
     /// The cells of the road.
     pub fn length(&self) -> u32
         ensures { result ≡ self.now.cells }
@@ -49,7 +44,49 @@ impl Plan {
         self.parts.length
     }
 
-    /// Nothing at run time: every plan is within the limits.
+    /// The cells of the deleted zone, the last ones of the road.
+    pub fn exit(&self) -> u32
+        ensures { result ≡ self.now.exit }
+    {
+        self.parts.exit
+    }
+
+    /// The cells of a zone. The last zone may be shorter.
+    pub fn width(&self) -> u32
+        ensures { result ≡ self.now.width }
+    {
+        self.parts.width
+    }
+
+    /// For each zone its speed limit, in cells per step, and its slowing chance, in 1/65,536.
+    pub fn zones(&self) -> &[(u32, u32)]
+        ensures { result.now ≡ self.now.zones }
+    {
+        &self.parts.zones
+    }
+
+    /// For each inlet its cell and its inflow chance, in 1/65,536.
+    pub fn inlets(&self) -> &[(u32, u32)]
+        ensures { result.now ≡ self.now.inlets }
+    {
+        &self.parts.inlets
+    }
+
+    /// For each detector its site.
+    pub fn detectors(&self) -> &[u32]
+        ensures { result.now ≡ self.now.detectors }
+    {
+        &self.parts.detectors
+    }
+
+    /// Where the random words come from.
+    pub fn words(&self) -> WordKind
+        ensures { result ≡ self.now.words }
+    {
+        self.parts.words
+    }
+
+    /// That the plan is within the limits. It is a fact for proofs: the call does nothing.
     pub fn limits(&self)
         ensures { IsWithinLimits self.now }
     {

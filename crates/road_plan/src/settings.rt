@@ -1,3 +1,8 @@
+ghost use Rattle.std.specs.Prelude.{◌≡◌, IfOk, map, true};
+ghost use Rattle.road_plan.specs.Settings.{defaults, Fits};
+
+use crate::plan::Plan;
+use std::alloc::{AllocError as OutOfMemory, Global};
 use std::marker::Model;
 
 /// All settings of a road at one step.
@@ -21,4 +26,84 @@ impl Model for Settings {
     ghost Value = { Settings };
 
     ghost view = { λ s. record { limits = s.limits.items; chances = s.chances.items; inflows = s.inflows.items; blocks = s.blocks.items; watched = s.watched.items } };
+}
+
+impl Settings {
+    /// The plan's own settings: its limits, slowing chances and inflows, no blocked cell, every detector on.
+    pub fn of_plan(alloc: Global, plan: &Plan) -> Result<Settings, OutOfMemory>
+        ensures made { IfOk result (λ settings. settings ≡ defaults plan.now) }
+        ensures fits { IfOk result (λ settings. Fits plan.now settings) }
+    {
+        plan.limits();
+        Ok(Settings {
+            limits: limits_of(alloc, plan.zones())?,
+            chances: chances_of(alloc, plan.zones())?,
+            inflows: inflows_of(alloc, plan.inlets())?,
+            blocks: Vec::new(alloc),
+            watched: all_on(alloc, plan.detectors())?,
+        })
+    }
+
+    /// For each zone its speed limit, in cells per step.
+    pub fn limits(&self) -> &[u32]
+        ensures { result.now ≡ self.now.limits }
+    {
+        &self.limits
+    }
+
+    /// For each zone its slowing chance, in 1/65,536.
+    pub fn chances(&self) -> &[u32]
+        ensures { result.now ≡ self.now.chances }
+    {
+        &self.chances
+    }
+
+    /// For each inlet its inflow chance, in 1/65,536.
+    pub fn inflows(&self) -> &[u32]
+        ensures { result.now ≡ self.now.inflows }
+    {
+        &self.inflows
+    }
+
+    /// The blocked cells, rising.
+    pub fn blocks(&self) -> &[u32]
+        ensures { result.now ≡ self.now.blocks }
+    {
+        &self.blocks
+    }
+
+    /// For each detector whether it is on.
+    pub fn watched(&self) -> &[bool]
+        ensures { result.now ≡ self.now.watched }
+    {
+        &self.watched
+    }
+}
+
+/// The speed limits of these zones.
+fn limits_of(alloc: Global, zones: &[(u32, u32)]) -> Result<Vec<u32>, OutOfMemory>
+    ensures { IfOk result (λ limits. limits.items ≡ map (λ zone. zone.0) zones.now) }
+{
+    zones.iter().map(|zone| zone.0).collect(alloc)
+}
+
+/// The slowing chances of these zones.
+fn chances_of(alloc: Global, zones: &[(u32, u32)]) -> Result<Vec<u32>, OutOfMemory>
+    ensures { IfOk result (λ chances. chances.items ≡ map (λ zone. zone.1) zones.now) }
+{
+    zones.iter().map(|zone| zone.1).collect(alloc)
+}
+
+/// The inflow chances of these inlets.
+fn inflows_of(alloc: Global, inlets: &[(u32, u32)]) -> Result<Vec<u32>, OutOfMemory>
+    ensures { IfOk result (λ inflows. inflows.items ≡ map (λ inlet. inlet.1) inlets.now) }
+{
+    inlets.iter().map(|inlet| inlet.1).collect(alloc)
+}
+
+/// Each of these detectors on.
+fn all_on(alloc: Global, detectors: &[u32]) -> Result<Vec<bool>, OutOfMemory>
+    ensures { IfOk result (λ watched. watched.items ≡ map (λ site. true) detectors.now) }
+{
+    detectors.iter().map(|_| true).collect(alloc)
 }

@@ -1,0 +1,3 @@
+pub mod Inlets
+pub mod Faultless
+pub mod Defaults

@@ -1,0 +1,134 @@
+//! The checks of a plan's parts, one by one, and the first that fails.
+
+ghost use Rattle.std.specs.Prelude.{◌≡◌, ◌&&◌, map, nat_eq, nat_le, nat_lt};
+ghost use Rattle.std.specs.List.{list_all, list_any};
+ghost use Rattle.road_plan.specs.Plan.{plan_of, road_end};
+ghost use Rattle.road_plan.specs.Refusals as refusals;
+
+use crate::faults::PlanFault;
+use crate::limits::{
+    CERTAIN, GREATEST_EXIT, GREATEST_LENGTH, GREATEST_LIMIT, LEAST_LENGTH, MOST_DETECTORS,
+    MOST_ZONES, SERVED_INLETS,
+};
+use crate::parts::PlanParts;
+
+/// The first fault of these parts, in the order of `PlanFault`. Takes no memory.
+pub(crate) fn first_fault(parts: &PlanParts) -> Option<PlanFault>
+    ensures { result ≡ refusals.fault_of (plan_of parts.now) }
+{
+    if !has_length(parts) {
+        return Some(PlanFault::Length);
+    }
+    if !has_exit(parts) {
+        return Some(PlanFault::Exit);
+    }
+    if !has_zones(parts) {
+        return Some(PlanFault::Zones);
+    }
+    if !has_inlets(parts) {
+        return Some(PlanFault::Inlets);
+    }
+    if !has_detectors(parts) {
+        return Some(PlanFault::Detectors);
+    }
+    if !has_defaults(parts) {
+        return Some(PlanFault::Default);
+    }
+    None
+}
+
+/// Whether the road is neither too short nor too long.
+fn has_length(parts: &PlanParts) -> bool
+    ensures { result ≡ refusals.has_length (plan_of parts.now) }
+{
+    LEAST_LENGTH <= parts.length && parts.length <= GREATEST_LENGTH
+}
+
+/// Whether the deleted zone is a part of the road.
+fn has_exit(parts: &PlanParts) -> bool
+    ensures { result ≡ refusals.has_exit (plan_of parts.now) }
+{
+    0 < parts.exit && parts.exit <= GREATEST_EXIT && parts.exit < parts.length
+}
+
+/// Whether there is one entry for each zone of the road.
+fn has_zones(parts: &PlanParts) -> bool
+    ensures { result ≡ refusals.has_zones (plan_of parts.now) }
+{
+    0 < parts.width
+        && parts.zones.len() <= MOST_ZONES
+        && parts.zones.len() == (parts.length.saturating_sub(1) / parts.width + 1) as usize
+}
+
+/// Whether the inlets are few enough, before the deleted zone, and at different cells.
+fn has_inlets(parts: &PlanParts) -> bool
+    ensures { result ≡ refusals.has_inlets (plan_of parts.now) }
+{
+    let end = parts.length.saturating_sub(parts.exit);
+    0 < parts.inlets.len()
+        && parts.inlets.len() <= SERVED_INLETS
+        && are_before(&parts.inlets, end)
+        && have_own_cells(&parts.inlets)
+}
+
+/// Whether these inlets are before the deleted zone, which begins at `end`.
+fn are_before(inlets: &[(u32, u32)], end: u32) -> bool
+    ensures { result ≡ list_all (λ inlet. nat_lt inlet.0 end) inlets.now }
+{
+    inlets.iter().all(|inlet| inlet.0 < end)
+}
+
+/// Whether no two of these inlets are at the same cell.
+fn have_own_cells(inlets: &[(u32, u32)]) -> bool
+    ensures { result ≡ refusals.all_differ (map (λ inlet. inlet.0) inlets.now) }
+{
+    match inlets.split_first() {
+        None => true,
+        Some((first, others)) => !has_inlet_at(first.0, others) && have_own_cells(others),
+    }
+}
+
+/// Whether one of these inlets is at this cell.
+fn has_inlet_at(cell: u32, inlets: &[(u32, u32)]) -> bool
+    ensures { result ≡ list_any (λ inlet. nat_eq cell inlet.0) inlets.now }
+{
+    inlets.iter().any(|inlet| cell == inlet.0)
+}
+
+/// Whether the detectors are few enough, behind the first cell and before the deleted zone.
+fn has_detectors(parts: &PlanParts) -> bool
+    ensures { result ≡ refusals.has_detectors (plan_of parts.now) }
+{
+    let end = parts.length.saturating_sub(parts.exit);
+    parts.detectors.len() <= MOST_DETECTORS && are_between(&parts.detectors, end)
+}
+
+/// Whether these sites are behind the first cell and before the deleted zone, which begins at `end`.
+fn are_between(sites: &[u32], end: u32) -> bool
+    ensures { result ≡ list_all (λ site. nat_lt 0 site && nat_lt site end) sites.now }
+{
+    sites.iter().all(|&site| 0 < site && site < end)
+}
+
+/// Whether each limit, slowing chance and inflow is in its range.
+fn has_defaults(parts: &PlanParts) -> bool
+    ensures { result ≡ refusals.has_defaults (plan_of parts.now) }
+{
+    are_zones(&parts.zones) && are_inflows(&parts.inlets)
+}
+
+/// Whether the limit and the slowing chance of each zone are in their ranges.
+fn are_zones(zones: &[(u32, u32)]) -> bool
+    ensures { result ≡ list_all (λ zone. nat_le zone.0 GREATEST_LIMIT && nat_le zone.1 CERTAIN) zones.now }
+{
+    zones
+        .iter()
+        .all(|zone| zone.0 <= GREATEST_LIMIT && zone.1 <= CERTAIN)
+}
+
+/// Whether the inflow of each inlet is a chance.
+fn are_inflows(inlets: &[(u32, u32)]) -> bool
+    ensures { result ≡ list_all (λ inlet. nat_le inlet.1 CERTAIN) inlets.now }
+{
+    inlets.iter().all(|inlet| inlet.1 <= CERTAIN)
+}
