@@ -1,0 +1,38 @@
+-- The cars that enter the road at its inlets.
+use Rattle.std.specs.Prelude.{ℕ, ◌+◌, ◌*◌, ◌^◌, ◌&&◌, not, Bool, nat_eq, slice_index, if◌then◌else◌}
+use Rattle.std.specs.List.{position}
+use Rattle.std.specs.Option.{option_or}
+use Rattle.std.specs.declared.option.Option.{Option}
+use Rattle.std.specs.declared.option.Option.TheVariants.{None, Some}
+use Rattle.road_plan.specs.Plan.{Plan}
+use Rattle.road_plan.specs.Settings.{Settings}
+use Rattle.road_plan.specs.declared.limits.TheConstants.{MOST_INLETS}
+use Rattle.road_words.specs.Words.{word}
+use Rattle.road_cells.specs.Array.{Array, Vehicle, vehicle_at, array}
+use Rattle.road_cells.specs.Gap.{is_blocked}
+use Rattle.road_rules.specs.Speeds.{has_event}
+
+-- the number of the car that enters inlet i at step t: numbers are never given twice
+abbrev pub car_number : ℕ → ℕ → ℕ
+car_number t i = MOST_INLETS * t + i
+
+-- the stream of an inlet's words
+abbrev pub inlet_stream : ℕ → ℕ
+inlet_stream i = 2 ^ 63 + i
+
+-- whether inlet i, at cell c, lets a car in at step t: its cell is not blocked, and its word has its event
+abbrev pub lets_in : Plan → Settings → ℕ → ℕ → ℕ → Bool
+lets_in p s t c i = not (is_blocked s.blocks c) && has_event (word p.words (inlet_stream i) t) (slice_index s.inflows i)
+
+-- the car that inlet i lets in
+abbrev pub let_in : Plan → Settings → ℕ → ℕ → Option ℕ → Option Vehicle
+let_in p s t c None = None
+let_in p s t c (Some i) = if lets_in p s t c i then Some (record { number = car_number t i; speed = 0 }) else None
+
+-- the car that wants to enter at cell c, where that is an inlet's
+abbrev pub entering : Plan → Settings → ℕ → ℕ → Option Vehicle
+entering p s t c = let_in p s t c (position (λ inlet. nat_eq c inlet.0) p.inlets)
+
+-- the array with the cars that enter: a cell that holds a car keeps it
+abbrev pub entered : Plan → Settings → ℕ → Array → Array
+entered p s t a = array p.cells (λ c. option_or (vehicle_at a c) (entering p s t c))

@@ -1,0 +1,5 @@
+pub mod Entries
+pub mod Speed
+pub mod Run
+pub mod Row
+pub mod Laws

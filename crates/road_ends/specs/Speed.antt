@@ -1,0 +1,28 @@
+-- The new speed of a car.
+use Rattle.std.specs.Prelude.{ℕ, ◌+◌, ◌&&◌, Bool, nat_lt, slice_index}
+use Rattle.road_plan.specs.Plan.{Plan, zone_of}
+use Rattle.road_plan.specs.Settings.{Settings}
+use Rattle.road_words.specs.Words.{word}
+use Rattle.road_cells.specs.Array.{Array, Vehicle}
+use Rattle.road_cells.specs.Gap as cells
+use Rattle.road_cells.specs.Gap.{free_before}
+use Rattle.road_cells.specs.declared.car.TheConstants.{GREATEST_SPEED}
+use Rattle.road_rules.specs.Speeds.{wanted, slowed, has_event}
+
+-- whether a cell is on the road and holds a car or is blocked
+abbrev pub is_taken : Plan → Settings → Array → ℕ → Bool
+is_taken p s a c = nat_lt c p.cells && cells.is_taken s.blocks a c
+
+-- the free cells in front of cell c, at most 9: cells past the end of the road are free
+abbrev pub gap : Plan → Settings → Array → ℕ → ℕ
+gap p s a c = free_before (is_taken p s a) (c + 1) GREATEST_SPEED
+
+-- whether the car is slowed by chance: its word at this step has its event under the chance of a zone
+abbrev pub is_slowed : Plan → Settings → ℕ → ℕ → Vehicle → Bool
+is_slowed p s t zone car = has_event (word p.words car.number t) (slice_index s.chances zone)
+
+-- the new speed of a car at cell c: rules 1 to 3 with the limit and the chance of the zone where it stands
+-- (Nagel and Schreckenberg 1992)
+abbrev pub speed : Plan → Settings → ℕ → Array → ℕ → Vehicle → ℕ
+speed p s t a c car =
+    slowed (wanted car.speed (slice_index s.limits (zone_of p c)) (gap p s a c)) (is_slowed p s t (zone_of p c) car)
