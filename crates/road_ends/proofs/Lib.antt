@@ -1,1 +1,5 @@
+pub mod Apart
+pub mod Origins
+pub mod Numbers
+pub mod Locality
 pub mod Examples
