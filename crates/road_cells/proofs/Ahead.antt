@@ -51,7 +51,7 @@ free_to_none cars place n rise here last = free_before-none (λ c. is_some (stan
     ]
 
 -- a cell that is none of the blocks is not blocked
-not_blocked : (blocks : List ℕ) (k : ℕ) → ((i : ℕ) → i < length blocks → slice_index blocks i ≢ k) → is_blocked blocks k ≡ false
+pub not_blocked : (blocks : List ℕ) (k : ℕ) → ((i : ℕ) → i < length blocks → slice_index blocks i ≢ k) → is_blocked blocks k ≡ false
 not_blocked [] k apart = refl
 not_blocked (block ∷ blocks) k apart =
     ap (λ b. b || is_blocked blocks k) (other k block (λ same. apart 0 (omega arith) (sym same)))
@@ -60,7 +60,7 @@ not_blocked (block ∷ blocks) k apart =
     other : (m n : ℕ) → m ≢ n → nat_eq m n ≡ false
     other m n apart = grind (arith)
 
-blocked_at : (blocks : List ℕ) (i : ℕ) → i < length blocks → is_blocked blocks (slice_index blocks i) ≡ true
+pub blocked_at : (blocks : List ℕ) (i : ℕ) → i < length blocks → is_blocked blocks (slice_index blocks i) ≡ true
 blocked_at [] i below = absurd (omega arith)
 blocked_at (block ∷ blocks) zero below = ap (λ b. b || is_blocked blocks block) (same block)
   where

@@ -2,7 +2,8 @@
 use Rattle.std.specs.Prelude.{◌≡◌, ℕ, zero, suc, ◌+◌, ◌<◌, ◌≤◌, List, [], ◌∷◌, map, length, refl}
 use Rattle.std.specs.declared.option.Option.{Option}
 use Rattle.std.specs.declared.option.Option.TheVariants.{None, Some}
-use Rattle.std.proofs.Common.{sym, ap, ◌∙◌, arith}
+use Rattle.std.proofs.Common.{sym, ap, ◌∙◌, inl, inr, arith}
+use Rattle.std.proofs.lemmas.Bool.{cases_lt}
 use Rattle.road_cells.specs.Array.{Array, Vehicle, vehicle_at, array, cut, before, numbers}
 
 vehicle_at-before : (xs ys : Array) (x : Option Vehicle) → ((j : ℕ) → vehicle_at xs j ≡ vehicle_at ys j) → (j : ℕ) → vehicle_at (x ∷ xs) j ≡ vehicle_at (before x ys) j
@@ -73,3 +74,10 @@ pub past_end : (a : Array) (j : ℕ) → length a ≤ j → vehicle_at a j ≡ N
 past_end [] j past = refl
 past_end (x ∷ xs) zero past = absurd (omega arith)
 past_end (x ∷ xs) (suc j) past = past_end xs j (omega arith)
+
+-- functions that agree below the bound make the same array
+pub array-agree : (n : ℕ) (f g : ℕ → Option Vehicle) → ((j : ℕ) → j < n → f j ≡ g j) → array n f ≡ array n g
+array-agree n f g agree = array-same n n f g (λ j. elim (cases_lt j n) as (λ _. vehicle_at (array n f) j ≡ vehicle_at (array n g) j) [
+  | inl below ↦ vehicle_at-array n f j below ∙ agree j below ∙ sym (vehicle_at-array n g j below)
+  | inr past ↦ past_array n f j past ∙ sym (past_array n g j past)
+])

@@ -4,8 +4,8 @@ use Rattle.std.specs.declared.option.Option.{Option}
 use Rattle.std.specs.declared.option.Option.TheVariants.{None, Some}
 use Rattle.std.proofs.Common.{sym, ap, subst, ◌∙◌, inl, inr, arith}
 use Rattle.std.proofs.lemmas.Bool.{cases_eq, cases_lt, eq-eqb}
-use Rattle.road_cells.specs.Array.{Array, Vehicle, vehicle_at, cut, before, numbers}
-use Rattle.road_cells.specs.ArrayLaws.{vehicle_at-array, past_array}
+use Rattle.road_cells.specs.Array.{Array, Vehicle, vehicle_at, array, cut, before, numbers}
+use Rattle.road_cells.specs.ArrayLaws.{vehicle_at-array, past_array, array-same, vehicle_at-cut}
 use Rattle.road_cells.specs.Cars.{cars_from, cars_of, car_of, vehicle_of, RiseFrom, Rise, standing, end_of, array_of}
 use Rattle.road_cells.specs.declared.car.Car.{Car}
 
@@ -92,3 +92,12 @@ standing-cars_from k (suc j) (None ∷ places) = let next : k + suc j ≡ (k + 1
 standing-cars_from k (suc j) (Some v ∷ places) =
     let next : k + suc j ≡ (k + 1) + j = omega arith in
     standing-other (car_of k v) (cars_from (k + 1) places) (k + suc j) (λ same. absurd (omega arith)) ∙ ap (λ c. standing c (cars_from (k + 1) places)) next ∙ standing-cars_from (k + 1) j places
+
+-- the cars of a tabulated array make it again
+pub array_of-cars_from : (n : ℕ) (f : ℕ → Option Vehicle) → array_of (cars_from 0 (map f (numbers 0 n))) ≡ array n f
+array_of-cars_from n f = array-same (end_of cars) n (λ c. standing c cars) f (λ j.
+    let here : 0 + j ≡ j = omega arith in
+    vehicle_at-array_of cars j ∙ ap (λ c. standing c cars) (sym here) ∙ standing-cars_from 0 j (map f (numbers 0 n)) ∙ sym (vehicle_at-cut (map f (numbers 0 n)) j))
+  where
+    cars : List Car
+    cars = cars_from 0 (map f (numbers 0 n))

@@ -1,9 +1,11 @@
 //! The road as an array of cells, kept as its cars in rising cells.
 #![tactic(auto)]
 
+mod blocks;
 mod car;
 mod road;
 
+pub use blocks::is_blocked;
 pub use car::{Car, GREATEST_SPEED};
 pub use road::Road;
 pub use std::alloc::AllocError as OutOfMemory;

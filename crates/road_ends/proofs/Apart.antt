@@ -85,7 +85,7 @@ arrive_alone p course t c d x y here there same = elim (cases_lt c d) as (λ _. 
 ]
 
 -- blocked cells are on the road
-blocked-below : (blocks : List ℕ) (n j : ℕ) → All (λ cell. cell < n) blocks → is_blocked blocks j ≡ true → j < n
+pub blocked-below : (blocks : List ℕ) (n j : ℕ) → All (λ cell. cell < n) blocks → is_blocked blocks j ≡ true → j < n
 blocked-below [] n j below blocked = let never : false ≡ true = blocked in cc
 blocked-below (block ∷ blocks) n j below blocked = elim (nat_eq j block) as (λ b. nat_eq j block ≡ b → j < n) [
   | true ↦ λ same. let low : block < n = below 0 0 (omega arith) in grind (arith, nat_tests)

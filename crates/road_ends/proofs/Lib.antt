@@ -3,3 +3,4 @@ pub mod Origins
 pub mod Numbers
 pub mod Locality
 pub mod Examples
+pub mod Plain

@@ -212,3 +212,19 @@ rise-advanced m (car ∷ cars) (v ∷ speeds) rise long apart = (
 -- cars that may move still rise
 pub rise-advanced_at : (a : Array) (speeds : List ℕ) → MayMove a speeds → Rise (advanced_at speeds (cars_of a))
 rise-advanced_at a speeds may = rise-advanced 0 (cars_of a) speeds (rise-cars_from 0 a) may.one_each (λ k below. let next : k + 1 ≡ suc k = omega arith in let free = may.apart k (omega arith) in let same = ap (cell_at (cars_of a)) next in omega arith)
+
+-- where no speed is above the greatest, each place of the array after motion holds who arrives there
+pub vehicle_at-moved : (speed : ℕ → Vehicle → ℕ) (a : Array) (j : ℕ) → ((c : ℕ) (v : Vehicle) → speed c v ≤ GREATEST_SPEED) → vehicle_at (moved speed a) j ≡ arriving speed a j
+vehicle_at-moved speed a j slow = elim (cases_lt j (length a + GREATEST_SPEED)) as (λ _. vehicle_at (moved speed a) j ≡ arriving speed a j) [
+  | inl below ↦ vehicle_at-array (length a + GREATEST_SPEED) (arriving speed a) j below
+  | inr past ↦
+      let low = end-advanced (cars_of a) (length a) (λ k below. let cell = cell_at-end 0 a k below in omega arith) in
+      past_array (length a + GREATEST_SPEED) (arriving speed a) j past ∙ sym (standing-past (advanced speed (cars_of a)) j (omega arith)) ∙ sym (arriving-standing speed a j)
+]
+  where
+    end-advanced : (cars : List Car) (n : ℕ) → ((k : ℕ) → k < length cars → cell_at cars k < n) → end_of (advanced speed cars) ≤ n + GREATEST_SPEED
+    end-advanced [] n low = omega arith
+    end-advanced (car ∷ cars) n low =
+        let cell : car.cell < n = low 0 (omega arith) in
+        let most = slow car.cell (vehicle_of car) in
+        let rest = end-advanced cars n (λ k below. low (suc k) (omega arith)) in omega arith
