@@ -3,14 +3,16 @@
 //! The functions here are the plain program of the definitions: they go over the road cell by cell and car by car.
 #![tactic(auto)]
 
+mod course;
 mod entries;
 pub mod laws;
 mod row;
 mod rules;
 mod step;
 
+pub use course::{Course, OwnSettings, run};
 pub use entries::entered;
-pub use row::{BLOCKED, EMPTY, STANDING};
+pub use row::{BLOCKED, EMPTY, STANDING, row_text};
 pub use rules::{gap, speed, speeds};
 pub use std::alloc::AllocError as OutOfMemory;
 pub use step::{leave, next, stepped};
