@@ -201,26 +201,26 @@ fn reads_the_own_settings(rt: HostRuntime) -> Result<(), Fail> {
 #[test]
 fn says_each_fault(rt: HostRuntime) -> Result<(), Fail> {
     let table = [
-        (Fault::Length, "the road is not 8 to 8,192 cells long"),
+        (Fault::Length, "the road is not 8 to 8192 cells long"),
         (
             Fault::Exit,
             "the deleted zone is not 1 to 64 cells long and shorter than the road",
         ),
         (
             Fault::Zones,
-            "the zones are not 1 to 64 of at least one cell, with one entry for each",
+            "the zones are not 1 to 64 with a width and one entry for each",
         ),
         (
             Fault::Inlets,
-            "the inlets are too few or too many, or not at different cells before the deleted zone",
+            "the inlets are none, more than 1, or not at different cells before the deleted zone",
         ),
         (
             Fault::Detectors,
-            "the detectors are more than 64, or not all behind the first cell and before the deleted zone",
+            "the detectors are not 0 to 64 at sites behind the first cell and before the deleted zone",
         ),
         (
             Fault::Default,
-            "a speed limit is above 9, or a slowing chance or an inflow above 65,536",
+            "a speed limit is above 9, or a slowing chance or an inflow above 65536",
         ),
         (Fault::OutOfMemory, "no memory"),
     ];
