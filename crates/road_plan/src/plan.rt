@@ -1,6 +1,7 @@
-ghost use Rattle.std.specs.Prelude.{◌≡◌, IfOk, IfErr, Some, None};
+ghost use Rattle.std.specs.Prelude.{◌≡◌, ◌≤◌, IfOk, IfErr, IsOk, Some, None, length};
 ghost use Rattle.road_plan.specs.Plan.{plan_of, IsWithinLimits};
 ghost use Rattle.road_plan.specs.Refusals.{fault_of};
+ghost use Rattle.road_plan.specs.declared.limits.TheConstants.{SERVED_INLETS};
 
 use crate::checks::first_fault;
 use crate::faults::PlanFault;
@@ -29,6 +30,7 @@ impl Plan {
     pub fn new(parts: PlanParts) -> Result<Plan, PlanFault>
         ensures made { IfOk result (λ plan. plan ≡ plan_of parts) }
         ensures faultless { IfOk result (λ _. fault_of (plan_of parts) ≡ None) }
+        ensures accepted { IsWithinLimits (plan_of parts) → length parts.inlets.items ≤ SERVED_INLETS → IsOk result }
         ensures refused { IfErr result (λ fault. fault_of (plan_of parts) ≡ Some fault) }
     {
         match first_fault(&parts) {
