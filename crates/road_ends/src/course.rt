@@ -1,5 +1,5 @@
 ghost use Rattle.std.specs.Prelude.{◌≡◌, ℕ, IfOk};
-ghost use Rattle.road_plan.specs.Settings.{Settings, Fits};
+ghost use Rattle.road_plan.specs.Settings.{Settings, Fits, defaults};
 ghost use Rattle.road_ends.specs.Run.{run};
 
 use crate::step::stepped;
@@ -25,7 +25,11 @@ pub struct OwnSettings<'a> {
 
 impl<'a> OwnSettings<'a> {
     /// The course of a plan that nobody edits.
-    pub fn new(alloc: Global, plan: &'a Plan) -> Self {
+    pub fn new(alloc: Global, plan: &'a Plan) -> Self
+        ensures own { (u : ℕ) → ⟦<OwnSettings<'a> as Course>⟧.settings_at result u ≡ defaults plan.now }
+        ensures fits { (u : ℕ) → Fits plan.now (⟦<OwnSettings<'a> as Course>⟧.settings_at result u) }
+    {
+        plan.own_settings_fit();
         OwnSettings { alloc, plan }
     }
 }

@@ -1,5 +1,6 @@
 ghost use Rattle.std.specs.Prelude.{◌≡◌, ◌≤◌, IfOk, IfErr, IsOk, Some, None, length};
 ghost use Rattle.road_plan.specs.Plan.{plan_of, IsWithinLimits};
+ghost use Rattle.road_plan.specs.Settings.{Fits, defaults};
 ghost use Rattle.road_plan.specs.Refusals.{fault_of};
 ghost use Rattle.road_plan.specs.declared.limits.TheConstants.{SERVED_INLETS};
 
@@ -93,5 +94,12 @@ impl Plan {
         ensures { IsWithinLimits self.now }
     {
         let _ = &self.parts;
+    }
+
+    /// That the plan's own settings fit it. It is a fact for proofs: the call does nothing.
+    pub fn own_settings_fit(&self)
+        ensures { Fits self.now (defaults self.now) }
+    {
+        self.limits();
     }
 }
