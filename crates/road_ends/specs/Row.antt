@@ -7,7 +7,7 @@ use Rattle.road_cells.specs.Array.{Array, Vehicle, vehicle_at, numbers}
 use Rattle.road_cells.specs.Gap.{is_blocked}
 use Rattle.road_cells.specs.declared.car.TheConstants.{GREATEST_SPEED}
 use Rattle.road_ends.specs.Run.{Course, run}
-use Rattle.road_ends.specs.declared.row.TheConstants.{STANDING, BLOCKED, EMPTY}
+use Rattle.road_ends.specs.declared.letters.TheConstants.{STANDING, BLOCKED, EMPTY}
 
 -- the letter of a cell: a car's speed as a digit, else the mark of a blocked cell, else that of an empty one
 abbrev pub letter : Bool → Option Vehicle → ℕ

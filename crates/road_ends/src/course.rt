@@ -1,7 +1,11 @@
 ghost use Rattle.std.specs.Prelude.{◌≡◌, ℕ, IfOk};
 ghost use Rattle.road_plan.specs.Settings.{Settings, Fits, defaults};
+ghost use Rattle.std.specs.String.{string_bytes};
 ghost use Rattle.road_ends.specs.Run.{run};
+ghost use Rattle.road_ends.specs.Row.{row};
 
+use crate::laws::cars_stay_on_road;
+use crate::letters::row_text;
 use crate::step::stepped;
 use road_cells::Road;
 use road_plan::{Plan, Settings};
@@ -55,4 +59,20 @@ pub fn run<C: Course>(alloc: Global, plan: &Plan, course: &C, step: u32) -> Resu
         road = stepped(alloc, plan, &settings, now, &road)?;
     }
     Ok(road)
+}
+
+/// The row of text of a step of a run, with the blocks of that step.
+pub fn row<C: Course>(
+    alloc: Global,
+    plan: &Plan,
+    course: &C,
+    step: u32,
+) -> Result<String, AllocError>
+    requires { (u : ℕ) → Fits plan.now (C.settings_at course.now u) }
+    ensures { IfOk result (λ text. string_bytes text ≡ row plan.now (C.settings_at course.now) step) }
+{
+    cars_stay_on_road(plan);
+    let road = run(alloc, plan, course, step)?;
+    let settings = course.at(step)?;
+    row_text(alloc, plan.length(), settings.blocks(), &road)
 }

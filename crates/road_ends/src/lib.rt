@@ -6,13 +6,13 @@
 mod course;
 mod entries;
 pub mod laws;
-mod row;
+mod letters;
 mod rules;
 mod step;
 
-pub use course::{Course, OwnSettings, run};
+pub use course::{Course, OwnSettings, row, run};
 pub use entries::entered;
-pub use row::{BLOCKED, EMPTY, STANDING, row_text};
+pub use letters::{BLOCKED, EMPTY, STANDING, row_text};
 pub use rules::{gap, speed, speeds};
 pub use std::alloc::AllocError as OutOfMemory;
 pub use step::{leave, next, stepped};

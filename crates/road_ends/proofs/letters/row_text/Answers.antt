@@ -2,7 +2,7 @@ use Rattle.std.proofs.Common.{ℕ, zero, suc, ◌≡◌, ◌+◌, ◌<◌, ◌++
 use Rattle.road_cells.specs.Array.{vehicle_at, numbers}
 use Rattle.road_cells.specs.Gap.{is_blocked}
 use Rattle.road_ends.specs.Row.{letter}
-use Rattle.road_ends.proofs.row.row_text.Goals as goal
+use Rattle.road_ends.proofs.letters.row_text.Goals as goal
 
 -- one cell more is one letter more
 one_more : (f : ℕ → ℕ) (n a : ℕ) → map f (numbers a (suc n)) ≡ map f (numbers a n) ++ f (a + n) ∷ []
