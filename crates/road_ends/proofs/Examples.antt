@@ -220,3 +220,40 @@ dense_at_1 = refl
 dense_at_2 : row nine_inlets dense 2 ≡ codes "0..00..1.00..1..1.00..1.0.1....."
 unfolding free_before
 dense_at_2 = refl
+
+-- one car on 64 cells with limit 9: it enters at step 0 alone
+abbrev long_road : Plan
+long_road = record {
+  cells = 64;
+  exit = 1;
+  width = 64;
+  zones = (9, 0) ∷ [];
+  inlets = (0, 65536) ∷ [];
+  detectors = [];
+  words = Steady;
+}
+
+abbrev one_car : List ℕ → Course
+one_car blocks step = record (defaults long_road) {
+  inflows = (if nat_lt step 1 then 65536 else 0) ∷ [];
+  blocks = if nat_lt step 9 then [] else blocks;
+}
+
+gains_speed_to_nine : row long_road (one_car []) 9 ≡ codes ".............................................9.................."
+unfolding free_before
+gains_speed_to_nine = refl
+
+-- the block is behind the nine cells that a car can drive
+block_at_the_tenth_cell : row long_road (one_car (55 ∷ [])) 10 ≡ codes "......................................................9#........"
+unfolding free_before
+block_at_the_tenth_cell = refl
+
+-- the block is the ninth cell
+block_at_the_ninth_cell : row long_road (one_car (54 ∷ [])) 10 ≡ codes ".....................................................8#........."
+unfolding free_before
+block_at_the_ninth_cell = refl
+
+-- cells past the end are free: the car passes the road's end at full speed and is deleted
+drives_off_at_full_speed : row long_road (one_car []) 12 ≡ codes "................................................................"
+unfolding free_before
+drives_off_at_full_speed = refl

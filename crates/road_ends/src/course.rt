@@ -22,6 +22,7 @@ pub trait Course {
 }
 
 /// The plan's own settings at every step: no edit at all.
+#[derive(Drop)]
 pub struct OwnSettings<'a> {
     alloc: Global,
     plan: &'a Plan,

@@ -9,6 +9,8 @@ pub mod laws;
 mod letters;
 mod rules;
 mod step;
+#[cfg(test)]
+mod tests;
 
 pub use course::{Course, OwnSettings, row, run};
 pub use entries::entered;
