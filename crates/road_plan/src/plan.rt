@@ -29,9 +29,14 @@ impl Plan {
     /// The plan of these parts. A refusal names the first fault in the order of `PlanFault`; it is never
     /// `OutOfMemory`, since the parts become the plan and nothing is copied.
     pub fn new(parts: PlanParts) -> Result<Plan, PlanFault>
+        // Accepted exactly where no fault is found, and then the parts are the plan.
         ensures made { IfOk result (λ plan. plan ≡ plan_of parts) }
         ensures faultless { IfOk result (λ _. fault_of (plan_of parts) ≡ None) }
+
+        // So each plan within the limits is accepted, but for inlets that are not served yet.
         ensures accepted { IsWithinLimits (plan_of parts) → length parts.inlets.items ≤ SERVED_INLETS → IsOk result }
+
+        // Refused by the first fault, which is never want of memory.
         ensures refused { IfErr result (λ fault. fault_of (plan_of parts) ≡ Some fault) }
     {
         match first_fault(&parts) {
