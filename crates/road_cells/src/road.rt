@@ -49,6 +49,7 @@ impl Road {
     pub fn into_cars(self) -> Vec<Car>
         ensures all { result.items ≡ cars_of self }
         ensures rise { Rise result.items }
+        ensures road { array_of result.items ≡ self }
     {
         self.cars
     }
@@ -57,6 +58,7 @@ impl Road {
     pub fn cars(&self) -> &[Car]
         ensures all { result.now ≡ cars_of self.now }
         ensures rise { Rise result.now }
+        ensures road { array_of result.now ≡ self.now }
     {
         self.cars.as_slice()
     }

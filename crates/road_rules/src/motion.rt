@@ -1,6 +1,7 @@
 ghost use Rattle.std.specs.Prelude.{◌≡◌, ◌≤◌, length, IfOk};
 ghost use Rattle.road_rules.specs.Motion.{moved_at, MayMove};
-ghost use Rattle.road_rules.specs.MotionLaws.{advanced_by};
+ghost use Rattle.road_cells.specs.Cars.{cars_of};
+ghost use Rattle.road_rules.specs.MotionLaws.{advanced_by, advanced_at};
 
 use road_cells::{Car, Road};
 use std::alloc::{AllocError, Global};
@@ -10,7 +11,8 @@ use std::alloc::{AllocError, Global};
 pub fn moved(alloc: Global, road: &Road, speeds: &[u8]) -> Result<Road, AllocError>
     requires low { length road.now ≤ 65536 }
     requires may { MayMove road.now speeds.now }
-    ensures { IfOk result (λ moved. moved ≡ moved_at speeds.now road.now) }
+    ensures motion { IfOk result (λ moved. moved ≡ moved_at speeds.now road.now) }
+    ensures cars { IfOk result (λ moved. cars_of moved ≡ advanced_at speeds.now (cars_of road.now)) }
 {
     let cars = road.cars();
     let mut moved = Vec::with_capacity(alloc, cars.len())?;
