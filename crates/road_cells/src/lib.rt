@@ -7,3 +7,6 @@ mod road;
 pub use car::{Car, GREATEST_SPEED};
 pub use road::Road;
 pub use std::alloc::AllocError as OutOfMemory;
+
+#[cfg(test)]
+mod tests;
