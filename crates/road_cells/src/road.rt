@@ -51,7 +51,8 @@ impl Road {
         ensures rise { Rise result.items }
         ensures road { array_of result.items ≡ self }
     {
-        self.cars
+        let Road { cars } = self;
+        cars
     }
 
     /// The cars, in strictly rising cells.

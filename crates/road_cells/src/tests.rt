@@ -38,9 +38,10 @@ const CARS: [Car; 3] = [
 #[test]
 fn copies_a_road(rt: HostRuntime) -> Result<(), Fail> {
     let road = Road::of(CARS.to_vec(rt.alloc())?);
-    let copy = road.copied()?;
+    let copied = road.copied();
+    assert_eq!(rt; road.cars(), CARS.as_slice(), "copied or refused");
+    let copy = copied?;
     assert_eq!(rt; copy.cars(), CARS.as_slice());
-    assert_eq!(rt; road.cars(), CARS.as_slice());
     assert_eq!(rt; copy.into_cars().as_slice(), CARS.as_slice());
     Ok(())
 }

@@ -7,3 +7,6 @@ mod speeds;
 pub use motion::moved;
 pub use speeds::{slowed, two_rules, wanted};
 pub use std::alloc::AllocError as OutOfMemory;
+
+#[cfg(test)]
+mod tests;
