@@ -1,5 +1,5 @@
 -- What is free in front of a car: up to the next car of the list, up to the next block of the list.
-use Rattle.std.specs.Prelude.{◌≡◌, ◌≢◌, ℕ, zero, suc, ◌+◌, ◌-◌, ◌<◌, ◌≤◌, ◌||◌, min, Bool, true, false, List, [], ◌∷◌, length, is_some, nat_eq, nat_le, slice_index, refl}
+use Rattle.std.specs.Prelude.{◌≡◌, ◌≢◌, ℕ, suc, ◌+◌, ◌-◌, ◌<◌, ◌≤◌, ◌||◌, min, true, false, List, [], ◌∷◌, length, is_some, nat_eq, nat_le, slice_index, refl}
 use Rattle.std.specs.List.{slice_index_or}
 use Rattle.std.specs.List.Sorted.{IsNonDecreasing, IsPartitionedBy, IsPartitionPoint}
 use Rattle.std.proofs.Common.{sym, ap, ◌∙◌, arith, inl, inr}

@@ -25,7 +25,7 @@ coming j c speed (Some v) = if c + speed v == j then Some (record { number = v.n
 abbrev pub arriving : (ℕ → Vehicle → ℕ) → Array → ℕ → Option Vehicle
 arriving speed a j = first_of (λ c. coming j c (speed c) (vehicle_at a c)) (numbers 0 (length a))
 
--- motion: place j holds the vehicle that arrives there, else it is empty; no vehicle drives farther than the greatest speed
+-- motion: place j holds the vehicle that arrives there, else it is empty; at the greatest speed at most, none arrives farther on
 abbrev pub moved : (ℕ → Vehicle → ℕ) → Array → Array
 moved speed a = array (length a + GREATEST_SPEED) (arriving speed a)
 
