@@ -11,7 +11,7 @@ use Rattle.road_plan.specs.Plan.{Plan}
 use Rattle.road_plan.specs.Settings.{Settings}
 use Rattle.road_cells.specs.Array.{Array, Vehicle, vehicle_at, numbers}
 use Rattle.road_cells.specs.ArrayLaws.{vehicle_at-array}
-use Rattle.road_rules.specs.Motion.{first_some, first_of, coming, arriving}
+use Rattle.road_rules.specs.Motion.{first_of, coming, arriving}
 use Rattle.road_ends.specs.Entries.{car_number, lets_in, let_in, entering, entered}
 use Rattle.road_ends.proofs.Apart.{within}
 
@@ -27,8 +27,8 @@ pub record CameFrom (speed : ℕ → Vehicle → ℕ) (a : Array) (j : ℕ) (car
 found : (f : ℕ → Option Vehicle) (cs : List ℕ) (car : Vehicle) → first_of f cs ≡ Some car → (c : ℕ) × (f c ≡ Some car)
 found f [] car none = let never : None ≡ Some car = none in cc
 found f (c ∷ cs) car first = elim (f c) as (λ o. f c ≡ o → (c : ℕ) × (f c ≡ Some car)) [
-  | None ↦ λ empty. found f cs car (sym (ap (λ o. first_some o (first_of f cs)) empty) ∙ first)
-  | Some x ↦ λ here. (c, here ∙ sym (ap (λ o. first_some o (first_of f cs)) here) ∙ first)
+  | None ↦ λ empty. found f cs car (sym (ap (λ o. option_or o (first_of f cs)) empty) ∙ first)
+  | Some x ↦ λ here. (c, here ∙ sym (ap (λ o. option_or o (first_of f cs)) here) ∙ first)
 ] refl
 
 came : (speed : ℕ → Vehicle → ℕ) (a : Array) (j c : ℕ) (car : Vehicle) → coming j c (speed c) (vehicle_at a c) ≡ Some car → CameFrom speed a j car

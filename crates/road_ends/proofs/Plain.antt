@@ -17,7 +17,7 @@ use Rattle.road_cells.specs.Array.{Array, Vehicle, vehicle_at, array, numbers}
 use Rattle.road_cells.specs.ArrayLaws.{past_end, vehicle_at-array, past_array, array-same, array-agree}
 use Rattle.road_cells.specs.Cars.{cars_of, cars_from, car_of, vehicle_of, cell_at, Rise, RiseFrom, array_of, standing, end_of}
 use Rattle.road_cells.specs.CarsLaws.{rise-cars_from, standing-cars_from, standing-below, vehicle_at-array_of, standing-past, array_of-cars_from}
-use Rattle.road_cells.specs.CarsPlaces.{rise-at, standing-at, cell_at-default}
+use Rattle.road_cells.specs.CarsPlaces.{rise-at, standing-at}
 use Rattle.road_cells.specs.Gap as cells
 use Rattle.road_cells.specs.Gap.{is_blocked, free_before, free_cells}
 use Rattle.road_cells.specs.GapLaws.{free_before-same}
@@ -204,8 +204,8 @@ pub cars_parted : (cars : List Car) (end : ℕ) → Rise cars → IsPartitionedB
 cars_parted cars end rise i j d le below before = elim (cases_lt i j) as (λ _. nat_lt (slice_index_or cars i d).cell end ≡ true) [
   | inl lt ↦
       let order = rise-at 0 cars i j rise lt below in
-      let low = cell_at-default cars i d (omega arith) in
-      let high = cell_at-default cars j d below in
+      let low : cell_at cars i ≡ (slice_index_or cars i d).cell = ap (λ car. car.cell) (get_or_default cars i (car_of 0 (record { number = 0; speed = 0 })) d (omega arith)) in
+      let high : cell_at cars j ≡ (slice_index_or cars j d).cell = ap (λ car. car.cell) (get_or_default cars j (car_of 0 (record { number = 0; speed = 0 })) d below) in
       grind (arith, nat_tests)
   | inr ge ↦ let same : i ≡ j = omega arith in ap (λ k. nat_lt (slice_index_or cars k d).cell end) same ∙ before
 ]

@@ -10,5 +10,5 @@ moved-requires-clause-may c =
 
 pub returns : goal.returns
 returns c =
-    c.leave.ensures ∙ ap (left c.args.plan.now) (c.in_ok-moved.ensures ∙ ap (λ speeds. moved_at speeds c.args.road.now) (c.deref.ensures.value ∙ c.in_ok-speeds.ensures))
+    c.leave.ensures ∙ ap (left c.args.plan.now) (c.in_ok-moved.ensures.motion ∙ ap (λ speeds. moved_at speeds c.args.road.now) (c.deref.ensures.value ∙ c.in_ok-speeds.ensures))
     ∙ left-moved_at c.args.plan.now c.args.settings.now c.args.step c.args.road.now
