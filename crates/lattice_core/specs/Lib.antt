@@ -5,3 +5,5 @@ pub mod Both
 pub mod Map
 pub mod MapLaws
 pub mod MapSteps
+pub mod Fold
+pub mod Tops

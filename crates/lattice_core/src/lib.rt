@@ -9,6 +9,7 @@ pub mod both;
 pub mod exact;
 pub mod greatest;
 pub mod lattice;
+pub mod laws;
 pub mod map;
 
 /// A growth of memory was refused. It is the only error of this crate, and a call that answers it changed nothing.
