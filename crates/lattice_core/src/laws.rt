@@ -43,5 +43,4 @@ pub fn reading_keeps_joins<K: Exact, V: Lattice, S>(a: &LatMap<K, V>, b: &LatMap
 /// order, grouping and repetition.
 pub fn greatest_elements_agree<T: Exact>()
     ensures { (exceeded : T → T → Bool) → IsStrict exceeded → TopsLaws T.cmp exceeded }
-{
-}
+{}
