@@ -1,6 +1,6 @@
 //! What holds of all lattices, of all maps and of all sets of greatest elements, each on a function that does nothing.
 
-ghost use Rattle.std.specs.Prelude.{◌≡◌, ◌↔◌, Bool};
+ghost use Rattle.std.specs.Prelude.{◌≡◌, Bool, true};
 ghost use Rattle.std.specs.FinMap.Entries.{find};
 ghost use Rattle.lattice_core.specs.Fold.{fold_join, GivesJoins, IsJoin};
 ghost use Rattle.lattice_core.specs.Map.{join_options};
@@ -19,6 +19,26 @@ pub fn joins_agree<L: Lattice>(a: &L, b: &L, c: &L)
     a.known();
     b.known();
     c.known();
+}
+
+/// A join is the least upper bound: each of the two is at most it, and it is at most each value that both are at most.
+pub fn join_is_the_least_upper_bound<L: Lattice>(a: &L, b: &L, c: &L)
+    ensures first { L.join a.now (L.join a.now b.now) ≡ L.join a.now b.now }
+    ensures second { L.join b.now (L.join a.now b.now) ≡ L.join a.now b.now }
+    ensures least { L.join a.now c.now ≡ c.now → L.join b.now c.now ≡ c.now → L.join (L.join a.now b.now) c.now ≡ c.now }
+{
+    a.known();
+    b.known();
+    c.known();
+}
+
+/// The bottom adds nothing, and a join is the bottom only where both values are.
+pub fn bottom_adds_nothing<L: Lattice>(a: &L, b: &L)
+    ensures neutral { L.is_least a.now ≡ true → L.join a.now b.now ≡ b.now }
+    ensures only_of_bottoms { L.is_least (L.join a.now b.now) ≡ true → (L.is_least a.now ≡ true) × (L.is_least b.now ≡ true) }
+{
+    a.known();
+    b.known();
 }
 
 /// Two maps that give equal values at every key are equal, and their join gives at each key the join of what they give.

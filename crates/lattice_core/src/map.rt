@@ -65,7 +65,7 @@ impl<K: Exact, V: Lattice> LatMap<K, V> {
     {
         self.known();
         value.known();
-        let joined = joined_with(value, self.map.get(&key))?;
+        let joined = joined_with(value, self.get(key))?;
         if joined.is_bottom() {
             return self.copied();
         }

@@ -14,8 +14,12 @@ use std::test::Fail;
 // A register holds the value put by the latest stamp, a stamp being a count and a number.
 type Register = Greatest<((u32, u32), u32)>;
 
+type Steps = LatMap<u32, Register>;
+
 // Per object and step, a register.
-type Registers = LatMap<u32, LatMap<u32, Register>>;
+type Registers = LatMap<u32, Steps>;
+
+type Replica = Both<Registers, Greatest<u32>>;
 
 fn is_same<L: Lattice>(a: &L, b: &L) -> bool {
     a.at_most(b) && b.at_most(a)
@@ -63,136 +67,155 @@ fn with<K: Exact, V: Lattice>(
     }
 }
 
+// Two values that differ, and what they join to in either order.
+fn joins_to<L: Lattice>(rt: &impl Abort, a: &L, b: &L, both: &L) -> Result<(), OutOfMemory> {
+    for (ours, theirs) in [(a, b), (b, a)] {
+        assert!(rt; is_same(&joined(rt, ours, theirs)?, both), "the join");
+        assert!(rt; ours.at_most(both) && !ours.is_bottom(), "the order");
+    }
+    assert!(rt; is_same(&copied(both)?, both), "the copy");
+    assert!(rt; !(both.at_most(a) && both.at_most(b)), "the order");
+    Ok(())
+}
+
 fn put(count: u32, number: u32, value: u32) -> Register {
     Greatest::Of(((count, number), value))
 }
 
-fn step(
-    rt: &impl Abort,
-    alloc: Global,
-    at: u32,
-    register: Register,
-) -> Result<LatMap<u32, Register>, OutOfMemory> {
-    with(rt, &LatMap::empty(alloc), at, &register)
+fn steps(rt: &impl Abort, alloc: Global, puts: &[(u32, Register)]) -> Result<Steps, OutOfMemory> {
+    let mut steps = LatMap::empty(alloc);
+    for (step, register) in puts {
+        steps = with(rt, &steps, *step, register)?;
+    }
+    Ok(steps)
 }
 
 fn registers(
     rt: &impl Abort,
     alloc: Global,
-    object: u32,
-    at: u32,
-    register: Register,
+    puts: &[(u32, u32, Register)],
 ) -> Result<Registers, OutOfMemory> {
-    with(
-        rt,
-        &LatMap::empty(alloc),
-        object,
-        &step(rt, alloc, at, register)?,
-    )
+    let mut registers = LatMap::empty(alloc);
+    for (object, step, register) in puts {
+        registers = with(
+            rt,
+            &registers,
+            *object,
+            &steps(rt, alloc, &[(*step, *register)])?,
+        )?;
+    }
+    Ok(registers)
 }
 
-fn register(maps: &Registers, object: u32, at: u32) -> Option<Register> {
-    maps.get(object)?.get(at).copied()
+// Whether a map has just these entries.
+fn holds(map: &Steps, entries: &[(u32, Register)]) -> bool {
+    map.keys().copied().eq(entries.iter().map(|entry| entry.0))
+        && entries
+            .iter()
+            .all(|entry| map.get(entry.0) == Some(&entry.1))
 }
 
 // Two puts with one stamp: the greater value wins, whichever came first.
 #[test]
 fn equal_stamps_go_by_value(rt: HostRuntime) -> Result<(), Fail> {
-    let (two, three) = (put(7, 64, 2), put(7, 64, 3));
-    assert_eq!(rt; joined(&rt, &two, &three)?, three);
-    assert_eq!(rt; joined(&rt, &three, &two)?, three);
-    assert_eq!(rt;
-        joined(&rt, &put(6, 70, 9), &two)?,
-        two,
-        "an older stamp loses"
-    );
-    assert_eq!(rt;
-        joined(&rt, &put(7, 63, 9), &two)?,
-        two,
-        "a lower number loses"
-    );
-    assert_eq!(rt; joined(&rt, &Greatest::Nothing, &two)?, two);
-    assert_eq!(rt; copied(&two)?, two);
-    assert!(rt; two.at_most(&three) && two.at_most(&two) && !three.at_most(&two));
-    assert!(rt; Register::Nothing.is_bottom() && !two.is_bottom());
+    let table = [
+        (put(7, 64, 2), put(7, 64, 3), put(7, 64, 3)),
+        (put(7, 64, 3), put(7, 64, 2), put(7, 64, 3)),
+        (put(6, 70, 9), put(7, 64, 2), put(7, 64, 2)),
+        (put(7, 64, 2), put(7, 63, 9), put(7, 64, 2)),
+        (Greatest::Nothing, put(7, 64, 2), put(7, 64, 2)),
+    ];
+    for (first, second, both) in table {
+        assert_eq!(rt; joined(&rt, &first, &second)?, both);
+        assert_eq!(rt; first.at_most(&second), second == both);
+        assert!(rt; copied(&first)? == first && !both.is_bottom());
+    }
     Ok(())
 }
 
 #[test]
-fn maps_join_at_a_key(rt: HostRuntime) -> Result<(), Fail> {
+fn maps_join_key_by_key(rt: HostRuntime) -> Result<(), Fail> {
     let (two, three) = (put(7, 64, 2), put(7, 64, 3));
-    let first = step(&rt, rt.alloc(), 0, two)?;
-    let second = step(&rt, rt.alloc(), 0, three)?;
-    for (a, b) in [(&first, &second), (&second, &first)] {
-        assert_eq!(rt; joined(&rt, a, b)?.get(0), Some(&three));
+    for (first, second) in [(two, three), (three, two)] {
+        assert!(rt;
+            holds(
+                &steps(&rt, rt.alloc(), &[(0, first), (0, second)])?,
+                &[(0, three)]
+            ),
+            "at a key"
+        );
     }
-    for (a, b) in [(two, three), (three, two)] {
-        let map = with(&rt, &step(&rt, rt.alloc(), 0, a)?, 0, &b)?;
-        assert_eq!(rt; map.get(0), Some(&three));
-        assert!(rt; map.keys().copied().eq([0]));
-    }
-    assert!(rt; first.at_most(&second) && !second.at_most(&first));
-    Ok(())
+    let ours = steps(&rt, rt.alloc(), &[(5, two), (9, three)])?;
+    let theirs = steps(
+        &rt,
+        rt.alloc(),
+        &[(5, three), (3, two), (4, Greatest::Nothing)],
+    )?;
+    assert!(rt;
+        holds(&theirs, &[(3, two), (5, three)]),
+        "the keys rise, and no bottom is held"
+    );
+    let both = joined(&rt, &ours, &theirs)?;
+    assert!(rt;
+        holds(&both, &[(3, two), (5, three), (9, three)]),
+        "the join"
+    );
+    assert!(rt; both.get(4).is_none());
+    Ok(joins_to(&rt, &ours, &theirs, &both)?)
 }
 
-#[test]
-fn maps_hold_no_bottom(rt: HostRuntime) -> Result<(), Fail> {
-    let none: LatMap<u32, Register> = LatMap::empty(rt.alloc());
-    assert!(rt; none.is_bottom() && none.get(5).is_none());
-    assert!(rt; with(&rt, &none, 5, &Greatest::Nothing)?.is_bottom());
-
-    let five = with(&rt, &none, 5, &put(1, 0, 4))?;
-    let same = with(&rt, &five, 5, &Greatest::Nothing)?;
-    assert!(rt; is_same(&five, &same) && !same.is_bottom());
-
-    let three = with(&rt, &with(&rt, &five, 9, &put(1, 0, 4))?, 3, &put(2, 0, 1))?;
-    assert!(rt; three.keys().copied().eq([3, 5, 9]));
-    let copy = copied(&three)?;
-    assert!(rt; copy.keys().copied().eq([3, 5, 9]) && is_same(&three, &copy));
-    assert_eq!(rt; copy.get(9), Some(&put(1, 0, 4)));
-    assert_eq!(rt; copy.get(4), None);
-    Ok(())
-}
-
-// One replica put 1 at object 0 and step 3, and the other 0 there later, and 2 at object 8 and step 4.
+// Objects 0 and 8: a later put at step 3 of the first, and a step of the second that one side alone has.
 #[test]
 fn nested_maps_join(rt: HostRuntime) -> Result<(), Fail> {
-    let ours = registers(&rt, rt.alloc(), 0, 3, put(1, 0, 1))?;
-    let late = registers(&rt, rt.alloc(), 0, 3, put(2, 1, 0))?;
-    let theirs = joined(&rt, &late, &registers(&rt, rt.alloc(), 8, 4, put(1, 1, 2))?)?;
-    for all in [joined(&rt, &ours, &theirs)?, joined(&rt, &theirs, &ours)?] {
-        assert!(rt; all.keys().copied().eq([0, 8]));
-        assert_eq!(rt; register(&all, 0, 3), Some(put(2, 1, 0)));
-        assert_eq!(rt; register(&all, 8, 4), Some(put(1, 1, 2)));
-        assert_eq!(rt; register(&all, 8, 3), None);
-        assert!(rt; ours.at_most(&all) && theirs.at_most(&all) && is_same(&all, &theirs));
-    }
-    assert!(rt; !theirs.at_most(&ours) && is_same(&copied(&theirs)?, &theirs));
-    Ok(())
+    let ours = registers(
+        &rt,
+        rt.alloc(),
+        &[(0, 3, put(1, 0, 1)), (0, 5, put(3, 0, 0))],
+    )?;
+    let theirs = registers(
+        &rt,
+        rt.alloc(),
+        &[(8, 4, put(1, 1, 2)), (0, 3, put(2, 1, 0))],
+    )?;
+    let both = joined(&rt, &ours, &theirs)?;
+    let first = [(3, put(2, 1, 0)), (5, put(3, 0, 0))];
+    assert!(rt; both.get(0).is_some_and(|steps| holds(steps, &first)));
+    assert!(rt;
+        both.get(8)
+            .is_some_and(|steps| holds(steps, &[(4, put(1, 1, 2))]))
+    );
+    Ok(joins_to(&rt, &ours, &theirs, &both)?)
 }
 
 // Registers and a horizon, as a replica holds them.
 #[test]
 fn registers_and_horizon_join(rt: HostRuntime) -> Result<(), Fail> {
-    let none: Both<Registers, Greatest<u32>> = Both {
-        first: LatMap::empty(rt.alloc()),
-        second: Greatest::Nothing,
-    };
-    let ours = Both {
-        first: registers(&rt, rt.alloc(), 8, 4, put(1, 0, 1))?,
+    let maps = [put(1, 0, 1), put(2, 0, 0)];
+    let ours: Replica = Both {
+        first: registers(&rt, rt.alloc(), &[(8, 4, maps[0])])?,
         second: Greatest::Of(6),
     };
     let theirs = Both {
-        first: registers(&rt, rt.alloc(), 8, 4, put(2, 0, 0))?,
+        first: registers(&rt, rt.alloc(), &[(8, 4, maps[1])])?,
         second: Greatest::Of(3),
     };
-    assert!(rt; none.is_bottom() && !ours.is_bottom());
-    assert!(rt; none.at_most(&ours) && !ours.at_most(&theirs) && !theirs.at_most(&ours));
-    for all in [joined(&rt, &ours, &theirs)?, joined(&rt, &theirs, &ours)?] {
-        assert_eq!(rt; all.second, Greatest::Of(6));
-        assert_eq!(rt; register(&all.first, 8, 4), Some(put(2, 0, 0)));
-        assert!(rt; ours.at_most(&all) && theirs.at_most(&all) && is_same(&copied(&all)?, &all));
-    }
-    assert!(rt; is_same(&joined(&rt, &none, &ours)?, &ours));
+    let both = joined(&rt, &ours, &theirs)?;
+    assert!(rt; both.second == Greatest::Of(6));
+    assert!(rt;
+        both.first
+            .get(8)
+            .is_some_and(|steps| holds(steps, &[(4, maps[1])]))
+    );
+    Ok(joins_to(&rt, &ours, &theirs, &both)?)
+}
+
+#[test]
+fn empty_is_the_bottom(rt: HostRuntime) -> Result<(), Fail> {
+    let none: Replica = Both {
+        first: LatMap::empty(rt.alloc()),
+        second: Greatest::Nothing,
+    };
+    assert!(rt; none.is_bottom() && none.first.is_bottom() && none.first.get(0).is_none());
+    assert!(rt; none.at_most(&none) && joined(&rt, &none, &none)?.is_bottom());
     Ok(())
 }
