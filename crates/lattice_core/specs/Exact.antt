@@ -1,5 +1,6 @@
 -- Orders that tell values apart. An `Exact` type gives a proof of `IsExact` for its own order: a pair has it of its parts
--- (`exact_pair`), and a struct or an enum of a key that it is ordered by (`exact_by`).
+-- (`exact_pair`), and a struct or an enum with a derived order of a key that it is ordered by (`exact_by`): the pair of a
+-- struct's fields, or of the number of an enum's variant and what the variant holds.
 use Rattle.std.specs.Prelude.{◌≡◌}
 use Rattle.std.specs.declared.cmp.Ordering.{Ordering}
 use Rattle.std.specs.declared.cmp.Ordering.TheVariants.{Equal}

@@ -217,5 +217,10 @@ fn empty_is_the_bottom(rt: HostRuntime) -> Result<(), Fail> {
     };
     assert!(rt; none.is_bottom() && none.first.is_bottom() && none.first.get(0).is_none());
     assert!(rt; none.at_most(&none) && joined(&rt, &none, &none)?.is_bottom());
+    let simulated: Replica = Both {
+        first: LatMap::empty(rt.alloc()),
+        second: Greatest::Of(6),
+    };
+    assert!(rt; none.at_most(&simulated) && !simulated.at_most(&none) && !simulated.is_bottom());
     Ok(())
 }

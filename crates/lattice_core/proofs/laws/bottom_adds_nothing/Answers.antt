@@ -1,5 +1,4 @@
-use Rattle.std.specs.Prelude.{true}
-use Rattle.std.proofs.Common.{◌≡◌, ap, ◌∙◌}
+use Rattle.std.proofs.Common.{ap, ◌∙◌}
 use Rattle.lattice_core.proofs.laws.bottom_adds_nothing.Goals as goal
 
 pub returns-clause-only_of_bottoms : goal.returns-clause-only_of_bottoms
