@@ -14,7 +14,8 @@ use std::collections::btree_map::Keys;
 use std::marker::Model;
 
 /// A map to a lattice, joined key by key. It never holds a bottom, so that two maps which give equal values at every
-/// key are equal. Contracts see the list of its entries by rising key.
+/// key are equal. Contracts see the list of its entries by rising key. A join takes at most two look-ups or insertions
+/// for each entry of both maps, and copies or joins each value once.
 #[derive(Drop)]
 pub struct LatMap<K: Exact, V: Lattice> {
     map: BTreeMap<K, V>,
@@ -59,7 +60,8 @@ impl<K: Exact, V: Lattice> LatMap<K, V> {
         self.map.keys()
     }
 
-    /// The map with `value` joined in at `key`. A bottom adds nothing.
+    /// A copy of the map with `value` joined in at `key`. A bottom adds nothing. `OutOfMemory` comes where a growth was
+    /// refused, and map and value are then as before.
     pub fn with(&self, key: K, value: &V) -> Result<Self, OutOfMemory>
         ensures { IfOk result (λ new. new ≡ joined_in K.cmp V.join V.is_least self.now key value.now) }
     {

@@ -74,7 +74,7 @@ fn joins_to<L: Lattice>(rt: &impl Abort, a: &L, b: &L, both: &L) -> Result<(), O
         assert!(rt; ours.at_most(both) && !ours.is_bottom(), "the order");
     }
     assert!(rt; is_same(&copied(both)?, both), "the copy");
-    assert!(rt; !(both.at_most(a) && both.at_most(b)), "the order");
+    assert!(rt; !both.at_most(a) && !both.at_most(b), "the order");
     Ok(())
 }
 
@@ -124,6 +124,7 @@ fn equal_stamps_go_by_value(rt: HostRuntime) -> Result<(), Fail> {
         (put(6, 70, 9), put(7, 64, 2), put(7, 64, 2)),
         (put(7, 64, 2), put(7, 63, 9), put(7, 64, 2)),
         (Greatest::Nothing, put(7, 64, 2), put(7, 64, 2)),
+        (put(7, 64, 2), Greatest::Nothing, put(7, 64, 2)),
     ];
     for (first, second, both) in table {
         assert_eq!(rt; joined(&rt, &first, &second)?, both);
@@ -160,7 +161,8 @@ fn maps_join_key_by_key(rt: HostRuntime) -> Result<(), Fail> {
         holds(&both, &[(3, two), (5, three), (9, three)]),
         "the join"
     );
-    assert!(rt; both.get(4).is_none());
+    let lower = steps(&rt, rt.alloc(), &[(3, two), (5, two), (9, three)])?;
+    assert!(rt; lower.at_most(&both) && !both.at_most(&lower) && both.get(4).is_none());
     Ok(joins_to(&rt, &ours, &theirs, &both)?)
 }
 
