@@ -1,4 +1,5 @@
 pub mod Plan
 pub mod Settings
 pub mod Refusals
+pub mod Objects
 pub mod Examples

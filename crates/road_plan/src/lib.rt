@@ -4,11 +4,13 @@
 mod checks;
 mod faults;
 pub mod limits;
+mod object;
 mod parts;
 mod plan;
 mod settings;
 
 pub use faults::PlanFault;
+pub use object::Object;
 pub use parts::{PlanParts, WordKind};
 pub use plan::Plan;
 pub use settings::Settings;

@@ -1,6 +1,6 @@
 //! Plans worked out by hand: which are refused and by which fault, what a plan reads, and its own settings.
 
-use super::{OutOfMemory, Plan, PlanFault as Fault, PlanParts, Settings, WordKind};
+use super::{Object, OutOfMemory, Plan, PlanFault as Fault, PlanParts, Settings, WordKind};
 use std::alloc::Global;
 use std::test::Fail;
 
@@ -229,4 +229,64 @@ fn says_each_fault(rt: HostRuntime) -> Result<(), Fail> {
         assert_eq!(rt; said.as_str(), text);
     }
     Ok(())
+}
+
+#[test]
+fn knows_the_objects_of_a_plan(rt: HostRuntime) -> Result<(), Fail> {
+    let plan = Plan::new(parts_of(rt.alloc(), ROAD, ZONE, INLET, SITE)?)?;
+    let table = [
+        (Object::Limit(0), Some(2)),
+        (Object::Limit(1), None),
+        (Object::Slow(0), Some(0)),
+        (Object::Slow(u32::MAX), None),
+        (Object::Block(0), Some(0)),
+        (Object::Block(11), Some(0)),
+        (Object::Block(12), None),
+        (Object::Inflow(0), Some(65_536)),
+        (Object::Inflow(1), None),
+        (Object::Watch(0), Some(1)),
+        (Object::Watch(1), None),
+    ];
+    for (object, number) in table {
+        let own = if object.in_plan(&plan) {
+            Some(object.default(&plan))
+        } else {
+            None
+        };
+        assert_eq!(rt; own, number, "{object:?}");
+    }
+    Ok(())
+}
+
+#[test]
+fn allows_the_values_of_each_kind(rt: HostRuntime) {
+    let table = [
+        (Object::Limit(0), 9),
+        (Object::Slow(0), 65_536),
+        (Object::Block(0), 1),
+        (Object::Inflow(0), 65_536),
+        (Object::Watch(0), 1),
+    ];
+    for (object, greatest) in table {
+        for (value, allowed) in [(0, true), (greatest, true), (greatest + 1, false), (u32::MAX, false)] {
+            assert_eq!(rt; object.allows(value), allowed, "{object:?} {value}");
+        }
+    }
+}
+
+#[test]
+fn orders_objects_by_kind_and_index(rt: HostRuntime) {
+    let rising = [
+        Object::Limit(0),
+        Object::Limit(7),
+        Object::Slow(0),
+        Object::Block(0),
+        Object::Block(8_191),
+        Object::Inflow(0),
+        Object::Watch(0),
+        Object::Watch(1),
+    ];
+    for (object, later) in rising.iter().zip(&rising[1..]) {
+        assert!(rt; object < later, "{object:?} {later:?}");
+    }
 }

@@ -1,0 +1,65 @@
+ghost use Rattle.std.specs.Prelude.{◌≡◌, true};
+ghost use Rattle.road_plan.specs.Objects as objects;
+
+use crate::limits::{CERTAIN, GREATEST_LIMIT};
+use crate::plan::Plan;
+
+/// What an edit sets. Objects are ordered by their kinds in the order below, then by their indexes.
+#[derive(Clone, Copy, Debug, PartialEq, Eq, PartialOrd, Ord)]
+pub enum Object {
+    /// The speed limit of a zone, in cells per step.
+    Limit(u32),
+    /// The slowing chance of a zone, in 1/65,536.
+    Slow(u32),
+    /// Whether a cell is blocked: 0 or 1.
+    Block(u32),
+    /// The inflow chance of an inlet, in 1/65,536.
+    Inflow(u32),
+    /// Whether a detector is on: 0 or 1.
+    Watch(u32),
+}
+
+impl Object {
+    /// Whether the plan has the zone, cell, inlet or detector. A blocked cell may be any cell of the road.
+    pub fn in_plan(self, plan: &Plan) -> bool
+        ensures { result ≡ objects.in_plan plan.now self }
+    {
+        match self {
+            Object::Limit(zone) | Object::Slow(zone) => (zone as usize) < plan.zones().len(),
+            Object::Block(cell) => cell < plan.length(),
+            Object::Inflow(inlet) => (inlet as usize) < plan.inlets().len(),
+            Object::Watch(detector) => (detector as usize) < plan.detectors().len(),
+        }
+    }
+
+    /// Whether it takes the value: limits from 0 to 9, chances from 0 to 65,536, and 0 or 1 for what is off or on.
+    pub fn allows(self, value: u32) -> bool
+        ensures { result ≡ objects.allows self value }
+    {
+        match self {
+            Object::Limit(_) => value <= GREATEST_LIMIT,
+            Object::Slow(_) | Object::Inflow(_) => value <= CERTAIN,
+            Object::Block(_) | Object::Watch(_) => value <= 1,
+        }
+    }
+
+    /// What it is where nothing is put: the plan's number, no block, and a detector that is on.
+    pub fn default(self, plan: &Plan) -> u32
+        requires { objects.in_plan plan.now self ≡ true }
+        ensures { result ≡ objects.default plan.now self }
+    {
+        match self {
+            Object::Limit(zone) => plan.zones()[zone as usize].0,
+            Object::Slow(zone) => plan.zones()[zone as usize].1,
+            Object::Block(_) => 0,
+            Object::Inflow(inlet) => plan.inlets()[inlet as usize].1,
+            Object::Watch(_) => 1,
+        }
+    }
+
+    /// That objects are ordered by their kinds, then by their indexes. It is a fact for proofs: the call does nothing.
+    pub fn are_ordered(self, other: Object)
+        ensures { ⟦<Object as Ord>⟧.cmp self other ≡ objects.by_kind_and_index self other }
+    {
+    }
+}
