@@ -3,7 +3,7 @@ use Rattle.std.specs.Prelude.{◌≡◌, ℕ, ◌≤◌, List, [], ◌∷◌, �
 use Rattle.std.proofs.Common.{sym, ap, ◌∙◌, append-nil, refl}
 use Rattle.std.proofs.lemmas.List.{drop_all}
 use Rattle.road_cells.specs.declared.car.Car.{Car}
-use Rattle.road_rules.specs.MotionLaws.{advanced_at}
+use Rattle.road_rules.specs.Motion.{advanced_at}
 
 -- what is done, and what is left of the cars from the i-th on, are all: where none is left, what is done is all
 pub all_done : (cars : List Car) (speeds : List ℕ) (done all : List Car) (i : ℕ) → length cars ≤ i → done ++ advanced_at (drop i speeds) (drop i cars) ≡ all → done ≡ all

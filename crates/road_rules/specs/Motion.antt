@@ -6,6 +6,7 @@ use Rattle.std.specs.declared.option.Option.{Option}
 use Rattle.std.specs.declared.option.Option.TheVariants.{None, Some}
 use Rattle.road_cells.specs.Array.{Array, Vehicle, vehicle_at, array, numbers}
 use Rattle.road_cells.specs.Cars.{cars_of, cell_at}
+use Rattle.road_cells.specs.declared.car.Car.{Car}
 use Rattle.road_cells.specs.declared.car.TheConstants.{GREATEST_SPEED}
 
 -- what a function gives of the first number for which it gives something
@@ -39,3 +40,13 @@ pub record MayMove (a : Array) (speeds : List ℕ) : Type 0 where
   pub one_each : length speeds ≡ length (cars_of a)
   pub slow_enough : All (λ v. v ≤ GREATEST_SPEED) speeds
   pub apart : (k : ℕ) → k + 1 < length speeds → cell_at (cars_of a) k + slice_index speeds k < cell_at (cars_of a) (k + 1)
+
+-- a car at a new speed, that many cells further on
+abbrev pub advanced_by : ℕ → Car → Car
+advanced_by speed car = record { number = car.number; cell = car.cell + speed; speed = speed }
+
+-- each car at the speed of its place in a list
+abbrev pub advanced_at : List ℕ → List Car → List Car
+advanced_at speeds [] = []
+advanced_at [] (car ∷ cars) = []
+advanced_at (v ∷ speeds) (car ∷ cars) = advanced_by v car ∷ advanced_at speeds cars

@@ -15,22 +15,12 @@ use Rattle.road_cells.specs.CarsLaws.{vehicle_at-array_of, standing-past, rise-c
 use Rattle.road_cells.specs.CarsPlaces.{rise-from}
 use Rattle.road_cells.specs.declared.car.Car.{Car}
 use Rattle.road_cells.specs.declared.car.TheConstants.{GREATEST_SPEED}
-use Rattle.road_rules.specs.Motion.{first_of, coming, arriving, moved, speed_at, moved_at, MayMove}
-
--- a car at a new speed, that many cells further on
-abbrev pub advanced_by : ℕ → Car → Car
-advanced_by speed car = record { number = car.number; cell = car.cell + speed; speed = speed }
+use Rattle.road_rules.specs.Motion.{advanced_by, advanced_at, first_of, coming, arriving, moved, speed_at, moved_at, MayMove}
 
 -- each car at the speed that a function gives it
 abbrev pub advanced : (ℕ → Vehicle → ℕ) → List Car → List Car
 advanced speed [] = []
 advanced speed (car ∷ cars) = advanced_by (speed car.cell (vehicle_of car)) car ∷ advanced speed cars
-
--- each car at the speed of its place in a list
-abbrev pub advanced_at : List ℕ → List Car → List Car
-advanced_at speeds [] = []
-advanced_at [] (car ∷ cars) = []
-advanced_at (v ∷ speeds) (car ∷ cars) = advanced_by v car ∷ advanced_at speeds cars
 
 -- ---- a search of the cells is a search of the cars
 

@@ -1,7 +1,6 @@
 ghost use Rattle.std.specs.Prelude.{◌≡◌, ◌≤◌, length, IfOk};
-ghost use Rattle.road_rules.specs.Motion.{moved_at, MayMove};
+ghost use Rattle.road_rules.specs.Motion.{moved_at, MayMove, advanced_by, advanced_at};
 ghost use Rattle.road_cells.specs.Cars.{cars_of};
-ghost use Rattle.road_rules.specs.MotionLaws.{advanced_by, advanced_at};
 
 use crate::OutOfMemory;
 use road_cells::{Car, Road};

@@ -1,5 +1,5 @@
 use Rattle.std.proofs.Common.{◌≡◌, drop, ◌++◌}
-use Rattle.road_rules.specs.MotionLaws.{advanced_at}
+use Rattle.road_rules.specs.Motion.{advanced_at}
 use Rattle.road_rules.proofs.motion.moved.Given as goal
 
 abbrev pub invariant-loop-place : goal.invariant-loop-place
