@@ -1,2 +1,3 @@
+mod Examples
 pub mod Values
 pub mod Lines

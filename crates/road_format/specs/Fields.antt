@@ -2,6 +2,7 @@
 use Rattle.std.specs.Prelude.{ℕ, suc, List, [], ◌∷◌, ◌==◌, ◌&&◌, ◌^◌, Bool, true, false, length, nat_lt, nat_le, if◌then◌else◌, Option, Some, None}
 use Rattle.serde_json.specs.Data.{Data, Items, no_items, item, Members, no_members, member}
 use Rattle.serde_json.specs.Find.{get, as_str, as_number, as_array, as_object, as_u64}
+use Rattle.road_format.specs.declared.names.TheConstants.{LONGEST_NAME}
 
 -- what the second step makes of what the first gave; nothing, where one of them gives nothing
 infixl 10 ◌>>=◌
@@ -50,7 +51,7 @@ number_at field d = get field d >>= number_in
 
 -- a name has 1 to 64 bytes, in UTF-8
 abbrev pub is_name : List ℕ → Bool
-is_name text = nat_lt 0 (length text) && nat_le (length text) 64
+is_name text = nat_lt 0 (length text) && nat_le (length text) LONGEST_NAME
 
 abbrev pub named : List ℕ → Option (List ℕ)
 named text = if is_name text then Some text else None

@@ -1,6 +1,6 @@
 //! What stands at the fields of an object.
 
-ghost use Rattle.std.specs.Prelude.{◌≡◌, string_bytes};
+ghost use Rattle.std.specs.Prelude.{◌≡◌, true, string_bytes};
 ghost use Rattle.serde_json.specs.View.{view};
 ghost use Rattle.road_format.specs.Fields.{only_if};
 ghost use Rattle.road_format.specs.Fields as fields;
@@ -22,11 +22,11 @@ fn has_fields(count: usize, value: &Value) -> bool
 }
 
 /// Goes on where this value is an object of so many fields.
-pub(crate) fn exactly(count: usize, value: &Value) -> Result<bool, Unread>
-    ensures { Reads (λ b. b) result (only_if (fields.has_fields count (view value.now))) }
+pub(crate) fn exactly(count: usize, value: &Value) -> Result<(), Unread>
+    ensures { Reads (λ _. true) result (only_if (fields.has_fields count (view value.now))) }
 {
     if has_fields(count, value) {
-        Ok(true)
+        Ok(())
     } else {
         Err(Unread::Shape)
     }

@@ -9,11 +9,14 @@ ghost use Rattle.road_format.specs.Views.{texts};
 
 use road_plan::limits::MOST_REPLICAS;
 
+/// The most bytes of a name, in UTF-8; it has one at least.
+pub(crate) const LONGEST_NAME: usize = 64;
+
 /// Whether this is a name: a text of 1 to 64 bytes.
 pub(crate) fn is_name(text: &str) -> bool
     ensures { result ≡ fields.is_name text.now }
 {
-    0 < text.len() && text.len() <= 64
+    0 < text.len() && text.len() <= LONGEST_NAME
 }
 
 /// Whether these are 1 to 64 names, no two alike.
@@ -30,10 +33,12 @@ pub(crate) fn are_names(names: &[String]) -> bool
 fn are_all_names(names: &[String]) -> bool
     ensures { result ≡ list_all fields.is_name (texts names.now) }
 {
-    match names.split_first() {
-        None => true,
-        Some((first, others)) => is_name(first) && are_all_names(others),
+    for name in names {
+        if !is_name(name) {
+            return false;
+        }
     }
+    true
 }
 
 /// Whether no two of these are alike.
@@ -50,8 +55,10 @@ fn all_differ(names: &[String]) -> bool
 fn is_among(text: &str, names: &[String]) -> bool
     ensures { result ≡ list_any (bytes_eq text.now) (texts names.now) }
 {
-    match names.split_first() {
-        None => false,
-        Some((first, others)) => text == first.as_str() || is_among(text, others),
+    for name in names {
+        if text == name.as_str() {
+            return true;
+        }
     }
+    false
 }
