@@ -51,17 +51,17 @@ no_json = refl
 -- ---- plan lines
 
 a_plan : plan_line_of (codes "{\"detectors\":[5],\"exit\":1,\"inlets\":[[0,65536]],\"length\":12,\"replicas\":[\"A\",\"B\",\"C\"],\"words\":7,\"zone\":12,\"zones\":[[2,0]]}") ≡ Ok (record {
-    names = codes "A" ∷ codes "B" ∷ codes "C" ∷ [];
-    plan = record {
-      cells = 12;
-      exit = 1;
-      width = 12;
-      zones = (2, 0) ∷ [];
-      inlets = (0, 65536) ∷ [];
-      detectors = 5 ∷ [];
-      words = Seeded 7;
-    };
-  })
+  names = codes "A" ∷ codes "B" ∷ codes "C" ∷ [];
+  plan = record {
+    cells = 12;
+    exit = 1;
+    width = 12;
+    zones = (2, 0) ∷ [];
+    inlets = (0, 65536) ∷ [];
+    detectors = 5 ∷ [];
+    words = Seeded 7;
+  };
+})
 unfolding serde_json_on_literals value_of is_utf8 chars plan_line_of plan_line_in
 a_plan = refl
 

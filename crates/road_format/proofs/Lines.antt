@@ -3,7 +3,7 @@ use Rattle.std.proofs.Common.{◌≡◌, ◌≢◌, ◌==◌, ℕ, List, [], ◌
 use Rattle.std.proofs.lemmas.Bool.{eqb-true, eqb-false}
 use Rattle.std.proofs.lemmas.List.Elements.{All-nil, All-cons, All-head, All-tail}
 use Rattle.road_format.specs.Cut.{Pieces, newline, begun, cut_at, cut, last_piece, lines_of}
-use Rattle.road_format.specs.Laws.{LinesGoOn, laid_out, CutLosesNothing, LinesHaveNoNewline}
+use Rattle.road_format.specs.CutLaws.{LinesGoOn, laid_out, CutLosesNothing, LinesHaveNoNewline}
 
 -- pieces, and then the pieces of what goes on from their last one
 abbrev joined : Pieces → Pieces → Pieces

@@ -7,4 +7,6 @@ pub mod CommandGrammar
 pub mod PlanGrammar
 pub mod Replies
 pub mod Views
-pub mod Laws
+pub mod CutLaws
+pub mod FieldsLaws
+pub mod RepliesLaws

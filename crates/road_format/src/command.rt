@@ -65,6 +65,7 @@ fn command_in(alloc: Global, value: &Value) -> Result<Command, Unread>
     Err(Unread::Shape)
 }
 
+/// The `advance` of these fields.
 #[tactic(auto, unfolding(crate::specs::CommandGrammar::advance_in))]
 fn advance_in(alloc: Global, fields: &Value) -> Result<Command, Unread>
     ensures { Reads command_view result (grammar.advance_in (view fields.now)) }
@@ -75,6 +76,7 @@ fn advance_in(alloc: Global, fields: &Value) -> Result<Command, Unread>
     Ok(Command::Advance { at, to })
 }
 
+/// The `cells` of these fields.
 #[tactic(auto, unfolding(crate::specs::CommandGrammar::cells_in))]
 fn cells_in(alloc: Global, fields: &Value) -> Result<Command, Unread>
     ensures { Reads command_view result (grammar.cells_in (view fields.now)) }

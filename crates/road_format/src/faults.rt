@@ -90,7 +90,7 @@ fn refusal_of_plan(fault: PlanFault) -> Option<Refusal>
 }
 
 /// Why a value is not read.
-#[derive(Clone, Copy, Debug, PartialEq, Eq)]
+#[derive(Clone, Copy)]
 pub(crate) enum Unread {
     /// The value has another shape.
     Shape,

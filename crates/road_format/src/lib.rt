@@ -17,7 +17,9 @@ mod reply;
 pub use answer::Answer;
 pub use command::{Command, read_command};
 pub use faults::{LineFault, PlanLineFault};
-pub use laws::{cut_loses_nothing, lines_go_on, lines_have_no_newline};
+pub use laws::{
+    cut_loses_nothing, lines_go_on, lines_have_no_newline, no_other_field, replies_are_lines,
+};
 pub use plan_line::{PlanLine, read_plan};
 pub use refusal::Refusal;
 pub use reply::reply_line;

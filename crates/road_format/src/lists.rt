@@ -68,6 +68,7 @@ fn pair_in(value: &Value) -> Result<(u32, u32), Unread>
     }
 }
 
+/// These two numbers.
 fn two_in(items: &[Value]) -> Result<(u32, u32), Unread>
     ensures { Reads (λ pair. pair) result (fields.two_in (items_view items.now)) }
 {

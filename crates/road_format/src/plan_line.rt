@@ -26,13 +26,33 @@ pub struct PlanLine {
 }
 
 /// What a plan line says, before it is checked.
-#[derive(Debug, Drop)]
+#[derive(Drop)]
 struct PlanLineParts {
     names: Vec<String>,
     parts: PlanParts,
 }
 
-/// The plan line that a line is.
+/// The plan line that a line is: an object of exactly eight fields, in any order.
+///
+/// | Field | Value |
+/// |---|---|
+/// | `length` | the cells of the road |
+/// | `exit` | the cells of the deleted zone |
+/// | `zone` | the cells of a zone |
+/// | `zones` | for each zone a list of its speed limit and its slowing chance |
+/// | `inlets` | for each inlet a list of its cell and its inflow chance |
+/// | `detectors` | the site of each detector |
+/// | `words` | the seed of the random words, or the text `steady` |
+/// | `replicas` | the names of the replicas |
+///
+/// A number is whole, of at most 32 bits (a seed of at most 64), and written without point and exponent. Of a field
+/// that stands twice the last counts.
+///
+/// # Errors
+///
+/// `NotJson` where the line is no JSON value, then `NotAPlan` where the value has another shape, then `Names` where
+/// the replicas are not 1 to 64 or their names not all different and of 1 to 64 bytes, then `Plan` with the first
+/// fault of the plan. The length of the line is not asked here.
 #[tactic(auto, unfolding(crate::specs::PlanGrammar::plan_line_of))]
 pub fn read_plan(alloc: Global, line: &[u8]) -> Result<PlanLine, PlanLineFault>
     ensures { Gives plan_line_view plan_line_refusal result (plan_line_of line.now) }
@@ -99,6 +119,7 @@ fn words_at(field: &str, value: &Value) -> Result<WordKind, Unread>
     }
 }
 
+/// Where the words come from.
 fn words_in(value: &Value) -> Result<WordKind, Unread>
     ensures { Reads (λ words. words) result (words_in (view value.now)) }
 {

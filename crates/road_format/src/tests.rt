@@ -4,7 +4,8 @@ use std::alloc::Global;
 use std::test::Fail;
 
 /// A plan of 12 cells with three replicas.
-const PLAN: &str = r#"{"detectors":[5],"exit":1,"inlets":[[0,65536]],"length":12,"replicas":["A","B","C"],"words":7,"zone":12,"zones":[[2,0]]}"#;
+const PLAN: &str =
+    r#"{"detectors":[5],"exit":1,"inlets":[[0,65536]],"length":12,"replicas":["A","B","C"],"words":7,"zone":12,"zones":[[2,0]]}"#;
 
 #[test]
 fn reads_a_plan_line(rt: HostRuntime) -> Result<(), Fail> {
@@ -36,10 +37,11 @@ fn refuses_plan_lines(rt: HostRuntime) -> Result<(), Fail> {
         ("[5]", "[11]", Plan(PlanFault::Detectors)),
         ("[[2,0]]", "[[10,0]]", Plan(PlanFault::Default)),
         ("\"A\",\"B\",\"C\"", "\"A\",\"B\",\"A\"", Names),
+        ("\"A\",\"B\",\"C\"", "\"A\",\"B\",\"B\"", Names),
         ("\"A\",\"B\",\"C\"", "\"A\",\"B\",\"\\u0041\"", Names),
         ("\"A\",\"B\",\"C\"", "", Names),
         ("\"A\",\"B\",\"C\"", "\"\"", Names),
-        ("\"A\",\"B\",\"C\"", "1", NotAPlan),
+        ("\"A\",\"B\",\"C\"", "\"A\",1", NotAPlan),
         ("\"length\":12,", "", NotAPlan),
         ("\"length\":12", "\"length\":12,\"lanes\":1", NotAPlan),
         ("\"length\":12", "\"length\":12.0", NotAPlan),
@@ -53,7 +55,11 @@ fn refuses_plan_lines(rt: HostRuntime) -> Result<(), Fail> {
     ];
     for (old, new, want) in cases {
         let line = PLAN.replacen(rt.alloc(), old, new, 1)?;
-        assert_eq!(rt; read_plan(rt.alloc(), line.as_bytes()).err(), Some(want), "{new}");
+        assert_eq!(rt;
+            read_plan(rt.alloc(), line.as_bytes()).err(),
+            Some(want),
+            "{new}"
+        );
     }
     Ok(())
 }
@@ -71,7 +77,11 @@ fn names_the_first_fault(rt: HostRuntime) -> Result<(), Fail> {
         (unknown, PlanLineFault::NotAPlan),
         (cut, PlanLineFault::NotJson),
     ] {
-        assert_eq!(rt; read_plan(rt.alloc(), line.as_bytes()).err(), Some(want), "{line}");
+        assert_eq!(rt;
+            read_plan(rt.alloc(), line.as_bytes()).err(),
+            Some(want),
+            "{line}"
+        );
     }
     Ok(())
 }
@@ -99,7 +109,10 @@ fn bounds_names(rt: HostRuntime) -> Result<(), Fail> {
         assert_eq!(rt; read_plan(rt.alloc(), line.as_bytes()).is_ok(), is_name);
         let mut command = String::new(rt.alloc());
         write!(command, "{{\"advance\":{{\"at\":\"{name}\",\"to\":1}}}}")?;
-        assert_eq!(rt; read_command(rt.alloc(), command.as_bytes()).is_ok(), is_name);
+        assert_eq!(rt;
+            read_command(rt.alloc(), command.as_bytes()).is_ok(),
+            is_name
+        );
     }
     for (count, is_open) in [(64, true), (65, false)] {
         let mut names = String::new(rt.alloc());
@@ -130,7 +143,10 @@ fn reads_commands(rt: HostRuntime) -> Result<(), Fail> {
             Command::Cells { .. } => assert!(rt; false, "{line}"),
         }
     }
-    match read_command(rt.alloc(), b"{\"cells\":{\"at\":\"A\",\"step\":4294967295}}")? {
+    match read_command(
+        rt.alloc(),
+        b"{\"cells\":{\"at\":\"A\",\"step\":4294967295}}",
+    )? {
         Command::Cells { at, step } => {
             assert_eq!(rt; at.as_str(), "A");
             assert_eq!(rt; step, u32::MAX);
@@ -154,10 +170,16 @@ fn refuses_what_is_no_json(rt: HostRuntime) -> Result<(), Fail> {
         b"{\"advance\":{\"at\":\"\\ud800\",\"to\":6}}",
     ];
     for line in lines {
-        assert_eq!(rt; read_command(rt.alloc(), line).err(), Some(LineFault::NotJson));
+        assert_eq!(rt;
+            read_command(rt.alloc(), line).err(),
+            Some(LineFault::NotJson)
+        );
     }
     let deep = nested(rt.alloc(), 200)?;
-    assert_eq!(rt; read_command(rt.alloc(), deep.as_bytes()).err(), Some(LineFault::NotJson));
+    assert_eq!(rt;
+        read_command(rt.alloc(), deep.as_bytes()).err(),
+        Some(LineFault::NotJson)
+    );
     Ok(())
 }
 
@@ -189,7 +211,10 @@ fn refuses_what_is_no_command(rt: HostRuntime) -> Result<(), Fail> {
         assert_eq!(rt; fault, Some(LineFault::NotACommand), "{line}");
     }
     let deep = nested(rt.alloc(), 100)?;
-    assert_eq!(rt; read_command(rt.alloc(), deep.as_bytes()).err(), Some(LineFault::NotACommand));
+    assert_eq!(rt;
+        read_command(rt.alloc(), deep.as_bytes()).err(),
+        Some(LineFault::NotACommand)
+    );
     Ok(())
 }
 
@@ -232,16 +257,25 @@ fn writes_refusals(rt: HostRuntime) -> Result<(), Fail> {
         (Refusal::Horizon, "{\"refused\":\"Horizon\"}\n"),
         (Refusal::NotSimulated, "{\"refused\":\"NotSimulated\"}\n"),
     ] {
-        assert_eq!(rt; reply_line(rt.alloc(), &Answer::Refused(refusal))?.as_str(), want);
+        assert_eq!(rt;
+            reply_line(rt.alloc(), &Answer::Refused(refusal))?.as_str(),
+            want
+        );
     }
     Ok(())
 }
 
 #[test]
 fn names_refusals(rt: HostRuntime) {
-    assert_eq!(rt; LineFault::NotACommand.refusal(), Some(Refusal::NotACommand));
+    assert_eq!(rt;
+        LineFault::NotACommand.refusal(),
+        Some(Refusal::NotACommand)
+    );
     assert_eq!(rt; LineFault::OutOfMemory.refusal(), None);
-    assert_eq!(rt; PlanLineFault::Plan(PlanFault::Zones).refusal(), Some(Refusal::Zones));
+    assert_eq!(rt;
+        PlanLineFault::Plan(PlanFault::Zones).refusal(),
+        Some(Refusal::Zones)
+    );
     assert_eq!(rt; PlanLineFault::OutOfMemory.refusal(), None);
     assert_eq!(rt; Refusal::NoReplica.text(), "NoReplica");
 }
