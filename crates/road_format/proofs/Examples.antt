@@ -1,9 +1,9 @@
 -- Worked examples: the definitions, computed.
-use Rattle.std.proofs.Common.{◌≡◌, ℕ, List, [], ◌∷◌, true, false, codes, refl, None, Some, Ok, Err}
+use Rattle.std.proofs.Common.{◌≡◌, [], ◌∷◌, true, false, codes, refl, Ok, Err}
 use Rattle.std.specs.Str.{is_utf8, chars}
 use Rattle.std.specs.Fmt.{digits}
 use Rattle.serde_json.proofs.OnLiterals.{serde_json_on_literals}
-use Rattle.road_plan.specs.declared.parts.WordKind.TheVariants.{Seeded, Steady}
+use Rattle.road_plan.specs.declared.parts.WordKind.TheVariants.{Seeded}
 use Rattle.road_format.specs.Cut.{lines_of}
 use Rattle.road_format.specs.Reading.{value_of}
 use Rattle.road_format.specs.CommandGrammar.{Advance, Cells, advance_in, cells_in, command_in, command_of}

@@ -2,7 +2,7 @@
 use Rattle.std.proofs.Common.{◌≡◌, ◌≢◌, ◌==◌, ℕ, List, [], ◌∷◌, ◌++◌, Bool, true, false, refl, ap, sym, ◌∙◌, append_assoc, append-nil, All}
 use Rattle.std.proofs.lemmas.Bool.{eqb-true, eqb-false}
 use Rattle.std.proofs.lemmas.List.Elements.{All-nil, All-cons, All-head, All-tail}
-use Rattle.road_format.specs.Cut.{Pieces, newline, begun, cut_at, cut, last_piece, lines_of}
+use Rattle.road_format.specs.Cut.{Pieces, newline, cut_at, cut, last_piece}
 use Rattle.road_format.specs.CutLaws.{LinesGoOn, laid_out, CutLosesNothing, LinesHaveNoNewline}
 
 -- pieces, and then the pieces of what goes on from their last one

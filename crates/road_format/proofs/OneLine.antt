@@ -1,14 +1,13 @@
 -- A reply has no newline before its end.
 use Rattle.std.proofs.Common.{◌≡◌, ◌≢◌, ◌==◌, ◌||◌, ◌/◌, ◌%◌, ◌+◌, ℕ, zero, suc, List, [], ◌∷◌, ◌++◌, Bool, true, false, cond, refl, ap, sym, ◌∙◌, arith, All, nat_lt, decimal, codes}
-use Rattle.std.proofs.lemmas.Bool.{eqb-true, eqb-false, ne_eqb, true≢false}
+use Rattle.std.proofs.lemmas.Bool.{eqb-true, ne_eqb, true≢false}
 use Rattle.std.proofs.lemmas.List.Elements.{All-nil, All-cons, All-append, All-head, All-tail}
 use Rattle.std.specs.Char.{digit_char}
-use Rattle.std.specs.List.{list_all}
 use Rattle.std.specs.Fmt.{digits, digits_onto, digit_glyph}
 use Rattle.json.specs.Print.{escape_letter, escape_byte, escape, quoted}
 use Rattle.serde_json.specs.Data.{Data, number, unsigned, string}
 use Rattle.serde_json.specs.Written.{compact_text}
-use Rattle.road_format.specs.Cut.{Pieces, newline, cut_at, cut}
+use Rattle.road_format.specs.Cut.{newline, cut_at, cut}
 use Rattle.road_format.specs.Refusals.{text_of}
 use Rattle.road_format.specs.Replies.{Answer, Open, Refused, Horizon, Cells, one_field, data_of, reply}
 use Rattle.road_format.specs.RepliesLaws.{RepliesAreLines}

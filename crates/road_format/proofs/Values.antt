@@ -1,5 +1,5 @@
 -- Laws about JSON values, and about what a line says.
-use Rattle.std.proofs.Common.{◌≡◌, ℕ, suc, List, [], ◌∷◌, ◌++◌, ◌<◌, ◌≤◌, length, map, Bool, true, false, refl, ap, sym, ◌∙◌, arith, Option, Some, None, if◌then◌else◌, String}
+use Rattle.std.proofs.Common.{◌≡◌, ℕ, suc, List, [], ◌∷◌, ◌++◌, ◌<◌, ◌≤◌, length, map, Bool, true, false, refl, ap, ◌∙◌, arith, Option, Some, None, if◌then◌else◌, String}
 use Rattle.std.specs.Str.{IsUtf8, is_utf8}
 use Rattle.std.proofs.lemmas.Str.{IsUtf8-from_is_utf8, is_utf8-from_IsUtf8}
 use Rattle.std.specs.declared.alloc.Global.{Global}

@@ -103,7 +103,8 @@ fn reads_words_and_seeds(rt: HostRuntime) -> Result<(), Fail> {
 #[test]
 fn bounds_names(rt: HostRuntime) -> Result<(), Fail> {
     let longest = "é".repeat(rt.alloc(), 32)?;
-    let too_long = "é".repeat(rt.alloc(), 33)?;
+    let mut too_long = "é".repeat(rt.alloc(), 32)?;
+    too_long.push('e')?;
     for (name, is_name) in [(longest, true), (too_long, false)] {
         let line = PLAN.replacen(rt.alloc(), "B", &name, 1)?;
         assert_eq!(rt; read_plan(rt.alloc(), line.as_bytes()).is_ok(), is_name);
@@ -267,15 +268,38 @@ fn writes_refusals(rt: HostRuntime) -> Result<(), Fail> {
 
 #[test]
 fn names_refusals(rt: HostRuntime) {
-    assert_eq!(rt;
-        LineFault::NotACommand.refusal(),
-        Some(Refusal::NotACommand)
-    );
-    assert_eq!(rt; LineFault::OutOfMemory.refusal(), None);
-    assert_eq!(rt;
-        PlanLineFault::Plan(PlanFault::Zones).refusal(),
-        Some(Refusal::Zones)
-    );
-    assert_eq!(rt; PlanLineFault::OutOfMemory.refusal(), None);
+    for (fault, want) in [
+        (LineFault::NotJson, Some(Refusal::NotJson)),
+        (LineFault::NotACommand, Some(Refusal::NotACommand)),
+        (LineFault::OutOfMemory, None),
+    ] {
+        assert_eq!(rt; fault.refusal(), want);
+    }
+    for (fault, want) in [
+        (PlanLineFault::NotJson, Some(Refusal::NotJson)),
+        (PlanLineFault::NotAPlan, Some(Refusal::NotAPlan)),
+        (PlanLineFault::Names, Some(Refusal::Names)),
+        (
+            PlanLineFault::Plan(PlanFault::Length),
+            Some(Refusal::Length),
+        ),
+        (PlanLineFault::Plan(PlanFault::Exit), Some(Refusal::Exit)),
+        (PlanLineFault::Plan(PlanFault::Zones), Some(Refusal::Zones)),
+        (
+            PlanLineFault::Plan(PlanFault::Inlets),
+            Some(Refusal::Inlets),
+        ),
+        (
+            PlanLineFault::Plan(PlanFault::Detectors),
+            Some(Refusal::Detectors),
+        ),
+        (
+            PlanLineFault::Plan(PlanFault::Default),
+            Some(Refusal::Default),
+        ),
+        (PlanLineFault::OutOfMemory, None),
+    ] {
+        assert_eq!(rt; fault.refusal(), want);
+    }
     assert_eq!(rt; Refusal::NoReplica.text(), "NoReplica");
 }

@@ -1,4 +1,3 @@
-use Rattle.std.proofs.Common.{true, false}
 use Rattle.road_format.proofs.Values.{value_of-read, value_of-unread}
 use Rattle.road_format.proofs.reading.value_in.Goals as goal
 
