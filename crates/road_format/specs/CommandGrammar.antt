@@ -43,10 +43,12 @@ command_in d = do
   exact ← only_if (has_fields 1 d)
   command_named (get (codes "advance") d) (get (codes "cells") d)
 
+-- the command, where the value is one
 abbrev pub or_not_a_command : Option Command → Result Command Refusal
 or_not_a_command None = Err NotACommand
 or_not_a_command (Some command) = Ok command
 
+-- the command, where the line is a value and the value a command
 abbrev pub command_from : Option Data → Result Command Refusal
 command_from None = Err NotJson
 command_from (Some d) = or_not_a_command (command_in d)

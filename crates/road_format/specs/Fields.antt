@@ -10,29 +10,31 @@ abbrev pub ◌>>=◌ : {A B : Type 0} → Option A → (A → Option B) → Opti
 None >>= f = None
 (Some x) >>= f = f x
 
--- goes on where this is true
+-- nothing where this is false
 abbrev pub only_if : Bool → Option Bool
 only_if true = Some true
 only_if false = None
 
 -- ---- an object
 
+-- how many fields these are
 abbrev pub members_len : Members → ℕ
 members_len no_members = 0
 members_len (member k d ms) = suc (members_len ms)
 
+-- whether there are fields, and so many
 abbrev pub is_count : ℕ → Option Members → Bool
 is_count n None = false
 is_count n (Some ms) = members_len ms == n
 
--- whether this is an object of so many fields. Each of its names stands once, so an object of n fields that has n
--- given ones has no other.
+-- whether this is an object of so many fields. With that many look-ups by different names it has exactly these fields
+-- (specs/FieldsLaws.antt).
 abbrev pub has_fields : ℕ → Data → Bool
 has_fields n d = is_count n (as_object d)
 
 -- ---- numbers
 
--- the number, if it has 32 bits
+-- the number, if it fits 32 bits
 abbrev pub small : ℕ → Option ℕ
 small n = if nat_lt n (2 ^ 32) then Some n else None
 
@@ -44,6 +46,7 @@ long_number_in d = as_number d >>= as_u64
 abbrev pub number_in : Data → Option ℕ
 number_in d = long_number_in d >>= small
 
+-- the number at a field
 abbrev pub number_at : List ℕ → Data → Option ℕ
 number_at field d = get field d >>= number_in
 
@@ -53,9 +56,11 @@ number_at field d = get field d >>= number_in
 abbrev pub is_name : List ℕ → Bool
 is_name text = nat_lt 0 (length text) && nat_le (length text) LONGEST_NAME
 
+-- the text, if it is a name
 abbrev pub named : List ℕ → Option (List ℕ)
 named text = if is_name text then Some text else None
 
+-- the name at a field
 abbrev pub name_at : List ℕ → Data → Option (List ℕ)
 name_at field d = get field d >>= as_str >>= named
 
@@ -66,18 +71,21 @@ abbrev pub each : {A : Type 0} → (Data → Option A) → Items → Option (Lis
 each read no_items = Some []
 each read (item d ds) = read d >>= λ x. each read ds >>= λ xs. Some (x ∷ xs)
 
+-- the items of the list at a field
 abbrev pub items_at : List ℕ → Data → Option Items
 items_at field d = get field d >>= as_array
 
+-- what each item of the list at a field reads as
 abbrev pub list_at : {A : Type 0} → (Data → Option A) → List ℕ → Data → Option (List A)
 list_at read field d = items_at field d >>= each read
 
--- a list of just two numbers
+-- two numbers, from just two items
 abbrev pub two_in : Items → Option (ℕ × ℕ)
 two_in no_items = None
 two_in (item a no_items) = None
 two_in (item a (item b no_items)) = number_in a >>= λ x. number_in b >>= λ y. Some (x, y)
 two_in (item a (item b (item c ds))) = None
 
+-- a list of just two numbers
 abbrev pub pair_in : Data → Option (ℕ × ℕ)
 pair_in d = as_array d >>= two_in

@@ -22,17 +22,21 @@ pub record PlanLine : Type 0 where
 
 -- ---- where the words come from: a seed, or the text `steady`
 
+-- steady words, for that text alone
 abbrev pub steady_if : List ℕ → Option WordKind
 steady_if text = if bytes_eq text (codes "steady") then Some Steady else None
 
+-- a seed where there is a number, and else what the text says
 abbrev pub words_from : Option ℕ → Option (List ℕ) → Option WordKind
 words_from (Some seed) text = Some (Seeded seed)
 words_from None None = None
 words_from None (Some text) = steady_if text
 
+-- where the words come from, by a value
 abbrev pub words_in : Data → Option WordKind
 words_in d = words_from (long_number_in d) (as_str d)
 
+-- where the words come from, by the value at a field
 abbrev pub words_at : List ℕ → Data → Option WordKind
 words_at field d = get field d >>= words_in
 
@@ -74,6 +78,7 @@ all_differ (text ∷ texts) = not (list_any (bytes_eq text) texts) && all_differ
 abbrev pub are_names : List (List ℕ) → Bool
 are_names texts = nat_lt 0 (length texts) && nat_le (length texts) MOST_REPLICAS && list_all is_name texts && all_differ texts
 
+-- the line, unless there is a refusal
 abbrev pub unless_refused : PlanLine → Option Refusal → Result PlanLine Refusal
 unless_refused line None = Ok line
 unless_refused line (Some refusal) = Err refusal
@@ -86,10 +91,12 @@ with_plan line = unless_refused line (option_and_then plan_refusal (fault_of lin
 abbrev pub with_names : PlanLine → Result PlanLine Refusal
 with_names line = if are_names line.names then with_plan line else Err Names
 
+-- the plan line, where the value is one
 abbrev pub or_not_a_plan : Option PlanLine → Result PlanLine Refusal
 or_not_a_plan None = Err NotAPlan
 or_not_a_plan (Some line) = with_names line
 
+-- the plan line, where the line is a value and the value a plan line
 abbrev pub plan_line_from : Option Data → Result PlanLine Refusal
 plan_line_from None = Err NotJson
 plan_line_from (Some d) = or_not_a_plan (plan_line_in d)

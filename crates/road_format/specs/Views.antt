@@ -15,19 +15,24 @@ use Rattle.road_plan.specs.Plan.{plan_of}
 use Rattle.road_format.specs.declared.answer.Answer.{Answer}
 use Rattle.road_format.specs.declared.answer.Answer.TheVariants as answers
 
+-- the bytes of each text
 abbrev pub texts : List (String Global) → List (List ℕ)
 texts names = map string_bytes names
 
+-- what a command says
 abbrev pub command_view : Command → grammar.Command
 command_view (commands.Advance at to) = grammar.Advance (string_bytes at) to
 command_view (commands.Cells at step) = grammar.Cells (string_bytes at) step
 
+-- what a plan line says
 abbrev pub plan_line_view : PlanLine → plan_grammar.PlanLine
 plan_line_view line = record { names = texts line.names.items; plan = line.plan }
 
+-- what a plan line says before it is checked
 abbrev pub parts_view : PlanLineParts → plan_grammar.PlanLine
 parts_view line = record { names = texts line.names.items; plan = plan_of line.parts }
 
+-- what an answer says
 abbrev pub answer_view : Answer → replies.Answer
 answer_view (answers.Open replicas) = replies.Open replicas
 answer_view (answers.Refused refusal) = replies.Refused refusal

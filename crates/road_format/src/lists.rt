@@ -1,9 +1,7 @@
 //! The lists of a plan line.
 
-ghost use Rattle.std.specs.Prelude.{◌≡◌};
 ghost use Rattle.serde_json.specs.View.{items_view, view};
 ghost use Rattle.serde_json.specs.Find.{as_str};
-ghost use Rattle.road_format.specs.Fields.{each, list_at, number_in, pair_in};
 ghost use Rattle.road_format.specs.Fields as fields;
 ghost use Rattle.road_format.specs.Views.{Reads, texts};
 
@@ -24,7 +22,7 @@ pub(crate) fn items_at<'a>(field: &str, value: &'a Value) -> Result<&'a [Value],
 
 /// The texts of a list of texts.
 pub(crate) fn texts_in(alloc: Global, items: &[Value]) -> Result<Vec<String>, Unread>
-    ensures { Reads (λ found. texts found.items) result (each as_str (items_view items.now)) }
+    ensures { Reads (λ found. texts found.items) result (fields.each as_str (items_view items.now)) }
 {
     let mut found = Vec::new(alloc);
     for item in items {
@@ -38,7 +36,7 @@ pub(crate) fn texts_in(alloc: Global, items: &[Value]) -> Result<Vec<String>, Un
 
 /// The numbers of a list of numbers.
 pub(crate) fn numbers_in(alloc: Global, items: &[Value]) -> Result<Vec<u32>, Unread>
-    ensures { Reads (λ found. found.items) result (each fields.number_in (items_view items.now)) }
+    ensures { Reads (λ found. found.items) result (fields.each fields.number_in (items_view items.now)) }
 {
     let mut found = Vec::new(alloc);
     for item in items {
@@ -49,7 +47,7 @@ pub(crate) fn numbers_in(alloc: Global, items: &[Value]) -> Result<Vec<u32>, Unr
 
 /// The pairs of a list of pairs of numbers.
 pub(crate) fn pairs_in(alloc: Global, items: &[Value]) -> Result<Vec<(u32, u32)>, Unread>
-    ensures { Reads (λ found. found.items) result (each fields.pair_in (items_view items.now)) }
+    ensures { Reads (λ found. found.items) result (fields.each fields.pair_in (items_view items.now)) }
 {
     let mut found = Vec::new(alloc);
     for item in items {

@@ -1,9 +1,7 @@
 //! The first line of an input.
 
-ghost use Rattle.std.specs.Prelude.{◌≡◌};
 ghost use Rattle.serde_json.specs.View.{view};
 ghost use Rattle.road_format.specs.PlanGrammar as grammar;
-ghost use Rattle.road_format.specs.PlanGrammar.{plan_line_of, with_names, words_in};
 ghost use Rattle.road_format.specs.Refusals.{plan_line_refusal};
 ghost use Rattle.road_format.specs.Views.{Reads, Gives, plan_line_view, parts_view};
 
@@ -55,7 +53,7 @@ struct PlanLineParts {
 /// fault of the plan. The length of the line is not asked here.
 #[tactic(auto, unfolding(crate::specs::PlanGrammar::plan_line_of))]
 pub fn read_plan(alloc: Global, line: &[u8]) -> Result<PlanLine, PlanLineFault>
-    ensures { Gives plan_line_view plan_line_refusal result (plan_line_of line.now) }
+    ensures { Gives plan_line_view plan_line_refusal result (grammar.plan_line_of line.now) }
 {
     match value_in(alloc, line) {
         Ok(value) => checked(parts_in(alloc, &value)?),
@@ -66,7 +64,7 @@ pub fn read_plan(alloc: Global, line: &[u8]) -> Result<PlanLine, PlanLineFault>
 
 /// The plan line of these parts.
 fn checked(line: PlanLineParts) -> Result<PlanLine, PlanLineFault>
-    ensures { Gives plan_line_view plan_line_refusal result (with_names (parts_view line)) }
+    ensures { Gives plan_line_view plan_line_refusal result (grammar.with_names (parts_view line)) }
 {
     if !are_names(&line.names) {
         return Err(PlanLineFault::Names);
@@ -121,7 +119,7 @@ fn words_at(field: &str, value: &Value) -> Result<WordKind, Unread>
 
 /// Where the words come from.
 fn words_in(value: &Value) -> Result<WordKind, Unread>
-    ensures { Reads (λ words. words) result (words_in (view value.now)) }
+    ensures { Reads (λ words. words) result (grammar.words_in (view value.now)) }
 {
     if let Some(seed) = value.as_u64() {
         return Ok(WordKind::Seeded(seed));

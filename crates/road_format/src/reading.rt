@@ -1,4 +1,3 @@
-ghost use Rattle.std.specs.Prelude.{◌≡◌, IfOk, Some};
 ghost use Rattle.serde_json.specs.View.{view};
 ghost use Rattle.road_format.specs.Reading.{value_of};
 ghost use Rattle.road_format.specs.Views.{Reads};
