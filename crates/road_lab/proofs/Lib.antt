@@ -1,1 +1,9 @@
-pub mod Copies
+pub mod Pieces
+pub mod Accepted
+pub mod Numbered
+pub mod Stepping
+pub mod Machine
+pub mod Agreement
+pub mod Lines
+pub mod Closing
+pub mod Exits

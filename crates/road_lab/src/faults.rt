@@ -26,6 +26,15 @@ pub enum ServeFault {
     TooMany,
 }
 
+/// How a run is over before the end of its input.
+#[derive(Clone, Copy, Debug, PartialEq, Eq)]
+pub enum End {
+    /// The plan line was refused, or there was none.
+    BadPlan,
+    /// A byte stood behind the last line that may come.
+    TooMany,
+}
+
 /// A source could not be read.
 #[derive(Debug, Drop, Error)]
 #[error("the read failed")]

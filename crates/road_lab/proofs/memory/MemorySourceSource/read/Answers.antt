@@ -1,5 +1,5 @@
 use Rattle.std.proofs.Common.{arith}
-use Rattle.road_lab.proofs.Copies.{copied_next}
+use Rattle.road_lab.proofs.Pieces.{copied_next}
 use Rattle.road_lab.proofs.memory.MemorySourceSource.read.Goals as goal
 
 pub returns-clause-gives : goal.returns-clause-gives

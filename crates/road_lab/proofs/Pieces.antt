@@ -10,3 +10,7 @@ copied_next p n bytes copied behind is fits =
     let next : copied ≡ take n (drop p bytes) = rw count at is in
     let long : length copied ≡ n = rw next (omega (arith, length-take n (drop p bytes), length-drop p bytes)) in
     take-add p n bytes ∙ ap (λ (xs : List ℕ). take p bytes ++ xs) (sym next ∙ sym (take-append_seam copied behind) ∙ ap (λ (k : ℕ). take k (copied ++ behind)) long)
+
+-- the slice from a place on is what is left behind the place
+pub from_place : (p : ℕ) (bytes : List ℕ) → take (length bytes - p) (drop p bytes) ≡ drop p bytes
+from_place p bytes = take_all (length bytes - p) (drop p bytes) (omega (arith, length-drop p bytes))
