@@ -1,0 +1,5 @@
+use Rattle.road_format.proofs.Lines.{cut_loses_nothing}
+use Rattle.road_format.proofs.laws.cut_loses_nothing.Goals as goal
+
+pub returns : goal.returns
+returns c = cut_loses_nothing

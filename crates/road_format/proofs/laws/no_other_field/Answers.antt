@@ -1,0 +1,5 @@
+use Rattle.road_format.proofs.Exactly.{no_other_field}
+use Rattle.road_format.proofs.laws.no_other_field.Goals as goal
+
+pub returns : goal.returns
+returns c = no_other_field

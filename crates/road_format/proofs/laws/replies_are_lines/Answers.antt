@@ -1,0 +1,5 @@
+use Rattle.road_format.proofs.OneLine.{replies_are_lines}
+use Rattle.road_format.proofs.laws.replies_are_lines.Goals as goal
+
+pub returns : goal.returns
+returns c = replies_are_lines

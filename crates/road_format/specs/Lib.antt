@@ -1,0 +1,12 @@
+pub mod Cut
+pub mod Reading
+pub mod Fields
+pub mod Refusals
+pub mod Faults
+pub mod CommandGrammar
+pub mod PlanGrammar
+pub mod Replies
+pub mod Views
+pub mod CutLaws
+pub mod FieldsLaws
+pub mod RepliesLaws

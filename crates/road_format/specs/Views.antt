@@ -1,0 +1,53 @@
+-- What the code's values say: their texts as bytes.
+use Rattle.std.specs.Prelude.{◌≡◌, ℕ, List, map, Option, Some, None, Result, Ok, Err, String, string_bytes}
+use Rattle.std.specs.declared.alloc.Global.{Global}
+use Rattle.road_format.specs.CommandGrammar as grammar
+use Rattle.road_format.specs.PlanGrammar as plan_grammar
+use Rattle.road_format.specs.Replies as replies
+use Rattle.road_format.specs.declared.refusal.Refusal.{Refusal}
+use Rattle.road_format.specs.declared.faults.Unread.{Unread}
+use Rattle.road_format.specs.declared.faults.Unread.TheVariants as unread
+use Rattle.road_format.specs.declared.command.Command.{Command}
+use Rattle.road_format.specs.declared.command.Command.TheVariants as commands
+use Rattle.road_format.specs.declared.plan_line.PlanLine.{PlanLine}
+use Rattle.road_format.specs.declared.plan_line.PlanLineParts.{PlanLineParts}
+use Rattle.road_plan.specs.Plan.{plan_of}
+use Rattle.road_format.specs.declared.answer.Answer.{Answer}
+use Rattle.road_format.specs.declared.answer.Answer.TheVariants as answers
+
+abbrev pub texts : List (String Global) → List (List ℕ)
+texts names = map string_bytes names
+
+abbrev pub command_view : Command → grammar.Command
+command_view (commands.Advance at to) = grammar.Advance (string_bytes at) to
+command_view (commands.Cells at step) = grammar.Cells (string_bytes at) step
+
+abbrev pub plan_line_view : PlanLine → plan_grammar.PlanLine
+plan_line_view line = record { names = texts line.names.items; plan = line.plan }
+
+abbrev pub parts_view : PlanLineParts → plan_grammar.PlanLine
+parts_view line = record { names = texts line.names.items; plan = plan_of line.parts }
+
+abbrev pub answer_view : Answer → replies.Answer
+answer_view (answers.Open replicas) = replies.Open replicas
+answer_view (answers.Refused refusal) = replies.Refused refusal
+answer_view (answers.Horizon horizon) = replies.Horizon horizon
+answer_view (answers.Cells row) = replies.Cells (string_bytes row)
+
+-- ---- what a reader returned, beside what the grammar gives
+
+-- a value read is what the grammar reads, and one unread is read as nothing there; want of memory says nothing
+abbrev pub Reads : {X Y : Type 0} → (X → Y) → Result X Unread → Option Y → Type 0
+Reads view (Ok x) read = read ≡ Some (view x)
+Reads view (Err unread.Shape) read = read ≡ None
+Reads view (Err unread.OutOfMemory) read = Unit {0}
+
+-- refused as the grammar refuses; want of memory, which is no refusal, says nothing
+abbrev pub Refuses : {Y : Type 0} → Option Refusal → Result Y Refusal → Type 0
+Refuses None given = Unit {0}
+Refuses (Some refusal) given = given ≡ Err refusal
+
+-- what was returned is what the grammar gives, a fault by its refusal
+abbrev pub Gives : {X Y F : Type 0} → (X → Y) → (F → Option Refusal) → Result X F → Result Y Refusal → Type 0
+Gives view refusal_of (Ok x) given = given ≡ Ok (view x)
+Gives view refusal_of (Err fault) given = Refuses (refusal_of fault) given

@@ -1,0 +1,17 @@
+use crate::refusal::Refusal;
+
+/// What is answered to a line.
+#[derive(Debug, Drop)]
+pub enum Answer {
+    /// The plan is open.
+    Open {
+        /// How many replicas it has.
+        replicas: u32,
+    },
+    /// The line is refused.
+    Refused(Refusal),
+    /// The replica's horizon, in steps.
+    Horizon(u32),
+    /// One row of cells, a character for each cell.
+    Cells(String),
+}

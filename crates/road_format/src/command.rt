@@ -1,0 +1,88 @@
+//! Lines that are commands.
+
+ghost use Rattle.std.specs.Prelude.{◌≡◌};
+ghost use Rattle.serde_json.specs.View.{view};
+ghost use Rattle.road_format.specs.CommandGrammar as grammar;
+ghost use Rattle.road_format.specs.Refusals.{line_refusal};
+ghost use Rattle.road_format.specs.Views.{Reads, Gives, command_view};
+
+use crate::faults::{LineFault, Unread};
+use crate::fields::{exactly, name_at, number_at};
+use crate::reading::value_in;
+use serde_json::Value;
+use std::alloc::Global;
+
+/// What a line after the first asks for.
+#[derive(Debug, Drop)]
+pub enum Command {
+    /// That a replica's horizon be at least a step.
+    Advance {
+        /// The name of the replica.
+        at: String,
+        /// The step.
+        to: u32,
+    },
+    /// The row of cells of a replica's road at a step.
+    Cells {
+        /// The name of the replica.
+        at: String,
+        /// The step.
+        step: u32,
+    },
+}
+
+/// The command that a line is: an object of one field, the command's name, whose value is the object of exactly its
+/// fields, `advance` of `at` and `to` or `cells` of `at` and `step`. A name is a text of 1 to 64 bytes; a number is
+/// whole, of at most 32 bits, and written without point and exponent. Of a field that stands twice the last counts.
+///
+/// # Errors
+///
+/// `NotJson` where the line is no JSON value, then `NotACommand` where the value is no command. The length of the
+/// line is not asked here.
+#[tactic(auto, unfolding(crate::specs::CommandGrammar::command_of))]
+pub fn read_command(alloc: Global, line: &[u8]) -> Result<Command, LineFault>
+    ensures { Gives command_view line_refusal result (grammar.command_of line.now) }
+{
+    match value_in(alloc, line) {
+        Ok(value) => Ok(command_in(alloc, &value)?),
+        Err(Unread::Shape) => Err(LineFault::NotJson),
+        Err(Unread::OutOfMemory) => Err(LineFault::OutOfMemory),
+    }
+}
+
+/// The command that a value is.
+#[tactic(auto, unfolding(crate::specs::CommandGrammar::command_in))]
+fn command_in(alloc: Global, value: &Value) -> Result<Command, Unread>
+    ensures { Reads command_view result (grammar.command_in (view value.now)) }
+{
+    exactly(1, value)?;
+    if let Some(fields) = value.get("advance") {
+        return advance_in(alloc, fields);
+    }
+    if let Some(fields) = value.get("cells") {
+        return cells_in(alloc, fields);
+    }
+    Err(Unread::Shape)
+}
+
+/// The `advance` of these fields.
+#[tactic(auto, unfolding(crate::specs::CommandGrammar::advance_in))]
+fn advance_in(alloc: Global, fields: &Value) -> Result<Command, Unread>
+    ensures { Reads command_view result (grammar.advance_in (view fields.now)) }
+{
+    exactly(2, fields)?;
+    let at = name_at(alloc, "at", fields)?;
+    let to = number_at("to", fields)?;
+    Ok(Command::Advance { at, to })
+}
+
+/// The `cells` of these fields.
+#[tactic(auto, unfolding(crate::specs::CommandGrammar::cells_in))]
+fn cells_in(alloc: Global, fields: &Value) -> Result<Command, Unread>
+    ensures { Reads command_view result (grammar.cells_in (view fields.now)) }
+{
+    exactly(2, fields)?;
+    let at = name_at(alloc, "at", fields)?;
+    let step = number_at("step", fields)?;
+    Ok(Command::Cells { at, step })
+}

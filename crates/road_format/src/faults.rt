@@ -1,0 +1,137 @@
+//! Why a line is not read.
+
+ghost use Rattle.std.specs.Prelude.{◌≡◌};
+ghost use Rattle.road_format.specs.Refusals.{plan_refusal, plan_line_refusal, line_refusal};
+ghost use Rattle.road_format.specs.declared.faults.Unread.TheVariants as unread;
+ghost use Rattle.road_format.specs.Faults.{line_fault_of, plan_line_fault_of};
+
+use crate::refusal::Refusal;
+use road_plan::{OutOfMemory, PlanFault};
+use std::alloc::AllocFailed;
+use thiserror::Error;
+
+/// Why a line after the first is not read. The causes are asked in this order; want of memory may come in the place
+/// of any of them.
+#[derive(Clone, Copy, Debug, PartialEq, Eq, Error)]
+pub enum LineFault {
+    /// The line is no JSON value.
+    #[error("not json")]
+    NotJson,
+    /// The value is no command.
+    #[error("not a command")]
+    NotACommand,
+    /// There was no memory to read the line.
+    #[error("no memory")]
+    OutOfMemory,
+}
+
+/// Why the first line is not read. The causes are asked in this order; want of memory may come in the place of any of
+/// them.
+#[derive(Clone, Copy, Debug, PartialEq, Eq, Error)]
+pub enum PlanLineFault {
+    /// The line is no JSON value.
+    #[error("not json")]
+    NotJson,
+    /// The value is no plan line.
+    #[error("not a plan")]
+    NotAPlan,
+    /// The replicas are not 1 to 64, or their names not all different and of 1 to 64 bytes.
+    #[error("the names are not 1 to 64 different texts of 1 to 64 bytes")]
+    Names,
+    /// The plan is refused.
+    #[error("{0}")]
+    Plan(PlanFault),
+    /// There was no memory to read the line.
+    #[error("no memory")]
+    OutOfMemory,
+}
+
+impl LineFault {
+    /// The refusal that the reply names; none where memory ran out.
+    pub fn refusal(self) -> Option<Refusal>
+        ensures { result ≡ line_refusal self }
+    {
+        match self {
+            LineFault::NotJson => Some(Refusal::NotJson),
+            LineFault::NotACommand => Some(Refusal::NotACommand),
+            LineFault::OutOfMemory => None,
+        }
+    }
+}
+
+impl PlanLineFault {
+    /// The refusal that the reply names; none where memory ran out.
+    pub fn refusal(self) -> Option<Refusal>
+        ensures { result ≡ plan_line_refusal self }
+    {
+        match self {
+            PlanLineFault::NotJson => Some(Refusal::NotJson),
+            PlanLineFault::NotAPlan => Some(Refusal::NotAPlan),
+            PlanLineFault::Names => Some(Refusal::Names),
+            PlanLineFault::Plan(fault) => refusal_of_plan(fault),
+            PlanLineFault::OutOfMemory => None,
+        }
+    }
+}
+
+/// The refusal that names this fault of a plan.
+fn refusal_of_plan(fault: PlanFault) -> Option<Refusal>
+    ensures { result ≡ plan_refusal fault }
+{
+    match fault {
+        PlanFault::Length => Some(Refusal::Length),
+        PlanFault::Exit => Some(Refusal::Exit),
+        PlanFault::Zones => Some(Refusal::Zones),
+        PlanFault::Inlets => Some(Refusal::Inlets),
+        PlanFault::Detectors => Some(Refusal::Detectors),
+        PlanFault::Default => Some(Refusal::Default),
+        PlanFault::OutOfMemory => None,
+    }
+}
+
+/// Why a value is not read.
+#[derive(Clone, Copy)]
+pub(crate) enum Unread {
+    /// The value has another shape.
+    Shape,
+    /// There was no memory.
+    OutOfMemory,
+}
+
+impl From<OutOfMemory> for Unread {
+    ghost from_gives = { λ _ e. e ≡ unread.OutOfMemory };
+
+    fn from(_e: OutOfMemory) -> Unread {
+        Unread::OutOfMemory
+    }
+}
+
+impl<T: Drop> From<AllocFailed<T>> for Unread {
+    ghost from_gives = { λ _ e. e ≡ unread.OutOfMemory };
+
+    fn from(_e: AllocFailed<T>) -> Unread {
+        Unread::OutOfMemory
+    }
+}
+
+impl From<Unread> for LineFault {
+    ghost from_gives = { λ e fault. fault ≡ line_fault_of e };
+
+    fn from(e: Unread) -> LineFault {
+        match e {
+            Unread::Shape => LineFault::NotACommand,
+            Unread::OutOfMemory => LineFault::OutOfMemory,
+        }
+    }
+}
+
+impl From<Unread> for PlanLineFault {
+    ghost from_gives = { λ e fault. fault ≡ plan_line_fault_of e };
+
+    fn from(e: Unread) -> PlanLineFault {
+        match e {
+            Unread::Shape => PlanLineFault::NotAPlan,
+            Unread::OutOfMemory => PlanLineFault::OutOfMemory,
+        }
+    }
+}

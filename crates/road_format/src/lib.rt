@@ -1,0 +1,29 @@
+//! The lines of the laboratory: how an input is cut into lines, which lines are a plan line or a command, and what is
+//! written for an answer.
+#![tactic(auto)]
+
+mod answer;
+mod command;
+mod faults;
+mod fields;
+mod laws;
+mod lists;
+mod names;
+mod plan_line;
+mod reading;
+mod refusal;
+mod reply;
+
+pub use answer::Answer;
+pub use command::{Command, read_command};
+pub use faults::{LineFault, PlanLineFault};
+pub use laws::{
+    cut_loses_nothing, lines_go_on, lines_have_no_newline, no_other_field, replies_are_lines,
+};
+pub use plan_line::{PlanLine, read_plan};
+pub use refusal::Refusal;
+pub use reply::reply_line;
+pub use road_plan::OutOfMemory;
+
+#[cfg(test)]
+mod tests;

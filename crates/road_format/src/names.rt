@@ -1,0 +1,64 @@
+//! Names of replicas.
+
+ghost use Rattle.std.specs.Prelude.{◌≡◌};
+ghost use Rattle.std.specs.List.{list_all, list_any};
+ghost use Rattle.std.specs.Str.{bytes_eq};
+ghost use Rattle.road_format.specs.Fields as fields;
+ghost use Rattle.road_format.specs.PlanGrammar as grammar;
+ghost use Rattle.road_format.specs.Views.{texts};
+
+use road_plan::limits::MOST_REPLICAS;
+
+/// The most bytes of a name, in UTF-8; it has one at least.
+pub(crate) const LONGEST_NAME: usize = 64;
+
+/// Whether this is a name: a text of 1 to 64 bytes.
+pub(crate) fn is_name(text: &str) -> bool
+    ensures { result ≡ fields.is_name text.now }
+{
+    0 < text.len() && text.len() <= LONGEST_NAME
+}
+
+/// Whether these are 1 to 64 names, no two alike.
+pub(crate) fn are_names(names: &[String]) -> bool
+    ensures { result ≡ grammar.are_names (texts names.now) }
+{
+    0 < names.len()
+        && names.len() <= MOST_REPLICAS as usize
+        && are_all_names(names)
+        && all_differ(names)
+}
+
+/// Whether each of these is a name.
+fn are_all_names(names: &[String]) -> bool
+    ensures { result ≡ list_all fields.is_name (texts names.now) }
+{
+    for name in names {
+        if !is_name(name) {
+            return false;
+        }
+    }
+    true
+}
+
+/// Whether no two of these are alike.
+fn all_differ(names: &[String]) -> bool
+    ensures { result ≡ grammar.all_differ (texts names.now) }
+{
+    match names.split_first() {
+        None => true,
+        Some((first, others)) => !is_among(first, others) && all_differ(others),
+    }
+}
+
+/// Whether this text is one of these names.
+fn is_among(text: &str, names: &[String]) -> bool
+    ensures { result ≡ list_any (bytes_eq text.now) (texts names.now) }
+{
+    for name in names {
+        if text == name.as_str() {
+            return true;
+        }
+    }
+    false
+}

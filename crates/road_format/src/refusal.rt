@@ -1,0 +1,62 @@
+ghost use Rattle.std.specs.Prelude.{◌≡◌};
+ghost use Rattle.road_format.specs.Refusals.{text_of};
+
+/// Why a line is refused, as its reply says it.
+#[derive(Clone, Copy, Debug, PartialEq, Eq)]
+pub enum Refusal {
+    /// The input ended before its first line.
+    NoPlan,
+    /// The line has more than 65,536 bytes, its newline not counted.
+    LineTooLong,
+    /// The line is no JSON value.
+    NotJson,
+    /// The first line is a JSON value, and no plan line.
+    NotAPlan,
+    /// The replicas are not 1 to 64, or their names not all different and of 1 to 64 bytes.
+    Names,
+    /// The road is too short or too long.
+    Length,
+    /// The deleted zone is empty, too long, or no shorter than the road.
+    Exit,
+    /// The zones have no width, are too many, or the list has not one entry for each.
+    Zones,
+    /// The inlets are too few or too many, or not at different cells before the deleted zone.
+    Inlets,
+    /// The detectors are too many, or one is at the first cell or in the deleted zone.
+    Detectors,
+    /// A speed limit, a slowing chance or an inflow is too great.
+    Default,
+    /// The line is a JSON value, and no command.
+    NotACommand,
+    /// No replica has this name.
+    NoReplica,
+    /// The horizon asked for is too great.
+    Horizon,
+    /// The step asked for is above the replica's horizon.
+    NotSimulated,
+}
+
+impl Refusal {
+    /// What the reply to a refused line says.
+    pub fn text(self) -> &'static str
+        ensures { result.now ≡ text_of self }
+    {
+        match self {
+            Refusal::NoPlan => "no plan",
+            Refusal::LineTooLong => "line too long",
+            Refusal::NotJson => "not json",
+            Refusal::NotAPlan => "not a plan",
+            Refusal::Names => "Names",
+            Refusal::Length => "Length",
+            Refusal::Exit => "Exit",
+            Refusal::Zones => "Zones",
+            Refusal::Inlets => "Inlets",
+            Refusal::Detectors => "Detectors",
+            Refusal::Default => "Default",
+            Refusal::NotACommand => "not a command",
+            Refusal::NoReplica => "NoReplica",
+            Refusal::Horizon => "Horizon",
+            Refusal::NotSimulated => "NotSimulated",
+        }
+    }
+}
