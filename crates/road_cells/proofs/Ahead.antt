@@ -1,10 +1,11 @@
 -- What is free in front of a car: up to the next car of the list, up to the next block of the list.
-use Rattle.std.specs.Prelude.{◌≡◌, ◌≢◌, ℕ, zero, suc, ◌+◌, ◌-◌, ◌<◌, ◌≤◌, ◌||◌, min, Bool, true, false, List, [], ◌∷◌, length, is_some, nat_eq, nat_le, slice_index, refl}
+use Rattle.std.specs.Prelude.{◌≡◌, ◌≢◌, ℕ, suc, ◌+◌, ◌-◌, ◌<◌, ◌≤◌, ◌||◌, min, true, false, List, [], ◌∷◌, length, is_some, nat_eq, nat_le, slice_index, refl}
 use Rattle.std.specs.List.{slice_index_or}
 use Rattle.std.specs.List.Sorted.{IsNonDecreasing, IsPartitionedBy, IsPartitionPoint}
 use Rattle.std.proofs.Common.{sym, ap, ◌∙◌, arith, inl, inr}
-use Rattle.std.proofs.lemmas.Bool.{cases_lt}
+use Rattle.std.proofs.lemmas.Bool.{cases_lt, eq-eqb, ne_eqb}
 use Rattle.std.proofs.lemmas.Bool.Decides.{nat_tests}
+use Rattle.std.proofs.lemmas.List.Folds.{list_any_at}
 use Rattle.road_cells.specs.Cars.{Rise, standing, car_of, cell_at}
 use Rattle.road_cells.specs.CarsPlaces.{rise-at, standing-absent, standing-at}
 use Rattle.road_cells.specs.Gap.{free_before, is_blocked}
@@ -31,6 +32,7 @@ between cars place k rise next after below = ap is_some (standing-absent cars k 
       ]
     ]
 
+-- the cells up to the next car are free
 pub free_to_next : (cars : List Car) (place n : ℕ) (d : Car) → Rise cars → place + 1 < length cars
     → free_before (λ c. is_some (standing c cars)) (cell_at cars place + 1) n ≡ min n (cell_at cars (place + 1) - (cell_at cars place + 1))
 free_to_next cars place n d rise next =
@@ -51,32 +53,22 @@ free_to_none cars place n rise here last = free_before-none (λ c. is_some (stan
     ]
 
 -- a cell that is none of the blocks is not blocked
-not_blocked : (blocks : List ℕ) (k : ℕ) → ((i : ℕ) → i < length blocks → slice_index blocks i ≢ k) → is_blocked blocks k ≡ false
+pub not_blocked : (blocks : List ℕ) (k : ℕ) → ((i : ℕ) → i < length blocks → slice_index blocks i ≢ k) → is_blocked blocks k ≡ false
 not_blocked [] k apart = refl
 not_blocked (block ∷ blocks) k apart =
-    ap (λ b. b || is_blocked blocks k) (other k block (λ same. apart 0 (omega arith) (sym same)))
+    ap (λ b. b || is_blocked blocks k) (ne_eqb k block (λ same. apart 0 (omega arith) (sym same)))
     ∙ not_blocked blocks k (λ i below. apart (suc i) (omega arith))
-  where
-    other : (m n : ℕ) → m ≢ n → nat_eq m n ≡ false
-    other m n apart = grind (arith)
 
-blocked_at : (blocks : List ℕ) (i : ℕ) → i < length blocks → is_blocked blocks (slice_index blocks i) ≡ true
-blocked_at [] i below = absurd (omega arith)
-blocked_at (block ∷ blocks) zero below = ap (λ b. b || is_blocked blocks block) (same block)
-  where
-    same : (n : ℕ) → nat_eq n n ≡ true
-    same n = grind (arith)
-blocked_at (block ∷ blocks) (suc i) below = either (nat_eq (slice_index blocks i) block) (blocked_at blocks i (omega arith))
-  where
-    either : (b : Bool) → is_blocked blocks (slice_index blocks i) ≡ true → b || is_blocked blocks (slice_index blocks i) ≡ true
-    either true rest = refl
-    either false rest = rest
+-- each of the blocks is blocked
+pub blocked_at : (blocks : List ℕ) (i : ℕ) → i < length blocks → is_blocked blocks (slice_index blocks i) ≡ true
+blocked_at blocks i below = list_any_at (nat_eq (slice_index blocks i)) blocks i 0 below (eq-eqb (slice_index blocks i) (slice_index blocks i) refl)
 
 -- blocks that do not fall are parted by a cell
 pub parted : (blocks : List ℕ) (cell : ℕ) → IsNonDecreasing blocks → IsPartitionedBy (λ block. nat_le block cell) blocks
 parted blocks cell rising i j d le below reached = grind (arith, nat_tests, rising i j d le below)
 
 module _ (blocks : List ℕ) (cell next : ℕ) (rising : IsNonDecreasing blocks) (point : IsPartitionPoint (λ block. nat_le block cell ≡ true) (λ block. nat_le block cell ≡ false) blocks next) where
+  -- those before the parting are not behind the cell
   reached : (i : ℕ) → i < next → slice_index blocks i ≤ cell
   reached i before = let test : nat_le (slice_index blocks i) cell ≡ true = point.0 i 0 (omega arith) before in grind (arith, nat_tests)
 

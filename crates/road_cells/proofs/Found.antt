@@ -16,6 +16,7 @@ use Rattle.road_cells.specs.CarsLaws.{vehicle_at-array_of}
 use Rattle.road_cells.specs.CarsPlaces.{rise-at, standing-absent, standing-at}
 use Rattle.road_cells.specs.declared.car.Car.{Car}
 
+-- stands for a car that is not in the list
 abbrev nobody : Car
 nobody = car_of 0 (record { number = 0; speed = 0 })
 

@@ -2,9 +2,11 @@
 use Rattle.std.specs.Prelude.{◌≡◌, ℕ, zero, suc, ◌+◌, ◌<◌, ◌≤◌, List, [], ◌∷◌, map, length, refl}
 use Rattle.std.specs.declared.option.Option.{Option}
 use Rattle.std.specs.declared.option.Option.TheVariants.{None, Some}
-use Rattle.std.proofs.Common.{sym, ap, ◌∙◌, arith}
+use Rattle.std.proofs.Common.{sym, ap, ◌∙◌, inl, inr, arith}
+use Rattle.std.proofs.lemmas.Bool.{cases_lt}
 use Rattle.road_cells.specs.Array.{Array, Vehicle, vehicle_at, array, cut, before, numbers}
 
+-- a place in front of lists that agree, one of them cut
 vehicle_at-before : (xs ys : Array) (x : Option Vehicle) → ((j : ℕ) → vehicle_at xs j ≡ vehicle_at ys j) → (j : ℕ) → vehicle_at (x ∷ xs) j ≡ vehicle_at (before x ys) j
 vehicle_at-before xs ys (Some v) same zero = refl
 vehicle_at-before xs ys (Some v) same (suc j) = same j
@@ -18,6 +20,7 @@ pub vehicle_at-cut : (xs : List (Option Vehicle)) (j : ℕ) → vehicle_at (cut 
 vehicle_at-cut [] j = refl
 vehicle_at-cut (x ∷ xs) j = sym (vehicle_at-before xs (cut xs) x (λ i. sym (vehicle_at-cut xs i)) j)
 
+-- where nothing stands there is no place left
 cut-empty : (xs : List (Option Vehicle)) → ((j : ℕ) → vehicle_at xs j ≡ None) → cut xs ≡ []
 cut-empty [] empty = refl
 cut-empty (None ∷ xs) empty = ap (before None) (cut-empty xs (λ j. empty (suc j)))
@@ -29,11 +32,13 @@ cut-same [] ys same = sym (cut-empty ys (λ j. sym (same j)))
 cut-same (x ∷ xs) [] same = cut-empty (x ∷ xs) same
 cut-same (x ∷ xs) (y ∷ ys) same = λ i. before (same 0 i) (cut-same xs ys (λ j. same (suc j)) i)
 
+-- what a function gives at n numbers from a on
 vehicle_at-numbers : (f : ℕ → Option Vehicle) (n a j : ℕ) → j < n → vehicle_at (map f (numbers a n)) j ≡ f (a + j)
 vehicle_at-numbers f zero a j below = absurd (omega arith)
 vehicle_at-numbers f (suc n) a zero below = let here : a ≡ a + 0 = omega arith in ap f here
 vehicle_at-numbers f (suc n) a (suc j) below = let next : (a + 1) + j ≡ a + suc j = omega arith in vehicle_at-numbers f n (a + 1) j (omega arith) ∙ ap f next
 
+-- and nothing past them
 past_numbers : (f : ℕ → Option Vehicle) (n a j : ℕ) → n ≤ j → vehicle_at (map f (numbers a n)) j ≡ None
 past_numbers f zero a j past = refl
 past_numbers f (suc n) a zero past = absurd (omega arith)
@@ -51,6 +56,7 @@ past_array n f j past = vehicle_at-cut (map f (numbers 0 n)) j ∙ past_numbers 
 pub array-same : (n m : ℕ) (f g : ℕ → Option Vehicle) → ((j : ℕ) → vehicle_at (array n f) j ≡ vehicle_at (array m g) j) → array n f ≡ array m g
 array-same n m f g same = cut-same (map f (numbers 0 n)) (map g (numbers 0 m)) (λ j. sym (vehicle_at-cut (map f (numbers 0 n)) j) ∙ same j ∙ vehicle_at-cut (map g (numbers 0 m)) j)
 
+-- cutting makes no list longer
 length-before : (x : Option Vehicle) (xs : Array) → length (before x xs) ≤ suc (length xs)
 length-before None [] = omega arith
 length-before None (y ∷ ys) = omega arith
@@ -73,3 +79,10 @@ pub past_end : (a : Array) (j : ℕ) → length a ≤ j → vehicle_at a j ≡ N
 past_end [] j past = refl
 past_end (x ∷ xs) zero past = absurd (omega arith)
 past_end (x ∷ xs) (suc j) past = past_end xs j (omega arith)
+
+-- functions that agree below the bound make the same array
+pub array-agree : (n : ℕ) (f g : ℕ → Option Vehicle) → ((j : ℕ) → j < n → f j ≡ g j) → array n f ≡ array n g
+array-agree n f g agree = array-same n n f g (λ j. elim (cases_lt j n) as (λ _. vehicle_at (array n f) j ≡ vehicle_at (array n g) j) [
+  | inl below ↦ vehicle_at-array n f j below ∙ agree j below ∙ sym (vehicle_at-array n g j below)
+  | inr past ↦ past_array n f j past ∙ sym (past_array n g j past)
+])

@@ -23,7 +23,7 @@ cars_from k (Some v ∷ places) = car_of k v ∷ cars_from (k + 1) places
 abbrev pub cars_of : Array → List Car
 cars_of a = cars_from 0 a
 
--- the cell of the k-th car, counted from 0
+-- the cell of the k-th car, counted from 0; of no car it is 0
 abbrev pub cell_at : List Car → ℕ → ℕ
 cell_at cars k = (slice_index_or cars k (car_of 0 (record { number = 0; speed = 0 }))).cell
 
@@ -40,7 +40,7 @@ abbrev pub standing : ℕ → List Car → Option Vehicle
 standing c [] = None
 standing c (car ∷ cars) = if nat_eq car.cell c then Some (vehicle_of car) else standing c cars
 
--- one above the greatest cell
+-- one above the greatest cell of a car
 abbrev pub end_of : List Car → ℕ
 end_of [] = 0
 end_of (car ∷ cars) = max (car.cell + 1) (end_of cars)

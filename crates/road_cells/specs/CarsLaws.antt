@@ -1,20 +1,17 @@
 -- Laws of the cars of an array and of the array that cars make.
-use Rattle.std.specs.Prelude.{◌≡◌, ◌≢◌, ℕ, zero, suc, ◌+◌, ◌<◌, ◌≤◌, false, cond, List, [], ◌∷◌, map, nat_eq, refl}
+use Rattle.std.specs.Prelude.{◌≡◌, ◌≢◌, ℕ, zero, suc, ◌+◌, ◌<◌, ◌≤◌, cond, List, [], ◌∷◌, map, refl}
 use Rattle.std.specs.declared.option.Option.{Option}
 use Rattle.std.specs.declared.option.Option.TheVariants.{None, Some}
 use Rattle.std.proofs.Common.{sym, ap, subst, ◌∙◌, inl, inr, arith}
-use Rattle.std.proofs.lemmas.Bool.{cases_eq, cases_lt, eq-eqb}
-use Rattle.road_cells.specs.Array.{Array, Vehicle, vehicle_at, cut, before, numbers}
-use Rattle.road_cells.specs.ArrayLaws.{vehicle_at-array, past_array}
+use Rattle.std.proofs.lemmas.Bool.{cases_eq, cases_lt, eq-eqb, ne_eqb}
+use Rattle.road_cells.specs.Array.{Array, Vehicle, vehicle_at, array, cut, before, numbers}
+use Rattle.road_cells.specs.ArrayLaws.{vehicle_at-array, past_array, array-same, vehicle_at-cut}
 use Rattle.road_cells.specs.Cars.{cars_from, cars_of, car_of, vehicle_of, RiseFrom, Rise, standing, end_of, array_of}
 use Rattle.road_cells.specs.declared.car.Car.{Car}
 
-not_eq : (m n : ℕ) → m ≢ n → nat_eq m n ≡ false
-not_eq m n apart = grind (arith)
-
 -- a car at another cell does not stand here
 pub standing-other : (car : Car) (cars : List Car) (c : ℕ) → car.cell ≢ c → standing c (car ∷ cars) ≡ standing c cars
-standing-other car cars c apart = ap (λ b. cond b (Some (vehicle_of car)) (standing c cars)) (not_eq car.cell c apart)
+standing-other car cars c apart = ap (λ b. cond b (Some (vehicle_of car)) (standing c cars)) (ne_eqb car.cell c apart)
 
 -- a car at this cell does
 pub standing-here : (car : Car) (cars : List Car) (c : ℕ) → car.cell ≡ c → standing c (car ∷ cars) ≡ Some (vehicle_of car)
@@ -39,6 +36,7 @@ vehicle_at-array_of cars c = elim (cases_lt c (end_of cars)) as (λ _. vehicle_a
   | inr past ↦ past_array (end_of cars) (λ c. standing c cars) c past ∙ sym (standing-past cars c past)
 ]
 
+-- an empty place that is left out in front of others has no car
 cars_from-before : (k : ℕ) (x : Option Vehicle) (xs ys : Array) → ((j : ℕ) → cars_from j ys ≡ cars_from j xs) → cars_from k (before x ys) ≡ cars_from k (x ∷ xs)
 cars_from-before k (Some v) xs ys same = ap (λ cars. car_of k v ∷ cars) (same (k + 1))
 cars_from-before k None xs [] same = same (k + 1)
@@ -49,12 +47,14 @@ pub cars_from-cut : (k : ℕ) (xs : List (Option Vehicle)) → cars_from k (cut 
 cars_from-cut k [] = refl
 cars_from-cut k (x ∷ xs) = cars_from-before k x xs (cut xs) (λ j. cars_from-cut j xs)
 
+-- a first place with a car, or without
 from_here : (k : ℕ) (v : Vehicle) (xs : Array) (x : Option Vehicle) → x ≡ Some v → cars_from k (x ∷ xs) ≡ car_of k v ∷ cars_from (k + 1) xs
 from_here k v xs x taken = ap (λ y. cars_from k (y ∷ xs)) taken
 
 from_later : (k : ℕ) (xs : Array) (x : Option Vehicle) → x ≡ None → cars_from k (x ∷ xs) ≡ cars_from (k + 1) xs
 from_later k xs x empty = ap (λ y. cars_from k (y ∷ xs)) empty
 
+-- the cars of places that hold what the cars say, from cell k on, are these cars
 listed : (n k : ℕ) (cars : List Car) (f : ℕ → Option Vehicle) → ((c : ℕ) → k ≤ c → f c ≡ standing c cars) → RiseFrom k cars → end_of cars ≤ k + n → cars_from k (map f (numbers k n)) ≡ cars
 listed zero k [] f is rise ends = refl
 listed zero k (car ∷ cars) f is rise ends = absurd (let from = rise.0 in omega arith)
@@ -92,3 +92,12 @@ standing-cars_from k (suc j) (None ∷ places) = let next : k + suc j ≡ (k + 1
 standing-cars_from k (suc j) (Some v ∷ places) =
     let next : k + suc j ≡ (k + 1) + j = omega arith in
     standing-other (car_of k v) (cars_from (k + 1) places) (k + suc j) (λ same. absurd (omega arith)) ∙ ap (λ c. standing c (cars_from (k + 1) places)) next ∙ standing-cars_from (k + 1) j places
+
+-- the cars of a tabulated array make it again
+pub array_of-cars_from : (n : ℕ) (f : ℕ → Option Vehicle) → array_of (cars_from 0 (map f (numbers 0 n))) ≡ array n f
+array_of-cars_from n f = array-same (end_of cars) n (λ c. standing c cars) f (λ j.
+    let here : 0 + j ≡ j = omega arith in
+    vehicle_at-array_of cars j ∙ ap (λ c. standing c cars) (sym here) ∙ standing-cars_from 0 j (map f (numbers 0 n)) ∙ sym (vehicle_at-cut (map f (numbers 0 n)) j))
+  where
+    cars : List Car
+    cars = cars_from 0 (map f (numbers 0 n))

@@ -7,12 +7,6 @@ use Rattle.road_cells.specs.Cars.{RiseFrom, standing, vehicle_of, cell_at}
 use Rattle.road_cells.specs.CarsLaws.{standing-other, standing-here}
 use Rattle.road_cells.specs.declared.car.Car.{Car}
 
--- the cell of the k-th car, whatever stands for a car that is not there
-pub cell_at-default : (cars : List Car) (k : ℕ) (d : Car) → k < length cars → cell_at cars k ≡ (slice_index_or cars k d).cell
-cell_at-default [] k d below = absurd (omega arith)
-cell_at-default (car ∷ cars) zero d below = refl
-cell_at-default (car ∷ cars) (suc k) d below = cell_at-default cars k d (omega arith)
-
 -- where cars rise from k on, each cell is k at least
 pub rise-from : (k : ℕ) (cars : List Car) (j : ℕ) → RiseFrom k cars → j < length cars → k ≤ cell_at cars j
 rise-from k [] j rise below = absurd (omega arith)

@@ -3,6 +3,7 @@ use Rattle.std.specs.Prelude.{◌≡◌, ℕ, zero, suc, ◌+◌, ◌-◌, ◌<�
 use Rattle.std.proofs.Common.{sym, ap, ◌∙◌, arith}
 use Rattle.road_cells.specs.Gap.{free_before}
 
+-- one turn of the search
 free_before-suc : (test : ℕ → Bool) (c n : ℕ) → free_before test c (suc n) ≡ cond (not (test c)) (1 + free_before test (c + 1) n) 0
 unfolding free_before
 free_before-suc test c n = refl
@@ -19,6 +20,7 @@ free_before-taken test c n taken = free_before-suc test c n ∙ ap (λ b. cond (
 pub free_before-free : (test : ℕ → Bool) (c n : ℕ) → test c ≡ false → free_before test c (suc n) ≡ 1 + free_before test (c + 1) n
 free_before-free test c n free = free_before-suc test c n ∙ ap (λ b. cond (not b) (1 + free_before test (c + 1) n) 0) free
 
+-- no more are free than are asked
 pub free_before-most : (test : ℕ → Bool) (c n : ℕ) → free_before test c n ≤ n
 free_before-most test c zero = let none = free_before-zero test c in omega arith
 free_before-most test c (suc n) = elim (test c) as (λ b. test c ≡ b → free_before test c (suc n) ≤ suc n) [

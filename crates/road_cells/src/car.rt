@@ -1,4 +1,4 @@
-/// The greatest speed of a car, in cells per step.
+/// The greatest speed of a car, in cells per step. No car looks further ahead than it could drive at this speed.
 pub const GREATEST_SPEED: u8 = 9;
 
 /// A car on the road.
@@ -6,7 +6,7 @@ pub const GREATEST_SPEED: u8 = 9;
 pub struct Car {
     /// Its number, its own for good.
     pub number: u64,
-    /// The cell where it stands.
+    /// The cell where it stands, counted from 0 at the road's beginning.
     pub cell: u32,
     /// Its speed, in cells per step.
     pub speed: u8,

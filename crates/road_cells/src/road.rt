@@ -5,11 +5,13 @@ ghost use Rattle.road_cells.specs.Array.{vehicle_at};
 ghost use Rattle.road_cells.specs.Cars.{Rise, cars_of, car_of, array_of, cell_at, standing};
 ghost use Rattle.road_cells.specs.Gap.{free_before, free_cells, is_blocked};
 
+use crate::OutOfMemory;
 use crate::car::{Car, GREATEST_SPEED};
-use std::alloc::{AllocError, Global};
+use std::alloc::Global;
 use std::marker::Model;
 
-/// A road: an array of cells, each empty or taken by a car.
+/// A road: an array of cells, each empty or taken by a car. It keeps its cars in strictly rising cells, and contracts
+/// see the array.
 #[derive(Drop)]
 pub struct Road {
     cars: Vec<Car>,
@@ -36,7 +38,7 @@ impl Road {
         }
     }
 
-    /// The road of cars in strictly rising cells. It takes no memory.
+    /// The road of these cars, whose cells have to rise strictly. It keeps the list and takes no memory.
     pub fn of(cars: Vec<Car>) -> Self
         requires { Rise cars.items }
         ensures road { result ≡ array_of cars.items }
@@ -45,23 +47,26 @@ impl Road {
         Road { cars }
     }
 
-    /// The cars, in strictly rising cells.
+    /// The cars in strictly rising cells, as the list that the road kept. It takes no memory.
     pub fn into_cars(self) -> Vec<Car>
         ensures all { result.items ≡ cars_of self }
         ensures rise { Rise result.items }
+        ensures road { array_of result.items ≡ self }
     {
-        self.cars
+        let Road { cars } = self;
+        cars
     }
 
-    /// The cars, in strictly rising cells.
+    /// The cars in strictly rising cells. A car's index here is its place.
     pub fn cars(&self) -> &[Car]
         ensures all { result.now ≡ cars_of self.now }
         ensures rise { Rise result.now }
+        ensures road { array_of result.now ≡ self.now }
     {
         self.cars.as_slice()
     }
 
-    /// The car at a cell, found by a binary search.
+    /// The car at a cell, none where the cell is empty or past the last car. It is found by a binary search.
     pub fn car_at(&self, cell: u32) -> Option<Car>
         ensures { result ≡ option_map (car_of cell) (vehicle_at self.now cell) }
     {
@@ -71,8 +76,12 @@ impl Road {
         }
     }
 
-    /// The free cells in front of the car at a place of the list, up to the next car or blocked cell: at most
-    /// `GREATEST_SPEED`. A road has no end here: every cell behind the last car is free.
+    /// The free cells in front of a car, up to the next car or blocked cell, at most `GREATEST_SPEED` (the `j - 1` of
+    /// Nagel and Schreckenberg, J. Phys. I France 2 (1992) 2221, with blocked cells beside it).
+    ///
+    /// `place` is the car's place in [`Road::cars`], and `blocks` are the blocked cells, rising. A block behind the
+    /// car or under it does not count. The road has no end here: all cells past the last car that are not blocked are
+    /// free. Only the next car and the next block are looked at, the block found by a binary search.
     pub fn gap(&self, place: usize, blocks: &[u32]) -> u8
         requires car { place < length (cars_of self.now) }
         requires rising { IsNonDecreasing blocks.now }
@@ -84,8 +93,12 @@ impl Road {
         to_car.min(to_block)
     }
 
-    /// A copy of the road.
-    pub fn copied(&self) -> Result<Road, AllocError>
+    /// A copy of the road, in one growth, or none where no car is on it.
+    ///
+    /// # Errors
+    ///
+    /// `OutOfMemory` where that growth is refused.
+    pub fn copied(&self) -> Result<Road, OutOfMemory>
         ensures { IfOk result (λ road. road ≡ self.now) }
     {
         Ok(Road {

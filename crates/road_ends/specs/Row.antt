@@ -1,18 +1,23 @@
 -- The road at a step as a row of text.
-use Rattle.std.specs.Prelude.{ℕ, ◌+◌, Bool, true, false, List, map}
+use Rattle.std.specs.Prelude.{◌≡◌, ℕ, ◌+◌, ◌≤◌, Bool, true, false, List, map}
 use Rattle.std.specs.declared.option.Option.{Option}
 use Rattle.std.specs.declared.option.Option.TheVariants.{None, Some}
 use Rattle.road_plan.specs.Plan.{Plan}
 use Rattle.road_cells.specs.Array.{Array, Vehicle, vehicle_at, numbers}
 use Rattle.road_cells.specs.Gap.{is_blocked}
+use Rattle.road_cells.specs.declared.car.TheConstants.{GREATEST_SPEED}
 use Rattle.road_ends.specs.Run.{Course, run}
-use Rattle.road_ends.specs.declared.row.TheConstants.{STANDING, BLOCKED, EMPTY}
+use Rattle.road_ends.specs.declared.letters.TheConstants.{STANDING, BLOCKED, EMPTY}
 
 -- the letter of a cell: a car's speed as a digit, else the mark of a blocked cell, else that of an empty one
 abbrev pub letter : Bool → Option Vehicle → ℕ
 letter blocked (Some car) = STANDING + car.speed
 letter true None = BLOCKED
 letter false None = EMPTY
+
+-- each car's speed is a digit
+abbrev pub HasDigits : Array → Type 0
+HasDigits a = (c : ℕ) (car : Vehicle) → vehicle_at a c ≡ Some car → car.speed ≤ GREATEST_SPEED
 
 -- one letter for each cell
 abbrev pub row_of : ℕ → List ℕ → Array → List ℕ

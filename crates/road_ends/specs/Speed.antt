@@ -1,12 +1,15 @@
 -- The new speed of a car.
-use Rattle.std.specs.Prelude.{ℕ, ◌+◌, ◌&&◌, Bool, nat_lt, slice_index}
+use Rattle.std.specs.Prelude.{ℕ, ◌+◌, ◌&&◌, Bool, List, map, nat_lt, slice_index}
+use Rattle.std.specs.List.{slice_index_or}
 use Rattle.road_plan.specs.Plan.{Plan, zone_of}
 use Rattle.road_plan.specs.Settings.{Settings}
 use Rattle.road_words.specs.Words.{word}
 use Rattle.road_cells.specs.Array.{Array, Vehicle}
+use Rattle.road_cells.specs.Cars.{cars_of, vehicle_of}
 use Rattle.road_cells.specs.Gap as cells
 use Rattle.road_cells.specs.Gap.{free_before}
 use Rattle.road_cells.specs.declared.car.TheConstants.{GREATEST_SPEED}
+use Rattle.road_cells.specs.declared.car.Car.{Car}
 use Rattle.road_rules.specs.Speeds.{wanted, slowed, has_event}
 
 -- whether a cell is on the road and holds a car or is blocked
@@ -26,3 +29,11 @@ is_slowed p s t zone car = has_event (word p.words car.number t) (slice_index s.
 abbrev pub speed : Plan → Settings → ℕ → Array → ℕ → Vehicle → ℕ
 speed p s t a c car =
     slowed (wanted car.speed (slice_index s.limits (zone_of p c)) (gap p s a c)) (is_slowed p s t (zone_of p c) car)
+
+-- the k-th car, counted from 0
+abbrev pub nth_car : List Car → ℕ → Car
+nth_car cars k = slice_index_or cars k (record { number = 0; cell = 0; speed = 0 })
+
+-- the new speeds of all cars, in the order of the cars
+abbrev pub speeds : Plan → Settings → ℕ → Array → List ℕ
+speeds p s t a = map (λ car. speed p s t a car.cell (vehicle_of car)) (cars_of a)

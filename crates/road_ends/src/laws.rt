@@ -1,11 +1,55 @@
-//! Laws of every run. The functions do nothing when they run: each law is its function's contract.
+//! Laws of every run of a plan, for every course of settings. The functions do nothing when they run: each law is its
+//! function's contract.
 
-ghost use Rattle.road_ends.specs.Laws.{NeverCollide};
+ghost use Rattle.road_ends.specs.Laws.{NeverCollide, ArriveAlone, KeepOrder, StopAtBlocks, HaveOwnNumbers, StayOnRoad, DependOnEarlierSettings};
 
 use road_plan::Plan;
 
-/// Two cars at c < d before a motion: the one at c stays before d.
-pub fn cars_never_collide(_plan: &Plan)
-    ensures { NeverCollide _plan.now }
+/// A car stays behind the cell of the next one: no two cars share a cell, and none passes through another.
+pub fn cars_never_collide(plan: &Plan)
+    ensures { NeverCollide plan.now }
 {
+    let _ = plan;
+}
+
+/// At most one car comes to a cell.
+pub fn cars_arrive_alone(plan: &Plan)
+    ensures { ArriveAlone plan.now }
+{
+    let _ = plan;
+}
+
+/// Cars keep their order.
+pub fn cars_keep_order(plan: &Plan)
+    ensures { KeepOrder plan.now }
+{
+    let _ = plan;
+}
+
+/// No car drives onto a blocked cell or past it.
+pub fn cars_stop_at_blocks(plan: &Plan)
+    ensures { StopAtBlocks plan.now }
+{
+    let _ = plan;
+}
+
+/// No number is on the road twice.
+pub fn cars_have_own_numbers(plan: &Plan)
+    ensures { HaveOwnNumbers plan.now }
+{
+    plan.limits();
+}
+
+/// Each car is before the deleted zone, at most as fast as the greatest speed, and numbered by a step that was before.
+pub fn cars_stay_on_road(plan: &Plan)
+    ensures { StayOnRoad plan.now }
+{
+    plan.limits();
+}
+
+/// Locality: settings from a step on change no state up to that step.
+pub fn runs_depend_on_earlier_settings(plan: &Plan)
+    ensures { DependOnEarlierSettings plan.now }
+{
+    let _ = plan;
 }

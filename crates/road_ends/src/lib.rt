@@ -1,8 +1,20 @@
-//! The ends of the road: entries, the whole step with its deletions, and the run.
+//! The ends of the road: entries, the whole step with its deletions, the run, and its rows of text.
+//!
+//! The functions here are the plain program of the definitions: they go over the road cell by cell and car by car.
 #![tactic(auto)]
 
-mod laws;
-mod row;
+mod course;
+mod entries;
+pub mod laws;
+mod letters;
+mod rules;
+mod step;
+#[cfg(test)]
+mod tests;
 
-pub use row::{BLOCKED, EMPTY, STANDING};
+pub use course::{Course, OwnSettings, row, run};
+pub use entries::entered;
+pub use letters::{BLOCKED, EMPTY, STANDING, row_text};
+pub use rules::{gap, speed, speeds};
 pub use std::alloc::AllocError as OutOfMemory;
+pub use step::{leave, next, stepped};

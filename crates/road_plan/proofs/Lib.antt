@@ -1,3 +1,4 @@
 pub mod Inlets
 pub mod Faultless
 pub mod Defaults
+pub mod Accepted

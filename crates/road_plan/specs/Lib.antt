@@ -1,3 +1,4 @@
 pub mod Plan
 pub mod Settings
 pub mod Refusals
+pub mod Examples

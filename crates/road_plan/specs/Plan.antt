@@ -1,7 +1,6 @@
 -- A plan of a road, as contracts see it.
-use Rattle.std.specs.Prelude.{◌≡◌, ℕ, ◌+◌, ◌-◌, ◌/◌, ◌<◌, ◌≤◌, List, length, map}
+use Rattle.std.specs.Prelude.{◌≡◌, ℕ, ◌+◌, ◌-◌, ◌/◌, ◌<◌, ◌≤◌, List, length, map, nat_eq}
 use Rattle.std.specs.List.{All, IsDistinct}
-use Rattle.std.specs.Prelude.{nat_eq}
 use Rattle.road_plan.specs.declared.parts.WordKind.{WordKind}
 use Rattle.road_plan.specs.declared.parts.PlanParts.{PlanParts}
 use Rattle.road_plan.specs.declared.limits.TheConstants.{LEAST_LENGTH, GREATEST_LENGTH, GREATEST_EXIT, MOST_ZONES, MOST_INLETS, MOST_DETECTORS, GREATEST_LIMIT, CERTAIN}
@@ -37,7 +36,8 @@ road_end p = p.cells - p.exit
 abbrev pub zone_of : Plan → ℕ → ℕ
 zone_of p c = c / p.width
 
--- the limits within which every plan lies
+-- the limits within which every plan lies: a road with a deleted zone at its end, one entry for each zone up to that of
+-- the last cell, inlets at different cells before the deleted zone, detectors behind the first cell and before it
 pub record IsWithinLimits (p : Plan) : Type 0 where
   pub long_enough : LEAST_LENGTH ≤ p.cells
   pub short_enough : p.cells ≤ GREATEST_LENGTH

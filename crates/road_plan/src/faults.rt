@@ -1,25 +1,29 @@
+use crate::limits::{
+    CERTAIN, GREATEST_EXIT, GREATEST_LENGTH, GREATEST_LIMIT, LEAST_LENGTH, MOST_DETECTORS,
+    MOST_ZONES, SERVED_INLETS,
+};
 use thiserror::Error;
 
 /// Why a plan is refused. The causes are asked in this order, and the first that stands is named.
 #[derive(Clone, Copy, Debug, PartialEq, Eq, Error)]
 pub enum PlanFault {
     /// The road is too short or too long.
-    #[error("the road is not 8 to 8,192 cells long")]
+    #[error("the road is not {least} to {most} cells long", least = LEAST_LENGTH, most = GREATEST_LENGTH)]
     Length,
     /// The deleted zone is empty, too long, or no shorter than the road.
-    #[error("the deleted zone is not 1 to 64 cells long and shorter than the road")]
+    #[error("the deleted zone is not 1 to {most} cells long and shorter than the road", most = GREATEST_EXIT)]
     Exit,
     /// The zones have no width, are too many, or the list has not one entry for each.
-    #[error("the zones are not 1 to 64 of at least one cell, with one entry for each")]
+    #[error("the zones are not 1 to {most} with a width and one entry for each", most = MOST_ZONES)]
     Zones,
     /// There is no inlet, there are too many, or one is in the deleted zone or at the cell of another.
-    #[error("the inlets are too few or too many, or not at different cells before the deleted zone")]
+    #[error("the inlets are none, more than {most}, or not at different cells before the deleted zone", most = SERVED_INLETS)]
     Inlets,
     /// There are too many detectors, or one is at the first cell or in the deleted zone.
-    #[error("the detectors are more than 64, or not all behind the first cell and before the deleted zone")]
+    #[error("the detectors are not 0 to {most} at sites behind the first cell and before the deleted zone", most = MOST_DETECTORS)]
     Detectors,
     /// A speed limit, a slowing chance or an inflow is too great.
-    #[error("a speed limit is above 9, or a slowing chance or an inflow above 65,536")]
+    #[error("a speed limit is above {limit}, or a slowing chance or an inflow above {chance}", limit = GREATEST_LIMIT, chance = CERTAIN)]
     Default,
     /// There was no memory. The making of a plan takes none today, so it never answers this.
     #[error("no memory")]

@@ -13,3 +13,6 @@ pub use parts::{PlanParts, WordKind};
 pub use plan::Plan;
 pub use settings::Settings;
 pub use std::alloc::AllocError as OutOfMemory;
+
+#[cfg(test)]
+mod tests;

@@ -8,7 +8,7 @@ pub enum WordKind {
 }
 
 /// The parts of a plan, before they are checked.
-#[derive(Debug, Drop)]
+#[derive(Debug, Drop, PartialEq, Eq)]
 pub struct PlanParts {
     /// Cells of the road.
     pub length: u32,

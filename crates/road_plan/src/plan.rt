@@ -1,6 +1,8 @@
-ghost use Rattle.std.specs.Prelude.{◌≡◌, IfOk, IfErr, Some, None};
+ghost use Rattle.std.specs.Prelude.{◌≡◌, ◌≤◌, IfOk, IfErr, IsOk, Some, None, length};
 ghost use Rattle.road_plan.specs.Plan.{plan_of, IsWithinLimits};
+ghost use Rattle.road_plan.specs.Settings.{Fits, defaults};
 ghost use Rattle.road_plan.specs.Refusals.{fault_of};
+ghost use Rattle.road_plan.specs.declared.limits.TheConstants.{SERVED_INLETS};
 
 use crate::checks::first_fault;
 use crate::faults::PlanFault;
@@ -27,8 +29,14 @@ impl Plan {
     /// The plan of these parts. A refusal names the first fault in the order of `PlanFault`; it is never
     /// `OutOfMemory`, since the parts become the plan and nothing is copied.
     pub fn new(parts: PlanParts) -> Result<Plan, PlanFault>
+        // Accepted exactly where no fault is found, and then the parts are the plan.
         ensures made { IfOk result (λ plan. plan ≡ plan_of parts) }
         ensures faultless { IfOk result (λ _. fault_of (plan_of parts) ≡ None) }
+
+        // So each plan within the limits is accepted, but for inlets that are not served yet.
+        ensures accepted { IsWithinLimits (plan_of parts) → length parts.inlets.items ≤ SERVED_INLETS → IsOk result }
+
+        // Refused by the first fault, which is never want of memory.
         ensures refused { IfErr result (λ fault. fault_of (plan_of parts) ≡ Some fault) }
     {
         match first_fault(&parts) {
@@ -91,5 +99,12 @@ impl Plan {
         ensures { IsWithinLimits self.now }
     {
         let _ = &self.parts;
+    }
+
+    /// That the plan's own settings fit it. It is a fact for proofs: the call does nothing.
+    pub fn own_settings_fit(&self)
+        ensures { Fits self.now (defaults self.now) }
+    {
+        self.limits();
     }
 }

@@ -6,7 +6,7 @@ use std::alloc::{AllocError as OutOfMemory, Global};
 use std::marker::Model;
 
 /// All settings of a road at one step.
-#[derive(Drop)]
+#[derive(Debug, Drop)]
 pub struct Settings {
     /// For each zone its speed limit, in cells per step.
     pub limits: Vec<u32>,

@@ -1,3 +1,4 @@
+mod Examples
 pub mod Speeds
 pub mod Motion
 pub mod MotionLaws

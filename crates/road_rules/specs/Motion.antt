@@ -1,20 +1,17 @@
 -- Rule 4: each vehicle advances by its speed (Nagel and Schreckenberg 1992).
 use Rattle.std.specs.Prelude.{◌≡◌, ℕ, ◌+◌, ◌<◌, ◌≤◌, ◌==◌, List, [], ◌∷◌, length, slice_index, nat_lt, if◌then◌else◌}
 use Rattle.std.specs.List.{All, count_by}
+use Rattle.std.specs.Option.{option_or}
 use Rattle.std.specs.declared.option.Option.{Option}
 use Rattle.std.specs.declared.option.Option.TheVariants.{None, Some}
 use Rattle.road_cells.specs.Array.{Array, Vehicle, vehicle_at, array, numbers}
 use Rattle.road_cells.specs.Cars.{cars_of, cell_at}
 use Rattle.road_cells.specs.declared.car.TheConstants.{GREATEST_SPEED}
 
--- the first that there is
-abbrev pub first_some : {X : Type 0} → Option X → Option X → Option X
-first_some (Some x) other = Some x
-first_some None other = other
-
+-- what a function gives of the first number for which it gives something
 abbrev pub first_of : {X : Type 0} → (ℕ → Option X) → List ℕ → Option X
 first_of f [] = None
-first_of f (c ∷ cs) = first_some (f c) (first_of f cs)
+first_of f (c ∷ cs) = option_or (f c) (first_of f cs)
 
 -- what stands at c where it comes to j at a speed, at that speed
 abbrev pub coming : ℕ → ℕ → (Vehicle → ℕ) → Option Vehicle → Option Vehicle
@@ -25,7 +22,7 @@ coming j c speed (Some v) = if c + speed v == j then Some (record { number = v.n
 abbrev pub arriving : (ℕ → Vehicle → ℕ) → Array → ℕ → Option Vehicle
 arriving speed a j = first_of (λ c. coming j c (speed c) (vehicle_at a c)) (numbers 0 (length a))
 
--- motion: place j holds the vehicle that arrives there, else it is empty; no vehicle drives farther than the greatest speed
+-- motion: place j holds the vehicle that arrives there, else it is empty; at the greatest speed at most, none arrives farther on
 abbrev pub moved : (ℕ → Vehicle → ℕ) → Array → Array
 moved speed a = array (length a + GREATEST_SPEED) (arriving speed a)
 

@@ -1,11 +1,12 @@
 -- The motion of an array is that of the list of its cars.
 use Rattle.std.specs.Prelude.{◌≡◌, ℕ, zero, suc, ◌+◌, ◌<◌, ◌≤◌, ◌==◌, max, true, false, cond, if◌then◌else◌, List, [], ◌∷◌, map, length, slice_index, nat_lt, refl}
 use Rattle.std.specs.List.{count_by}
+use Rattle.std.specs.Option.{option_or}
 use Rattle.std.specs.declared.option.Option.{Option}
 use Rattle.std.specs.declared.option.Option.TheVariants.{None, Some}
 use Rattle.std.proofs.Common.{sym, ap, ◌∙◌, arith, inl, inr}
-use Rattle.std.proofs.lemmas.Bool.{cases_lt, lt-ltb}
-use Rattle.std.proofs.lemmas.Bool.Decides.{nat_tests}
+use Rattle.std.proofs.lemmas.Bool.{cases_lt, le-ltb, lt-ltb}
+use Rattle.std.proofs.lemmas.List.{length-map}
 use Rattle.std.proofs.lemmas.List.Sums.{sum_by-cons}
 use Rattle.road_cells.specs.Array.{Array, Vehicle, vehicle_at, array, numbers}
 use Rattle.road_cells.specs.ArrayLaws.{vehicle_at-array, past_array, array-same}
@@ -14,7 +15,7 @@ use Rattle.road_cells.specs.CarsLaws.{vehicle_at-array_of, standing-past, rise-c
 use Rattle.road_cells.specs.CarsPlaces.{rise-from}
 use Rattle.road_cells.specs.declared.car.Car.{Car}
 use Rattle.road_cells.specs.declared.car.TheConstants.{GREATEST_SPEED}
-use Rattle.road_rules.specs.Motion.{first_some, first_of, coming, arriving, moved, speed_at, moved_at, MayMove}
+use Rattle.road_rules.specs.Motion.{first_of, coming, arriving, moved, speed_at, moved_at, MayMove}
 
 -- a car at a new speed, that many cells further on
 abbrev pub advanced_by : ℕ → Car → Car
@@ -33,33 +34,37 @@ advanced_at (v ∷ speeds) (car ∷ cars) = advanced_by v car ∷ advanced_at sp
 
 -- ---- a search of the cells is a search of the cars
 
+-- the first that the cars give
 first_car : {X : Type 0} → (ℕ → Vehicle → Option X) → List Car → Option X
 first_car h [] = None
-first_car h (car ∷ cars) = first_some (h car.cell (vehicle_of car)) (first_car h cars)
+first_car h (car ∷ cars) = option_or (h car.cell (vehicle_of car)) (first_car h cars)
 
+-- what a vehicle gives, where there is one
 if_there : {X : Type 0} → (Vehicle → Option X) → Option Vehicle → Option X
 if_there h None = None
 if_there h (Some v) = h v
 
 module _ {X : Type 0} (h : ℕ → Vehicle → Option X) where
+  -- what the cells give from k on is what the cars give
   searched : (n k : ℕ) (places : Array) (at : ℕ → Option Vehicle) → length places ≤ n → ((j : ℕ) → at (k + j) ≡ vehicle_at places j) → first_of (λ c. if_there (h c) (at c)) (numbers k n) ≡ first_car h (cars_from k places)
   unfolding first_car if_there
   searched zero k [] at few same = refl
   searched zero k (x ∷ places) at few same = absurd (omega arith)
   searched (suc n) k [] at few same =
       let here : k + 0 ≡ k = omega arith in
-      ap (λ o. first_some (if_there (h k) o) (first_of (λ c. if_there (h c) (at c)) (numbers (k + 1) n))) (ap at (sym here) ∙ same 0)
+      ap (λ o. option_or (if_there (h k) o) (first_of (λ c. if_there (h c) (at c)) (numbers (k + 1) n))) (ap at (sym here) ∙ same 0)
       ∙ searched n (k + 1) [] at (omega arith) (λ j. let next : (k + 1) + j ≡ k + suc j = omega arith in ap at next ∙ same (suc j))
   searched (suc n) k (x ∷ places) at few same =
       let here : k + 0 ≡ k = omega arith in
-      ap (λ o. first_some (if_there (h k) o) (first_of (λ c. if_there (h c) (at c)) (numbers (k + 1) n))) (ap at (sym here) ∙ same 0)
-      ∙ ap (first_some (if_there (h k) x)) (searched n (k + 1) places at (omega arith) (λ j. let next : (k + 1) + j ≡ k + suc j = omega arith in ap at next ∙ same (suc j)))
+      ap (λ o. option_or (if_there (h k) o) (first_of (λ c. if_there (h c) (at c)) (numbers (k + 1) n))) (ap at (sym here) ∙ same 0)
+      ∙ ap (option_or (if_there (h k) x)) (searched n (k + 1) places at (omega arith) (λ j. let next : (k + 1) + j ≡ k + suc j = omega arith in ap at next ∙ same (suc j)))
       ∙ split x
     where
-      split : (x : Option Vehicle) → first_some (if_there (h k) x) (first_car h (cars_from (k + 1) places)) ≡ first_car h (cars_from k (x ∷ places))
+      split : (x : Option Vehicle) → option_or (if_there (h k) x) (first_car h (cars_from (k + 1) places)) ≡ first_car h (cars_from k (x ∷ places))
       split None = refl
       split (Some v) = refl
 
+-- the vehicle of cell c at its speed, where it comes to j
 comes : (ℕ → Vehicle → ℕ) → ℕ → ℕ → Vehicle → Option Vehicle
 comes speed j c v = if c + speed c v == j then Some (record { number = v.number; speed = speed c v }) else None
 
@@ -70,14 +75,15 @@ coming-comes speed j c (Some v) = refl
 
 first_of-same : {X : Type 0} (f g : ℕ → Option X) (cs : List ℕ) → ((c : ℕ) → f c ≡ g c) → first_of f cs ≡ first_of g cs
 first_of-same f g [] same = refl
-first_of-same f g (c ∷ cs) same = λ i. first_some (same c i) (first_of-same f g cs same i)
+first_of-same f g (c ∷ cs) same = λ i. option_or (same c i) (first_of-same f g cs same i)
 
+-- the first car that comes to j stands there once each has advanced
 first_car-comes : (speed : ℕ → Vehicle → ℕ) (j : ℕ) (cars : List Car) → first_car (comes speed j) cars ≡ standing j (advanced speed cars)
 unfolding first_car comes
 first_car-comes speed j [] = refl
 first_car-comes speed j (car ∷ cars) =
     let v = speed car.cell (vehicle_of car) in
-    elim (car.cell + v == j) as (λ b. first_some (cond b (Some (record { number = car.number; speed = v })) None) (first_car (comes speed j) cars) ≡ cond b (Some (record { number = car.number; speed = v })) (standing j (advanced speed cars))) [ true ↦ refl | false ↦ first_car-comes speed j cars ]
+    elim (car.cell + v == j) as (λ b. option_or (cond b (Some (record { number = car.number; speed = v })) None) (first_car (comes speed j) cars) ≡ cond b (Some (record { number = car.number; speed = v })) (standing j (advanced speed cars))) [ true ↦ refl | false ↦ first_car-comes speed j cars ]
 
 -- who arrives at a place is who stands there once each car has advanced
 pub arriving-standing : (speed : ℕ → Vehicle → ℕ) (a : Array) (j : ℕ) → arriving speed a j ≡ standing j (advanced speed (cars_of a))
@@ -88,11 +94,9 @@ arriving-standing speed a j =
 
 -- ---- the speed of a car is that of its place in the list
 
+-- the cars before c, one by one
 count-step : (c : ℕ) (car : Car) (cars : List Car) → count_by (λ x. nat_lt x.cell c) (car ∷ cars) ≡ cond (nat_lt car.cell c) 1 0 + count_by (λ x. nat_lt x.cell c) cars
 count-step c car cars = sum_by-cons (λ x. cond (nat_lt x.cell c) 1 0) car cars
-
-not_lt : (m n : ℕ) → n ≤ m → nat_lt m n ≡ false
-not_lt m n le = grind (arith, nat_tests)
 
 -- a car that is not before c does not count
 count-out : (c : ℕ) (car : Car) (cars : List Car) → nat_lt car.cell c ≡ false → count_by (λ x. nat_lt x.cell c) (car ∷ cars) ≡ count_by (λ x. nat_lt x.cell c) cars
@@ -109,7 +113,7 @@ count-none : (c k : ℕ) (cars : List Car) → c ≤ k → RiseFrom k cars → c
 count-none c k [] le rise = refl
 count-none c k (car ∷ cars) le rise =
     let from : k ≤ car.cell = rise.0 in
-    count-out c car cars (not_lt car.cell c (omega arith)) ∙ count-none c (car.cell + 1) cars (omega arith) rise.1
+    count-out c car cars (le-ltb car.cell c (omega arith)) ∙ count-none c (car.cell + 1) cars (omega arith) rise.1
 
 -- as many cars stand before the k-th car as there are before it in the list
 pub count-before : (m : ℕ) (cars : List Car) (k : ℕ) → RiseFrom m cars → k < length cars → count_by (λ x. nat_lt x.cell (cell_at cars k)) cars ≡ k
@@ -133,26 +137,20 @@ pub advanced-speed_at : (a : Array) (speeds : List ℕ) → length speeds ≡ le
 advanced-speed_at a speeds long =
     advanced-at (cars_of a) speeds (speed_at a speeds) long (λ k below. ap (slice_index speeds) (count-before 0 (cars_of a) k (rise-cars_from 0 a) below))
 
+-- speeds that a function gives, listed in the order of the cars
 advanced-listed : (speed : ℕ → Vehicle → ℕ) (cars : List Car) → advanced_at (map (λ car. speed car.cell (vehicle_of car)) cars) cars ≡ advanced speed cars
 advanced-listed speed [] = refl
 advanced-listed speed (car ∷ cars) = ap (λ rest. advanced_by (speed car.cell (vehicle_of car)) car ∷ rest) (advanced-listed speed cars)
-
-length-listed : (f : Car → ℕ) (cars : List Car) → length (map f cars) ≡ length cars
-length-listed f [] = refl
-length-listed f (car ∷ cars) = ap suc (length-listed f cars)
 
 -- motion at the speeds that a function gives, listed in the order of the cars, is motion by the function
 pub moved_at-listed : (speed : ℕ → Vehicle → ℕ) (a : Array) → moved_at (map (λ car. speed car.cell (vehicle_of car)) (cars_of a)) a ≡ moved speed a
 moved_at-listed speed a = ap (array (length a + GREATEST_SPEED)) (λ i j. each j i)
   where
-    speeds : List ℕ
-    speeds = map (λ car. speed car.cell (vehicle_of car)) (cars_of a)
-
     each : (j : ℕ) → arriving (λ c v. speed_at a (map (λ car. speed car.cell (vehicle_of car)) (cars_of a)) c) a j ≡ arriving speed a j
     each j =
         let vs = map (λ car. speed car.cell (vehicle_of car)) (cars_of a) in
         arriving-standing (λ c v. speed_at a vs c) a j
-        ∙ ap (standing j) (advanced-speed_at a vs (length-listed (λ car. speed car.cell (vehicle_of car)) (cars_of a)) ∙ advanced-listed speed (cars_of a))
+        ∙ ap (standing j) (advanced-speed_at a vs (length-map (cars_of a) (λ car. speed car.cell (vehicle_of car))) ∙ advanced-listed speed (cars_of a))
         ∙ sym (arriving-standing speed a j)
 
 -- ---- the cars after motion make the array after motion
@@ -164,6 +162,7 @@ cell_at-end m (None ∷ places) k below = let rest = cell_at-end (m + 1) places 
 cell_at-end m (Some v ∷ places) zero below = omega arith
 cell_at-end m (Some v ∷ places) (suc k) below = let rest = cell_at-end (m + 1) places k (omega arith) in omega arith
 
+-- no car drives farther than the greatest speed past the end
 end-advanced_at : (cars : List Car) (speeds : List ℕ) (n : ℕ) → ((k : ℕ) → k < length cars → cell_at cars k < n) → ((k : ℕ) → k < length speeds → slice_index speeds k ≤ GREATEST_SPEED) → end_of (advanced_at speeds cars) ≤ n + GREATEST_SPEED
 end-advanced_at [] speeds n low slow = omega arith
 end-advanced_at (car ∷ cars) [] n low slow = omega arith
@@ -195,10 +194,12 @@ moved_at-array_of a speeds may = array-same (length a + GREATEST_SPEED) (end_of 
     ends : end_of (advanced_at speeds (cars_of a)) ≤ length a + GREATEST_SPEED
     ends = end-advanced_at (cars_of a) speeds (length a) (λ k below. let low = cell_at-end 0 a k below in omega arith) (λ k below. may.slow_enough k 0 below)
 
+-- cars that rise, and whose first is m at least, rise from m on
 rise-further : (k m : ℕ) (cars : List Car) → RiseFrom k cars → (0 < length cars → m ≤ cell_at cars 0) → RiseFrom m cars
 rise-further k m [] rise from = tt
 rise-further k m (car ∷ cars) rise from = (from (omega arith), rise.1)
 
+-- cars that stop before the next one still rise
 rise-advanced : (m : ℕ) (cars : List Car) (speeds : List ℕ) → RiseFrom m cars → length speeds ≡ length cars → ((k : ℕ) → suc k < length speeds → cell_at cars k + slice_index speeds k < cell_at cars (suc k)) → RiseFrom m (advanced_at speeds cars)
 rise-advanced m [] speeds rise long apart = tt
 rise-advanced m (car ∷ cars) [] rise long apart = tt
@@ -212,3 +213,19 @@ rise-advanced m (car ∷ cars) (v ∷ speeds) rise long apart = (
 -- cars that may move still rise
 pub rise-advanced_at : (a : Array) (speeds : List ℕ) → MayMove a speeds → Rise (advanced_at speeds (cars_of a))
 rise-advanced_at a speeds may = rise-advanced 0 (cars_of a) speeds (rise-cars_from 0 a) may.one_each (λ k below. let next : k + 1 ≡ suc k = omega arith in let free = may.apart k (omega arith) in let same = ap (cell_at (cars_of a)) next in omega arith)
+
+-- where no speed is above the greatest, each place of the array after motion holds who arrives there
+pub vehicle_at-moved : (speed : ℕ → Vehicle → ℕ) (a : Array) (j : ℕ) → ((c : ℕ) (v : Vehicle) → speed c v ≤ GREATEST_SPEED) → vehicle_at (moved speed a) j ≡ arriving speed a j
+vehicle_at-moved speed a j slow = elim (cases_lt j (length a + GREATEST_SPEED)) as (λ _. vehicle_at (moved speed a) j ≡ arriving speed a j) [
+  | inl below ↦ vehicle_at-array (length a + GREATEST_SPEED) (arriving speed a) j below
+  | inr past ↦
+      let low = end-advanced (cars_of a) (length a) (λ k below. let cell = cell_at-end 0 a k below in omega arith) in
+      past_array (length a + GREATEST_SPEED) (arriving speed a) j past ∙ sym (standing-past (advanced speed (cars_of a)) j (omega arith)) ∙ sym (arriving-standing speed a j)
+]
+  where
+    end-advanced : (cars : List Car) (n : ℕ) → ((k : ℕ) → k < length cars → cell_at cars k < n) → end_of (advanced speed cars) ≤ n + GREATEST_SPEED
+    end-advanced [] n low = omega arith
+    end-advanced (car ∷ cars) n low =
+        let cell : car.cell < n = low 0 (omega arith) in
+        let most = slow car.cell (vehicle_of car) in
+        let rest = end-advanced cars n (λ k below. low (suc k) (omega arith)) in omega arith

@@ -5,7 +5,8 @@ use Rattle.rand_chacha.specs.ChaCha.{word_at, key_of}
 use Rattle.road_plan.specs.declared.parts.WordKind.{WordKind}
 use Rattle.road_plan.specs.declared.parts.WordKind.TheVariants.{Seeded, Steady}
 
--- the word of ChaCha8 (Bernstein 2008, four double rounds) for a key of 32 bytes
+-- the word of ChaCha8 (Bernstein 2008, four double rounds) for a key of 32 bytes: number `place % 16` of block
+-- `place / 16` of the stream
 abbrev pub chacha_word : List ℕ → ℕ → ℕ → ℕ
 chacha_word key stream place = word_at 4 (key_of key) stream place
 
@@ -13,6 +14,7 @@ chacha_word key stream place = word_at 4 (key_of key) stream place
 abbrev pub key_bytes : ℕ → List ℕ
 key_bytes seed = to_be_bytes w64 seed ++ replicate 24 0
 
+-- the word of a seed
 abbrev pub seeded_word : ℕ → ℕ → ℕ → ℕ
 seeded_word seed stream place = chacha_word (key_bytes seed) stream place
 

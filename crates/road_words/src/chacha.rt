@@ -8,7 +8,7 @@ use rand_core::utils::NextWord;
 
 /// The words of a ChaCha8 generator (D. J. Bernstein, "ChaCha, a variant of Salsa20", 2008; eight rounds), any of
 /// which can be asked by its stream and its place without those before it.
-#[derive(Clone, Copy)]
+#[derive(Clone, Copy, Debug, PartialEq, Eq)]
 pub struct ChaChaWords {
     key: [u8; 32],
 }

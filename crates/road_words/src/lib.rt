@@ -10,3 +10,6 @@ pub use chacha::ChaChaWords;
 pub use plan_words::PlanWords;
 pub use steady::SteadyWords;
 pub use words::Words;
+
+#[cfg(test)]
+mod tests;

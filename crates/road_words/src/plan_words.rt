@@ -7,7 +7,7 @@ use crate::words::Words;
 use road_plan::{Plan, WordKind};
 
 /// The words that a plan names.
-#[derive(Clone, Copy)]
+#[derive(Clone, Copy, Debug, PartialEq, Eq)]
 pub enum PlanWords {
     /// Those of the plan's seed.
     Seeded(ChaChaWords),

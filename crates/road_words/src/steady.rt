@@ -1,7 +1,7 @@
 use crate::words::Words;
 
 /// Words for tests and worked examples, plain enough to be worked out by hand. They are no random words.
-#[derive(Clone, Copy)]
+#[derive(Clone, Copy, Debug, PartialEq, Eq)]
 pub struct SteadyWords;
 
 impl Words for SteadyWords {

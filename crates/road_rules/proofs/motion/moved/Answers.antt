@@ -19,7 +19,12 @@ of-requires c =
     let done = all_done c.cars-cars.result.now c.args.speeds.now c.loop-place.moved.items _ c.loop-place.place c.loop-place-test.false c.loop-place.invariant in
     subst Rise (sym (done ∙ ap (advanced_at c.args.speeds.now) c.cars-cars.ensures.all)) (rise-advanced_at c.args.road.now c.args.speeds.now c.requires.may)
 
-pub returns : goal.returns
-returns c =
+pub returns-clause-motion : goal.returns-clause-motion
+returns-clause-motion c =
     let done = all_done c.cars-cars.result.now c.args.speeds.now c.loop-place.moved.items _ c.loop-place.place c.loop-place-test.false c.loop-place.invariant in
     c.of.ensures.road ∙ ap array_of (done ∙ ap (advanced_at c.args.speeds.now) c.cars-cars.ensures.all) ∙ sym (moved_at-array_of c.args.road.now c.args.speeds.now c.requires.may)
+
+pub returns-clause-cars : goal.returns-clause-cars
+returns-clause-cars c =
+    let done = all_done c.cars-cars.result.now c.args.speeds.now c.loop-place.moved.items _ c.loop-place.place c.loop-place-test.false c.loop-place.invariant in
+    c.of.ensures.cars ∙ done ∙ ap (advanced_at c.args.speeds.now) c.cars-cars.ensures.all

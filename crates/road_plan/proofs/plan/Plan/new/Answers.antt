@@ -1,7 +1,14 @@
 use Rattle.std.proofs.Common.{sym, ◌∙◌}
+use Rattle.std.proofs.lemmas.Option.{none-some}
+use Rattle.road_plan.proofs.Accepted.{no_fault}
 use Rattle.road_plan.proofs.Faultless.{within_limits}
 use Rattle.road_plan.proofs.plan.Plan.new.Goals as goal
 
 -- no fault was found
 pub invariant_of-result : goal.invariant_of-result
 invariant_of-result c = within_limits _ (sym c.first_fault.ensures ∙ c.in-None.is)
+
+-- a fault was found, so the plan is not within the limits
+pub returns-in-Some-clause-accepted : goal.returns-in-Some-clause-accepted
+returns-in-Some-clause-accepted c = λ within served.
+    absurd (none-some _ (sym (no_fault _ within served) ∙ sym c.first_fault.ensures ∙ c.in-Some.is))

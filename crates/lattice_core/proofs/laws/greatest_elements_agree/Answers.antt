@@ -1,0 +1,5 @@
+use Rattle.lattice_core.specs.Tops.{tops_laws}
+use Rattle.lattice_core.proofs.laws.greatest_elements_agree.Goals as goal
+
+pub returns : goal.returns
+returns g c = tops_laws g.T.Ord.cmp g.met.T.Ord.total g.met.T.Exact.exact

@@ -1,0 +1,9 @@
+pub mod Exact
+pub mod Lattice
+pub mod Greatest
+pub mod Both
+pub mod Map
+pub mod MapLaws
+pub mod MapSteps
+pub mod Fold
+pub mod Tops

@@ -1,0 +1,19 @@
+//! Join semilattices: values that replicas merge, and that agree whatever the order, grouping and repetition of the
+//! merges (Shapiro, Preguiça, Baquero, Zawirski, "Conflict-free Replicated Data Types", 2011).
+//!
+//! A `Lattice` has a least value, the bottom, and a join of two values. `Greatest` keeps the greatest value that came,
+//! `Both` joins pairs part by part, and `LatMap` joins maps key by key. `laws` has what holds of all of them.
+#![tactic(auto)]
+
+pub mod both;
+pub mod exact;
+pub mod greatest;
+pub mod lattice;
+pub mod laws;
+pub mod map;
+
+/// A growth of memory was refused. It is the only error of this crate, and a call that answers it changed nothing.
+pub use std::alloc::AllocError as OutOfMemory;
+
+#[cfg(test)]
+mod tests;

@@ -1,0 +1,5 @@
+use Rattle.road_ends.proofs.Apart.{keep_order}
+use Rattle.road_ends.proofs.laws.cars_keep_order.Goals as goal
+
+pub returns : goal.returns
+returns c = keep_order c.args.plan.now

@@ -1,0 +1,5 @@
+use Rattle.road_ends.proofs.Apart.{never_collide}
+use Rattle.road_ends.proofs.laws.cars_never_collide.Goals as goal
+
+pub returns : goal.returns
+returns c = never_collide c.args.plan.now

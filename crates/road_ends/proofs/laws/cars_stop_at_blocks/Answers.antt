@@ -1,0 +1,5 @@
+use Rattle.road_ends.proofs.Apart.{stop_at_blocks}
+use Rattle.road_ends.proofs.laws.cars_stop_at_blocks.Goals as goal
+
+pub returns : goal.returns
+returns c = stop_at_blocks c.args.plan.now

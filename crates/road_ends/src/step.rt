@@ -1,0 +1,54 @@
+ghost use Rattle.std.specs.Prelude.{◌≡◌, ◌≤◌, length, IfOk};
+ghost use Rattle.road_plan.specs.Settings.{Fits};
+ghost use Rattle.road_ends.specs.Run.{next, left, stepped};
+
+use crate::entries::entered;
+use crate::rules::speeds;
+use road_cells::Road;
+use road_plan::{Plan, Settings};
+use road_rules::moved;
+use std::alloc::{AllocError, Global};
+
+/// The road without the cars in its deleted zone or past it. It takes no memory.
+pub fn leave(plan: &Plan, road: Road) -> Road
+    ensures { result ≡ left plan.now road }
+{
+    plan.limits();
+    let end = plan.length() - plan.exit();
+    let mut cars = road.into_cars();
+    let staying = cars.partition_point(|car| car.cell < end);
+    cars.truncate(staying);
+    Road::of(cars)
+}
+
+/// The road after the motion of a step, from that with the cars that have entered.
+pub fn next(
+    alloc: Global,
+    plan: &Plan,
+    settings: &Settings,
+    step: u32,
+    road: &Road,
+) -> Result<Road, AllocError>
+    requires fits { Fits plan.now settings.now }
+    requires on_road { length road.now ≤ plan.now.cells }
+    ensures { IfOk result (λ later. later ≡ next plan.now settings.now step road.now) }
+{
+    plan.limits();
+    let speeds = speeds(alloc, plan, settings, step, road)?;
+    Ok(leave(plan, moved(alloc, road, &speeds)?))
+}
+
+/// The road at the next step: entries, speeds, motion, deletion.
+pub fn stepped(
+    alloc: Global,
+    plan: &Plan,
+    settings: &Settings,
+    step: u32,
+    road: &Road,
+) -> Result<Road, AllocError>
+    requires { Fits plan.now settings.now }
+    ensures { IfOk result (λ later. later ≡ stepped plan.now settings.now step road.now) }
+{
+    let moving = entered(alloc, plan, settings, step, road)?;
+    next(alloc, plan, settings, step, &moving)
+}

@@ -1,0 +1,109 @@
+-- Worked examples, as equations that the checker computes.
+use Rattle.std.specs.Prelude.{◌≡◌, ℕ, ◌*◌, ◌+◌, true, false, [], ◌∷◌, refl}
+use Rattle.road_cells.specs.Array.{Array}
+use Rattle.road_cells.specs.Cars.{array_of, cars_of}
+use Rattle.road_cells.specs.declared.car.Car.{Car}
+use Rattle.road_rules.specs.Speeds.{wanted, accelerated, braked, has_event, slowed}
+use Rattle.road_rules.specs.Motion.{moved, moved_at, speed_at}
+
+-- ---- rules 1 and 2
+
+-- a free car grows faster by one, up to the limit
+wanted-faster : wanted 1 5 9 ≡ 2
+wanted-faster = refl
+
+wanted-limit : wanted 5 5 9 ≡ 5
+wanted-limit = refl
+
+-- a car above a lowered limit drops to it at once
+wanted-lowered : wanted 5 2 9 ≡ 2
+wanted-lowered = refl
+
+-- no car drives into what is in front of it
+wanted-gap : wanted 5 5 3 ≡ 3
+wanted-gap = refl
+
+wanted-blocked : wanted 5 5 0 ≡ 0
+wanted-blocked = refl
+
+-- at speed 2 the next car has to be more than three cells away
+accelerated-free : accelerated 2 5 4 ≡ 3
+accelerated-free = refl
+
+accelerated-near : accelerated 2 5 3 ≡ 2
+accelerated-near = refl
+
+accelerated-greatest : accelerated 5 5 9 ≡ 5
+accelerated-greatest = refl
+
+-- a car that would come to the next one stops in the cell behind it
+braked-at : braked 3 3 ≡ 2
+braked-at = refl
+
+braked-near : braked 5 1 ≡ 0
+braked-near = refl
+
+braked-free : braked 3 4 ≡ 3
+braked-free = refl
+
+-- ---- rule 3
+
+-- the upper 16 bits of the word have to be below the chance
+has_event-below : has_event (30011 * 65536) 30012 ≡ true
+has_event-below = refl
+
+has_event-equal : has_event (30011 * 65536 + 65535) 30011 ≡ false
+has_event-equal = refl
+
+-- chance 0 never, chance 65,536 always
+has_event-never : has_event 0 0 ≡ false
+has_event-never = refl
+
+has_event-always : has_event 4294967295 65536 ≡ true
+has_event-always = refl
+
+slowed-event : slowed 3 true ≡ 2
+slowed-event = refl
+
+slowed-standing : slowed 0 true ≡ 0
+slowed-standing = refl
+
+slowed-none : slowed 3 false ≡ 3
+slowed-none = refl
+
+-- ---- rule 4
+
+car : ℕ → ℕ → ℕ → Car
+car number cell speed = record { number = number; cell = cell; speed = speed }
+
+-- `01...2......` at the speeds 0, 2 and 2 becomes `0..2...2....`
+entered : Array
+entered = array_of (car 48 0 0 ∷ car 16 1 1 ∷ car 0 5 2 ∷ [])
+
+moved_at-road : moved_at (0 ∷ 2 ∷ 2 ∷ []) entered ≡ array_of (car 48 0 0 ∷ car 16 3 2 ∷ car 0 7 2 ∷ [])
+unfolding entered car
+moved_at-road = refl
+
+-- the speed of the car at cell 5 is the third
+speed_at-third : speed_at entered (0 ∷ 2 ∷ 1 ∷ []) 5 ≡ 1
+unfolding entered car
+speed_at-third = refl
+
+-- the same by a function of cell and vehicle
+moved-road : moved (λ c v. wanted v.speed 2 c) entered ≡ array_of (car 48 0 0 ∷ car 16 2 1 ∷ car 0 7 2 ∷ [])
+unfolding entered car
+moved-road = refl
+
+-- cars keep their new speeds, also where they stay or drive the greatest distance
+moved_at-far : moved_at (0 ∷ 9 ∷ []) (array_of (car 2 3 4 ∷ car 1 8 9 ∷ [])) ≡ array_of (car 2 3 0 ∷ car 1 17 9 ∷ [])
+unfolding car
+moved_at-far = refl
+
+-- an empty road stays empty
+moved_at-empty : moved_at [] [] ≡ []
+moved_at-empty = refl
+
+-- the list of the cars after motion, in order
+cars_of-moved : cars_of (moved_at (0 ∷ 2 ∷ 2 ∷ []) entered) ≡ car 48 0 0 ∷ car 16 3 2 ∷ car 0 7 2 ∷ []
+unfolding entered car
+cars_of-moved = refl
