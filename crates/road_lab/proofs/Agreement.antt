@@ -59,7 +59,7 @@ raised_same horizons n events e r true is a below within =
     let here = get_or-set_same horizons e.replica (max (slice_index horizons e.replica) e.to) 0 (omega (arith, a.each)) in
     let old = a.is r within in
     rw is (ap (slice_index (slice_set horizons e.replica (max (slice_index horizons e.replica) e.to))) (sym same) ∙ here
-        ∙ ap (λ (q : ℕ). max (slice_index horizons q) e.to) same ∙ ap (λ (h : ℕ). max h e.to) old ∙ max_turned (horizon_of r events) e.to)
+    ∙ ap (λ (q : ℕ). max (slice_index horizons q) e.to) same ∙ ap (λ (h : ℕ). max h e.to) old ∙ max_turned (horizon_of r events) e.to)
 raised_same horizons n events e r false is a below within =
     let other : e.replica ≢ r = eqb-false e.replica r is in
     let there = get_or-set_other horizons e.replica r (max (slice_index horizons e.replica) e.to) 0 (λ same. other (sym same)) in
@@ -68,8 +68,8 @@ raised_same horizons n events e r false is a below within =
 raised_are : (horizons : List ℕ) (n : ℕ) (events : List Event) (o : Option Event) → AreOf horizons n events → ((e : Event) → o ≡ Some e → e.replica < n) → AreOf (raised horizons o) n (with_event events o)
 raised_are horizons n events None a below = a
 raised_are horizons n events (Some e) a below = record {
-    each = length-set horizons e.replica (max (slice_index horizons e.replica) e.to) ∙ a.each;
-    is = λ r within. raised_same horizons n events e r (e.replica == r) refl a (below e refl) within;
+  each = length-set horizons e.replica (max (slice_index horizons e.replica) e.to) ∙ a.each;
+  is = λ r within. raised_same horizons n events e r (e.replica == r) refl a (below e refl) within;
 }
 
 advance_below : (to : ℕ) (o : Option ℕ) (n : ℕ) (b : Bool) → nat_lt GREATEST_HORIZON to ≡ b → ((r : ℕ) → o ≡ Some r → r < n) → (e : Event) → advance_event to o ≡ Some e → e.replica < n
@@ -93,12 +93,12 @@ line_agrees kept line events (Ok command) a = ap (λ (l : PlanLine). answer_by (
 pub after_agrees : (kept : Kept) (line : PlanLine) (events : List Event) (read : Result Command Refusal) → Agrees kept line events → Agrees (line_after kept read) line (after_line line events read)
 after_agrees kept line events (Err refusal) a = a
 after_agrees kept line events (Ok command) a = record {
-    line_is = a.line_is;
-    horizons = rw a.line_is (raised_are kept.horizons (length line.names) events (event_of line command) a.horizons (event_below line command));
+  line_is = a.line_is;
+  horizons = rw a.line_is (raised_are kept.horizons (length line.names) events (event_of line command) a.horizons (event_below line command));
 }
 
 pub start_agrees : (line : PlanLine) → Agrees (start line) line []
 start_agrees line = record {
-    line_is = refl;
-    horizons = record { each = length-replicate (length line.names) 0; is = λ r within. get_or-replicate (length line.names) r 0 0 within };
+  line_is = refl;
+  horizons = record { each = length-replicate (length line.names) 0; is = λ r within. get_or-replicate (length line.names) r 0 0 within };
 }

@@ -103,14 +103,14 @@ by_outcome : (n : ℕ) (d : Desk) (text l : List ℕ) (ls : List (List ℕ)) →
 by_outcome n d text l ls m few =
     let over : d.over ≡ over_of n (l ∷ ls) = m.over ∙ opened_over n l ls [] ∙ ap (λ (xs : List (List ℕ)). over_of n (l ∷ xs)) (append-nil ls) in
     record {
-        says = m.said ∙ said_written n (l ∷ ls, []);
-        well = λ still.
-            let none : over_of n (l ∷ ls) ≡ None = sym over ∙ still in
-            let gone : (outcome None n (l ∷ ls, [])).over ≡ None = sym m.over ∙ still in
-            let left = m.left gone in
-            let all = left_of n l ls [] gone in
-            (accepted n true l ls (not_bad (over_of n (l ∷ ls)) none), few_lines n l ls none, omega (arith, left, all, length-take n ls));
-        badly = λ end is. over_bad n l ls end few (sym over ∙ is);
+      says = m.said ∙ said_written n (l ∷ ls, []);
+      well = λ still.
+          let none : over_of n (l ∷ ls) ≡ None = sym over ∙ still in
+          let gone : (outcome None n (l ∷ ls, [])).over ≡ None = sym m.over ∙ still in
+          let left = m.left gone in
+          let all = left_of n l ls [] gone in
+          (accepted n true l ls (not_bad (over_of n (l ∷ ls)) none), few_lines n l ls none, omega (arith, left, all, length-take n ls));
+      badly = λ end is. over_bad n l ls end few (sym over ∙ is);
     }
 
 -- nothing has come
@@ -120,9 +120,9 @@ by_nothing n d text m =
     let none = m.serving refl in
     let over : (end_done d).over ≡ Some ends.BadPlan = ap (λ (x : Desk). x.over) e.1 ∙ ap (λ (s : Option Kept). (unopened_done s d).over) none in
     record {
-        says = ap (λ (t : List ℕ). t ++ end_said d) m.said ∙ e.0 ∙ ap unopened_said none;
-        well = λ still. absurd (cc);
-        badly = λ end is. refl;
+      says = ap (λ (t : List ℕ). t ++ end_said d) m.said ∙ e.0 ∙ ap unopened_said none;
+      well = λ still. absurd (cc);
+      badly = λ end is. refl;
     }
 
 -- all lines have ended
@@ -180,7 +180,7 @@ closes n xs still =
     let text = said (opening n) xs in
     by_pieces n d text (cut xs) (runs n xs) still
     (λ open_.
-        let one = newline_more d still open_ in
-        let fed_on : fed (opening n) (xs ++ newline ∷ []) ≡ line_done d = fed-append (opening n) xs (newline ∷ []) ∙ one.0 in
-        let said_on : said (opening n) (xs ++ newline ∷ []) ≡ text ++ line_said d = said-append (opening n) xs (newline ∷ []) ∙ ap (λ (t : List ℕ). text ++ t) one.1 in
-        meets_at n (fed (opening n) (xs ++ newline ∷ [])) (line_done d) (said (opening n) (xs ++ newline ∷ [])) (text ++ line_said d) (cut (xs ++ newline ∷ [])) ((cut xs).0 ++ (cut xs).1 ∷ [], []) fed_on said_on (cut_closed xs) (runs n (xs ++ newline ∷ [])))
+    let one = newline_more d still open_ in
+    let fed_on : fed (opening n) (xs ++ newline ∷ []) ≡ line_done d = fed-append (opening n) xs (newline ∷ []) ∙ one.0 in
+    let said_on : said (opening n) (xs ++ newline ∷ []) ≡ text ++ line_said d = said-append (opening n) xs (newline ∷ []) ∙ ap (λ (t : List ℕ). text ++ t) one.1 in
+    meets_at n (fed (opening n) (xs ++ newline ∷ [])) (line_done d) (said (opening n) (xs ++ newline ∷ [])) (text ++ line_said d) (cut (xs ++ newline ∷ [])) ((cut xs).0 ++ (cut xs).1 ∷ [], []) fed_on said_on (cut_closed xs) (runs n (xs ++ newline ∷ [])))

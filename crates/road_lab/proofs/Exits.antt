@@ -12,6 +12,7 @@ use Rattle.road_lab.specs.Answers.{written, answers_within, is_refused, is_past,
 use Rattle.road_lab.specs.Streams.{RisesByOne}
 use Rattle.road_lab.specs.Desk.{Desk, opening, fed, said, end_said, end_done}
 use Rattle.road_lab.specs.Ending.{TakesFront, Seen, seen, WritesAll, WritesFront, Ends, Reached, Finishes}
+use Rattle.road_lab.specs.Faults.{fault_of}
 use Rattle.road_lab.specs.declared.serve.Served.{Served}
 use Rattle.road_lab.specs.declared.faults.End.{End}
 use Rattle.road_lab.specs.declared.faults.End.TheVariants as ends
@@ -53,7 +54,7 @@ pub within_is : (limit n m : ℕ) (h piece : List ℕ) → length h ≤ limit �
 within_is limit n m h piece l e f =
     let room : length h + (limit - length h) ≡ limit = omega arith in
     sym (ap (λ (k : ℕ). take k (h ++ take n piece)) (sym room) ∙ take-append-add h (take n piece) (limit - length h)
-        ∙ ap (λ (x : List ℕ). h ++ x) (take_min (limit - length h) n piece ∙ ap (λ (k : ℕ). take k piece) (sym e)))
+    ∙ ap (λ (x : List ℕ). h ++ x) (take_min (limit - length h) n piece ∙ ap (λ (k : ℕ). take k piece) (sym e)))
 
 -- ---- the loop
 
@@ -64,9 +65,9 @@ reached_none g t first d is = record { reads = Appends-nil g; writes = Appends-n
 -- a further piece was read and its replies were taken
 pub reached_more : {g g1 t t1 : Option (List ℕ)} {first d : Desk} {h : List ℕ} (g2 t2 : Option (List ℕ)) (d2 : Desk) (piece : List ℕ) → Reached g g1 t t1 first d h → Appends g1 g2 piece → Appends t1 t2 (said d piece) → d2 ≡ fed d piece → Reached g g2 t t2 first d2 (h ++ piece)
 reached_more {g = g} {g1 = g1} {t = t} {t1 = t1} {first = first} {d = d} {h = h} g2 t2 d2 piece r reads writes is = record {
-    reads = Appends-trans g g1 g2 h piece r.reads reads;
-    writes = appends_same t t2 _ _ (ap (λ (e : Desk). said first h ++ said e piece) r.desk ∙ sym (said-append first h piece)) (Appends-trans t t1 t2 _ _ r.writes writes);
-    desk = is ∙ ap (λ (e : Desk). fed e piece) r.desk ∙ sym (fed-append first h piece);
+  reads = Appends-trans g g1 g2 h piece r.reads reads;
+  writes = appends_same t t2 _ _ (ap (λ (e : Desk). said first h ++ said e piece) r.desk ∙ sym (said-append first h piece)) (Appends-trans t t1 t2 _ _ r.writes writes);
+  desk = is ∙ ap (λ (e : Desk). fed e piece) r.desk ∙ sym (fed-append first h piece);
 }
 
 -- a piece that was wholly within the limit
@@ -97,9 +98,10 @@ piece_answers {d = d} lines limit n m h piece part out at_end r went l e f is sa
 -- all its replies were taken
 pub exit_all : {g g1 t t1 : Option (List ℕ)} {d : Desk} (g2 t2 : Option (List ℕ)) (lines limit n m : ℕ) (h piece part out : List ℕ) (at_end : Bool) → Reached g g1 t t1 (opening lines) d h → at_end ≡ false → length h ≤ limit → m ≡ min (limit - length h) n → n ≤ length piece → Appends g1 g2 (take n piece) → part ≡ take m piece → out ≡ said d part → Appends t1 t2 out
     → Appends g g2 (h ++ take n piece) × Appends t t2 (answers_within lines limit (h ++ take n piece) at_end)
-exit_all {g = g} {g1 = g1} {t = t} {t1 = t1} g2 t2 lines limit n m h piece part out at_end r went l e f reads is says took =
-    (Appends-trans g g1 g2 h (take n piece) r.reads reads,
-     appends_same t t2 _ _ (piece_answers lines limit n m h piece part out at_end r went l e f is says) (Appends-trans t t1 t2 _ _ r.writes took))
+exit_all {g = g} {g1 = g1} {t = t} {t1 = t1} g2 t2 lines limit n m h piece part out at_end r went l e f reads is says took = (
+  Appends-trans g g1 g2 h (take n piece) r.reads reads,
+  appends_same t t2 _ _ (piece_answers lines limit n m h piece part out at_end r went l e f is says) (Appends-trans t t1 t2 _ _ r.writes took),
+)
 
 front_is : (k : ℕ) (a b c : List ℕ) → a ++ b ≡ c → take (length a + k) c ≡ a ++ take k b
 front_is k a b c e = ap (λ (x : List ℕ). take (length a + k) x) (sym e) ∙ take-append-add a b k
@@ -108,9 +110,10 @@ front_is k a b c e = ap (λ (x : List ℕ). take (length a + k) x) (sym e) ∙ t
 pub exit_front : {g g1 t t1 : Option (List ℕ)} {d : Desk} (g2 t2 : Option (List ℕ)) (lines limit n m k : ℕ) (h piece part out : List ℕ) (at_end : Bool) → Reached g g1 t t1 (opening lines) d h → at_end ≡ false → length h ≤ limit → m ≡ min (limit - length h) n → n ≤ length piece → Appends g1 g2 (take n piece) → part ≡ take m piece → out ≡ said d part → Appends t1 t2 (take k out)
     → Appends g g2 (h ++ take n piece) × TakesFront t t2 (answers_within lines limit (h ++ take n piece) at_end)
 exit_front {g = g} {g1 = g1} {t = t} {t1 = t1} g2 t2 lines limit n m k h piece part out at_end r went l e f reads is says took =
-    let text = piece_answers lines limit n m h piece part out at_end r went l e f is says in
-    (Appends-trans g g1 g2 h (take n piece) r.reads reads,
-     (length (said (opening lines) h) + k, appends_same t t2 _ _ (sym (front_is k (said (opening lines) h) out _ text)) (Appends-trans t t1 t2 _ _ r.writes took)))
+    let text = piece_answers lines limit n m h piece part out at_end r went l e f is says in (
+      Appends-trans g g1 g2 h (take n piece) r.reads reads,
+      (length (said (opening lines) h) + k, appends_same t t2 _ _ (sym (front_is k (said (opening lines) h) out _ text)) (Appends-trans t t1 t2 _ _ r.writes took)),
+    )
 
 -- nothing of its replies was taken
 pub exit_unsaid : {g g1 t t1 : Option (List ℕ)} {d : Desk} (g2 : Option (List ℕ)) (lines limit n m : ℕ) (h piece : List ℕ) (at_end : Bool) → Reached g g1 t t1 (opening lines) d h → at_end ≡ false → length h ≤ limit → m ≡ min (limit - length h) n → n ≤ length piece → Appends g1 g2 (take n piece)
@@ -142,7 +145,7 @@ over_at : (d2 : Desk) (lines limit : ℕ) (z : List ℕ) → d2 ≡ fed (opening
 over_at d2 lines limit z is = ap (λ (x : Desk). x.over) is ∙ (runs lines (take limit z)).over
 
 -- the plan line is refused
-pub exit_bad_plan : (d2 : Desk) (lines limit : ℕ) (z : List ℕ) (at_end : Bool) → d2 ≡ fed (opening lines) (take limit z) → at_end ≡ false → d2.over ≡ Some ends.BadPlan → is_refused lines limit z at_end ≡ true
+exit_bad_plan : (d2 : Desk) (lines limit : ℕ) (z : List ℕ) (at_end : Bool) → d2 ≡ fed (opening lines) (take limit z) → at_end ≡ false → d2.over ≡ Some ends.BadPlan → is_refused lines limit z at_end ≡ true
 unfolding is_refused
 exit_bad_plan d2 lines limit z at_end is went over =
     ap (is_refused lines limit z) went ∙ refused_at lines false (cut (take limit z)) (sym (over_at d2 lines limit z is) ∙ over)
@@ -159,21 +162,32 @@ by_limit lines limit z false e more =
     rw e (ap (λ (x : List ℕ). is_more (suc lines) (lines_of x true)) (sym whole) ∙ more)
 
 -- more lines than may come
-pub exit_too_many : (d2 : Desk) (lines limit : ℕ) (z : List ℕ) (at_end : Bool) → d2 ≡ fed (opening lines) (take limit z) → at_end ≡ false → d2.over ≡ Some ends.TooMany → (is_refused lines limit z at_end ≡ false) × (is_past lines limit z ≡ true)
+exit_too_many : (d2 : Desk) (lines limit : ℕ) (z : List ℕ) (at_end : Bool) → d2 ≡ fed (opening lines) (take limit z) → at_end ≡ false → d2.over ≡ Some ends.TooMany → (is_refused lines limit z at_end ≡ false) × (is_past lines limit z ≡ true)
 unfolding is_refused
 exit_too_many d2 lines limit z at_end is went over =
-    let many : (outcome None lines (cut (take limit z))).over ≡ Some ends.TooMany = sym (over_at d2 lines limit z is) ∙ over in
-    (ap (is_refused lines limit z) went ∙ accepted_at lines (cut (take limit z)) (λ bad. cc),
-     by_limit lines limit z (nat_lt limit (length z)) refl (more_at lines (cut (take limit z)) many))
+    let many : (outcome None lines (cut (take limit z))).over ≡ Some ends.TooMany = sym (over_at d2 lines limit z is) ∙ over in (
+      ap (is_refused lines limit z) went ∙ accepted_at lines (cut (take limit z)) (λ bad. cc),
+      by_limit lines limit z (nat_lt limit (length z)) refl (more_at lines (cut (take limit z)) many),
+    )
+
+-- all was written, and the run is over
+pub exit_over : (d2 : Desk) (lines limit : ℕ) (z : List ℕ) (t t2 : Option (List ℕ)) (at_end flushed : Bool) (r0 r1 w0 w2 : ℕ) (end : End) → d2 ≡ fed (opening lines) (take limit z) → at_end ≡ false → d2.over ≡ Some end → Appends t t2 (answers_within lines limit z at_end) → flushed ≡ true
+    → Ends lines limit z (seen t t2 at_end flushed r0 r1 w0 w2) (Err (fault_of end))
+exit_over d2 lines limit z t t2 at_end flushed r0 r1 w0 w2 ends.BadPlan is went over took sent =
+    (record { written = took; flushed = sent }, exit_bad_plan d2 lines limit z at_end is went over)
+exit_over d2 lines limit z t t2 at_end flushed r0 r1 w0 w2 ends.TooMany is went over took sent =
+    let many = exit_too_many d2 lines limit z at_end is went over in
+    (record { written = took; flushed = sent }, many.0, many.1)
 
 -- more bytes than may come
 pub exit_past : (d2 : Desk) (lines limit n m : ℕ) (h piece : List ℕ) (at_end : Bool) → d2 ≡ fed (opening lines) (take limit (h ++ take n piece)) → at_end ≡ false → d2.over ≡ None → length h ≤ limit → m ≡ min (limit - length h) n → n ≤ length piece → m < n
     → (is_refused lines limit (h ++ take n piece) at_end ≡ false) × (is_past lines limit (h ++ take n piece) ≡ true)
 unfolding is_refused
 exit_past d2 lines limit n m h piece at_end is went over l e f past =
-    let none : (outcome None lines (cut (take limit (h ++ take n piece)))).over ≡ None = sym (over_at d2 lines limit (h ++ take n piece) is) ∙ over in
-    (ap (is_refused lines limit (h ++ take n piece)) went ∙ accepted_at lines (cut (take limit (h ++ take n piece))) (λ bad. cc),
-     past_bytes lines limit (h ++ take n piece) (omega (arith, length-append h (take n piece), length-take-le n piece f)))
+    let none : (outcome None lines (cut (take limit (h ++ take n piece)))).over ≡ None = sym (over_at d2 lines limit (h ++ take n piece) is) ∙ over in (
+      ap (is_refused lines limit (h ++ take n piece)) went ∙ accepted_at lines (cut (take limit (h ++ take n piece))) (λ bad. cc),
+      past_bytes lines limit (h ++ take n piece) (omega (arith, length-append h (take n piece), length-take-le n piece f)),
+    )
 
 -- ---- the end of input
 
@@ -222,12 +236,17 @@ ended_front t t1 t2 lines limit h at_end before l still a took =
 finish_at : (t t1 t2 : Option (List ℕ)) (lines limit : ℕ) (h : List ℕ) (at_end flushed : Bool) (r0 r1 w0 w1 w2 : ℕ) (result : Result Served ServeFault) → Appends t t1 (said (opening lines) h) → length h ≤ limit → (fed (opening lines) h).over ≡ None → at_end ≡ true → w1 ≡ w0
     → Finishes lines (fed (opening lines) h) t1 t2 flushed w1 w2 result → Ends lines limit h (seen t t2 at_end flushed r0 r1 w0 w2) result
 finish_at t t1 t2 lines limit h at_end flushed r0 r1 w0 w1 w2 (Ok served) before l still a w f =
-    let c = (closes lines h still).well f.2 in
-    (record { written = ended_all t t1 t2 lines limit h at_end before l still a f.0; flushed = f.1 }, a,
-     refused_ended lines limit h l ∙ c.0, past_ended lines limit h l c.1, f.3 ∙ c.2 ∙ sym (count_ended lines limit h l))
-finish_at t t1 t2 lines limit h at_end flushed r0 r1 w0 w1 w2 (Err faults.BadPlan) before l still a w f =
-    (record { written = ended_all t t1 t2 lines limit h at_end before l still a f.0; flushed = f.1 },
-     ap (is_refused lines limit h) a ∙ refused_ended lines limit h l ∙ (closes lines h still).badly f.2 f.3)
+    let c = (closes lines h still).well f.2 in (
+      record { written = ended_all t t1 t2 lines limit h at_end before l still a f.0; flushed = f.1 },
+      a,
+      refused_ended lines limit h l ∙ c.0,
+      past_ended lines limit h l c.1,
+      f.3 ∙ c.2 ∙ sym (count_ended lines limit h l),
+    )
+finish_at t t1 t2 lines limit h at_end flushed r0 r1 w0 w1 w2 (Err faults.BadPlan) before l still a w f = (
+  record { written = ended_all t t1 t2 lines limit h at_end before l still a f.0; flushed = f.1 },
+  ap (is_refused lines limit h) a ∙ refused_ended lines limit h l ∙ (closes lines h still).badly f.2 f.3,
+)
 finish_at t t1 t2 lines limit h at_end flushed r0 r1 w0 w1 w2 (Err faults.TooMany) before l still a w f = absurd f
 finish_at t t1 t2 lines limit h at_end flushed r0 r1 w0 w1 w2 (Err faults.Read) before l still a w f = absurd f
 finish_at t t1 t2 lines limit h at_end flushed r0 r1 w0 w1 w2 (Err faults.Write) before l still a w f =

@@ -7,3 +7,5 @@ pub mod Agreement
 pub mod Lines
 pub mod Closing
 pub mod Exits
+pub mod Fronts
+mod Examples

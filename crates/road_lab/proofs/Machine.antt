@@ -132,11 +132,11 @@ moved : {o : Outcome} {rest : List ℕ} (d' : Desk) (xs' : List ℕ) (d : Desk) 
 moved {rest = rest} d' xs' d xs text is says m =
     let IsHeld : Desk → Type 0 = λ e. Holds e.held e.long rest in
     record {
-        said = says ∙ ap (λ (t : List ℕ). text ++ t) m.said;
-        over = ap (λ (e : Desk). e.over) is ∙ m.over;
-        serving = λ h. ap (λ (e : Desk). e.serving) is ∙ m.serving h;
-        left = λ h. ap (λ (e : Desk). e.left) is ∙ m.left h;
-        holds = λ h. subst IsHeld (sym is) (m.holds h);
+      said = says ∙ ap (λ (t : List ℕ). text ++ t) m.said;
+      over = ap (λ (e : Desk). e.over) is ∙ m.over;
+      serving = λ h. ap (λ (e : Desk). e.serving) is ∙ m.serving h;
+      left = λ h. ap (λ (e : Desk). e.left) is ∙ m.left h;
+      holds = λ h. subst IsHeld (sym is) (m.holds h);
     }
 
 -- ---- a desk that is over says nothing more
@@ -196,11 +196,11 @@ rest_fits serving n (y ∷ r) false e clear = rw e refl
 
 none_meets : (serving : Option Kept) (n : ℕ) (r held : List ℕ) (long : Bool) → Holds held long r → IsClearIfSpent serving n r → Meets (at serving held long n) [] (resting serving n r) r
 none_meets serving n r held long h clear = record {
-    said = refl;
-    over = sym (rest_fits serving n r (is_spent serving n) refl clear);
-    serving = λ _. refl;
-    left = λ _. refl;
-    holds = λ _. h;
+  said = refl;
+  over = sym (rest_fits serving n r (is_spent serving n) refl clear);
+  serving = λ _. refl;
+  left = λ _. refl;
+  holds = λ _. h;
 }
 
 run_none : (serving : Option Kept) (n : ℕ) (r held : List ℕ) (long : Bool) → Holds held long r → IsClearIfSpent serving n r → Runs serving n (at serving held long n) [] ([], r)
@@ -223,11 +223,11 @@ run_past : (kept : Kept) (x : ℕ) (xs held : List ℕ) (long : Bool) → Runs (
 run_past kept x xs held long =
     let over = past_over kept x (cut xs) (x == newline) refl in
     record {
-        said = said_past kept held long x xs ∙ sym (past_said kept x (cut xs) (x == newline) refl);
-        over = fed_past kept held long x xs ∙ sym over;
-        serving = λ h. absurd (cc);
-        left = λ h. absurd (cc);
-        holds = λ h. absurd (cc);
+      said = said_past kept held long x xs ∙ sym (past_said kept x (cut xs) (x == newline) refl);
+      over = fed_past kept held long x xs ∙ sym over;
+      serving = λ h. absurd (cc);
+      left = λ h. absurd (cc);
+      holds = λ h. absurd (cc);
     }
 
 -- a byte of a line
@@ -235,9 +235,9 @@ run_more : (serving : Option Kept) (n x : ℕ) (xs r held : List ℕ) (long : Bo
 run_more serving n x xs r held long sp e l h ih =
     moved (at serving held long n) (x ∷ xs) (held_more (at serving held long n) x) xs [] (fed_more serving held long n x xs sp e) (said_more serving held long n x xs sp e)
     (more (λ d. Runs serving n d xs (cut (r ++ x ∷ xs))) serving n held long r x (nat_lt (length held) LONGEST_LINE) refl h
-        (λ held' long' h'.
-            let Family : Pieces → Type 0 = λ p. Runs serving n (at serving held' long' n) xs p in
-            subst Family (cut_more r xs x) (ih serving n (r ++ x ∷ []) held' long' (line_more r x l e) h' (λ t. let bad = sp in absurd (cc)))))
+    (λ held' long' h'.
+    let Family : Pieces → Type 0 = λ p. Runs serving n (at serving held' long' n) xs p in
+    subst Family (cut_more r xs x) (ih serving n (r ++ x ∷ []) held' long' (line_more r x l e) h' (λ t. let bad = sp in absurd (cc)))))
 
 no_bytes : Holds [] false []
 no_bytes = Whole refl (omega arith) refl
@@ -245,20 +245,20 @@ no_bytes = Whole refl (omega arith) refl
 -- the end of the plan line
 after_first : (read : Result PlanLine Refusal) (n : ℕ) (xs held : List ℕ) (long : Bool) → Hyp xs → Meets (fed (opened (at None held long n) read) xs) (open_said read ++ said (opened (at None held long n) read) xs) (outcome_first read n (cut xs).0 (cut xs).1) (cut xs).1
 after_first (Err refusal) n xs held long ih = record {
-    said = ap (λ (t : List ℕ). open_said (Err refusal) ++ t) (over_said None held long n ends.BadPlan xs) ∙ append-nil (open_said (Err refusal));
-    over = ap (λ (d : Desk). d.over) (over_fed None held long n ends.BadPlan xs);
-    serving = λ h. absurd (cc);
-    left = λ h. absurd (cc);
-    holds = λ h. absurd (cc);
+  said = ap (λ (t : List ℕ). open_said (Err refusal) ++ t) (over_said None held long n ends.BadPlan xs) ∙ append-nil (open_said (Err refusal));
+  over = ap (λ (d : Desk). d.over) (over_fed None held long n ends.BadPlan xs);
+  serving = λ h. absurd (cc);
+  left = λ h. absurd (cc);
+  holds = λ h. absurd (cc);
 }
 after_first (Ok line) n xs held long ih =
     let m = ih (Some (start line)) n [] [] false tt no_bytes (λ _. refl) in
     record {
-        said = ap (λ (t : List ℕ). open_said (Ok line) ++ t) m.said;
-        over = m.over;
-        serving = m.serving;
-        left = m.left;
-        holds = m.holds;
+      said = ap (λ (t : List ℕ). open_said (Ok line) ++ t) m.said;
+      over = m.over;
+      serving = m.serving;
+      left = m.left;
+      holds = m.holds;
     }
 
 run_first : (n x : ℕ) (xs r held : List ℕ) (long : Bool) → (x == newline) ≡ true → IsLine r → Holds held long r → Hyp xs → Runs None n (at None held long n) (x ∷ xs) (r ∷ (cut xs).0, (cut xs).1)
@@ -269,11 +269,11 @@ run_first n x xs r held long e l h ih =
     let says = said_line None held long n x xs refl e ∙ ap (λ (read : Result PlanLine Refusal). open_said read ++ said (opened (at None held long n) read) xs) same in
     let IsHeld : Desk → Type 0 = λ d. Holds d.held d.long (cut xs).1 in
     record {
-        said = says ∙ m.said;
-        over = ap (λ (d : Desk). d.over) is ∙ m.over;
-        serving = λ o. ap (λ (d : Desk). d.serving) is ∙ m.serving o;
-        left = λ o. ap (λ (d : Desk). d.left) is ∙ m.left o;
-        holds = λ o. subst IsHeld (sym is) (m.holds o);
+      said = says ∙ m.said;
+      over = ap (λ (d : Desk). d.over) is ∙ m.over;
+      serving = λ o. ap (λ (d : Desk). d.serving) is ∙ m.serving o;
+      left = λ o. ap (λ (d : Desk). d.left) is ∙ m.left o;
+      holds = λ o. subst IsHeld (sym is) (m.holds o);
     }
 
 -- the end of a later line
@@ -283,11 +283,11 @@ run_line kept k x xs r held long e l h ih =
     let same = held_reads command_of held long r h in
     let after = line_after kept (command_line r) in
     let is = fed_line (Some kept) held long (suc k) x xs (eqb-suc-zero k) e
-        ∙ ap (λ (read : Result Command Refusal). fed (at (Some (line_after kept read)) [] false (suc k - 1)) xs) same
-        ∙ ap (λ (m : ℕ). fed (at (Some after) [] false m) xs) less in
+    ∙ ap (λ (read : Result Command Refusal). fed (at (Some (line_after kept read)) [] false (suc k - 1)) xs) same
+    ∙ ap (λ (m : ℕ). fed (at (Some after) [] false m) xs) less in
     let says = said_line (Some kept) held long (suc k) x xs (eqb-suc-zero k) e
-        ∙ ap (λ (read : Result Command Refusal). reply (line_answer kept read) ++ said (at (Some (line_after kept read)) [] false (suc k - 1)) xs) same
-        ∙ ap (λ (m : ℕ). reply (line_answer kept (command_line r)) ++ said (at (Some after) [] false m) xs) less in
+    ∙ ap (λ (read : Result Command Refusal). reply (line_answer kept read) ++ said (at (Some (line_after kept read)) [] false (suc k - 1)) xs) same
+    ∙ ap (λ (m : ℕ). reply (line_answer kept (command_line r)) ++ said (at (Some after) [] false m) xs) less in
     moved (at (Some kept) held long (suc k)) (x ∷ xs) (at (Some after) [] false k) xs (reply (line_answer kept (command_line r))) is says (ih (Some after) k [] [] false tt no_bytes (λ _. refl))
 
 by_byte : (serving : Option Kept) (n x : ℕ) (xs r held : List ℕ) (long : Bool) (b : Bool) → (x == newline) ≡ b → IsLine r → Holds held long r → IsClearIfSpent serving n r → Hyp xs → Runs serving n (at serving held long n) (x ∷ xs) (cut (r ++ x ∷ xs))

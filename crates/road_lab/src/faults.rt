@@ -1,6 +1,7 @@
 //! How a run ends other than well.
 
 ghost use Rattle.std.specs.Prelude.{◌≡◌};
+ghost use Rattle.road_lab.specs.Faults.{fault_of};
 ghost use Rattle.road_lab.specs.declared.faults.ServeFault.TheVariants.{OutOfMemory, Read, Write};
 
 use std::alloc::{AllocError, AllocFailed};
@@ -33,6 +34,18 @@ pub enum End {
     BadPlan,
     /// A byte stood behind the last line that may come.
     TooMany,
+}
+
+impl End {
+    /// The fault of a run that ends so.
+    pub fn fault(self) -> ServeFault
+        ensures { result ≡ fault_of self }
+    {
+        match self {
+            End::BadPlan => ServeFault::BadPlan,
+            End::TooMany => ServeFault::TooMany,
+        }
+    }
 }
 
 /// A source could not be read.

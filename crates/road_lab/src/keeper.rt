@@ -64,7 +64,12 @@ impl Keeper {
         let horizons = vec![in alloc; 0u32; names.len()]?;
         let states = opening_states(alloc, names.len())?;
         let simulation = Simulation::of(alloc, line.plan)?;
-        Ok(Keeper { simulation, names, horizons, states })
+        Ok(Keeper {
+            simulation,
+            names,
+            horizons,
+            states,
+        })
     }
 
     /// What a command answers. A refused command changes nothing.

@@ -62,8 +62,7 @@ impl<'a> Source for MemorySource<'a> {
 /// all later ones fail.
 #[derive(Drop)]
 pub struct MemorySink {
-    /// The bytes that were taken.
-    pub bytes: Vec<u8>,
+    bytes: Vec<u8>,
     room: usize,
     flushes: u64,
     flushed: bool,
@@ -80,6 +79,11 @@ impl MemorySink {
             flushed: false,
             failures: 0,
         }
+    }
+
+    /// The bytes that were taken, and those from which the sink went on.
+    pub fn bytes(&self) -> &[u8] {
+        self.bytes.as_slice()
     }
 }
 

@@ -8,7 +8,7 @@ ghost use Rattle.road_lab.specs.Ending.{Ends, Finishes, TakesFront, seen};
 ghost use Rattle.road_lab.specs.Views.{desk_view};
 
 use crate::desk::Desk;
-use crate::faults::{End, ServeFault, WriteFailed};
+use crate::faults::{ServeFault, WriteFailed};
 use crate::streams::{Sink, Source};
 use road_plan::limits::{MOST_BYTES, MOST_LINES};
 use std::alloc::Global;
@@ -64,8 +64,7 @@ pub fn serve_within<R: Source, W: Sink>(
         send(writer, out.as_slice())?;
         out.clear();
         match desk.over {
-            Some(End::BadPlan) => return Err(ServeFault::BadPlan),
-            Some(End::TooMany) => return Err(ServeFault::TooMany),
+            Some(end) => return Err(end.fault()),
             None => {}
         }
         if within < n {

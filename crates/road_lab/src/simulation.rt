@@ -6,6 +6,7 @@ ghost use Rattle.road_ends.specs.Row.{row};
 ghost use Rattle.road_lab.specs.Simulation.{own_run};
 
 use road_cells::Road;
+use road_ends::laws::cars_stay_on_road;
 use road_ends::{row_text, stepped};
 use road_plan::{OutOfMemory, Plan, Settings};
 use std::alloc::Global;
@@ -85,6 +86,7 @@ impl Simulation {
         requires { state.now.road ≡ own_run self.now state.now.step }
         ensures { IfOk result (λ text. string_bytes text ≡ row self.now (λ t. defaults self.now) state.now.step) }
     {
+        cars_stay_on_road(&self.plan);
         row_text(
             alloc,
             self.plan.length(),
