@@ -1,0 +1,47 @@
+//! The program `road_lab`: it reads a plan line and then commands, one JSON object a line, and writes a reply for each.
+#![tactic(auto)]
+
+mod desk;
+mod faults;
+mod keeper;
+mod laws;
+mod memory;
+mod names;
+mod run;
+mod serve;
+mod simulation;
+mod std_streams;
+mod streams;
+#[cfg(test)]
+mod tests;
+
+use crate::run::{Ended, run};
+use crate::std_streams::{StdSink, StdSource};
+use std::process::ExitCode;
+use std::{env, io};
+
+// The words after the program's name.
+fn words(rt: &HostRuntime) -> io::Result<Vec<String>> {
+    let mut words = Vec::new(rt.alloc());
+    for word in env::args(rt)?.skip(1) {
+        words.push(word)?;
+    }
+    Ok(words)
+}
+
+fn main(rt: HostRuntime) -> ExitCode {
+    let ended = match words(&rt) {
+        Ok(words) => {
+            let mut reader = StdSource::new(rt.stdin());
+            let mut writer = StdSink::new(rt.stdout());
+            run(rt.alloc(), &words, &mut reader, &mut writer)
+        }
+        Err(fault) if fault.kind() == io::ErrorKind::OutOfMemory => Ended::no_memory(),
+        // A word that is no UTF-8 is none that the program takes.
+        Err(_) => Ended::bad_arguments(),
+    };
+    if let Some(line) = ended.line {
+        let _ = eprintln!(&rt; "{line}");
+    }
+    ExitCode::from(ended.status)
+}

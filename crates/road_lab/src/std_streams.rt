@@ -1,0 +1,100 @@
+//! Readers and writers of std as a source and a sink.
+
+ghost use Rattle.std.specs.Prelude.{None};
+
+use crate::faults::{ReadFailed, WriteFailed};
+use crate::streams::{Sink, Source};
+use std::io;
+
+/// A reader of std as a source. It keeps none of the bytes that it gave, so it says nothing of them.
+#[derive(Drop)]
+pub struct StdSource<R: io::Read + Drop> {
+    reader: R,
+    at_end: bool,
+    failures: u64,
+}
+
+impl<R: io::Read + Drop> StdSource<R> {
+    /// The source that reads from this reader.
+    pub fn new(reader: R) -> StdSource<R> {
+        StdSource {
+            reader,
+            at_end: false,
+            failures: 0,
+        }
+    }
+}
+
+impl<R: io::Read + Drop> Source for StdSource<R> {
+    ghost given = { λ source. None };
+
+    ghost at_end = { λ source. source.at_end };
+
+    ghost failures = { λ source. source.failures };
+
+    fn read(&mut self, piece: &mut [u8]) -> Result<usize, ReadFailed> {
+        match self.reader.read(piece) {
+            Ok(count) => {
+                self.at_end = count == 0;
+                Ok(count)
+            }
+            Err(_) => {
+                self.at_end = false;
+                self.failures = self.failures.saturating_add(1);
+                Err(ReadFailed)
+            }
+        }
+    }
+}
+
+/// A writer of std as a sink. It keeps none of the bytes that it took, so it says nothing of them.
+#[derive(Drop)]
+pub struct StdSink<W: io::Write + Drop> {
+    writer: W,
+    flushed: bool,
+    failures: u64,
+}
+
+impl<W: io::Write + Drop> StdSink<W> {
+    /// The sink that writes to this writer.
+    pub fn new(writer: W) -> StdSink<W> {
+        StdSink {
+            writer,
+            flushed: false,
+            failures: 0,
+        }
+    }
+}
+
+impl<W: io::Write + Drop> Sink for StdSink<W> {
+    ghost taken = { λ sink. None };
+
+    ghost flushed = { λ sink. sink.flushed };
+
+    ghost failures = { λ sink. sink.failures };
+
+    fn write(&mut self, piece: &[u8]) -> Result<usize, WriteFailed> {
+        self.flushed = false;
+        match self.writer.write(piece) {
+            Ok(count) if count > 0 => Ok(count),
+            _ => {
+                self.failures = self.failures.saturating_add(1);
+                Err(WriteFailed)
+            }
+        }
+    }
+
+    fn flush(&mut self) -> Result<(), WriteFailed> {
+        match self.writer.flush() {
+            Ok(()) => {
+                self.flushed = true;
+                Ok(())
+            }
+            Err(_) => {
+                self.flushed = false;
+                self.failures = self.failures.saturating_add(1);
+                Err(WriteFailed)
+            }
+        }
+    }
+}
