@@ -1,5 +1,5 @@
 -- A car stays behind the next taken cell.
-use Rattle.std.specs.Prelude.{◌≡◌, ℕ, suc, ◌+◌, ◌-◌, ◌<◌, ◌≤◌, ◌&&◌, ◌||◌, min, Bool, true, false, List, [], ◌∷◌, length, is_some, nat_eq, nat_lt, slice_index, refl}
+use Rattle.std.specs.Prelude.{◌≡◌, ℕ, suc, ◌+◌, ◌-◌, ◌<◌, ◌≤◌, ◌&&◌, ◌||◌, Bool, true, false, List, [], ◌∷◌, length, is_some, nat_eq, slice_index, refl}
 use Rattle.std.specs.List.{All}
 use Rattle.std.specs.declared.option.Option.{Option}
 use Rattle.std.specs.declared.option.Option.TheVariants.{None, Some}
@@ -7,7 +7,7 @@ use Rattle.std.proofs.Common.{sym, ap, ◌∙◌, inl, inr, arith}
 use Rattle.std.proofs.lemmas.Bool.{lt-ltb, cases_lt}
 use Rattle.std.proofs.lemmas.Bool.Decides.{nat_tests}
 use Rattle.road_plan.specs.Plan.{Plan, zone_of}
-use Rattle.road_plan.specs.Settings.{Settings, Fits}
+use Rattle.road_plan.specs.Settings.{Settings}
 use Rattle.road_cells.specs.Array.{Array, Vehicle, vehicle_at, array}
 use Rattle.road_cells.specs.ArrayLaws.{past_array}
 use Rattle.road_cells.specs.Gap.{is_blocked}
@@ -15,8 +15,8 @@ use Rattle.road_cells.specs.GapLaws.{free_before-le, free_before-most}
 use Rattle.road_cells.specs.declared.car.TheConstants.{GREATEST_SPEED}
 use Rattle.road_rules.specs.Speeds.{wanted, slowed}
 use Rattle.road_ends.specs.Speed.{is_taken, gap, speed, is_slowed}
-use Rattle.road_ends.specs.Run.{Course, run, moving}
-use Rattle.road_ends.specs.Laws.{target, NeverCollide, ArriveAlone, KeepOrder, StopAtBlocks}
+use Rattle.road_ends.specs.Run.{moving}
+use Rattle.road_ends.specs.Laws.{NeverCollide, ArriveAlone, KeepOrder, StopAtBlocks}
 
 slowed-le : (v : ℕ) (event : Bool) → slowed v event ≤ v
 slowed-le v true = omega arith

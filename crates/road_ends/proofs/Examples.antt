@@ -1,11 +1,10 @@
 -- Worked examples, computed from the definitions: a wrong definition does not check. The words are the steady ones;
 -- where each chance is 0 or certain they do not matter.
-use Rattle.std.specs.Prelude.{◌≡◌, ℕ, true, cond, if◌then◌else◌, List, [], ◌∷◌, nat_lt, codes, refl}
+use Rattle.std.specs.Prelude.{◌≡◌, ℕ, if◌then◌else◌, List, [], ◌∷◌, nat_lt, codes, refl}
 use Rattle.std.specs.declared.option.Option.TheVariants.{None, Some}
 use Rattle.road_plan.specs.Plan.{Plan}
-use Rattle.road_plan.specs.Settings.{Settings, defaults}
+use Rattle.road_plan.specs.Settings.{defaults}
 use Rattle.road_plan.specs.declared.parts.WordKind.TheVariants.{Steady}
-use Rattle.road_cells.specs.Array.{Vehicle}
 use Rattle.road_cells.specs.Gap.{free_before}
 use Rattle.road_ends.specs.Run.{Course, run}
 use Rattle.road_ends.specs.Row.{row}

@@ -1,5 +1,5 @@
 -- A run depends on the settings before it alone.
-use Rattle.std.specs.Prelude.{◌≡◌, ℕ, zero, suc, ◌<◌, ◌≤◌, refl}
+use Rattle.std.specs.Prelude.{◌≡◌, ℕ, zero, suc, ◌<◌, refl}
 use Rattle.std.proofs.Common.{arith}
 use Rattle.road_plan.specs.Plan.{Plan}
 use Rattle.road_ends.specs.Run.{Course, run, stepped}

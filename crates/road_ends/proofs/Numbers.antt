@@ -1,15 +1,14 @@
 -- Cars stay on the road, and their numbers are their own.
-use Rattle.std.specs.Prelude.{◌≡◌, ℕ, zero, suc, ◌+◌, ◌*◌, ◌<◌, ◌≤◌, ◌⊎◌, true, length, nat_eq, refl}
+use Rattle.std.specs.Prelude.{◌≡◌, ℕ, zero, suc, ◌+◌, ◌*◌, ◌<◌, ◌≤◌, ◌⊎◌, true, nat_eq, refl}
 use Rattle.std.specs.List.{slice_index_or}
 use Rattle.std.specs.declared.option.Option.TheVariants.{None, Some}
 use Rattle.std.proofs.Common.{sym, ap, ◌∙◌, inl, inr, arith}
 use Rattle.std.proofs.lemmas.Bool.Decides.{nat_tests}
 use Rattle.road_plan.specs.Plan.{Plan, road_end, IsWithinLimits}
 use Rattle.road_plan.specs.declared.limits.TheConstants.{MOST_INLETS}
-use Rattle.road_cells.specs.Array.{Array, Vehicle, vehicle_at}
+use Rattle.road_cells.specs.Array.{Vehicle, vehicle_at}
 use Rattle.road_cells.specs.ArrayLaws.{vehicle_at-array}
 use Rattle.road_rules.specs.Motion.{arriving}
-use Rattle.road_ends.specs.Entries.{car_number}
 use Rattle.road_ends.specs.Speed.{speed}
 use Rattle.road_ends.specs.Run.{Course, run, moving}
 use Rattle.road_ends.specs.Laws.{IsOnRoad, StayOnRoad, HaveOwnNumbers}
@@ -73,8 +72,8 @@ module _ (p : Plan) (limits : IsWithinLimits p) (course : Course) where
       let right = moved_from t d y there in
       let numbers : left.earlier.number ≡ right.earlier.number = sym left.same_number ∙ same ∙ right.same_number in
       let cell : left.cell ≡ right.cell = apart_after_entries t left.cell right.cell left.earlier right.earlier (own t)
-          (stood_or_entered p (course t) t (run p course t) left.cell left.earlier left.stood)
-          (stood_or_entered p (course t) t (run p course t) right.cell right.earlier right.stood) numbers in
+      (stood_or_entered p (course t) t (run p course t) left.cell left.earlier left.stood)
+      (stood_or_entered p (course t) t (run p course t) right.cell right.earlier right.stood) numbers in
       let who : Some left.earlier ≡ Some right.earlier = sym left.stood ∙ ap (vehicle_at (moving p course t)) cell ∙ right.stood in
       let car : left.earlier ≡ right.earlier = cc in
       sym left.reached ∙ (λ i. cell i + speed p (course t) t (moving p course t) (cell i) (car i)) ∙ right.reached

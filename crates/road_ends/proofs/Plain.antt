@@ -1,6 +1,6 @@
 -- What the plain program computes.
-use Rattle.std.specs.Prelude.{◌≡◌, ℕ, zero, suc, ◌+◌, ◌-◌, ◌*◌, ◌/◌, ◌<◌, ◌≤◌, ◌&&◌, ◌||◌, Bool, true, false, cond, List, [], ◌∷◌, ◌++◌, length, map, drop, take, is_some, nat_eq, nat_lt, slice_index, refl}
-use Rattle.std.specs.List.{All, slice_index_or}
+use Rattle.std.specs.Prelude.{◌≡◌, ℕ, zero, suc, ◌+◌, ◌-◌, ◌*◌, ◌/◌, ◌<◌, ◌≤◌, ◌&&◌, ◌||◌, true, false, cond, List, [], ◌∷◌, ◌++◌, length, map, take, is_some, nat_eq, nat_lt, slice_index, refl}
+use Rattle.std.specs.List.{slice_index_or}
 use Rattle.std.specs.List.Sorted.{IsStrictlyIncreasing, IsNonDecreasing, IsPartitionedBy, IsPartitionPoint}
 use Rattle.std.specs.Option.{option_map}
 use Rattle.std.specs.declared.option.Option.{Option}
@@ -11,12 +11,12 @@ use Rattle.std.proofs.Math.Seq.{take-suc}
 use Rattle.std.proofs.lemmas.Bool.{lt-ltb, cases_lt}
 use Rattle.std.proofs.lemmas.Bool.Decides.{nat_tests}
 use Rattle.std.proofs.lemmas.List.{get_or_default, get_or-map}
-use Rattle.road_plan.specs.Plan.{Plan, zone_of, road_end, IsWithinLimits}
+use Rattle.road_plan.specs.Plan.{Plan, road_end, IsWithinLimits}
 use Rattle.road_plan.specs.Settings.{Settings, Fits}
 use Rattle.road_cells.specs.Array.{Array, Vehicle, vehicle_at, array, numbers}
 use Rattle.road_cells.specs.ArrayLaws.{past_end, vehicle_at-array, past_array, array-same, array-agree}
 use Rattle.road_cells.specs.Cars.{cars_of, cars_from, car_of, vehicle_of, cell_at, Rise, RiseFrom, array_of, standing, end_of}
-use Rattle.road_cells.specs.CarsLaws.{rise-cars_from, standing-cars_from, standing-below, vehicle_at-array_of, standing-past, array_of-cars_from}
+use Rattle.road_cells.specs.CarsLaws.{rise-cars_from, standing-cars_from, standing-below, vehicle_at-array_of, standing-past}
 use Rattle.road_cells.specs.CarsPlaces.{rise-at, standing-at}
 use Rattle.road_cells.specs.Gap as cells
 use Rattle.road_cells.specs.Gap.{is_blocked, free_before, free_cells}
@@ -69,6 +69,7 @@ taken-on_road p s a k fits long = elim (cases_lt k p.cells) as (λ _. cells.is_t
   where
     not_lt : (m n : ℕ) → n ≤ m → nat_lt m n ≡ false
     not_lt m n le = grind (arith, nat_tests)
+
     not_blocked : p.cells ≤ k → is_blocked s.blocks k ≡ false
     not_blocked past = elim (is_blocked s.blocks k) as (λ b. is_blocked s.blocks k ≡ b → is_blocked s.blocks k ≡ false) [
       | true ↦ λ blocked. let below = blocked-below s.blocks p.cells k fits.blocks_on_road blocked in absurd (omega arith)
@@ -96,14 +97,16 @@ may_move p s t a long = record {
       let on = cell_at-end 0 a (k + 1) (omega arith) in
       let order = rise-at 0 (cars_of a) k (k + 1) (rise-cars_from 0 a) (omega arith) (omega arith) in
       let free = cars-apart p s t a (cell_at (cars_of a) k) (cell_at (cars_of a) (k + 1)) (vehicle_of (nth_car (cars_of a) k)) (vehicle_of (nth_car (cars_of a) (k + 1))) long (omega arith)
-          (stands ∙ ap (λ c. standing c (cars_of a)) zero_on ∙ there) order in
+      (stands ∙ ap (λ c. standing c (cars_of a)) zero_on ∙ there) order in
       omega arith;
 }
   where
     nobody : Car
     nobody = record { number = 0; cell = 0; speed = 0 }
+
     new : Car → ℕ
     new car = speed p s t a car.cell (vehicle_of car)
+
     one_each : (cars : List Car) → length (map (λ car. speed p s t a car.cell (vehicle_of car)) cars) ≡ length cars
     one_each [] = refl
     one_each (car ∷ cars) = ap suc (one_each cars)
@@ -218,5 +221,5 @@ left-take p a cars n all rise point =
     (λ k lt below. let test : nat_lt (cell_at cars k) (road_end p) ≡ true = point.0 k (car_of 0 (record { number = 0; speed = 0 })) (omega arith) lt in grind (arith, nat_tests))
     (λ k le below. let test : nat_lt (cell_at cars k) (road_end p) ≡ false = point.1 k (car_of 0 (record { number = 0; speed = 0 })) le below in grind (arith, nat_tests))
     ∙ array-agree (road_end p) (vehicle_at (array_of cars)) (vehicle_at a) (λ j below.
-        let here : j ≡ 0 + j = omega arith in
-        vehicle_at-array_of cars j ∙ ap (standing j) all ∙ ap (λ c. standing c (cars_of a)) here ∙ standing-cars_from 0 j a)
+    let here : j ≡ 0 + j = omega arith in
+    vehicle_at-array_of cars j ∙ ap (standing j) all ∙ ap (λ c. standing c (cars_of a)) here ∙ standing-cars_from 0 j a)

@@ -2,9 +2,9 @@
 use Rattle.std.specs.Prelude.{◌≡◌, ℕ, ◌+◌, ◌*◌, ◌<◌, ◌≤◌, true}
 use Rattle.std.specs.declared.option.Option.TheVariants.{Some}
 use Rattle.road_plan.specs.Plan.{Plan, road_end}
-use Rattle.road_plan.specs.Settings.{Settings, Fits}
+use Rattle.road_plan.specs.Settings.{Fits}
 use Rattle.road_plan.specs.declared.limits.TheConstants.{MOST_INLETS}
-use Rattle.road_cells.specs.Array.{Array, Vehicle, vehicle_at}
+use Rattle.road_cells.specs.Array.{Vehicle, vehicle_at}
 use Rattle.road_cells.specs.Gap.{is_blocked}
 use Rattle.road_cells.specs.declared.car.TheConstants.{GREATEST_SPEED}
 use Rattle.road_ends.specs.Speed.{speed}

@@ -1,5 +1,5 @@
 -- One step of the road, and the run.
-use Rattle.std.specs.Prelude.{ℕ, zero, suc, List, []}
+use Rattle.std.specs.Prelude.{ℕ, zero, suc, []}
 use Rattle.road_plan.specs.Plan.{Plan, road_end}
 use Rattle.road_plan.specs.Settings.{Settings}
 use Rattle.road_cells.specs.Array.{Array, vehicle_at, array}

@@ -31,7 +31,11 @@ pub fn speed(plan: &Plan, settings: &Settings, step: u32, road: &Road, place: us
     plan.limits();
     let car = road.cars()[place];
     let zone = (car.cell / plan.width()) as usize;
-    let wished = wanted(car.speed, settings.limits()[zone], gap(plan, settings, road, place));
+    let wished = wanted(
+        car.speed,
+        settings.limits()[zone],
+        gap(plan, settings, road, place),
+    );
     let word = PlanWords::of(plan).word(car.number, u64::from(step));
     slowed(wished, word, settings.chances()[zone])
 }

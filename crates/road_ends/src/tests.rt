@@ -150,7 +150,14 @@ fn numbers_cars_by_step_and_inlet(rt: HostRuntime) -> Result<(), Fail> {
     let cars = [(80, 0, 0), (48, 3, 2), (16, 7, 2)];
     assert_eq!(rt; road.cars().len(), cars.len());
     for (car, (number, cell, speed)) in road.cars().iter().zip(cars) {
-        assert_eq!(rt; *car, Car { number, cell, speed });
+        assert_eq!(rt;
+            *car,
+            Car {
+                number,
+                cell,
+                speed
+            }
+        );
     }
     Ok(())
 }

@@ -60,6 +60,5 @@ impl Object {
     /// That objects are ordered by their kinds, then by their indexes. It is a fact for proofs: the call does nothing.
     pub fn are_ordered(self, other: Object)
         ensures { ⟦<Object as Ord>⟧.cmp self other ≡ objects.by_kind_and_index self other }
-    {
-    }
+    {}
 }

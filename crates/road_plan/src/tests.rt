@@ -268,7 +268,12 @@ fn allows_the_values_of_each_kind(rt: HostRuntime) {
         (Object::Watch(0), 1),
     ];
     for (object, greatest) in table {
-        for (value, allowed) in [(0, true), (greatest, true), (greatest + 1, false), (u32::MAX, false)] {
+        for (value, allowed) in [
+            (0, true),
+            (greatest, true),
+            (greatest + 1, false),
+            (u32::MAX, false),
+        ] {
             assert_eq!(rt; object.allows(value), allowed, "{object:?} {value}");
         }
     }

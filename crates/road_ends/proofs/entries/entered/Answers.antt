@@ -1,7 +1,7 @@
-use Rattle.std.proofs.Common.{ℕ, Vec, Global, ◌+◌, ◌≡◌, ◌∙◌, ◌++◌, ◌<◌, ◌≤◌, sym, ap, subst, arith, map, [], List}
+use Rattle.std.proofs.Common.{ℕ, Vec, Global, ◌+◌, ◌∙◌, ◌++◌, ◌<◌, ◌≤◌, sym, ap, subst, arith, map}
 use Rattle.std.specs.Option.{option_or}
-use Rattle.road_cells.specs.Array.{vehicle_at, numbers, array}
-use Rattle.road_cells.specs.Cars.{cars_from, array_of, Rise}
+use Rattle.road_cells.specs.Array.{vehicle_at, numbers}
+use Rattle.road_cells.specs.Cars.{array_of, Rise}
 use Rattle.road_cells.specs.CarsLaws.{rise-cars_from, array_of-cars_from}
 use Rattle.road_cells.specs.declared.car.Car.{Car}
 use Rattle.road_ends.specs.Entries.{entering}

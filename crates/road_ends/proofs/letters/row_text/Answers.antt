@@ -1,4 +1,4 @@
-use Rattle.std.proofs.Common.{ℕ, zero, suc, ◌≡◌, ◌+◌, ◌<◌, ◌++◌, ◌∙◌, List, [], ◌∷◌, sym, ap, arith, map, refl}
+use Rattle.std.proofs.Common.{ℕ, zero, suc, ◌≡◌, ◌+◌, ◌<◌, ◌++◌, ◌∙◌, [], ◌∷◌, sym, ap, arith, map}
 use Rattle.road_cells.specs.Array.{vehicle_at, numbers}
 use Rattle.road_cells.specs.Gap.{is_blocked}
 use Rattle.road_ends.specs.Row.{letter}

@@ -1,5 +1,4 @@
-use Rattle.std.proofs.Common.{◌∙◌, sym, ap}
-use Rattle.std.specs.List.Sorted.{IsNonDecreasing}
+use Rattle.std.proofs.Common.{◌∙◌, ap}
 use Rattle.road_cells.specs.Cars.{cars_of, cell_at}
 use Rattle.road_cells.specs.Gap.{free_cells}
 use Rattle.road_ends.proofs.Plain.{not_falling, gap-free_cells}

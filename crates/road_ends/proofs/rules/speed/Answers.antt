@@ -1,7 +1,4 @@
-use Rattle.std.proofs.Common.{◌≡◌, ◌+◌, ◌-◌, ◌/◌, ◌<◌, ◌∙◌, sym, ap, subst, arith, length}
-use Rattle.road_cells.specs.Array.{Array}
-use Rattle.road_cells.specs.Cars.{cars_of, cell_at}
-use Rattle.road_plan.specs.Plan.{Plan, IsWithinLimits}
+use Rattle.std.proofs.Common.{arith}
 use Rattle.road_ends.proofs.Plain.{zone_in_plan}
 use Rattle.road_ends.proofs.rules.speed.Goals as goal
 

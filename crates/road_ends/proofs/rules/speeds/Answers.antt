@@ -1,5 +1,4 @@
-use Rattle.std.proofs.Common.{◌<◌, subst, ap, length, ◌∙◌}
-use Rattle.road_cells.specs.Cars.{cars_of}
+use Rattle.std.proofs.Common.{◌<◌, subst, length}
 use Rattle.road_ends.proofs.Plain.{one_speed_more}
 use Rattle.road_ends.proofs.rules.speeds.Goals as goal
 

@@ -3,7 +3,6 @@ use Rattle.std.specs.List.Sorted.{IsPartitionPoint, IsPartitionedBy}
 use Rattle.std.proofs.lemmas.Fn.{always_returns_same}
 use Rattle.road_plan.specs.Plan.{road_end}
 use Rattle.road_cells.specs.Cars.{Rise, array_of}
-use Rattle.road_cells.specs.declared.car.Car.{Car}
 use Rattle.road_ends.proofs.Plain.{rise-take, left-take, cars_parted}
 use Rattle.road_ends.proofs.step.leave.Goals as goal
 
@@ -15,6 +14,6 @@ returns c =
     let end = road_end c.args.plan.now in
     let cars = c.into_cars-cars.result.items in
     let point = c.partition_point-staying.ensures.partitioned (λ car. nat_lt car.cell end) (always_returns_same _ _ _ (λ a r f k. search (rules, of_calls)))
-        (subst (IsPartitionedBy (λ car. nat_lt car.cell end)) (sym c.deref.ensures.value) (cars_parted cars end c.into_cars-cars.ensures.rise)) in
+    (subst (IsPartitionedBy (λ car. nat_lt car.cell end)) (sym c.deref.ensures.value) (cars_parted cars end c.into_cars-cars.ensures.rise)) in
     let here = subst (λ cars. IsPartitionPoint (λ car. nat_lt car.cell end ≡ true) (λ car. nat_lt car.cell end ≡ false) cars c.partition_point-staying.result) c.deref.ensures.value point in
     c.of.ensures.road ∙ ap array_of c.truncate.ensures.items ∙ left-take c.args.plan.now c.args.road cars c.partition_point-staying.result c.into_cars-cars.ensures.all c.into_cars-cars.ensures.rise here

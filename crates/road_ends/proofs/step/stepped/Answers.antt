@@ -1,4 +1,4 @@
-use Rattle.std.proofs.Common.{◌+◌, ◌≤◌, sym, subst, length}
+use Rattle.std.proofs.Common.{◌≤◌, sym, subst, length}
 use Rattle.std.specs.Option.{option_or}
 use Rattle.road_cells.specs.Array.{vehicle_at}
 use Rattle.road_cells.specs.ArrayLaws.{length-array}
