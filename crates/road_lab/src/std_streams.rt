@@ -1,6 +1,6 @@
 //! Readers and writers of std as a source and a sink.
 
-ghost use Rattle.std.specs.Prelude.{None};
+ghost use Rattle.std.specs.Prelude.{◌≡◌, None};
 
 use crate::faults::{ReadFailed, WriteFailed};
 use crate::streams::{Sink, Source};
@@ -16,7 +16,9 @@ pub struct StdSource<R: io::Read + Drop> {
 
 impl<R: io::Read + Drop> StdSource<R> {
     /// The source that reads from this reader.
-    pub fn new(reader: R) -> StdSource<R> {
+    pub fn new(reader: R) -> StdSource<R>
+        ensures { ⟦<StdSource<R> as Source>⟧.failures result ≡ 0 }
+    {
         StdSource {
             reader,
             at_end: false,
@@ -57,7 +59,9 @@ pub struct StdSink<W: io::Write + Drop> {
 
 impl<W: io::Write + Drop> StdSink<W> {
     /// The sink that writes to this writer.
-    pub fn new(writer: W) -> StdSink<W> {
+    pub fn new(writer: W) -> StdSink<W>
+        ensures { ⟦<StdSink<W> as Sink>⟧.failures result ≡ 0 }
+    {
         StdSink {
             writer,
             flushed: false,
