@@ -49,7 +49,7 @@ impl<R: io::Read + Drop> Source for StdSource<R> {
     }
 }
 
-/// A writer of std as a sink. It keeps none of the bytes that it took, so it says nothing of them.
+/// A writer of std as a sink. What it has taken is what the writer holds, where the writer knows that.
 #[derive(Drop)]
 pub struct StdSink<W: io::Write + Drop> {
     writer: W,
@@ -60,7 +60,8 @@ pub struct StdSink<W: io::Write + Drop> {
 impl<W: io::Write + Drop> StdSink<W> {
     /// The sink that writes to this writer.
     pub fn new(writer: W) -> StdSink<W>
-        ensures { ⟦<StdSink<W> as Sink>⟧.failures result ≡ 0 }
+        ensures taken { ⟦<StdSink<W> as Sink>⟧.taken result ≡ W.contents writer }
+        ensures failures { ⟦<StdSink<W> as Sink>⟧.failures result ≡ 0 }
     {
         StdSink {
             writer,
@@ -71,7 +72,7 @@ impl<W: io::Write + Drop> StdSink<W> {
 }
 
 impl<W: io::Write + Drop> Sink for StdSink<W> {
-    ghost taken = { λ sink. None };
+    ghost taken = { λ sink. W.contents sink.writer };
 
     ghost flushed = { λ sink. sink.flushed };
 
