@@ -1,13 +1,11 @@
 -- The names of an accepted plan line.
-use Rattle.std.proofs.Common.{◌≡◌, ◌≤◌, ℕ, List, Bool, true, false, ◌&&◌, length, Option, Some, None, Result, Ok, Err, refl, ap, sym, subst, ◌∙◌, arith}
-use Rattle.std.specs.Prelude.{nat_le, nat_lt, if◌then◌else◌}
-use Rattle.std.specs.List.{list_all}
+use Rattle.std.proofs.Common.{◌≡◌, ◌≤◌, ℕ, List, Bool, true, false, ◌&&◌, length, Option, Some, None, Ok, Err, refl, arith}
+use Rattle.std.specs.Prelude.{if◌then◌else◌}
 use Rattle.std.proofs.lemmas.Bool.{leb-true}
 use Rattle.serde_json.specs.Data.{Data}
 use Rattle.road_plan.specs.declared.limits.TheConstants.{MOST_REPLICAS}
-use Rattle.road_format.specs.Fields.{is_name}
 use Rattle.road_format.specs.Reading.{value_of}
-use Rattle.road_format.specs.PlanGrammar.{PlanLine, plan_line_of, plan_line_from, or_not_a_plan, plan_line_in, with_names, with_plan, unless_refused, are_names, all_differ}
+use Rattle.road_format.specs.PlanGrammar.{PlanLine, plan_line_of, plan_line_from, or_not_a_plan, plan_line_in, with_plan, unless_refused, are_names, all_differ}
 use Rattle.std.specs.Prelude.{string_bytes, vec_len}
 use Rattle.std.proofs.lemmas.List.{length-map}
 use Rattle.road_format.specs.Views.{plan_line_view}

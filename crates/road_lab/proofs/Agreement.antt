@@ -1,7 +1,6 @@
 -- The horizons that are kept are those of the events.
-use Rattle.std.proofs.Common.{◌≡◌, ◌≢◌, ◌<◌, ◌==◌, ◌+◌, ℕ, List, [], ◌∷◌, length, Bool, true, false, max, Option, Some, None, Result, Ok, Err, refl, ap, sym, ◌∙◌, arith}
-use Rattle.std.specs.Prelude.{slice_index, slice_set, nat_lt, replicate, if◌then◌else◌}
-use Rattle.std.specs.List.{position}
+use Rattle.std.proofs.Common.{◌≡◌, ◌≢◌, ◌<◌, ◌==◌, ℕ, List, [], length, Bool, true, false, max, Option, Some, None, Result, Ok, Err, refl, ap, sym, ◌∙◌, arith}
+use Rattle.std.specs.Prelude.{slice_index, slice_set, nat_lt}
 use Rattle.std.specs.Str.{bytes_eq}
 use Rattle.std.proofs.lemmas.List.{get_or-set_same, get_or-set_other, get_or-replicate, length-set, length-replicate}
 use Rattle.std.proofs.lemmas.List.Quantifiers.{position-Some}
@@ -9,11 +8,10 @@ use Rattle.std.proofs.lemmas.Bool.{eqb-true, eqb-false}
 use Rattle.road_plan.specs.declared.limits.TheConstants.{GREATEST_HORIZON}
 use Rattle.road_format.specs.CommandGrammar.{Command, Advance, Cells}
 use Rattle.road_format.specs.PlanGrammar.{PlanLine}
-use Rattle.road_format.specs.Replies.{Refused}
 use Rattle.road_format.specs.declared.refusal.Refusal.{Refusal}
 use Rattle.road_lab.specs.Laboratory.{Event, reach, horizon_of, replica_of, advance_event, event_of, advance_answer, cells_answer, answer_by, answer_to, with_event}
 use Rattle.road_lab.specs.Answers.{answer_of, after_line}
-use Rattle.road_lab.specs.Kept.{Kept, start, raised, kept_answer, line_answer, line_after}
+use Rattle.road_lab.specs.Kept.{Kept, start, raised, line_answer, line_after}
 
 -- the horizons of n replicas are those of these events
 pub record AreOf (horizons : List ℕ) (n : ℕ) (events : List Event) : Type 0 where

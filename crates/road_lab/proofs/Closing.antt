@@ -1,22 +1,18 @@
 -- What the end of input adds.
-use Rattle.std.proofs.Common.{◌≡◌, ◌≢◌, ◌≤◌, ◌<◌, ◌==◌, ℕ, zero, suc, List, [], ◌∷◌, ◌++◌, length, take, min, Bool, true, false, Option, Some, None, Result, Ok, Err, refl, ap, sym, subst, ◌∙◌, append-nil, append_assoc, length-append, ◌+◌, ◌-◌, arith}
-use Rattle.std.specs.Prelude.{nat_lt, if◌then◌else◌}
-use Rattle.std.proofs.lemmas.List.{length-take, take_all}
+use Rattle.std.proofs.Common.{◌≡◌, ◌≢◌, ◌<◌, ◌==◌, ℕ, zero, suc, List, [], ◌∷◌, ◌++◌, length, take, Bool, true, false, Option, Some, None, Result, Ok, Err, refl, ap, sym, subst, ◌∙◌, append-nil, length-append, ◌-◌, arith}
+use Rattle.std.proofs.lemmas.List.{length-take}
 use Rattle.std.proofs.lemmas.Bool.{ltb-false, le-ltb}
 use Rattle.std.proofs.Math.Dec.{eqb-suc-zero}
-use Rattle.road_plan.specs.declared.limits.TheConstants.{LONGEST_LINE}
-use Rattle.road_format.specs.Cut.{newline, Pieces, cut, cut_at, begun, last_piece, lines_of}
+use Rattle.road_format.specs.Cut.{newline, Pieces, cut, cut_at, last_piece, lines_of}
 use Rattle.road_format.specs.PlanGrammar.{PlanLine}
-use Rattle.road_format.specs.Replies.{Refused, reply}
 use Rattle.road_format.specs.declared.refusal.Refusal.{Refusal}
-use Rattle.road_format.specs.declared.refusal.Refusal.TheVariants as refusals
-use Rattle.road_lab.specs.Answers.{written, session, first_of, first_read, is_refusal, later}
+use Rattle.road_lab.specs.Answers.{written, first_of, later}
 use Rattle.road_lab.specs.Kept.{Kept}
 use Rattle.road_lab.specs.Desk.{Desk, opening, fed, said, byte_done, byte_said, is_spent, is_clear, line_said, line_done, end_said, end_done, unopened_said, unopened_done}
 use Rattle.road_lab.specs.declared.faults.End.{End}
 use Rattle.road_lab.specs.declared.faults.End.TheVariants as ends
-use Rattle.road_lab.proofs.Machine.{fed-append, said-append, Holds, Whole, Partly, Outcome, outcome, Meets, runs}
-use Rattle.road_lab.proofs.Lines.{said_written, unopened_over, opened_over, over_of, first_over, is_more, too_many, left_of, serving_of, is_refused_in, refused, accepted, few_lines, more_lines}
+use Rattle.road_lab.proofs.Machine.{fed-append, said-append, Holds, Whole, Partly, outcome, Meets, runs}
+use Rattle.road_lab.proofs.Lines.{said_written, opened_over, over_of, first_over, is_more, left_of, serving_of, is_refused_in, refused, accepted, few_lines}
 
 -- ---- a newline behind an input ends its last piece
 

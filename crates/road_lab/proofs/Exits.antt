@@ -1,5 +1,5 @@
 -- Each way out of the loop of `serve_within` ends as the contract says.
-use Rattle.std.proofs.Common.{◌≡◌, ◌≢◌, ◌≤◌, ◌<◌, ◌==◌, ℕ, ◌+◌, ◌-◌, min, zero, suc, List, [], ◌∷◌, ◌++◌, length, take, Bool, true, false, ◌||◌, Option, Some, None, Result, Ok, Err, refl, ap, sym, subst, ◌∙◌, append_assoc, append-nil, length-append, arith}
+use Rattle.std.proofs.Common.{◌≡◌, ◌≢◌, ◌≤◌, ◌<◌, ◌==◌, ℕ, ◌+◌, ◌-◌, min, zero, suc, List, [], ◌∷◌, ◌++◌, length, take, Bool, true, false, Option, Some, None, Result, Ok, Err, refl, ap, sym, subst, ◌∙◌, append-nil, length-append, arith}
 use Rattle.std.specs.Prelude.{nat_le, nat_lt}
 use Rattle.std.proofs.Math.Dec.{eqb-suc-zero}
 use Rattle.std.proofs.Math.Seq.{take-append-add}
@@ -8,10 +8,9 @@ use Rattle.std.proofs.lemmas.Bool.{le-leb, le-ltb, lt-ltb, ltb-false}
 use Rattle.std.proofs.KnownBytes.{Appends-nil, Appends-trans, Appends-kept}
 use Rattle.std.specs.Io.KnownBytes.{Appends, Keeps}
 use Rattle.road_format.specs.Cut.{Pieces, cut, last_piece, lines_of}
-use Rattle.road_lab.specs.Answers.{written, answers_within, is_refused, is_past, reply_count, lines_within, later}
-use Rattle.road_lab.specs.Streams.{RisesByOne}
-use Rattle.road_lab.specs.Desk.{Desk, opening, fed, said, end_said, end_done}
-use Rattle.road_lab.specs.Ending.{TakesFront, Seen, seen, WritesAll, WritesFront, Ends, Reached, Finishes}
+use Rattle.road_lab.specs.Answers.{written, answers_within, is_refused, is_past, reply_count, later}
+use Rattle.road_lab.specs.Desk.{Desk, opening, fed, said, end_said}
+use Rattle.road_lab.specs.Ending.{TakesFront, seen, Ends, Reached, Finishes}
 use Rattle.road_lab.specs.Faults.{fault_of}
 use Rattle.road_lab.specs.declared.serve.Served.{Served}
 use Rattle.road_lab.specs.declared.faults.End.{End}
@@ -19,8 +18,8 @@ use Rattle.road_lab.specs.declared.faults.End.TheVariants as ends
 use Rattle.road_lab.specs.declared.faults.ServeFault.{ServeFault}
 use Rattle.road_lab.specs.declared.faults.ServeFault.TheVariants as faults
 use Rattle.road_lab.proofs.Machine.{fed-append, said-append, runs, outcome}
-use Rattle.road_lab.proofs.Lines.{said_written, unopened_over, opened_over, over_of, is_refused_in, refused, accepted, more_lines, is_more}
-use Rattle.road_lab.proofs.Closing.{Closed, closes}
+use Rattle.road_lab.proofs.Lines.{said_written, unopened_over, opened_over, is_refused_in, refused, accepted, more_lines, is_more}
+use Rattle.road_lab.proofs.Closing.{closes}
 
 -- ---- what was said of the bytes within the limit
 

@@ -1,5 +1,5 @@
 -- Answers only grow as the input grows.
-use Rattle.std.proofs.Common.{◌≡◌, ℕ, zero, suc, List, [], ◌∷◌, ◌++◌, take, Bool, true, false, Result, Ok, Err, refl, ap, sym, ◌∙◌, append_assoc, append-nil, length}
+use Rattle.std.proofs.Common.{◌≡◌, ℕ, zero, suc, List, [], ◌∷◌, ◌++◌, take, Bool, false, Result, Ok, Err, refl, ap, sym, ◌∙◌, append_assoc, append-nil, length}
 use Rattle.road_format.specs.CutLaws.{LinesGoOn}
 use Rattle.road_format.specs.Cut.{lines_of}
 use Rattle.road_format.specs.PlanGrammar.{PlanLine}

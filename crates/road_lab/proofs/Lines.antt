@@ -1,21 +1,20 @@
 -- What comes of the lines of an input is what the definition answers to them.
-use Rattle.std.proofs.Common.{◌≡◌, ◌≢◌, ◌≤◌, ◌<◌, ◌==◌, ℕ, zero, suc, List, [], ◌∷◌, ◌++◌, length, take, Bool, true, false, Option, Some, None, Result, Ok, Err, refl, ap, sym, ◌∙◌, append-nil, length-append, ◌+◌, ◌-◌, arith}
-use Rattle.std.specs.Prelude.{nat_lt, if◌then◌else◌}
+use Rattle.std.proofs.Common.{◌≡◌, ◌≢◌, ℕ, zero, suc, List, [], ◌∷◌, ◌++◌, length, take, Bool, true, false, Option, Some, None, Result, Ok, Err, refl, ap, sym, ◌∙◌, ◌+◌, arith}
+use Rattle.std.specs.Prelude.{nat_lt}
 use Rattle.std.proofs.lemmas.Bool.{le-ltb, lt-ltb, ltb-false, ltb-true}
 use Rattle.std.proofs.Math.Dec.{eqb-suc-zero}
 use Rattle.road_format.specs.Cut.{Pieces, last_piece}
-use Rattle.road_format.specs.CommandGrammar.{Command}
 use Rattle.road_format.specs.PlanGrammar.{PlanLine}
 use Rattle.road_format.specs.Replies.{Answer, reply}
 use Rattle.road_format.specs.declared.refusal.Refusal.{Refusal}
 use Rattle.road_lab.specs.Laboratory.{Event}
-use Rattle.road_lab.specs.Answers.{first_of, command_line, replies, session, written, after_line, answer_of, first_read, is_refusal, later}
+use Rattle.road_lab.specs.Answers.{first_of, command_line, replies, session, written, after_line, first_read, is_refusal}
 use Rattle.road_lab.specs.Kept.{Kept, start, line_answer, line_after}
-use Rattle.road_lab.specs.Desk.{open_said, is_spent}
+use Rattle.road_lab.specs.Desk.{open_said}
 use Rattle.road_lab.specs.declared.faults.End.{End}
 use Rattle.road_lab.specs.declared.faults.End.TheVariants as ends
 use Rattle.road_lab.proofs.Agreement.{Agrees, line_agrees, after_agrees, start_agrees}
-use Rattle.road_lab.proofs.Machine.{Outcome, before, outcome_at, outcome_first, outcome, resting, rest_over}
+use Rattle.road_lab.proofs.Machine.{outcome_at, outcome_first, outcome, rest_over}
 
 -- ---- what is said
 

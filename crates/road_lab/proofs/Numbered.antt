@@ -1,6 +1,6 @@
 -- Names in a set, and their numbers.
 use Rattle.std.proofs.Common.{◌≡◌, ℕ, List, [], ◌∷◌, ◌++◌, Bool, true, false, ◌&&◌, ◌||◌, map, refl, ap, sym, ◌∙◌, append_assoc, string_bytes, String, Global}
-use Rattle.std.specs.Prelude.{not, if◌then◌else◌}
+use Rattle.std.specs.Prelude.{not}
 use Rattle.std.specs.Str.{bytes_eq}
 use Rattle.std.specs.String.{string_eq}
 use Rattle.std.specs.Cmp.Lexicographic.{nat_list_eq_equiv}

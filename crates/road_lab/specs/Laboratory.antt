@@ -1,5 +1,5 @@
 -- The replicas of a laboratory: what happens at them, and what is answered.
-use Rattle.std.specs.Prelude.{ℕ, ◌==◌, ◌∷◌, List, [], max, length, nat_lt, if◌then◌else◌, Option, Some, None}
+use Rattle.std.specs.Prelude.{ℕ, ◌==◌, ◌∷◌, List, [], max, nat_lt, if◌then◌else◌, Option, Some, None}
 use Rattle.std.specs.List.{position}
 use Rattle.std.specs.Str.{bytes_eq}
 use Rattle.road_plan.specs.Settings.{defaults}

@@ -1,5 +1,5 @@
 -- The run of a plan's road with no setting edited.
-use Rattle.std.specs.Prelude.{◌≡◌, ℕ}
+use Rattle.std.specs.Prelude.{ℕ}
 use Rattle.road_plan.specs.Plan.{Plan}
 use Rattle.road_plan.specs.Settings.{defaults}
 use Rattle.road_cells.specs.Array.{Array}

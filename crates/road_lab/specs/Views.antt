@@ -1,5 +1,5 @@
 -- What the code's values stand for.
-use Rattle.std.specs.Prelude.{◌≡◌, ℕ, Result, Ok, Err}
+use Rattle.std.specs.Prelude.{◌≡◌, Result, Ok, Err}
 use Rattle.road_format.specs.declared.refusal.Refusal.{Refusal}
 use Rattle.road_lab.specs.Desk.{Desk}
 use Rattle.road_lab.specs.declared.desk.Desk as desk

@@ -1,6 +1,6 @@
 //! A source and a sink over memory, which know their bytes and can be made to fail.
 
-ghost use Rattle.std.specs.Prelude.{◌≡◌, ◌≤◌, ◌<◌, Some, take, length};
+ghost use Rattle.std.specs.Prelude.{◌≡◌, ◌≤◌, ◌<◌, Some, [], take, length};
 
 use crate::faults::{ReadFailed, WriteFailed};
 use crate::streams::{Sink, Source};
@@ -22,6 +22,8 @@ impl<'a> MemorySource<'a> {
     /// The source of these bytes.
     pub fn new(bytes: &'a [u8], step: usize, reads: u64) -> MemorySource<'a>
         requires { 0 < step }
+        ensures given { ⟦<MemorySource<'a> as Source>⟧.given result ≡ Some [] }
+        ensures failures { ⟦<MemorySource<'a> as Source>⟧.failures result ≡ 0 }
     {
         MemorySource {
             bytes,
@@ -71,7 +73,10 @@ pub struct MemorySink {
 
 impl MemorySink {
     /// The sink that goes on from these bytes.
-    pub fn new(bytes: Vec<u8>, room: usize, flushes: u64) -> MemorySink {
+    pub fn new(bytes: Vec<u8>, room: usize, flushes: u64) -> MemorySink
+        ensures taken { ⟦<MemorySink as Sink>⟧.taken result ≡ Some bytes.items }
+        ensures failures { ⟦<MemorySink as Sink>⟧.failures result ≡ 0 }
+    {
         MemorySink {
             bytes,
             room,
@@ -82,7 +87,9 @@ impl MemorySink {
     }
 
     /// The bytes that were taken, and those from which the sink went on.
-    pub fn bytes(&self) -> &[u8] {
+    pub fn bytes(&self) -> &[u8]
+        ensures { ⟦<MemorySink as Sink>⟧.taken self.now ≡ Some result.now }
+    {
         self.bytes.as_slice()
     }
 }

@@ -1,6 +1,6 @@
 //! Readers and writers of std as a source and a sink.
 
-ghost use Rattle.std.specs.Prelude.{None};
+ghost use Rattle.std.specs.Prelude.{◌≡◌, None};
 
 use crate::faults::{ReadFailed, WriteFailed};
 use crate::streams::{Sink, Source};
@@ -16,7 +16,9 @@ pub struct StdSource<R: io::Read + Drop> {
 
 impl<R: io::Read + Drop> StdSource<R> {
     /// The source that reads from this reader.
-    pub fn new(reader: R) -> StdSource<R> {
+    pub fn new(reader: R) -> StdSource<R>
+        ensures { ⟦<StdSource<R> as Source>⟧.failures result ≡ 0 }
+    {
         StdSource {
             reader,
             at_end: false,
@@ -47,7 +49,7 @@ impl<R: io::Read + Drop> Source for StdSource<R> {
     }
 }
 
-/// A writer of std as a sink. It keeps none of the bytes that it took, so it says nothing of them.
+/// A writer of std as a sink. What it has taken is what the writer holds, where the writer knows that.
 #[derive(Drop)]
 pub struct StdSink<W: io::Write + Drop> {
     writer: W,
@@ -57,7 +59,10 @@ pub struct StdSink<W: io::Write + Drop> {
 
 impl<W: io::Write + Drop> StdSink<W> {
     /// The sink that writes to this writer.
-    pub fn new(writer: W) -> StdSink<W> {
+    pub fn new(writer: W) -> StdSink<W>
+        ensures taken { ⟦<StdSink<W> as Sink>⟧.taken result ≡ W.contents writer }
+        ensures failures { ⟦<StdSink<W> as Sink>⟧.failures result ≡ 0 }
+    {
         StdSink {
             writer,
             flushed: false,
@@ -67,7 +72,7 @@ impl<W: io::Write + Drop> StdSink<W> {
 }
 
 impl<W: io::Write + Drop> Sink for StdSink<W> {
-    ghost taken = { λ sink. None };
+    ghost taken = { λ sink. W.contents sink.writer };
 
     ghost flushed = { λ sink. sink.flushed };
 

@@ -1,5 +1,3 @@
-use Rattle.std.proofs.Common.{length, ◌≤◌, string_bytes}
-use Rattle.std.specs.Prelude.{vec_len}
 use Rattle.road_format.specs.Views.{plan_line_view}
 use Rattle.road_lab.proofs.Accepted.{accepted_apart, few_names}
 use Rattle.road_lab.proofs.desk.first_line.Goals as goal

@@ -1,4 +1,3 @@
-use Rattle.std.proofs.Common.{◌≡◌, ◌∙◌, ap}
 use Rattle.road_lab.proofs.Stepping.{step_more}
 use Rattle.road_lab.proofs.simulation.Simulation.run_on.Goals as goal
 
