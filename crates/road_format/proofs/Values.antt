@@ -10,6 +10,7 @@ use Rattle.serde_json.specs.View.{members_of, items_view}
 use Rattle.serde_json.specs.declared.value.Value.{Value}
 use Rattle.road_format.specs.Reading.{value_of}
 use Rattle.road_format.specs.Fields.{members_len, two_in}
+use Rattle.road_format.specs.ObjectGrammar.{object_from}
 use Rattle.road_format.specs.Replies.{Answer, Open, Refused, Horizon, Cells, data_of, reply}
 
 -- an object has as many members as the map has entries
@@ -67,3 +68,16 @@ two_in-many [] many = refl
 two_in-many (v ∷ []) many = refl
 two_in-many (v ∷ w ∷ []) many = absurd (omega arith)
 two_in-many (v ∷ w ∷ u ∷ vs) many = refl
+
+-- ---- objects
+
+pub object_from-few : (vs : List Value) → length vs < 2 → object_from (items_view vs) ≡ None
+object_from-few [] few = refl
+object_from-few (v ∷ []) few = refl
+object_from-few (v ∷ w ∷ vs) few = absurd (omega arith)
+
+pub object_from-many : (vs : List Value) → 3 ≤ length vs → object_from (items_view vs) ≡ None
+object_from-many [] many = refl
+object_from-many (v ∷ []) many = refl
+object_from-many (v ∷ w ∷ []) many = absurd (omega arith)
+object_from-many (v ∷ w ∷ u ∷ vs) many = refl
