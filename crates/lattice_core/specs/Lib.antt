@@ -6,4 +6,5 @@ pub mod Map
 pub mod MapLaws
 pub mod MapSteps
 pub mod Fold
+pub mod Sets
 pub mod Tops

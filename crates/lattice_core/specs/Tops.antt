@@ -5,17 +5,18 @@ use Rattle.std.specs.List.{list_any}
 use Rattle.std.specs.declared.cmp.Ordering.{Ordering}
 use Rattle.std.specs.Ordering.{eq_by_cmp, is_eq}
 use Rattle.std.specs.Cmp.{IsTotalOrder, Equal-is, tied_itself}
-use Rattle.std.specs.FinSet.{FinSet, contains, retain, items, union, contains-items, contains-retain, contains-union, same_set}
 use Rattle.std.proofs.Common.{sym, ap, subst, ◌∙◌, inl, inr}
 use Rattle.std.proofs.lemmas.Bool.{true≢false, false_from_ne_true, and_parts, and_from, or_cases, or_left, or_right, not-true, not_from_false, cases_Bool}
 use Rattle.lattice_core.specs.Exact.{IsExact}
+use Rattle.lattice_core.specs.Sets as sets
+use Rattle.lattice_core.specs.Sets.{contains, retain, items, union, contains-items, contains-retain, contains-union, same_set}
 
 -- the elements that none exceeds
-abbrev pub tops : {K : Type 0} {R : K → K → Ordering} → (K → K → Bool) → FinSet R → FinSet R
+abbrev pub tops : {K : Type 0} {R : K → K → Ordering} → (K → K → Bool) → sets.Set R → sets.Set R
 tops exceeded s = retain s (λ e. not (list_any (exceeded e) (items s)))
 
 -- the greatest elements of both
-abbrev pub join_by : {K : Type 0} {R : K → K → Ordering} → (K → K → Bool) → FinSet R → FinSet R → FinSet R
+abbrev pub join_by : {K : Type 0} {R : K → K → Ordering} → (K → K → Bool) → sets.Set R → sets.Set R → sets.Set R
 join_by exceeded s t = tops exceeded (union s t)
 
 -- a strict order, as a test
@@ -24,7 +25,7 @@ pub record IsStrict {K : Type 0} (exceeded : K → K → Bool) : Type 0 where
   pub transitive : (x y z : K) → exceeded x y ≡ true → exceeded y z ≡ true → exceeded x z ≡ true
 
 -- e is in s, and none of s exceeds it
-pub record IsTop {K : Type 0} {R : K → K → Ordering} (exceeded : K → K → Bool) (s : FinSet R) (e : K) : Type 0 where
+pub record IsTop {K : Type 0} {R : K → K → Ordering} (exceeded : K → K → Bool) (s : sets.Set R) (e : K) : Type 0 where
   pub inside : contains s e ≡ true
   pub none : (f : K) → contains s f ≡ true → exceeded e f ≡ false
 
@@ -42,7 +43,7 @@ or_assoc false b c = refl
 
 module _ {K : Type 0} {R : K → K → Ordering} (total : IsTotalOrder R) (exact : IsExact R) where
   abbrev Set : Type 0
-  Set = FinSet R
+  Set = sets.Set R
 
   is_same : (x y : K) → eq_by_cmp R x y ≡ true → x ≡ y
   is_same x y e = exact x y ((Equal-is (R x y)).0 e)
@@ -237,14 +238,14 @@ module _ {K : Type 0} {R : K → K → Ordering} (total : IsTotalOrder R) (exact
 
 -- what holds of the greatest elements of all sets
 pub record TopsLaws {K : Type 0} (R : K → K → Ordering) (exceeded : K → K → Bool) : Type 0 where
-  pub members : (s : FinSet R) (e : K) → (contains (tops exceeded s) e ≡ true → IsTop exceeded s e) × (IsTop exceeded s e → contains (tops exceeded s) e ≡ true)
-  pub of_union : (s t : FinSet R) → tops exceeded (union s t) ≡ join_by exceeded (tops exceeded s) (tops exceeded t)
-  pub of_tops : (s : FinSet R) → tops exceeded (tops exceeded s) ≡ tops exceeded s
-  pub commutative : (s t : FinSet R) → join_by exceeded s t ≡ join_by exceeded t s
-  pub associative : (s t u : FinSet R) → join_by exceeded (join_by exceeded s t) u ≡ join_by exceeded s (join_by exceeded t u)
-  pub idempotent : (s : FinSet R) → tops exceeded s ≡ s → join_by exceeded s s ≡ s
+  pub members : (s : sets.Set R) (e : K) → (contains (tops exceeded s) e ≡ true → IsTop exceeded s e) × (IsTop exceeded s e → contains (tops exceeded s) e ≡ true)
+  pub of_union : (s t : sets.Set R) → tops exceeded (union s t) ≡ join_by exceeded (tops exceeded s) (tops exceeded t)
+  pub of_tops : (s : sets.Set R) → tops exceeded (tops exceeded s) ≡ tops exceeded s
+  pub commutative : (s t : sets.Set R) → join_by exceeded s t ≡ join_by exceeded t s
+  pub associative : (s t u : sets.Set R) → join_by exceeded (join_by exceeded s t) u ≡ join_by exceeded s (join_by exceeded t u)
+  pub idempotent : (s : sets.Set R) → tops exceeded s ≡ s → join_by exceeded s s ≡ s
   -- what s exceeds can be left out of what is joined to it
-  pub without : (s t : FinSet R) (p : K → Bool) → ((e : K) → contains t e ≡ true → p e ≡ false → list_any (exceeded e) (items s) ≡ true) → join_by exceeded s (retain t p) ≡ join_by exceeded s t
+  pub without : (s t : sets.Set R) (p : K → Bool) → ((e : K) → contains t e ≡ true → p e ≡ false → list_any (exceeded e) (items s) ≡ true) → join_by exceeded s (retain t p) ≡ join_by exceeded s t
 
 pub tops_laws : {K : Type 0} (R : K → K → Ordering) → IsTotalOrder R → IsExact R → (exceeded : K → K → Bool) → IsStrict exceeded → TopsLaws R exceeded
 tops_laws R total exact exceeded strict = record {

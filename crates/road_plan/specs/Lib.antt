@@ -2,4 +2,5 @@ pub mod Plan
 pub mod Settings
 pub mod Refusals
 pub mod Objects
+pub mod ObjectOrder
 pub mod Examples

@@ -5,6 +5,7 @@ mod checks;
 mod faults;
 pub mod limits;
 mod object;
+mod object_exact;
 mod parts;
 mod plan;
 mod settings;

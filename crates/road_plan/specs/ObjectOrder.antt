@@ -1,0 +1,57 @@
+-- The order of objects, as it is derived, is that by kind and index, and it tells objects apart.
+use Rattle.std.specs.Prelude.{◌≡◌, ℕ, zero, suc, refl}
+use Rattle.std.specs.Ordering.{nat_cmp}
+use Rattle.std.proofs.Common.{sym, ap, ◌∙◌}
+use Rattle.lattice_core.specs.Exact.{IsExact, exact_by, exact_nat, exact_pair, pair_cmp}
+use Rattle.road_plan.specs.Objects.{by_kind_and_index, order_key}
+use Rattle.road_plan.specs.declared.object.Object.{Object}
+use Rattle.road_plan.specs.declared.object.Object.TheVariants.{Limit, Slow, Block, Inflow, Watch}
+use Rattle.road_plan.specs.contracts.object.ObjectOrd.TheImpl as derived
+
+pub ordered : (x y : Object) → derived.ghosts.cmp x y ≡ by_kind_and_index x y
+ordered (Limit i) (Limit j) = refl
+ordered (Limit i) (Slow j) = refl
+ordered (Limit i) (Block j) = refl
+ordered (Limit i) (Inflow j) = refl
+ordered (Limit i) (Watch j) = refl
+ordered (Slow i) (Limit j) = refl
+ordered (Slow i) (Slow j) = refl
+ordered (Slow i) (Block j) = refl
+ordered (Slow i) (Inflow j) = refl
+ordered (Slow i) (Watch j) = refl
+ordered (Block i) (Limit j) = refl
+ordered (Block i) (Slow j) = refl
+ordered (Block i) (Block j) = refl
+ordered (Block i) (Inflow j) = refl
+ordered (Block i) (Watch j) = refl
+ordered (Inflow i) (Limit j) = refl
+ordered (Inflow i) (Slow j) = refl
+ordered (Inflow i) (Block j) = refl
+ordered (Inflow i) (Inflow j) = refl
+ordered (Inflow i) (Watch j) = refl
+ordered (Watch i) (Limit j) = refl
+ordered (Watch i) (Slow j) = refl
+ordered (Watch i) (Block j) = refl
+ordered (Watch i) (Inflow j) = refl
+ordered (Watch i) (Watch j) = refl
+
+-- the object of a key
+abbrev pub object_of : ℕ × ℕ → Object
+object_of (zero, i) = Limit i
+object_of (suc zero, i) = Slow i
+object_of (suc (suc zero), i) = Block i
+object_of (suc (suc (suc zero)), i) = Inflow i
+object_of (suc (suc (suc (suc k))), i) = Watch i
+
+pub object_back : (x : Object) → object_of (order_key x) ≡ x
+object_back (Limit i) = refl
+object_back (Slow i) = refl
+object_back (Block i) = refl
+object_back (Inflow i) = refl
+object_back (Watch i) = refl
+
+pub same_object : (x y : Object) → order_key x ≡ order_key y → x ≡ y
+same_object x y e = sym (object_back x) ∙ ap object_of e ∙ object_back y
+
+pub object_exact : IsExact derived.ghosts.cmp
+object_exact = exact_by order_key derived.ghosts.cmp (pair_cmp nat_cmp nat_cmp) ordered same_object (exact_pair nat_cmp nat_cmp exact_nat exact_nat)

@@ -1,0 +1,8 @@
+use crate::object::Object;
+use lattice_core::exact::Exact;
+
+impl Exact for Object {
+    ghost use Rattle.road_plan.specs.ObjectOrder.{object_exact};
+
+    ghost exact = { object_exact };
+}

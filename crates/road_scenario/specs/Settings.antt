@@ -1,0 +1,57 @@
+-- The settings that edits give.
+use Rattle.std.specs.Prelude.{ℕ, ◌==◌, ◌&&◌, Bool, List, [], ◌∷◌, map, length, nat_le, nat_lt, is_some}
+use Rattle.std.specs.List.{filter, best_of, range_with_len}
+use Rattle.std.specs.Option.{unwrap_or}
+use Rattle.std.specs.Ordering.{is_eq}
+use Rattle.std.specs.declared.option.Option.{Option}
+use Rattle.std.specs.declared.option.Option.TheVariants.{None, Some}
+use Rattle.lattice_core.specs.Sets.{items}
+use Rattle.road_plan.specs.Plan.{Plan}
+use Rattle.road_plan.specs.Settings.{Settings}
+use Rattle.road_plan.specs.Objects.{by_kind_and_index, default}
+use Rattle.road_plan.specs.declared.object.Object.{Object}
+use Rattle.road_plan.specs.declared.object.Object.TheVariants.{Limit, Slow, Block, Inflow, Watch}
+use Rattle.road_scenario.specs.declared.edit.Edit.{Edit}
+use Rattle.road_scenario.specs.Edits.{Edits, number_put}
+use Rattle.road_scenario.specs.Winners.{winners}
+
+-- whether an edit puts a number to an object, dated at most at a step
+abbrev pub puts : Object → ℕ → Edit → Bool
+puts o step e = is_eq (by_kind_and_index e.object o) && nat_le e.step step && is_some (number_put e.value)
+
+-- the latest-dated of these edits
+abbrev pub latest : List Edit → Option Edit
+latest [] = None
+latest (e ∷ es) = Some (best_of (λ f best. nat_lt best.step f.step) e es)
+
+-- the number that an edit puts, if there is an edit
+abbrev pub number_of : Option Edit → Option ℕ
+number_of None = None
+number_of (Some e) = number_put e.value
+
+-- the number of the latest-dated of these edits for an object that is dated at most at a step and isn't a withdrawal;
+-- the default where there is none
+abbrev pub setting_in : Plan → List Edit → Object → ℕ → ℕ
+setting_in p edits o step = unwrap_or (number_of (latest (filter (puts o step) edits))) (default p o)
+
+-- the setting of an object at a step, by the winners of the edits
+abbrev pub setting : Plan → Edits → Object → ℕ → ℕ
+setting p edits o step = setting_in p (items (winners edits)) o step
+
+-- all settings of a plan, from that of each object
+abbrev pub all_settings : Plan → (Object → ℕ) → Settings
+all_settings p at = record {
+  limits = map (λ zone. at (Limit zone)) (range_with_len 0 (length p.zones));
+  chances = map (λ zone. at (Slow zone)) (range_with_len 0 (length p.zones));
+  inflows = map (λ inlet. at (Inflow inlet)) (range_with_len 0 (length p.inlets));
+  blocks = filter (λ cell. at (Block cell) == 1) (range_with_len 0 p.cells);
+  watched = map (λ detector. at (Watch detector) == 1) (range_with_len 0 (length p.detectors));
+}
+
+-- all settings at a step, by the edits of a list as they stand
+abbrev pub settings_in : Plan → List Edit → ℕ → Settings
+settings_in p edits step = all_settings p (λ o. setting_in p edits o step)
+
+-- all settings at a step, by the winners of the edits
+abbrev pub settings_of : Plan → Edits → ℕ → Settings
+settings_of p edits step = settings_in p (items (winners edits)) step

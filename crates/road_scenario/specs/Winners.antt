@@ -1,0 +1,18 @@
+-- The winners of a set of edits, and their join.
+use Rattle.std.specs.Prelude.{not, List}
+use Rattle.std.specs.List.{list_any, filter}
+use Rattle.lattice_core.specs.Tops.{tops, join_by}
+use Rattle.road_scenario.specs.declared.edit.Edit.{Edit}
+use Rattle.road_scenario.specs.Edits.{Edits, exceeds}
+
+-- the edits that no edit of the same object and step exceeds in stamp and value: one for each object and step
+abbrev pub winners : Edits → Edits
+winners edits = tops exceeds edits
+
+-- the winners of both sets
+abbrev pub join : Edits → Edits → Edits
+join s t = join_by exceeds s t
+
+-- the winners of a list of edits
+abbrev pub winners_in : List Edit → List Edit
+winners_in edits = filter (λ e. not (list_any (exceeds e) edits)) edits

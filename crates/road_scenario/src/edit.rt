@@ -1,0 +1,32 @@
+use road_plan::Object;
+
+/// When and by whom an edit was made. Stamps are ordered by count, then by number.
+#[derive(Clone, Copy, Debug, PartialEq, Eq, PartialOrd, Ord)]
+pub struct Stamp {
+    /// One more than the greatest count that the writer held, from 1 to 2^48.
+    pub count: u64,
+    /// The writer: replicas have 0 to 63, imports 64 and above.
+    pub number: u16,
+}
+
+/// What an edit does to its object. A withdrawal is below every number, and numbers are in their order.
+#[derive(Clone, Copy, Debug, PartialEq, Eq, PartialOrd, Ord)]
+pub enum Value {
+    /// It puts no number, and no older edit of its object and step acts any more.
+    Withdrawn,
+    /// It puts a number, in the object's units.
+    Put(u32),
+}
+
+/// An edit of an object, which acts from its step on. Edits are ordered by object and step, then by stamp and value.
+#[derive(Clone, Copy, Debug, PartialEq, Eq, PartialOrd, Ord)]
+pub struct Edit {
+    /// What it sets.
+    pub object: Object,
+    /// The first step at which it acts.
+    pub step: u32,
+    /// When and by whom it was made.
+    pub stamp: Stamp,
+    /// What it does.
+    pub value: Value,
+}
