@@ -57,8 +57,12 @@ module _ {K : Type 0} {R : K → K → Ordering} where
   insert_all s [] = s
   insert_all s (k ∷ ks) = insert (insert_all s ks) k
 
-  abbrev pub from_list : List K → Set R
+  unfoldable pub from_list : List K → Set R
   from_list ks = insert_all empty ks
+
+  pub from_list-empty : from_list [] ≡ empty
+  unfolding from_list
+  from_list-empty = refl
 
   unfoldable pub union : Set R → Set R → Set R
   union s t = insert_all s (items t)
@@ -114,6 +118,7 @@ module _ {K : Type 0} {R : K → K → Ordering} (o : IsTotalOrder R) where
   contains-insert_all s (k ∷ ks) q = contains-insert _ k q ∙ ap (λ b. eq_by_cmp R q k || b) (contains-insert_all s ks q) ∙ or_swap (eq_by_cmp R q k) (contains s q) _
 
   pub contains-from_list : (ks : List K) (q : K) → contains (from_list {R = R} ks) q ≡ list_any (eq_by_cmp R q) ks
+  unfolding from_list
   contains-from_list ks q = contains-insert_all empty ks q ∙ ap (λ b. b || list_any (eq_by_cmp R q) ks) (contains-empty R q)
 
   pub contains-union : (s t : Set R) (q : K) → contains (union s t) q ≡ (contains s q || contains t q)
@@ -182,7 +187,7 @@ module _ {K : Type 0} {R : K → K → Ordering} (o : IsTotalOrder R) where
   ] refl h
 
   entries-from_list : (ks : List K) → T (is_rising R ks) → maps.entries (from_list {R = R} ks) ≡ entries_of ks
-  unfolding empty insert
+  unfolding from_list empty insert
   entries-from_list [] h = no_entries R
   entries-from_list (k ∷ ks) h =
       let parts = both_are (is_below R k ks) (is_rising R ks) h in

@@ -2,7 +2,7 @@ ghost use Rattle.std.specs.Prelude.{◌≡◌, ◌↔◌, [], IfOk, IfSome, IsTr
 ghost use Rattle.std.specs.Option.{option_copied};
 ghost use Rattle.std.specs.FinMap.Entries.{find, is_sorted, put};
 ghost use Rattle.std.specs.Map.{keys_of};
-ghost use Rattle.lattice_core.specs.Map.{IsHeld, joined_in};
+ghost use Rattle.lattice_core.specs.Map.{IsHeld, IsProperMap, joined_in};
 ghost use Rattle.lattice_core.specs.MapSteps.{IsUpTo, beside, filled, raise, raised_by};
 
 use crate::OutOfMemory;
@@ -10,7 +10,7 @@ use crate::exact::Exact;
 use crate::lattice::Lattice;
 use std::alloc::Global;
 use std::collections::BTreeMap;
-use std::collections::btree_map::Keys;
+use std::collections::btree_map::{Iter, Keys};
 use std::marker::Model;
 
 /// A map to a lattice, joined key by key. It never holds a bottom, so that two maps which give equal values at every
@@ -58,6 +58,14 @@ impl<K: Exact, V: Lattice> LatMap<K, V> {
         ensures rising { T (is_sorted K.cmp self.now) }
     {
         self.map.keys()
+    }
+
+    /// The entries by rising key, none of them a bottom.
+    pub fn iter(&self) -> Iter<'_, K, V>
+        ensures all { result ≡ self.now }
+        ensures proper { IsProperMap K.cmp V.is_proper V.is_least self.now }
+    {
+        self.map.iter()
     }
 
     /// A copy of the map with `value` joined in at `key`. A bottom adds nothing. `OutOfMemory` comes where a growth was

@@ -5,4 +5,5 @@ pub mod Settings
 pub mod Touched
 pub mod Faults
 pub mod Counts
+pub mod Kept
 pub mod Examples

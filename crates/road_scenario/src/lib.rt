@@ -6,7 +6,9 @@
 mod edit;
 mod exact;
 mod faults;
+mod scenario;
 
 pub use edit::{Edit, Stamp, Value};
 pub use faults::EditFault;
 pub use road_plan::OutOfMemory;
+pub use scenario::{Scenario, Won};

@@ -1,0 +1,195 @@
+-- What a scenario's maps hold, as one list: it rises by object and step, so each edit of it is a winner.
+use Rattle.std.specs.Prelude.{◌≡◌, ℕ, Bool, true, false, not, cond, ◌&&◌, ◌||◌, T, List, [], ◌∷◌, ◌++◌, map, refl}
+use Rattle.std.specs.declared.cmp.Ordering.{Ordering}
+use Rattle.std.specs.declared.cmp.Ordering.TheVariants.{Less, Equal, Greater}
+use Rattle.std.specs.Ordering.{nat_cmp, ordering_then, ordering_reverse, eq_by_cmp, is_eq, is_lt}
+use Rattle.std.specs.Cmp.{IsTotalOrder, Equal-is, tied_itself}
+use Rattle.std.specs.FinMap.Entries.{below_all, is_sorted}
+use Rattle.std.specs.List.{list_any}
+use Rattle.std.proofs.Common.{sym, ap, subst, ◌∙◌, inl, inr}
+use Rattle.std.proofs.lemmas.Bool.{true≢false, or_cases, and_parts, and_from}
+use Rattle.lattice_core.specs.declared.greatest.Greatest.{Greatest}
+use Rattle.lattice_core.specs.declared.greatest.Greatest.TheVariants.{Nothing, Of}
+use Rattle.lattice_core.specs.Greatest.{is_nothing}
+use Rattle.lattice_core.specs.Map.{EachEntry, IsHeld, IsProperMap, is_empty}
+use Rattle.lattice_core.specs.Sets.{is_below, is_rising, items, contains, contains-items, contains-retain, from_list, same_set, items-from_list}
+use Rattle.road_plan.specs.Objects.{order_key}
+use Rattle.road_plan.specs.ObjectOrder.{ordered}
+use Rattle.road_plan.specs.declared.object.Object.{Object}
+use Rattle.road_plan.specs.contracts.object.ObjectOrd.TheImpl as derived
+use Rattle.road_scenario.specs.declared.edit.Stamp.{Stamp}
+use Rattle.road_scenario.specs.declared.edit.Value.{Value}
+use Rattle.road_scenario.specs.declared.edit.Edit.{Edit}
+use Rattle.road_scenario.specs.Edits.{Edits, edit_cmp, exceeds, place, rank, two_cmp, three_cmp}
+use Rattle.road_scenario.specs.EditOrder.{edit_total, edit_exact, exceeds_strict, two_total, three_total}
+use Rattle.road_scenario.specs.Winners.{winners}
+use Rattle.road_scenario.specs.Kept.{Won, Steps, Maps, edit_with, before, listed_at, listed, kept}
+
+abbrev pub object_cmp : Object → Object → Ordering
+object_cmp = derived.ghosts.cmp
+
+abbrev pub IsSteps : Steps → Type 0
+IsSteps = IsProperMap nat_cmp (λ _. Unit {0}) is_nothing
+
+abbrev pub AreMaps : Maps → Type 0
+AreMaps = IsProperMap object_cmp IsSteps is_empty
+
+-- edits by object and step
+abbrev pub place_cmp : Edit → Edit → Ordering
+place_cmp e f = three_cmp (place e) (place f)
+
+-- ---- rising lists
+
+pub both : (a b : Bool) → T a → T b → T (a && b)
+both true b p q = q
+both false b p q = p
+
+pub left : (a b : Bool) → T (a && b) → T a
+left true b p = tt
+left false b p = p
+
+pub right : (a b : Bool) → T (a && b) → T b
+right true b p = p
+right false b p = absurd p
+
+pub is_less : (r : Ordering) → T (is_lt r) → r ≡ Less
+is_less Less p = refl
+is_less Equal p = absurd p
+is_less Greater p = absurd p
+
+pub less : (r : Ordering) → r ≡ Less → T (is_lt r)
+less r e = subst (λ x. T (is_lt x)) (sym e) tt
+
+module _ {K : Type 0} (R : K → K → Ordering) where
+  pub below-append : (x : K) (ks ls : List K) → T (is_below R x ks) → T (is_below R x ls) → T (is_below R x (ks ++ ls))
+  below-append x [] ls p q = q
+  below-append x (k ∷ ks) ls p q = both _ _ (left (is_lt (R x k)) _ p) (below-append x ks ls (right (is_lt (R x k)) _ p) q)
+
+  -- each of the first list is below the second
+  abbrev pub EachBelow : List K → List K → Type 0
+  EachBelow [] ls = Unit {0}
+  EachBelow (k ∷ ks) ls = T (is_below R k ls) × EachBelow ks ls
+
+  pub rising-append : (ks ls : List K) → T (is_rising R ks) → T (is_rising R ls) → EachBelow ks ls → T (is_rising R (ks ++ ls))
+  rising-append [] ls p q b = q
+  rising-append (k ∷ ks) ls p q b = both _ _ (below-append k ks ls (left (is_below R k ks) _ p) b.0) (rising-append ks ls (right (is_below R k ks) _ p) q b.1)
+
+  pub below-each : (exact : (x y : K) → R x y ≡ Equal → x ≡ y) (S : K → K → Ordering) (x q : K) (ks : List K) → T (is_below S x ks) → list_any (eq_by_cmp R q) ks ≡ true → S x q ≡ Less
+  below-each exact S x q [] p h = absurd (true≢false (sym h))
+  below-each exact S x q (k ∷ ks) p h = elim (or_cases (eq_by_cmp R q k) _ h) as (λ _. S x q ≡ Less) [
+    | inl t ↦ ap (S x) (exact q k ((Equal-is (R q k)).0 t)) ∙ is_less _ (left (is_lt (S x k)) _ p)
+    | inr t ↦ below-each exact S x q ks (right (is_lt (S x k)) _ p) t
+  ]
+
+-- ---- the list rises
+
+object_less : (o p : Object) → object_cmp o p ≡ Less → two_cmp (order_key o) (order_key p) ≡ Less
+object_less o p e = sym (ordered o p) ∙ e
+
+pub place_less : (e : Edit) (p : Object) (step : ℕ) (w : Stamp × Value) → object_cmp e.object p ≡ Less → place_cmp e (edit_with p step w) ≡ Less
+place_less e p step w l = ap (λ r. ordering_then r (nat_cmp e.step step)) (object_less e.object p l)
+
+pub step_less : (o : Object) (s t : ℕ) (v w : Stamp × Value) → nat_cmp s t ≡ Less → place_cmp (edit_with o s v) (edit_with o t w) ≡ Less
+step_less o s t v w l = ap (λ r. ordering_then r (nat_cmp s t)) (tied_itself two_total (order_key o)) ∙ l
+
+below_object : (e : Edit) (p : Object) (steps : Steps) → object_cmp e.object p ≡ Less → T (is_below place_cmp e (listed_at p steps))
+below_object e p [] l = tt
+below_object e p (s ∷ steps) l = elim s.1 as (λ w. T (is_below place_cmp e (before p s.0 w (listed_at p steps)))) [
+  | Nothing ↦ below_object e p steps l
+  | Of w ↦ both _ _ (less _ (place_less e p s.0 w l)) (below_object e p steps l)
+]
+
+below_listed : (e : Edit) (m : Maps) → T (below_all object_cmp e.object m) → T (is_below place_cmp e (listed m))
+below_listed e [] h = tt
+below_listed e (x ∷ m) h = below-append place_cmp e (listed_at x.0 x.1) (listed m) (below_object e x.0 x.1 (is_less _ (left (is_lt (object_cmp e.object x.0)) _ h))) (below_listed e m (right (is_lt (object_cmp e.object x.0)) _ h))
+
+each_below : (o : Object) (steps : Steps) (m : Maps) → T (below_all object_cmp o m) → EachBelow place_cmp (listed_at o steps) (listed m)
+each_below o [] m h = tt
+each_below o (s ∷ steps) m h = elim s.1 as (λ w. EachBelow place_cmp (before o s.0 w (listed_at o steps)) (listed m)) [
+  | Nothing ↦ each_below o steps m h
+  | Of w ↦ (below_listed (edit_with o s.0 w) m h, each_below o steps m h)
+]
+
+below_steps : (o : Object) (s : ℕ) (v : Stamp × Value) (steps : Steps) → T (below_all nat_cmp s steps) → T (is_below place_cmp (edit_with o s v) (listed_at o steps))
+below_steps o s v [] h = tt
+below_steps o s v (x ∷ steps) h =
+    let rest = below_steps o s v steps (right (is_lt (nat_cmp s x.0)) _ h) in
+    elim x.1 as (λ w. T (is_below place_cmp (edit_with o s v) (before o x.0 w (listed_at o steps)))) [
+      | Nothing ↦ rest
+      | Of w ↦ both _ _ (less _ (step_less o s x.0 v w (is_less _ (left (is_lt (nat_cmp s x.0)) _ h)))) rest
+    ]
+
+pub rising_at : (o : Object) (steps : Steps) → T (is_sorted nat_cmp steps) → T (is_rising place_cmp (listed_at o steps))
+rising_at o [] h = tt
+rising_at o (s ∷ steps) h =
+    let rest = rising_at o steps (right (below_all nat_cmp s.0 steps) _ h) in
+    elim s.1 as (λ w. T (is_rising place_cmp (before o s.0 w (listed_at o steps)))) [
+      | Nothing ↦ rest
+      | Of w ↦ both _ _ (below_steps o s.0 w steps (left (below_all nat_cmp s.0 steps) _ h)) rest
+    ]
+
+pub rising_listed : (m : Maps) → T (is_sorted object_cmp m) → EachEntry (λ e. IsHeld IsSteps is_empty e.1) m → T (is_rising place_cmp (listed m))
+rising_listed [] h k = tt
+rising_listed (x ∷ m) h k =
+    rising-append place_cmp (listed_at x.0 x.1) (listed m) (rising_at x.0 x.1 k.0.0.rises) (rising_listed m (right (below_all object_cmp x.0 m) _ h) k.1) (each_below x.0 x.1 m (left (below_all object_cmp x.0 m) _ h))
+
+by_edit : (e f : Edit) → T (is_lt (place_cmp e f)) → T (is_lt (edit_cmp e f))
+by_edit e f p = less _ (ap (λ r. ordering_then r (three_cmp (rank e) (rank f))) (is_less (place_cmp e f) p))
+
+below_edits : (e : Edit) (es : List Edit) → T (is_below place_cmp e es) → T (is_below edit_cmp e es)
+below_edits e [] p = tt
+below_edits e (f ∷ es) p = both _ _ (by_edit e f (left (is_lt (place_cmp e f)) _ p)) (below_edits e es (right (is_lt (place_cmp e f)) _ p))
+
+pub rising_edits : (es : List Edit) → T (is_rising place_cmp es) → T (is_rising edit_cmp es)
+rising_edits [] p = tt
+rising_edits (e ∷ es) p = both _ _ (below_edits e es (left (is_below place_cmp e es) _ p)) (rising_edits es (right (is_below place_cmp e es) _ p))
+
+-- ---- none exceeds another
+
+not_equal : (r : Ordering) → r ≡ Less → is_eq r ≡ false
+not_equal r e = ap is_eq e
+
+not_equal_back : (e f : Edit) → place_cmp f e ≡ Less → is_eq (place_cmp e f) ≡ false
+not_equal_back e f l = ap is_eq (three_total.antisymm (place e) (place f) ∙ ap ordering_reverse l)
+
+unless : (a b : Bool) → a ≡ false → (a && b) ≡ false
+unless a b e = ap (λ x. x && b) e
+
+neither : (a b : Bool) → a ≡ false → b ≡ false → (a || b) ≡ false
+neither a b p q = ap (λ x. x || b) p ∙ q
+
+none_above : (e : Edit) (es : List Edit) → T (is_below place_cmp e es) → list_any (exceeds e) es ≡ false
+none_above e [] p = refl
+none_above e (f ∷ es) p = neither _ _ (unless _ _ (not_equal _ (is_less _ (left (is_lt (place_cmp e f)) _ p)))) (none_above e es (right (is_lt (place_cmp e f)) _ p))
+
+pub none_exceeds : (es : List Edit) → T (is_rising place_cmp es) → (e : Edit) → list_any (eq_by_cmp edit_cmp e) es ≡ true → list_any (exceeds e) es ≡ false
+none_exceeds [] p e h = refl
+none_exceeds (f ∷ es) p e h = elim (or_cases (eq_by_cmp edit_cmp e f) _ h) as (λ _. list_any (exceeds e) (f ∷ es) ≡ false) [
+  | inl t ↦ ap (λ x. list_any (exceeds x) (f ∷ es)) (edit_exact e f ((Equal-is (edit_cmp e f)).0 t)) ∙ neither _ _ (exceeds_strict.irreflexive f) (none_above f es (left (is_below place_cmp f es) _ p))
+  | inr t ↦ neither _ _ (unless _ _ (not_equal_back e f (below-each edit_cmp edit_exact place_cmp f e es (left (is_below place_cmp f es) _ p) t))) (none_exceeds es (right (is_below place_cmp f es) _ p) e t)
+]
+
+kept_test : (a b : Bool) → (a ≡ true → b ≡ false) → (a && not b) ≡ a
+kept_test true b h = ap not (h refl)
+kept_test false b h = refl
+
+-- a list that rises by object and step is of winners alone
+pub winners-rising : (es : List Edit) → T (is_rising place_cmp es) → winners (from_list es) ≡ from_list es
+winners-rising es p =
+    let s : Edits = from_list es in
+    let listing : items s ≡ es = items-from_list edit_total es (rising_edits es p) in
+    same_set edit_total edit_exact _ _ (λ q.
+    contains-retain s (λ e. not (list_any (exceeds e) (items s))) q (λ x t. ap (λ y. not (list_any (exceeds y) (items s))) (sym (edit_exact q x t)))
+    ∙ kept_test (contains s q) (list_any (exceeds q) (items s)) (λ h. ap (list_any (exceeds q)) listing ∙ none_exceeds es p q (ap (list_any (eq_by_cmp edit_cmp q)) (sym listing) ∙ sym (contains-items s q) ∙ h)))
+
+module _ (m : Maps) (are : AreMaps m) where
+  rises : T (is_rising place_cmp (listed m))
+  rises = rising_listed m are.rises are.held
+
+  -- the items of what is kept are its list
+  pub items-kept : items (kept m) ≡ listed m
+  items-kept = items-from_list edit_total (listed m) (rising_edits (listed m) rises)
+
+  -- what is kept are winners
+  pub winners-kept : winners (kept m) ≡ kept m
+  winners-kept = winners-rising (listed m) rises
