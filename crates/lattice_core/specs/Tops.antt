@@ -52,14 +52,14 @@ module _ {K : Type 0} {R : K → K → Ordering} (total : IsTotalOrder R) (exact
   itself x = ap is_eq (tied_itself total x)
 
   -- an element that passes
-  any_gives : (p : K → Bool) (ks : List K) → list_any p ks ≡ true → (x : K) × (list_any (eq_by_cmp R x) ks ≡ true) × (p x ≡ true)
+  pub any_gives : (p : K → Bool) (ks : List K) → list_any p ks ≡ true → (x : K) × (list_any (eq_by_cmp R x) ks ≡ true) × (p x ≡ true)
   any_gives p [] e = absurd (true≢false (sym e))
   any_gives p (k ∷ ks) e = elim (or_cases (p k) (list_any p ks) e) as (λ _. (x : K) × ((eq_by_cmp R x k || list_any (eq_by_cmp R x) ks) ≡ true) × (p x ≡ true)) [
     | inl h ↦ (k, or_left _ _ (itself k), h)
     | inr h ↦ let r = any_gives p ks h in (r.0, or_right _ _ r.1, r.2)
   ]
 
-  any_by : (p : K → Bool) (ks : List K) (x : K) → list_any (eq_by_cmp R x) ks ≡ true → p x ≡ true → list_any p ks ≡ true
+  pub any_by : (p : K → Bool) (ks : List K) (x : K) → list_any (eq_by_cmp R x) ks ≡ true → p x ≡ true → list_any p ks ≡ true
   any_by p [] x e h = e
   any_by p (k ∷ ks) x e h = elim (or_cases (eq_by_cmp R x k) (list_any (eq_by_cmp R x) ks) e) as (λ _. (p k || list_any p ks) ≡ true) [
     | inl s ↦ or_left _ _ (subst (λ y. p y ≡ true) (is_same x k s) h)
@@ -67,7 +67,7 @@ module _ {K : Type 0} {R : K → K → Ordering} (total : IsTotalOrder R) (exact
   ]
 
   -- sets with the same elements are the same
-  same_elements : (s t : Set) → ((e : K) → contains s e ≡ true → contains t e ≡ true) → ((e : K) → contains t e ≡ true → contains s e ≡ true) → s ≡ t
+  pub same_elements : (s t : Set) → ((e : K) → contains s e ≡ true → contains t e ≡ true) → ((e : K) → contains t e ≡ true → contains s e ≡ true) → s ≡ t
   same_elements s t f g = same_set total exact s t (λ e. same_test _ _ (f e) (g e))
 
   in_union : (s t : Set) (e : K) → contains (union s t) e ≡ true → (contains s e ≡ true) ⊎ (contains t e ≡ true)
@@ -127,13 +127,13 @@ module _ {K : Type 0} {R : K → K → Ordering} (total : IsTotalOrder R) (exact
     abbrev Top : Set → K → Type 0
     Top s e = IsTop exceeded s e
 
-    contains-tops : (s : Set) (e : K) → contains (tops exceeded s) e ≡ (contains s e && not (list_any (exceeded e) (items s)))
+    pub contains-tops : (s : Set) (e : K) → contains (tops exceeded s) e ≡ (contains s e && not (list_any (exceeded e) (items s)))
     contains-tops s e = contains-retain s (λ e. not (list_any (exceeded e) (items s))) e (λ x t. ap (λ y. not (list_any (exceeded y) (items s))) (sym (exact e x t)))
 
-    none_in : (s : Set) (e : K) → ((f : K) → contains s f ≡ true → exceeded e f ≡ false) → list_any (exceeded e) (items s) ≡ false
+    pub none_in : (s : Set) (e : K) → ((f : K) → contains s f ≡ true → exceeded e f ≡ false) → list_any (exceeded e) (items s) ≡ false
     none_in s e n = false_from_ne_true _ (λ t. let r = any_gives (exceeded e) (items s) t in not_both _ r.2 (n r.0 (contains-items s r.0 ∙ r.1)))
 
-    in_none : (s : Set) (e : K) → list_any (exceeded e) (items s) ≡ false → (f : K) → contains s f ≡ true → exceeded e f ≡ false
+    pub in_none : (s : Set) (e : K) → list_any (exceeded e) (items s) ≡ false → (f : K) → contains s f ≡ true → exceeded e f ≡ false
     in_none s e n f h = false_from_ne_true _ (λ t. not_both _ (any_by (exceeded e) (items s) f (sym (contains-items s f) ∙ h) t) n)
 
     -- the tops are those in the set that none of it exceeds

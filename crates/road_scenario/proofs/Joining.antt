@@ -28,7 +28,7 @@ use Rattle.road_scenario.specs.Edits.{Edits, Rank, edit_cmp, exceeds, place, ran
 use Rattle.road_scenario.specs.EditOrder.{edit_total, edit_exact, exceeds_strict, winners_laws, two_total, three_total, ordered_values, stamp_exact, value_exact}
 use Rattle.road_scenario.specs.Winners.{winners, join}
 use Rattle.road_scenario.specs.Kept.{Won, Steps, Maps, edit_with, before, listed_at, listed, kept}
-use Rattle.road_scenario.proofs.Listing.{object_cmp, IsSteps, AreMaps, winners-kept}
+use Rattle.road_scenario.proofs.Rising.{object_cmp, IsSteps, AreMaps, winners-kept}
 
 -- ---- sets of one edit
 

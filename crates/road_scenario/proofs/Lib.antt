@@ -1,2 +1,4 @@
-pub mod Listing
+pub mod Rising
 pub mod Joining
+pub mod FirstFaults
+pub mod Counted

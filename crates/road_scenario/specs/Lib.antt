@@ -6,4 +6,5 @@ pub mod Touched
 pub mod Faults
 pub mod Counts
 pub mod Kept
+pub mod Walks
 pub mod Examples

@@ -1,4 +1,9 @@
-use road_plan::Object;
+ghost use Rattle.std.specs.Prelude.{◌≡◌};
+ghost use Rattle.road_scenario.specs.Faults as faults;
+
+use crate::faults::EditFault;
+use road_plan::limits::{GREATEST_COUNT, LAST_EDIT_STEP};
+use road_plan::{Object, Plan};
 
 /// When and by whom an edit was made. Stamps are ordered by count, then by number.
 #[derive(Clone, Copy, Debug, PartialEq, Eq, PartialOrd, Ord)]
@@ -29,4 +34,33 @@ pub struct Edit {
     pub stamp: Stamp,
     /// What it does.
     pub value: Value,
+}
+
+impl Edit {
+    /// Its first fault in the order of `EditFault`, where it does not fit the plan.
+    pub fn fault(&self, plan: &Plan) -> Option<EditFault>
+        ensures { result ≡ faults.fault_of plan.now self.now }
+    {
+        if !self.object.in_plan(plan) {
+            Some(EditFault::NoObject)
+        } else if self.step > LAST_EDIT_STEP {
+            Some(EditFault::Step)
+        } else if !takes(self.object, self.value) {
+            Some(EditFault::ValueOutOfRange)
+        } else if self.stamp.count == 0 || self.stamp.count > GREATEST_COUNT {
+            Some(EditFault::Count)
+        } else {
+            None
+        }
+    }
+}
+
+// Whether an object takes a value: a withdrawal always.
+fn takes(object: Object, value: Value) -> bool
+    ensures { result ≡ faults.takes object value }
+{
+    match value {
+        Value::Withdrawn => true,
+        Value::Put(number) => object.allows(number),
+    }
 }

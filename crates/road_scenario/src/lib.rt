@@ -6,6 +6,7 @@
 mod edit;
 mod exact;
 mod faults;
+mod listing;
 mod scenario;
 
 pub use edit::{Edit, Stamp, Value};

@@ -1,12 +1,17 @@
-ghost use Rattle.std.specs.Prelude.{◌≡◌, [], ◌∷◌, IfOk};
+ghost use Rattle.std.specs.Prelude.{◌≡◌, ◌↔◌, [], ◌∷◌, IfOk, IsNone};
 ghost use Rattle.lattice_core.specs.Sets as sets;
+ghost use Rattle.road_scenario.specs.Counts.{greatest_count};
+ghost use Rattle.road_scenario.specs.Edits.{Edits};
+ghost use Rattle.road_scenario.specs.Faults.{fault_in, AreInRange};
 ghost use Rattle.road_scenario.specs.Winners.{winners, join};
 
 use crate::edit::{Edit, Stamp, Value};
+use crate::faults::EditFault;
+use crate::listing::{all_edits, fault_of_first, greatest_count_of};
 use lattice_core::greatest::Greatest;
 use lattice_core::lattice::Lattice;
 use lattice_core::map::LatMap;
-use road_plan::{Object, OutOfMemory};
+use road_plan::{Object, OutOfMemory, Plan};
 use std::alloc::Global;
 use std::marker::Model;
 
@@ -85,5 +90,32 @@ impl Scenario {
             maps: self.maps.copied()?,
             alloc: self.alloc,
         })
+    }
+
+    /// The edits by object and step, each once. `OutOfMemory` comes where a growth was refused.
+    pub fn edits(&self, alloc: Global) -> Result<Vec<Edit>, OutOfMemory>
+        ensures { IfOk result (λ edits. edits.items ≡ sets.items self.now) }
+    {
+        self.maps.known();
+        Ok(all_edits(alloc, &self.maps)?)
+    }
+
+    /// The greatest count of the edits' stamps, 0 where there is none. It is the greatest count of every set of edits
+    /// whose winners these are.
+    pub fn greatest_count(&self) -> u64
+        ensures here { result ≡ greatest_count self.now }
+        ensures every { (edits : Edits) → winners edits ≡ self.now → result ≡ greatest_count edits }
+    {
+        self.maps.known();
+        greatest_count_of(&self.maps)
+    }
+
+    /// The fault of the first faulty edit, in the order of `edits`.
+    pub fn fits(&self, plan: &Plan) -> Option<EditFault>
+        ensures fault { result ≡ fault_in plan.now self.now }
+        ensures none { IsNone result ↔ AreInRange plan.now self.now }
+    {
+        self.maps.known();
+        fault_of_first(&self.maps, plan)
     }
 }

@@ -1,0 +1,110 @@
+//! Walks over a scenario's maps that list its edits, count and check them.
+
+ghost use Rattle.std.specs.Prelude.{◌≡◌, [], ◌++◌, OnOk, IfOk, map, max};
+ghost use Rattle.std.specs.List.{fold};
+ghost use Rattle.road_plan.specs.declared.object.Object.{Object};
+ghost use Rattle.road_scenario.specs.Faults.{first_fault};
+ghost use Rattle.road_scenario.specs.Kept.{before, listed, listed_at};
+
+use crate::edit::Edit;
+use crate::faults::EditFault;
+use crate::scenario::{Maps, Steps, Won};
+use lattice_core::greatest::Greatest;
+use road_plan::{Object, OutOfMemory, Plan};
+use std::alloc::Global;
+
+// All edits, by object and step.
+pub(crate) fn all_edits(alloc: Global, maps: &Maps) -> Result<Vec<Edit>, OutOfMemory>
+    ensures { IfOk result (λ edits. edits.items ≡ listed maps.now) }
+{
+    let mut edits = Vec::new(alloc);
+    for (object, steps) in maps.iter() {
+        push_edits(&mut edits, *object, steps)?;
+    }
+    Ok(edits)
+}
+
+// Adds the edits of an object, by step.
+fn push_edits(edits: &mut Vec<Edit>, object: Object, steps: &Steps) -> Result<(), OutOfMemory>
+    ensures { OnOk result (edits.new.items ≡ edits.old.items ++ listed_at object steps.now) }
+{
+    for (step, won) in steps.iter() {
+        match *won {
+            Greatest::Nothing => {}
+            Greatest::Of((stamp, value)) => edits.push(Edit {
+                object,
+                step: *step,
+                stamp,
+                value,
+            })?,
+        }
+    }
+    Ok(())
+}
+
+// The greatest count of all edits, 0 where there is none.
+pub(crate) fn greatest_count_of(maps: &Maps) -> u64
+    ensures { result ≡ fold max 0 (map (λ e. e.stamp.count) (listed maps.now)) }
+{
+    let mut greatest = 0;
+    for (_, steps) in maps.iter() {
+        greatest = greatest_count_at(steps, greatest);
+    }
+    greatest
+}
+
+// The greatest of a count and those of an object's edits.
+fn greatest_count_at(steps: &Steps, count: u64) -> u64
+    ensures { (object : Object) → result ≡ fold max count (map (λ e. e.stamp.count) (listed_at object steps.now)) }
+{
+    let mut greatest = count;
+    for (_, won) in steps.iter() {
+        match *won {
+            Greatest::Nothing => {}
+            Greatest::Of((stamp, _)) => greatest = greatest.max(stamp.count),
+        }
+    }
+    greatest
+}
+
+// The fault of the first faulty edit, by object and step.
+pub(crate) fn fault_of_first(maps: &Maps, plan: &Plan) -> Option<EditFault>
+    ensures { result ≡ first_fault plan.now (listed maps.now) }
+{
+    for (object, steps) in maps.iter() {
+        match fault_at(*object, steps, plan) {
+            Some(fault) => return Some(fault),
+            None => {}
+        }
+    }
+    None
+}
+
+// The fault of an object's first faulty edit, by step.
+fn fault_at(object: Object, steps: &Steps, plan: &Plan) -> Option<EditFault>
+    ensures { result ≡ first_fault plan.now (listed_at object steps.now) }
+{
+    for (step, won) in steps.iter() {
+        match fault_of_won(object, *step, won, plan) {
+            Some(fault) => return Some(fault),
+            None => {}
+        }
+    }
+    None
+}
+
+// The fault of the edit that won at an object and step.
+fn fault_of_won(object: Object, step: u32, won: &Won, plan: &Plan) -> Option<EditFault>
+    ensures { result ≡ first_fault plan.now (before object step won.now []) }
+{
+    match *won {
+        Greatest::Nothing => None,
+        Greatest::Of((stamp, value)) => Edit {
+            object,
+            step,
+            stamp,
+            value,
+        }
+        .fault(plan),
+    }
+}
