@@ -41,6 +41,8 @@ answer_view (answers.Open replicas) = replies.Open replicas
 answer_view (answers.Refused refusal) = replies.Refused refusal
 answer_view (answers.Horizon horizon) = replies.Horizon horizon
 answer_view (answers.Cells row) = replies.Cells (string_bytes row)
+answer_view (answers.Stamped stamp) = replies.Stamped stamp
+answer_view (answers.Edits edits) = replies.Edits edits.items
 
 -- ---- what a reader returned, beside what the grammar gives
 

@@ -38,6 +38,31 @@ fn object_from(items: &[Value]) -> Result<Object, Unread>
     }
 }
 
+/// The name of an object's kind.
+pub(crate) fn kind_of(object: Object) -> &'static str
+    ensures { result.now ≡ objects.kind_of object }
+{
+    match object {
+        Object::Limit(_) => "limit",
+        Object::Slow(_) => "slow",
+        Object::Block(_) => "block",
+        Object::Inflow(_) => "inflow",
+        Object::Watch(_) => "watch",
+    }
+}
+
+/// The index of an object among those of its kind.
+pub(crate) fn index_of(object: Object) -> u32
+    ensures { result ≡ objects.index_of object }
+{
+    match object {
+        Object::Limit(zone) | Object::Slow(zone) => zone,
+        Object::Block(cell) => cell,
+        Object::Inflow(inlet) => inlet,
+        Object::Watch(detector) => detector,
+    }
+}
+
 /// The object of a kind and an index.
 fn object_of(kind: &str, index: u32) -> Option<Object>
     ensures { result ≡ objects.object_of kind.now index }
