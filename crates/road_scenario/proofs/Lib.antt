@@ -1,4 +1,2 @@
 pub mod Rising
 pub mod Joining
-pub mod FirstFaults
-pub mod Counted

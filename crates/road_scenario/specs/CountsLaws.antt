@@ -37,7 +37,7 @@ upper (f ∷ es) a e h = elim (or_cases (eq_by_cmp edit_cmp e f) _ h) as (λ _. 
     above n m a b e h = omega arith
 
 -- the greatest count is the one begun with, or that of an edit
-reached : (es : List Edit) (a : ℕ) → (counts_from a es ≡ a) ⊎ ((e : Edit) × (list_any (eq_by_cmp edit_cmp e) es ≡ true) × (counts_from a es ≡ e.stamp.count))
+pub reached : (es : List Edit) (a : ℕ) → (counts_from a es ≡ a) ⊎ ((e : Edit) × (list_any (eq_by_cmp edit_cmp e) es ≡ true) × (counts_from a es ≡ e.stamp.count))
 reached [] a = inl refl
 reached (f ∷ es) a =
     let Goal : Type 0 = (counts_from a (f ∷ es) ≡ a) ⊎ ((e : Edit) × (list_any (eq_by_cmp edit_cmp e) (f ∷ es) ≡ true) × (counts_from a (f ∷ es) ≡ e.stamp.count)) in
@@ -109,8 +109,8 @@ no_more s = elim (reached (items (winners s)) 0) as (λ _. greatest_count (winne
     by_same : (a b c : ℕ) → a ≡ b → b ≤ c → a ≤ c
     by_same a b c e h = omega arith
 
-pub count-winners : (s : Edits) → greatest_count (winners s) ≡ greatest_count s
-count-winners s = between _ _ (no_more s) (no_less s)
+pub greatest_count-winners : (s : Edits) → greatest_count (winners s) ≡ greatest_count s
+greatest_count-winners s = between _ _ (no_more s) (no_less s)
   where
     between : (a b : ℕ) → a ≤ b → b ≤ a → a ≡ b
     between a b p q = omega arith

@@ -48,7 +48,7 @@ passed : (b : Bool) (f : EditFault) (y : Option EditFault) → b ≡ true → y 
 passed true f y e h = h
 passed false f y e h = absurd (true≢false (sym e))
 
-in_range : (p : Plan) (e : Edit) → fault_of p e ≡ None → IsInRange p e
+pub in_range : (p : Plan) (e : Edit) → fault_of p e ≡ None → IsInRange p e
 in_range p e h =
     let object = unless_some (in_plan p e.object) NoObject _ h in
     let step = unless_some (nat_le e.step LAST_EDIT_STEP) Step _ object.1 in
