@@ -64,7 +64,7 @@ faultless p e h =
     passed (takes e.object e.value) ValueOutOfRange _ h.taken (
     passed (nat_le 1 e.stamp.count && nat_le e.stamp.count GREATEST_COUNT) Count None (and_from _ _ (le-leb _ _ h.counted) (le-leb _ _ h.not_spent)) refl)))
 
-none_of_both : (x y : Option EditFault) → option_or x y ≡ None → (x ≡ None) × (y ≡ None)
+pub none_of_both : (x y : Option EditFault) → option_or x y ≡ None → (x ≡ None) × (y ≡ None)
 none_of_both None y h = (refl, h)
 none_of_both (Some f) y h = cc
 
@@ -76,6 +76,9 @@ each_faultless p (f ∷ es) h e i =
       | inl t ↦ ap (fault_of p) (edit_exact e f ((Equal-is (edit_cmp e f)).0 t)) ∙ parts.0
       | inr t ↦ each_faultless p es parts.1 e t
     ]
+
+pub each_in_range : (p : Plan) (es : List Edit) → first_fault p es ≡ None → (e : Edit) → list_any (eq_by_cmp edit_cmp e) es ≡ true → IsInRange p e
+each_in_range p es h e i = in_range p e (each_faultless p es h e i)
 
 none_faulty : (p : Plan) (es : List Edit) → ((e : Edit) → list_any (eq_by_cmp edit_cmp e) es ≡ true → fault_of p e ≡ None) → first_fault p es ≡ None
 none_faulty p [] h = refl
@@ -89,7 +92,7 @@ is_nothing (Some f) h = absurd (true≢false h)
 
 -- there is no fault exactly where all edits are in the plan and its ranges
 pub all_in_range : (p : Plan) (s : Edits) (x : Option EditFault) → x ≡ fault_in p s → IsNone x → AreInRange p s
-all_in_range p s x is h e i = in_range p e (each_faultless p (items s) (sym is ∙ is_nothing x h) e (sym (contains-items s e) ∙ i))
+all_in_range p s x is h e i = each_in_range p (items s) (sym is ∙ is_nothing x h) e (sym (contains-items s e) ∙ i)
 
 pub no_fault : (p : Plan) (s : Edits) (x : Option EditFault) → x ≡ fault_in p s → AreInRange p s → IsNone x
 no_fault p s x is h = ap is_some (is ∙ none_faulty p (items s) (λ e i. faultless p e (h e (contains-items s e ∙ i))))

@@ -17,7 +17,7 @@ use Rattle.road_scenario.specs.Winners.{winners}
 
 -- whether an edit puts a number to an object, dated at most at a step
 abbrev pub puts : Object → ℕ → Edit → Bool
-puts o step e = is_eq (by_kind_and_index e.object o) && nat_le e.step step && is_some (number_put e.value)
+puts o step e = is_eq (by_kind_and_index e.object o) && (nat_le e.step step && is_some (number_put e.value))
 
 -- the latest-dated of these edits
 abbrev pub latest : List Edit → Option Edit

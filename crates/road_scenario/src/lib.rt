@@ -8,6 +8,7 @@ mod exact;
 mod faults;
 mod listing;
 mod scenario;
+mod settings;
 
 pub use edit::{Edit, Stamp, Value};
 pub use faults::EditFault;

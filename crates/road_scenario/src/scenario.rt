@@ -1,17 +1,21 @@
-ghost use Rattle.std.specs.Prelude.{◌≡◌, ◌↔◌, [], ◌∷◌, IfOk, IsNone};
+ghost use Rattle.std.specs.Prelude.{◌≡◌, ◌↔◌, [], ◌∷◌, IfOk, IsNone, None, true};
 ghost use Rattle.lattice_core.specs.Sets as sets;
+ghost use Rattle.road_plan.specs.Objects.{in_plan};
+ghost use Rattle.road_plan.specs.Settings.{Fits};
 ghost use Rattle.road_scenario.specs.Counts.{greatest_count};
 ghost use Rattle.road_scenario.specs.Edits.{Edits};
 ghost use Rattle.road_scenario.specs.Faults.{fault_in, AreInRange};
+ghost use Rattle.road_scenario.specs.Settings.{setting, settings_of};
 ghost use Rattle.road_scenario.specs.Winners.{winners, join};
 
 use crate::edit::{Edit, Stamp, Value};
 use crate::faults::EditFault;
 use crate::listing::{all_edits, fault_of_first, greatest_count_of};
+use crate::settings::{number_of, put_all};
 use lattice_core::greatest::Greatest;
 use lattice_core::lattice::Lattice;
 use lattice_core::map::LatMap;
-use road_plan::{Object, OutOfMemory, Plan};
+use road_plan::{Object, OutOfMemory, Plan, Settings};
 use std::alloc::Global;
 use std::marker::Model;
 
@@ -90,6 +94,38 @@ impl Scenario {
             maps: self.maps.copied()?,
             alloc: self.alloc,
         })
+    }
+
+    /// The number in force for an object at a step: the one put by the latest-dated edit up to that step which isn't a
+    /// withdrawal, the default where there is none.
+    pub fn setting(&self, plan: &Plan, object: Object, step: u32) -> u32
+        requires { in_plan plan.now object ≡ true }
+        ensures { result ≡ setting plan.now self.now object step }
+    {
+        self.maps.known();
+        match number_of(&self.maps, object, step) {
+            Some(number) => number,
+            None => object.default(plan),
+        }
+    }
+
+    /// All settings of the plan at a step, by one walk over the edits up to it. `OutOfMemory` comes where a growth was
+    /// refused.
+    pub fn settings_at(
+        &self,
+        alloc: Global,
+        plan: &Plan,
+        step: u32,
+    ) -> Result<Settings, OutOfMemory>
+        requires { fault_in plan.now self.now ≡ None }
+        ensures made { IfOk result (λ settings. settings ≡ settings_of plan.now self.now step) }
+        ensures fits { IfOk result (λ settings. Fits plan.now settings) }
+    {
+        self.maps.known();
+        plan.limits();
+        let mut settings = Settings::of_plan(alloc, plan)?;
+        put_all(&mut settings, &self.maps, step)?;
+        Ok(settings)
     }
 
     /// The edits by object and step, each once. `OutOfMemory` comes where a growth was refused.

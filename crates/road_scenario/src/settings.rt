@@ -1,0 +1,77 @@
+//! Walks over a scenario's maps that read the numbers put.
+
+ghost use Rattle.std.specs.Prelude.{◌≡◌, true, OnOk};
+ghost use Rattle.lattice_core.specs.Map.{EachEntry};
+ghost use Rattle.road_scenario.specs.Walks as walks;
+
+use crate::edit::Value;
+use crate::scenario::{Maps, Steps, Won};
+use lattice_core::greatest::Greatest;
+use road_plan::{Object, OutOfMemory, Settings};
+
+// Puts the last number of each object up to a step into the settings.
+pub(crate) fn put_all(settings: &mut Settings, maps: &Maps, step: u32) -> Result<(), OutOfMemory>
+    requires { EachEntry (λ e. walks.has_place settings.now e.0 ≡ true) maps.now }
+    ensures { OnOk result (settings.new ≡ walks.with_puts step settings.old maps.now) }
+{
+    for (object, steps) in maps.iter() {
+        match last_put(steps, step) {
+            Some(number) => put(settings, *object, number)?,
+            None => {}
+        }
+    }
+    Ok(())
+}
+
+// Puts a number into the settings. A blocked cell comes after those that are there.
+fn put(settings: &mut Settings, object: Object, number: u32) -> Result<(), OutOfMemory>
+    requires { walks.has_place settings.now object ≡ true }
+    ensures { OnOk result (settings.new ≡ walks.with_number settings.old object number) }
+{
+    match object {
+        Object::Limit(zone) => settings.limits[zone as usize] = number,
+        Object::Slow(zone) => settings.chances[zone as usize] = number,
+        Object::Block(cell) => {
+            if number == 1 {
+                settings.blocks.push(cell)?;
+            }
+        }
+        Object::Inflow(inlet) => settings.inflows[inlet as usize] = number,
+        Object::Watch(detector) => settings.watched[detector as usize] = number == 1,
+    }
+    Ok(())
+}
+
+// The last number that an object's steps put up to a step.
+pub(crate) fn number_of(maps: &Maps, object: Object, step: u32) -> Option<u32>
+    ensures { result ≡ walks.last_put step (walks.steps_of (⟦<Object as Ord>⟧.cmp) maps.now object) }
+{
+    match maps.get(object) {
+        Some(steps) => last_put(steps, step),
+        None => None,
+    }
+}
+
+// The last number put up to a step. The walk ends at the first later step.
+fn last_put(steps: &Steps, step: u32) -> Option<u32>
+    ensures { result ≡ walks.last_put step steps.now }
+{
+    let mut number = None;
+    for (at, won) in steps.iter() {
+        if *at > step {
+            return number;
+        }
+        number = number_put(won).or(number);
+    }
+    number
+}
+
+// The number that won: nothing where a withdrawal did.
+pub(crate) fn number_put(won: &Won) -> Option<u32>
+    ensures { result ≡ walks.won_number won.now }
+{
+    match *won {
+        Greatest::Of((_, Value::Put(number))) => Some(number),
+        _ => None,
+    }
+}
