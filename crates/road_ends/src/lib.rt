@@ -3,10 +3,13 @@
 //! The functions here are the plain program of the definitions: they go over the road cell by cell and car by car.
 #![tactic(auto)]
 
+mod chance;
 mod course;
 mod entries;
 pub mod laws;
 mod letters;
+mod pass;
+pub mod plain;
 mod rules;
 mod step;
 #[cfg(test)]
@@ -15,6 +18,7 @@ mod tests;
 pub use course::{Course, OwnSettings, row, run};
 pub use entries::entered;
 pub use letters::{BLOCKED, EMPTY, STANDING, row_text};
-pub use rules::{gap, speed, speeds};
+pub use pass::speeds;
+pub use rules::{gap, speed};
 pub use std::alloc::AllocError as OutOfMemory;
 pub use step::{leave, next, stepped};

@@ -3,7 +3,7 @@ ghost use Rattle.road_plan.specs.Settings.{Fits};
 ghost use Rattle.road_ends.specs.Run.{next, left, stepped};
 
 use crate::entries::entered;
-use crate::rules::speeds;
+use crate::pass::speeds;
 use road_cells::Road;
 use road_plan::{Plan, Settings};
 use road_rules::moved;
