@@ -1,9 +1,8 @@
-ghost use Rattle.std.specs.Prelude.{◌≡◌, ℕ, ◌+◌, ◌<◌, ◌≤◌, ◌-◌, min, [], length, map, is_some, nat_lt, IfOk};
-ghost use Rattle.std.specs.List.{count_by};
+ghost use Rattle.std.specs.Prelude.{◌≡◌, ℕ, ◌+◌, ◌<◌, ◌≤◌, ◌-◌, min, [], length, map, is_some, IfOk};
 ghost use Rattle.std.specs.List.Sorted.{IsNonDecreasing};
 ghost use Rattle.std.specs.Option.{option_map};
 ghost use Rattle.road_cells.specs.Array.{vehicle_at, numbers};
-ghost use Rattle.road_cells.specs.Cars.{Rise, cars_of, cars_from, car_of, array_of, cell_at, standing};
+ghost use Rattle.road_cells.specs.Cars.{Rise, cars_of, cars_from, car_of, cars_before, array_of, cell_at, standing};
 ghost use Rattle.road_cells.specs.Gap.{free_before, free_cells, is_blocked, ArePartedAt};
 
 use crate::OutOfMemory;
@@ -80,7 +79,7 @@ impl Road {
 
     /// How many cars stand before a cell: the place of the first one that does not. It is found by a binary search.
     pub fn cars_before(&self, cell: u32) -> usize
-        ensures { result ≡ count_by (λ car. nat_lt car.cell cell) (cars_of self.now) }
+        ensures { result ≡ cars_before cell (cars_of self.now) }
     {
         self.cars.partition_point(|car| car.cell < cell)
     }
