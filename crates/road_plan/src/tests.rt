@@ -94,8 +94,7 @@ fn checks_the_inlets(rt: HostRuntime) -> Result<(), Fail> {
         (&[(11, 0)], Some(Fault::Inlets)),
         (&[(u32::MAX, 0)], Some(Fault::Inlets)),
         (&[], Some(Fault::Inlets)),
-        // accepted as soon as several inlets are served
-        (&[(0, 0), (3, 0)], Some(Fault::Inlets)),
+        (&[(3, 0), (0, 0)], None),
         (&[(3, 1), (3, 0)], Some(Fault::Inlets)),
         (&[(0, 0), (1, 0), (2, 0), (1, 0)], Some(Fault::Inlets)),
         (&[(0, 0); 17], Some(Fault::Inlets)),
@@ -103,6 +102,19 @@ fn checks_the_inlets(rt: HostRuntime) -> Result<(), Fail> {
     for (inlets, fault) in table {
         let parts = parts_of(rt.alloc(), ROAD, ZONE, inlets, SITE)?;
         assert_eq!(rt; Plan::new(parts).err(), fault, "{inlets:?}");
+    }
+    Ok(())
+}
+
+#[test]
+fn accepts_sixteen_inlets(rt: HostRuntime) -> Result<(), Fail> {
+    for (count, fault) in [(1, None), (16, None), (17, Some(Fault::Inlets))] {
+        let mut inlets = Vec::new(rt.alloc());
+        for inlet in 0..count {
+            inlets.push((inlet, 0))?;
+        }
+        let parts = parts_of(rt.alloc(), (32, 1, 32), ZONE, &inlets, SITE)?;
+        assert_eq!(rt; Plan::new(parts).err(), fault, "{count} inlets");
     }
     Ok(())
 }
@@ -212,7 +224,7 @@ fn says_each_fault(rt: HostRuntime) -> Result<(), Fail> {
         ),
         (
             Fault::Inlets,
-            "the inlets are none, more than 1, or not at different cells before the deleted zone",
+            "the inlets are none, more than 16, or not at different cells before the deleted zone",
         ),
         (
             Fault::Detectors,
