@@ -211,6 +211,39 @@ fn reads_the_own_settings(rt: HostRuntime) -> Result<(), Fail> {
 }
 
 #[test]
+fn knows_the_settings_that_fit(rt: HostRuntime) -> Result<(), Fail> {
+    let alloc = rt.alloc();
+    let parts = parts_of(alloc, (12, 1, 6), &[(2, 10), (1, 20)], &[(3, 30)], &[5, 6])?;
+    let plan = Plan::new(parts)?;
+    let table: [(&[u32], &[u32], &[u32], &[u32], usize, bool); 13] = [
+        (&[2, 1], &[10, 20], &[30], &[], 2, true),
+        (&[9, 0], &[65_536, 0], &[65_536], &[0, 5, 11], 2, true),
+        (&[2], &[10, 20], &[30], &[], 2, false),
+        (&[2, 1], &[10, 20, 0], &[30], &[], 2, false),
+        (&[2, 1], &[10, 20], &[], &[], 2, false),
+        (&[2, 1], &[10, 20], &[30], &[], 1, false),
+        (&[2, 10], &[10, 20], &[30], &[], 2, false),
+        (&[2, 1], &[65_537, 20], &[30], &[], 2, false),
+        (&[2, 1], &[10, 20], &[65_537], &[], 2, false),
+        (&[2, 1], &[10, 20], &[30], &[12], 2, false),
+        (&[2, 1], &[10, 20], &[30], &[5, 3], 2, false),
+        (&[2, 1], &[10, 20], &[30], &[3, 3], 2, false),
+        (&[2, 1], &[10, 20], &[30], &[3, 4], 2, true),
+    ];
+    for (limits, chances, inflows, blocks, watched, fits) in table {
+        let settings = Settings {
+            limits: limits.to_vec(alloc)?,
+            chances: chances.to_vec(alloc)?,
+            inflows: inflows.to_vec(alloc)?,
+            blocks: blocks.to_vec(alloc)?,
+            watched: vec![in alloc; true; watched]?,
+        };
+        assert_eq!(rt; settings.fits(&plan), fits, "{settings:?}");
+    }
+    Ok(())
+}
+
+#[test]
 fn says_each_fault(rt: HostRuntime) -> Result<(), Fail> {
     let table = [
         (Fault::Length, "the road is not 8 to 8192 cells long"),
