@@ -1,4 +1,4 @@
--- What the plain program computes.
+-- What the program computes.
 use Rattle.std.specs.Prelude.{◌≡◌, ℕ, zero, suc, ◌+◌, ◌-◌, ◌*◌, ◌/◌, ◌<◌, ◌≤◌, ◌&&◌, ◌||◌, true, false, cond, List, [], ◌∷◌, ◌++◌, length, map, take, is_some, nat_eq, nat_lt, slice_index, refl}
 use Rattle.std.specs.List.{slice_index_or}
 use Rattle.std.specs.List.Sorted.{IsStrictlyIncreasing, IsNonDecreasing, IsPartitionedBy, IsPartitionPoint}
@@ -153,7 +153,7 @@ module _ (end : ℕ) where
 -- going over the cells of a tabulated array, car by car
 module _ (f : ℕ → Option Vehicle) (n : ℕ) where
   -- the cars from a cell on
-  pub cars_left : ℕ → List Car
+  unfoldable pub cars_left : ℕ → List Car
   cars_left cell = cars_from cell (map f (numbers cell (n - cell)))
 
   turn : (cell : ℕ) → cell < n → cars_left cell ≡ cars_from cell (f cell ∷ map f (numbers (cell + 1) (n - (cell + 1))))

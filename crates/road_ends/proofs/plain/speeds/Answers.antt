@@ -1,6 +1,6 @@
 use Rattle.std.proofs.Common.{◌<◌, subst, length}
-use Rattle.road_ends.proofs.Plain.{one_speed_more}
-use Rattle.road_ends.proofs.rules.speeds.Goals as goal
+use Rattle.road_ends.proofs.Computed.{one_speed_more}
+use Rattle.road_ends.proofs.plain.speeds.Goals as goal
 
 pub loop-place-preserved : goal.loop-place-preserved
 loop-place-preserved c =

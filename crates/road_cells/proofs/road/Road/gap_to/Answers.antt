@@ -6,7 +6,7 @@ use Rattle.road_cells.specs.CarsLaws.{standing-cars_from}
 use Rattle.road_cells.specs.Gap.{free_before, is_blocked}
 use Rattle.road_cells.specs.GapLaws.{free_before-or, free_before-same}
 use Rattle.road_cells.specs.declared.car.TheConstants.{GREATEST_SPEED}
-use Rattle.road_cells.proofs.road.Road.gap.Goals as goal
+use Rattle.road_cells.proofs.road.Road.gap_to.Goals as goal
 
 pub returns : goal.returns
 returns c =
