@@ -6,8 +6,9 @@ ghost use Rattle.road_lab.specs.Laboratory.{row_at};
 ghost use Rattle.road_lab.specs.Simulation.{run_at};
 
 use road_cells::Road;
+use road_detector::row_text;
 use road_ends::laws::cars_stay_on_road;
-use road_ends::{row_text, stepped};
+use road_ends::stepped;
 use road_plan::{OutOfMemory, Plan};
 use road_scenario::Scenario;
 use std::alloc::Global;
@@ -89,7 +90,8 @@ fn next_road(
     ensures { IfOk result (λ next. next ≡ run_at plan.now scenario.now (step + 1)) }
 {
     let settings = scenario.settings_at(alloc, plan, step)?;
-    stepped(alloc, plan, &settings, step, road)
+    let next = stepped(alloc, plan, &settings, step, road)?;
+    Ok(next)
 }
 
 /// The row of a state, with the blocks of its step.
@@ -105,5 +107,5 @@ pub fn row_of(
 {
     cars_stay_on_road(plan);
     let settings = scenario.settings_at(alloc, plan, state.step)?;
-    row_text(alloc, plan.length(), settings.blocks(), &state.road)
+    row_text(alloc, &state.road, settings.blocks(), plan.length())
 }

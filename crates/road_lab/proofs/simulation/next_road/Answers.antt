@@ -1,4 +1,3 @@
-use Rattle.std.proofs.Common.{◌∙◌}
 use Rattle.road_scenario.specs.RangeLaws.{in_range-faultless}
 use Rattle.road_lab.proofs.Stepping.{step_more}
 use Rattle.road_lab.proofs.simulation.next_road.Goals as goal
@@ -7,4 +6,4 @@ pub settings_at-requires : goal.settings_at-requires
 settings_at-requires c = in_range-faultless c.args.plan.now c.args.scenario.now c.requires.fits
 
 pub returns : goal.returns
-returns c = step_more c.args.plan.now c.args.scenario.now _ c.args.step c.args.road.now _ (c.settings.view_is ∙ c.in_ok-settings.ensures.made) c.requires.run c.stepped.ensures
+returns c = step_more c.args.plan.now c.args.scenario.now _ c.args.step c.args.road.now _ c.in_ok-settings.ensures.made c.requires.run c.in_ok-next.ensures
