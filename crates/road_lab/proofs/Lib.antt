@@ -2,6 +2,7 @@ pub mod Pieces
 pub mod Accepted
 pub mod Numbered
 pub mod Stepping
+pub mod Replicas
 pub mod Machine
 pub mod Agreement
 pub mod Lines

@@ -42,10 +42,14 @@ pub struct Keeper {
 
 impl Model for Keeper {
     ghost use Rattle.std.specs.Prelude.{map};
+    ghost use Rattle.std.specs.Coded.{codes};
+    ghost use Rattle.road_scenario.specs.EditOrder.{edits_code};
     ghost use Rattle.road_lab.specs.Kept.{Kept};
     ghost use Rattle.road_lab.specs.Keeping.{IsKept, seen};
 
     ghost Value = { Kept };
+
+    ghost coded = { Prim.hlevel (codes, edits_code) };
 
     ghost view = { λ keeper. record { line = record { names = keeper.names; plan = keeper.plan }; replicas = map seen keeper.replicas.items } };
 
@@ -167,13 +171,9 @@ impl Keeper {
         ensures after { OnOk result (self.new ≡ kept_event self.old (Some (record { replica = replica; deed = laboratory.Made edit.now }))) }
         ensures unchanged { OnErr result (self.new ≡ self.old) }
     {
-        let scenario = self.replicas[replica].scenario.with_edit(edit)?;
-        let horizon = self.replicas[replica].horizon;
-        self.replicas[replica] = Replica {
-            scenario,
-            horizon,
-            last: State::opening(alloc),
-        };
+        let held = &mut self.replicas[replica];
+        held.scenario = held.scenario.with_edit(edit)?;
+        held.last = State::opening(alloc);
         Ok(())
     }
 
@@ -188,9 +188,9 @@ impl Keeper {
         if to > GREATEST_HORIZON {
             return Answer::Refused(Refusal::Horizon);
         }
-        let horizon = self.replicas[replica].horizon.max(to);
-        self.replicas[replica].horizon = horizon;
-        Answer::Horizon(horizon)
+        let held = &mut self.replicas[replica];
+        held.horizon = held.horizon.max(to);
+        Answer::Horizon(held.horizon)
     }
 
     // The row of a replica's road at a step.

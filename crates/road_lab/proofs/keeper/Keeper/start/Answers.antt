@@ -1,0 +1,7 @@
+use Rattle.road_lab.proofs.Replicas.{start_kept, few_texts}
+use Rattle.road_lab.proofs.keeper.Keeper.start.Goals as goal
+
+pub invariant_of-result : goal.invariant_of-result
+invariant_of-result c =
+    start_kept c.args.line.plan c.in_ok-names.names c.in_ok-replicas.replicas.items c.len.result (few_texts c.in_ok-names.names c.args.line.names.items c.in_ok-names.ensures c.requires.few)
+    c.len.ensures c.in_ok-replicas.ensures.each c.in_ok-replicas.ensures.of_run
