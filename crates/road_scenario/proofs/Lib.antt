@@ -6,3 +6,4 @@ pub mod LastPuts
 pub mod Puts
 pub mod Fitting
 pub mod Settled
+pub mod Touching

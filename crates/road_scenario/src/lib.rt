@@ -9,6 +9,7 @@ mod faults;
 mod listing;
 mod scenario;
 mod settings;
+mod touched;
 
 pub use edit::{Edit, Stamp, Value};
 pub use faults::EditFault;

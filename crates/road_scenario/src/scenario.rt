@@ -6,12 +6,14 @@ ghost use Rattle.road_scenario.specs.Counts.{greatest_count};
 ghost use Rattle.road_scenario.specs.Edits.{Edits};
 ghost use Rattle.road_scenario.specs.Faults.{fault_in, AreInRange};
 ghost use Rattle.road_scenario.specs.Settings.{setting, settings_of};
+ghost use Rattle.road_scenario.specs.Touched.{touched};
 ghost use Rattle.road_scenario.specs.Winners.{winners, join};
 
 use crate::edit::{Edit, Stamp, Value};
 use crate::faults::EditFault;
 use crate::listing::{all_edits, fault_of_first, greatest_count_of};
 use crate::settings::{number_of, put_all};
+use crate::touched::first_change;
 use lattice_core::greatest::Greatest;
 use lattice_core::lattice::Lattice;
 use lattice_core::map::LatMap;
@@ -126,6 +128,16 @@ impl Scenario {
         let mut settings = Settings::of_plan(alloc, plan)?;
         put_all(&mut settings, &self.maps, step)?;
         Ok(settings)
+    }
+
+    /// The least step of an object and step at which the numbers put here and in `other` differ: nothing is put where
+    /// there is no edit or a withdrawal.
+    pub fn touched(&self, other: &Scenario) -> Option<u32>
+        ensures { result ≡ touched self.now other.now }
+    {
+        self.maps.known();
+        other.maps.known();
+        first_change(&self.maps, &other.maps)
     }
 
     /// The edits by object and step, each once. `OutOfMemory` comes where a growth was refused.
