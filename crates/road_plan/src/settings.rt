@@ -1,6 +1,9 @@
-ghost use Rattle.std.specs.Prelude.{◌≡◌, IfOk, map, true};
+ghost use Rattle.std.specs.Prelude.{◌≡◌, ◌↔◌, IfOk, IsTrue, map, nat_le, true};
+ghost use Rattle.std.specs.List.{list_all};
 ghost use Rattle.road_plan.specs.Settings.{defaults, Fits};
+ghost use Rattle.road_plan.specs.Settings as tests;
 
+use crate::limits::{CERTAIN, GREATEST_LIMIT};
 use crate::plan::Plan;
 use std::alloc::{AllocError as OutOfMemory, Global};
 use std::marker::Model;
@@ -44,6 +47,14 @@ impl Settings {
         })
     }
 
+    /// Whether they fit the plan: one allowed number for each zone and inlet, one answer for each detector, and the
+    /// blocked cells rise and are on the road. Takes no memory.
+    pub fn fits(&self, plan: &Plan) -> bool
+        ensures { IsTrue result ↔ Fits plan.now self.now }
+    {
+        fit(self, plan)
+    }
+
     /// For each zone its speed limit, in cells per step.
     pub fn limits(&self) -> &[u32]
         ensures { result.now ≡ self.now.limits }
@@ -78,6 +89,46 @@ impl Settings {
     {
         &self.watched
     }
+}
+
+/// Whether the settings fit the plan.
+fn fit(settings: &Settings, plan: &Plan) -> bool
+    ensures { result ≡ tests.fits_plan plan.now settings.now }
+{
+    let zones = plan.zones().len();
+    has_each(zones, GREATEST_LIMIT, settings.limits())
+        && has_each(zones, CERTAIN, settings.chances())
+        && has_each(plan.inlets().len(), CERTAIN, settings.inflows())
+        && rise_before(plan.length(), settings.blocks())
+        && settings.watched().len() == plan.detectors().len()
+}
+
+/// Whether there are so many numbers, none of them above the greatest.
+fn has_each(count: usize, greatest: u32, numbers: &[u32]) -> bool
+    ensures { result ≡ tests.has_each count greatest numbers.now }
+{
+    numbers.len() == count && none_above(greatest, numbers)
+}
+
+/// Whether no number is above the greatest.
+fn none_above(greatest: u32, numbers: &[u32]) -> bool
+    ensures { result ≡ list_all (λ n. nat_le n greatest) numbers.now }
+{
+    numbers.iter().all(|&number| number <= greatest)
+}
+
+/// Whether cells rise, all of them before `end`.
+fn rise_before(end: u32, cells: &[u32]) -> bool
+    ensures { result ≡ tests.rise_from 0 end cells.now }
+{
+    let mut first = 0;
+    for &cell in cells {
+        if cell < first || cell >= end {
+            return false;
+        }
+        first = cell + 1;
+    }
+    true
 }
 
 /// The speed limits of these zones.
