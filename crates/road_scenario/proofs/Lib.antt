@@ -7,3 +7,4 @@ pub mod Puts
 pub mod Fitting
 pub mod Settled
 pub mod Touching
+pub mod Same

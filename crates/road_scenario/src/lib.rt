@@ -6,6 +6,7 @@
 mod edit;
 mod exact;
 mod faults;
+mod lattice;
 mod listing;
 mod scenario;
 mod settings;

@@ -1,10 +1,11 @@
-ghost use Rattle.std.specs.Prelude.{◌≡◌, ◌↔◌, [], ◌∷◌, IfOk, IsNone, None, true};
+ghost use Rattle.std.specs.Prelude.{◌≡◌, ◌↔◌, [], ◌∷◌, IfOk, IsNone, IsTrue, None, true};
 ghost use Rattle.lattice_core.specs.Sets as sets;
 ghost use Rattle.road_plan.specs.Objects.{in_plan};
 ghost use Rattle.road_plan.specs.Settings.{Fits};
 ghost use Rattle.road_scenario.specs.Counts.{greatest_count};
 ghost use Rattle.road_scenario.specs.Edits.{Edits};
 ghost use Rattle.road_scenario.specs.Faults.{fault_in, AreInRange};
+ghost use Rattle.road_scenario.specs.JoinLaws.{AreWinners, has_none};
 ghost use Rattle.road_scenario.specs.Settings.{setting, settings_of};
 ghost use Rattle.road_scenario.specs.Touched.{touched};
 ghost use Rattle.road_scenario.specs.Winners.{winners, join};
@@ -165,5 +166,29 @@ impl Scenario {
     {
         self.maps.known();
         fault_of_first(&self.maps, plan)
+    }
+
+    // Whether there is no edit.
+    pub(crate) fn is_empty(&self) -> bool
+        ensures { result ≡ has_none self.now }
+    {
+        self.maps.known();
+        self.maps.is_bottom()
+    }
+
+    // Whether the join with `other` is `other`.
+    pub(crate) fn is_up_to(&self, other: &Scenario) -> bool
+        ensures { IsTrue result ↔ (join self.now other.now ≡ other.now) }
+    {
+        self.maps.known();
+        other.maps.known();
+        self.maps.at_most(&other.maps)
+    }
+
+    // That no edit of the scenario exceeds another. It is a fact for proofs: the call does nothing.
+    pub(crate) fn are_winners(&self)
+        ensures { AreWinners self.now }
+    {
+        self.maps.known();
     }
 }
