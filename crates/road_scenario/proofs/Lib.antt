@@ -8,3 +8,4 @@ pub mod Fitting
 pub mod Settled
 pub mod Touching
 pub mod Same
+pub mod Winning

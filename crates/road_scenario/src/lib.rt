@@ -7,6 +7,7 @@ mod edit;
 mod exact;
 mod faults;
 mod lattice;
+pub mod laws;
 mod listing;
 mod scenario;
 mod settings;

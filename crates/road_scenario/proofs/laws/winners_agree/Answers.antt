@@ -1,0 +1,12 @@
+use Rattle.road_scenario.specs.EditOrder.{winners_laws}
+use Rattle.road_scenario.proofs.Winning as winning
+use Rattle.road_scenario.proofs.laws.winners_agree.Goals as goal
+
+pub returns-clause-joined : goal.returns-clause-joined
+returns-clause-joined c = winners_laws
+
+pub returns-clause-alone : goal.returns-clause-alone
+returns-clause-alone c = winning.alone
+
+pub returns-clause-listed : goal.returns-clause-listed
+returns-clause-listed c = winning.listed
