@@ -1,8 +1,8 @@
 //! What holds of all sets of edits, each on a function that does nothing. That scenarios agree whatever the order,
 //! grouping and repetition of their merges is `Lattice` for `Scenario`.
 
-ghost use Rattle.std.specs.Prelude.{◌≡◌, ℕ, List, true};
-ghost use Rattle.lattice_core.specs.Sets.{contains, from_list};
+ghost use Rattle.std.specs.Prelude.{◌≡◌, [], ◌∷◌, ℕ, List, true};
+ghost use Rattle.lattice_core.specs.Sets.{contains, empty, from_list};
 ghost use Rattle.lattice_core.specs.Tops.{TopsLaws};
 ghost use Rattle.road_plan.specs.Plan.{Plan};
 ghost use Rattle.road_scenario.specs.declared.edit.Edit.{Edit};
@@ -17,6 +17,9 @@ pub fn winners_agree()
     // A winner is an edit that none exceeds. The winners of a union are the join of the winners of its parts, winners of
     // winners are the same, and joins are commutative, associative and idempotent.
     ensures joined { TopsLaws edit_cmp exceeds }
+    // No edit, and one edit alone, are their own winners.
+    ensures none { winners empty ≡ empty }
+    ensures single { (edit : Edit) → winners (from_list (edit ∷ [])) ≡ from_list (edit ∷ []) }
     // Each object and step has one winner.
     ensures alone { (edits : Edits) (e f : Edit) → contains (winners edits) e ≡ true → contains (winners edits) f ≡ true → place e ≡ place f → e ≡ f }
     // The winners of a list are those of its set.

@@ -1,9 +1,9 @@
-ghost use Rattle.std.specs.Prelude.{◌≡◌, ◌↔◌, [], ◌∷◌, IfOk, IsNone, IsTrue, None, true};
+ghost use Rattle.std.specs.Prelude.{◌≡◌, ◌↔◌, [], ◌∷◌, IfOk, IsNone, IsTrue, None, T, true};
 ghost use Rattle.lattice_core.specs.Sets as sets;
 ghost use Rattle.road_plan.specs.Objects.{in_plan};
 ghost use Rattle.road_plan.specs.Settings.{Fits};
 ghost use Rattle.road_scenario.specs.Counts.{greatest_count};
-ghost use Rattle.road_scenario.specs.Edits.{Edits};
+ghost use Rattle.road_scenario.specs.Edits.{Edits, edit_cmp};
 ghost use Rattle.road_scenario.specs.Faults.{fault_in, AreInRange};
 ghost use Rattle.road_scenario.specs.JoinLaws.{AreWinners, has_none};
 ghost use Rattle.road_scenario.specs.Settings.{setting, settings_of};
@@ -143,7 +143,8 @@ impl Scenario {
 
     /// The edits by object and step, each once. `OutOfMemory` comes where a growth was refused.
     pub fn edits(&self, alloc: Global) -> Result<Vec<Edit>, OutOfMemory>
-        ensures { IfOk result (λ edits. edits.items ≡ sets.items self.now) }
+        ensures all { IfOk result (λ edits. edits.items ≡ sets.items self.now) }
+        ensures rising { IfOk result (λ edits. T (sets.is_rising edit_cmp edits.items)) }
     {
         self.maps.known();
         Ok(all_edits(alloc, &self.maps)?)
@@ -185,8 +186,8 @@ impl Scenario {
         self.maps.at_most(&other.maps)
     }
 
-    // That no edit of the scenario exceeds another. It is a fact for proofs: the call does nothing.
-    pub(crate) fn are_winners(&self)
+    /// That no edit of the scenario exceeds another. It is a fact for proofs: the call does nothing.
+    pub fn are_winners(&self)
         ensures { AreWinners self.now }
     {
         self.maps.known();
