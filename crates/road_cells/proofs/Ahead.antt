@@ -8,7 +8,7 @@ use Rattle.std.proofs.lemmas.Bool.Decides.{nat_tests}
 use Rattle.std.proofs.lemmas.List.Folds.{list_any_at}
 use Rattle.road_cells.specs.Cars.{Rise, standing, car_of, cell_at}
 use Rattle.road_cells.specs.CarsPlaces.{rise-at, standing-absent, standing-at}
-use Rattle.road_cells.specs.Gap.{free_before, is_blocked}
+use Rattle.road_cells.specs.Gap.{free_before, is_blocked, ArePartedAt}
 use Rattle.road_cells.specs.GapLaws.{free_before-first, free_before-none}
 use Rattle.road_cells.specs.declared.car.Car.{Car}
 
@@ -67,27 +67,26 @@ blocked_at blocks i below = list_any_at (nat_eq (slice_index blocks i)) blocks i
 pub parted : (blocks : List ℕ) (cell : ℕ) → IsNonDecreasing blocks → IsPartitionedBy (λ block. nat_le block cell) blocks
 parted blocks cell rising i j d le below reached = grind (arith, nat_tests, rising i j d le below)
 
-module _ (blocks : List ℕ) (cell next : ℕ) (rising : IsNonDecreasing blocks) (point : IsPartitionPoint (λ block. nat_le block cell ≡ true) (λ block. nat_le block cell ≡ false) blocks next) where
-  -- those before the parting are not behind the cell
-  reached : (i : ℕ) → i < next → slice_index blocks i ≤ cell
-  reached i before = let test : nat_le (slice_index blocks i) cell ≡ true = point.0 i 0 (omega arith) before in grind (arith, nat_tests)
+-- where a search parts the blocks
+pub parted_at : (blocks : List ℕ) (cell n : ℕ) → IsPartitionPoint (λ block. nat_le block cell ≡ true) (λ block. nat_le block cell ≡ false) blocks n → ArePartedAt blocks cell n
+parted_at blocks cell n point = record {
+  reached = λ i before below. let test : nat_le (slice_index blocks i) cell ≡ true = point.0 i 0 (omega arith) before in grind (arith, nat_tests);
+  ahead = λ i after below. let test : nat_le (slice_index blocks i) cell ≡ false = point.1 i 0 after below in grind (arith, nat_tests);
+}
 
-  -- the block after the parting is behind the cell
-  pub behind : next < length blocks → cell < slice_index blocks next
-  behind in_list = let test : nat_le (slice_index blocks next) cell ≡ false = point.1 next 0 (omega arith) in_list in grind (arith, nat_tests)
-
-  -- it is the first one behind it
+module _ (blocks : List ℕ) (cell next : ℕ) (rising : IsNonDecreasing blocks) (point : ArePartedAt blocks cell next) where
+  -- the block after the parting is the first one in front of the cell
   pub free_to_point : (n : ℕ) → next < length blocks → free_before (is_blocked blocks) (cell + 1) n ≡ min n (slice_index blocks next - (cell + 1))
   free_to_point n in_list =
-      let far = behind in_list in
+      let far = point.ahead next (omega arith) in_list in
       free_before-first (is_blocked blocks) n (cell + 1) (slice_index blocks next) (omega arith) (λ k le lt. not_blocked blocks k (apart k le lt)) (blocked_at blocks next in_list)
     where
       apart : (k : ℕ) → cell + 1 ≤ k → k < slice_index blocks next → (i : ℕ) → i < length blocks → slice_index blocks i ≢ k
       apart k le lt i below same = elim (cases_lt i next) as (λ _. ⊥) [
-        | inl before ↦ let low = reached i before in omega arith
+        | inl before ↦ let low = point.reached i before below in omega arith
         | inr after ↦ let high : slice_index blocks next ≤ slice_index blocks i = rising next i 0 after below in omega arith
       ]
 
-  -- where no block is left there is none behind it
+  -- where no block is left there is none in front of it
   pub free_to_end : (n : ℕ) → length blocks ≤ next → free_before (is_blocked blocks) (cell + 1) n ≡ n
-  free_to_end n past = free_before-none (is_blocked blocks) n (cell + 1) (λ k le lt. not_blocked blocks k (λ i below same. let low = reached i (omega arith) in absurd (omega arith)))
+  free_to_end n past = free_before-none (is_blocked blocks) n (cell + 1) (λ k le lt. not_blocked blocks k (λ i below same. let low = point.reached i (omega arith) below in absurd (omega arith)))

@@ -1,3 +1,5 @@
 pub mod Ahead
 pub mod Found
 pub mod BlockFound
+pub mod Before
+pub mod Between

@@ -1,6 +1,6 @@
 -- The cars of an array, in rising cells, and the array that cars make.
-use Rattle.std.specs.Prelude.{ℕ, ◌+◌, ◌≤◌, max, List, [], ◌∷◌, nat_eq, if◌then◌else◌}
-use Rattle.std.specs.List.{slice_index_or}
+use Rattle.std.specs.Prelude.{ℕ, ◌+◌, ◌≤◌, max, List, [], ◌∷◌, nat_eq, nat_lt, if◌then◌else◌}
+use Rattle.std.specs.List.{slice_index_or, count_by}
 use Rattle.std.specs.declared.option.Option.{Option}
 use Rattle.std.specs.declared.option.Option.TheVariants.{None, Some}
 use Rattle.road_cells.specs.Array.{Array, Vehicle, array}
@@ -26,6 +26,10 @@ cars_of a = cars_from 0 a
 -- the cell of the k-th car, counted from 0; of no car it is 0
 abbrev pub cell_at : List Car → ℕ → ℕ
 cell_at cars k = (slice_index_or cars k (car_of 0 (record { number = 0; speed = 0 }))).cell
+
+-- how many cars stand before a cell
+abbrev pub cars_before : ℕ → List Car → ℕ
+cars_before c cars = count_by (λ car. nat_lt car.cell c) cars
 
 -- the cells of cars strictly rise, from k on
 abbrev pub RiseFrom : ℕ → List Car → Type 0

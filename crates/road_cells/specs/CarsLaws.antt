@@ -48,10 +48,10 @@ cars_from-cut k [] = refl
 cars_from-cut k (x ∷ xs) = cars_from-before k x xs (cut xs) (λ j. cars_from-cut j xs)
 
 -- a first place with a car, or without
-from_here : (k : ℕ) (v : Vehicle) (xs : Array) (x : Option Vehicle) → x ≡ Some v → cars_from k (x ∷ xs) ≡ car_of k v ∷ cars_from (k + 1) xs
+pub from_here : (k : ℕ) (v : Vehicle) (xs : Array) (x : Option Vehicle) → x ≡ Some v → cars_from k (x ∷ xs) ≡ car_of k v ∷ cars_from (k + 1) xs
 from_here k v xs x taken = ap (λ y. cars_from k (y ∷ xs)) taken
 
-from_later : (k : ℕ) (xs : Array) (x : Option Vehicle) → x ≡ None → cars_from k (x ∷ xs) ≡ cars_from (k + 1) xs
+pub from_later : (k : ℕ) (xs : Array) (x : Option Vehicle) → x ≡ None → cars_from k (x ∷ xs) ≡ cars_from (k + 1) xs
 from_later k xs x empty = ap (λ y. cars_from k (y ∷ xs)) empty
 
 -- the cars of places that hold what the cars say, from cell k on, are these cars

@@ -2,8 +2,9 @@
 use Rattle.std.specs.Prelude.{◌≡◌, ◌≢◌, ℕ, zero, suc, ◌+◌, ◌<◌, ◌≤◌, List, [], ◌∷◌, length, refl}
 use Rattle.std.specs.List.{slice_index_or}
 use Rattle.std.specs.declared.option.Option.TheVariants.{None, Some}
+use Rattle.road_cells.specs.Array.{Array}
 use Rattle.std.proofs.Common.{◌∙◌, arith}
-use Rattle.road_cells.specs.Cars.{RiseFrom, standing, vehicle_of, cell_at}
+use Rattle.road_cells.specs.Cars.{cars_from, RiseFrom, standing, vehicle_of, cell_at}
 use Rattle.road_cells.specs.CarsLaws.{standing-other, standing-here}
 use Rattle.road_cells.specs.declared.car.Car.{Car}
 
@@ -32,3 +33,9 @@ standing-at k (car ∷ cars) zero d rise below = standing-here car cars car.cell
 standing-at k (car ∷ cars) (suc i) d rise below =
     let further = rise-from (car.cell + 1) cars i rise.1 (omega arith) in
     standing-other car cars (cell_at cars i) (λ same. absurd (omega arith)) ∙ standing-at (car.cell + 1) cars i d rise.1 (omega arith)
+
+-- there are no more cars than places
+pub length-cars_from : (k : ℕ) (places : Array) → length (cars_from k places) ≤ length places
+length-cars_from k [] = omega arith
+length-cars_from k (None ∷ places) = let rest = length-cars_from (k + 1) places in omega arith
+length-cars_from k (Some v ∷ places) = let rest = length-cars_from (k + 1) places in omega arith

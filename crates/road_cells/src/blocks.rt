@@ -1,6 +1,6 @@
-ghost use Rattle.std.specs.Prelude.{◌≡◌};
+ghost use Rattle.std.specs.Prelude.{◌≡◌, ℕ, ◌<◌, ◌≤◌, length, slice_index};
 ghost use Rattle.std.specs.List.Sorted.{IsNonDecreasing};
-ghost use Rattle.road_cells.specs.Gap.{is_blocked};
+ghost use Rattle.road_cells.specs.Gap.{is_blocked, ArePartedAt};
 
 /// Whether a cell is one of the blocked ones, which rise: a binary search. It takes no memory.
 pub fn is_blocked(blocks: &[u32], cell: u32) -> bool
@@ -8,4 +8,29 @@ pub fn is_blocked(blocks: &[u32], cell: u32) -> bool
     ensures { result ≡ is_blocked blocks.now cell }
 {
     blocks.binary_search(&cell).is_ok()
+}
+
+/// How many of the blocked cells, which rise, are not in front of a cell: a binary search. It takes no memory.
+pub fn reached_blocks(blocks: &[u32], cell: u32) -> usize
+    requires { IsNonDecreasing blocks.now }
+    ensures bound { result ≤ length blocks.now }
+    ensures parted { ArePartedAt blocks.now cell result }
+{
+    blocks.partition_point(|block| *block <= cell)
+}
+
+/// How many of the blocked cells, which rise, are not in front of a cell, where those from the `most`-th on are: a walk
+/// down from there, for callers that go over falling cells. It takes no memory.
+pub fn reached_blocks_below(blocks: &[u32], cell: u32, most: usize) -> usize
+    requires rising { IsNonDecreasing blocks.now }
+    requires bound { most ≤ length blocks.now }
+    requires ahead { (i : ℕ) → most ≤ i → i < length blocks.now → cell < slice_index blocks.now i }
+    ensures bound { result ≤ most }
+    ensures parted { ArePartedAt blocks.now cell result }
+{
+    let mut reached = most;
+    while reached > 0 && blocks[reached - 1] > cell {
+        reached -= 1;
+    }
+    reached
 }

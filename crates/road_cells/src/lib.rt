@@ -7,7 +7,7 @@ mod blocks;
 mod car;
 mod road;
 
-pub use blocks::is_blocked;
+pub use blocks::{is_blocked, reached_blocks, reached_blocks_below};
 pub use car::{Car, GREATEST_SPEED};
 pub use road::Road;
 /// Want of memory, answered only where a growth was refused.

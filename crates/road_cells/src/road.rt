@@ -1,11 +1,12 @@
-ghost use Rattle.std.specs.Prelude.{◌≡◌, ℕ, ◌+◌, ◌<◌, ◌-◌, min, [], length, is_some, IfOk};
+ghost use Rattle.std.specs.Prelude.{◌≡◌, ℕ, ◌+◌, ◌<◌, ◌≤◌, ◌-◌, min, [], length, map, is_some, IfOk};
 ghost use Rattle.std.specs.List.Sorted.{IsNonDecreasing};
 ghost use Rattle.std.specs.Option.{option_map};
-ghost use Rattle.road_cells.specs.Array.{vehicle_at};
-ghost use Rattle.road_cells.specs.Cars.{Rise, cars_of, car_of, array_of, cell_at, standing};
-ghost use Rattle.road_cells.specs.Gap.{free_before, free_cells, is_blocked};
+ghost use Rattle.road_cells.specs.Array.{vehicle_at, numbers};
+ghost use Rattle.road_cells.specs.Cars.{Rise, cars_of, cars_from, car_of, cars_before, array_of, cell_at, standing};
+ghost use Rattle.road_cells.specs.Gap.{free_before, free_cells, is_blocked, ArePartedAt};
 
 use crate::OutOfMemory;
+use crate::blocks::reached_blocks;
 use crate::car::{Car, GREATEST_SPEED};
 use std::alloc::Global;
 use std::marker::Model;
@@ -76,6 +77,23 @@ impl Road {
         }
     }
 
+    /// How many cars stand before a cell: the place of the first one that does not. It is found by a binary search.
+    pub fn cars_before(&self, cell: u32) -> usize
+        ensures { result ≡ cars_before cell (cars_of self.now) }
+    {
+        self.cars.partition_point(|car| car.cell < cell)
+    }
+
+    /// The cars at the cells from `from` on and before `to`. They are found by two binary searches.
+    pub fn between(&self, from: u32, to: u32) -> &[Car]
+        requires { from ≤ to }
+        ensures { result.now ≡ cars_from from (map (vehicle_at self.now) (numbers from (to - from))) }
+    {
+        let first = self.cars_before(from);
+        let end = self.cars_before(to);
+        &self.cars()[first..end]
+    }
+
     /// The free cells in front of a car, up to the next car or blocked cell, at most `GREATEST_SPEED` (the `j - 1` of
     /// Nagel and Schreckenberg, J. Phys. I France 2 (1992) 2221, with blocked cells beside it).
     ///
@@ -87,9 +105,21 @@ impl Road {
         requires rising { IsNonDecreasing blocks.now }
         ensures { result ≡ free_cells blocks.now self.now (cell_at (cars_of self.now) place) }
     {
+        let cell = self.cars()[place].cell;
+        self.gap_to(place, blocks, reached_blocks(blocks, cell))
+    }
+
+    /// The free cells in front of a car, as [`Road::gap`], where it is known how many of the blocked cells are not in front
+    /// of it: the first `reached`. Nothing is searched.
+    pub fn gap_to(&self, place: usize, blocks: &[u32], reached: usize) -> u8
+        requires car { place < length (cars_of self.now) }
+        requires rising { IsNonDecreasing blocks.now }
+        requires parted { ArePartedAt blocks.now (cell_at (cars_of self.now) place) reached }
+        ensures { result ≡ free_cells blocks.now self.now (cell_at (cars_of self.now) place) }
+    {
         let cars = self.cars();
         let to_car = free_to_car(cars, place);
-        let to_block = free_to_block(cars[place].cell, blocks);
+        let to_block = free_to_block(cars[place].cell, blocks, reached);
         to_car.min(to_block)
     }
 
@@ -120,12 +150,12 @@ fn free_to_car(cars: &[Car], place: usize) -> u8
 }
 
 // The free cells in front of a cell, as far as the next blocked cell.
-fn free_to_block(cell: u32, blocks: &[u32]) -> u8
-    requires { IsNonDecreasing blocks.now }
+fn free_to_block(cell: u32, blocks: &[u32], reached: usize) -> u8
+    requires rising { IsNonDecreasing blocks.now }
+    requires parted { ArePartedAt blocks.now cell reached }
     ensures { result ≡ free_before (is_blocked blocks.now) (cell + 1) GREATEST_SPEED }
 {
-    let next = blocks.partition_point(|block| *block <= cell);
-    match blocks.get(next) {
+    match blocks.get(reached) {
         Some(block) => free_between(cell, *block),
         None => GREATEST_SPEED,
     }

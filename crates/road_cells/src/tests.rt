@@ -2,7 +2,7 @@
 
 ghost use Rattle.std.specs.Prelude.{◌≡◌};
 
-use super::{Car, GREATEST_SPEED, OutOfMemory, Road};
+use super::{Car, GREATEST_SPEED, OutOfMemory, Road, reached_blocks, reached_blocks_below};
 use std::alloc::Global;
 use std::test::Fail;
 
@@ -107,5 +107,42 @@ fn sees_the_next_block(rt: HostRuntime) -> Result<(), Fail> {
     assert_eq!(rt; road.gap(1, &[5]), 1, "before the next car");
     assert_eq!(rt; road.gap(1, &[7]), 3, "under the next car");
     assert_eq!(rt; road.gap(1, &[9]), 3, "past the next car");
+    Ok(())
+}
+
+#[test]
+fn counts_the_cars_before_a_cell(rt: HostRuntime) -> Result<(), Fail> {
+    let road = Road::of(CARS.to_vec(rt.alloc())?);
+    for (cell, count) in [
+        (0, 0),
+        (1, 1),
+        (3, 1),
+        (4, 2),
+        (7, 2),
+        (8, 3),
+        (u32::MAX, 3),
+    ] {
+        assert_eq!(rt; road.cars_before(cell), count, "cell {cell}");
+    }
+    assert_eq!(rt; road.between(0, 3), &CARS[..1]);
+    assert_eq!(rt; road.between(3, 7), &CARS[1..2]);
+    assert_eq!(rt; road.between(1, 9), &CARS[1..]);
+    assert_eq!(rt; road.between(4, 7).len(), 0);
+    Ok(())
+}
+
+#[test]
+fn counts_the_blocks_that_a_cell_has_reached(rt: HostRuntime) -> Result<(), Fail> {
+    let blocks = [3, 12, 15];
+    for (cell, count) in [(2, 0), (3, 1), (11, 1), (12, 2), (14, 2), (15, 3), (20, 3)] {
+        assert_eq!(rt; reached_blocks(&blocks, cell), count, "cell {cell}");
+        assert_eq!(rt;
+            reached_blocks_below(&blocks, cell, 3),
+            count,
+            "cell {cell}"
+        );
+    }
+    assert_eq!(rt; reached_blocks_below(&blocks, 2, 1), 0);
+    assert_eq!(rt; reached_blocks(&[], 2), 0);
     Ok(())
 }

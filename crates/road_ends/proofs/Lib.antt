@@ -3,4 +3,7 @@ pub mod Origins
 pub mod Numbers
 pub mod Locality
 pub mod Examples
-pub mod Plain
+pub mod Computed
+pub mod Chances
+pub mod OnePass
+pub mod Inlets

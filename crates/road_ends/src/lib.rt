@@ -3,18 +3,28 @@
 //! The functions here are the plain program of the definitions: they go over the road cell by cell and car by car.
 #![tactic(auto)]
 
+mod alone;
+mod chance;
 mod course;
 mod entries;
+mod input;
 pub mod laws;
 mod letters;
+mod meter;
+mod pass;
+pub mod plain;
 mod rules;
 mod step;
 #[cfg(test)]
 mod tests;
 
+pub use alone::{Stepped, step_alone};
 pub use course::{Course, OwnSettings, row, run};
 pub use entries::entered;
+pub use input::{StepInput, enter};
 pub use letters::{BLOCKED, EMPTY, STANDING, row_text};
-pub use rules::{gap, speed, speeds};
+pub use meter::Meter;
+pub use pass::speeds;
+pub use rules::{gap, speed};
 pub use std::alloc::AllocError as OutOfMemory;
-pub use step::{leave, next, stepped};
+pub use step::{finish, leave, next, stepped};

@@ -1,14 +1,12 @@
-ghost use Rattle.std.specs.Prelude.{◌≡◌, ◌≤◌, ◌<◌, length, IfOk};
-ghost use Rattle.std.specs.List.{slice_index_or};
+ghost use Rattle.std.specs.Prelude.{◌≡◌, ◌≤◌, ◌<◌, length};
 ghost use Rattle.road_plan.specs.Settings.{Fits};
 ghost use Rattle.road_cells.specs.Cars.{cars_of, cell_at, vehicle_of};
-ghost use Rattle.road_ends.specs.Speed.{gap, speed, speeds, nth_car};
+ghost use Rattle.road_ends.specs.Speed.{gap, speed, nth_car};
 
 use road_cells::Road;
 use road_plan::{Plan, Settings};
 use road_rules::{slowed, wanted};
 use road_words::{PlanWords, Words};
-use std::alloc::{AllocError, Global};
 
 /// The free cells in front of the car at a place of the list, at most 9. Cells past the end of the road are free.
 pub fn gap(plan: &Plan, settings: &Settings, road: &Road, place: usize) -> u8
@@ -38,23 +36,4 @@ pub fn speed(plan: &Plan, settings: &Settings, step: u32, road: &Road, place: us
     );
     let word = PlanWords::of(plan).word(car.number, u64::from(step));
     slowed(wished, word, settings.chances()[zone])
-}
-
-/// The new speeds of all cars, in the order of the cars.
-pub fn speeds(
-    alloc: Global,
-    plan: &Plan,
-    settings: &Settings,
-    step: u32,
-    road: &Road,
-) -> Result<Vec<u8>, AllocError>
-    requires fits { Fits plan.now settings.now }
-    requires on_road { length road.now ≤ plan.now.cells }
-    ensures { IfOk result (λ new. new.items ≡ speeds plan.now settings.now step road.now) }
-{
-    let mut new = Vec::with_capacity(alloc, road.cars().len())?;
-    for place in 0..road.cars().len() {
-        new.push(speed(plan, settings, step, road, place))?;
-    }
-    Ok(new)
 }

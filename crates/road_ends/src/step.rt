@@ -1,9 +1,11 @@
 ghost use Rattle.std.specs.Prelude.{◌≡◌, ◌≤◌, length, IfOk};
 ghost use Rattle.road_plan.specs.Settings.{Fits};
+ghost use Rattle.road_ends.specs.Input.{input_next, input_speeds};
 ghost use Rattle.road_ends.specs.Run.{next, left, stepped};
 
 use crate::entries::entered;
-use crate::rules::speeds;
+use crate::input::StepInput;
+use crate::pass::speeds;
 use road_cells::Road;
 use road_plan::{Plan, Settings};
 use road_rules::moved;
@@ -51,4 +53,18 @@ pub fn stepped(
 {
     let moving = entered(alloc, plan, settings, step, road)?;
     next(alloc, plan, settings, step, &moving)
+}
+
+/// The road after a step, from its input and the new speeds of its cars: motion, then deletion.
+///
+/// # Errors
+///
+/// `OutOfMemory` where the growth of the new road is refused.
+pub fn finish(alloc: Global, input: &StepInput, speeds: &[u8]) -> Result<Road, AllocError>
+    requires { speeds.now ≡ input_speeds input.now }
+    ensures { IfOk result (λ later. later ≡ input_next input.now) }
+{
+    input.fits();
+    let moved = moved(alloc, input.road(), speeds)?;
+    Ok(leave(input.plan(), moved))
 }

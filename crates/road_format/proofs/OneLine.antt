@@ -1,15 +1,20 @@
 -- A reply has no newline before its end.
-use Rattle.std.proofs.Common.{◌≡◌, ◌≢◌, ◌==◌, ◌||◌, ◌/◌, ◌%◌, ◌+◌, ℕ, zero, suc, List, [], ◌∷◌, ◌++◌, Bool, true, false, cond, refl, ap, sym, ◌∙◌, arith, All, nat_lt, decimal, codes}
+use Rattle.std.proofs.Common.{◌≡◌, ◌≢◌, ◌==◌, ◌||◌, ◌/◌, ◌%◌, ◌+◌, ℕ, zero, suc, List, [], ◌∷◌, ◌++◌, Bool, true, false, cond, map, refl, ap, sym, ◌∙◌, arith, All, nat_lt, decimal, codes}
 use Rattle.std.proofs.lemmas.Bool.{eqb-true, ne_eqb, true≢false}
 use Rattle.std.proofs.lemmas.List.Elements.{All-nil, All-cons, All-append, All-head, All-tail}
 use Rattle.std.specs.Char.{digit_char}
 use Rattle.std.specs.Fmt.{digits, digits_onto, digit_glyph}
 use Rattle.json.specs.Print.{escape_letter, escape_byte, escape, quoted}
-use Rattle.serde_json.specs.Data.{Data, number, unsigned, string}
-use Rattle.serde_json.specs.Written.{compact_text}
+use Rattle.serde_json.specs.Data.{Data, null, number, unsigned, string, object, no_members, member}
+use Rattle.serde_json.specs.View.{items_of}
+use Rattle.serde_json.specs.Written.{comma_if, items_text, compact_text}
+use Rattle.road_scenario.specs.declared.edit.Edit.{Edit}
+use Rattle.road_scenario.specs.declared.edit.Value.{Value}
+use Rattle.road_scenario.specs.declared.edit.Value.TheVariants.{Withdrawn, Put}
+use Rattle.road_format.specs.ObjectGrammar.{kind_of, index_of}
 use Rattle.road_format.specs.Cut.{newline, cut_at, cut}
 use Rattle.road_format.specs.Refusals.{text_of}
-use Rattle.road_format.specs.Replies.{Answer, Open, Refused, Horizon, Cells, one_field, data_of, reply}
+use Rattle.road_format.specs.Replies.{Answer, Open, Refused, Horizon, Cells, Stamped, Edits, whole, listed, value_data, edit_data, one_field, data_of, reply}
 use Rattle.road_format.specs.RepliesLaws.{RepliesAreLines}
 
 -- it has no newline. It does not unfold, so that a text is read off what is claimed of it.
@@ -109,11 +114,55 @@ one_field_plain : (name : List ℕ) (d : Data) → IsPlain (compact_text d) → 
 one_field_plain name d plain =
     plain_cons 123 _ (λ e. cc) (plain_append (quoted name) _ (quoted_plain name) (plain_cons 58 _ (λ e. cc) (plain_append (compact_text d) _ plain (plain_cons 125 [] (λ e. cc) plain_nil))))
 
+-- lists
+
+both_plain : (later : Bool) (xs : List ℕ) → IsPlain xs → IsPlain (comma_if later ++ xs)
+both_plain true xs plain = plain_cons 44 xs (λ e. cc) plain
+both_plain false xs plain = plain
+
+abbrev AllPlain : List Data → Type 0
+AllPlain [] = Unit {0}
+AllPlain (d ∷ ds) = IsPlain (compact_text d) × AllPlain ds
+
+items_plain : (later : Bool) (ds : List Data) → AllPlain ds → IsPlain (items_text later (items_of ds))
+items_plain later [] all = plain_cons 93 [] (λ e. cc) plain_nil
+items_plain later (d ∷ ds) all = both_plain later _ (plain_append (compact_text d) _ all.0 (items_plain true ds all.1))
+
+listed_plain : (ds : List Data) → AllPlain ds → IsPlain (compact_text (listed ds))
+listed_plain ds all = plain_cons 91 _ (λ e. cc) (items_plain false ds all)
+
+null_plain : IsPlain (compact_text null)
+null_plain = plain_cons 110 _ (λ e. cc) (plain_cons 117 _ (λ e. cc) (plain_cons 108 _ (λ e. cc) (plain_cons 108 [] (λ e. cc) plain_nil)))
+
+value_plain : (v : Value) → IsPlain (compact_text (value_data v))
+value_plain Withdrawn = null_plain
+value_plain (Put n) = decimal_plain n
+
+edit_plain : (e : Edit) → IsPlain (compact_text (edit_data e))
+edit_plain e =
+    let fields : List Data = string (kind_of e.object) ∷ whole (index_of e.object) ∷ whole e.step ∷ whole e.stamp.count ∷ whole e.stamp.number ∷ value_data e.value ∷ [] in
+    let all : AllPlain fields =
+        (quoted_plain (kind_of e.object), (decimal_plain (index_of e.object), (decimal_plain e.step, (decimal_plain e.stamp.count, (decimal_plain e.stamp.number, (value_plain e.value, tt)))))) in
+    listed_plain fields all
+
+edits_plain : (es : List Edit) → AllPlain (map edit_data es)
+edits_plain [] = tt
+edits_plain (e ∷ es) = (edit_plain e, edits_plain es)
+
+two_fields_plain : (d : Data) (n : ℕ) (name second : List ℕ) → IsPlain (compact_text d) → IsPlain (compact_text (object (member name d (member second (whole n) no_members))))
+two_fields_plain d n name second plain =
+    plain_cons 123 _ (λ e. cc) (plain_append (quoted name) _ (quoted_plain name) (plain_cons 58 _ (λ e. cc) (plain_append (compact_text d) _ plain (plain_cons 44 _ (λ e. cc) (plain_append (quoted second) _ (quoted_plain second) (plain_cons 58 _ (λ e. cc) (plain_append (decimal n) _ (decimal_plain n) (plain_cons 125 [] (λ e. cc) plain_nil))))))))
+
 data_plain : (answer : Answer) → IsPlain (compact_text (data_of answer))
 data_plain (Open replicas) = one_field_plain (codes "open") (number (unsigned replicas)) (decimal_plain replicas)
 data_plain (Refused refusal) = one_field_plain (codes "refused") (string (text_of refusal)) (quoted_plain (text_of refusal))
 data_plain (Horizon horizon) = one_field_plain (codes "horizon") (number (unsigned horizon)) (decimal_plain horizon)
 data_plain (Cells row) = one_field_plain (codes "cells") (string row) (quoted_plain row)
+data_plain (Stamped stamp) =
+    let parts : List Data = whole stamp.count ∷ whole stamp.number ∷ [] in
+    let all : AllPlain parts = (decimal_plain stamp.count, (decimal_plain stamp.number, tt)) in
+    one_field_plain (codes "stamp") (listed parts) (listed_plain parts all)
+data_plain (Edits edits) = two_fields_plain (listed (map edit_data edits)) 1 (codes "edits") (codes "form") (listed_plain _ (edits_plain edits))
 
 pub replies_are_lines : RepliesAreLines
 unfolding reply

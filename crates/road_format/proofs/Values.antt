@@ -10,7 +10,11 @@ use Rattle.serde_json.specs.View.{members_of, items_view}
 use Rattle.serde_json.specs.declared.value.Value.{Value}
 use Rattle.road_format.specs.Reading.{value_of}
 use Rattle.road_format.specs.Fields.{members_len, two_in}
-use Rattle.road_format.specs.Replies.{Answer, Open, Refused, Horizon, Cells, data_of, reply}
+use Rattle.road_scenario.specs.declared.edit.Edit.{Edit}
+use Rattle.road_scenario.specs.declared.edit.Value as edits
+use Rattle.road_scenario.specs.declared.edit.Value.TheVariants.{Withdrawn, Put}
+use Rattle.road_format.specs.ObjectGrammar.{object_from}
+use Rattle.road_format.specs.Replies.{Answer, Open, Refused, Horizon, Cells, Stamped, Edits, value_data, edit_data, listed, data_of, reply}
 
 -- an object has as many members as the map has entries
 pub members_len-members_of : {V : Type 0} (f : V → Data) (ms : List (String Global × V)) → members_len (members_of (map (λ m. (m.0, f m.1)) ms)) ≡ length ms
@@ -37,12 +41,22 @@ value_of-unread line e = unread_if line (is_utf8 line) (λ t. e (IsUtf8-from_is_
 
 -- ---- replies
 
+value_has_no_float : (v : edits.Value) → has_float (value_data v) ≡ false
+value_has_no_float Withdrawn = refl
+value_has_no_float (Put n) = refl
+
+edits_have_no_float : (es : List Edit) → has_float (listed (map edit_data es)) ≡ false
+edits_have_no_float [] = refl
+edits_have_no_float (e ∷ es) = rw (value_has_no_float e.value) (edits_have_no_float es)
+
 -- no answer has a number with a fraction
 no_float : (a : Answer) → has_float (data_of a) ≡ false
 no_float (Open n) = refl
 no_float (Refused refusal) = refl
 no_float (Horizon n) = refl
 no_float (Cells row) = refl
+no_float (Stamped stamp) = refl
+no_float (Edits edits) = rw (edits_have_no_float edits) refl
 
 pub reply_is : (v : Data) (a : Answer) (text line : List ℕ) → (has_float v ≡ false → text ≡ compact_text v) → v ≡ data_of a → line ≡ text ++ 10 ∷ [] → line ≡ reply a
 unfolding reply
@@ -67,3 +81,16 @@ two_in-many [] many = refl
 two_in-many (v ∷ []) many = refl
 two_in-many (v ∷ w ∷ []) many = absurd (omega arith)
 two_in-many (v ∷ w ∷ u ∷ vs) many = refl
+
+-- ---- objects
+
+pub object_from-few : (vs : List Value) → length vs < 2 → object_from (items_view vs) ≡ None
+object_from-few [] few = refl
+object_from-few (v ∷ []) few = refl
+object_from-few (v ∷ w ∷ vs) few = absurd (omega arith)
+
+pub object_from-many : (vs : List Value) → 3 ≤ length vs → object_from (items_view vs) ≡ None
+object_from-many [] many = refl
+object_from-many (v ∷ []) many = refl
+object_from-many (v ∷ w ∷ []) many = absurd (omega arith)
+object_from-many (v ∷ w ∷ u ∷ vs) many = refl

@@ -5,15 +5,42 @@ use Rattle.serde_json.specs.Data.{Data}
 use Rattle.serde_json.specs.Find.{get}
 use Rattle.road_format.specs.Reading.{value_of}
 use Rattle.road_format.specs.Fields.{◌>>=◌, only_if, has_fields, name_at, number_at}
+use Rattle.road_format.specs.ObjectGrammar.{object_at}
+use Rattle.road_plan.specs.declared.object.Object.{Object}
 use Rattle.road_format.specs.declared.refusal.Refusal.{Refusal}
 use Rattle.road_format.specs.declared.refusal.Refusal.TheVariants.{NotJson, NotACommand}
 
--- a command, with the text of the replica's name and the numbers of its fields
+-- a command, with the text of the replica's name and what stands at its other fields
 pub data Command : Type 0 where
+  -- at, object, step, value
+  Edit : List ℕ → Object → ℕ → ℕ → Command
+  -- at, object, step
+  Withdraw : List ℕ → Object → ℕ → Command
   -- at, to
   Advance : List ℕ → ℕ → Command
   -- at, step
   Cells : List ℕ → ℕ → Command
+  -- at
+  Scenario : List ℕ → Command
+
+-- exactly the fields `at`, `object`, `step` and `value`
+unfoldable pub edit_in : Data → Option Command
+edit_in d = do
+  exact ← only_if (has_fields 4 d)
+  at ← name_at (codes "at") d
+  object ← object_at (codes "object") d
+  step ← number_at (codes "step") d
+  value ← number_at (codes "value") d
+  Some (Edit at object step value)
+
+-- exactly the fields `at`, `object` and `step`
+unfoldable pub withdraw_in : Data → Option Command
+withdraw_in d = do
+  exact ← only_if (has_fields 3 d)
+  at ← name_at (codes "at") d
+  object ← object_at (codes "object") d
+  step ← number_at (codes "step") d
+  Some (Withdraw at object step)
 
 -- exactly the fields `at` and `to`
 unfoldable pub advance_in : Data → Option Command
@@ -31,17 +58,32 @@ cells_in d = do
   step ← number_at (codes "step") d
   Some (Cells at step)
 
+-- exactly the field `at`
+unfoldable pub scenario_in : Data → Option Command
+scenario_in d = do
+  exact ← only_if (has_fields 1 d)
+  at ← name_at (codes "at") d
+  Some (Scenario at)
+
+-- the command that these fields are, if they are there; else another
+abbrev pub named_or : Option Data → (Data → Option Command) → Option Command → Option Command
+named_or (Some fields) read other = read fields
+named_or None read other = other
+
 -- the command whose name has fields; an object of one field has those of one at most
-abbrev pub command_named : Option Data → Option Data → Option Command
-command_named (Some advance) cells = advance_in advance
-command_named None (Some cells) = cells_in cells
-command_named None None = None
+abbrev pub command_named : Data → Option Command
+command_named d =
+    named_or (get (codes "edit") d) edit_in
+    (named_or (get (codes "withdraw") d) withdraw_in
+    (named_or (get (codes "advance") d) advance_in
+    (named_or (get (codes "cells") d) cells_in
+    (named_or (get (codes "scenario") d) scenario_in None))))
 
 -- the command that a value is
 unfoldable pub command_in : Data → Option Command
 command_in d = do
   exact ← only_if (has_fields 1 d)
-  command_named (get (codes "advance") d) (get (codes "cells") d)
+  command_named d
 
 -- the command, where the value is one
 abbrev pub or_not_a_command : Option Command → Result Command Refusal

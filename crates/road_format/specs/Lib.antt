@@ -1,6 +1,7 @@
 pub mod Cut
 pub mod Reading
 pub mod Fields
+pub mod ObjectGrammar
 pub mod Refusals
 pub mod Faults
 pub mod CommandGrammar

@@ -21,8 +21,11 @@ texts names = map string_bytes names
 
 -- what a command says
 abbrev pub command_view : Command → grammar.Command
+command_view (commands.Edit at object step value) = grammar.Edit (string_bytes at) object step value
+command_view (commands.Withdraw at object step) = grammar.Withdraw (string_bytes at) object step
 command_view (commands.Advance at to) = grammar.Advance (string_bytes at) to
 command_view (commands.Cells at step) = grammar.Cells (string_bytes at) step
+command_view (commands.Scenario at) = grammar.Scenario (string_bytes at)
 
 -- what a plan line says
 abbrev pub plan_line_view : PlanLine → plan_grammar.PlanLine
@@ -38,6 +41,8 @@ answer_view (answers.Open replicas) = replies.Open replicas
 answer_view (answers.Refused refusal) = replies.Refused refusal
 answer_view (answers.Horizon horizon) = replies.Horizon horizon
 answer_view (answers.Cells row) = replies.Cells (string_bytes row)
+answer_view (answers.Stamped stamp) = replies.Stamped stamp
+answer_view (answers.Edits edits) = replies.Edits edits.items
 
 -- ---- what a reader returned, beside what the grammar gives
 

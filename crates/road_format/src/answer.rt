@@ -1,4 +1,5 @@
 use crate::refusal::Refusal;
+use road_scenario::{Edit, Stamp};
 
 /// What is answered to a line.
 #[derive(Debug, Drop)]
@@ -14,4 +15,8 @@ pub enum Answer {
     Horizon(u32),
     /// One row of cells, a character for each cell.
     Cells(String),
+    /// The stamp of an edit.
+    Stamped(Stamp),
+    /// The edits that a replica holds, by object and step.
+    Edits(Vec<Edit>),
 }

@@ -7,13 +7,35 @@ ghost use Rattle.road_format.specs.Views.{Reads, Gives, command_view};
 
 use crate::faults::{LineFault, Unread};
 use crate::fields::{exactly, name_at, number_at};
+use crate::object::object_at;
 use crate::reading::value_in;
+use road_plan::Object;
 use serde_json::Value;
 use std::alloc::Global;
 
 /// What a line after the first asks for.
 #[derive(Debug, Drop)]
 pub enum Command {
+    /// That a number be put for an object from a step on.
+    Edit {
+        /// The name of the replica.
+        at: String,
+        /// What is edited.
+        object: Object,
+        /// The step at which the edit acts.
+        step: u32,
+        /// The number.
+        value: u32,
+    },
+    /// That what was put for an object at a step be withdrawn.
+    Withdraw {
+        /// The name of the replica.
+        at: String,
+        /// What was edited.
+        object: Object,
+        /// The step at which that edit acts.
+        step: u32,
+    },
     /// That a replica's horizon be at least a step.
     Advance {
         /// The name of the replica.
@@ -28,11 +50,18 @@ pub enum Command {
         /// The step.
         step: u32,
     },
+    /// The edits that a replica holds.
+    Scenario {
+        /// The name of the replica.
+        at: String,
+    },
 }
 
 /// The command that a line is: an object of one field, the command's name, whose value is the object of exactly its
-/// fields, `advance` of `at` and `to` or `cells` of `at` and `step`. A name is a text of 1 to 64 bytes; a number is
-/// whole, of at most 32 bits, and written without point and exponent. Of a field that stands twice the last counts.
+/// fields: `edit` of `at`, `object`, `step` and `value`, `withdraw` of `at`, `object` and `step`, `advance` of `at` and
+/// `to`, `cells` of `at` and `step`, `scenario` of `at`. A name is a text of 1 to 64 bytes; a number is whole, of at most
+/// 32 bits, and written without point and exponent; an object is a list of its kind and its index. Of a field that stands
+/// twice the last counts.
 ///
 /// # Errors
 ///
@@ -55,13 +84,52 @@ fn command_in(alloc: Global, value: &Value) -> Result<Command, Unread>
     ensures { Reads command_view result (grammar.command_in (view value.now)) }
 {
     exactly(1, value)?;
+    if let Some(fields) = value.get("edit") {
+        return edit_in(alloc, fields);
+    }
+    if let Some(fields) = value.get("withdraw") {
+        return withdraw_in(alloc, fields);
+    }
     if let Some(fields) = value.get("advance") {
         return advance_in(alloc, fields);
     }
     if let Some(fields) = value.get("cells") {
         return cells_in(alloc, fields);
     }
+    if let Some(fields) = value.get("scenario") {
+        return scenario_in(alloc, fields);
+    }
     Err(Unread::Shape)
+}
+
+/// The `edit` of these fields.
+#[tactic(auto, unfolding(crate::specs::CommandGrammar::edit_in))]
+fn edit_in(alloc: Global, fields: &Value) -> Result<Command, Unread>
+    ensures { Reads command_view result (grammar.edit_in (view fields.now)) }
+{
+    exactly(4, fields)?;
+    let at = name_at(alloc, "at", fields)?;
+    let object = object_at("object", fields)?;
+    let step = number_at("step", fields)?;
+    let value = number_at("value", fields)?;
+    Ok(Command::Edit {
+        at,
+        object,
+        step,
+        value,
+    })
+}
+
+/// The `withdraw` of these fields.
+#[tactic(auto, unfolding(crate::specs::CommandGrammar::withdraw_in))]
+fn withdraw_in(alloc: Global, fields: &Value) -> Result<Command, Unread>
+    ensures { Reads command_view result (grammar.withdraw_in (view fields.now)) }
+{
+    exactly(3, fields)?;
+    let at = name_at(alloc, "at", fields)?;
+    let object = object_at("object", fields)?;
+    let step = number_at("step", fields)?;
+    Ok(Command::Withdraw { at, object, step })
 }
 
 /// The `advance` of these fields.
@@ -84,4 +152,14 @@ fn cells_in(alloc: Global, fields: &Value) -> Result<Command, Unread>
     let at = name_at(alloc, "at", fields)?;
     let step = number_at("step", fields)?;
     Ok(Command::Cells { at, step })
+}
+
+/// The `scenario` of these fields.
+#[tactic(auto, unfolding(crate::specs::CommandGrammar::scenario_in))]
+fn scenario_in(alloc: Global, fields: &Value) -> Result<Command, Unread>
+    ensures { Reads command_view result (grammar.scenario_in (view fields.now)) }
+{
+    exactly(1, fields)?;
+    let at = name_at(alloc, "at", fields)?;
+    Ok(Command::Scenario { at })
 }

@@ -9,6 +9,7 @@ mod fields;
 mod laws;
 mod lists;
 mod names;
+mod object;
 mod plan_line;
 mod reading;
 mod refusal;

@@ -30,6 +30,14 @@ pub enum Refusal {
     NotACommand,
     /// No replica has this name.
     NoReplica,
+    /// The plan has no such zone.
+    NoObject,
+    /// The step at which an edit acts is too great.
+    Step,
+    /// The object does not take the value.
+    ValueOutOfRange,
+    /// No count is left for the stamp of an edit.
+    CountsSpent,
     /// The horizon asked for is too great.
     Horizon,
     /// The step asked for is above the replica's horizon.
@@ -55,6 +63,10 @@ impl Refusal {
             Refusal::Default => "Default",
             Refusal::NotACommand => "not a command",
             Refusal::NoReplica => "NoReplica",
+            Refusal::NoObject => "NoObject",
+            Refusal::Step => "Step",
+            Refusal::ValueOutOfRange => "ValueOutOfRange",
+            Refusal::CountsSpent => "CountsSpent",
             Refusal::Horizon => "Horizon",
             Refusal::NotSimulated => "NotSimulated",
         }

@@ -1,12 +1,14 @@
 //! What is written for an answer.
 
-ghost use Rattle.std.specs.Prelude.{◌≡◌, IfOk, string_bytes};
+ghost use Rattle.std.specs.Prelude.{◌≡◌, IfOk, string_bytes, map};
 ghost use Rattle.serde_json.specs.View.{view};
-ghost use Rattle.road_format.specs.Replies.{data_of, reply};
+ghost use Rattle.road_format.specs.Replies.{listed, edit_data, data_of, reply};
 ghost use Rattle.road_format.specs.Views.{answer_view};
 
 use crate::answer::Answer;
+use crate::object::{index_of, kind_of};
 use road_plan::OutOfMemory;
+use road_scenario::{Edit, Value as Put};
 use serde_json::{Value, json};
 use std::alloc::Global;
 
@@ -28,5 +30,34 @@ fn value_of(alloc: Global, answer: &Answer) -> Result<Value, OutOfMemory>
         Answer::Refused(refusal) => json!(in alloc; {"refused": refusal.text()}),
         Answer::Horizon(horizon) => json!(in alloc; {"horizon": *horizon}),
         Answer::Cells(row) => json!(in alloc; {"cells": row.as_str()}),
+        Answer::Stamped(stamp) => json!(in alloc; {"stamp": [stamp.count, stamp.number]}),
+        Answer::Edits(edits) => {
+            let edits = edit_values(alloc, edits.as_slice())?;
+            json!(in alloc; {"edits": edits, "form": 1u32})
+        }
+    }
+}
+
+/// The JSON list of these edits.
+fn edit_values(alloc: Global, edits: &[Edit]) -> Result<Value, OutOfMemory>
+    ensures { IfOk result (λ value. view value ≡ listed (map edit_data edits.now)) }
+{
+    let mut values = Vec::new(alloc);
+    for edit in edits {
+        values.push(edit_value(alloc, *edit)?)?;
+    }
+    Ok(Value::Array(values))
+}
+
+/// The JSON value of an edit: kind, index, step, count, number, value.
+fn edit_value(alloc: Global, edit: Edit) -> Result<Value, OutOfMemory>
+    ensures { IfOk result (λ value. view value ≡ edit_data edit) }
+{
+    let kind = kind_of(edit.object);
+    let index = index_of(edit.object);
+    let stamp = edit.stamp;
+    match edit.value {
+        Put::Put(n) => json!(in alloc; [kind, index, edit.step, stamp.count, stamp.number, n]),
+        Put::Withdrawn => json!(in alloc; [kind, index, edit.step, stamp.count, stamp.number, null]),
     }
 }

@@ -1,5 +1,5 @@
 use super::*;
-use road_plan::{PlanFault, WordKind};
+use road_plan::{Object, PlanFault, WordKind};
 use std::alloc::Global;
 use std::test::Fail;
 
@@ -141,7 +141,7 @@ fn reads_commands(rt: HostRuntime) -> Result<(), Fail> {
                 assert_eq!(rt; at.as_str(), "A", "{line}");
                 assert_eq!(rt; to, 6, "{line}");
             }
-            Command::Cells { .. } => assert!(rt; false, "{line}"),
+            _ => assert!(rt; false, "{line}"),
         }
     }
     match read_command(
@@ -152,7 +152,44 @@ fn reads_commands(rt: HostRuntime) -> Result<(), Fail> {
             assert_eq!(rt; at.as_str(), "A");
             assert_eq!(rt; step, u32::MAX);
         }
-        Command::Advance { .. } => assert!(rt; false),
+        _ => assert!(rt; false),
+    }
+    Ok(())
+}
+
+#[test]
+fn reads_edits(rt: HostRuntime) -> Result<(), Fail> {
+    match read_command(
+        rt.alloc(),
+        b"{\"edit\":{\"at\":\"A\",\"object\":[\"limit\",2],\"step\":3,\"value\":1}}",
+    )? {
+        Command::Edit {
+            at,
+            object,
+            step,
+            value,
+        } => {
+            assert_eq!(rt; at.as_str(), "A");
+            assert_eq!(rt; object, Object::Limit(2));
+            assert_eq!(rt; step, 3);
+            assert_eq!(rt; value, 1);
+        }
+        _ => assert!(rt; false),
+    }
+    match read_command(
+        rt.alloc(),
+        b"{\"withdraw\":{\"at\":\"A\",\"object\":[\"slow\",0],\"step\":65536}}",
+    )? {
+        Command::Withdraw { at, object, step } => {
+            assert_eq!(rt; at.as_str(), "A");
+            assert_eq!(rt; object, Object::Slow(0));
+            assert_eq!(rt; step, 65536);
+        }
+        _ => assert!(rt; false),
+    }
+    match read_command(rt.alloc(), b"{\"scenario\":{\"at\":\"A\"}}")? {
+        Command::Scenario { at } => assert_eq!(rt; at.as_str(), "A"),
+        _ => assert!(rt; false),
     }
     Ok(())
 }
@@ -207,6 +244,15 @@ fn refuses_what_is_no_command(rt: HostRuntime) -> Result<(), Fail> {
         "{\"advance\":{\"at\":\"A\",\"to\":4294967296}}",
         "{\"advance\":{\"at\":\"A\",\"to\":18446744073709551616}}",
         "{\"cells\":{\"at\":\"A\",\"to\":6}}",
+        "{\"edit\":{\"at\":\"A\",\"object\":[\"limit\",0],\"step\":3,\"value\":null}}",
+        "{\"edit\":{\"at\":\"A\",\"object\":[\"limit\",0],\"step\":3}}",
+        "{\"edit\":{\"at\":\"A\",\"object\":[\"lane\",0],\"step\":3,\"value\":1}}",
+        "{\"edit\":{\"at\":\"A\",\"object\":[\"limit\"],\"step\":3,\"value\":1}}",
+        "{\"edit\":{\"at\":\"A\",\"object\":[0,\"limit\"],\"step\":3,\"value\":1}}",
+        "{\"edit\":{\"at\":\"A\",\"object\":[\"limit\",0,0],\"step\":3,\"value\":1}}",
+        "{\"edit\":{\"at\":\"A\",\"object\":[\"limit\",0],\"step\":4294967296,\"value\":1}}",
+        "{\"withdraw\":{\"at\":\"A\",\"object\":[\"limit\",0],\"step\":3,\"value\":1}}",
+        "{\"scenario\":{\"at\":\"A\",\"step\":0}}",
     ] {
         let fault = read_command(rt.alloc(), line.as_bytes()).err();
         assert_eq!(rt; fault, Some(LineFault::NotACommand), "{line}");
@@ -255,6 +301,10 @@ fn writes_refusals(rt: HostRuntime) -> Result<(), Fail> {
         (Refusal::Default, "{\"refused\":\"Default\"}\n"),
         (Refusal::NotACommand, "{\"refused\":\"not a command\"}\n"),
         (Refusal::NoReplica, "{\"refused\":\"NoReplica\"}\n"),
+        (Refusal::NoObject, "{\"refused\":\"NoObject\"}\n"),
+        (Refusal::Step, "{\"refused\":\"Step\"}\n"),
+        (Refusal::ValueOutOfRange, "{\"refused\":\"ValueOutOfRange\"}\n"),
+        (Refusal::CountsSpent, "{\"refused\":\"CountsSpent\"}\n"),
         (Refusal::Horizon, "{\"refused\":\"Horizon\"}\n"),
         (Refusal::NotSimulated, "{\"refused\":\"NotSimulated\"}\n"),
     ] {

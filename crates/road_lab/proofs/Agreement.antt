@@ -1,73 +1,157 @@
--- The horizons that are kept are those of the events.
-use Rattle.std.proofs.Common.{◌≡◌, ◌≢◌, ◌<◌, ◌==◌, ℕ, List, [], length, Bool, true, false, max, Option, Some, None, Result, Ok, Err, refl, ap, sym, ◌∙◌, arith}
-use Rattle.std.specs.Prelude.{slice_index, slice_set, nat_lt}
+-- What is kept of the replicas agrees with the events.
+use Rattle.std.proofs.Common.{◌≡◌, ◌≢◌, ◌<◌, ◌==◌, ℕ, suc, List, [], ◌∷◌, length, Bool, true, false, max, Option, Some, None, Result, Ok, Err, refl, ap, sym, ◌∙◌, arith}
+use Rattle.std.specs.Prelude.{slice_set, nat_lt, if◌then◌else◌}
+use Rattle.std.specs.List.{slice_index_or}
 use Rattle.std.specs.Str.{bytes_eq}
 use Rattle.std.proofs.lemmas.List.{get_or-set_same, get_or-set_other, get_or-replicate, length-set, length-replicate}
 use Rattle.std.proofs.lemmas.List.Quantifiers.{position-Some}
 use Rattle.std.proofs.lemmas.Bool.{eqb-true, eqb-false}
+use Rattle.lattice_core.specs.Sets.{empty, items, union, from_list}
+use Rattle.road_plan.specs.Plan.{Plan}
+use Rattle.road_plan.specs.declared.object.Object.{Object}
 use Rattle.road_plan.specs.declared.limits.TheConstants.{GREATEST_HORIZON}
-use Rattle.road_format.specs.CommandGrammar.{Command, Advance, Cells}
+use Rattle.road_scenario.specs.Counts.{greatest_count}
+use Rattle.road_scenario.specs.CountsLaws.{greatest_count-winners}
+use Rattle.road_scenario.specs.EditOrder.{winners_laws}
+use Rattle.road_scenario.specs.Edits.{Edits}
+use Rattle.road_scenario.specs.Faults.{fault_of}
+use Rattle.road_scenario.specs.Settings.{settings_in}
+use Rattle.road_scenario.specs.Winners.{winners, join}
+use Rattle.road_scenario.specs.WinnersLaws.{winners-empty}
+use Rattle.road_scenario.specs.declared.edit.Edit.{Edit}
+use Rattle.road_scenario.specs.declared.edit.Value.{Value}
+use Rattle.road_scenario.specs.declared.edit.Value.TheVariants.{Withdrawn, Put}
+use Rattle.road_scenario.specs.declared.faults.EditFault.{EditFault}
+use Rattle.road_ends.specs.Row.{row}
+use Rattle.road_format.specs.CommandGrammar.{Command, Edit as EditOf, Withdraw, Advance, Cells, Scenario}
 use Rattle.road_format.specs.PlanGrammar.{PlanLine}
+use Rattle.road_format.specs.Replies as replies
+use Rattle.road_format.specs.Replies.{Answer, Refused}
 use Rattle.road_format.specs.declared.refusal.Refusal.{Refusal}
-use Rattle.road_lab.specs.Laboratory.{Event, reach, horizon_of, replica_of, advance_event, event_of, advance_answer, cells_answer, answer_by, answer_to, with_event}
+use Rattle.road_format.specs.declared.refusal.Refusal.TheVariants as refusals
+use Rattle.road_lab.specs.Laboratory.{Deed, Made, Advanced, Event, Replica, opening, after_deed, replica_after, replica_of, local_edit, unless_faulty, fault_or_stamp, row_at, edit_event, advance_event, event_of, edit_answer, advance_answer, cells_answer, scenario_answer, answer_by, answer_to, with_event}
 use Rattle.road_lab.specs.Answers.{answer_of, after_line}
-use Rattle.road_lab.specs.Kept.{Kept, start, raised, line_answer, line_after}
+use Rattle.road_lab.specs.Kept.{Kept, start, kept_replica, kept_deed, kept_event, line_answer, line_after}
 
--- the horizons of n replicas are those of these events
-pub record AreOf (horizons : List ℕ) (n : ℕ) (events : List Event) : Type 0 where
-  pub each : length horizons ≡ n
-  pub is : (r : ℕ) → r < n → slice_index horizons r ≡ horizon_of r events
+-- ---- one replica
 
--- what is kept is a plan line, and the horizons of these events
+-- of a replica its horizon is kept, and the winners of its edits
+abbrev pub kept_of : Replica → Replica
+kept_of replica = record { edits = winners replica.edits; horizon = replica.horizon }
+
+won_again : (edits : Edits) → winners (winners edits) ≡ winners edits
+won_again edits = winners_laws.of_tops edits
+
+-- one edit more
+joined_more : (edits : Edits) (edit : Edit) → join (winners edits) (from_list (edit ∷ [])) ≡ winners (union edits (from_list (edit ∷ [])))
+joined_more edits edit =
+    winners_laws.of_union (winners edits) (from_list (edit ∷ [])) ∙ ap (λ (s : Edits). join s (winners (from_list (edit ∷ [])))) (won_again edits)
+    ∙ sym (winners_laws.of_union edits (from_list (edit ∷ [])))
+
+deed_agrees : (deed : Deed) (replica : Replica) → kept_deed deed (kept_of replica) ≡ kept_of (after_deed deed replica)
+deed_agrees (Made edit) replica = ap (λ (s : Edits). let r : Replica = record { edits = s; horizon = replica.horizon } in r) (joined_more replica.edits edit)
+deed_agrees (Advanced to) replica = refl
+
+opening_agrees : opening ≡ kept_of opening
+opening_agrees = ap (λ (s : Edits). let r : Replica = record { edits = s; horizon = 0 } in r) (sym winners-empty)
+
+-- ---- what is kept of n replicas is that of these events
+
+pub record AreOf (replicas : List Replica) (n : ℕ) (events : List Event) : Type 0 where
+  pub each : length replicas ≡ n
+  pub is : (r : ℕ) → r < n → slice_index_or replicas r opening ≡ kept_of (replica_after events r)
+
+-- what is kept is a plan line, and the replicas of these events
 pub record Agrees (kept : Kept) (line : PlanLine) (events : List Event) : Type 0 where
   pub line_is : kept.line ≡ line
-  pub horizons : AreOf kept.horizons (length line.names) events
+  pub replicas : AreOf kept.replicas (length line.names) events
+
+-- ---- answers
 
 replica_below : (line : PlanLine) (name : List ℕ) (r : ℕ) → replica_of line name ≡ Some r → r < length line.names
 replica_below line name r is = (position-Some (bytes_eq name) line.names r [] is).0
 
-advance_agrees : (horizons : List ℕ) (n : ℕ) (events : List Event) (to : ℕ) (o : Option ℕ) → AreOf horizons n events → ((r : ℕ) → o ≡ Some r → r < n) → advance_answer (slice_index horizons) to o ≡ advance_answer (λ r. horizon_of r events) to o
-advance_agrees horizons n events to None a below = refl
-advance_agrees horizons n events to (Some r) a below = rw (a.is r (below r refl)) refl
+same_edit : (r : ℕ) (kept edits : Edits) (o : Object) (step : ℕ) (value : Value) → kept ≡ winners edits → local_edit r kept o step value ≡ local_edit r edits o step value
+same_edit r kept edits o step value is =
+    ap (λ (n : ℕ). let e : Edit = record { object = o; step = step; stamp = record { count = suc n; number = r }; value = value } in e)
+    (ap greatest_count is ∙ greatest_count-winners edits)
 
-cells_agrees : (horizons : List ℕ) (n : ℕ) (events : List Event) (line : PlanLine) (step : ℕ) (o : Option ℕ) → AreOf horizons n events → ((r : ℕ) → o ≡ Some r → r < n) → cells_answer (slice_index horizons) line step o ≡ cells_answer (λ r. horizon_of r events) line step o
-cells_agrees horizons n events line step None a below = refl
-cells_agrees horizons n events line step (Some r) a below = rw (a.is r (below r refl)) refl
+-- what is read of a replica agrees, by a reading of the winners alone
+abbrev Alike : (ℕ → Replica) → (ℕ → Replica) → ℕ → Type 0
+Alike kept real n = (r : ℕ) → r < n → kept r ≡ kept_of (real r)
 
-command_agrees : (horizons : List ℕ) (line : PlanLine) (events : List Event) (command : Command) → AreOf horizons (length line.names) events → answer_by (slice_index horizons) line command ≡ answer_to line events command
-command_agrees horizons line events (Advance name to) a = advance_agrees horizons (length line.names) events to (replica_of line name) a (replica_below line name)
-command_agrees horizons line events (Cells name step) a = cells_agrees horizons (length line.names) events line step (replica_of line name) a (replica_below line name)
+edit_agrees : (kept real : ℕ → Replica) (n : ℕ) (plan : Plan) (o : Object) (step : ℕ) (value : Value) (place : Option ℕ) → Alike kept real n → ((r : ℕ) → place ≡ Some r → r < n)
+    → edit_answer kept plan o step value place ≡ edit_answer real plan o step value place
+edit_agrees kept real n plan o step value None a below = refl
+edit_agrees kept real n plan o step value (Some r) a below =
+    ap (λ (e : Edit). fault_or_stamp (fault_of plan e) e) (same_edit r (kept r).edits (real r).edits o step value (ap (λ (x : Replica). x.edits) (a r (below r refl))))
+
+advance_agrees : (kept real : ℕ → Replica) (n to : ℕ) (place : Option ℕ) → Alike kept real n → ((r : ℕ) → place ≡ Some r → r < n) → advance_answer kept to place ≡ advance_answer real to place
+advance_agrees kept real n to None a below = refl
+advance_agrees kept real n to (Some r) a below = rw (a r (below r refl)) refl
+
+cells_agrees : (kept real : ℕ → Replica) (n : ℕ) (plan : Plan) (step : ℕ) (place : Option ℕ) → Alike kept real n → ((r : ℕ) → place ≡ Some r → r < n) → cells_answer kept plan step place ≡ cells_answer real plan step place
+cells_agrees kept real n plan step None a below = refl
+cells_agrees kept real n plan step (Some r) a below =
+    ap (λ (x : Replica). if nat_lt x.horizon step then Refused refusals.NotSimulated else replies.Cells (row_at plan x.edits step)) (a r (below r refl))
+    ∙ ap (λ (s : Edits). if nat_lt (real r).horizon step then Refused refusals.NotSimulated else replies.Cells (row_of_winners plan s step)) (won_again (real r).edits)
+  where
+    row_of_winners : Plan → Edits → ℕ → List ℕ
+    row_of_winners plan s step = row plan (λ t. settings_in plan (items s) t) step
+
+scenario_agrees : (kept real : ℕ → Replica) (n : ℕ) (place : Option ℕ) → Alike kept real n → ((r : ℕ) → place ≡ Some r → r < n) → scenario_answer kept place ≡ scenario_answer real place
+scenario_agrees kept real n None a below = refl
+scenario_agrees kept real n (Some r) a below =
+    ap (λ (x : Replica). replies.Edits (items (winners x.edits))) (a r (below r refl)) ∙ ap (λ (s : Edits). replies.Edits (items s)) (won_again (real r).edits)
+
+command_agrees : (kept real : ℕ → Replica) (line : PlanLine) (command : Command) → Alike kept real (length line.names) → answer_by kept line command ≡ answer_by real line command
+command_agrees kept real line (EditOf name o step value) a = edit_agrees kept real _ line.plan o step (Put value) (replica_of line name) a (replica_below line name)
+command_agrees kept real line (Withdraw name o step) a = edit_agrees kept real _ line.plan o step Withdrawn (replica_of line name) a (replica_below line name)
+command_agrees kept real line (Advance name to) a = advance_agrees kept real _ to (replica_of line name) a (replica_below line name)
+command_agrees kept real line (Cells name step) a = cells_agrees kept real _ line.plan step (replica_of line name) a (replica_below line name)
+command_agrees kept real line (Scenario name) a = scenario_agrees kept real _ (replica_of line name) a (replica_below line name)
 
 -- ---- events
 
-max_turned : (a b : ℕ) → max a b ≡ max b a
-max_turned a b = omega arith
+edit_adds : (kept real : ℕ → Replica) (n : ℕ) (plan : Plan) (o : Object) (step : ℕ) (value : Value) (place : Option ℕ) → Alike kept real n → ((r : ℕ) → place ≡ Some r → r < n)
+    → edit_event kept plan o step value place ≡ edit_event real plan o step value place
+edit_adds kept real n plan o step value None a below = refl
+edit_adds kept real n plan o step value (Some r) a below =
+    ap (λ (e : Edit). unless_faulty (fault_of plan e) r e) (same_edit r (kept r).edits (real r).edits o step value (ap (λ (x : Replica). x.edits) (a r (below r refl))))
 
-max_zero : (a : ℕ) → a ≡ max 0 a
-max_zero a = omega arith
+adds : (kept real : ℕ → Replica) (line : PlanLine) (command : Command) → Alike kept real (length line.names) → event_of kept line command ≡ event_of real line command
+adds kept real line (EditOf name o step value) a = edit_adds kept real _ line.plan o step (Put value) (replica_of line name) a (replica_below line name)
+adds kept real line (Withdraw name o step) a = edit_adds kept real _ line.plan o step Withdrawn (replica_of line name) a (replica_below line name)
+adds kept real line (Advance name to) a = refl
+adds kept real line (Cells name step) a = refl
+adds kept real line (Scenario name) a = refl
 
 abbrev replica_in : Option Event → ℕ
 replica_in None = 0
 replica_in (Some e) = e.replica
 
-raised_same : (horizons : List ℕ) (n : ℕ) (events : List Event) (e : Event) (r : ℕ) (b : Bool) → (e.replica == r) ≡ b → AreOf horizons n events → e.replica < n → r < n
-    → slice_index (slice_set horizons e.replica (max (slice_index horizons e.replica) e.to)) r ≡ max (reach r e) (horizon_of r events)
-raised_same horizons n events e r true is a below within =
-    let same : e.replica ≡ r = eqb-true e.replica r is in
-    let here = get_or-set_same horizons e.replica (max (slice_index horizons e.replica) e.to) 0 (omega (arith, a.each)) in
-    let old = a.is r within in
-    rw is (ap (slice_index (slice_set horizons e.replica (max (slice_index horizons e.replica) e.to))) (sym same) ∙ here
-    ∙ ap (λ (q : ℕ). max (slice_index horizons q) e.to) same ∙ ap (λ (h : ℕ). max h e.to) old ∙ max_turned (horizon_of r events) e.to)
-raised_same horizons n events e r false is a below within =
-    let other : e.replica ≢ r = eqb-false e.replica r is in
-    let there = get_or-set_other horizons e.replica r (max (slice_index horizons e.replica) e.to) 0 (λ same. other (sym same)) in
-    rw is (there ∙ a.is r within ∙ max_zero (horizon_of r events))
+-- the replicas, with the one of an event after it
+abbrev put : List Replica → Event → List Replica
+put replicas e = slice_set replicas e.replica (kept_deed e.deed (slice_index_or replicas e.replica opening))
 
-raised_are : (horizons : List ℕ) (n : ℕ) (events : List Event) (o : Option Event) → AreOf horizons n events → ((e : Event) → o ≡ Some e → e.replica < n) → AreOf (raised horizons o) n (with_event events o)
-raised_are horizons n events None a below = a
-raised_are horizons n events (Some e) a below = record {
-  each = length-set horizons e.replica (max (slice_index horizons e.replica) e.to) ∙ a.each;
-  is = λ r within. raised_same horizons n events e r (e.replica == r) refl a (below e refl) within;
+put_same : (replicas : List Replica) (n : ℕ) (events : List Event) (e : Event) (r : ℕ) (b : Bool) → (e.replica == r) ≡ b → AreOf replicas n events → e.replica < n → r < n
+    → slice_index_or (put replicas e) r opening ≡ kept_of (replica_after (e ∷ events) r)
+put_same replicas n events e r true is a below within =
+    let same : e.replica ≡ r = eqb-true e.replica r is in
+    let new : Replica = kept_deed e.deed (slice_index_or replicas e.replica opening) in
+    let here = get_or-set_same replicas e.replica new opening (omega (arith, a.each)) in
+    rw is (ap (slice_index_or (put replicas e)) (sym same) ∙ here)
+    ∙ rw is (ap (kept_deed e.deed) (a.is e.replica below) ∙ ap (λ (q : ℕ). kept_deed e.deed (kept_of (replica_after events q))) same ∙ deed_agrees e.deed (replica_after events r))
+put_same replicas n events e r false is a below within =
+    let other : e.replica ≢ r = eqb-false e.replica r is in
+    let there = get_or-set_other replicas e.replica r (kept_deed e.deed (slice_index_or replicas e.replica opening)) opening (λ same. other (sym same)) in
+    rw is (there ∙ a.is r within)
+
+event_agrees : (kept : Kept) (n : ℕ) (events : List Event) (o : Option Event) → AreOf kept.replicas n events → ((e : Event) → o ≡ Some e → e.replica < n) → AreOf (kept_event kept o).replicas n (with_event events o)
+event_agrees kept n events None a below = a
+event_agrees kept n events (Some e) a below = record {
+  each = length-set kept.replicas e.replica (kept_deed e.deed (kept_replica kept e.replica)) ∙ a.each;
+  is = λ r within. put_same kept.replicas n events e r (e.replica == r) refl a (below e refl) within;
 }
 
 advance_below : (to : ℕ) (o : Option ℕ) (n : ℕ) (b : Bool) → nat_lt GREATEST_HORIZON to ≡ b → ((r : ℕ) → o ≡ Some r → r < n) → (e : Event) → advance_event to o ≡ Some e → e.replica < n
@@ -78,25 +162,43 @@ advance_below to (Some r) n false is below e made =
     let same : r ≡ e.replica = ap replica_in some in
     rw (← same) (below r refl)
 
-event_below : (line : PlanLine) (command : Command) (e : Event) → event_of line command ≡ Some e → e.replica < length line.names
-event_below line (Advance name to) e made = advance_below to (replica_of line name) (length line.names) (nat_lt GREATEST_HORIZON to) refl (replica_below line name) e made
-event_below line (Cells name step) e made = absurd (cc)
+unless_below : (o : Option EditFault) (r n : ℕ) (edit : Edit) → r < n → (e : Event) → unless_faulty o r edit ≡ Some e → e.replica < n
+unless_below (Some fault) r n edit within e made = absurd (cc)
+unless_below None r n edit within e made = let same : r ≡ e.replica = ap replica_in made in rw (← same) within
+
+edit_below : (replica : ℕ → Replica) (plan : Plan) (object : Object) (step : ℕ) (value : Value) (o : Option ℕ) (n : ℕ) → ((r : ℕ) → o ≡ Some r → r < n) → (e : Event) → edit_event replica plan object step value o ≡ Some e → e.replica < n
+edit_below replica plan object step value None n below e made = absurd (cc)
+edit_below replica plan object step value (Some r) n below e made = unless_below _ r n _ (below r refl) e made
+
+event_below : (replica : ℕ → Replica) (line : PlanLine) (command : Command) (e : Event) → event_of replica line command ≡ Some e → e.replica < length line.names
+event_below replica line (EditOf name o step value) e made = edit_below replica line.plan o step (Put value) (replica_of line name) _ (replica_below line name) e made
+event_below replica line (Withdraw name o step) e made = edit_below replica line.plan o step Withdrawn (replica_of line name) _ (replica_below line name) e made
+event_below replica line (Advance name to) e made = advance_below to (replica_of line name) (length line.names) (nat_lt GREATEST_HORIZON to) refl (replica_below line name) e made
+event_below replica line (Cells name step) e made = absurd (cc)
+event_below replica line (Scenario name) e made = absurd (cc)
 
 -- ---- lines
 
 pub line_agrees : (kept : Kept) (line : PlanLine) (events : List Event) (read : Result Command Refusal) → Agrees kept line events → line_answer kept read ≡ answer_of line events read
 line_agrees kept line events (Err refusal) a = refl
-line_agrees kept line events (Ok command) a = ap (λ (l : PlanLine). answer_by (slice_index kept.horizons) l command) a.line_is ∙ command_agrees kept.horizons line events command a.horizons
+line_agrees kept line events (Ok command) a =
+    ap (λ (l : PlanLine). answer_by (kept_replica kept) l command) a.line_is ∙ command_agrees (kept_replica kept) (replica_after events) line command a.replicas.is
 
 pub after_agrees : (kept : Kept) (line : PlanLine) (events : List Event) (read : Result Command Refusal) → Agrees kept line events → Agrees (line_after kept read) line (after_line line events read)
 after_agrees kept line events (Err refusal) a = a
-after_agrees kept line events (Ok command) a = record {
-  line_is = a.line_is;
-  horizons = rw a.line_is (raised_are kept.horizons (length line.names) events (event_of line command) a.horizons (event_below line command));
-}
+after_agrees kept line events (Ok command) a =
+    let same = ap (λ (l : PlanLine). event_of (kept_replica kept) l command) a.line_is ∙ adds (kept_replica kept) (replica_after events) line command a.replicas.is in
+    rw same (agrees_on kept line events (event_of (replica_after events) line command) a (event_below (replica_after events) line command))
+  where
+    line_kept : (kept : Kept) (o : Option Event) → (kept_event kept o).line ≡ kept.line
+    line_kept kept None = refl
+    line_kept kept (Some e) = refl
+
+    agrees_on : (kept : Kept) (line : PlanLine) (events : List Event) (o : Option Event) → Agrees kept line events → ((e : Event) → o ≡ Some e → e.replica < length line.names) → Agrees (kept_event kept o) line (with_event events o)
+    agrees_on kept line events o a below = record { line_is = line_kept kept o ∙ a.line_is; replicas = event_agrees kept (length line.names) events o a.replicas below }
 
 pub start_agrees : (line : PlanLine) → Agrees (start line) line []
 start_agrees line = record {
   line_is = refl;
-  horizons = record { each = length-replicate (length line.names) 0; is = λ r within. get_or-replicate (length line.names) r 0 0 within };
+  replicas = record { each = length-replicate (length line.names) opening; is = λ r within. get_or-replicate (length line.names) r opening opening within ∙ opening_agrees };
 }

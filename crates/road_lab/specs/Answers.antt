@@ -7,7 +7,7 @@ use Rattle.road_format.specs.PlanGrammar.{PlanLine, plan_line_of}
 use Rattle.road_format.specs.Replies.{Answer, Open, Refused, reply}
 use Rattle.road_format.specs.declared.refusal.Refusal.{Refusal}
 use Rattle.road_format.specs.declared.refusal.Refusal.TheVariants as refusals
-use Rattle.road_lab.specs.Laboratory.{Event, event_of, answer_to, with_event}
+use Rattle.road_lab.specs.Laboratory.{Event, answer_to, events_after}
 
 -- ---- one line
 
@@ -35,7 +35,7 @@ answer_of plan events (Ok command) = answer_to plan events command
 -- the events after a line: a refused one adds nothing
 abbrev pub after_line : PlanLine → List Event → Result Command Refusal → List Event
 after_line plan events (Err refusal) = events
-after_line plan events (Ok command) = with_event events (event_of plan command)
+after_line plan events (Ok command) = events_after plan events command
 
 -- ---- all lines
 

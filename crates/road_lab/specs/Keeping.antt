@@ -1,16 +1,24 @@
 -- What holds of the replicas that are kept.
-use Rattle.std.specs.Prelude.{◌≡◌, ℕ, List, length}
+use Rattle.std.specs.Prelude.{◌≡◌, ◌≤◌, ℕ, List, length}
 use Rattle.std.specs.List.{All}
 use Rattle.road_plan.specs.Plan.{Plan}
-use Rattle.road_lab.specs.Simulation.{own_run}
-use Rattle.road_lab.specs.declared.simulation.State.{State}
+use Rattle.road_plan.specs.declared.limits.TheConstants.{MOST_REPLICAS}
+use Rattle.road_scenario.specs.Faults.{AreInRange}
+use Rattle.road_lab.specs.Laboratory as laboratory
+use Rattle.road_lab.specs.Simulation.{run_at}
+use Rattle.road_lab.specs.declared.keeper.Replica.{Replica}
 
--- a state is one of the run
-abbrev pub IsOfRun : Plan → State → Type 0
-IsOfRun plan state = state.road ≡ own_run plan state.step
+-- the edits and the horizon of a replica
+abbrev pub seen : Replica → laboratory.Replica
+seen replica = record { edits = replica.scenario; horizon = replica.horizon }
 
--- each name has a horizon and a state of the run
-pub record IsKept (plan : Plan) (names : List (List ℕ)) (horizons : List ℕ) (states : List State) : Type 0 where
-  pub horizon_each : length horizons ≡ length names
-  pub state_each : length states ≡ length names
-  pub of_run : All (IsOfRun plan) states
+-- a replica's edits fit the plan, and its last state is one of the run by them
+pub record IsOfRun (plan : Plan) (replica : Replica) : Type 0 where
+  pub fits : AreInRange plan replica.scenario
+  pub state : replica.last.road ≡ run_at plan replica.scenario replica.last.step
+
+-- each name has such a replica, and there are few names
+pub record IsKept (plan : Plan) (names : List (List ℕ)) (replicas : List Replica) : Type 0 where
+  pub few : length names ≤ MOST_REPLICAS
+  pub each : length replicas ≡ length names
+  pub of_run : All (IsOfRun plan) replicas

@@ -1,74 +1,99 @@
 //! The replicas, and what they answer.
 
-ghost use Rattle.std.specs.Prelude.{◌≡◌, ◌<◌, IfOk, OnOk, OnErr, length, true, slice_index, string_bytes};
+ghost use Rattle.std.specs.Prelude.{◌≡◌, ◌<◌, ◌≤◌, IfOk, OnOk, OnErr, length, map, replicate, true, Some, None, string_bytes};
+ghost use Rattle.std.specs.List.{All};
 ghost use Rattle.road_format.specs.PlanGrammar.{all_differ};
 ghost use Rattle.road_format.specs.Views.{texts, plan_line_view, command_view, answer_view};
-ghost use Rattle.std.specs.List.{All};
-ghost use Rattle.road_plan.specs.Plan.{Plan};
-ghost use Rattle.road_lab.specs.Keeping.{IsOfRun};
-ghost use Rattle.road_lab.specs.Laboratory.{replica_of, advance_event, advance_answer, cells_answer, row_at};
-ghost use Rattle.road_lab.specs.Kept.{start, kept_answer, kept_after, raised};
+ghost use Rattle.road_plan.specs.declared.limits.TheConstants.{MOST_REPLICAS};
+ghost use Rattle.road_scenario.specs.Faults.{fault_of};
+ghost use Rattle.road_lab.specs.Keeping.{seen, IsOfRun};
+ghost use Rattle.road_lab.specs.Laboratory as laboratory;
+ghost use Rattle.road_lab.specs.Laboratory.{replica_of, local_edit, edit_event, edit_answer, advance_event, advance_answer, cells_answer, scenario_answer, row_at};
+ghost use Rattle.road_lab.specs.Kept.{start, kept_replica, kept_answer, kept_after, kept_event};
 
 use crate::names::Names;
-use crate::simulation::{Simulation, State};
-use road_cells::Road;
+use crate::simulation::{State, row_of, state_at};
 use road_format::{Answer, Command, PlanLine, Refusal};
-use road_plan::OutOfMemory;
 use road_plan::limits::GREATEST_HORIZON;
+use road_plan::{Object, OutOfMemory, Plan};
+use road_scenario::{Edit, EditFault, Scenario, Stamp, Value};
 use std::alloc::Global;
 use std::marker::Model;
 
-/// The replicas of a plan line: for each its horizon, and the last state that was computed for it, so that questions at
-/// rising steps cost no step twice.
+/// A replica: what it holds, and the last state of its road that was computed, so that questions at rising steps cost no
+/// step twice.
+#[derive(Drop)]
+pub struct Replica {
+    /// The edits that were made at it, as far as they win.
+    pub scenario: Scenario,
+    /// The greatest step to which it was advanced.
+    pub horizon: u32,
+    /// The last state, of the run by these edits.
+    pub last: State,
+}
+
+/// The replicas of a plan line.
 #[derive(Drop)]
 pub struct Keeper {
-    simulation: Simulation,
+    plan: Plan,
     names: Names,
-    horizons: Vec<u32>,
-    states: Vec<State>,
+    replicas: Vec<Replica>,
 }
 
 impl Model for Keeper {
+    ghost use Rattle.std.specs.Prelude.{map};
     ghost use Rattle.road_lab.specs.Kept.{Kept};
-    ghost use Rattle.road_lab.specs.Keeping.{IsKept};
+    ghost use Rattle.road_lab.specs.Keeping.{IsKept, seen};
 
     ghost Value = { Kept };
 
-    ghost view = { λ keeper. record { line = record { names = keeper.names; plan = keeper.simulation }; horizons = keeper.horizons.items } };
+    ghost view = { λ keeper. record { line = record { names = keeper.names; plan = keeper.plan }; replicas = map seen keeper.replicas.items } };
 
-    ghost invariant = { λ keeper. IsKept keeper.simulation keeper.names keeper.horizons.items keeper.states.items };
+    ghost invariant = { λ keeper. IsKept keeper.plan keeper.names keeper.replicas.items };
 }
 
-// The state of so many replicas at step 0.
-fn opening_states(alloc: Global, count: usize) -> Result<Vec<State>, OutOfMemory>
-    ensures each { IfOk result (λ states. length states.items ≡ count) }
-    ensures of_run { IfOk result (λ states. (plan : Plan) → All (IsOfRun plan) states.items) }
+// So many replicas before any command.
+fn opening_replicas(alloc: Global, plan: &Plan, count: usize) -> Result<Vec<Replica>, OutOfMemory>
+    ensures each { IfOk result (λ replicas. map seen replicas.items ≡ replicate count laboratory.opening) }
+    ensures of_run { IfOk result (λ replicas. All (IsOfRun plan.now) replicas.items) }
 {
-    let mut states = Vec::new(alloc);
+    let mut replicas = Vec::new(alloc);
     for made in 0..count {
-        states.push(State {
-            step: 0,
-            road: Road::empty(alloc),
+        replicas.push(Replica {
+            scenario: Scenario::empty(alloc),
+            horizon: 0,
+            last: State::opening(alloc),
         })?;
     }
-    Ok(states)
+    Ok(replicas)
+}
+
+// How an edit is refused that a replica would make.
+fn refusal_of(fault: EditFault) -> Refusal
+    ensures { result ≡ laboratory.refusal_of fault }
+{
+    match fault {
+        EditFault::NoObject => Refusal::NoObject,
+        EditFault::Step => Refusal::Step,
+        EditFault::ValueOutOfRange => Refusal::ValueOutOfRange,
+        EditFault::Count => Refusal::CountsSpent,
+    }
 }
 
 impl Keeper {
     /// The replicas of a plan line, before any command.
     pub fn start(alloc: Global, line: PlanLine) -> Result<Keeper, OutOfMemory>
-        requires { all_differ (texts line.names.items) ≡ true }
+        requires few { length line.names.items ≤ MOST_REPLICAS }
+        requires apart { all_differ (texts line.names.items) ≡ true }
         ensures { IfOk result (λ keeper. keeper ≡ start (plan_line_view line)) }
     {
+        let plan = line.plan;
         let names = Names::of(alloc, line.names)?;
-        let horizons = vec![in alloc; 0u32; names.len()]?;
-        let states = opening_states(alloc, names.len())?;
-        let simulation = Simulation::of(alloc, line.plan)?;
+        let replicas = opening_replicas(alloc, &plan, names.len())?;
         Ok(Keeper {
-            simulation,
+            plan,
             names,
-            horizons,
-            states,
+            replicas,
         })
     }
 
@@ -79,15 +104,83 @@ impl Keeper {
         ensures unchanged { OnErr result (self.new ≡ self.old) }
     {
         match command {
+            Command::Edit {
+                at,
+                object,
+                step,
+                value,
+            } => self.edit(alloc, at, *object, *step, Value::Put(*value)),
+            Command::Withdraw { at, object, step } => {
+                self.edit(alloc, at, *object, *step, Value::Withdrawn)
+            }
             Command::Advance { at, to } => Ok(self.advance(at, *to)),
             Command::Cells { at, step } => self.cells(alloc, at, *step),
+            Command::Scenario { at } => self.scenario(alloc, at),
         }
     }
 
-    /// The horizon of a replica becomes a step, where it is less.
+    // An edit is made at a replica.
+    fn edit(
+        &mut self,
+        alloc: Global,
+        at: &str,
+        object: Object,
+        step: u32,
+        value: Value,
+    ) -> Result<Answer, OutOfMemory>
+        ensures answer { IfOk result (λ answer. answer_view answer ≡ edit_answer (kept_replica self.old) self.old.line.plan object step value (replica_of self.old.line at.now)) }
+        ensures after { OnOk result (self.new ≡ kept_event self.old (edit_event (kept_replica self.old) self.old.line.plan object step value (replica_of self.old.line at.now))) }
+        ensures unchanged { OnErr result (self.new ≡ self.old) }
+    {
+        let Some(replica) = self.names.number_of(at) else {
+            return Ok(Answer::Refused(Refusal::NoReplica));
+        };
+        let edit = self.local_edit(replica, object, step, value);
+        match edit.fault(&self.plan) {
+            Some(fault) => Ok(Answer::Refused(refusal_of(fault))),
+            None => {
+                self.hold(alloc, replica, &edit)?;
+                Ok(Answer::Stamped(edit.stamp))
+            }
+        }
+    }
+
+    // The edit that a replica makes: its count is above that of every edit which the replica holds.
+    fn local_edit(&self, replica: usize, object: Object, step: u32, value: Value) -> Edit
+        requires { replica < length self.now.line.names }
+        ensures { result ≡ local_edit replica (kept_replica self.now replica).edits object step value }
+    {
+        let count = self.replicas[replica].scenario.greatest_count() + 1;
+        let number = replica as u16;
+        Edit {
+            object,
+            step,
+            stamp: Stamp { count, number },
+            value,
+        }
+    }
+
+    // A replica holds one edit more. The states that were computed without it are forgotten.
+    fn hold(&mut self, alloc: Global, replica: usize, edit: &Edit) -> Result<(), OutOfMemory>
+        requires within { replica < length self.old.line.names }
+        requires fits { fault_of self.old.line.plan edit.now ≡ None }
+        ensures after { OnOk result (self.new ≡ kept_event self.old (Some (record { replica = replica; deed = laboratory.Made edit.now }))) }
+        ensures unchanged { OnErr result (self.new ≡ self.old) }
+    {
+        let scenario = self.replicas[replica].scenario.with_edit(edit)?;
+        let horizon = self.replicas[replica].horizon;
+        self.replicas[replica] = Replica {
+            scenario,
+            horizon,
+            last: State::opening(alloc),
+        };
+        Ok(())
+    }
+
+    // The horizon of a replica becomes a step, where it is less.
     fn advance(&mut self, at: &str, to: u32) -> Answer
-        ensures answer { answer_view result ≡ advance_answer (slice_index self.old.horizons) to (replica_of self.old.line at.now) }
-        ensures after { self.new ≡ record self.old { horizons = raised self.old.horizons (advance_event to (replica_of self.old.line at.now)) } }
+        ensures answer { answer_view result ≡ advance_answer (kept_replica self.old) to (replica_of self.old.line at.now) }
+        ensures after { self.new ≡ kept_event self.old (advance_event to (replica_of self.old.line at.now)) }
     {
         let Some(replica) = self.names.number_of(at) else {
             return Answer::Refused(Refusal::NoReplica);
@@ -95,20 +188,20 @@ impl Keeper {
         if to > GREATEST_HORIZON {
             return Answer::Refused(Refusal::Horizon);
         }
-        let horizon = self.horizons[replica].max(to);
-        self.horizons[replica] = horizon;
+        let horizon = self.replicas[replica].horizon.max(to);
+        self.replicas[replica].horizon = horizon;
         Answer::Horizon(horizon)
     }
 
-    /// The row of a replica's road at a step.
+    // The row of a replica's road at a step.
     fn cells(&mut self, alloc: Global, at: &str, step: u32) -> Result<Answer, OutOfMemory>
-        ensures answer { IfOk result (λ answer. answer_view answer ≡ cells_answer (slice_index self.old.horizons) self.old.line step (replica_of self.old.line at.now)) }
+        ensures answer { IfOk result (λ answer. answer_view answer ≡ cells_answer (kept_replica self.old) self.old.line.plan step (replica_of self.old.line at.now)) }
         ensures unchanged { self.new ≡ self.old }
     {
         let Some(replica) = self.names.number_of(at) else {
             return Ok(Answer::Refused(Refusal::NoReplica));
         };
-        if self.horizons[replica] < step {
+        if self.replicas[replica].horizon < step {
             return Ok(Answer::Refused(Refusal::NotSimulated));
         }
         Ok(Answer::Cells(self.row(alloc, replica, step)?))
@@ -117,16 +210,26 @@ impl Keeper {
     // The row of a replica's road at a step, whose state is kept.
     fn row(&mut self, alloc: Global, replica: usize, step: u32) -> Result<String, OutOfMemory>
         requires { replica < length self.old.line.names }
-        ensures row { IfOk result (λ text. string_bytes text ≡ row_at self.old.line step) }
+        ensures row { IfOk result (λ text. string_bytes text ≡ row_at self.old.line.plan (kept_replica self.old replica).edits step) }
         ensures unchanged { self.new ≡ self.old }
     {
-        let last = &self.states[replica];
-        if last.step == step {
-            return self.simulation.row(alloc, last);
+        let held = &self.replicas[replica];
+        if held.last.step == step {
+            return row_of(alloc, &self.plan, &held.scenario, &held.last);
         }
-        let state = self.simulation.state_at(alloc, last, step)?;
-        let row = self.simulation.row(alloc, &state)?;
-        self.states[replica] = state;
+        let state = state_at(alloc, &self.plan, &held.scenario, &held.last, step)?;
+        let row = row_of(alloc, &self.plan, &held.scenario, &state)?;
+        self.replicas[replica].last = state;
         Ok(row)
+    }
+
+    // The edits that a replica holds.
+    fn scenario(&self, alloc: Global, at: &str) -> Result<Answer, OutOfMemory>
+        ensures { IfOk result (λ answer. answer_view answer ≡ scenario_answer (kept_replica self.now) (replica_of self.now.line at.now)) }
+    {
+        match self.names.number_of(at) {
+            Some(replica) => Ok(Answer::Edits(self.replicas[replica].scenario.edits(alloc)?)),
+            None => Ok(Answer::Refused(Refusal::NoReplica)),
+        }
     }
 }

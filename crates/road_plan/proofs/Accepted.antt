@@ -10,7 +10,7 @@ use Rattle.std.specs.declared.option.Option.TheVariants.{None, Some}
 use Rattle.road_plan.specs.Plan.{Plan, IsWithinLimits, road_end, zone_of}
 use Rattle.road_plan.specs.Refusals.{fault_of, has_length, has_exit, has_zones, has_inlets, has_detectors, has_defaults, all_differ}
 use Rattle.road_plan.specs.declared.faults.PlanFault.{PlanFault}
-use Rattle.road_plan.specs.declared.limits.TheConstants.{LEAST_LENGTH, GREATEST_LENGTH, GREATEST_EXIT, MOST_ZONES, SERVED_INLETS, MOST_DETECTORS, GREATEST_LIMIT, CERTAIN}
+use Rattle.road_plan.specs.declared.limits.TheConstants.{LEAST_LENGTH, GREATEST_LENGTH, GREATEST_EXIT, MOST_ZONES, MOST_INLETS, MOST_DETECTORS, GREATEST_LIMIT, CERTAIN}
 
 both_by : {X : Type 0} (test : X → Bool) (P Q : X → Type 0) → ((x : X) → P x → Q x → test x ≡ true) → (xs : List X) → AllByRecursion P xs → AllByRecursion Q xs → list_all test xs ≡ true
 both_by test P Q passes [] all_p all_q = refl
@@ -49,13 +49,13 @@ at_most a b h = grind (arith, nat_tests)
 same : (a b : ℕ) → a ≡ b → (a == b) ≡ true
 same a b h = grind (arith, nat_tests)
 
--- a plan within the limits has no fault, but for inlets that are not served yet
-pub no_fault : (p : Plan) → IsWithinLimits p → length p.inlets ≤ SERVED_INLETS → fault_of p ≡ None
-no_fault p within served =
+-- a plan within the limits has no fault
+pub no_fault : (p : Plan) → IsWithinLimits p → fault_of p ≡ None
+no_fault p within =
     passed (has_length p) _ _ (and_from _ _ (at_most LEAST_LENGTH p.cells within.long_enough) (at_most p.cells GREATEST_LENGTH within.short_enough))
     ∙ passed (has_exit p) _ _ (and_from _ _ (and_from _ _ (below 0 p.exit within.has_exit) (at_most p.exit GREATEST_EXIT within.exit_short)) (below p.exit p.cells within.exit_on_road))
     ∙ passed (has_zones p) _ _ (and_from _ _ (and_from _ _ (below 0 p.width within.wide) (at_most (length p.zones) MOST_ZONES within.few_zones)) (same (length p.zones) (zone_of p (p.cells - 1) + 1) within.zone_each))
-    ∙ passed (has_inlets p) _ _ (and_from _ _ (and_from _ _ (and_from _ _ (below 0 (length p.inlets) within.some_inlet) (at_most (length p.inlets) SERVED_INLETS served)) early_inlets) (differ _ within.inlets_apart))
+    ∙ passed (has_inlets p) _ _ (and_from _ _ (and_from _ _ (and_from _ _ (below 0 (length p.inlets) within.some_inlet) (at_most (length p.inlets) MOST_INLETS within.few_inlets)) early_inlets) (differ _ within.inlets_apart))
     ∙ passed (has_detectors p) _ _ (and_from _ _ (at_most (length p.detectors) MOST_DETECTORS within.few_detectors) sites)
     ∙ passed (has_defaults p) _ _ (and_from _ _ zones inflows)
   where

@@ -1,5 +1,5 @@
 -- A plan without a fault is within the limits.
-use Rattle.std.proofs.Common.{arith, ◌≡◌, ℕ, ◌<◌, ◌≤◌, Bool, true, false, not, ◌||◌, List, [], ◌∷◌, length, nat_eq, nat_lt, nat_le, refl, sym}
+use Rattle.std.proofs.Common.{arith, ◌≡◌, ℕ, ◌<◌, ◌≤◌, Bool, true, false, not, ◌||◌, List, [], ◌∷◌, nat_eq, nat_lt, nat_le, refl, sym}
 use Rattle.std.specs.Prelude.{if◌then◌else◌, ◌==◌}
 use Rattle.std.specs.List.{All, AllByRecursion, IsDistinct, list_all, list_any}
 use Rattle.std.proofs.lemmas.List.Elements.{All-from_recursion}
@@ -11,7 +11,7 @@ use Rattle.std.specs.declared.option.Option.TheVariants.{None, Some}
 use Rattle.road_plan.specs.Plan.{Plan, IsWithinLimits, road_end}
 use Rattle.road_plan.specs.Refusals.{fault_of, has_length, has_exit, has_zones, has_inlets, has_detectors, has_defaults, all_differ}
 use Rattle.road_plan.specs.declared.faults.PlanFault.{PlanFault}
-use Rattle.road_plan.specs.declared.limits.TheConstants.{MOST_INLETS, SERVED_INLETS, GREATEST_LIMIT, CERTAIN}
+use Rattle.road_plan.specs.declared.limits.TheConstants.{GREATEST_LIMIT, CERTAIN}
 
 -- where each passes a test, each has what the test gives
 each_passed : {X : Type 0} (test : X → Bool) (P : X → Type 0) → ((x : X) → test x ≡ true → P x) → (xs : List X) → list_all test xs ≡ true → AllByRecursion P xs
@@ -56,10 +56,6 @@ at_most a b h = grind (arith, nat_tests)
 same : (a b : ℕ) → (a == b) ≡ true → a ≡ b
 same a b h = grind (arith, nat_tests)
 
--- the inlets that are served are no more than a plan may have
-served : (n : ℕ) → n ≤ SERVED_INLETS → n ≤ MOST_INLETS
-served n h = omega (arith, h)
-
 -- a plan without a fault is within the limits
 pub within_limits : (p : Plan) → fault_of p ≡ None → IsWithinLimits p
 within_limits p faultless =
@@ -89,7 +85,7 @@ within_limits p faultless =
       few_zones = at_most _ _ few_zones.1;
       zone_each = same _ _ zones.1;
       some_inlet = below _ _ few_inlets.0;
-      few_inlets = served (length p.inlets) (at_most _ _ few_inlets.1);
+      few_inlets = at_most _ _ few_inlets.1;
       inlets_apart = distinct _ inlets.1;
       inlets_before_exit = all_passed _ (λ inlet. inlet.0 < road_end p) (λ inlet h. below inlet.0 (road_end p) h) p.inlets early_inlets.1;
       few_detectors = at_most _ _ detectors.0;

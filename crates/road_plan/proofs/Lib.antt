@@ -2,4 +2,3 @@ pub mod Inlets
 pub mod Faultless
 pub mod Defaults
 pub mod Accepted
-pub mod Fitting

@@ -6,7 +6,7 @@ use Rattle.std.specs.declared.option.Option.TheVariants.{None, Some}
 use Rattle.road_plan.specs.Plan.{Plan, road_end, zone_of}
 use Rattle.road_plan.specs.declared.faults.PlanFault.{PlanFault}
 use Rattle.road_plan.specs.declared.faults.PlanFault.TheVariants.{Length, Exit, Zones, Inlets, Detectors, Default}
-use Rattle.road_plan.specs.declared.limits.TheConstants.{LEAST_LENGTH, GREATEST_LENGTH, GREATEST_EXIT, MOST_ZONES, SERVED_INLETS, MOST_DETECTORS, GREATEST_LIMIT, CERTAIN}
+use Rattle.road_plan.specs.declared.limits.TheConstants.{LEAST_LENGTH, GREATEST_LENGTH, GREATEST_EXIT, MOST_ZONES, MOST_INLETS, MOST_DETECTORS, GREATEST_LIMIT, CERTAIN}
 
 -- whether the road is neither too short nor too long
 abbrev pub has_length : Plan → Bool
@@ -28,7 +28,7 @@ all_differ (n ∷ ns) = not (list_any (nat_eq n) ns) && all_differ ns
 -- whether the inlets are few enough, before the deleted zone, and at different cells
 abbrev pub has_inlets : Plan → Bool
 has_inlets p =
-    nat_lt 0 (length p.inlets) && nat_le (length p.inlets) SERVED_INLETS
+    nat_lt 0 (length p.inlets) && nat_le (length p.inlets) MOST_INLETS
     && list_all (λ inlet. nat_lt inlet.0 (road_end p)) p.inlets
     && all_differ (map (λ inlet. inlet.0) p.inlets)
 

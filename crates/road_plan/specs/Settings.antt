@@ -1,6 +1,6 @@
 -- All settings of a road at one step.
-use Rattle.std.specs.Prelude.{◌≡◌, ℕ, ◌+◌, ◌<◌, ◌≤◌, ◌==◌, ◌&&◌, Bool, true, List, [], ◌∷◌, length, map, nat_lt, nat_le}
-use Rattle.std.specs.List.{All, list_all}
+use Rattle.std.specs.Prelude.{◌≡◌, ℕ, ◌<◌, ◌≤◌, Bool, true, List, [], length, map}
+use Rattle.std.specs.List.{All}
 use Rattle.std.specs.List.Sorted.{IsStrictlyIncreasing}
 use Rattle.road_plan.specs.Plan.{Plan}
 use Rattle.road_plan.specs.declared.limits.TheConstants.{GREATEST_LIMIT, CERTAIN}
@@ -25,24 +25,6 @@ pub record Fits (p : Plan) (s : Settings) : Type 0 where
   pub blocks_rise : IsStrictlyIncreasing s.blocks
   pub blocks_on_road : All (λ cell. cell < p.cells) s.blocks
   pub watch_each : length s.watched ≡ length p.detectors
-
--- whether there are so many numbers, none of them above the greatest
-abbrev pub has_each : ℕ → ℕ → List ℕ → Bool
-has_each count greatest numbers = length numbers == count && list_all (λ n. nat_le n greatest) numbers
-
--- whether cells rise from one on, all before an end
-abbrev pub rise_from : ℕ → ℕ → List ℕ → Bool
-rise_from first end [] = true
-rise_from first end (c ∷ cs) = (nat_le first c && nat_lt c end) && rise_from (c + 1) end cs
-
--- `Fits` as a test
-abbrev pub fits_plan : Plan → Settings → Bool
-fits_plan p s =
-    has_each (length p.zones) GREATEST_LIMIT s.limits
-    && (has_each (length p.zones) CERTAIN s.chances
-    && (has_each (length p.inlets) CERTAIN s.inflows
-    && (rise_from 0 p.cells s.blocks
-    && length s.watched == length p.detectors)))
 
 -- the plan's own settings: its numbers, no blocked cell, every detector on
 abbrev pub defaults : Plan → Settings

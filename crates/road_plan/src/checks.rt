@@ -8,7 +8,7 @@ ghost use Rattle.road_plan.specs.Refusals as refusals;
 use crate::faults::PlanFault;
 use crate::limits::{
     CERTAIN, GREATEST_EXIT, GREATEST_LENGTH, GREATEST_LIMIT, LEAST_LENGTH, MOST_DETECTORS,
-    MOST_ZONES, SERVED_INLETS,
+    MOST_INLETS, MOST_ZONES,
 };
 use crate::parts::PlanParts;
 
@@ -66,7 +66,7 @@ fn has_inlets(parts: &PlanParts) -> bool
 {
     let end = parts.length.saturating_sub(parts.exit);
     0 < parts.inlets.len()
-        && parts.inlets.len() <= SERVED_INLETS
+        && parts.inlets.len() <= MOST_INLETS
         && are_before(&parts.inlets, end)
         && have_own_cells(&parts.inlets)
 }

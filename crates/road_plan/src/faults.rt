@@ -1,6 +1,6 @@
 use crate::limits::{
     CERTAIN, GREATEST_EXIT, GREATEST_LENGTH, GREATEST_LIMIT, LEAST_LENGTH, MOST_DETECTORS,
-    MOST_ZONES, SERVED_INLETS,
+    MOST_INLETS, MOST_ZONES,
 };
 use thiserror::Error;
 
@@ -17,7 +17,7 @@ pub enum PlanFault {
     #[error("the zones are not 1 to {most} with a width and one entry for each", most = MOST_ZONES)]
     Zones,
     /// There is no inlet, there are too many, or one is in the deleted zone or at the cell of another.
-    #[error("the inlets are none, more than {most}, or not at different cells before the deleted zone", most = SERVED_INLETS)]
+    #[error("the inlets are none, more than {most}, or not at different cells before the deleted zone", most = MOST_INLETS)]
     Inlets,
     /// There are too many detectors, or one is at the first cell or in the deleted zone.
     #[error("the detectors are not 0 to {most} at sites behind the first cell and before the deleted zone", most = MOST_DETECTORS)]

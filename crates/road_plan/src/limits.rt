@@ -10,8 +10,6 @@ pub const GREATEST_EXIT: u32 = 64;
 pub const MOST_ZONES: usize = 64;
 /// The most inlets of a road.
 pub const MOST_INLETS: usize = 16;
-/// The most inlets that the program serves today: a plan with more is refused. This is the one place to change.
-pub const SERVED_INLETS: usize = 1;
 /// The most detectors of a road.
 pub const MOST_DETECTORS: usize = 64;
 /// The greatest speed limit, in cells per step.

@@ -1,8 +1,7 @@
-ghost use Rattle.std.specs.Prelude.{◌≡◌, ◌≤◌, IfOk, IfErr, IsOk, Some, None, length};
+ghost use Rattle.std.specs.Prelude.{◌≡◌, IfOk, IfErr, IsOk, Some, None};
 ghost use Rattle.road_plan.specs.Plan.{plan_of, IsWithinLimits};
 ghost use Rattle.road_plan.specs.Settings.{Fits, defaults};
 ghost use Rattle.road_plan.specs.Refusals.{fault_of};
-ghost use Rattle.road_plan.specs.declared.limits.TheConstants.{SERVED_INLETS};
 
 use crate::checks::first_fault;
 use crate::faults::PlanFault;
@@ -33,8 +32,8 @@ impl Plan {
         ensures made { IfOk result (λ plan. plan ≡ plan_of parts) }
         ensures faultless { IfOk result (λ _. fault_of (plan_of parts) ≡ None) }
 
-        // So each plan within the limits is accepted, but for inlets that are not served yet.
-        ensures accepted { IsWithinLimits (plan_of parts) → length parts.inlets.items ≤ SERVED_INLETS → IsOk result }
+        // So each plan within the limits is accepted.
+        ensures accepted { IsWithinLimits (plan_of parts) → IsOk result }
 
         // Refused by the first fault, which is never want of memory.
         ensures refused { IfErr result (λ fault. fault_of (plan_of parts) ≡ Some fault) }

@@ -1,7 +1,7 @@
-ghost use Rattle.std.specs.Prelude.{◌≡◌, ◌↔◌, IfOk, IsTrue, map, nat_le, true};
-ghost use Rattle.std.specs.List.{list_all};
+ghost use Rattle.std.specs.Prelude.{◌≡◌, ◌<◌, ◌≤◌, ◌↔◌, IsTrue, IfOk, length, map, true};
+ghost use Rattle.std.specs.List.{All};
+ghost use Rattle.std.specs.List.Sorted.{IsStrictlyIncreasing};
 ghost use Rattle.road_plan.specs.Settings.{defaults, Fits};
-ghost use Rattle.road_plan.specs.Settings as tests;
 
 use crate::limits::{CERTAIN, GREATEST_LIMIT};
 use crate::plan::Plan;
@@ -47,12 +47,38 @@ impl Settings {
         })
     }
 
-    /// Whether they fit the plan: one allowed number for each zone and inlet, one answer for each detector, and the
-    /// blocked cells rise and are on the road. Takes no memory.
+    /// Whether they fit the plan: one allowed number for each zone, inlet and detector, and the blocked cells rise and are
+    /// on the road. It takes no memory.
     pub fn fits(&self, plan: &Plan) -> bool
         ensures { IsTrue result ↔ Fits plan.now self.now }
     {
-        fit(self, plan)
+        self.have_sizes(plan) && self.are_allowed() && self.have_blocks(plan)
+    }
+
+    // Whether there is one for each zone, inlet and detector.
+    fn have_sizes(&self, plan: &Plan) -> bool
+        ensures { IsTrue result ↔ ((length self.now.limits ≡ length plan.now.zones) × (length self.now.chances ≡ length plan.now.zones) × (length self.now.inflows ≡ length plan.now.inlets) × (length self.now.watched ≡ length plan.now.detectors)) }
+    {
+        self.limits.len() == plan.zones().len()
+            && self.chances.len() == plan.zones().len()
+            && self.inflows.len() == plan.inlets().len()
+            && self.watched.len() == plan.detectors().len()
+    }
+
+    // Whether each is in its range.
+    fn are_allowed(&self) -> bool
+        ensures { IsTrue result ↔ (All (λ n. n ≤ GREATEST_LIMIT) self.now.limits × All (λ n. n ≤ CERTAIN) self.now.chances × All (λ n. n ≤ CERTAIN) self.now.inflows) }
+    {
+        are_at_most(self.limits.as_slice(), GREATEST_LIMIT)
+            && are_at_most(self.chances.as_slice(), CERTAIN)
+            && are_at_most(self.inflows.as_slice(), CERTAIN)
+    }
+
+    // Whether the blocked cells rise and are on the road.
+    fn have_blocks(&self, plan: &Plan) -> bool
+        ensures { IsTrue result ↔ (IsStrictlyIncreasing self.now.blocks × All (λ cell. cell < plan.now.cells) self.now.blocks) }
+    {
+        do_rise(self.blocks.as_slice()) && are_below(self.blocks.as_slice(), plan.length())
     }
 
     /// For each zone its speed limit, in cells per step.
@@ -91,46 +117,6 @@ impl Settings {
     }
 }
 
-/// Whether the settings fit the plan.
-fn fit(settings: &Settings, plan: &Plan) -> bool
-    ensures { result ≡ tests.fits_plan plan.now settings.now }
-{
-    let zones = plan.zones().len();
-    has_each(zones, GREATEST_LIMIT, settings.limits())
-        && has_each(zones, CERTAIN, settings.chances())
-        && has_each(plan.inlets().len(), CERTAIN, settings.inflows())
-        && rise_before(plan.length(), settings.blocks())
-        && settings.watched().len() == plan.detectors().len()
-}
-
-/// Whether there are so many numbers, none of them above the greatest.
-fn has_each(count: usize, greatest: u32, numbers: &[u32]) -> bool
-    ensures { result ≡ tests.has_each count greatest numbers.now }
-{
-    numbers.len() == count && none_above(greatest, numbers)
-}
-
-/// Whether no number is above the greatest.
-fn none_above(greatest: u32, numbers: &[u32]) -> bool
-    ensures { result ≡ list_all (λ n. nat_le n greatest) numbers.now }
-{
-    numbers.iter().all(|&number| number <= greatest)
-}
-
-/// Whether cells rise, all of them before `end`.
-fn rise_before(end: u32, cells: &[u32]) -> bool
-    ensures { result ≡ tests.rise_from 0 end cells.now }
-{
-    let mut first = 0;
-    for &cell in cells {
-        if cell < first || cell >= end {
-            return false;
-        }
-        first = cell + 1;
-    }
-    true
-}
-
 /// The speed limits of these zones.
 fn limits_of(alloc: Global, zones: &[(u32, u32)]) -> Result<Vec<u32>, OutOfMemory>
     ensures { IfOk result (λ limits. limits.items ≡ map (λ zone. zone.0) zones.now) }
@@ -157,4 +143,30 @@ fn all_on(alloc: Global, detectors: &[u32]) -> Result<Vec<bool>, OutOfMemory>
     ensures { IfOk result (λ watched. watched.items ≡ map (λ site. true) detectors.now) }
 {
     detectors.iter().map(|_| true).collect(alloc)
+}
+
+/// Whether none of these numbers is above `most`.
+fn are_at_most(numbers: &[u32], most: u32) -> bool
+    ensures { IsTrue result ↔ All (λ n. n ≤ most) numbers.now }
+{
+    numbers.iter().all(|n| *n <= most)
+}
+
+/// Whether all of these cells are below `end`.
+fn are_below(cells: &[u32], end: u32) -> bool
+    ensures { IsTrue result ↔ All (λ cell. cell < end) cells.now }
+{
+    cells.iter().all(|cell| *cell < end)
+}
+
+/// Whether these cells strictly rise.
+fn do_rise(cells: &[u32]) -> bool
+    ensures { IsTrue result ↔ IsStrictlyIncreasing cells.now }
+{
+    for place in 1..cells.len() {
+        if cells[place] <= cells[place - 1] {
+            return false;
+        }
+    }
+    true
 }

@@ -94,8 +94,7 @@ fn checks_the_inlets(rt: HostRuntime) -> Result<(), Fail> {
         (&[(11, 0)], Some(Fault::Inlets)),
         (&[(u32::MAX, 0)], Some(Fault::Inlets)),
         (&[], Some(Fault::Inlets)),
-        // accepted as soon as several inlets are served
-        (&[(0, 0), (3, 0)], Some(Fault::Inlets)),
+        (&[(3, 0), (0, 0)], None),
         (&[(3, 1), (3, 0)], Some(Fault::Inlets)),
         (&[(0, 0), (1, 0), (2, 0), (1, 0)], Some(Fault::Inlets)),
         (&[(0, 0); 17], Some(Fault::Inlets)),
@@ -103,6 +102,19 @@ fn checks_the_inlets(rt: HostRuntime) -> Result<(), Fail> {
     for (inlets, fault) in table {
         let parts = parts_of(rt.alloc(), ROAD, ZONE, inlets, SITE)?;
         assert_eq!(rt; Plan::new(parts).err(), fault, "{inlets:?}");
+    }
+    Ok(())
+}
+
+#[test]
+fn accepts_sixteen_inlets(rt: HostRuntime) -> Result<(), Fail> {
+    for (count, fault) in [(1, None), (16, None), (17, Some(Fault::Inlets))] {
+        let mut inlets = Vec::new(rt.alloc());
+        for inlet in 0..count {
+            inlets.push((inlet, 0))?;
+        }
+        let parts = parts_of(rt.alloc(), (32, 1, 32), ZONE, &inlets, SITE)?;
+        assert_eq!(rt; Plan::new(parts).err(), fault, "{count} inlets");
     }
     Ok(())
 }
@@ -199,6 +211,39 @@ fn reads_the_own_settings(rt: HostRuntime) -> Result<(), Fail> {
 }
 
 #[test]
+fn knows_the_settings_that_fit(rt: HostRuntime) -> Result<(), Fail> {
+    let alloc = rt.alloc();
+    let parts = parts_of(alloc, (12, 1, 6), &[(2, 10), (1, 20)], &[(3, 30)], &[5, 6])?;
+    let plan = Plan::new(parts)?;
+    let table: [(&[u32], &[u32], &[u32], &[u32], usize, bool); 13] = [
+        (&[2, 1], &[10, 20], &[30], &[], 2, true),
+        (&[9, 0], &[65_536, 0], &[65_536], &[0, 5, 11], 2, true),
+        (&[2], &[10, 20], &[30], &[], 2, false),
+        (&[2, 1], &[10, 20, 0], &[30], &[], 2, false),
+        (&[2, 1], &[10, 20], &[], &[], 2, false),
+        (&[2, 1], &[10, 20], &[30], &[], 1, false),
+        (&[2, 10], &[10, 20], &[30], &[], 2, false),
+        (&[2, 1], &[65_537, 20], &[30], &[], 2, false),
+        (&[2, 1], &[10, 20], &[65_537], &[], 2, false),
+        (&[2, 1], &[10, 20], &[30], &[12], 2, false),
+        (&[2, 1], &[10, 20], &[30], &[5, 3], 2, false),
+        (&[2, 1], &[10, 20], &[30], &[3, 3], 2, false),
+        (&[2, 1], &[10, 20], &[30], &[3, 4], 2, true),
+    ];
+    for (limits, chances, inflows, blocks, watched, fits) in table {
+        let settings = Settings {
+            limits: limits.to_vec(alloc)?,
+            chances: chances.to_vec(alloc)?,
+            inflows: inflows.to_vec(alloc)?,
+            blocks: blocks.to_vec(alloc)?,
+            watched: vec![in alloc; true; watched]?,
+        };
+        assert_eq!(rt; settings.fits(&plan), fits, "{settings:?}");
+    }
+    Ok(())
+}
+
+#[test]
 fn says_each_fault(rt: HostRuntime) -> Result<(), Fail> {
     let table = [
         (Fault::Length, "the road is not 8 to 8192 cells long"),
@@ -212,7 +257,7 @@ fn says_each_fault(rt: HostRuntime) -> Result<(), Fail> {
         ),
         (
             Fault::Inlets,
-            "the inlets are none, more than 1, or not at different cells before the deleted zone",
+            "the inlets are none, more than 16, or not at different cells before the deleted zone",
         ),
         (
             Fault::Detectors,

@@ -18,7 +18,7 @@ use Rattle.road_scenario.specs.Settings.{setting, setting_in, settings_in, setti
 use Rattle.road_scenario.specs.Winners.{winners}
 use Rattle.road_scenario.specs.Walks.{last_put, steps_of, with_puts}
 use Rattle.road_scenario.proofs.Rising.{object_cmp, IsSteps, AreMaps, items-kept, winners-kept}
-use Rattle.road_scenario.proofs.FirstFaults.{first-append, none_of_both, in_range, each_in_range}
+use Rattle.road_scenario.specs.FaultsLaws.{first-append, none_of_both, in_range, each_in_range}
 use Rattle.road_scenario.proofs.Puts.{AreInPlan, setting-listed, puts-settings}
 use Rattle.road_scenario.proofs.Fitting as fitting
 

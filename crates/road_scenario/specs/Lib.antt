@@ -7,5 +7,9 @@ pub mod Touched
 pub mod Faults
 pub mod Counts
 pub mod Kept
+pub mod WinnersLaws
+pub mod CountsLaws
+pub mod FaultsLaws
+pub mod RangeLaws
 pub mod Walks
 pub mod Examples

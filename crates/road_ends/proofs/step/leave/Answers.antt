@@ -3,7 +3,7 @@ use Rattle.std.specs.List.Sorted.{IsPartitionPoint, IsPartitionedBy}
 use Rattle.std.proofs.lemmas.Fn.{always_returns_same}
 use Rattle.road_plan.specs.Plan.{road_end}
 use Rattle.road_cells.specs.Cars.{Rise, array_of}
-use Rattle.road_ends.proofs.Plain.{rise-take, left-take, cars_parted}
+use Rattle.road_ends.proofs.Computed.{rise-take, left-take, cars_parted}
 use Rattle.road_ends.proofs.step.leave.Goals as goal
 
 pub of-requires : goal.of-requires

@@ -1,7 +1,7 @@
 use Rattle.std.proofs.Common.{◌∙◌, sym, ap, subst}
 use Rattle.road_rules.specs.Motion.{MayMove, moved_at}
 use Rattle.road_ends.specs.Run.{left}
-use Rattle.road_ends.proofs.Plain.{may_move, left-moved_at}
+use Rattle.road_ends.proofs.Computed.{may_move, left-moved_at}
 use Rattle.road_ends.proofs.step.next.Goals as goal
 
 pub moved-requires-clause-may : goal.moved-requires-clause-may

@@ -10,5 +10,5 @@ invariant_of-result c = within_limits _ (sym c.first_fault.ensures ∙ c.in-None
 
 -- a fault was found, so the plan is not within the limits
 pub returns-in-Some-clause-accepted : goal.returns-in-Some-clause-accepted
-returns-in-Some-clause-accepted c = λ within served.
-    absurd (none-some _ (sym (no_fault _ within served) ∙ sym c.first_fault.ensures ∙ c.in-Some.is))
+returns-in-Some-clause-accepted c = λ within.
+    absurd (none-some _ (sym (no_fault _ within) ∙ sym c.first_fault.ensures ∙ c.in-Some.is))

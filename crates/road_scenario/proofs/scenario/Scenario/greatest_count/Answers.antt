@@ -1,6 +1,6 @@
 use Rattle.std.proofs.Common.{◌≡◌, sym, ap, ◌∙◌}
 use Rattle.road_scenario.specs.Counts.{greatest_count, greatest_count_in}
-use Rattle.road_scenario.proofs.Counted.{count-winners}
+use Rattle.road_scenario.specs.CountsLaws.{greatest_count-winners}
 use Rattle.road_scenario.proofs.Rising.{items-kept}
 use Rattle.road_scenario.proofs.scenario.Scenario.greatest_count.Goals as goal
 
@@ -11,4 +11,4 @@ pub returns-clause-here : goal.returns-clause-here
 returns-clause-here c = counted c
 
 pub returns-clause-every : goal.returns-clause-every
-returns-clause-every c = λ edits are. counted c ∙ ap greatest_count (sym are) ∙ count-winners edits
+returns-clause-every c = λ edits are. counted c ∙ ap greatest_count (sym are) ∙ greatest_count-winners edits

@@ -1,0 +1,22 @@
+-- Laws of the detectors of every run of a plan.
+use Rattle.std.specs.Prelude.{ℕ, ◌*◌, ◌-◌, ◌≤◌}
+use Rattle.road_plan.specs.Plan.{Plan}
+use Rattle.road_cells.specs.declared.car.TheConstants.{GREATEST_SPEED}
+use Rattle.road_ends.specs.Run.{Course}
+use Rattle.road_detector.specs.Passes.{passes, total}
+
+-- at most one car passes a site in one step, none faster than the greatest speed
+pub record PassesOneByOne (p : Plan) (course : Course) (d t : ℕ) : Type 0 where
+  pub one : (passes p course d t).cars ≤ 1
+  pub slow : (passes p course d t).speeds ≤ GREATEST_SPEED
+
+abbrev pub PassOneByOne : Plan → Type 0
+PassOneByOne p = (course : Course) (d t : ℕ) → PassesOneByOne p course d t
+
+-- so totals are bounded by the number of steps
+pub record IsTotalBounded (p : Plan) (course : Course) (d a b : ℕ) : Type 0 where
+  pub few : (total p course d a b).cars ≤ b - a
+  pub slow : (total p course d a b).speeds ≤ GREATEST_SPEED * (b - a)
+
+abbrev pub BoundTotals : Plan → Type 0
+BoundTotals p = (course : Course) (d a b : ℕ) → IsTotalBounded p course d a b

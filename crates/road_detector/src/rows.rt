@@ -1,0 +1,61 @@
+ghost use Rattle.std.specs.Prelude.{◌≡◌, ◌<◌, ℕ, length, slice_index, IfOk};
+ghost use Rattle.std.specs.String.{string_bytes};
+ghost use Rattle.road_cells.specs.Cars.{Rise, standing};
+ghost use Rattle.road_cells.specs.Gap.{is_blocked};
+ghost use Rattle.road_ends.specs.Row.{row_of, HasDigits};
+ghost use Rattle.road_detector.specs.Marks.{with_block, with_car, HaveDigits};
+
+use road_cells::{Car, Road};
+use road_ends::{BLOCKED, EMPTY, STANDING};
+use std::alloc::{AllocError, Global};
+
+/// The road as a row of text, with one letter for each of its `length` cells: a car's speed as a digit, else `#` where the
+/// cell is blocked, else `.`. A speed above 9 would have no digit. Blocked cells and cars at or past `length` are not drawn.
+///
+/// It goes over the blocked cells once, in whatever order they are, and over the cars once, in one growth.
+///
+/// # Errors
+///
+/// `OutOfMemory` where that growth is refused.
+pub fn row_text(
+    alloc: Global,
+    road: &Road,
+    blocks: &[u32],
+    length: u32,
+) -> Result<String, AllocError>
+    requires { HasDigits road.now }
+    ensures { IfOk result (λ text. string_bytes text ≡ row_of length blocks.now road.now) }
+{
+    let row = vec![in alloc; EMPTY; length as usize]?;
+    let row = with_blocks(row, blocks);
+    let row = with_cars(row, road.cars());
+    Ok(String::from_utf8(row).unwrap())
+}
+
+// A row with the blocked cells marked.
+fn with_blocks(mut row: Vec<u8>, blocks: &[u32]) -> Vec<u8>
+    ensures same_length { length result.items ≡ length row.items }
+    ensures marked { (c : ℕ) → c < length row.items → slice_index result.items c ≡ with_block (is_blocked blocks.now c) (slice_index row.items c) }
+{
+    for block in blocks {
+        if (*block as usize) < row.len() {
+            row[*block as usize] = BLOCKED;
+        }
+    }
+    row
+}
+
+// A row with the cars marked, each by the digit of its speed.
+fn with_cars(mut row: Vec<u8>, cars: &[Car]) -> Vec<u8>
+    requires rise { Rise cars.now }
+    requires digits { HaveDigits cars.now }
+    ensures same_length { length result.items ≡ length row.items }
+    ensures marked { (c : ℕ) → c < length row.items → slice_index result.items c ≡ with_car (standing c cars.now) (slice_index row.items c) }
+{
+    for car in cars {
+        if (car.cell as usize) < row.len() {
+            row[car.cell as usize] = STANDING + car.speed;
+        }
+    }
+    row
+}

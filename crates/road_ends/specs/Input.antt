@@ -1,0 +1,27 @@
+-- The input of a step: what is needed to compute it.
+use Rattle.std.specs.Prelude.{ℕ, List}
+use Rattle.road_plan.specs.Plan.{Plan}
+use Rattle.road_plan.specs.Settings.{Settings}
+use Rattle.road_cells.specs.Array.{Array}
+use Rattle.road_ends.specs.Entries.{entered}
+use Rattle.road_ends.specs.Speed.{speeds}
+use Rattle.road_ends.specs.Run.{next}
+
+-- a plan, the settings and the number of a step, and the array with the cars that have entered in it
+pub record StepInput : Type 0 where
+  pub plan : Plan
+  pub settings : Settings
+  pub step : ℕ
+  pub road : Array
+
+-- the input of step t on an array
+abbrev pub input_of : Plan → Settings → ℕ → Array → StepInput
+input_of p s t a = record { plan = p; settings = s; step = t; road = entered p s t a }
+
+-- the new speeds of all cars of the step
+abbrev pub input_speeds : StepInput → List ℕ
+input_speeds input = speeds input.plan input.settings input.step input.road
+
+-- the array after the step
+abbrev pub input_next : StepInput → Array
+input_next input = next input.plan input.settings input.step input.road

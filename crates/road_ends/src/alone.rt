@@ -1,0 +1,56 @@
+ghost use Rattle.std.specs.Prelude.{◌≡◌, ◌+◌, min, IfOk, OnOk, OnErr};
+ghost use Rattle.std.specs.Arc.{arc_value};
+ghost use Rattle.road_plan.specs.Settings.{Fits};
+ghost use Rattle.road_ends.specs.Input.{input_of, input_speeds};
+ghost use Rattle.road_ends.specs.Run.{stepped};
+
+use crate::input::{StepInput, enter};
+use crate::meter::Meter;
+use crate::step::finish;
+use road_cells::Road;
+use road_plan::{Plan, Settings};
+use std::alloc::{AllocError, Global};
+use std::sync::Arc;
+
+/// A computed step.
+#[derive(Drop)]
+pub struct Stepped {
+    /// Its input.
+    pub input: Arc<StepInput>,
+    /// The new speeds of its cars, in their order.
+    pub speeds: Vec<u8>,
+    /// The road after it.
+    pub road: Road,
+}
+
+/// One step of the road, computed by this one caller: entries, speeds, motion, deletion. The meter counts it once it is
+/// computed.
+///
+/// # Errors
+///
+/// `OutOfMemory` where a growth is refused: those of [`enter`], of the speeds, of the new road. The meter is then as it was.
+pub fn step_alone(
+    alloc: Global,
+    plan: &Arc<Plan>,
+    settings: Settings,
+    step: u32,
+    road: &Road,
+    meter: &mut Meter,
+) -> Result<Stepped, AllocError>
+    requires { Fits (arc_value plan.now) settings }
+    ensures input { IfOk result (λ done. arc_value done.input ≡ input_of (arc_value plan.now) settings step road.now) }
+    ensures speeds { IfOk result (λ done. done.speeds.items ≡ input_speeds (input_of (arc_value plan.now) settings step road.now)) }
+    ensures road { IfOk result (λ done. done.road ≡ stepped (arc_value plan.now) settings step road.now) }
+    ensures counted { OnOk result (meter.new ≡ min (meter.old + 1) u64.MAX) }
+    ensures kept { OnErr result (meter.new ≡ meter.old) }
+{
+    let input = enter(alloc, plan, settings, step, road)?;
+    let speeds = input.speeds(alloc)?;
+    let road = finish(alloc, &input, &speeds)?;
+    meter.tick();
+    Ok(Stepped {
+        input,
+        speeds,
+        road,
+    })
+}

@@ -1,0 +1,40 @@
+ghost use Rattle.std.specs.Prelude.{◌≡◌, ◌+◌, min};
+
+use std::marker::Model;
+
+/// Counts computed steps.
+#[derive(Debug, Drop)]
+pub struct Meter {
+    ticks: u64,
+}
+
+impl Model for Meter {
+    ghost use Rattle.std.specs.Prelude.{ℕ};
+
+    ghost Value = { ℕ };
+
+    ghost view = { λ meter. meter.ticks };
+}
+
+impl Meter {
+    /// A meter that has counted nothing.
+    pub fn new() -> Self
+        ensures { result ≡ 0 }
+    {
+        Meter { ticks: 0 }
+    }
+
+    /// The steps counted, at most 2^64 - 1.
+    pub fn ticks(&self) -> u64
+        ensures { result ≡ self.now }
+    {
+        self.ticks
+    }
+
+    /// Counts a computed step. At the greatest count the meter stays.
+    pub fn tick(&mut self)
+        ensures { self.new ≡ min (self.old + 1) u64.MAX }
+    {
+        self.ticks = self.ticks.saturating_add(1);
+    }
+}

@@ -1,0 +1,42 @@
+-- How objects are written: a list of a kind's name and an index.
+use Rattle.std.specs.Prelude.{ℕ, List, codes, if◌then◌else◌, Option, Some, None}
+use Rattle.std.specs.Str.{bytes_eq}
+use Rattle.serde_json.specs.Data.{Data, Items, no_items, item}
+use Rattle.serde_json.specs.Find.{as_str, as_array}
+use Rattle.road_plan.specs.declared.object.Object.{Object}
+use Rattle.road_plan.specs.declared.object.Object.TheVariants.{Limit, Slow, Block, Inflow, Watch}
+use Rattle.road_format.specs.Fields.{◌>>=◌, number_in, number_at, items_at}
+
+-- the name of an object's kind
+abbrev pub kind_of : Object → List ℕ
+kind_of (Limit zone) = codes "limit"
+kind_of (Slow zone) = codes "slow"
+kind_of (Block cell) = codes "block"
+kind_of (Inflow inlet) = codes "inflow"
+kind_of (Watch detector) = codes "watch"
+
+-- its index among the objects of its kind
+abbrev pub index_of : Object → ℕ
+index_of (Limit zone) = zone
+index_of (Slow zone) = zone
+index_of (Block cell) = cell
+index_of (Inflow inlet) = inlet
+index_of (Watch detector) = detector
+
+-- the object of a kind and an index. Speed limits and slowing chances are what is edited today.
+abbrev pub object_of : List ℕ → ℕ → Option Object
+object_of kind index =
+    if bytes_eq kind (codes "limit") then Some (Limit index)
+    else if bytes_eq kind (codes "slow") then Some (Slow index)
+    else None
+
+-- of just two items, a kind's name and an index
+abbrev pub object_from : Items → Option Object
+object_from no_items = None
+object_from (item a no_items) = None
+object_from (item a (item b no_items)) = as_str a >>= λ kind. number_in b >>= λ index. object_of kind index
+object_from (item a (item b (item c ds))) = None
+
+-- the object at a field
+abbrev pub object_at : List ℕ → Data → Option Object
+object_at field d = items_at field d >>= object_from

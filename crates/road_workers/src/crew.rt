@@ -1,0 +1,25 @@
+ghost use Rattle.std.specs.Prelude.{◌≡◌, ℕ, IfOk};
+ghost use Rattle.std.specs.Arc.{arc_value};
+ghost use Rattle.road_ends.specs.Input.{input_speeds};
+ghost use Rattle.road_workers.specs.Crews.{gone_after};
+
+use crate::faults::CrewFault;
+use road_ends::StepInput;
+use std::alloc::Global;
+use std::sync::Arc;
+
+/// Whoever computes the speeds of a step.
+pub trait Crew {
+    /// How often it has answered `WorkersGone`, at most 2^64 - 1. Contracts alone see this count.
+    ghost gone: { Self → ℕ };
+
+    /// The new speeds of all cars of a step, in their order, by rules 1 to 3. They are the same for every crew and every
+    /// number of workers.
+    ///
+    /// # Errors
+    ///
+    /// `WorkersGone` where a worker could not be started or has gone, else `OutOfMemory` where a growth is refused.
+    fn speeds(&mut self, alloc: Global, input: &Arc<StepInput>) -> Result<Vec<u8>, CrewFault>
+        ensures speeds { IfOk result (λ new. new.items ≡ input_speeds (arc_value input.now)) }
+        ensures gone { gone self.new ≡ gone_after result (gone self.old) };
+}

@@ -1,0 +1,24 @@
+ghost use Rattle.std.specs.Prelude.{◌≡◌};
+ghost use Rattle.road_workers.specs.declared.faults.CrewFault.TheVariants.{OutOfMemory};
+
+use std::alloc::AllocError;
+use thiserror::Error;
+
+/// Why a crew gave no speeds.
+#[derive(Clone, Copy, Debug, PartialEq, Eq, Error)]
+pub enum CrewFault {
+    /// A worker's thread could not be started, or has gone.
+    #[error("a worker could not be started or has gone")]
+    WorkersGone,
+    /// There was no memory.
+    #[error("no memory")]
+    OutOfMemory,
+}
+
+impl From<AllocError> for CrewFault {
+    ghost from_gives = { λ _ fault. fault ≡ OutOfMemory };
+
+    fn from(_failed: AllocError) -> CrewFault {
+        CrewFault::OutOfMemory
+    }
+}

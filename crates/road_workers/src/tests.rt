@@ -1,0 +1,1 @@
+//! Speeds by a crew.
