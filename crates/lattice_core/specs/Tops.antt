@@ -73,7 +73,7 @@ module _ {K : Type 0} {R : K → K → Ordering} (total : IsTotalOrder R) (exact
   in_union : (s t : Set) (e : K) → contains (union s t) e ≡ true → (contains s e ≡ true) ⊎ (contains t e ≡ true)
   in_union s t e h = or_cases _ _ (sym (contains-union total s t e) ∙ h)
 
-  union_left : (s t : Set) (e : K) → contains s e ≡ true → contains (union s t) e ≡ true
+  pub union_left : (s t : Set) (e : K) → contains s e ≡ true → contains (union s t) e ≡ true
   union_left s t e h = contains-union total s t e ∙ or_left _ _ h
 
   union_right : (s t : Set) (e : K) → contains t e ≡ true → contains (union s t) e ≡ true

@@ -68,7 +68,7 @@ join-empty s = ap winners (union-empty s)
 pub winners-empty : winners empty ≡ empty
 winners-empty = same_edits _ _ (λ e h. ((winners_laws.members empty e).0 h).inside) (λ e h. absurd (no_edit e h))
 
-winners-single : (e : Edit) → winners (single e) ≡ single e
+pub winners-single : (e : Edit) → winners (single e) ≡ single e
 winners-single e = same_edits _ _
     (λ f h. ((winners_laws.members (single e) f).0 h).inside)
     (λ f h. (winners_laws.members (single e) f).1 (record {

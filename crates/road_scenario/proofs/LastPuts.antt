@@ -60,7 +60,7 @@ all_found steps rest step a w number whole is l s h =
 abbrev pub chosen : Object → ℕ → Object → Steps → List Edit
 chosen o step p steps = filter (puts o step) (listed_at p steps)
 
-itself : (o : Object) → is_one o o ≡ true
+pub itself : (o : Object) → is_one o o ≡ true
 itself o = ap is_eq (tied_itself two_total (order_key o))
 
 -- the edits of another object put it nothing

@@ -4,3 +4,6 @@ pub mod LastPuts
 pub mod Puts
 pub mod Fitting
 pub mod Settled
+pub mod Touching
+pub mod Same
+pub mod Winning

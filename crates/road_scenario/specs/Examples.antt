@@ -11,7 +11,7 @@ use Rattle.road_scenario.specs.declared.edit.Value.TheVariants.{Withdrawn, Put}
 use Rattle.road_scenario.specs.declared.faults.EditFault.TheVariants.{NoObject, Step, ValueOutOfRange, Count}
 use Rattle.road_scenario.specs.Winners.{winners_in}
 use Rattle.road_scenario.specs.Settings.{setting_in, settings_in}
-use Rattle.road_scenario.specs.Touched.{put_in}
+use Rattle.road_scenario.specs.Touched.{put_in, touched_in}
 use Rattle.road_scenario.specs.Edits.{place_of}
 use Rattle.road_scenario.specs.Faults.{fault_of, first_fault}
 use Rattle.road_scenario.specs.Counts.{greatest_count_in}

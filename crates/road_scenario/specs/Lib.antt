@@ -1,6 +1,7 @@
 pub mod Edits
 pub mod EditOrder
 pub mod Winners
+pub mod JoinLaws
 pub mod Settings
 pub mod Touched
 pub mod Faults

@@ -60,23 +60,28 @@ earlier None y = y
 earlier (Some a) None = Some a
 earlier (Some a) (Some b) = Some (min a b)
 
+-- the number that won, if there is an entry
+abbrev pub number_won : Option Won → Option ℕ
+number_won None = None
+number_won (Some won) = won_number won
+
 -- the number put at a step
 abbrev pub number_found : Steps → ℕ → Option ℕ
-number_found steps step = number_of (find nat_cmp step steps)
-  where
-    number_of : Option Won → Option ℕ
-    number_of None = None
-    number_of (Some won) = won_number won
+number_found steps step = number_won (find nat_cmp step steps)
 
 -- the first step at which the steps of an object put another number than others
 abbrev pub changed_at : Steps → Steps → Option ℕ
 changed_at [] others = None
 changed_at (e ∷ es) others = cond (same_number (won_number e.1) (number_found others e.0)) (changed_at es others) (Some e.0)
 
+-- the steps, none where there is no entry
+abbrev pub or_none : Option Steps → Steps
+or_none found = unwrap_or found []
+
 module _ (cmp : Object → Object → Ordering) where
   -- the steps of an object
   abbrev pub steps_of : Maps → Object → Steps
-  steps_of m o = unwrap_or (find cmp o m) []
+  steps_of m o = or_none (find cmp o m)
 
   -- the first step at which maps put another number than others
   abbrev pub changed : Maps → Maps → Option ℕ

@@ -6,11 +6,17 @@
 mod edit;
 mod exact;
 mod faults;
+mod lattice;
+pub mod laws;
 mod listing;
 mod scenario;
 mod settings;
+mod touched;
 
 pub use edit::{Edit, Stamp, Value};
 pub use faults::EditFault;
 pub use road_plan::OutOfMemory;
 pub use scenario::{Scenario, Won};
+
+#[cfg(test)]
+mod tests;

@@ -84,8 +84,8 @@ pub(crate) fn fault_of_first(maps: &Maps, plan: &Plan) -> Option<EditFault>
 fn fault_at(object: Object, steps: &Steps, plan: &Plan) -> Option<EditFault>
     ensures { result ≡ first_fault plan.now (listed_at object steps.now) }
 {
-    for (step, won) in steps.iter() {
-        match fault_of_won(object, *step, won, plan) {
+    for (step, winner) in steps.iter() {
+        match fault_of_won(object, *step, winner, plan) {
             Some(fault) => return Some(fault),
             None => {}
         }

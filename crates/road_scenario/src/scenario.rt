@@ -1,17 +1,20 @@
-ghost use Rattle.std.specs.Prelude.{◌≡◌, ◌↔◌, [], ◌∷◌, IfOk, IsNone, None, true};
+ghost use Rattle.std.specs.Prelude.{◌≡◌, ◌↔◌, [], ◌∷◌, IfOk, IsNone, IsTrue, None, T, true};
 ghost use Rattle.lattice_core.specs.Sets as sets;
 ghost use Rattle.road_plan.specs.Objects.{in_plan};
 ghost use Rattle.road_plan.specs.Settings.{Fits};
 ghost use Rattle.road_scenario.specs.Counts.{greatest_count};
-ghost use Rattle.road_scenario.specs.Edits.{Edits};
+ghost use Rattle.road_scenario.specs.Edits.{Edits, edit_cmp};
 ghost use Rattle.road_scenario.specs.Faults.{fault_in, AreInRange};
+ghost use Rattle.road_scenario.specs.JoinLaws.{AreWinners, has_none};
 ghost use Rattle.road_scenario.specs.Settings.{setting, settings_of};
+ghost use Rattle.road_scenario.specs.Touched.{touched};
 ghost use Rattle.road_scenario.specs.Winners.{winners, join};
 
 use crate::edit::{Edit, Stamp, Value};
 use crate::faults::EditFault;
 use crate::listing::{all_edits, fault_of_first, greatest_count_of};
 use crate::settings::{number_of, put_all};
+use crate::touched::first_change;
 use lattice_core::greatest::Greatest;
 use lattice_core::lattice::Lattice;
 use lattice_core::map::LatMap;
@@ -128,9 +131,20 @@ impl Scenario {
         Ok(settings)
     }
 
+    /// The least step of an object and step at which the numbers put here and in `other` differ: nothing is put where
+    /// there is no edit or a withdrawal.
+    pub fn touched(&self, other: &Scenario) -> Option<u32>
+        ensures { result ≡ touched self.now other.now }
+    {
+        self.maps.known();
+        other.maps.known();
+        first_change(&self.maps, &other.maps)
+    }
+
     /// The edits by object and step, each once. `OutOfMemory` comes where a growth was refused.
     pub fn edits(&self, alloc: Global) -> Result<Vec<Edit>, OutOfMemory>
-        ensures { IfOk result (λ edits. edits.items ≡ sets.items self.now) }
+        ensures all { IfOk result (λ edits. edits.items ≡ sets.items self.now) }
+        ensures rising { IfOk result (λ edits. T (sets.is_rising edit_cmp edits.items)) }
     {
         self.maps.known();
         Ok(all_edits(alloc, &self.maps)?)
@@ -153,5 +167,29 @@ impl Scenario {
     {
         self.maps.known();
         fault_of_first(&self.maps, plan)
+    }
+
+    // Whether there is no edit.
+    pub(crate) fn is_empty(&self) -> bool
+        ensures { result ≡ has_none self.now }
+    {
+        self.maps.known();
+        self.maps.is_bottom()
+    }
+
+    // Whether the join with `other` is `other`.
+    pub(crate) fn is_up_to(&self, other: &Scenario) -> bool
+        ensures { IsTrue result ↔ (join self.now other.now ≡ other.now) }
+    {
+        self.maps.known();
+        other.maps.known();
+        self.maps.at_most(&other.maps)
+    }
+
+    /// That no edit of the scenario exceeds another. It is a fact for proofs: the call does nothing.
+    pub fn are_winners(&self)
+        ensures { AreWinners self.now }
+    {
+        self.maps.known();
     }
 }

@@ -1,0 +1,76 @@
+-- Who wins, of sets and of lists.
+use Rattle.std.specs.Prelude.{◌≡◌, Bool, true, false, not, cond, ◌&&◌, ◌||◌, List, [], ◌∷◌, refl}
+use Rattle.std.specs.declared.cmp.Ordering.{Ordering}
+use Rattle.std.specs.declared.cmp.Ordering.TheVariants.{Less, Equal, Greater}
+use Rattle.std.specs.List.{list_any, filter}
+use Rattle.std.specs.Ordering.{ordering_then, ordering_reverse, eq_by_cmp, is_eq, is_lt}
+use Rattle.std.specs.Cmp.{Equal-is, tied_itself}
+use Rattle.std.proofs.Common.{sym, ap, subst, ◌∙◌, inl, inr}
+use Rattle.std.proofs.lemmas.Bool.{true≢false, or_cases, or_left, or_right, and_from, cases_Bool}
+use Rattle.lattice_core.specs.Sets.{contains, items, from_list, contains-from_list, contains-items, same_set}
+use Rattle.lattice_core.specs.Tops.{any_gives, any_by, contains-tops}
+use Rattle.road_scenario.specs.declared.edit.Edit.{Edit}
+use Rattle.road_scenario.specs.Edits.{Edits, edit_cmp, exceeds, place, rank, three_cmp}
+use Rattle.road_scenario.specs.EditOrder.{edit_total, edit_exact, exceeds_strict, winners_laws, three_total}
+use Rattle.road_scenario.specs.Winners.{winners, winners_in}
+
+-- ---- one for each object and step
+
+not_less : (e f : Edit) → place e ≡ place f → exceeds e f ≡ false → is_lt (three_cmp (rank e) (rank f)) ≡ false
+not_less e f same h = ap (λ b. b && is_lt (three_cmp (rank e) (rank f))) (sym (ap is_eq (ap (three_cmp (place e)) (sym same) ∙ tied_itself three_total (place e)))) ∙ h
+
+tied : (r : Ordering) → is_lt r ≡ false → is_lt (ordering_reverse r) ≡ false → r ≡ Equal
+tied Less p q = absurd (true≢false p)
+tied Equal p q = refl
+tied Greater p q = absurd (true≢false q)
+
+pub alone : (edits : Edits) (e f : Edit) → contains (winners edits) e ≡ true → contains (winners edits) f ≡ true → place e ≡ place f → e ≡ f
+alone edits e f p q same =
+    let first = (winners_laws.members edits e).0 p in
+    let second = (winners_laws.members edits f).0 q in
+    let forth = not_less e f same (first.none f second.inside) in
+    let back = not_less f e (sym same) (second.none e first.inside) in
+    let ranks : three_cmp (rank e) (rank f) ≡ Equal = tied (three_cmp (rank e) (rank f)) forth (ap is_lt (sym (three_total.antisymm (rank f) (rank e))) ∙ back) in
+    edit_exact e f (ap (λ r. ordering_then r (three_cmp (rank e) (rank f))) (ap (three_cmp (place e)) (sym same) ∙ tied_itself three_total (place e)) ∙ ranks)
+
+-- ---- of a list
+
+any-filter : (q : Edit → Bool) (es : List Edit) (e : Edit) → list_any (eq_by_cmp edit_cmp e) (filter q es) ≡ (list_any (eq_by_cmp edit_cmp e) es && q e)
+any-filter q [] e = refl
+any-filter q (f ∷ es) e = elim (q f) as (λ b. q f ≡ b → list_any (eq_by_cmp edit_cmp e) (cond b (f ∷ filter q es) (filter q es)) ≡ ((eq_by_cmp edit_cmp e f || list_any (eq_by_cmp edit_cmp e) es) && q e)) [
+  | true ↦ λ t. ap (λ b. eq_by_cmp edit_cmp e f || b) (any-filter q es e) ∙ kept (eq_by_cmp edit_cmp e f) (list_any (eq_by_cmp edit_cmp e) es) (q e) (λ h. ap q (is h) ∙ t)
+  | false ↦ λ t. any-filter q es e ∙ dropped (eq_by_cmp edit_cmp e f) (list_any (eq_by_cmp edit_cmp e) es) (q e) (λ h. ap q (is h) ∙ t)
+] refl
+  where
+    is : eq_by_cmp edit_cmp e f ≡ true → e ≡ f
+    is h = edit_exact e f ((Equal-is (edit_cmp e f)).0 h)
+
+    kept : (a b c : Bool) → (a ≡ true → c ≡ true) → (a || (b && c)) ≡ ((a || b) && c)
+    kept true b c h = sym (h refl)
+    kept false b c h = refl
+
+    dropped : (a b c : Bool) → (a ≡ true → c ≡ false) → (b && c) ≡ ((a || b) && c)
+    dropped true b c h = ap (λ x. b && x) (h refl) ∙ never b ∙ sym (h refl)
+      where
+        never : (b : Bool) → (b && false) ≡ false
+        never true = refl
+        never false = refl
+    dropped false b c h = refl
+
+same_test : (s t : Bool) → (s ≡ true → t ≡ true) → (t ≡ true → s ≡ true) → s ≡ t
+same_test true t f g = sym (f refl)
+same_test false true f g = g refl
+same_test false false f g = refl
+
+-- a list and the items of its set have the same elements
+same_any : (p : Edit → Bool) (es fs : List Edit) → ((e : Edit) → list_any (eq_by_cmp edit_cmp e) es ≡ list_any (eq_by_cmp edit_cmp e) fs) → list_any p es ≡ true → list_any p fs ≡ true
+same_any p es fs h t = let r = any_gives edit_total edit_exact p es t in any_by edit_total edit_exact p fs r.0 (sym (h r.0) ∙ r.1) r.2
+
+pub listed : (es : List Edit) → from_list {R = edit_cmp} (winners_in es) ≡ winners (from_list es)
+listed es =
+    let elements : (e : Edit) → list_any (eq_by_cmp edit_cmp e) es ≡ list_any (eq_by_cmp edit_cmp e) (items (from_list {R = edit_cmp} es)) = λ e. sym (contains-from_list edit_total es e) ∙ contains-items (from_list es) e in
+    same_set edit_total edit_exact _ _ (λ q.
+    contains-from_list edit_total (winners_in es) q
+    ∙ any-filter (λ e. not (list_any (exceeds e) es)) es q
+    ∙ (λ i. sym (contains-from_list edit_total es q) i && not (same_test (list_any (exceeds q) es) (list_any (exceeds q) (items (from_list es))) (same_any (exceeds q) es (items (from_list es)) elements) (same_any (exceeds q) (items (from_list es)) es (λ e. sym (elements e))) i))
+    ∙ sym (contains-tops edit_total edit_exact exceeds exceeds_strict (from_list es) q))

@@ -1,0 +1,34 @@
+//! What holds of all sets of edits, each on a function that does nothing. That scenarios agree whatever the order,
+//! grouping and repetition of their merges is `Lattice` for `Scenario`.
+
+ghost use Rattle.std.specs.Prelude.{◌≡◌, [], ◌∷◌, ℕ, List, true};
+ghost use Rattle.lattice_core.specs.Sets.{contains, empty, from_list};
+ghost use Rattle.lattice_core.specs.Tops.{TopsLaws};
+ghost use Rattle.road_plan.specs.Plan.{Plan};
+ghost use Rattle.road_scenario.specs.declared.edit.Edit.{Edit};
+ghost use Rattle.road_scenario.specs.Counts.{greatest_count};
+ghost use Rattle.road_scenario.specs.Edits.{Edits, edit_cmp, exceeds, place};
+ghost use Rattle.road_scenario.specs.Settings.{settings_of};
+ghost use Rattle.road_scenario.specs.Touched.{touched};
+ghost use Rattle.road_scenario.specs.Winners.{winners, winners_in};
+
+/// Who wins.
+pub fn winners_agree()
+    // A winner is an edit that none exceeds. The winners of a union are the join of the winners of its parts, winners of
+    // winners are the same, and joins are commutative, associative and idempotent.
+    ensures joined { TopsLaws edit_cmp exceeds }
+    // No edit, and one edit alone, are their own winners.
+    ensures none { winners empty ≡ empty }
+    ensures single { (edit : Edit) → winners (from_list (edit ∷ [])) ≡ from_list (edit ∷ []) }
+    // Each object and step has one winner.
+    ensures alone { (edits : Edits) (e f : Edit) → contains (winners edits) e ≡ true → contains (winners edits) f ≡ true → place e ≡ place f → e ≡ f }
+    // The winners of a list are those of its set.
+    ensures listed { (edits : List Edit) → from_list {R = edit_cmp} (winners_in edits) ≡ winners (from_list edits) }
+{}
+
+/// Settings, what is touched and the greatest count are the same by all edits and by their winners.
+pub fn winners_decide()
+    ensures settings { (plan : Plan) (edits : Edits) (step : ℕ) → settings_of plan (winners edits) step ≡ settings_of plan edits step }
+    ensures touched { (edits others : Edits) → touched (winners edits) (winners others) ≡ touched edits others }
+    ensures count { (edits : Edits) → greatest_count (winners edits) ≡ greatest_count edits }
+{}
