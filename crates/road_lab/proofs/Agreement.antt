@@ -91,6 +91,7 @@ advance_agrees kept real n to None a below = refl
 advance_agrees kept real n to (Some r) a below = rw (a r (below r refl)) refl
 
 cells_agrees : (kept real : ℕ → Replica) (n : ℕ) (plan : Plan) (step : ℕ) (place : Option ℕ) → Alike kept real n → ((r : ℕ) → place ≡ Some r → r < n) → cells_answer kept plan step place ≡ cells_answer real plan step place
+unfolding row_at
 cells_agrees kept real n plan step None a below = refl
 cells_agrees kept real n plan step (Some r) a below =
     ap (λ (x : Replica). if nat_lt x.horizon step then Refused refusals.NotSimulated else replies.Cells (row_at plan x.edits step)) (a r (below r refl))
@@ -140,8 +141,10 @@ put_same replicas n events e r true is a below within =
     let same : e.replica ≡ r = eqb-true e.replica r is in
     let new : Replica = kept_deed e.deed (slice_index_or replicas e.replica opening) in
     let here = get_or-set_same replicas e.replica new opening (omega (arith, a.each)) in
-    rw is (ap (slice_index_or (put replicas e)) (sym same) ∙ here)
-    ∙ rw is (ap (kept_deed e.deed) (a.is e.replica below) ∙ ap (λ (q : ℕ). kept_deed e.deed (kept_of (replica_after events q))) same ∙ deed_agrees e.deed (replica_after events r))
+    let found : slice_index_or (put replicas e) r opening ≡ new = ap (λ (q : ℕ). slice_index_or (put replicas e) q opening) (sym same) ∙ here in
+    let made : new ≡ kept_of (after_deed e.deed (replica_after events r)) =
+        ap (kept_deed e.deed) (a.is e.replica below) ∙ ap (λ (q : ℕ). kept_deed e.deed (kept_of (replica_after events q))) same ∙ deed_agrees e.deed (replica_after events r) in
+    rw is (found ∙ made)
 put_same replicas n events e r false is a below within =
     let other : e.replica ≢ r = eqb-false e.replica r is in
     let there = get_or-set_other replicas e.replica r (kept_deed e.deed (slice_index_or replicas e.replica opening)) opening (λ same. other (sym same)) in

@@ -1,22 +1,15 @@
 -- The states of a run, one after another.
-use Rattle.std.proofs.Common.{◌≡◌, ◌+◌, ◌∙◌, ℕ, List, ap, sym}
+use Rattle.std.proofs.Common.{◌≡◌, ◌+◌, ◌∙◌, ℕ, ap, sym}
 use Rattle.std.proofs.Math.Numerals.{add-one}
 use Rattle.road_plan.specs.Plan.{Plan}
 use Rattle.road_plan.specs.Settings.{Settings}
 use Rattle.road_cells.specs.Array.{Array}
 use Rattle.road_ends.specs.Run.{stepped}
-use Rattle.road_ends.specs.Row.{row_of}
 use Rattle.road_scenario.specs.Edits.{Edits}
 use Rattle.road_scenario.specs.Settings.{settings_of}
-use Rattle.road_lab.specs.Laboratory.{row_at}
 use Rattle.road_lab.specs.Simulation.{run_at}
 
 -- one step on from the road of a step is the road of the next
 pub step_more : (p : Plan) (edits : Edits) (settings : Settings) (t : ℕ) (road later : Array) → settings ≡ settings_of p edits t → road ≡ run_at p edits t → later ≡ stepped p settings t road → later ≡ run_at p edits (t + 1)
 step_more p edits settings t road later set is step =
     step ∙ ap (λ (s : Settings). stepped p s t road) set ∙ ap (λ (a : Array). stepped p (settings_of p edits t) t a) is ∙ sym (ap (run_at p edits) (add-one t))
-
--- the row of the road of a step, with the blocks of that step, is the row of the run
-pub row_is : (p : Plan) (edits : Edits) (settings : Settings) (t : ℕ) (road : Array) (text blocks : List ℕ) → settings ≡ settings_of p edits t → blocks ≡ settings.blocks → road ≡ run_at p edits t → text ≡ row_of p.cells blocks road → text ≡ row_at p edits t
-row_is p edits settings t road text blocks set are is says =
-    says ∙ ap (λ (b : List ℕ). row_of p.cells b road) are ∙ ap (λ (s : Settings). row_of p.cells s.blocks road) set ∙ ap (row_of p.cells (settings_of p edits t).blocks) is

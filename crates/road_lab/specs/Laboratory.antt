@@ -106,7 +106,7 @@ event_of replica line (commands.Scenario name) = None
 -- ---- answers, by the replicas before the command; refusals in their order
 
 -- the row of a step of the run from step zero, by the settings that these edits give
-abbrev pub row_at : Plan → Edits → ℕ → List ℕ
+unfoldable pub row_at : Plan → Edits → ℕ → List ℕ
 row_at plan edits step = row plan (settings_of plan edits) step
 
 abbrev pub fault_or_stamp : Option EditFault → Edit → Answer

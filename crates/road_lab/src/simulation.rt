@@ -95,6 +95,7 @@ fn next_road(
 }
 
 /// The row of a state, with the blocks of its step.
+#[tactic(auto, unfolding(crate::specs::Laboratory::row_at))]
 pub fn row_of(
     alloc: Global,
     plan: &Plan,
