@@ -143,7 +143,7 @@ put_same replicas n events e r true is a below within =
     let here = get_or-set_same replicas e.replica new opening (omega (arith, a.each)) in
     let found : slice_index_or (put replicas e) r opening ≡ new = ap (λ (q : ℕ). slice_index_or (put replicas e) q opening) (sym same) ∙ here in
     let made : new ≡ kept_of (after_deed e.deed (replica_after events r)) =
-        ap (kept_deed e.deed) (a.is e.replica below) ∙ ap (λ (q : ℕ). kept_deed e.deed (kept_of (replica_after events q))) same ∙ deed_agrees e.deed (replica_after events r) in
+    ap (kept_deed e.deed) (a.is e.replica below) ∙ ap (λ (q : ℕ). kept_deed e.deed (kept_of (replica_after events q))) same ∙ deed_agrees e.deed (replica_after events r) in
     rw is (found ∙ made)
 put_same replicas n events e r false is a below within =
     let other : e.replica ≢ r = eqb-false e.replica r is in

@@ -114,8 +114,8 @@ pub advance_after : (plan : Plan) (names : List (List ℕ)) (xs : List Replica) 
 advance_after plan names xs k r to n x name v kept is found below more few =
     let here = at plan names xs k r x v is (named_below plan names xs r kept below) in
     let same : seen (record x { horizon = n }) ≡ record (kept_replica k r) { horizon = max (kept_replica k r).horizon to } =
-        ap (λ (h : ℕ). let q : laboratory.Replica = record { edits = x.scenario; horizon = h } in q) more
-        ∙ ap (λ (q : laboratory.Replica). let p : laboratory.Replica = record { edits = q.edits; horizon = max q.horizon to } in p) (sym here) in
+    ap (λ (h : ℕ). let q : laboratory.Replica = record { edits = x.scenario; horizon = h } in q) more
+    ∙ ap (λ (q : laboratory.Replica). let p : laboratory.Replica = record { edits = q.edits; horizon = max q.horizon to } in p) (sym here) in
     changed plan names xs k r (record x { horizon = n }) _ v same
     ∙ advanced k r to (replica_of k.line name) (found_in plan names xs k r name v found) (le-ltb GREATEST_HORIZON to few)
 
@@ -125,9 +125,9 @@ pub hold_after : (plan : Plan) (names : List (List ℕ)) (xs : List Replica) (k 
 hold_after plan names xs k r edit s x y v kept is below joins holds still =
     let here = at plan names xs k r x v is (kept_below plan names xs k r v kept below) in
     let same : seen y ≡ record { edits = join (kept_replica k r).edits (from_list (edit ∷ [])); horizon = (kept_replica k r).horizon } =
-        ap (λ (t : Edits). let q : laboratory.Replica = record { edits = t; horizon = y.horizon } in q) (holds ∙ joins)
-        ∙ ap (λ (h : ℕ). let q : laboratory.Replica = record { edits = join x.scenario (from_list (edit ∷ [])); horizon = h } in q) still
-        ∙ ap (λ (q : laboratory.Replica). let p : laboratory.Replica = record { edits = join q.edits (from_list (edit ∷ [])); horizon = q.horizon } in p) (sym here) in
+    ap (λ (t : Edits). let q : laboratory.Replica = record { edits = t; horizon = y.horizon } in q) (holds ∙ joins)
+    ∙ ap (λ (h : ℕ). let q : laboratory.Replica = record { edits = join x.scenario (from_list (edit ∷ [])); horizon = h } in q) still
+    ∙ ap (λ (q : laboratory.Replica). let p : laboratory.Replica = record { edits = join q.edits (from_list (edit ∷ [])); horizon = q.horizon } in p) (sym here) in
     changed plan names xs k r y _ v same
 
 pub hold_of_run : (plan : Plan) (names : List (List ℕ)) (xs : List Replica) (k : Kept) (r : ℕ) (edit : Edit) (x y : Replica) → viewed plan names xs ≡ k → IsKept plan names xs → x ≡ slice_index_or xs r x

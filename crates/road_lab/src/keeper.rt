@@ -188,9 +188,9 @@ impl Keeper {
         if to > GREATEST_HORIZON {
             return Answer::Refused(Refusal::Horizon);
         }
-        let held = &mut self.replicas[replica];
-        held.horizon = held.horizon.max(to);
-        Answer::Horizon(held.horizon)
+        let replica = &mut self.replicas[replica];
+        replica.horizon = replica.horizon.max(to);
+        Answer::Horizon(replica.horizon)
     }
 
     // The row of a replica's road at a step.

@@ -78,6 +78,99 @@ fn roads_with_and_without_chance(rt: HostRuntime) -> Result<(), Fail> {
     Ok(())
 }
 
+/// Edits act at their steps, simulated already or not; refused ones change nothing, not even the next count.
+#[test]
+fn edits_and_withdrawals(rt: HostRuntime) -> Result<(), Fail> {
+    let alloc = rt.alloc();
+    let scripts = [
+        (
+            r#"{"edit":{"at":"A","object":["limit",0],"step":3,"value":1}}
+{"edit":{"at":"A","object":["limit",0],"step":5,"value":0}}
+{"advance":{"at":"A","to":7}}
+{"cells":{"at":"A","step":3}}
+{"cells":{"at":"A","step":4}}
+{"cells":{"at":"A","step":5}}
+{"cells":{"at":"A","step":6}}
+{"cells":{"at":"A","step":7}}
+"#,
+            r#"{"stamp":[1,0]}
+{"stamp":[2,0]}
+{"horizon":7}
+{"cells":".1...2......"}
+{"cells":"0.1...1....."}
+{"cells":".1.1...1...."}
+{"cells":"00.0...0...."}
+{"cells":"00.0...0...."}
+"#,
+        ),
+        // The road was simulated, and asked for, before the edit and before its withdrawal.
+        (
+            r#"{"advance":{"at":"A","to":6}}
+{"cells":{"at":"A","step":6}}
+{"edit":{"at":"A","object":["slow",0],"step":0,"value":65536}}
+{"cells":{"at":"A","step":6}}
+{"withdraw":{"at":"A","object":["slow",0],"step":0}}
+{"cells":{"at":"A","step":6}}
+{"advance":{"at":"B","to":6}}
+{"edit":{"at":"B","object":["limit",0],"step":6,"value":1}}
+{"cells":{"at":"B","step":6}}
+"#,
+            r#"{"horizon":6}
+{"cells":"0..2...2...."}
+{"stamp":[1,0]}
+{"cells":"0..........."}
+{"stamp":[2,0]}
+{"cells":"0..2...2...."}
+{"horizon":6}
+{"stamp":[1,1]}
+{"cells":"0..2...2...."}
+"#,
+        ),
+        (
+            r#"{"edit":{"at":"A","object":["limit",1],"step":0,"value":1}}
+{"edit":{"at":"A","object":["limit",0],"step":65536,"value":1}}
+{"edit":{"at":"A","object":["limit",0],"step":65535,"value":10}}
+{"edit":{"at":"D","object":["limit",1],"step":0,"value":1}}
+{"scenario":{"at":"A"}}
+{"edit":{"at":"A","object":["limit",0],"step":65535,"value":9}}
+"#,
+            r#"{"refused":"NoObject"}
+{"refused":"Step"}
+{"refused":"ValueOutOfRange"}
+{"refused":"NoReplica"}
+{"edits":[],"form":1}
+{"stamp":[1,0]}
+"#,
+        ),
+        (
+            r#"{"edit":{"at":"A","object":["limit",0],"step":3,"value":1}}
+{"withdraw":{"at":"A","object":["limit",0],"step":3}}
+{"withdraw":{"at":"A","object":["slow",0],"step":0}}
+{"scenario":{"at":"A"}}
+{"advance":{"at":"A","to":6}}
+{"cells":{"at":"A","step":6}}
+{"scenario":{"at":"D"}}
+"#,
+            r#"{"stamp":[1,0]}
+{"stamp":[2,0]}
+{"stamp":[3,0]}
+{"edits":[["limit",0,3,2,0,null],["slow",0,0,3,0,null]],"form":1}
+{"horizon":6}
+{"cells":"0..2...2...."}
+{"refused":"NoReplica"}
+"#,
+        ),
+    ];
+    for (commands, answers) in scripts {
+        let input = format!(in alloc; "{FREE_ROAD}{commands}")?;
+        let want = format!(in alloc; "{{\"open\":3}}\n{answers}")?;
+        let mut writer = sink(alloc);
+        serve(alloc, &mut source(&input), &mut writer)?;
+        assert!(rt; writer.bytes() == want.as_bytes());
+    }
+    Ok(())
+}
+
 #[test]
 fn limits_and_faults(rt: HostRuntime) -> Result<(), Fail> {
     let alloc = rt.alloc();
