@@ -110,6 +110,10 @@ fn registers(
 // Whether a map has just these entries.
 fn holds(map: &Steps, entries: &[(u32, Register)]) -> bool {
     map.keys().copied().eq(entries.iter().map(|entry| entry.0))
+        && map
+            .iter()
+            .map(|(key, value)| (*key, *value))
+            .eq(entries.iter().copied())
         && entries
             .iter()
             .all(|entry| map.get(entry.0) == Some(&entry.1))

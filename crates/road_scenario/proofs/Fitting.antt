@@ -34,7 +34,7 @@ IsIn e es = list_any (eq_by_cmp edit_cmp e) es ≡ true
 itself : (e : Edit) → eq_by_cmp edit_cmp e e ≡ true
 itself e = ap is_eq (tied_itself edit_total e)
 
-kept_in : (q : Edit → Bool) (es : List Edit) (e : Edit) → IsIn e (filter q es) → IsIn e es × (q e ≡ true)
+pub kept_in : (q : Edit → Bool) (es : List Edit) (e : Edit) → IsIn e (filter q es) → IsIn e es × (q e ≡ true)
 kept_in q [] e h = absurd (true≢false (sym h))
 kept_in q (f ∷ es) e h = elim (q f) as (λ b. q f ≡ b → IsIn e (cond b (f ∷ filter q es) (filter q es)) → IsIn e (f ∷ es) × (q e ≡ true)) [
   | true ↦ λ t i. elim (or_cases (eq_by_cmp edit_cmp e f) _ i) as (λ _. IsIn e (f ∷ es) × (q e ≡ true)) [
@@ -58,7 +58,7 @@ best_in beats (x ∷ es) a =
     either true best h = or_right (eq_by_cmp edit_cmp best a) _ (or_left _ _ h)
     either false best h = or_left _ _ h
 
-latest_in : (es : List Edit) (e : Edit) → latest es ≡ Some e → IsIn e es
+pub latest_in : (es : List Edit) (e : Edit) → latest es ≡ Some e → IsIn e es
 latest_in [] e h = cc
 latest_in (f ∷ es) e h = subst (λ x. IsIn x (f ∷ es)) (the_one h) (best_in (λ x best. nat_lt best.step x.step) es f)
   where

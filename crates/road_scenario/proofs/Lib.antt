@@ -7,3 +7,4 @@ pub mod Settled
 pub mod Touching
 pub mod Same
 pub mod Winning
+pub mod Orderless

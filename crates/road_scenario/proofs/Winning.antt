@@ -35,7 +35,7 @@ alone edits e f p q same =
 
 -- ---- of a list
 
-any-filter : (q : Edit → Bool) (es : List Edit) (e : Edit) → list_any (eq_by_cmp edit_cmp e) (filter q es) ≡ (list_any (eq_by_cmp edit_cmp e) es && q e)
+pub any-filter : (q : Edit → Bool) (es : List Edit) (e : Edit) → list_any (eq_by_cmp edit_cmp e) (filter q es) ≡ (list_any (eq_by_cmp edit_cmp e) es && q e)
 any-filter q [] e = refl
 any-filter q (f ∷ es) e = elim (q f) as (λ b. q f ≡ b → list_any (eq_by_cmp edit_cmp e) (cond b (f ∷ filter q es) (filter q es)) ≡ ((eq_by_cmp edit_cmp e f || list_any (eq_by_cmp edit_cmp e) es) && q e)) [
   | true ↦ λ t. ap (λ b. eq_by_cmp edit_cmp e f || b) (any-filter q es e) ∙ kept (eq_by_cmp edit_cmp e f) (list_any (eq_by_cmp edit_cmp e) es) (q e) (λ h. ap q (is h) ∙ t)

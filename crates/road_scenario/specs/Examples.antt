@@ -62,6 +62,20 @@ withdrawal_stays = refl
 nothing_is_put : put_in (made (Slow 0) 0 3 0 Withdrawn ∷ []) (place_of (Slow 0) 0) ≡ None
 nothing_is_put = refl
 
+-- a put touches its step, and so does the earliest of several
+touched_by_a_put : touched_in [] (made (Limit 0) 3 1 0 (Put 1) ∷ []) ≡ Some 3
+touched_by_a_put = refl
+
+touched_by_two : touched_in (made (Limit 0) 5 1 0 (Put 1) ∷ []) (made (Slow 0) 4 2 0 (Put 0) ∷ []) ≡ Some 4
+touched_by_two = refl
+
+-- nothing is touched by a withdrawal of nothing, or where the number put stays
+untouched_by_a_withdrawal : touched_in [] (made (Limit 0) 3 1 0 Withdrawn ∷ []) ≡ None
+untouched_by_a_withdrawal = refl
+
+untouched_by_the_same : touched_in (made (Limit 0) 3 1 0 (Put 1) ∷ []) (made (Limit 0) 3 2 1 (Put 1) ∷ []) ≡ None
+untouched_by_the_same = refl
+
 counts : greatest_count_in two_limits ≡ 2
 counts = refl
 

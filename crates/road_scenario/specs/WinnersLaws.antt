@@ -10,5 +10,5 @@ use Rattle.road_scenario.specs.Winners.{winners}
 
 pub winners-empty : winners empty ≡ empty
 winners-empty = same_set edit_total edit_exact (winners empty) empty (λ q.
-  contains-tops edit_total edit_exact exceeds exceeds_strict empty q
-  ∙ ap (λ b. b && not (list_any (exceeds q) (items (empty {R = edit_cmp})))) (contains-empty edit_cmp q) ∙ sym (contains-empty edit_cmp q))
+    contains-tops edit_total edit_exact exceeds exceeds_strict empty q
+    ∙ ap (λ b. b && not (list_any (exceeds q) (items (empty {R = edit_cmp})))) (contains-empty edit_cmp q) ∙ sym (contains-empty edit_cmp q))

@@ -8,7 +8,7 @@ ghost use Rattle.road_plan.specs.Plan.{Plan};
 ghost use Rattle.road_scenario.specs.declared.edit.Edit.{Edit};
 ghost use Rattle.road_scenario.specs.Counts.{greatest_count};
 ghost use Rattle.road_scenario.specs.Edits.{Edits, edit_cmp, exceeds, place};
-ghost use Rattle.road_scenario.specs.Settings.{settings_of};
+ghost use Rattle.road_scenario.specs.Settings.{settings_in, settings_of};
 ghost use Rattle.road_scenario.specs.Touched.{touched};
 ghost use Rattle.road_scenario.specs.Winners.{winners, winners_in};
 
@@ -29,6 +29,8 @@ pub fn winners_agree()
 /// Settings, what is touched and the greatest count are the same by all edits and by their winners.
 pub fn winners_decide()
     ensures settings { (plan : Plan) (edits : Edits) (step : ℕ) → settings_of plan (winners edits) step ≡ settings_of plan edits step }
+    // The winners of a list give the same settings in whatever order they stand.
+    ensures listed { (plan : Plan) (edits : List Edit) (step : ℕ) → settings_in plan (winners_in edits) step ≡ settings_of plan (from_list edits) step }
     ensures touched { (edits others : Edits) → touched (winners edits) (winners others) ≡ touched edits others }
     ensures count { (edits : Edits) → greatest_count (winners edits) ≡ greatest_count edits }
 {}

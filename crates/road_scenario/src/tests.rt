@@ -137,15 +137,50 @@ fn settings_at(
     }
 }
 
+// The greatest count of what these edits make.
+fn greatest_count(rt: &impl Abort, alloc: Global, edits: &[Edit]) -> Result<u64, OutOfMemory> {
+    Ok(scenario(rt, alloc, edits)?.greatest_count())
+}
+
+// The first fault of what these edits make.
+fn fault_of(
+    rt: &impl Abort,
+    alloc: Global,
+    edits: &[Edit],
+    plan: &Plan,
+) -> Result<Option<EditFault>, OutOfMemory> {
+    Ok(scenario(rt, alloc, edits)?.fits(plan))
+}
+
+// What is listed where the second edits come to a replica that holds the first, and which step is touched.
+fn comes(
+    rt: &impl Abort,
+    alloc: Global,
+    (held, come): (&[Edit], &[Edit]),
+    listed: &[Edit],
+    touched: Option<u32>,
+) -> Result<(), OutOfMemory> {
+    let before = scenario(rt, alloc, held)?;
+    let other = scenario(rt, alloc, come)?;
+    let after = joined(rt, &before, &other)?;
+    assert!(rt; lists(alloc, &after, listed)?, "{held:?} {come:?}");
+    assert_eq!(rt; before.touched(&after), touched, "{held:?} {come:?}");
+    assert!(rt;
+        before.at_most(&after) && other.at_most(&after),
+        "{held:?} {come:?}"
+    );
+    Ok(())
+}
+
+// Without edits all settings are the plan's own.
 #[test]
 fn nothing_is_set_without_edits(rt: HostRuntime) -> Result<(), Fail> {
-    let none = Scenario::empty(rt.alloc());
     let road = small(rt.alloc())?;
+    let none = Scenario::empty(rt.alloc());
     assert!(rt; none.is_bottom() && lists(rt.alloc(), &none, &[])?);
     assert_eq!(rt; none.greatest_count(), 0);
     assert_eq!(rt; none.fits(&road), None);
     assert_eq!(rt; none.touched(&none), None);
-    assert_eq!(rt; none.setting(&road, LIMIT, 65_535), 2);
     let own = settings_at(rt.alloc(), &none, &road, 0)?;
     assert!(rt;
         are(own.limits(), &[2]) && are(own.chances(), &[0]) && are(own.inflows(), &[65_536])
@@ -158,17 +193,15 @@ fn nothing_is_set_without_edits(rt: HostRuntime) -> Result<(), Fail> {
 #[test]
 fn equal_stamps_go_by_number(rt: HostRuntime) -> Result<(), Fail> {
     let (two, three) = (put(LIMIT, 0, 7, 64, 2), put(LIMIT, 0, 7, 64, 3));
-    let none = Scenario::empty(rt.alloc());
-    let first = with_edit(&rt, &none, &two)?;
-    let both = with_edit(&rt, &first, &three)?;
-    assert_eq!(rt; none.touched(&first), Some(0));
-    assert_eq!(rt; first.touched(&both), Some(0));
-    assert!(rt; lists(rt.alloc(), &both, &[three])?);
-    let turned = with_edit(&rt, &none, &three)?;
-    let again = with_edit(&rt, &turned, &two)?;
-    assert_eq!(rt; none.touched(&turned), Some(0));
-    assert_eq!(rt; turned.touched(&again), None);
-    assert!(rt; lists(rt.alloc(), &again, &[three])? && is_same(&both, &again));
+    let table: [(&[Edit], &[Edit], &[Edit], Option<u32>); 4] = [
+        (&[], &[two], &[two], Some(0)),
+        (&[two], &[three], &[three], Some(0)),
+        (&[], &[three], &[three], Some(0)),
+        (&[three], &[two], &[three], None),
+    ];
+    for (held, come, listed, touched) in table {
+        comes(&rt, rt.alloc(), (held, come), listed, touched)?;
+    }
     Ok(())
 }
 
@@ -176,76 +209,100 @@ fn equal_stamps_go_by_number(rt: HostRuntime) -> Result<(), Fail> {
 #[test]
 fn the_later_stamp_wins(rt: HostRuntime) -> Result<(), Fail> {
     let (one, two) = (put(LIMIT, 3, 1, 0, 1), put(LIMIT, 3, 2, 1, 2));
-    let none = Scenario::empty(rt.alloc());
-    let a = with_edit(&rt, &none, &one)?;
-    let b = joined(&rt, &none, &a)?;
-    assert_eq!(rt; none.touched(&b), Some(3));
-    assert_eq!(rt; b.greatest_count(), 1);
-    let second = with_edit(&rt, &b, &two)?;
-    let c = joined(&rt, &none, &second)?;
-    assert_eq!(rt; none.touched(&c), Some(3));
-    let late = joined(&rt, &c, &a)?;
-    assert_eq!(rt; c.touched(&late), None);
-    assert!(rt; lists(rt.alloc(), &late, &[two])?);
-    assert_eq!(rt; late.greatest_count(), 2);
-    assert!(rt; a.at_most(&late) && !late.at_most(&a) && !late.is_bottom());
+    let table: [(&[Edit], &[Edit], &[Edit], Option<u32>); 4] = [
+        (&[], &[one], &[one], Some(3)),
+        (&[one], &[two], &[two], Some(3)),
+        (&[], &[one, two], &[two], Some(3)),
+        (&[one, two], &[one], &[two], None),
+    ];
+    for (held, come, listed, touched) in table {
+        comes(&rt, rt.alloc(), (held, come), listed, touched)?;
+    }
+    assert_eq!(rt; greatest_count(&rt, rt.alloc(), &[one])?, 1);
+    assert_eq!(rt; greatest_count(&rt, rt.alloc(), &[two, one])?, 2);
     Ok(())
 }
 
-// A withdrawal stays, so that the edit it withdrew is not taken again.
+// A withdrawal stays, so that the edit it withdrew is not taken again; a withdrawal where nothing was put is kept too, and
+// changes no number.
 #[test]
-fn a_withdrawal_stays(rt: HostRuntime) -> Result<(), Fail> {
+fn withdrawals_stay(rt: HostRuntime) -> Result<(), Fail> {
     let (blocked, free) = (put(BLOCK, 4, 1, 0, 1), withdrawn(BLOCK, 4, 2, 0));
-    let sent = scenario(&rt, rt.alloc(), &[blocked])?;
-    let after = with_edit(&rt, &sent, &free)?;
-    assert_eq!(rt; sent.touched(&after), Some(4));
-    let taken = joined(&rt, &after, &sent)?;
-    assert!(rt; lists(rt.alloc(), &taken, &[free])?);
-    assert_eq!(rt; after.touched(&taken), None);
-    let road = small(rt.alloc())?;
-    assert!(rt; are(settings_at(rt.alloc(), &sent, &road, 6)?.blocks(), &[8]));
-    assert!(rt;
-        settings_at(rt.alloc(), &taken, &road, 6)?
-            .blocks()
-            .is_empty()
-    );
+    let (limit, absent) = (withdrawn(LIMIT, 3, 2, 0), withdrawn(SLOW, 0, 3, 0));
+    let table: [(&[Edit], &[Edit], &[Edit], Option<u32>); 4] = [
+        (&[blocked], &[free], &[free], Some(4)),
+        (&[blocked, free], &[blocked], &[free], None),
+        (&[limit], &[absent], &[limit, absent], None),
+        (&[], &[absent, free], &[absent, free], None),
+    ];
+    for (held, come, listed, touched) in table {
+        comes(&rt, rt.alloc(), (held, come), listed, touched)?;
+    }
+    assert_eq!(rt; greatest_count(&rt, rt.alloc(), &[limit, absent])?, 3);
     Ok(())
 }
 
-// A withdrawal where nothing was put is kept too, changes no number and is listed after the limit's.
+// Edits of three objects are listed by object and step.
 #[test]
-fn an_absent_edit_is_withdrawn(rt: HostRuntime) -> Result<(), Fail> {
-    let limits = [put(LIMIT, 3, 1, 0, 1), withdrawn(LIMIT, 3, 2, 0)];
-    let before = scenario(&rt, rt.alloc(), &limits)?;
-    let absent = withdrawn(SLOW, 0, 3, 0);
-    let after = with_edit(&rt, &before, &absent)?;
-    assert!(rt; lists(rt.alloc(), &after, &[limits[1], absent])?);
-    assert_eq!(rt; before.touched(&after), None);
-    assert_eq!(rt; after.greatest_count(), 3);
-    let road = small(rt.alloc())?;
-    assert_eq!(rt; after.setting(&road, SLOW, 6), 0);
-    assert_eq!(rt; after.setting(&road, LIMIT, 6), 2);
+fn edits_are_listed_by_object_and_step(rt: HostRuntime) -> Result<(), Fail> {
+    let (late, early) = (put(LIMIT, 5, 3, 0, 0), put(LIMIT, 3, 3, 1, 0));
+    let (slow, block) = (withdrawn(SLOW, 0, 4, 1), put(BLOCK, 4, 2, 0, 1));
+    let older = put(LIMIT, 3, 1, 0, 1);
+    let table: [(&[Edit], &[Edit], &[Edit], Option<u32>); 3] = [
+        (&[block, late], &[older], &[older, late, block], Some(3)),
+        (
+            &[block, late, older],
+            &[slow, early],
+            &[early, late, slow, block],
+            Some(3),
+        ),
+        (
+            &[slow, early],
+            &[block, late, older],
+            &[early, late, slow, block],
+            Some(4),
+        ),
+    ];
+    for (held, come, listed, touched) in table {
+        comes(&rt, rt.alloc(), (held, come), listed, touched)?;
+    }
     Ok(())
 }
 
-// Where the later put is withdrawn, the earlier-dated one is in force on.
+// The limit of the first zone at a step, by both calls.
+fn limit_at(
+    rt: &impl Abort,
+    alloc: Global,
+    scenario: &Scenario,
+    plan: &Plan,
+    step: u32,
+) -> Result<u32, OutOfMemory> {
+    let settings = settings_at(alloc, scenario, plan, step)?;
+    let limit = settings.limits().first().copied().unwrap_or(0);
+    if LIMIT.in_plan(plan) {
+        assert_eq!(rt; scenario.setting(plan, LIMIT, step), limit, "step {step}");
+    }
+    Ok(limit)
+}
+
+// Puts from steps 3 and 5 on; where the later one is withdrawn, the earlier one is in force on.
 #[test]
 fn an_earlier_put_acts_on(rt: HostRuntime) -> Result<(), Fail> {
     let road = small(rt.alloc())?;
-    let puts = [put(LIMIT, 3, 1, 0, 1), put(LIMIT, 5, 2, 0, 0)];
-    let two = scenario(&rt, rt.alloc(), &puts)?;
-    let one = with_edit(&rt, &two, &withdrawn(LIMIT, 5, 3, 0))?;
-    for (step, with_two, with_one) in [(2, 2, 2), (3, 1, 1), (4, 1, 1), (5, 0, 1), (9, 0, 1)] {
-        assert_eq!(rt; two.setting(&road, LIMIT, step), with_two, "step {step}");
-        assert_eq!(rt; one.setting(&road, LIMIT, step), with_one, "step {step}");
-        assert!(rt;
-            are(
-                settings_at(rt.alloc(), &one, &road, step)?.limits(),
-                &[with_one]
-            )
-        );
+    let (one, none) = (put(LIMIT, 3, 1, 0, 1), put(LIMIT, 5, 2, 0, 0));
+    let back = withdrawn(LIMIT, 5, 3, 0);
+    let table: [(&[Edit], [u32; 4]); 3] = [
+        (&[one], [2, 1, 1, 1]),
+        (&[one, none], [2, 1, 0, 0]),
+        (&[one, none, back], [2, 1, 1, 1]),
+    ];
+    for (edits, limits) in table {
+        let made = scenario(&rt, rt.alloc(), edits)?;
+        for (step, limit) in [2, 4, 5, 65_535].into_iter().zip(limits) {
+            let is = limit_at(&rt, rt.alloc(), &made, &road, step)?;
+            assert_eq!(rt; is, limit, "step {step}, {edits:?}");
+        }
     }
-    assert_eq!(rt; two.touched(&one), Some(5));
     Ok(())
 }
 
@@ -283,45 +340,46 @@ fn faults_are_named_in_order(rt: HostRuntime) -> Result<(), Fail> {
     ];
     for (edit, fault) in table {
         assert_eq!(rt; edit.fault(&road), fault, "{edit:?}");
-        let alone = scenario(&rt, rt.alloc(), &[edit])?;
-        assert_eq!(rt; alone.fits(&road), fault, "{edit:?}");
+        let alone = fault_of(&rt, rt.alloc(), &[edit], &road)?;
+        assert_eq!(rt; alone, fault, "{edit:?}");
     }
-    // The first faulty edit by object and step counts, whichever came first.
-    let two = [put(BLOCK, 4, 1, 0, 2), put(LIMIT, 65_536, 2, 0, 1)];
-    let faulty = scenario(&rt, rt.alloc(), &two)?;
-    assert_eq!(rt; faulty.fits(&road), Some(EditFault::Step));
-    let steps = [
-        put(LIMIT, 70_000, 1, 0, 1),
-        put(LIMIT, 9, 2, 0, 10),
-        put(LIMIT, 8, 3, 0, 1),
-    ];
-    let faulty = scenario(&rt, rt.alloc(), &steps)?;
-    assert_eq!(rt; faulty.fits(&road), Some(EditFault::ValueOutOfRange));
     Ok(())
 }
 
-// Edits of three objects, listed by object and step, and merged by the trait's calls too.
+// The first faulty edit by object and step counts, whichever came first.
 #[test]
-fn edits_are_listed_by_object_and_step(rt: HostRuntime) -> Result<(), Fail> {
-    let given = [
-        put(BLOCK, 4, 2, 0, 1),
-        put(LIMIT, 5, 3, 0, 0),
-        put(LIMIT, 3, 1, 0, 1),
-        withdrawn(SLOW, 0, 4, 1),
-        put(LIMIT, 3, 3, 1, 0),
+fn the_first_faulty_edit_is_named(rt: HostRuntime) -> Result<(), Fail> {
+    let road = small(rt.alloc())?;
+    let (late, block) = (put(LIMIT, 65_536, 2, 0, 1), put(BLOCK, 4, 1, 0, 2));
+    let (ten, well) = (put(LIMIT, 9, 2, 0, 10), put(LIMIT, 8, 3, 0, 1));
+    let table: [(&[Edit], Option<EditFault>); 4] = [
+        (&[], None),
+        (&[well], None),
+        (&[block, late], Some(EditFault::Step)),
+        (&[block, late, ten, well], Some(EditFault::ValueOutOfRange)),
     ];
-    let all = scenario(&rt, rt.alloc(), &given)?;
-    let rising = [given[4], given[1], given[3], given[0]];
-    assert!(rt; lists(rt.alloc(), &all, &rising)?);
-    assert_eq!(rt; all.greatest_count(), 4);
-    let copy = match Lattice::copied(&all) {
+    for (edits, fault) in table {
+        assert_eq!(rt;
+            fault_of(&rt, rt.alloc(), edits, &road)?,
+            fault,
+            "{edits:?}"
+        );
+    }
+    Ok(())
+}
+
+// The calls of the trait are the scenario's own.
+#[test]
+fn scenarios_are_a_lattice(rt: HostRuntime) -> Result<(), Fail> {
+    let made = scenario(&rt, rt.alloc(), &[put(LIMIT, 3, 1, 0, 1)])?;
+    let copy = match Lattice::copied(&made) {
         Ok(copy) => copy,
-        Err(_) => Lattice::copied(&all)?,
+        Err(_) => Lattice::copied(&made)?,
     };
-    let both = match Lattice::joined(&copy, &all) {
+    let both = match Lattice::joined(&copy, &made) {
         Ok(both) => both,
-        Err(_) => Lattice::joined(&copy, &all)?,
+        Err(_) => Lattice::joined(&copy, &made)?,
     };
-    assert!(rt; is_same(&both, &all) && lists(rt.alloc(), &both, &rising)?);
+    assert!(rt; is_same(&both, &made) && !both.is_bottom());
     Ok(())
 }
