@@ -1,19 +1,27 @@
-//! Runs worked out by hand or by a program of another author, computed by the plain program.
+//! Runs worked out by hand or by a program of another author, and the fast calls beside the plain ones.
 
-use super::{OwnSettings, row, run};
-use road_cells::Car;
-use road_plan::{Plan, PlanParts, WordKind};
-use std::alloc::Global;
+use super::{
+    BLOCKED, EMPTY, Meter, OwnSettings, STANDING, enter, entered, finish, leave, next, plain, row,
+    run, speeds, step_alone, stepped,
+};
+use road_cells::{Car, Road};
+use road_plan::{Plan, PlanParts, Settings, WordKind};
+use road_rules::moved;
+use std::alloc::{AllocError, Global};
+use std::process::Abort;
+use std::sync::Arc;
 use std::test::Fail;
 
-/// A road of one inlet and one detector at cell 5.
+/// A road with a detector at cell 5. From a step on the first zone has another limit, from a step on a cell is blocked.
 #[derive(Drop)]
 struct Example {
     length: u32,
     exit: u32,
     width: u32,
     zones: &'static [(u32, u32)],
-    inlet: (u32, u32),
+    inlets: &'static [(u32, u32)],
+    lowered: &'static [(u32, u32)],
+    blocked: &'static [(u32, u32)],
     words: WordKind,
     rows: &'static [(u32, &'static str)],
 }
@@ -24,7 +32,9 @@ const FREE: Example = Example {
     exit: 1,
     width: 12,
     zones: &[(2, 0)],
-    inlet: (0, 65_536),
+    inlets: &[(0, 65_536)],
+    lowered: &[],
+    blocked: &[],
     words: WordKind::Seeded(7),
     rows: &[
         (0, "............"),
@@ -68,14 +78,14 @@ const HALF_SLOWED: Example = Example {
 
 /// The inlet's steady word at step 1 is 30,011 above its lower bits: not below an inflow of as much, below one more.
 const NOT_LET_IN: Example = Example {
-    inlet: (0, 30_011),
+    inlets: &[(0, 30_011)],
     words: WordKind::Steady,
     rows: &[(2, "...2........")],
     ..FREE
 };
 
 const LET_IN: Example = Example {
-    inlet: (0, 30_012),
+    inlets: &[(0, 30_012)],
     rows: &[(2, "0..2........")],
     ..NOT_LET_IN
 };
@@ -95,7 +105,9 @@ const RANDOM: Example = Example {
     exit: 2,
     width: 10,
     zones: &[(5, 20_000), (3, 30_000), (9, 10_000), (5, 20_000)],
-    inlet: (3, 40_000),
+    inlets: &[(3, 40_000)],
+    lowered: &[],
+    blocked: &[],
     words: WordKind::Seeded(1992),
     rows: &[
         (10, "............2.....3......4.............."),
@@ -107,13 +119,124 @@ const RANDOM: Example = Example {
     ],
 };
 
+/// Nine inlets that always let in, slowing chance one half.
+const DENSE: Example = Example {
+    length: 32,
+    width: 32,
+    inlets: &[
+        (0, 65_536),
+        (3, 65_536),
+        (6, 65_536),
+        (9, 65_536),
+        (12, 65_536),
+        (15, 65_536),
+        (18, 65_536),
+        (21, 65_536),
+        (24, 65_536),
+    ],
+    rows: &[
+        (1, "0...1.0...1.0..0...1.0...1......"),
+        (2, "0..00..1.00..1..1.00..1.0.1....."),
+    ],
+    ..HALF_SLOWED
+};
+
+/// The limit falls to 1 at step 3 and to 0 at step 5.
+const LOWERED: Example = Example {
+    lowered: &[(3, 1), (5, 0)],
+    rows: &[
+        (3, ".1...2......"),
+        (4, "0.1...1....."),
+        (5, ".1.1...1...."),
+        (6, "00.0...0...."),
+        (7, "00.0...0...."),
+    ],
+    ..FREE
+};
+
+/// Cell 8 is blocked from step 4 on.
+const BLOCKED_AHEAD: Example = Example {
+    blocked: &[(4, 8)],
+    rows: &[
+        (4, "0..2...2#..."),
+        (5, ".1...2.0#..."),
+        (6, "0..2..10#..."),
+    ],
+    ..FREE
+};
+
+/// Cell 7 is blocked from step 4 on, where a car stands.
+const BLOCKED_UNDER_CAR: Example = Example {
+    blocked: &[(4, 7)],
+    rows: &[
+        (4, "0..2...2...."),
+        (5, ".1...2.#.2.."),
+        (6, "0..2..1#...."),
+    ],
+    ..FREE
+};
+
+/// The inlet's cell is blocked.
+const BLOCKED_INLET: Example = Example {
+    blocked: &[(0, 0)],
+    rows: &[
+        (1, "#..........."),
+        (6, "#..........."),
+        (65_536, "#..........."),
+    ],
+    ..FREE
+};
+
+/// Nothing flows in.
+const NO_INFLOW: Example = Example {
+    inlets: &[(0, 0)],
+    rows: &[(6, "............")],
+    ..FREE
+};
+
+/// All at once: inlets out of the order of their cells, chances that come always, never and at random, blocks that come
+/// and lie under inlets and cars, in the deleted zone too.
+const MIXED: Example = Example {
+    length: 64,
+    exit: 5,
+    width: 11,
+    zones: &[
+        (9, 20_000),
+        (3, 0),
+        (1, 65_536),
+        (5, 40_000),
+        (0, 30_000),
+        (7, 1),
+    ],
+    inlets: &[
+        (40, 30_000),
+        (3, 50_000),
+        (17, 65_536),
+        (58, 65_536),
+        (0, 0),
+        (55, 9),
+    ],
+    lowered: &[(30, 4), (60, 0), (70, 9)],
+    blocked: &[
+        (10, 30),
+        (20, 3),
+        (25, 47),
+        (26, 48),
+        (27, 12),
+        (40, 63),
+        (40, 8),
+    ],
+    words: WordKind::Seeded(1992),
+    rows: &[],
+};
+
 fn plan_of(alloc: Global, example: &Example) -> Result<Plan, Fail> {
     let parts = PlanParts {
         length: example.length,
         exit: example.exit,
         width: example.width,
         zones: example.zones.to_vec(alloc)?,
-        inlets: [example.inlet].to_vec(alloc)?,
+        inlets: example.inlets.to_vec(alloc)?,
         detectors: [5].to_vec(alloc)?,
         words: example.words,
     };
@@ -142,6 +265,133 @@ fn runs_the_examples(rt: HostRuntime) -> Result<(), Fail> {
     Ok(())
 }
 
+// The settings of an example at a step.
+fn settings_of(alloc: Global, plan: &Plan, example: &Example, step: u32) -> Result<Settings, Fail> {
+    let mut settings = Settings::of_plan(alloc, plan)?;
+    for (from, limit) in example.lowered {
+        if *from <= step {
+            let mut limits = Vec::new(alloc);
+            for (zone, now) in settings.limits().iter().enumerate() {
+                limits.push(if zone == 0 { *limit } else { *now })?;
+            }
+            settings.limits = limits;
+        }
+    }
+    let mut blocks = Vec::new(alloc);
+    for (from, cell) in example.blocked {
+        if *from <= step {
+            blocks.push(*cell)?;
+        }
+    }
+    blocks.sort()?;
+    settings.blocks = blocks;
+    Ok(settings)
+}
+
+// The road as a row of text, cell by cell.
+fn drawn(alloc: Global, length: u32, blocks: &[u32], road: &Road) -> Result<String, AllocError> {
+    let mut text = String::new(alloc);
+    for cell in 0..length {
+        let letter = match road.car_at(cell) {
+            Some(car) => STANDING + car.speed.min(9),
+            None if blocks.contains(&cell) => BLOCKED,
+            None => EMPTY,
+        };
+        text.push(char::from(letter))?;
+    }
+    Ok(text)
+}
+
+#[test]
+fn steps_the_examples_alone(rt: HostRuntime) -> Result<(), Fail> {
+    let alloc = rt.alloc();
+    for example in [
+        &FREE,
+        &ALWAYS_SLOWED,
+        &HALF_SLOWED,
+        &NOT_LET_IN,
+        &LET_IN,
+        &TWO_ZONES,
+        &RANDOM,
+        &DENSE,
+        &LOWERED,
+        &BLOCKED_AHEAD,
+        &BLOCKED_UNDER_CAR,
+        &BLOCKED_INLET,
+        &NO_INFLOW,
+    ] {
+        let plan = Arc::new(alloc, plan_of(alloc, example)?)?;
+        let mut meter = Meter::new();
+        let mut road = Road::empty(alloc);
+        let mut step = 0;
+        for (until, text) in example.rows {
+            for now in step..*until {
+                let settings = settings_of(alloc, &plan, example, now)?;
+                assert!(rt; settings.fits(&plan));
+                let done = step_alone(alloc, &plan, settings, now, &road, &mut meter)?;
+                road = done.road;
+            }
+            step = *until;
+            let settings = settings_of(alloc, &plan, example, step)?;
+            let row = drawn(alloc, plan.length(), settings.blocks(), &road)?;
+            assert_eq!(rt; row.as_str(), *text, "step {step}");
+            assert_eq!(rt; meter.ticks(), u64::from(step));
+        }
+    }
+    Ok(())
+}
+
+// What a step's calls give one after the other is what the step gives alone.
+fn steps_in_parts(
+    rt: &impl Abort,
+    alloc: Global,
+    example: &Example,
+    until: u32,
+) -> Result<(), Fail> {
+    let plan = Arc::new(alloc, plan_of(alloc, example)?)?;
+    let mut meter = Meter::new();
+    let mut road = Road::empty(alloc);
+    for step in 0..until {
+        let settings = settings_of(alloc, &plan, example, step)?;
+        assert!(rt; settings.fits(&plan));
+        let plain_road = plain::entered(alloc, &plan, &settings, step, &road)?;
+        let plain_speeds = plain::speeds(alloc, &plan, &settings, step, &plain_road)?;
+        let input = enter(alloc, &plan, settings, step, &road)?;
+        assert_eq!(rt; input.step(), step);
+        assert_eq!(rt;
+            input.road().cars(),
+            plain_road.cars(),
+            "entered at step {step}"
+        );
+        let speeds = input.speeds(alloc)?;
+        assert_eq!(rt;
+            speeds.as_slice(),
+            plain_speeds.as_slice(),
+            "speeds of step {step}"
+        );
+        let later = finish(alloc, &input, &speeds)?;
+        let settings = settings_of(alloc, &plan, example, step)?;
+        assert!(rt; settings.fits(&plan));
+        let alone = step_alone(alloc, &plan, settings, step, &road, &mut meter)?;
+        assert_eq!(rt; alone.input.road().cars(), plain_road.cars());
+        assert_eq!(rt; alone.speeds.as_slice(), speeds.as_slice());
+        assert_eq!(rt; alone.road.cars(), later.cars(), "after step {step}");
+        road = alone.road.copied()?;
+    }
+    Ok(())
+}
+
+#[test]
+fn agrees_with_the_plain_program(rt: HostRuntime) -> Result<(), Fail> {
+    let alloc = rt.alloc();
+    steps_in_parts(&rt, alloc, &FREE, 6)?;
+    steps_in_parts(&rt, alloc, &LOWERED, 7)?;
+    steps_in_parts(&rt, alloc, &HALF_SLOWED, 6)?;
+    steps_in_parts(&rt, alloc, &DENSE, 2)?;
+    steps_in_parts(&rt, alloc, &RANDOM, 100)?;
+    steps_in_parts(&rt, alloc, &MIXED, 200)
+}
+
 #[test]
 fn numbers_cars_by_step_and_inlet(rt: HostRuntime) -> Result<(), Fail> {
     let alloc = rt.alloc();
@@ -157,6 +407,82 @@ fn numbers_cars_by_step_and_inlet(rt: HostRuntime) -> Result<(), Fail> {
                 cell,
                 speed
             }
+        );
+    }
+    Ok(())
+}
+
+// A steady road of 40 cells with four inlets, of which the last has the given inflow, and one limit and chance.
+fn four_inlets(alloc: Global, inflow: u32, zone: (u32, u32)) -> Result<Plan, Fail> {
+    let parts = PlanParts {
+        length: 40,
+        exit: 1,
+        width: 40,
+        zones: [zone].to_vec(alloc)?,
+        inlets: [(20, 0), (5, 0), (10, 0), (0, inflow)].to_vec(alloc)?,
+        detectors: Vec::new(alloc),
+        words: WordKind::Steady,
+    };
+    Ok(Plan::new(parts)?)
+}
+
+#[test]
+fn lets_in_by_the_words_of_each_inlet(rt: HostRuntime) -> Result<(), Fail> {
+    let alloc = rt.alloc();
+    // inlet 3, at step 1: (3 * 40,503 + 30,011) mod 65,536 is 20,448, not below a chance of as much
+    for (inflow, cars) in [
+        (0, &[][..]),
+        (20_448, &[]),
+        (
+            20_449,
+            &[Car {
+                number: 19,
+                cell: 0,
+                speed: 0,
+            }],
+        ),
+        (
+            65_536,
+            &[Car {
+                number: 19,
+                cell: 0,
+                speed: 0,
+            }],
+        ),
+    ] {
+        let plan = four_inlets(alloc, inflow, (2, 0))?;
+        let settings = Settings::of_plan(alloc, &plan)?;
+        let moving = entered(alloc, &plan, &settings, 1, &Road::empty(alloc))?;
+        assert_eq!(rt; moving.cars(), cars, "inflow {inflow}");
+    }
+    Ok(())
+}
+
+#[test]
+fn slows_by_the_word_of_the_car(rt: HostRuntime) -> Result<(), Fail> {
+    let alloc = rt.alloc();
+    // car 16 at step 1: (16 * 40,503 + 30,011) mod 65,536 is 22,699; the limit 5 and a free road let it come to 4
+    for (chance, speed) in [(0, 4), (22_699, 4), (22_700, 3), (65_536, 3)] {
+        let plan = four_inlets(alloc, 0, (5, chance))?;
+        let settings = Settings::of_plan(alloc, &plan)?;
+        let cars = [Car {
+            number: 16,
+            cell: 7,
+            speed: 3,
+        }];
+        let road = Road::of(cars.to_vec(alloc)?);
+        let moving = entered(alloc, &plan, &settings, 1, &road)?;
+        let new = speeds(alloc, &plan, &settings, 1, &moving)?;
+        assert_eq!(rt; new.as_slice(), [speed].as_slice(), "chance {chance}");
+        let later = next(alloc, &plan, &settings, 1, &moving)?;
+        assert_eq!(rt; later.cars().len(), 1);
+        assert_eq!(rt;
+            stepped(alloc, &plan, &settings, 1, &road)?.cars(),
+            later.cars()
+        );
+        assert_eq!(rt;
+            leave(&plan, moved(alloc, &moving, &new)?).cars(),
+            later.cars()
         );
     }
     Ok(())
