@@ -1,12 +1,13 @@
 //! Runs worked out by hand or by a program of another author, and the fast calls beside the plain ones.
 
+ghost use Rattle.road_plan.specs.Settings.{Fits};
+
 use super::{
-    BLOCKED, EMPTY, Meter, OwnSettings, STANDING, enter, entered, finish, leave, next, plain, row,
-    run, speeds, step_alone, stepped,
+    BLOCKED, EMPTY, Meter, OwnSettings, STANDING, enter, entered, finish, next, plain, row, run,
+    speeds, step_alone, stepped,
 };
 use road_cells::{Car, Road};
 use road_plan::{Plan, PlanParts, Settings, WordKind};
-use road_rules::moved;
 use std::alloc::{AllocError, Global};
 use std::process::Abort;
 use std::sync::Arc;
@@ -302,6 +303,42 @@ fn drawn(alloc: Global, length: u32, blocks: &[u32], road: &Road) -> Result<Stri
     Ok(text)
 }
 
+// The road at a step, stepped alone from that of an earlier step.
+fn stepped_to(
+    rt: &impl Abort,
+    alloc: Global,
+    plan: &Arc<Plan>,
+    example: &Example,
+    (from, road): (u32, Road),
+    until: u32,
+    meter: &mut Meter,
+) -> Result<Road, Fail> {
+    let mut road = road;
+    for step in from..until {
+        let settings = settings_of(alloc, plan, example, step)?;
+        assert!(rt; settings.fits(plan));
+        road = step_alone(alloc, plan, settings, step, &road, meter)?.road;
+    }
+    Ok(road)
+}
+
+// An example's rows, stepped alone.
+fn steps_alone(rt: &impl Abort, alloc: Global, example: &Example) -> Result<(), Fail> {
+    let plan = Arc::new(alloc, plan_of(alloc, example)?)?;
+    let mut meter = Meter::new();
+    let mut road = Road::empty(alloc);
+    let mut step = 0;
+    for (until, text) in example.rows {
+        road = stepped_to(rt, alloc, &plan, example, (step, road), *until, &mut meter)?;
+        step = *until;
+        let settings = settings_of(alloc, &plan, example, step)?;
+        let row = drawn(alloc, plan.length(), settings.blocks(), &road)?;
+        assert_eq!(rt; row.as_str(), *text, "step {step}");
+        assert_eq!(rt; meter.ticks(), u64::from(step));
+    }
+    Ok(())
+}
+
 #[test]
 fn steps_the_examples_alone(rt: HostRuntime) -> Result<(), Fail> {
     let alloc = rt.alloc();
@@ -320,28 +357,60 @@ fn steps_the_examples_alone(rt: HostRuntime) -> Result<(), Fail> {
         &BLOCKED_INLET,
         &NO_INFLOW,
     ] {
-        let plan = Arc::new(alloc, plan_of(alloc, example)?)?;
-        let mut meter = Meter::new();
-        let mut road = Road::empty(alloc);
-        let mut step = 0;
-        for (until, text) in example.rows {
-            for now in step..*until {
-                let settings = settings_of(alloc, &plan, example, now)?;
-                assert!(rt; settings.fits(&plan));
-                let done = step_alone(alloc, &plan, settings, now, &road, &mut meter)?;
-                road = done.road;
-            }
-            step = *until;
-            let settings = settings_of(alloc, &plan, example, step)?;
-            let row = drawn(alloc, plan.length(), settings.blocks(), &road)?;
-            assert_eq!(rt; row.as_str(), *text, "step {step}");
-            assert_eq!(rt; meter.ticks(), u64::from(step));
-        }
+        steps_alone(&rt, alloc, example)?;
     }
     Ok(())
 }
 
-// What a step's calls give one after the other is what the step gives alone.
+// The plain program's road and speeds of a step, and the road after it.
+fn plain_step(
+    alloc: Global,
+    plan: &Plan,
+    settings: &Settings,
+    step: u32,
+    road: &Road,
+) -> Result<(Road, Vec<u8>, Road), Fail>
+    requires { Fits plan.now settings.now }
+{
+    let moving = plain::entered(alloc, plan, settings, step, road)?;
+    let new = plain::speeds(alloc, plan, settings, step, &moving)?;
+    let later = next(alloc, plan, settings, step, &moving)?;
+    Ok((moving, new, later))
+}
+
+// What a step's calls give one after the other is what the plain program gives, and what the step gives alone.
+fn step_in_parts(
+    rt: &impl Abort,
+    alloc: Global,
+    plan: &Arc<Plan>,
+    settings: (Settings, Settings),
+    step: u32,
+    road: &Road,
+) -> Result<Road, Fail> {
+    assert!(rt; settings.0.fits(plan) && settings.1.fits(plan));
+    let (moving, new, later) = plain_step(alloc, plan, &settings.0, step, road)?;
+    let input = enter(alloc, plan, settings.0, step, road)?;
+    assert_eq!(rt; input.step(), step);
+    assert_eq!(rt;
+        input.road().cars(),
+        moving.cars(),
+        "entered at step {step}"
+    );
+    let speeds = input.speeds(alloc)?;
+    assert_eq!(rt; speeds.as_slice(), new.as_slice(), "speeds of step {step}");
+    assert_eq!(rt;
+        finish(alloc, &input, &speeds)?.cars(),
+        later.cars(),
+        "after step {step}"
+    );
+    let alone = step_alone(alloc, plan, settings.1, step, road, &mut Meter::new())?;
+    assert_eq!(rt; alone.input.road().cars(), moving.cars());
+    assert_eq!(rt; alone.speeds.as_slice(), new.as_slice());
+    assert_eq!(rt; alone.road.cars(), later.cars());
+    Ok(later)
+}
+
+// An example in parts.
 fn steps_in_parts(
     rt: &impl Abort,
     alloc: Global,
@@ -349,34 +418,11 @@ fn steps_in_parts(
     until: u32,
 ) -> Result<(), Fail> {
     let plan = Arc::new(alloc, plan_of(alloc, example)?)?;
-    let mut meter = Meter::new();
     let mut road = Road::empty(alloc);
     for step in 0..until {
         let settings = settings_of(alloc, &plan, example, step)?;
-        assert!(rt; settings.fits(&plan));
-        let plain_road = plain::entered(alloc, &plan, &settings, step, &road)?;
-        let plain_speeds = plain::speeds(alloc, &plan, &settings, step, &plain_road)?;
-        let input = enter(alloc, &plan, settings, step, &road)?;
-        assert_eq!(rt; input.step(), step);
-        assert_eq!(rt;
-            input.road().cars(),
-            plain_road.cars(),
-            "entered at step {step}"
-        );
-        let speeds = input.speeds(alloc)?;
-        assert_eq!(rt;
-            speeds.as_slice(),
-            plain_speeds.as_slice(),
-            "speeds of step {step}"
-        );
-        let later = finish(alloc, &input, &speeds)?;
-        let settings = settings_of(alloc, &plan, example, step)?;
-        assert!(rt; settings.fits(&plan));
-        let alone = step_alone(alloc, &plan, settings, step, &road, &mut meter)?;
-        assert_eq!(rt; alone.input.road().cars(), plain_road.cars());
-        assert_eq!(rt; alone.speeds.as_slice(), speeds.as_slice());
-        assert_eq!(rt; alone.road.cars(), later.cars(), "after step {step}");
-        road = alone.road.copied()?;
+        let again = settings_of(alloc, &plan, example, step)?;
+        road = step_in_parts(rt, alloc, &plan, (settings, again), step, &road)?;
     }
     Ok(())
 }
@@ -458,6 +504,40 @@ fn lets_in_by_the_words_of_each_inlet(rt: HostRuntime) -> Result<(), Fail> {
     Ok(())
 }
 
+// The new speed of car 16, which stands at cell 7 with speed 3 on a free road, in step 1: by each of the calls.
+fn new_speed_of_car_16(
+    rt: &impl Abort,
+    alloc: Global,
+    plan: &Plan,
+    settings: &Settings,
+) -> Result<u8, Fail>
+    requires { Fits plan.now settings.now }
+{
+    let mut cars = Vec::new(alloc);
+    cars.push(Car {
+        number: 16,
+        cell: 7,
+        speed: 3,
+    })?;
+    let road = Road::of(cars);
+    let moving = entered(alloc, plan, settings, 1, &road)?;
+    let new = speeds(alloc, plan, settings, 1, &moving)?;
+    let later = next(alloc, plan, settings, 1, &moving)?;
+    assert_eq!(rt;
+        stepped(alloc, plan, settings, 1, &road)?.cars(),
+        later.cars()
+    );
+    assert_eq!(rt; new.len(), 1);
+    assert_eq!(rt; later.cars().len(), 1);
+    match (new.first(), later.cars().first()) {
+        (Some(new), Some(car)) => {
+            assert_eq!(rt; car.speed, *new);
+            Ok(*new)
+        }
+        _ => Ok(255),
+    }
+}
+
 #[test]
 fn slows_by_the_word_of_the_car(rt: HostRuntime) -> Result<(), Fail> {
     let alloc = rt.alloc();
@@ -465,25 +545,8 @@ fn slows_by_the_word_of_the_car(rt: HostRuntime) -> Result<(), Fail> {
     for (chance, speed) in [(0, 4), (22_699, 4), (22_700, 3), (65_536, 3)] {
         let plan = four_inlets(alloc, 0, (5, chance))?;
         let settings = Settings::of_plan(alloc, &plan)?;
-        let cars = [Car {
-            number: 16,
-            cell: 7,
-            speed: 3,
-        }];
-        let road = Road::of(cars.to_vec(alloc)?);
-        let moving = entered(alloc, &plan, &settings, 1, &road)?;
-        let new = speeds(alloc, &plan, &settings, 1, &moving)?;
-        assert_eq!(rt; new.as_slice(), [speed].as_slice(), "chance {chance}");
-        let later = next(alloc, &plan, &settings, 1, &moving)?;
-        assert_eq!(rt; later.cars().len(), 1);
-        assert_eq!(rt;
-            stepped(alloc, &plan, &settings, 1, &road)?.cars(),
-            later.cars()
-        );
-        assert_eq!(rt;
-            leave(&plan, moved(alloc, &moving, &new)?).cars(),
-            later.cars()
-        );
+        let new = new_speed_of_car_16(&rt, alloc, &plan, &settings)?;
+        assert_eq!(rt; new, speed, "chance {chance}");
     }
     Ok(())
 }
