@@ -32,7 +32,8 @@ pub fn entered(
     road: &Road,
 ) -> Result<Road, AllocError>
     requires { Fits plan.now settings.now }
-    ensures { IfOk result (λ moving. moving ≡ entered plan.now settings.now step road.now) }
+    ensures moving { IfOk result (λ moving. moving ≡ entered plan.now settings.now step road.now) }
+    ensures on_road { IfOk result (λ moving. length moving ≤ plan.now.cells) }
 {
     plan.limits();
     let mut cars = Vec::with_capacity(alloc, road.cars().len() + plan.inlets().len())?;

@@ -28,7 +28,8 @@ impl Meter {
     pub fn ticks(&self) -> u64
         ensures { result ≡ self.now }
     {
-        self.ticks
+        let Meter { ticks } = self;
+        *ticks
     }
 
     /// Counts a computed step. At the greatest count the meter stays.

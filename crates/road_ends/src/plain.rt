@@ -21,7 +21,8 @@ pub fn entered(
     road: &Road,
 ) -> Result<Road, AllocError>
     requires { Fits plan.now settings.now }
-    ensures { IfOk result (λ moving. moving ≡ entered plan.now settings.now step road.now) }
+    ensures moving { IfOk result (λ moving. moving ≡ entered plan.now settings.now step road.now) }
+    ensures on_road { IfOk result (λ moving. length moving ≤ plan.now.cells) }
 {
     let mut cars = Vec::new(alloc);
     for cell in 0..plan.length() {

@@ -1,19 +1,28 @@
-//! Runs worked out by hand or by a program of another author, computed by the plain program.
+//! Runs worked out by hand or by a program of another author, and the fast calls beside the plain ones.
 
-use super::{OwnSettings, row, run};
-use road_cells::Car;
-use road_plan::{Plan, PlanParts, WordKind};
-use std::alloc::Global;
+ghost use Rattle.road_plan.specs.Settings.{Fits};
+
+use super::{
+    BLOCKED, EMPTY, Meter, OwnSettings, STANDING, enter, entered, finish, next, plain, row, run,
+    speeds, step_alone, stepped,
+};
+use road_cells::{Car, Road};
+use road_plan::{Plan, PlanParts, Settings, WordKind};
+use std::alloc::{AllocError, Global};
+use std::process::Abort;
+use std::sync::Arc;
 use std::test::Fail;
 
-/// A road of one inlet and one detector at cell 5.
+/// A road with a detector at cell 5. From a step on the first zone has another limit, from a step on a cell is blocked.
 #[derive(Drop)]
 struct Example {
     length: u32,
     exit: u32,
     width: u32,
     zones: &'static [(u32, u32)],
-    inlet: (u32, u32),
+    inlets: &'static [(u32, u32)],
+    lowered: &'static [(u32, u32)],
+    blocked: &'static [(u32, u32)],
     words: WordKind,
     rows: &'static [(u32, &'static str)],
 }
@@ -24,7 +33,9 @@ const FREE: Example = Example {
     exit: 1,
     width: 12,
     zones: &[(2, 0)],
-    inlet: (0, 65_536),
+    inlets: &[(0, 65_536)],
+    lowered: &[],
+    blocked: &[],
     words: WordKind::Seeded(7),
     rows: &[
         (0, "............"),
@@ -68,14 +79,14 @@ const HALF_SLOWED: Example = Example {
 
 /// The inlet's steady word at step 1 is 30,011 above its lower bits: not below an inflow of as much, below one more.
 const NOT_LET_IN: Example = Example {
-    inlet: (0, 30_011),
+    inlets: &[(0, 30_011)],
     words: WordKind::Steady,
     rows: &[(2, "...2........")],
     ..FREE
 };
 
 const LET_IN: Example = Example {
-    inlet: (0, 30_012),
+    inlets: &[(0, 30_012)],
     rows: &[(2, "0..2........")],
     ..NOT_LET_IN
 };
@@ -95,7 +106,9 @@ const RANDOM: Example = Example {
     exit: 2,
     width: 10,
     zones: &[(5, 20_000), (3, 30_000), (9, 10_000), (5, 20_000)],
-    inlet: (3, 40_000),
+    inlets: &[(3, 40_000)],
+    lowered: &[],
+    blocked: &[],
     words: WordKind::Seeded(1992),
     rows: &[
         (10, "............2.....3......4.............."),
@@ -107,13 +120,124 @@ const RANDOM: Example = Example {
     ],
 };
 
+/// Nine inlets that always let in, slowing chance one half.
+const DENSE: Example = Example {
+    length: 32,
+    width: 32,
+    inlets: &[
+        (0, 65_536),
+        (3, 65_536),
+        (6, 65_536),
+        (9, 65_536),
+        (12, 65_536),
+        (15, 65_536),
+        (18, 65_536),
+        (21, 65_536),
+        (24, 65_536),
+    ],
+    rows: &[
+        (1, "0...1.0...1.0..0...1.0...1......"),
+        (2, "0..00..1.00..1..1.00..1.0.1....."),
+    ],
+    ..HALF_SLOWED
+};
+
+/// The limit falls to 1 at step 3 and to 0 at step 5.
+const LOWERED: Example = Example {
+    lowered: &[(3, 1), (5, 0)],
+    rows: &[
+        (3, ".1...2......"),
+        (4, "0.1...1....."),
+        (5, ".1.1...1...."),
+        (6, "00.0...0...."),
+        (7, "00.0...0...."),
+    ],
+    ..FREE
+};
+
+/// Cell 8 is blocked from step 4 on.
+const BLOCKED_AHEAD: Example = Example {
+    blocked: &[(4, 8)],
+    rows: &[
+        (4, "0..2...2#..."),
+        (5, ".1...2.0#..."),
+        (6, "0..2..10#..."),
+    ],
+    ..FREE
+};
+
+/// Cell 7 is blocked from step 4 on, where a car stands.
+const BLOCKED_UNDER_CAR: Example = Example {
+    blocked: &[(4, 7)],
+    rows: &[
+        (4, "0..2...2...."),
+        (5, ".1...2.#.2.."),
+        (6, "0..2..1#...."),
+    ],
+    ..FREE
+};
+
+/// The inlet's cell is blocked.
+const BLOCKED_INLET: Example = Example {
+    blocked: &[(0, 0)],
+    rows: &[
+        (1, "#..........."),
+        (6, "#..........."),
+        (65_536, "#..........."),
+    ],
+    ..FREE
+};
+
+/// Nothing flows in.
+const NO_INFLOW: Example = Example {
+    inlets: &[(0, 0)],
+    rows: &[(6, "............")],
+    ..FREE
+};
+
+/// All at once: inlets out of the order of their cells, chances that come always, never and at random, blocks that come
+/// and lie under inlets and cars, in the deleted zone too.
+const MIXED: Example = Example {
+    length: 64,
+    exit: 5,
+    width: 11,
+    zones: &[
+        (9, 20_000),
+        (3, 0),
+        (1, 65_536),
+        (5, 40_000),
+        (0, 30_000),
+        (7, 1),
+    ],
+    inlets: &[
+        (40, 30_000),
+        (3, 50_000),
+        (17, 65_536),
+        (58, 65_536),
+        (0, 0),
+        (55, 9),
+    ],
+    lowered: &[(30, 4), (60, 0), (70, 9)],
+    blocked: &[
+        (10, 30),
+        (20, 3),
+        (25, 47),
+        (26, 48),
+        (27, 12),
+        (40, 63),
+        (40, 8),
+    ],
+    words: WordKind::Seeded(1992),
+    rows: &[],
+};
+
 fn plan_of(alloc: Global, example: &Example) -> Result<Plan, Fail> {
     let parts = PlanParts {
         length: example.length,
         exit: example.exit,
         width: example.width,
         zones: example.zones.to_vec(alloc)?,
-        inlets: [example.inlet].to_vec(alloc)?,
+        inlets: example.inlets.to_vec(alloc)?,
         detectors: [5].to_vec(alloc)?,
         words: example.words,
     };
@@ -142,6 +266,178 @@ fn runs_the_examples(rt: HostRuntime) -> Result<(), Fail> {
     Ok(())
 }
 
+// The settings of an example at a step.
+fn settings_of(alloc: Global, plan: &Plan, example: &Example, step: u32) -> Result<Settings, Fail> {
+    let mut settings = Settings::of_plan(alloc, plan)?;
+    for (from, limit) in example.lowered {
+        if *from <= step {
+            let mut limits = Vec::new(alloc);
+            for (zone, now) in settings.limits().iter().enumerate() {
+                limits.push(if zone == 0 { *limit } else { *now })?;
+            }
+            settings.limits = limits;
+        }
+    }
+    let mut blocks = Vec::new(alloc);
+    for (from, cell) in example.blocked {
+        if *from <= step {
+            blocks.push(*cell)?;
+        }
+    }
+    blocks.sort()?;
+    settings.blocks = blocks;
+    Ok(settings)
+}
+
+// The road as a row of text, cell by cell.
+fn drawn(alloc: Global, length: u32, blocks: &[u32], road: &Road) -> Result<String, AllocError> {
+    let mut text = String::new(alloc);
+    for cell in 0..length {
+        let letter = match road.car_at(cell) {
+            Some(car) => STANDING + car.speed.min(9),
+            None if blocks.contains(&cell) => BLOCKED,
+            None => EMPTY,
+        };
+        text.push(char::from(letter))?;
+    }
+    Ok(text)
+}
+
+// The road at a step, stepped alone from that of an earlier step.
+fn stepped_to(
+    rt: &impl Abort,
+    alloc: Global,
+    plan: &Arc<Plan>,
+    example: &Example,
+    (from, road): (u32, Road),
+    until: u32,
+    meter: &mut Meter,
+) -> Result<Road, Fail> {
+    let mut road = road;
+    for step in from..until {
+        let settings = settings_of(alloc, plan, example, step)?;
+        assert!(rt; settings.fits(plan));
+        road = step_alone(alloc, plan, settings, step, &road, meter)?.road;
+    }
+    Ok(road)
+}
+
+// An example's rows, stepped alone.
+fn steps_alone(rt: &impl Abort, alloc: Global, example: &Example) -> Result<(), Fail> {
+    let plan = Arc::new(alloc, plan_of(alloc, example)?)?;
+    let mut meter = Meter::new();
+    let mut road = Road::empty(alloc);
+    let mut step = 0;
+    for (until, text) in example.rows {
+        road = stepped_to(rt, alloc, &plan, example, (step, road), *until, &mut meter)?;
+        step = *until;
+        let settings = settings_of(alloc, &plan, example, step)?;
+        let row = drawn(alloc, plan.length(), settings.blocks(), &road)?;
+        assert_eq!(rt; row.as_str(), *text, "step {step}");
+        assert_eq!(rt; meter.ticks(), u64::from(step));
+    }
+    Ok(())
+}
+
+#[test]
+fn steps_the_examples_alone(rt: HostRuntime) -> Result<(), Fail> {
+    let alloc = rt.alloc();
+    for example in [
+        &FREE,
+        &ALWAYS_SLOWED,
+        &HALF_SLOWED,
+        &NOT_LET_IN,
+        &LET_IN,
+        &TWO_ZONES,
+        &RANDOM,
+        &DENSE,
+        &LOWERED,
+        &BLOCKED_AHEAD,
+        &BLOCKED_UNDER_CAR,
+        &BLOCKED_INLET,
+        &NO_INFLOW,
+    ] {
+        steps_alone(&rt, alloc, example)?;
+    }
+    Ok(())
+}
+
+// The plain program's road and speeds of a step, and the road after it.
+fn plain_step(
+    alloc: Global,
+    plan: &Plan,
+    settings: &Settings,
+    step: u32,
+    road: &Road,
+) -> Result<(Road, Vec<u8>, Road), Fail>
+    requires { Fits plan.now settings.now }
+{
+    let moving = plain::entered(alloc, plan, settings, step, road)?;
+    let new = plain::speeds(alloc, plan, settings, step, &moving)?;
+    let later = next(alloc, plan, settings, step, &moving)?;
+    Ok((moving, new, later))
+}
+
+// What a step's calls give one after the other is what the plain program gives, and what the step gives alone.
+fn step_in_parts(
+    rt: &impl Abort,
+    alloc: Global,
+    plan: &Arc<Plan>,
+    settings: (Settings, Settings),
+    step: u32,
+    road: &Road,
+) -> Result<Road, Fail> {
+    assert!(rt; settings.0.fits(plan) && settings.1.fits(plan));
+    let (moving, new, later) = plain_step(alloc, plan, &settings.0, step, road)?;
+    let input = enter(alloc, plan, settings.0, step, road)?;
+    assert_eq!(rt; input.step(), step);
+    assert_eq!(rt;
+        input.road().cars(),
+        moving.cars(),
+        "entered at step {step}"
+    );
+    let speeds = input.speeds(alloc)?;
+    assert_eq!(rt; speeds.as_slice(), new.as_slice(), "speeds of step {step}");
+    assert_eq!(rt;
+        finish(alloc, &input, &speeds)?.cars(),
+        later.cars(),
+        "after step {step}"
+    );
+    let alone = step_alone(alloc, plan, settings.1, step, road, &mut Meter::new())?;
+    assert_eq!(rt; alone.input.road().cars(), moving.cars());
+    assert_eq!(rt; alone.speeds.as_slice(), new.as_slice());
+    assert_eq!(rt; alone.road.cars(), later.cars());
+    Ok(later)
+}
+
+// An example in parts.
+fn steps_in_parts(
+    rt: &impl Abort,
+    alloc: Global,
+    example: &Example,
+    until: u32,
+) -> Result<(), Fail> {
+    let plan = Arc::new(alloc, plan_of(alloc, example)?)?;
+    let mut road = Road::empty(alloc);
+    for step in 0..until {
+        let settings = settings_of(alloc, &plan, example, step)?;
+        let again = settings_of(alloc, &plan, example, step)?;
+        road = step_in_parts(rt, alloc, &plan, (settings, again), step, &road)?;
+    }
+    Ok(())
+}
+
+#[test]
+fn agrees_with_the_plain_program(rt: HostRuntime) -> Result<(), Fail> {
+    let alloc = rt.alloc();
+    steps_in_parts(&rt, alloc, &FREE, 6)?;
+    steps_in_parts(&rt, alloc, &LOWERED, 7)?;
+    steps_in_parts(&rt, alloc, &HALF_SLOWED, 6)?;
+    steps_in_parts(&rt, alloc, &DENSE, 2)?;
+    steps_in_parts(&rt, alloc, &RANDOM, 100)?;
+    steps_in_parts(&rt, alloc, &MIXED, 200)
+}
+
 #[test]
 fn numbers_cars_by_step_and_inlet(rt: HostRuntime) -> Result<(), Fail> {
     let alloc = rt.alloc();
@@ -158,6 +454,99 @@ fn numbers_cars_by_step_and_inlet(rt: HostRuntime) -> Result<(), Fail> {
                 speed
             }
         );
+    }
+    Ok(())
+}
+
+// A steady road of 40 cells with four inlets, of which the last has the given inflow, and one limit and chance.
+fn four_inlets(alloc: Global, inflow: u32, zone: (u32, u32)) -> Result<Plan, Fail> {
+    let parts = PlanParts {
+        length: 40,
+        exit: 1,
+        width: 40,
+        zones: [zone].to_vec(alloc)?,
+        inlets: [(20, 0), (5, 0), (10, 0), (0, inflow)].to_vec(alloc)?,
+        detectors: Vec::new(alloc),
+        words: WordKind::Steady,
+    };
+    Ok(Plan::new(parts)?)
+}
+
+#[test]
+fn lets_in_by_the_words_of_each_inlet(rt: HostRuntime) -> Result<(), Fail> {
+    let alloc = rt.alloc();
+    // inlet 3, at step 1: (3 * 40,503 + 30,011) mod 65,536 is 20,448, not below a chance of as much
+    for (inflow, cars) in [
+        (0, &[][..]),
+        (20_448, &[]),
+        (
+            20_449,
+            &[Car {
+                number: 19,
+                cell: 0,
+                speed: 0,
+            }],
+        ),
+        (
+            65_536,
+            &[Car {
+                number: 19,
+                cell: 0,
+                speed: 0,
+            }],
+        ),
+    ] {
+        let plan = four_inlets(alloc, inflow, (2, 0))?;
+        let settings = Settings::of_plan(alloc, &plan)?;
+        let moving = entered(alloc, &plan, &settings, 1, &Road::empty(alloc))?;
+        assert_eq!(rt; moving.cars(), cars, "inflow {inflow}");
+    }
+    Ok(())
+}
+
+// The new speed of car 16, which stands at cell 7 with speed 3 on a free road, in step 1: by each of the calls.
+fn new_speed_of_car_16(
+    rt: &impl Abort,
+    alloc: Global,
+    plan: &Plan,
+    settings: &Settings,
+) -> Result<u8, Fail>
+    requires { Fits plan.now settings.now }
+{
+    let mut cars = Vec::new(alloc);
+    cars.push(Car {
+        number: 16,
+        cell: 7,
+        speed: 3,
+    })?;
+    let road = Road::of(cars);
+    let moving = entered(alloc, plan, settings, 1, &road)?;
+    let new = speeds(alloc, plan, settings, 1, &moving)?;
+    let later = next(alloc, plan, settings, 1, &moving)?;
+    assert_eq!(rt;
+        stepped(alloc, plan, settings, 1, &road)?.cars(),
+        later.cars()
+    );
+    assert_eq!(rt; new.len(), 1);
+    assert_eq!(rt; later.cars().len(), 1);
+    match (new.first(), later.cars().first()) {
+        (Some(new), Some(car)) => {
+            assert_eq!(rt; car.speed, *new);
+            Ok(*new)
+        }
+        _ => Ok(255),
+    }
+}
+
+#[test]
+fn slows_by_the_word_of_the_car(rt: HostRuntime) -> Result<(), Fail> {
+    let alloc = rt.alloc();
+    // car 16 at step 1: (16 * 40,503 + 30,011) mod 65,536 is 22,699; the limit 5 and a free road let it come to 4
+    for (chance, speed) in [(0, 4), (22_699, 4), (22_700, 3), (65_536, 3)] {
+        let plan = four_inlets(alloc, 0, (5, chance))?;
+        let settings = Settings::of_plan(alloc, &plan)?;
+        let new = new_speed_of_car_16(&rt, alloc, &plan, &settings)?;
+        assert_eq!(rt; new, speed, "chance {chance}");
     }
     Ok(())
 }

@@ -1,6 +1,7 @@
-use Rattle.std.proofs.Common.{ℕ, Vec, Global, ◌+◌, ◌∙◌, ◌++◌, ◌<◌, ◌≤◌, sym, ap, subst, arith, map}
+use Rattle.std.proofs.Common.{ℕ, Vec, Global, ◌+◌, ◌∙◌, ◌++◌, ◌<◌, ◌≤◌, sym, ap, subst, arith, length, map}
 use Rattle.std.specs.Option.{option_or}
 use Rattle.road_cells.specs.Array.{vehicle_at, numbers}
+use Rattle.road_cells.specs.ArrayLaws.{length-array}
 use Rattle.road_cells.specs.Cars.{array_of, Rise}
 use Rattle.road_cells.specs.CarsLaws.{rise-cars_from, array_of-cars_from}
 use Rattle.road_cells.specs.declared.car.Car.{Car}
@@ -29,8 +30,16 @@ of-requires c =
     let past : c.args.plan.now.cells ≤ c.loop-cell.cell = let end = c.length-cell-end.ensures in let test = c.loop-cell-test.false in omega arith in
     subst Rise (sym (all_here f c.args.plan.now.cells c.loop-cell.cell c.loop-cell.cars.items _ past c.loop-cell.invariant)) (rise-cars_from 0 (map f (numbers 0 c.args.plan.now.cells)))
 
-pub returns : goal.returns
-returns c =
+pub returns-clause-moving : goal.returns-clause-moving
+returns-clause-moving c =
     let f = λ (c' : ℕ). option_or (vehicle_at c.args.road.now c') (entering c.args.plan.now c.args.settings.now c.args.step c') in
     let past : c.args.plan.now.cells ≤ c.loop-cell.cell = let end = c.length-cell-end.ensures in let test = c.loop-cell-test.false in omega arith in
     c.of.ensures.road ∙ ap array_of (all_here f c.args.plan.now.cells c.loop-cell.cell c.loop-cell.cars.items _ past c.loop-cell.invariant) ∙ array_of-cars_from c.args.plan.now.cells f
+
+pub returns-clause-on_road : goal.returns-clause-on_road
+returns-clause-on_road c =
+    let f = λ (c' : ℕ). option_or (vehicle_at c.args.road.now c') (entering c.args.plan.now c.args.settings.now c.args.step c') in
+    let past : c.args.plan.now.cells ≤ c.loop-cell.cell = let end = c.length-cell-end.ensures in let test = c.loop-cell-test.false in omega arith in
+    subst (λ a. length a ≤ c.args.plan.now.cells)
+    (sym (c.of.ensures.road ∙ ap array_of (all_here f c.args.plan.now.cells c.loop-cell.cell c.loop-cell.cars.items _ past c.loop-cell.invariant) ∙ array_of-cars_from c.args.plan.now.cells f))
+    (length-array c.args.plan.now.cells f)

@@ -1,0 +1,81 @@
+ghost use Rattle.std.specs.Arc.{arc_value};
+
+use road_cells::Road;
+use road_ends::{Meter, OutOfMemory, StepInput, gap, step_alone};
+use road_plan::limits::CERTAIN;
+use road_plan::{Plan, Settings};
+use road_words::{PlanWords, Words};
+use std::alloc::Global;
+use std::sync::Arc;
+
+/// Steps the empty road with the plan's own settings, and gives the number of cars moved, each counted once a step.
+pub fn stepped(alloc: Global, plan: &Arc<Plan>, steps: u32) -> Result<u64, OutOfMemory> {
+    let mut meter = Meter::new();
+    let mut road = Road::empty(alloc);
+    let mut cars = 0u64;
+    for step in 0..steps {
+        let settings = Settings::of_plan(alloc, plan)?;
+        let done = step_alone(alloc, plan, settings, step, &road, &mut meter)?;
+        cars = cars.saturating_add(done.speeds.len() as u64);
+        road = done.road;
+    }
+    Ok(cars)
+}
+
+/// The number of words that these steps draw.
+pub fn words_of(alloc: Global, plan: &Arc<Plan>, steps: u32) -> Result<u64, OutOfMemory> {
+    let mut meter = Meter::new();
+    let mut road = Road::empty(alloc);
+    let mut words = 0u64;
+    for step in 0..steps {
+        words = words.saturating_add(words_of_entries(plan, &road));
+        let settings = Settings::of_plan(alloc, plan)?;
+        let done = step_alone(alloc, plan, settings, step, &road, &mut meter)?;
+        words = words.saturating_add(words_of_cars(&done.input));
+        road = done.road;
+    }
+    Ok(words)
+}
+
+// The words drawn for the inlets of a step: one for each that is free and whose inflow leaves its entry open.
+fn words_of_entries(plan: &Plan, road: &Road) -> u64 {
+    let mut words = 0u64;
+    for inlet in plan.inlets() {
+        if is_open(inlet.1) && road.car_at(inlet.0).is_none() {
+            words = words.saturating_add(1);
+        }
+    }
+    words
+}
+
+// The words drawn for the cars of a step: one for each that wants to drive and whose slowing chance leaves that open.
+fn words_of_cars(input: &StepInput) -> u64 {
+    input.fits();
+    let mut words = 0u64;
+    for place in 0..input.road().cars().len() {
+        let cell = input.road().cars()[place].cell;
+        let zone = (cell / input.plan().width()) as usize;
+        let open = match input.plan().zones().get(zone) {
+            Some(zone) => zone.0 > 0 && is_open(zone.1),
+            None => false,
+        };
+        if open && gap(input.plan(), input.settings(), input.road(), place) > 0 {
+            words = words.saturating_add(1);
+        }
+    }
+    words
+}
+
+// Whether a chance leaves its event open.
+fn is_open(chance: u32) -> bool {
+    0 < chance && chance < CERTAIN
+}
+
+/// Draws so many words, of streams and places as steps ask for them, and mixes them.
+pub fn drawn(source: &PlanWords, words: u64) -> u32 {
+    let mut mixed = 0;
+    for place in 0..words {
+        mixed ^= source.word(place % 1_024 * 16, place / 1_024);
+    }
+    mixed
+}
