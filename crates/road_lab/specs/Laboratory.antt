@@ -1,5 +1,5 @@
 -- The replicas of a laboratory: what happens at them, and what is answered.
-use Rattle.std.specs.Prelude.{ℕ, suc, ◌==◌, ◌∷◌, List, [], max, nat_lt, if◌then◌else◌, Option, Some, None}
+use Rattle.std.specs.Prelude.{ℕ, suc, ◌-◌, ◌==◌, ◌∷◌, List, [], map, max, nat_lt, if◌then◌else◌, Option, Some, None}
 use Rattle.std.specs.List.{position}
 use Rattle.std.specs.Str.{bytes_eq}
 use Rattle.lattice_core.specs.Sets.{empty, union, items, from_list}
@@ -16,6 +16,7 @@ use Rattle.road_scenario.specs.declared.edit.Value.{Value}
 use Rattle.road_scenario.specs.declared.edit.Value.TheVariants.{Withdrawn, Put}
 use Rattle.road_scenario.specs.declared.faults.EditFault.{EditFault}
 use Rattle.road_scenario.specs.declared.faults.EditFault.TheVariants as edit_faults
+use Rattle.road_cells.specs.Array.{numbers}
 use Rattle.road_ends.specs.Row.{row}
 use Rattle.road_format.specs.CommandGrammar as commands
 use Rattle.road_format.specs.CommandGrammar.{Command}
@@ -108,6 +109,10 @@ event_of replica line (commands.Scenario name) = None
 -- the row of a step of the run from step zero, by the settings that these edits give
 unfoldable pub row_at : Plan → Edits → ℕ → List ℕ
 row_at plan edits step = row plan (settings_of plan edits) step
+
+-- the rows of the steps from one to another, both of them
+abbrev pub rows_at : Plan → Edits → ℕ → ℕ → List (List ℕ)
+rows_at plan edits from to = map (row_at plan edits) (numbers from (suc to - from))
 
 abbrev pub fault_or_stamp : Option EditFault → Edit → Answer
 fault_or_stamp (Some fault) edit = Refused (refusal_of fault)

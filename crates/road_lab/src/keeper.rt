@@ -19,6 +19,7 @@ use road_plan::{Object, OutOfMemory, Plan};
 use road_scenario::{Edit, EditFault, Scenario, Stamp, Value};
 use std::alloc::Global;
 use std::marker::Model;
+use std::sync::Arc;
 
 /// A replica: what it holds, and the last state of its road that was computed, so that questions at rising steps cost no
 /// step twice.
@@ -35,13 +36,14 @@ pub struct Replica {
 /// The replicas of a plan line.
 #[derive(Drop)]
 pub struct Keeper {
-    plan: Plan,
+    plan: Arc<Plan>,
     names: Names,
     replicas: Vec<Replica>,
 }
 
 impl Model for Keeper {
     ghost use Rattle.std.specs.Prelude.{map};
+    ghost use Rattle.std.specs.Arc.{arc_value};
     ghost use Rattle.std.specs.Coded.{codes};
     ghost use Rattle.road_scenario.specs.EditOrder.{edits_code};
     ghost use Rattle.road_lab.specs.Kept.{Kept};
@@ -51,9 +53,9 @@ impl Model for Keeper {
 
     ghost coded = { Prim.hlevel (codes, edits_code) };
 
-    ghost view = { λ keeper. record { line = record { names = keeper.names; plan = keeper.plan }; replicas = map seen keeper.replicas.items } };
+    ghost view = { λ keeper. record { line = record { names = keeper.names; plan = arc_value keeper.plan }; replicas = map seen keeper.replicas.items } };
 
-    ghost invariant = { λ keeper. IsKept keeper.plan keeper.names keeper.replicas.items };
+    ghost invariant = { λ keeper. IsKept (arc_value keeper.plan) keeper.names keeper.replicas.items };
 }
 
 // So many replicas before any command.
@@ -91,9 +93,9 @@ impl Keeper {
         requires apart { all_differ (texts line.names.items) ≡ true }
         ensures { IfOk result (λ keeper. keeper ≡ start (plan_line_view line)) }
     {
-        let plan = line.plan;
         let names = Names::of(alloc, line.names)?;
-        let replicas = opening_replicas(alloc, &plan, names.len())?;
+        let replicas = opening_replicas(alloc, &line.plan, names.len())?;
+        let plan = Arc::new(alloc, line.plan)?;
         Ok(Keeper {
             plan,
             names,

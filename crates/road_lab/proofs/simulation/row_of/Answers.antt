@@ -1,5 +1,6 @@
 use Rattle.road_scenario.specs.RangeLaws.{in_range-faultless}
+use Rattle.std.specs.Arc.{arc_value}
 use Rattle.road_lab.proofs.simulation.row_of.Goals as goal
 
 pub settings_at-requires : goal.settings_at-requires
-settings_at-requires c = in_range-faultless c.args.plan.now c.args.scenario.now c.requires.fits
+settings_at-requires c = in_range-faultless (arc_value c.args.plan.now) c.args.scenario.now c.requires.fits

@@ -1,10 +1,11 @@
+use Rattle.std.specs.Arc.{arc_value}
 use Rattle.std.proofs.Common.{refl}
 use Rattle.road_lab.proofs.Replicas.{still_kept, of_run_at, kept_below, hold_after, hold_of_run}
 use Rattle.road_lab.proofs.keeper.Keeper.hold.Goals as goal
 
 pub invariant_of-self : goal.invariant_of-self
 invariant_of-self c =
-    let plan = c.self.inside.plan in
+    let plan = arc_value c.self.inside.plan in
     let names = c.self.inside.names in
     let xs = c.self.inside.replicas.items in
     let x = c.index_mut-held.result.now in
@@ -13,7 +14,7 @@ invariant_of-self c =
 
 pub invariant_of-self-2 : goal.invariant_of-self-2
 invariant_of-self-2 c =
-    let plan = c.self.inside.plan in
+    let plan = arc_value c.self.inside.plan in
     let names = c.self.inside.names in
     let xs = c.self.inside.replicas.items in
     let x = c.index_mut-held.result.now in
@@ -24,5 +25,5 @@ invariant_of-self-2 c =
 pub returns-clause-after : goal.returns-clause-after
 returns-clause-after c =
     let x = c.index_mut-held.result.now in
-    hold_after c.self.inside.plan c.self.inside.names c.self.inside.replicas.items c.args.self.now c.args.replica c.args.edit.now _ x _ c.self.view_is c.self.invariant c.index_mut-held.ensures.value c.requires.within
+    hold_after (arc_value c.self.inside.plan) c.self.inside.names c.self.inside.replicas.items c.args.self.now c.args.replica c.args.edit.now _ x _ c.self.view_is c.self.invariant c.index_mut-held.ensures.value c.requires.within
     c.in_ok-held.ensures refl refl

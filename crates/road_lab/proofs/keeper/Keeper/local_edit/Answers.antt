@@ -1,3 +1,4 @@
+use Rattle.std.specs.Arc.{arc_value}
 use Rattle.std.proofs.Common.{arith}
 use Rattle.road_scenario.specs.RangeLaws.{in_range-count}
 use Rattle.road_lab.proofs.Replicas.{of_run_at, kept_below}
@@ -5,7 +6,7 @@ use Rattle.road_lab.proofs.keeper.Keeper.local_edit.Goals as goal
 
 pub overflow_add-count : goal.overflow_add-count
 overflow_add-count c =
-    let plan = c.self.inside.plan in
+    let plan = arc_value c.self.inside.plan in
     let names = c.self.inside.names in
     let xs = c.self.inside.replicas.items in
     let x = c.index.result.now in

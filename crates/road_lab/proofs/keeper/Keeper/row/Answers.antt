@@ -1,3 +1,4 @@
+use Rattle.std.specs.Arc.{arc_value}
 use Rattle.std.proofs.Common.{◌≡◌, ◌∙◌, ℕ, List, ap, refl, subst, string_bytes}
 use Rattle.std.specs.Prelude.{IfOk}
 use Rattle.road_lab.specs.Laboratory.{row_at}
@@ -6,7 +7,7 @@ use Rattle.road_lab.proofs.keeper.Keeper.row.Goals as goal
 
 pub returns-then-held-step-clause-row : goal.returns-then-held-step-clause-row
 returns-then-held-step-clause-row c =
-    let plan = c.self.inside.plan in
+    let plan = arc_value c.self.inside.plan in
     let names = c.self.inside.names in
     let xs = c.self.inside.replicas.items in
     let x = c.index-held.result.now in
@@ -16,7 +17,7 @@ returns-then-held-step-clause-row c =
 
 pub returns-clause-row : goal.returns-clause-row
 returns-clause-row c =
-    let plan = c.self.inside.plan in
+    let plan = arc_value c.self.inside.plan in
     let names = c.self.inside.names in
     let xs = c.self.inside.replicas.items in
     let x = c.index-held.result.now in
@@ -26,4 +27,4 @@ returns-clause-row c =
 
 pub returns-clause-unchanged : goal.returns-clause-unchanged
 returns-clause-unchanged c =
-    unchanged c.self.inside.plan c.self.inside.names c.self.inside.replicas.items c.args.self.now c.args.replica c.index_mut.result.now _ c.self.view_is c.index_mut.ensures.value refl
+    unchanged (arc_value c.self.inside.plan) c.self.inside.names c.self.inside.replicas.items c.args.self.now c.args.replica c.index_mut.result.now _ c.self.view_is c.index_mut.ensures.value refl
