@@ -1,6 +1,6 @@
 -- What is kept of the replicas agrees with the events.
-use Rattle.std.proofs.Common.{◌≡◌, ◌≢◌, ◌<◌, ◌==◌, ℕ, suc, List, [], ◌∷◌, length, Bool, true, false, max, Option, Some, None, Result, Ok, Err, refl, ap, sym, ◌∙◌, arith}
-use Rattle.std.specs.Prelude.{slice_set, nat_lt, if◌then◌else◌}
+use Rattle.std.proofs.Common.{◌≡◌, ◌≢◌, ◌<◌, ◌-◌, ◌==◌, ℕ, suc, List, [], ◌∷◌, length, map, Bool, true, false, max, Option, Some, None, Result, Ok, Err, refl, ap, sym, ◌∙◌, arith}
+use Rattle.std.specs.Prelude.{slice_set, not, nat_lt, if◌then◌else◌}
 use Rattle.std.specs.List.{slice_index_or}
 use Rattle.std.specs.Str.{bytes_eq}
 use Rattle.std.proofs.lemmas.List.{get_or-set_same, get_or-set_other, get_or-replicate, length-set, length-replicate}
@@ -15,21 +15,25 @@ use Rattle.road_scenario.specs.CountsLaws.{greatest_count-winners}
 use Rattle.road_scenario.specs.EditOrder.{winners_laws}
 use Rattle.road_scenario.specs.Edits.{Edits}
 use Rattle.road_scenario.specs.Faults.{fault_of}
-use Rattle.road_scenario.specs.Settings.{settings_in}
+use Rattle.road_scenario.specs.Settings.{settings_in, settings_of}
 use Rattle.road_scenario.specs.Winners.{winners, join}
 use Rattle.road_scenario.specs.WinnersLaws.{winners-empty}
 use Rattle.road_scenario.specs.declared.edit.Edit.{Edit}
 use Rattle.road_scenario.specs.declared.edit.Value.{Value}
 use Rattle.road_scenario.specs.declared.edit.Value.TheVariants.{Withdrawn, Put}
 use Rattle.road_scenario.specs.declared.faults.EditFault.{EditFault}
+use Rattle.road_cells.specs.Array.{numbers}
+use Rattle.road_cells.specs.Cars.{cars_of}
 use Rattle.road_ends.specs.Row.{row}
-use Rattle.road_format.specs.CommandGrammar.{Command, Edit as EditOf, Withdraw, Advance, Cells, Scenario}
+use Rattle.road_ends.specs.Run.{Course, run}
+use Rattle.road_detector.specs.Passes.{total}
+use Rattle.road_format.specs.CommandGrammar.{Command, Edit as EditOf, Withdraw, Advance, Cells, Cars, Count, Diagram, Scenario}
 use Rattle.road_format.specs.PlanGrammar.{PlanLine}
 use Rattle.road_format.specs.Replies as replies
 use Rattle.road_format.specs.Replies.{Answer, Refused}
 use Rattle.road_format.specs.declared.refusal.Refusal.{Refusal}
 use Rattle.road_format.specs.declared.refusal.Refusal.TheVariants as refusals
-use Rattle.road_lab.specs.Laboratory.{Deed, Made, Advanced, Event, Replica, opening, after_deed, replica_after, replica_of, local_edit, unless_faulty, fault_or_stamp, row_at, edit_event, advance_event, event_of, edit_answer, advance_answer, cells_answer, scenario_answer, answer_by, answer_to, with_event}
+use Rattle.road_lab.specs.Laboratory.{Deed, Made, Advanced, Event, Replica, opening, after_deed, replica_after, replica_of, local_edit, unless_faulty, fault_or_stamp, row_at, rows_at, cars_at, cars_answer, counted_as, total_at, count_answer, is_out_of_range, diagram_answer, edit_event, advance_event, event_of, edit_answer, advance_answer, cells_answer, scenario_answer, answer_by, answer_to, with_event}
 use Rattle.road_lab.specs.Answers.{answer_of, after_line}
 use Rattle.road_lab.specs.Kept.{Kept, start, kept_replica, kept_deed, kept_event, line_answer, line_after}
 
@@ -90,15 +94,45 @@ advance_agrees : (kept real : ℕ → Replica) (n to : ℕ) (place : Option ℕ)
 advance_agrees kept real n to None a below = refl
 advance_agrees kept real n to (Some r) a below = rw (a r (below r refl)) refl
 
+-- settings are those of the winners
+same_settings : (plan : Plan) (kept edits : Edits) → kept ≡ winners edits → settings_of plan kept ≡ settings_of plan edits
+same_settings plan kept edits is =
+    ap (settings_of plan) is ∙ ap (λ (s : Edits). λ (t : ℕ). settings_in plan (items s) t) (won_again edits)
+
+-- what is read of the run by the settings of edits agrees
+read_agrees : {A : Type 0} (read : Course → A) (plan : Plan) (kept real : Replica) → kept ≡ kept_of real → read (settings_of plan kept.edits) ≡ read (settings_of plan real.edits)
+read_agrees read plan kept real is = ap read (same_settings plan kept.edits real.edits (ap (λ (x : Replica). x.edits) is))
+
 cells_agrees : (kept real : ℕ → Replica) (n : ℕ) (plan : Plan) (step : ℕ) (place : Option ℕ) → Alike kept real n → ((r : ℕ) → place ≡ Some r → r < n) → cells_answer kept plan step place ≡ cells_answer real plan step place
 unfolding row_at
 cells_agrees kept real n plan step None a below = refl
 cells_agrees kept real n plan step (Some r) a below =
-    ap (λ (x : Replica). if nat_lt x.horizon step then Refused refusals.NotSimulated else replies.Cells (row_at plan x.edits step)) (a r (below r refl))
-    ∙ ap (λ (s : Edits). if nat_lt (real r).horizon step then Refused refusals.NotSimulated else replies.Cells (row_of_winners plan s step)) (won_again (real r).edits)
-  where
-    row_of_winners : Plan → Edits → ℕ → List ℕ
-    row_of_winners plan s step = row plan (λ t. settings_in plan (items s) t) step
+    let is = a r (below r refl) in
+    ap (λ (h : ℕ). if nat_lt h step then Refused refusals.NotSimulated else replies.Cells (row plan (settings_of plan (kept r).edits) step)) (ap (λ (x : Replica). x.horizon) is)
+    ∙ read_agrees (λ course. if nat_lt (real r).horizon step then Refused refusals.NotSimulated else replies.Cells (row plan course step)) plan (kept r) (real r) is
+
+cars_agrees : (kept real : ℕ → Replica) (n : ℕ) (plan : Plan) (step : ℕ) (place : Option ℕ) → Alike kept real n → ((r : ℕ) → place ≡ Some r → r < n) → cars_answer kept plan step place ≡ cars_answer real plan step place
+cars_agrees kept real n plan step None a below = refl
+cars_agrees kept real n plan step (Some r) a below =
+    let is = a r (below r refl) in
+    ap (λ (h : ℕ). if nat_lt h step then Refused refusals.NotSimulated else replies.Cars (cars_at plan (kept r).edits step)) (ap (λ (x : Replica). x.horizon) is)
+    ∙ read_agrees (λ course. if nat_lt (real r).horizon step then Refused refusals.NotSimulated else replies.Cars (map (λ car. (car.number, (car.cell, car.speed))) (cars_of (run plan course step)))) plan (kept r) (real r) is
+
+count_agrees : (kept real : ℕ → Replica) (n : ℕ) (plan : Plan) (detector from to : ℕ) (place : Option ℕ) → Alike kept real n → ((r : ℕ) → place ≡ Some r → r < n) → count_answer kept plan detector from to place ≡ count_answer real plan detector from to place
+count_agrees kept real n plan detector from to None a below = refl
+count_agrees kept real n plan detector from to (Some r) a below =
+    let is = a r (below r refl) in
+    ap (λ (h : ℕ). if not (nat_lt detector (length plan.detectors)) then Refused refusals.NoDetector else (if nat_lt to from then Refused refusals.Range else (if nat_lt h to then Refused refusals.NotSimulated else counted_as (total_at plan (kept r).edits detector from to))))
+    (ap (λ (x : Replica). x.horizon) is)
+    ∙ read_agrees (λ course. if not (nat_lt detector (length plan.detectors)) then Refused refusals.NoDetector else (if nat_lt to from then Refused refusals.Range else (if nat_lt (real r).horizon to then Refused refusals.NotSimulated else counted_as (total plan course detector from to)))) plan (kept r) (real r) is
+
+diagram_agrees : (kept real : ℕ → Replica) (n : ℕ) (plan : Plan) (from to : ℕ) (place : Option ℕ) → Alike kept real n → ((r : ℕ) → place ≡ Some r → r < n) → diagram_answer kept plan from to place ≡ diagram_answer real plan from to place
+unfolding row_at
+diagram_agrees kept real n plan from to None a below = refl
+diagram_agrees kept real n plan from to (Some r) a below =
+    let is = a r (below r refl) in
+    ap (λ (h : ℕ). if is_out_of_range from to then Refused refusals.Range else (if nat_lt h to then Refused refusals.NotSimulated else replies.Rows (rows_at plan (kept r).edits from to))) (ap (λ (x : Replica). x.horizon) is)
+    ∙ read_agrees (λ course. if is_out_of_range from to then Refused refusals.Range else (if nat_lt (real r).horizon to then Refused refusals.NotSimulated else replies.Rows (map (λ t. row plan course t) (numbers from (suc to - from))))) plan (kept r) (real r) is
 
 scenario_agrees : (kept real : ℕ → Replica) (n : ℕ) (place : Option ℕ) → Alike kept real n → ((r : ℕ) → place ≡ Some r → r < n) → scenario_answer kept place ≡ scenario_answer real place
 scenario_agrees kept real n None a below = refl
@@ -110,6 +144,9 @@ command_agrees kept real line (EditOf name o step value) a = edit_agrees kept re
 command_agrees kept real line (Withdraw name o step) a = edit_agrees kept real _ line.plan o step Withdrawn (replica_of line name) a (replica_below line name)
 command_agrees kept real line (Advance name to) a = advance_agrees kept real _ to (replica_of line name) a (replica_below line name)
 command_agrees kept real line (Cells name step) a = cells_agrees kept real _ line.plan step (replica_of line name) a (replica_below line name)
+command_agrees kept real line (Cars name step) a = cars_agrees kept real _ line.plan step (replica_of line name) a (replica_below line name)
+command_agrees kept real line (Count name detector from to) a = count_agrees kept real _ line.plan detector from to (replica_of line name) a (replica_below line name)
+command_agrees kept real line (Diagram name from to) a = diagram_agrees kept real _ line.plan from to (replica_of line name) a (replica_below line name)
 command_agrees kept real line (Scenario name) a = scenario_agrees kept real _ (replica_of line name) a (replica_below line name)
 
 -- ---- events
@@ -125,6 +162,9 @@ adds kept real line (EditOf name o step value) a = edit_adds kept real _ line.pl
 adds kept real line (Withdraw name o step) a = edit_adds kept real _ line.plan o step Withdrawn (replica_of line name) a (replica_below line name)
 adds kept real line (Advance name to) a = refl
 adds kept real line (Cells name step) a = refl
+adds kept real line (Cars name step) a = refl
+adds kept real line (Count name detector from to) a = refl
+adds kept real line (Diagram name from to) a = refl
 adds kept real line (Scenario name) a = refl
 
 abbrev replica_in : Option Event → ℕ
@@ -178,6 +218,9 @@ event_below replica line (EditOf name o step value) e made = edit_below replica 
 event_below replica line (Withdraw name o step) e made = edit_below replica line.plan o step Withdrawn (replica_of line name) _ (replica_below line name) e made
 event_below replica line (Advance name to) e made = advance_below to (replica_of line name) (length line.names) (nat_lt GREATEST_HORIZON to) refl (replica_below line name) e made
 event_below replica line (Cells name step) e made = absurd (cc)
+event_below replica line (Cars name step) e made = absurd (cc)
+event_below replica line (Count name detector from to) e made = absurd (cc)
+event_below replica line (Diagram name from to) e made = absurd (cc)
 event_below replica line (Scenario name) e made = absurd (cc)
 
 -- ---- lines

@@ -78,10 +78,11 @@ advanced k r to o found few = rw (found, few) refl
 
 -- ---- before any command
 
-pub opening_of_run : (plan : Plan) (x : Replica) → x.scenario ≡ empty → x.last.step ≡ 0 → x.last.road ≡ [] → IsOfRun plan x
-opening_of_run plan x none first bare = record {
+pub opening_of_run : (plan : Plan) (x : Replica) → x.horizon ≡ 0 → x.scenario ≡ empty → x.last.step ≡ 0 → x.last.road ≡ [] → IsOfRun plan x
+opening_of_run plan x zero none first bare = record {
   won = ap winners none ∙ winners-empty ∙ sym none;
   fits = subst (AreInRange plan) (sym none) (in_range-empty plan);
+  early = omega (arith, zero);
   state = bare ∙ sym (ap (run_at plan x.scenario) first);
 }
 
@@ -119,6 +120,33 @@ advance_after plan names xs k r to n x name v kept is found below more few =
     changed plan names xs k r (record x { horizon = n }) _ v same
     ∙ advanced k r to (replica_of k.line name) (found_in plan names xs k r name v found) (le-ltb GREATEST_HORIZON to few)
 
+-- a later horizon within the limit
+pub advance_of_run : (plan : Plan) (names : List (List ℕ)) (xs : List Replica) (r to n : ℕ) (x : Replica) → IsKept plan names xs → x ≡ slice_index_or xs r x → r < length names → n ≡ max x.horizon to → to ≤ GREATEST_HORIZON
+    → IsKept plan names (slice_set xs r (record x { horizon = n }))
+advance_of_run plan names xs r to n x kept is below more few =
+    let before = of_run_at plan names xs r x kept is (named_below plan names xs r kept below) in
+    let of_run : IsOfRun plan (record x { horizon = n }) = record { won = before.won; fits = before.fits; early = omega (arith, more, before.early, few); state = before.state } in
+    still_kept plan names xs r (record x { horizon = n }) kept of_run
+
+-- another state of the run
+pub state_of_run : (plan : Plan) (names : List (List ℕ)) (xs : List Replica) (r : ℕ) (x y : Replica) → IsKept plan names xs → x ≡ slice_index_or xs r x → r < length xs → y.scenario ≡ x.scenario → y.horizon ≡ x.horizon
+    → y.last.road ≡ run_at plan x.scenario y.last.step → IsKept plan names (slice_set xs r y)
+state_of_run plan names xs r x y kept is below same still state =
+    let before = of_run_at plan names xs r x kept is below in
+    let of_run : IsOfRun plan y = record {
+      won = ap winners same ∙ before.won ∙ sym same;
+      fits = subst (AreInRange plan) (sym same) before.fits;
+      early = omega (arith, still, before.early);
+      state = state ∙ ap (λ (s : Edits). run_at plan s y.last.step) (sym same);
+    } in
+    still_kept plan names xs r y kept of_run
+
+-- what is read of a replica's edits
+pub read_same : {A : Type 0} (read : Plan → Edits → A) (plan : Plan) (names : List (List ℕ)) (xs : List Replica) (k : Kept) (r : ℕ) (x : Replica) → viewed plan names xs ≡ k → x ≡ slice_index_or xs r x → r < length xs
+    → read plan x.scenario ≡ read k.line.plan (kept_replica k r).edits
+read_same read plan names xs k r x v is below =
+    ap (λ (q : laboratory.Replica). read plan q.edits) (sym (at plan names xs k r x v is below)) ∙ ap (λ (q : Kept). read q.line.plan (kept_replica k r).edits) v
+
 pub hold_after : (plan : Plan) (names : List (List ℕ)) (xs : List Replica) (k : Kept) (r : ℕ) (edit : Edit) (s : Edits) (x y : Replica) → viewed plan names xs ≡ k → IsKept plan names xs → x ≡ slice_index_or xs r x
     → r < length k.line.names → s ≡ join x.scenario (from_list (edit ∷ [])) → y.scenario ≡ s → y.horizon ≡ x.horizon
     → viewed plan names (slice_set xs r y) ≡ record k { replicas = slice_set k.replicas r (record { edits = join (kept_replica k r).edits (from_list (edit ∷ [])); horizon = (kept_replica k r).horizon }) }
@@ -131,11 +159,12 @@ hold_after plan names xs k r edit s x y v kept is below joins holds still =
     changed plan names xs k r y _ v same
 
 pub hold_of_run : (plan : Plan) (names : List (List ℕ)) (xs : List Replica) (k : Kept) (r : ℕ) (edit : Edit) (x y : Replica) → viewed plan names xs ≡ k → IsKept plan names xs → x ≡ slice_index_or xs r x
-    → r < length k.line.names → fault_of k.line.plan edit ≡ None → y.scenario ≡ join x.scenario (from_list (edit ∷ [])) → y.last.step ≡ 0 → y.last.road ≡ [] → IsOfRun plan y
-hold_of_run plan names xs k r edit x y v kept is below none joins first bare =
+    → r < length k.line.names → fault_of k.line.plan edit ≡ None → y.scenario ≡ join x.scenario (from_list (edit ∷ [])) → y.horizon ≡ x.horizon → y.last.step ≡ 0 → y.last.road ≡ [] → IsOfRun plan y
+hold_of_run plan names xs k r edit x y v kept is below none joins still first bare =
     let none_here : fault_of plan edit ≡ None = ap (λ (q : Kept). fault_of q.line.plan edit) v ∙ none in
-    let both = held plan edit y.scenario x none_here (of_run_at plan names xs r x kept is (kept_below plan names xs k r v kept below)) joins in
-    record { won = both.0; fits = both.1; state = bare ∙ sym (ap (run_at plan y.scenario) first) }
+    let before = of_run_at plan names xs r x kept is (kept_below plan names xs k r v kept below) in
+    let both = held plan edit y.scenario x none_here before joins in
+    record { won = both.0; fits = both.1; early = omega (arith, still, before.early); state = bare ∙ sym (ap (run_at plan y.scenario) first) }
 
 pub scenario_after : (plan : Plan) (names : List (List ℕ)) (xs : List Replica) (k : Kept) (r : ℕ) (x : Replica) (name : List ℕ) (edits : List Edit) → viewed plan names xs ≡ k → IsKept plan names xs → x ≡ slice_index_or xs r x
     → Some r ≡ position (bytes_eq name) names → r < length names → edits ≡ items x.scenario → replies.Edits edits ≡ scenario_answer (kept_replica k) (replica_of k.line name)

@@ -2,7 +2,7 @@
 use Rattle.std.specs.Prelude.{◌≡◌, ◌≤◌, ℕ, List, length}
 use Rattle.std.specs.List.{All}
 use Rattle.road_plan.specs.Plan.{Plan}
-use Rattle.road_plan.specs.declared.limits.TheConstants.{MOST_REPLICAS}
+use Rattle.road_plan.specs.declared.limits.TheConstants.{MOST_REPLICAS, GREATEST_HORIZON}
 use Rattle.road_scenario.specs.Faults.{AreInRange}
 use Rattle.road_scenario.specs.Winners.{winners}
 use Rattle.road_lab.specs.Laboratory as laboratory
@@ -13,10 +13,12 @@ use Rattle.road_lab.specs.declared.keeper.Replica.{Replica}
 abbrev pub seen : Replica → laboratory.Replica
 seen replica = record { edits = replica.scenario; horizon = replica.horizon }
 
--- a replica's edits have all won and fit the plan, and its last state is one of the run by them
+-- a replica's edits have all won and fit the plan, its horizon is within the limit, and its last state is one of the run by
+-- these edits
 pub record IsOfRun (plan : Plan) (replica : Replica) : Type 0 where
   pub won : winners replica.scenario ≡ replica.scenario
   pub fits : AreInRange plan replica.scenario
+  pub early : replica.horizon ≤ GREATEST_HORIZON
   pub state : replica.last.road ≡ run_at plan replica.scenario replica.last.step
 
 -- each name has such a replica, and there are few names

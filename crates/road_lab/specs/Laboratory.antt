@@ -1,11 +1,11 @@
 -- The replicas of a laboratory: what happens at them, and what is answered.
-use Rattle.std.specs.Prelude.{ℕ, suc, ◌-◌, ◌==◌, ◌∷◌, List, [], map, max, nat_lt, if◌then◌else◌, Option, Some, None}
+use Rattle.std.specs.Prelude.{ℕ, suc, ◌-◌, ◌==◌, ◌||◌, ◌∷◌, Bool, not, List, [], length, map, max, nat_lt, if◌then◌else◌, Option, Some, None}
 use Rattle.std.specs.List.{position}
 use Rattle.std.specs.Str.{bytes_eq}
 use Rattle.lattice_core.specs.Sets.{empty, union, items, from_list}
 use Rattle.road_plan.specs.Plan.{Plan}
 use Rattle.road_plan.specs.declared.object.Object.{Object}
-use Rattle.road_plan.specs.declared.limits.TheConstants.{GREATEST_HORIZON}
+use Rattle.road_plan.specs.declared.limits.TheConstants.{GREATEST_HORIZON, MOST_ROWS}
 use Rattle.road_scenario.specs.Counts.{greatest_count}
 use Rattle.road_scenario.specs.Edits.{Edits}
 use Rattle.road_scenario.specs.Faults.{fault_of}
@@ -17,7 +17,11 @@ use Rattle.road_scenario.specs.declared.edit.Value.TheVariants.{Withdrawn, Put}
 use Rattle.road_scenario.specs.declared.faults.EditFault.{EditFault}
 use Rattle.road_scenario.specs.declared.faults.EditFault.TheVariants as edit_faults
 use Rattle.road_cells.specs.Array.{numbers}
+use Rattle.road_cells.specs.Cars.{cars_of}
 use Rattle.road_ends.specs.Row.{row}
+use Rattle.road_ends.specs.Run.{run}
+use Rattle.road_detector.specs.Passes.{total}
+use Rattle.road_detector.specs.declared.counts.Totals.{Totals}
 use Rattle.road_format.specs.CommandGrammar as commands
 use Rattle.road_format.specs.CommandGrammar.{Command}
 use Rattle.road_format.specs.PlanGrammar.{PlanLine}
@@ -102,6 +106,9 @@ event_of replica line (commands.Edit name object step value) = edit_event replic
 event_of replica line (commands.Withdraw name object step) = edit_event replica line.plan object step Withdrawn (replica_of line name)
 event_of replica line (commands.Advance name to) = advance_event to (replica_of line name)
 event_of replica line (commands.Cells name step) = None
+event_of replica line (commands.Cars name step) = None
+event_of replica line (commands.Count name detector from to) = None
+event_of replica line (commands.Diagram name from to) = None
 event_of replica line (commands.Scenario name) = None
 
 -- ---- answers, by the replicas before the command; refusals in their order
@@ -136,6 +143,43 @@ cells_answer replica plan step None = Refused refusals.NoReplica
 cells_answer replica plan step (Some r) =
     if nat_lt (replica r).horizon step then Refused refusals.NotSimulated else replies.Cells (row_at plan (replica r).edits step)
 
+-- the cars of a step of the run: number, cell, speed, in rising cells
+abbrev pub cars_at : Plan → Edits → ℕ → List (ℕ × ℕ × ℕ)
+cars_at plan edits step = map (λ car. (car.number, (car.cell, car.speed))) (cars_of (run plan (settings_of plan edits) step))
+
+-- `cars` answers the cars of a step up to the horizon
+abbrev pub cars_answer : (ℕ → Replica) → Plan → ℕ → Option ℕ → Answer
+cars_answer replica plan step None = Refused refusals.NoReplica
+cars_answer replica plan step (Some r) =
+    if nat_lt (replica r).horizon step then Refused refusals.NotSimulated else replies.Cars (cars_at plan (replica r).edits step)
+
+abbrev pub counted_as : Totals → Answer
+counted_as totals = replies.Counted totals.cars totals.speeds
+
+-- what a detector counts in the steps from one up to another
+abbrev pub total_at : Plan → Edits → ℕ → ℕ → ℕ → Totals
+total_at plan edits detector from to = total plan (settings_of plan edits) detector from to
+
+-- `count` answers it, for steps up to the horizon
+abbrev pub count_answer : (ℕ → Replica) → Plan → ℕ → ℕ → ℕ → Option ℕ → Answer
+count_answer replica plan detector from to None = Refused refusals.NoReplica
+count_answer replica plan detector from to (Some r) =
+    if not (nat_lt detector (length plan.detectors)) then Refused refusals.NoDetector
+    else (if nat_lt to from then Refused refusals.Range
+    else (if nat_lt (replica r).horizon to then Refused refusals.NotSimulated
+    else counted_as (total_at plan (replica r).edits detector from to)))
+
+-- whether these steps are none, or more than one diagram shows
+abbrev pub is_out_of_range : ℕ → ℕ → Bool
+is_out_of_range from to = nat_lt to from || nat_lt MOST_ROWS (suc to - from)
+
+-- `diagram` answers the rows of the steps from one to another, both of them
+abbrev pub diagram_answer : (ℕ → Replica) → Plan → ℕ → ℕ → Option ℕ → Answer
+diagram_answer replica plan from to None = Refused refusals.NoReplica
+diagram_answer replica plan from to (Some r) =
+    if is_out_of_range from to then Refused refusals.Range
+    else (if nat_lt (replica r).horizon to then Refused refusals.NotSimulated else replies.Rows (rows_at plan (replica r).edits from to))
+
 -- `scenario` answers the winners of the edits, by object and step
 abbrev pub scenario_answer : (ℕ → Replica) → Option ℕ → Answer
 scenario_answer replica None = Refused refusals.NoReplica
@@ -147,6 +191,9 @@ answer_by replica line (commands.Edit name object step value) = edit_answer repl
 answer_by replica line (commands.Withdraw name object step) = edit_answer replica line.plan object step Withdrawn (replica_of line name)
 answer_by replica line (commands.Advance name to) = advance_answer replica to (replica_of line name)
 answer_by replica line (commands.Cells name step) = cells_answer replica line.plan step (replica_of line name)
+answer_by replica line (commands.Cars name step) = cars_answer replica line.plan step (replica_of line name)
+answer_by replica line (commands.Count name detector from to) = count_answer replica line.plan detector from to (replica_of line name)
+answer_by replica line (commands.Diagram name from to) = diagram_answer replica line.plan from to (replica_of line name)
 answer_by replica line (commands.Scenario name) = scenario_answer replica (replica_of line name)
 
 -- ---- commands after events

@@ -3,18 +3,20 @@
 ghost use Rattle.std.specs.Prelude.{◌≡◌, ◌<◌, ◌≤◌, IfOk, OnOk, OnErr, length, map, replicate, true, Some, None, string_bytes};
 ghost use Rattle.std.specs.List.{All};
 ghost use Rattle.road_format.specs.PlanGrammar.{all_differ};
-ghost use Rattle.road_format.specs.Views.{texts, plan_line_view, command_view, answer_view};
+ghost use Rattle.road_format.specs.Views.{texts, car_view, plan_line_view, command_view, answer_view};
 ghost use Rattle.road_plan.specs.declared.limits.TheConstants.{MOST_REPLICAS};
 ghost use Rattle.road_scenario.specs.Faults.{fault_of};
 ghost use Rattle.road_lab.specs.Keeping.{seen, IsOfRun};
 ghost use Rattle.road_lab.specs.Laboratory as laboratory;
-ghost use Rattle.road_lab.specs.Laboratory.{replica_of, local_edit, edit_event, edit_answer, advance_event, advance_answer, cells_answer, scenario_answer, row_at};
+ghost use Rattle.road_lab.specs.Laboratory.{replica_of, local_edit, edit_event, edit_answer, advance_event, advance_answer, cells_answer, cars_answer, cars_at, count_answer, total_at, diagram_answer, rows_at, scenario_answer, row_at};
 ghost use Rattle.road_lab.specs.Kept.{start, kept_replica, kept_answer, kept_after, kept_event};
 
 use crate::names::Names;
-use crate::simulation::{State, row_of, state_at};
+use crate::simulation::{State, row_of, rows_between, state_at, totals_between};
+use road_cells::Car;
+use road_detector::Totals;
 use road_format::{Answer, Command, PlanLine, Refusal};
-use road_plan::limits::GREATEST_HORIZON;
+use road_plan::limits::{GREATEST_HORIZON, MOST_ROWS};
 use road_plan::{Object, OutOfMemory, Plan};
 use road_scenario::{Edit, EditFault, Scenario, Stamp, Value};
 use std::alloc::Global;
@@ -121,6 +123,14 @@ impl Keeper {
             }
             Command::Advance { at, to } => Ok(self.advance(at, *to)),
             Command::Cells { at, step } => self.cells(alloc, at, *step),
+            Command::Cars { at, step } => self.cars(alloc, at, *step),
+            Command::Count {
+                at,
+                detector,
+                from,
+                to,
+            } => self.count(alloc, at, *detector, *from, *to),
+            Command::Diagram { at, from, to } => self.diagram(alloc, at, *from, *to),
             Command::Scenario { at } => self.scenario(alloc, at),
         }
     }
@@ -223,6 +233,136 @@ impl Keeper {
         let row = row_of(alloc, &self.plan, &held.scenario, &state)?;
         self.replicas[replica].last = state;
         Ok(row)
+    }
+
+    // The cars of a replica's road at a step.
+    fn cars(&mut self, alloc: Global, at: &str, step: u32) -> Result<Answer, OutOfMemory>
+        ensures answer { IfOk result (λ answer. answer_view answer ≡ cars_answer (kept_replica self.old) self.old.line.plan step (replica_of self.old.line at.now)) }
+        ensures unchanged { self.new ≡ self.old }
+    {
+        let Some(replica) = self.names.number_of(at) else {
+            return Ok(Answer::Refused(Refusal::NoReplica));
+        };
+        if self.replicas[replica].horizon < step {
+            return Ok(Answer::Refused(Refusal::NotSimulated));
+        }
+        Ok(Answer::Cars(self.cars_at(alloc, replica, step)?))
+    }
+
+    // The cars of a replica's road at a step, whose state is kept.
+    fn cars_at(
+        &mut self,
+        alloc: Global,
+        replica: usize,
+        step: u32,
+    ) -> Result<Vec<Car>, OutOfMemory>
+        requires { replica < length self.old.line.names }
+        ensures cars { IfOk result (λ cars. map car_view cars.items ≡ cars_at self.old.line.plan (kept_replica self.old replica).edits step) }
+        ensures unchanged { self.new ≡ self.old }
+    {
+        let held = &self.replicas[replica];
+        let state = state_at(alloc, &self.plan, &held.scenario, &held.last, step)?;
+        let cars = state.road.copied()?.into_cars();
+        self.replicas[replica].last = state;
+        Ok(cars)
+    }
+
+    // What a detector of a replica's road counts in some steps.
+    fn count(
+        &mut self,
+        alloc: Global,
+        at: &str,
+        detector: u32,
+        from: u32,
+        to: u32,
+    ) -> Result<Answer, OutOfMemory>
+        ensures answer { IfOk result (λ answer. answer_view answer ≡ count_answer (kept_replica self.old) self.old.line.plan detector from to (replica_of self.old.line at.now)) }
+        ensures unchanged { self.new ≡ self.old }
+    {
+        let Some(replica) = self.names.number_of(at) else {
+            return Ok(Answer::Refused(Refusal::NoReplica));
+        };
+        if detector as usize >= self.plan.detectors().len() {
+            return Ok(Answer::Refused(Refusal::NoDetector));
+        }
+        if from > to {
+            return Ok(Answer::Refused(Refusal::Range));
+        }
+        if self.replicas[replica].horizon < to {
+            return Ok(Answer::Refused(Refusal::NotSimulated));
+        }
+        let totals = self.totals(alloc, replica, detector, from, to)?;
+        Ok(Answer::Counted {
+            cars: totals.cars,
+            speeds: totals.speeds,
+        })
+    }
+
+    // What a detector of a replica's road counts in the steps from one up to another; the state after them is kept.
+    fn totals(
+        &mut self,
+        alloc: Global,
+        replica: usize,
+        detector: u32,
+        from: u32,
+        to: u32,
+    ) -> Result<Totals, OutOfMemory>
+        requires within { replica < length self.old.line.names }
+        requires in_plan { detector < length self.old.line.plan.detectors }
+        requires order { from ≤ to }
+        requires simulated { to ≤ (kept_replica self.old replica).horizon }
+        ensures totals { IfOk result (λ totals. totals ≡ total_at self.old.line.plan (kept_replica self.old replica).edits detector from to) }
+        ensures unchanged { self.new ≡ self.old }
+    {
+        let held = &self.replicas[replica];
+        let first = state_at(alloc, &self.plan, &held.scenario, &held.last, from)?;
+        let (totals, state) = totals_between(alloc, &self.plan, &held.scenario, first, detector, to)?;
+        self.replicas[replica].last = state;
+        Ok(totals)
+    }
+
+    // The rows of a replica's road at some steps.
+    fn diagram(
+        &mut self,
+        alloc: Global,
+        at: &str,
+        from: u32,
+        to: u32,
+    ) -> Result<Answer, OutOfMemory>
+        ensures answer { IfOk result (λ answer. answer_view answer ≡ diagram_answer (kept_replica self.old) self.old.line.plan from to (replica_of self.old.line at.now)) }
+        ensures unchanged { self.new ≡ self.old }
+    {
+        let Some(replica) = self.names.number_of(at) else {
+            return Ok(Answer::Refused(Refusal::NoReplica));
+        };
+        if from > to || to - from >= MOST_ROWS {
+            return Ok(Answer::Refused(Refusal::Range));
+        }
+        if self.replicas[replica].horizon < to {
+            return Ok(Answer::Refused(Refusal::NotSimulated));
+        }
+        Ok(Answer::Rows(self.rows(alloc, replica, from, to)?))
+    }
+
+    // The rows of a replica's road from a step to another; the state of the last one is kept.
+    fn rows(
+        &mut self,
+        alloc: Global,
+        replica: usize,
+        from: u32,
+        to: u32,
+    ) -> Result<Vec<String>, OutOfMemory>
+        requires within { replica < length self.old.line.names }
+        requires order { from ≤ to }
+        requires simulated { to ≤ (kept_replica self.old replica).horizon }
+        ensures rows { IfOk result (λ rows. texts rows.items ≡ rows_at self.old.line.plan (kept_replica self.old replica).edits from to) }
+        ensures unchanged { self.new ≡ self.old }
+    {
+        let held = &self.replicas[replica];
+        let first = state_at(alloc, &self.plan, &held.scenario, &held.last, from)?;
+        let (rows, state) = rows_between(alloc, &self.plan, &held.scenario, first, to)?;
+        self.replicas[replica].last = state;
+        Ok(rows)
     }
 
     // The edits that a replica holds.

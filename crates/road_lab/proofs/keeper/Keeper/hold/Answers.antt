@@ -20,7 +20,7 @@ invariant_of-self-2 c =
     let x = c.index_mut-held.result.now in
     still_kept plan names xs c.args.replica _ c.self.invariant
     (hold_of_run plan names xs c.args.self.now c.args.replica c.args.edit.now x _ c.self.view_is c.self.invariant c.index_mut-held.ensures.value c.requires.within c.requires.fits
-    c.in_ok-held.ensures c.opening.ensures.step c.opening.ensures.road)
+    c.in_ok-held.ensures refl c.opening.ensures.step c.opening.ensures.road)
 
 pub returns-clause-after : goal.returns-clause-after
 returns-clause-after c =
