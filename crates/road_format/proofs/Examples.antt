@@ -100,6 +100,6 @@ a_row : reply (CellsReply (codes "0..2...2....")) ≡ codes "{\"cells\":\"0..2..
 unfolding serde_json_on_literals digits reply
 a_row = refl
 
-some_cars : reply (Cars ((0, (3, 1)) ∷ (18446744073709551615, (11, 9)) ∷ [])) ≡ codes "{\"cars\":[[0,3,1],[18446744073709551615,11,9]]}\n"
+some_cars : reply (Cars ((0, 3, 1) ∷ (18446744073709551615, 11, 9) ∷ [])) ≡ codes "{\"cars\":[[0,3,1],[18446744073709551615,11,9]]}\n"
 unfolding serde_json_on_literals digits reply
 some_cars = refl

@@ -135,8 +135,8 @@ listed_plain ds all = plain_cons 91 _ (λ e. cc) (items_plain false ds all)
 
 car_plain : (car : ℕ × ℕ × ℕ) → IsPlain (compact_text (car_data car))
 car_plain car =
-    let fields : List Data = whole car.0 ∷ whole car.1.0 ∷ whole car.1.1 ∷ [] in
-    let all : AllPlain fields = (decimal_plain car.0, (decimal_plain car.1.0, (decimal_plain car.1.1, tt))) in
+    let fields : List Data = whole car.0 ∷ whole car.1 ∷ whole car.2 ∷ [] in
+    let all : AllPlain fields = (decimal_plain car.0, (decimal_plain car.1, (decimal_plain car.2, tt))) in
     listed_plain fields all
 
 cars_plain : (cars : List (ℕ × ℕ × ℕ)) → AllPlain (map car_data cars)

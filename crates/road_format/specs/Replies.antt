@@ -46,7 +46,7 @@ one_field name d = object (member name d no_members)
 
 -- a car: number, cell, speed
 abbrev pub car_data : ℕ × ℕ × ℕ → Data
-car_data car = listed (whole car.0 ∷ whole car.1.0 ∷ whole car.1.1 ∷ [])
+car_data car = listed (whole car.0 ∷ whole car.1 ∷ whole car.2 ∷ [])
 
 -- the number that an edit puts, or null for a withdrawal
 abbrev pub value_data : Value → Data

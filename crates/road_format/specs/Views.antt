@@ -41,7 +41,7 @@ parts_view line = record { names = texts line.names.items; plan = plan_of line.p
 
 -- what a car says: number, cell, speed
 abbrev pub car_view : Car → ℕ × ℕ × ℕ
-car_view car = (car.number, (car.cell, car.speed))
+car_view car = (car.number, car.cell, car.speed)
 
 -- what an answer says
 abbrev pub answer_view : Answer → replies.Answer
