@@ -6,9 +6,9 @@ use Rattle.serde_json.proofs.OnLiterals.{serde_json_on_literals}
 use Rattle.road_plan.specs.declared.parts.WordKind.TheVariants.{Seeded}
 use Rattle.road_format.specs.Cut.{lines_of}
 use Rattle.road_format.specs.Reading.{value_of}
-use Rattle.road_format.specs.CommandGrammar.{Advance, Cells, advance_in, cells_in, command_in, command_of}
+use Rattle.road_format.specs.CommandGrammar.{Advance, Cells, Count, advance_in, cells_in, count_in, command_in, command_of}
 use Rattle.road_format.specs.PlanGrammar.{plan_line_in, plan_line_of}
-use Rattle.road_format.specs.Replies.{Open, Refused, Horizon, Cells as CellsReply, reply}
+use Rattle.road_format.specs.Replies.{Open, Refused, Horizon, Cells as CellsReply, Cars, reply}
 use Rattle.road_format.specs.declared.refusal.Refusal.TheVariants as refusals
 
 -- ---- cutting
@@ -31,6 +31,10 @@ an_advance = refl
 some_cells : command_of (codes " {\"cells\" : {\"at\":\"\\u0041\",\"step\":0}}\r") ≡ Ok (Cells (codes "A") 0)
 unfolding serde_json_on_literals value_of is_utf8 chars command_of command_in advance_in cells_in
 some_cells = refl
+
+a_count : command_of (codes "{\"count\":{\"at\":\"A\",\"detector\":2,\"from\":0,\"to\":6}}") ≡ Ok (Count (codes "A") 2 0 6)
+unfolding serde_json_on_literals value_of is_utf8 chars command_of command_in count_in
+a_count = refl
 
 the_last_of_two_counts : command_of (codes "{\"cells\":{\"at\":\"A\",\"step\":7,\"step\":0}}") ≡ Ok (Cells (codes "A") 0)
 unfolding serde_json_on_literals value_of is_utf8 chars command_of command_in advance_in cells_in
@@ -95,3 +99,7 @@ advanced = refl
 a_row : reply (CellsReply (codes "0..2...2....")) ≡ codes "{\"cells\":\"0..2...2....\"}\n"
 unfolding serde_json_on_literals digits reply
 a_row = refl
+
+some_cars : reply (Cars ((0, 3, 1) ∷ (18446744073709551615, 11, 9) ∷ [])) ≡ codes "{\"cars\":[[0,3,1],[18446744073709551615,11,9]]}\n"
+unfolding serde_json_on_literals digits reply
+some_cars = refl

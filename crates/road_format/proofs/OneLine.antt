@@ -14,7 +14,7 @@ use Rattle.road_scenario.specs.declared.edit.Value.TheVariants.{Withdrawn, Put}
 use Rattle.road_format.specs.ObjectGrammar.{kind_of, index_of}
 use Rattle.road_format.specs.Cut.{newline, cut_at, cut}
 use Rattle.road_format.specs.Refusals.{text_of}
-use Rattle.road_format.specs.Replies.{Answer, Open, Refused, Horizon, Cells, Stamped, Edits, whole, listed, value_data, edit_data, one_field, data_of, reply}
+use Rattle.road_format.specs.Replies.{Answer, Open, Refused, Horizon, Cells, Cars, Counted, Rows, Stamped, Edits, whole, listed, car_data, value_data, edit_data, one_field, data_of, reply}
 use Rattle.road_format.specs.RepliesLaws.{RepliesAreLines}
 
 -- it has no newline. It does not unfold, so that a text is read off what is claimed of it.
@@ -131,6 +131,24 @@ items_plain later (d ∷ ds) all = both_plain later _ (plain_append (compact_tex
 listed_plain : (ds : List Data) → AllPlain ds → IsPlain (compact_text (listed ds))
 listed_plain ds all = plain_cons 91 _ (λ e. cc) (items_plain false ds all)
 
+-- cars and rows
+
+car_plain : (car : ℕ × ℕ × ℕ) → IsPlain (compact_text (car_data car))
+car_plain car =
+    let fields : List Data = whole car.0 ∷ whole car.1 ∷ whole car.2 ∷ [] in
+    let all : AllPlain fields = (decimal_plain car.0, (decimal_plain car.1, (decimal_plain car.2, tt))) in
+    listed_plain fields all
+
+cars_plain : (cars : List (ℕ × ℕ × ℕ)) → AllPlain (map car_data cars)
+cars_plain [] = tt
+cars_plain (car ∷ cars) = (car_plain car, cars_plain cars)
+
+rows_plain : (rows : List (List ℕ)) → AllPlain (map string rows)
+rows_plain [] = tt
+rows_plain (row ∷ rows) = (quoted_plain row, rows_plain rows)
+
+-- edits
+
 null_plain : IsPlain (compact_text null)
 null_plain = plain_cons 110 _ (λ e. cc) (plain_cons 117 _ (λ e. cc) (plain_cons 108 _ (λ e. cc) (plain_cons 108 [] (λ e. cc) plain_nil)))
 
@@ -142,7 +160,7 @@ edit_plain : (e : Edit) → IsPlain (compact_text (edit_data e))
 edit_plain e =
     let fields : List Data = string (kind_of e.object) ∷ whole (index_of e.object) ∷ whole e.step ∷ whole e.stamp.count ∷ whole e.stamp.number ∷ value_data e.value ∷ [] in
     let all : AllPlain fields =
-        (quoted_plain (kind_of e.object), (decimal_plain (index_of e.object), (decimal_plain e.step, (decimal_plain e.stamp.count, (decimal_plain e.stamp.number, (value_plain e.value, tt)))))) in
+    (quoted_plain (kind_of e.object), (decimal_plain (index_of e.object), (decimal_plain e.step, (decimal_plain e.stamp.count, (decimal_plain e.stamp.number, (value_plain e.value, tt)))))) in
     listed_plain fields all
 
 edits_plain : (es : List Edit) → AllPlain (map edit_data es)
@@ -158,6 +176,9 @@ data_plain (Open replicas) = one_field_plain (codes "open") (number (unsigned re
 data_plain (Refused refusal) = one_field_plain (codes "refused") (string (text_of refusal)) (quoted_plain (text_of refusal))
 data_plain (Horizon horizon) = one_field_plain (codes "horizon") (number (unsigned horizon)) (decimal_plain horizon)
 data_plain (Cells row) = one_field_plain (codes "cells") (string row) (quoted_plain row)
+data_plain (Cars cars) = one_field_plain (codes "cars") (listed (map car_data cars)) (listed_plain _ (cars_plain cars))
+data_plain (Counted cars speeds) = two_fields_plain (whole cars) speeds (codes "cars") (codes "speeds") (decimal_plain cars)
+data_plain (Rows rows) = one_field_plain (codes "rows") (listed (map string rows)) (listed_plain _ (rows_plain rows))
 data_plain (Stamped stamp) =
     let parts : List Data = whole stamp.count ∷ whole stamp.number ∷ [] in
     let all : AllPlain parts = (decimal_plain stamp.count, (decimal_plain stamp.number, tt)) in

@@ -3,7 +3,7 @@ use Rattle.std.proofs.Common.{◌≡◌, ℕ, suc, List, [], ◌∷◌, ◌++◌
 use Rattle.std.specs.Str.{IsUtf8, is_utf8}
 use Rattle.std.proofs.lemmas.Str.{IsUtf8-from_is_utf8, is_utf8-from_IsUtf8}
 use Rattle.std.specs.declared.alloc.Global.{Global}
-use Rattle.serde_json.specs.Data.{Data}
+use Rattle.serde_json.specs.Data.{Data, string}
 use Rattle.serde_json.specs.Read.{read}
 use Rattle.serde_json.specs.Written.{has_float, compact_text}
 use Rattle.serde_json.specs.View.{members_of, items_view}
@@ -14,7 +14,7 @@ use Rattle.road_scenario.specs.declared.edit.Edit.{Edit}
 use Rattle.road_scenario.specs.declared.edit.Value as edits
 use Rattle.road_scenario.specs.declared.edit.Value.TheVariants.{Withdrawn, Put}
 use Rattle.road_format.specs.ObjectGrammar.{object_from}
-use Rattle.road_format.specs.Replies.{Answer, Open, Refused, Horizon, Cells, Stamped, Edits, value_data, edit_data, listed, data_of, reply}
+use Rattle.road_format.specs.Replies.{Answer, Open, Refused, Horizon, Cells, Cars, Counted, Rows, Stamped, Edits, car_data, value_data, edit_data, listed, data_of, reply}
 
 -- an object has as many members as the map has entries
 pub members_len-members_of : {V : Type 0} (f : V → Data) (ms : List (String Global × V)) → members_len (members_of (map (λ m. (m.0, f m.1)) ms)) ≡ length ms
@@ -41,6 +41,14 @@ value_of-unread line e = unread_if line (is_utf8 line) (λ t. e (IsUtf8-from_is_
 
 -- ---- replies
 
+cars_have_no_float : (cars : List (ℕ × ℕ × ℕ)) → has_float (listed (map car_data cars)) ≡ false
+cars_have_no_float [] = refl
+cars_have_no_float (car ∷ cars) = cars_have_no_float cars
+
+rows_have_no_float : (rows : List (List ℕ)) → has_float (listed (map string rows)) ≡ false
+rows_have_no_float [] = refl
+rows_have_no_float (row ∷ rows) = rows_have_no_float rows
+
 value_has_no_float : (v : edits.Value) → has_float (value_data v) ≡ false
 value_has_no_float Withdrawn = refl
 value_has_no_float (Put n) = refl
@@ -55,6 +63,9 @@ no_float (Open n) = refl
 no_float (Refused refusal) = refl
 no_float (Horizon n) = refl
 no_float (Cells row) = refl
+no_float (Cars cars) = rw (cars_have_no_float cars) refl
+no_float (Counted cars speeds) = refl
+no_float (Rows rows) = rw (rows_have_no_float rows) refl
 no_float (Stamped stamp) = refl
 no_float (Edits edits) = rw (edits_have_no_float edits) refl
 

@@ -20,6 +20,12 @@ pub data Command : Type 0 where
   Advance : List ℕ → ℕ → Command
   -- at, step
   Cells : List ℕ → ℕ → Command
+  -- at, step
+  Cars : List ℕ → ℕ → Command
+  -- at, detector, from, to
+  Count : List ℕ → ℕ → ℕ → ℕ → Command
+  -- at, from, to
+  Diagram : List ℕ → ℕ → ℕ → Command
   -- at
   Scenario : List ℕ → Command
 
@@ -58,6 +64,33 @@ cells_in d = do
   step ← number_at (codes "step") d
   Some (Cells at step)
 
+-- exactly the fields `at` and `step`
+unfoldable pub cars_in : Data → Option Command
+cars_in d = do
+  exact ← only_if (has_fields 2 d)
+  at ← name_at (codes "at") d
+  step ← number_at (codes "step") d
+  Some (Cars at step)
+
+-- exactly the fields `at`, `detector`, `from` and `to`
+unfoldable pub count_in : Data → Option Command
+count_in d = do
+  exact ← only_if (has_fields 4 d)
+  at ← name_at (codes "at") d
+  detector ← number_at (codes "detector") d
+  from ← number_at (codes "from") d
+  to ← number_at (codes "to") d
+  Some (Count at detector from to)
+
+-- exactly the fields `at`, `from` and `to`
+unfoldable pub diagram_in : Data → Option Command
+diagram_in d = do
+  exact ← only_if (has_fields 3 d)
+  at ← name_at (codes "at") d
+  from ← number_at (codes "from") d
+  to ← number_at (codes "to") d
+  Some (Diagram at from to)
+
 -- exactly the field `at`
 unfoldable pub scenario_in : Data → Option Command
 scenario_in d = do
@@ -77,7 +110,10 @@ command_named d =
     (named_or (get (codes "withdraw") d) withdraw_in
     (named_or (get (codes "advance") d) advance_in
     (named_or (get (codes "cells") d) cells_in
-    (named_or (get (codes "scenario") d) scenario_in None))))
+    (named_or (get (codes "cars") d) cars_in
+    (named_or (get (codes "count") d) count_in
+    (named_or (get (codes "diagram") d) diagram_in
+    (named_or (get (codes "scenario") d) scenario_in None)))))))
 
 -- the command that a value is
 unfoldable pub command_in : Data → Option Command

@@ -23,11 +23,14 @@ index_of (Block cell) = cell
 index_of (Inflow inlet) = inlet
 index_of (Watch detector) = detector
 
--- the object of a kind and an index. Speed limits and slowing chances are what is edited today.
+-- the object of a kind and an index
 abbrev pub object_of : List ℕ → ℕ → Option Object
 object_of kind index =
     if bytes_eq kind (codes "limit") then Some (Limit index)
     else if bytes_eq kind (codes "slow") then Some (Slow index)
+    else if bytes_eq kind (codes "block") then Some (Block index)
+    else if bytes_eq kind (codes "inflow") then Some (Inflow index)
+    else if bytes_eq kind (codes "watch") then Some (Watch index)
     else None
 
 -- of just two items, a kind's name and an index

@@ -29,6 +29,8 @@ text_of refusals.Step = codes "Step"
 text_of refusals.ValueOutOfRange = codes "ValueOutOfRange"
 text_of refusals.CountsSpent = codes "CountsSpent"
 text_of refusals.Horizon = codes "Horizon"
+text_of refusals.NoDetector = codes "NoDetector"
+text_of refusals.Range = codes "Range"
 text_of refusals.NotSimulated = codes "NotSimulated"
 
 -- the refusal of a plan; want of memory is none

@@ -21,6 +21,12 @@ pub data Answer : Type 0 where
   Horizon : ℕ → Answer
   -- the text of one row of cells
   Cells : List ℕ → Answer
+  -- each car's number, cell and speed
+  Cars : List (ℕ × ℕ × ℕ) → Answer
+  -- how many cars were counted, and the sum of their speeds
+  Counted : ℕ → ℕ → Answer
+  -- the texts of rows of cells
+  Rows : List (List ℕ) → Answer
   -- the stamp of an edit
   Stamped : Stamp → Answer
   -- the edits that a replica holds
@@ -38,6 +44,10 @@ listed ds = array (items_of ds)
 abbrev pub one_field : List ℕ → Data → Data
 one_field name d = object (member name d no_members)
 
+-- a car: number, cell, speed
+abbrev pub car_data : ℕ × ℕ × ℕ → Data
+car_data car = listed (whole car.0 ∷ whole car.1 ∷ whole car.2 ∷ [])
+
 -- the number that an edit puts, or null for a withdrawal
 abbrev pub value_data : Value → Data
 value_data Withdrawn = null
@@ -54,6 +64,9 @@ data_of (Open replicas) = one_field (codes "open") (whole replicas)
 data_of (Refused refusal) = one_field (codes "refused") (string (text_of refusal))
 data_of (Horizon horizon) = one_field (codes "horizon") (whole horizon)
 data_of (Cells row) = one_field (codes "cells") (string row)
+data_of (Cars cars) = one_field (codes "cars") (listed (map car_data cars))
+data_of (Counted cars speeds) = object (member (codes "cars") (whole cars) (member (codes "speeds") (whole speeds) no_members))
+data_of (Rows rows) = one_field (codes "rows") (listed (map string rows))
 data_of (Stamped stamp) = one_field (codes "stamp") (listed (whole stamp.count ∷ whole stamp.number ∷ []))
 data_of (Edits edits) = object (member (codes "edits") (listed (map edit_data edits)) (member (codes "form") (whole 1) no_members))
 

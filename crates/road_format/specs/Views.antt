@@ -11,6 +11,7 @@ use Rattle.road_format.specs.declared.command.Command.{Command}
 use Rattle.road_format.specs.declared.command.Command.TheVariants as commands
 use Rattle.road_format.specs.declared.plan_line.PlanLine.{PlanLine}
 use Rattle.road_format.specs.declared.plan_line.PlanLineParts.{PlanLineParts}
+use Rattle.road_cells.specs.declared.car.Car.{Car}
 use Rattle.road_plan.specs.Plan.{plan_of}
 use Rattle.road_format.specs.declared.answer.Answer.{Answer}
 use Rattle.road_format.specs.declared.answer.Answer.TheVariants as answers
@@ -25,6 +26,9 @@ command_view (commands.Edit at object step value) = grammar.Edit (string_bytes a
 command_view (commands.Withdraw at object step) = grammar.Withdraw (string_bytes at) object step
 command_view (commands.Advance at to) = grammar.Advance (string_bytes at) to
 command_view (commands.Cells at step) = grammar.Cells (string_bytes at) step
+command_view (commands.Cars at step) = grammar.Cars (string_bytes at) step
+command_view (commands.Count at detector from to) = grammar.Count (string_bytes at) detector from to
+command_view (commands.Diagram at from to) = grammar.Diagram (string_bytes at) from to
 command_view (commands.Scenario at) = grammar.Scenario (string_bytes at)
 
 -- what a plan line says
@@ -35,12 +39,19 @@ plan_line_view line = record { names = texts line.names.items; plan = line.plan 
 abbrev pub parts_view : PlanLineParts → plan_grammar.PlanLine
 parts_view line = record { names = texts line.names.items; plan = plan_of line.parts }
 
+-- what a car says: number, cell, speed
+abbrev pub car_view : Car → ℕ × ℕ × ℕ
+car_view car = (car.number, car.cell, car.speed)
+
 -- what an answer says
 abbrev pub answer_view : Answer → replies.Answer
 answer_view (answers.Open replicas) = replies.Open replicas
 answer_view (answers.Refused refusal) = replies.Refused refusal
 answer_view (answers.Horizon horizon) = replies.Horizon horizon
 answer_view (answers.Cells row) = replies.Cells (string_bytes row)
+answer_view (answers.Cars cars) = replies.Cars (map car_view cars.items)
+answer_view (answers.Counted cars speeds) = replies.Counted cars speeds
+answer_view (answers.Rows rows) = replies.Rows (texts rows.items)
 answer_view (answers.Stamped stamp) = replies.Stamped stamp
 answer_view (answers.Edits edits) = replies.Edits edits.items
 

@@ -1,4 +1,5 @@
 use crate::refusal::Refusal;
+use road_cells::Car;
 use road_scenario::{Edit, Stamp};
 
 /// What is answered to a line.
@@ -15,6 +16,17 @@ pub enum Answer {
     Horizon(u32),
     /// One row of cells, a character for each cell.
     Cells(String),
+    /// The cars of a road, in rising cells.
+    Cars(Vec<Car>),
+    /// What a detector counted.
+    Counted {
+        /// How many cars passed it.
+        cars: u32,
+        /// The sum of their speeds, in cells per step.
+        speeds: u32,
+    },
+    /// Rows of cells, one of each step, a character for each cell.
+    Rows(Vec<String>),
     /// The stamp of an edit.
     Stamped(Stamp),
     /// The edits that a replica holds, by object and step.

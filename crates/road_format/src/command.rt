@@ -50,6 +50,33 @@ pub enum Command {
         /// The step.
         step: u32,
     },
+    /// The cars of a replica's road at a step.
+    Cars {
+        /// The name of the replica.
+        at: String,
+        /// The step.
+        step: u32,
+    },
+    /// How many cars a detector of a replica's road counted between two steps, and the sum of their speeds.
+    Count {
+        /// The name of the replica.
+        at: String,
+        /// The detector's index.
+        detector: u32,
+        /// The first step.
+        from: u32,
+        /// The step before which the count ends.
+        to: u32,
+    },
+    /// The rows of cells of a replica's road from a step to another, both among them.
+    Diagram {
+        /// The name of the replica.
+        at: String,
+        /// The first step.
+        from: u32,
+        /// The last step.
+        to: u32,
+    },
     /// The edits that a replica holds.
     Scenario {
         /// The name of the replica.
@@ -59,9 +86,10 @@ pub enum Command {
 
 /// The command that a line is: an object of one field, the command's name, whose value is the object of exactly its
 /// fields: `edit` of `at`, `object`, `step` and `value`, `withdraw` of `at`, `object` and `step`, `advance` of `at` and
-/// `to`, `cells` of `at` and `step`, `scenario` of `at`. A name is a text of 1 to 64 bytes; a number is whole, of at most
-/// 32 bits, and written without point and exponent; an object is a list of its kind and its index. Of a field that stands
-/// twice the last counts.
+/// `to`, `cells` of `at` and `step`, `cars` of `at` and `step`, `count` of `at`, `detector`, `from` and `to`, `diagram` of
+/// `at`, `from` and `to`, `scenario` of `at`. A name is a text of 1 to 64 bytes; a number is whole, of at most 32 bits, and
+/// written without point and exponent; an object is a list of its kind and its index. Of a field that stands twice the last
+/// counts.
 ///
 /// # Errors
 ///
@@ -95,6 +123,15 @@ fn command_in(alloc: Global, value: &Value) -> Result<Command, Unread>
     }
     if let Some(fields) = value.get("cells") {
         return cells_in(alloc, fields);
+    }
+    if let Some(fields) = value.get("cars") {
+        return cars_in(alloc, fields);
+    }
+    if let Some(fields) = value.get("count") {
+        return count_in(alloc, fields);
+    }
+    if let Some(fields) = value.get("diagram") {
+        return diagram_in(alloc, fields);
     }
     if let Some(fields) = value.get("scenario") {
         return scenario_in(alloc, fields);
@@ -152,6 +189,47 @@ fn cells_in(alloc: Global, fields: &Value) -> Result<Command, Unread>
     let at = name_at(alloc, "at", fields)?;
     let step = number_at("step", fields)?;
     Ok(Command::Cells { at, step })
+}
+
+/// The `cars` of these fields.
+#[tactic(auto, unfolding(crate::specs::CommandGrammar::cars_in))]
+fn cars_in(alloc: Global, fields: &Value) -> Result<Command, Unread>
+    ensures { Reads command_view result (grammar.cars_in (view fields.now)) }
+{
+    exactly(2, fields)?;
+    let at = name_at(alloc, "at", fields)?;
+    let step = number_at("step", fields)?;
+    Ok(Command::Cars { at, step })
+}
+
+/// The `count` of these fields.
+#[tactic(auto, unfolding(crate::specs::CommandGrammar::count_in))]
+fn count_in(alloc: Global, fields: &Value) -> Result<Command, Unread>
+    ensures { Reads command_view result (grammar.count_in (view fields.now)) }
+{
+    exactly(4, fields)?;
+    let at = name_at(alloc, "at", fields)?;
+    let detector = number_at("detector", fields)?;
+    let from = number_at("from", fields)?;
+    let to = number_at("to", fields)?;
+    Ok(Command::Count {
+        at,
+        detector,
+        from,
+        to,
+    })
+}
+
+/// The `diagram` of these fields.
+#[tactic(auto, unfolding(crate::specs::CommandGrammar::diagram_in))]
+fn diagram_in(alloc: Global, fields: &Value) -> Result<Command, Unread>
+    ensures { Reads command_view result (grammar.diagram_in (view fields.now)) }
+{
+    exactly(3, fields)?;
+    let at = name_at(alloc, "at", fields)?;
+    let from = number_at("from", fields)?;
+    let to = number_at("to", fields)?;
+    Ok(Command::Diagram { at, from, to })
 }
 
 /// The `scenario` of these fields.

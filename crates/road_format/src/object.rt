@@ -70,6 +70,9 @@ fn object_of(kind: &str, index: u32) -> Option<Object>
     match kind {
         "limit" => Some(Object::Limit(index)),
         "slow" => Some(Object::Slow(index)),
+        "block" => Some(Object::Block(index)),
+        "inflow" => Some(Object::Inflow(index)),
+        "watch" => Some(Object::Watch(index)),
         _ => None,
     }
 }

@@ -30,7 +30,7 @@ pub enum Refusal {
     NotACommand,
     /// No replica has this name.
     NoReplica,
-    /// The plan has no such zone.
+    /// The plan has no such object.
     NoObject,
     /// The step at which an edit acts is too great.
     Step,
@@ -40,6 +40,10 @@ pub enum Refusal {
     CountsSpent,
     /// The horizon asked for is too great.
     Horizon,
+    /// The plan has no such detector.
+    NoDetector,
+    /// The first step asked for is above the last, or the rows asked for are too many.
+    Range,
     /// The step asked for is above the replica's horizon.
     NotSimulated,
 }
@@ -68,6 +72,8 @@ impl Refusal {
             Refusal::ValueOutOfRange => "ValueOutOfRange",
             Refusal::CountsSpent => "CountsSpent",
             Refusal::Horizon => "Horizon",
+            Refusal::NoDetector => "NoDetector",
+            Refusal::Range => "Range",
             Refusal::NotSimulated => "NotSimulated",
         }
     }

@@ -1,12 +1,14 @@
 //! What is written for an answer.
 
 ghost use Rattle.std.specs.Prelude.{◌≡◌, IfOk, string_bytes, map};
+ghost use Rattle.serde_json.specs.Data.{string};
 ghost use Rattle.serde_json.specs.View.{view};
-ghost use Rattle.road_format.specs.Replies.{listed, edit_data, data_of, reply};
-ghost use Rattle.road_format.specs.Views.{answer_view};
+ghost use Rattle.road_format.specs.Replies.{listed, car_data, edit_data, data_of, reply};
+ghost use Rattle.road_format.specs.Views.{texts, car_view, answer_view};
 
 use crate::answer::Answer;
 use crate::object::{index_of, kind_of};
+use road_cells::Car;
 use road_plan::OutOfMemory;
 use road_scenario::{Edit, Value as Put};
 use serde_json::{Value, json};
@@ -30,12 +32,50 @@ fn value_of(alloc: Global, answer: &Answer) -> Result<Value, OutOfMemory>
         Answer::Refused(refusal) => json!(in alloc; {"refused": refusal.text()}),
         Answer::Horizon(horizon) => json!(in alloc; {"horizon": *horizon}),
         Answer::Cells(row) => json!(in alloc; {"cells": row.as_str()}),
+        Answer::Cars(cars) => {
+            let cars = car_values(alloc, cars.as_slice())?;
+            json!(in alloc; {"cars": cars})
+        }
+        Answer::Counted { cars, speeds } => json!(in alloc; {"cars": *cars, "speeds": *speeds}),
+        Answer::Rows(rows) => {
+            let rows = row_values(alloc, rows.as_slice())?;
+            json!(in alloc; {"rows": rows})
+        }
         Answer::Stamped(stamp) => json!(in alloc; {"stamp": [stamp.count, stamp.number]}),
         Answer::Edits(edits) => {
             let edits = edit_values(alloc, edits.as_slice())?;
             json!(in alloc; {"edits": edits, "form": 1u32})
         }
     }
+}
+
+/// The JSON list of these cars.
+fn car_values(alloc: Global, cars: &[Car]) -> Result<Value, OutOfMemory>
+    ensures { IfOk result (λ value. view value ≡ listed (map car_data (map car_view cars.now))) }
+{
+    let mut values = Vec::new(alloc);
+    for car in cars {
+        values.push(car_value(alloc, *car)?)?;
+    }
+    Ok(Value::Array(values))
+}
+
+/// The JSON value of a car: number, cell, speed.
+fn car_value(alloc: Global, car: Car) -> Result<Value, OutOfMemory>
+    ensures { IfOk result (λ value. view value ≡ car_data (car_view car)) }
+{
+    json!(in alloc; [car.number, car.cell, car.speed])
+}
+
+/// The JSON list of these rows of cells.
+fn row_values(alloc: Global, rows: &[String]) -> Result<Value, OutOfMemory>
+    ensures { IfOk result (λ value. view value ≡ listed (map string (texts rows.now))) }
+{
+    let mut values = Vec::new(alloc);
+    for row in rows {
+        values.push(json!(in alloc; row.as_str())?)?;
+    }
+    Ok(Value::Array(values))
 }
 
 /// The JSON list of these edits.
@@ -58,6 +98,7 @@ fn edit_value(alloc: Global, edit: Edit) -> Result<Value, OutOfMemory>
     let stamp = edit.stamp;
     match edit.value {
         Put::Put(n) => json!(in alloc; [kind, index, edit.step, stamp.count, stamp.number, n]),
-        Put::Withdrawn => json!(in alloc; [kind, index, edit.step, stamp.count, stamp.number, null]),
+        Put::Withdrawn =>
+            json!(in alloc; [kind, index, edit.step, stamp.count, stamp.number, null]),
     }
 }

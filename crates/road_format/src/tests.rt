@@ -1,4 +1,5 @@
 use super::*;
+use road_cells::Car;
 use road_plan::{Object, PlanFault, WordKind};
 use std::alloc::Global;
 use std::test::Fail;
@@ -195,6 +196,68 @@ fn reads_edits(rt: HostRuntime) -> Result<(), Fail> {
 }
 
 #[test]
+fn reads_kinds_of_objects(rt: HostRuntime) -> Result<(), Fail> {
+    for (kind, want) in [
+        ("limit", Object::Limit(2)),
+        ("slow", Object::Slow(2)),
+        ("block", Object::Block(2)),
+        ("inflow", Object::Inflow(2)),
+        ("watch", Object::Watch(2)),
+    ] {
+        let mut line = String::new(rt.alloc());
+        write!(
+            line,
+            "{{\"withdraw\":{{\"at\":\"A\",\"object\":[\"{kind}\",2],\"step\":0}}}}"
+        )?;
+        match read_command(rt.alloc(), line.as_bytes())? {
+            Command::Withdraw { object, .. } => assert_eq!(rt; object, want),
+            _ => assert!(rt; false, "{kind}"),
+        }
+    }
+    Ok(())
+}
+
+#[test]
+fn reads_questions(rt: HostRuntime) -> Result<(), Fail> {
+    match read_command(rt.alloc(), b"{\"cars\":{\"at\":\"A\",\"step\":6}}")? {
+        Command::Cars { at, step } => {
+            assert_eq!(rt; at.as_str(), "A");
+            assert_eq!(rt; step, 6);
+        }
+        _ => assert!(rt; false),
+    }
+    match read_command(
+        rt.alloc(),
+        b"{\"count\":{\"to\":6,\"at\":\"A\",\"detector\":2,\"from\":4294967295}}",
+    )? {
+        Command::Count {
+            at,
+            detector,
+            from,
+            to,
+        } => {
+            assert_eq!(rt; at.as_str(), "A");
+            assert_eq!(rt; detector, 2);
+            assert_eq!(rt; from, u32::MAX);
+            assert_eq!(rt; to, 6);
+        }
+        _ => assert!(rt; false),
+    }
+    match read_command(
+        rt.alloc(),
+        b"{\"diagram\":{\"at\":\"B\",\"from\":0,\"to\":60}}",
+    )? {
+        Command::Diagram { at, from, to } => {
+            assert_eq!(rt; at.as_str(), "B");
+            assert_eq!(rt; from, 0);
+            assert_eq!(rt; to, 60);
+        }
+        _ => assert!(rt; false),
+    }
+    Ok(())
+}
+
+#[test]
 fn refuses_what_is_no_json(rt: HostRuntime) -> Result<(), Fail> {
     let lines: [&[u8]; 9] = [
         b"",
@@ -252,7 +315,16 @@ fn refuses_what_is_no_command(rt: HostRuntime) -> Result<(), Fail> {
         "{\"edit\":{\"at\":\"A\",\"object\":[\"limit\",0,0],\"step\":3,\"value\":1}}",
         "{\"edit\":{\"at\":\"A\",\"object\":[\"limit\",0],\"step\":4294967296,\"value\":1}}",
         "{\"withdraw\":{\"at\":\"A\",\"object\":[\"limit\",0],\"step\":3,\"value\":1}}",
+        "{\"edit\":{\"at\":\"A\",\"object\":[\"Block\",0],\"step\":3,\"value\":1}}",
         "{\"scenario\":{\"at\":\"A\",\"step\":0}}",
+        "{\"cars\":{\"at\":\"A\"}}",
+        "{\"cars\":{\"at\":\"A\",\"from\":0,\"to\":6}}",
+        "{\"count\":{\"at\":\"A\",\"from\":0,\"to\":6}}",
+        "{\"count\":{\"at\":\"A\",\"detector\":-1,\"from\":0,\"to\":6}}",
+        "{\"count\":{\"at\":\"A\",\"detector\":0,\"from\":0,\"to\":4294967296}}",
+        "{\"diagram\":{\"at\":\"A\",\"from\":0}}",
+        "{\"diagram\":{\"at\":\"A\",\"from\":0,\"to\":6.0}}",
+        "{\"diagram\":{\"at\":\"A\",\"from\":0,\"step\":1,\"to\":6}}",
     ] {
         let fault = read_command(rt.alloc(), line.as_bytes()).err();
         assert_eq!(rt; fault, Some(LineFault::NotACommand), "{line}");
@@ -286,6 +358,44 @@ fn writes_replies(rt: HostRuntime) -> Result<(), Fail> {
 }
 
 #[test]
+fn writes_what_is_seen_of_the_road(rt: HostRuntime) -> Result<(), Fail> {
+    let mut cars = Vec::new(rt.alloc());
+    for (number, cell, speed) in [(0, 3, 1), (u64::MAX, 1_048_575, 9)] {
+        cars.push(Car {
+            number,
+            cell,
+            speed,
+        })?;
+    }
+    let mut rows = Vec::new(rt.alloc());
+    for row in ["0..2..10#...", "............"] {
+        rows.push(String::from_str(rt.alloc(), row)?)?;
+    }
+    for (answer, want) in [
+        (
+            Answer::Cars(cars),
+            "{\"cars\":[[0,3,1],[18446744073709551615,1048575,9]]}\n",
+        ),
+        (Answer::Cars(Vec::new(rt.alloc())), "{\"cars\":[]}\n"),
+        (
+            Answer::Counted {
+                cars: 65_536,
+                speeds: 589_824,
+            },
+            "{\"cars\":65536,\"speeds\":589824}\n",
+        ),
+        (
+            Answer::Rows(rows),
+            "{\"rows\":[\"0..2..10#...\",\"............\"]}\n",
+        ),
+        (Answer::Rows(Vec::new(rt.alloc())), "{\"rows\":[]}\n"),
+    ] {
+        assert_eq!(rt; reply_line(rt.alloc(), &answer)?.as_str(), want);
+    }
+    Ok(())
+}
+
+#[test]
 fn writes_refusals(rt: HostRuntime) -> Result<(), Fail> {
     for (refusal, want) in [
         (Refusal::NoPlan, "{\"refused\":\"no plan\"}\n"),
@@ -303,9 +413,14 @@ fn writes_refusals(rt: HostRuntime) -> Result<(), Fail> {
         (Refusal::NoReplica, "{\"refused\":\"NoReplica\"}\n"),
         (Refusal::NoObject, "{\"refused\":\"NoObject\"}\n"),
         (Refusal::Step, "{\"refused\":\"Step\"}\n"),
-        (Refusal::ValueOutOfRange, "{\"refused\":\"ValueOutOfRange\"}\n"),
+        (
+            Refusal::ValueOutOfRange,
+            "{\"refused\":\"ValueOutOfRange\"}\n",
+        ),
         (Refusal::CountsSpent, "{\"refused\":\"CountsSpent\"}\n"),
         (Refusal::Horizon, "{\"refused\":\"Horizon\"}\n"),
+        (Refusal::NoDetector, "{\"refused\":\"NoDetector\"}\n"),
+        (Refusal::Range, "{\"refused\":\"Range\"}\n"),
         (Refusal::NotSimulated, "{\"refused\":\"NotSimulated\"}\n"),
     ] {
         assert_eq!(rt;
