@@ -31,7 +31,10 @@ fn value_of(alloc: Global, answer: &Answer) -> Result<Value, OutOfMemory>
         Answer::Open { replicas } => json!(in alloc; {"open": *replicas}),
         Answer::Refused(refusal) => json!(in alloc; {"refused": refusal.text()}),
         Answer::Horizon(horizon) => json!(in alloc; {"horizon": *horizon}),
-        Answer::Cells(row) => json!(in alloc; {"cells": row.as_str()}),
+        Answer::Cells(row) => {
+            let row = row_value(alloc, row.as_str())?;
+            json!(in alloc; {"cells": row})
+        }
         Answer::Cars(cars) => {
             let cars = car_values(alloc, cars.as_slice())?;
             json!(in alloc; {"cars": cars})
@@ -73,9 +76,16 @@ fn row_values(alloc: Global, rows: &[String]) -> Result<Value, OutOfMemory>
 {
     let mut values = Vec::new(alloc);
     for row in rows {
-        values.push(json!(in alloc; row.as_str())?)?;
+        values.push(row_value(alloc, row.as_str())?)?;
     }
     Ok(Value::Array(values))
+}
+
+/// The JSON value of a row of cells: its text.
+fn row_value(alloc: Global, row: &str) -> Result<Value, OutOfMemory>
+    ensures { IfOk result (λ value. view value ≡ string row.now) }
+{
+    json!(in alloc; row)
 }
 
 /// The JSON list of these edits.
