@@ -2,10 +2,10 @@
 use Rattle.std.specs.Prelude.{ℕ, List, codes, if◌then◌else◌, Option, Some, None}
 use Rattle.std.specs.Str.{bytes_eq}
 use Rattle.serde_json.specs.Data.{Data, Items, no_items, item}
-use Rattle.serde_json.specs.Find.{as_str, as_array}
+use Rattle.serde_json.specs.Find.{as_str}
 use Rattle.road_plan.specs.declared.object.Object.{Object}
 use Rattle.road_plan.specs.declared.object.Object.TheVariants.{Limit, Slow, Block, Inflow, Watch}
-use Rattle.road_format.specs.Fields.{◌>>=◌, number_in, number_at, items_at}
+use Rattle.road_format.specs.Fields.{◌>>=◌, number_in, items_at}
 
 -- the name of an object's kind
 abbrev pub kind_of : Object → List ℕ
