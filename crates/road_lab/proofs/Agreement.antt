@@ -116,7 +116,7 @@ cars_agrees kept real n plan step None a below = refl
 cars_agrees kept real n plan step (Some r) a below =
     let is = a r (below r refl) in
     ap (λ (h : ℕ). if nat_lt h step then Refused refusals.NotSimulated else replies.Cars (cars_at plan (kept r).edits step)) (ap (λ (x : Replica). x.horizon) is)
-    ∙ read_agrees (λ course. if nat_lt (real r).horizon step then Refused refusals.NotSimulated else replies.Cars (map (λ car. (car.number, (car.cell, car.speed))) (cars_of (run plan course step)))) plan (kept r) (real r) is
+    ∙ read_agrees (λ course. if nat_lt (real r).horizon step then Refused refusals.NotSimulated else replies.Cars (map (λ car. (car.number, car.cell, car.speed)) (cars_of (run plan course step)))) plan (kept r) (real r) is
 
 count_agrees : (kept real : ℕ → Replica) (n : ℕ) (plan : Plan) (detector from to : ℕ) (place : Option ℕ) → Alike kept real n → ((r : ℕ) → place ≡ Some r → r < n) → count_answer kept plan detector from to place ≡ count_answer real plan detector from to place
 count_agrees kept real n plan detector from to None a below = refl

@@ -1,10 +1,10 @@
 -- The replicas that are kept, one of them read or changed.
-use Rattle.std.proofs.Common.{◌≡◌, ◌<◌, ◌≤◌, ◌+◌, ℕ, List, [], ◌∷◌, ◌++◌, length, map, max, Bool, false, Option, Some, None, refl, ap, sym, subst, ◌∙◌, arith, String, Global, string_bytes}
+use Rattle.std.proofs.Common.{◌≡◌, ◌<◌, ◌≤◌, ◌+◌, ℕ, List, [], ◌∷◌, ◌++◌, length, map, max, Bool, true, false, Option, Some, None, refl, ap, sym, subst, ◌∙◌, arith, String, Global, string_bytes}
 use Rattle.std.specs.Prelude.{slice_set, nat_lt, replicate}
 use Rattle.std.specs.List.{All, slice_index_or, position}
 use Rattle.std.specs.Str.{bytes_eq}
 use Rattle.std.proofs.lemmas.Bool.{le-ltb}
-use Rattle.std.proofs.lemmas.List.{get_or-map, map-set, map-append, length-set, length-map, length-replicate, replicate_more}
+use Rattle.std.proofs.lemmas.List.{get_or_default, get_or-map, map-set, map-append, length-set, length-map, length-replicate, replicate_more}
 use Rattle.std.proofs.lemmas.List.Elements.{All-get_or, All-set}
 use Rattle.std.proofs.Math.Seq.{map-set_same}
 use Rattle.lattice_core.specs.Sets.{empty, items, from_list}
@@ -20,10 +20,11 @@ use Rattle.road_scenario.specs.declared.edit.Edit.{Edit}
 use Rattle.road_format.specs.PlanGrammar.{PlanLine}
 use Rattle.road_format.specs.Replies as replies
 use Rattle.road_format.specs.Views.{texts}
+use Rattle.road_detector.specs.declared.counts.Totals.{Totals}
 use Rattle.road_lab.specs.Keeping.{seen, IsOfRun, IsKept}
 use Rattle.road_lab.specs.Kept.{Kept, kept_replica, kept_event}
 use Rattle.road_lab.specs.Laboratory as laboratory
-use Rattle.road_lab.specs.Laboratory.{Made, Advanced, opening, replica_of, advance_event, row_at, scenario_answer}
+use Rattle.road_lab.specs.Laboratory.{Made, Advanced, opening, replica_of, advance_event, row_at, counted_as, total_at, count_answer, scenario_answer}
 use Rattle.road_lab.specs.Simulation.{run_at}
 use Rattle.road_lab.specs.declared.keeper.Replica.{Replica}
 
@@ -42,6 +43,10 @@ row_same plan names xs k r step x v is below =
 
 pub of_run_at : (plan : Plan) (names : List (List ℕ)) (xs : List Replica) (r : ℕ) (x : Replica) → IsKept plan names xs → x ≡ slice_index_or xs r x → r < length xs → IsOfRun plan x
 of_run_at plan names xs r x kept is below = subst (IsOfRun plan) (sym is) (All-get_or (IsOfRun plan) xs r x below kept.of_run)
+
+-- one that is read twice is the same
+pub both_read : (xs : List Replica) (r : ℕ) (x y : Replica) → x ≡ slice_index_or xs r x → y ≡ slice_index_or xs r y → r < length xs → x ≡ y
+both_read xs r x y here there below = here ∙ get_or_default xs r x y below ∙ sym there
 
 -- ---- one is changed
 
@@ -178,3 +183,12 @@ scenario_after plan names xs k r x name edits v kept is found below lists =
 pub few_texts : (names : List (List ℕ)) (line : List (String Global)) → names ≡ texts line → length line ≤ MOST_REPLICAS → length names ≤ MOST_REPLICAS
 few_texts names line are few =
     let same : length names ≡ length line = ap (λ (ns : List (List ℕ)). length ns) are ∙ length-map line string_bytes in omega (arith, same, few)
+
+pub count_after : (plan : Plan) (names : List (List ℕ)) (xs : List Replica) (k : Kept) (r d a b : ℕ) (x : Replica) (name : List ℕ) (totals : Totals) → viewed plan names xs ≡ k → IsKept plan names xs → x ≡ slice_index_or xs r x
+    → Some r ≡ position (bytes_eq name) names → r < length names → nat_lt d (length k.line.plan.detectors) ≡ true → a ≤ b → b ≤ x.horizon → totals ≡ total_at k.line.plan (kept_replica k r).edits d a b
+    → replies.Counted totals.cars totals.speeds ≡ count_answer (kept_replica k) k.line.plan d a b (replica_of k.line name)
+count_after plan names xs k r d a b x name totals v kept is found below there order early counts =
+    let here = at plan names xs k r x v is (named_below plan names xs r kept below) in
+    let horizon = ap (λ (q : laboratory.Replica). q.horizon) here in
+    let late : nat_lt (kept_replica k r).horizon b ≡ false = le-ltb (kept_replica k r).horizon b (omega (arith, early, horizon)) in
+    rw (found_in plan names xs k r name v found, there, le-ltb b a order, late) (ap counted_as counts)

@@ -145,7 +145,7 @@ cells_answer replica plan step (Some r) =
 
 -- the cars of a step of the run: number, cell, speed, in rising cells
 abbrev pub cars_at : Plan → Edits → ℕ → List (ℕ × ℕ × ℕ)
-cars_at plan edits step = map (λ car. (car.number, (car.cell, car.speed))) (cars_of (run plan (settings_of plan edits) step))
+cars_at plan edits step = map (λ car. (car.number, car.cell, car.speed)) (cars_of (run plan (settings_of plan edits) step))
 
 -- `cars` answers the cars of a step up to the horizon
 abbrev pub cars_answer : (ℕ → Replica) → Plan → ℕ → Option ℕ → Answer

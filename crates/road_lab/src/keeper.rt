@@ -1,6 +1,6 @@
 //! The replicas, and what they answer.
 
-ghost use Rattle.std.specs.Prelude.{◌≡◌, ◌<◌, ◌≤◌, IfOk, OnOk, OnErr, length, map, replicate, true, Some, None, string_bytes};
+ghost use Rattle.std.specs.Prelude.{◌≡◌, ◌<◌, ◌≤◌, IfOk, OnOk, OnErr, nat_lt, length, map, replicate, true, Some, None, string_bytes};
 ghost use Rattle.std.specs.List.{All};
 ghost use Rattle.road_format.specs.PlanGrammar.{all_differ};
 ghost use Rattle.road_format.specs.Views.{texts, car_view, plan_line_view, command_view, answer_view};
@@ -282,7 +282,7 @@ impl Keeper {
         let Some(replica) = self.names.number_of(at) else {
             return Ok(Answer::Refused(Refusal::NoReplica));
         };
-        if detector as usize >= self.plan.detectors().len() {
+        if !self.has_detector(detector) {
             return Ok(Answer::Refused(Refusal::NoDetector));
         }
         if from > to {
@@ -296,6 +296,13 @@ impl Keeper {
             cars: totals.cars,
             speeds: totals.speeds,
         })
+    }
+
+    // Whether the plan has a detector of this number.
+    fn has_detector(&self, detector: u32) -> bool
+        ensures { result ≡ nat_lt detector (length self.now.line.plan.detectors) }
+    {
+        (detector as usize) < self.plan.detectors().len()
     }
 
     // What a detector of a replica's road counts in the steps from one up to another; the state after them is kept.
