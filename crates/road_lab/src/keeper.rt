@@ -250,12 +250,7 @@ impl Keeper {
     }
 
     // The cars of a replica's road at a step, whose state is kept.
-    fn cars_at(
-        &mut self,
-        alloc: Global,
-        replica: usize,
-        step: u32,
-    ) -> Result<Vec<Car>, OutOfMemory>
+    fn cars_at(&mut self, alloc: Global, replica: usize, step: u32) -> Result<Vec<Car>, OutOfMemory>
         requires { replica < length self.old.line.names }
         ensures cars { IfOk result (λ cars. map car_view cars.items ≡ cars_at self.old.line.plan (kept_replica self.old replica).edits step) }
         ensures unchanged { self.new ≡ self.old }
@@ -323,7 +318,14 @@ impl Keeper {
     {
         let held = &self.replicas[replica];
         let first = state_at(alloc, &self.plan, &held.scenario, &held.last, from)?;
-        let (totals, state) = totals_between(alloc, &self.plan, &held.scenario, first, detector, to)?;
+        let (totals, state) = totals_between(
+            alloc,
+            &self.plan,
+            &held.scenario,
+            first,
+            detector,
+            to,
+        )?;
         self.replicas[replica].last = state;
         Ok(totals)
     }

@@ -171,6 +171,89 @@ fn edits_and_withdrawals(rt: HostRuntime) -> Result<(), Fail> {
     Ok(())
 }
 
+/// Closed cells, inflows and detectors, before and after the fact; cars, counts and diagrams.
+#[test]
+fn traffic(rt: HostRuntime) -> Result<(), Fail> {
+    let alloc = rt.alloc();
+    let scripts = [
+        (
+            r#"{"advance":{"at":"A","to":6}}
+{"cars":{"at":"A","step":6}}
+{"count":{"at":"A","detector":0,"from":0,"to":3}}
+{"count":{"at":"A","detector":0,"from":0,"to":6}}
+{"count":{"at":"A","detector":0,"from":2,"to":2}}
+{"count":{"at":"A","detector":0,"from":0,"to":7}}
+{"count":{"at":"A","detector":0,"from":3,"to":2}}
+{"count":{"at":"A","detector":1,"from":3,"to":2}}
+{"edit":{"at":"A","object":["watch",0],"step":2,"value":0}}
+{"count":{"at":"A","detector":0,"from":0,"to":6}}
+{"edit":{"at":"A","object":["watch",0],"step":4,"value":1}}
+{"count":{"at":"A","detector":0,"from":0,"to":6}}
+"#,
+            r#"{"horizon":6}
+{"cars":[[80,0,0],[48,3,2],[16,7,2]]}
+{"cars":1,"speeds":2}
+{"cars":2,"speeds":4}
+{"cars":0,"speeds":0}
+{"refused":"NotSimulated"}
+{"refused":"Range"}
+{"refused":"NoDetector"}
+{"stamp":[1,0]}
+{"cars":0,"speeds":0}
+{"stamp":[2,0]}
+{"cars":1,"speeds":2}
+"#,
+        ),
+        (
+            r#"{"advance":{"at":"A","to":6}}
+{"edit":{"at":"A","object":["block",8],"step":4,"value":1}}
+{"cells":{"at":"A","step":6}}
+{"diagram":{"at":"A","from":4,"to":6}}
+{"diagram":{"at":"A","from":5,"to":7}}
+{"diagram":{"at":"A","from":6,"to":5}}
+{"diagram":{"at":"A","from":0,"to":1024}}
+{"diagram":{"at":"A","from":0,"to":4294967295}}
+"#,
+            r#"{"horizon":6}
+{"stamp":[1,0]}
+{"cells":"0..2..10#..."}
+{"rows":["0..2...2#...",".1...2.0#...","0..2..10#..."]}
+{"refused":"NotSimulated"}
+{"refused":"Range"}
+{"refused":"Range"}
+{"refused":"Range"}
+"#,
+        ),
+        // A car stands on the cell that is closed.
+        (
+            r#"{"advance":{"at":"A","to":6}}
+{"edit":{"at":"A","object":["block",7],"step":4,"value":1}}
+{"diagram":{"at":"A","from":4,"to":6}}
+{"edit":{"at":"B","object":["inflow",0],"step":0,"value":0}}
+{"advance":{"at":"B","to":6}}
+{"cells":{"at":"B","step":6}}
+{"edit":{"at":"B","object":["block",12],"step":0,"value":1}}
+"#,
+            r#"{"horizon":6}
+{"stamp":[1,0]}
+{"rows":["0..2...2....",".1...2.#.2..","0..2..1#...."]}
+{"stamp":[1,1]}
+{"horizon":6}
+{"cells":"............"}
+{"refused":"NoObject"}
+"#,
+        ),
+    ];
+    for (commands, answers) in scripts {
+        let input = format!(in alloc; "{FREE_ROAD}{commands}")?;
+        let want = format!(in alloc; "{{\"open\":3}}\n{answers}")?;
+        let mut writer = sink(alloc);
+        serve(alloc, &mut source(&input), &mut writer)?;
+        assert!(rt; writer.bytes() == want.as_bytes());
+    }
+    Ok(())
+}
+
 #[test]
 fn limits_and_faults(rt: HostRuntime) -> Result<(), Fail> {
     let alloc = rt.alloc();
