@@ -7,7 +7,7 @@ use Rattle.std.proofs.Common.{sym, ap, subst, ◌∙◌, arith, inl, inr}
 use Rattle.std.proofs.lemmas.Bool.{cases_eq}
 use Rattle.std.proofs.lemmas.List.{get_or-set_same, get_or-set_other, ext_get_or, drop_more, get_or-replicate, length-replicate}
 use Rattle.road_cells.specs.Array.{Array, Vehicle, vehicle_at, numbers}
-use Rattle.road_cells.specs.Cars.{cars_of, vehicle_of, cell_at, RiseFrom, Rise, standing}
+use Rattle.road_cells.specs.Cars.{cars_of, cars_from, car_of, vehicle_of, cell_at, RiseFrom, Rise, standing}
 use Rattle.road_cells.specs.CarsLaws.{standing-other, standing-here, standing-below, standing-cars_from, rise-cars_from}
 use Rattle.road_cells.specs.CarsPlaces.{standing-at}
 use Rattle.road_cells.specs.Gap.{is_blocked}
@@ -120,3 +120,11 @@ made blocks a empty blocked row cars n all is long marked longer drawn =
     drawn c (omega arith)
     ∙ ap (λ cars. with_car (standing c cars) (slice_index blocked c)) all
     ∙ ap (with_car (standing c (cars_of a))) (marked c (omega arith) ∙ ap (with_block (is_blocked blocks c)) (ap (λ xs. slice_index xs c) is ∙ get_or-replicate n c EMPTY 0 below)))
+
+-- the digits of the cars are those of the array
+pub from_cars : (k : ℕ) (places : Array) → HaveDigits (cars_from k places) → HasDigits places
+from_cars k [] digits c car here = let never : None ≡ Some car = here in cc
+from_cars k (None ∷ places) digits zero car here = let never : None ≡ Some car = here in cc
+from_cars k (None ∷ places) digits (suc c) car here = from_cars (k + 1) places digits c car here
+from_cars k (Some v ∷ places) digits zero car here = let same : v ≡ car = cc in subst (λ (v : Vehicle). v.speed ≤ GREATEST_SPEED) same (digits 0 (car_of k v) (omega arith))
+from_cars k (Some v ∷ places) digits (suc c) car here = from_cars (k + 1) places (λ i d below. digits (suc i) d (omega arith)) c car here

@@ -142,7 +142,7 @@ edit_plain : (e : Edit) → IsPlain (compact_text (edit_data e))
 edit_plain e =
     let fields : List Data = string (kind_of e.object) ∷ whole (index_of e.object) ∷ whole e.step ∷ whole e.stamp.count ∷ whole e.stamp.number ∷ value_data e.value ∷ [] in
     let all : AllPlain fields =
-        (quoted_plain (kind_of e.object), (decimal_plain (index_of e.object), (decimal_plain e.step, (decimal_plain e.stamp.count, (decimal_plain e.stamp.number, (value_plain e.value, tt)))))) in
+    (quoted_plain (kind_of e.object), (decimal_plain (index_of e.object), (decimal_plain e.step, (decimal_plain e.stamp.count, (decimal_plain e.stamp.number, (value_plain e.value, tt)))))) in
     listed_plain fields all
 
 edits_plain : (es : List Edit) → AllPlain (map edit_data es)

@@ -58,6 +58,7 @@ fn edit_value(alloc: Global, edit: Edit) -> Result<Value, OutOfMemory>
     let stamp = edit.stamp;
     match edit.value {
         Put::Put(n) => json!(in alloc; [kind, index, edit.step, stamp.count, stamp.number, n]),
-        Put::Withdrawn => json!(in alloc; [kind, index, edit.step, stamp.count, stamp.number, null]),
+        Put::Withdrawn =>
+            json!(in alloc; [kind, index, edit.step, stamp.count, stamp.number, null]),
     }
 }

@@ -303,7 +303,10 @@ fn writes_refusals(rt: HostRuntime) -> Result<(), Fail> {
         (Refusal::NoReplica, "{\"refused\":\"NoReplica\"}\n"),
         (Refusal::NoObject, "{\"refused\":\"NoObject\"}\n"),
         (Refusal::Step, "{\"refused\":\"Step\"}\n"),
-        (Refusal::ValueOutOfRange, "{\"refused\":\"ValueOutOfRange\"}\n"),
+        (
+            Refusal::ValueOutOfRange,
+            "{\"refused\":\"ValueOutOfRange\"}\n",
+        ),
         (Refusal::CountsSpent, "{\"refused\":\"CountsSpent\"}\n"),
         (Refusal::Horizon, "{\"refused\":\"Horizon\"}\n"),
         (Refusal::NotSimulated, "{\"refused\":\"NotSimulated\"}\n"),

@@ -126,11 +126,16 @@ fn lists(alloc: Global, scenario: &Scenario, edits: &[Edit]) -> Result<bool, Out
 }
 
 fn settings_at(
+    rt: &impl Abort,
     alloc: Global,
     scenario: &Scenario,
     plan: &Plan,
     step: u32,
 ) -> Result<Settings, OutOfMemory> {
+    match scenario.fits(plan) {
+        None => {}
+        Some(fault) => panic!(rt; "{fault}"),
+    }
     match scenario.settings_at(alloc, plan, step) {
         Ok(settings) => Ok(settings),
         Err(_) => scenario.settings_at(alloc, plan, step),
@@ -181,7 +186,7 @@ fn nothing_is_set_without_edits(rt: HostRuntime) -> Result<(), Fail> {
     assert_eq!(rt; none.greatest_count(), 0);
     assert_eq!(rt; none.fits(&road), None);
     assert_eq!(rt; none.touched(&none), None);
-    let own = settings_at(rt.alloc(), &none, &road, 0)?;
+    let own = settings_at(&rt, rt.alloc(), &none, &road, 0)?;
     assert!(rt;
         are(own.limits(), &[2]) && are(own.chances(), &[0]) && are(own.inflows(), &[65_536])
     );
@@ -277,7 +282,7 @@ fn limit_at(
     plan: &Plan,
     step: u32,
 ) -> Result<u32, OutOfMemory> {
-    let settings = settings_at(alloc, scenario, plan, step)?;
+    let settings = settings_at(rt, alloc, scenario, plan, step)?;
     let limit = settings.limits().first().copied().unwrap_or(0);
     if LIMIT.in_plan(plan) {
         assert_eq!(rt; scenario.setting(plan, LIMIT, step), limit, "step {step}");

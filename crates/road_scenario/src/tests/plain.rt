@@ -111,7 +111,7 @@ fn compare_settings(
             }
         }
         let at = |object| setting(plan, edits, object, step);
-        let all = settings_at(alloc, made, plan, step)?;
+        let all = settings_at(rt, alloc, made, plan, step)?;
         assert!(rt;
             are(all.limits(), &[at(Object::Limit(0)), at(Object::Limit(1))])
                 && are(all.chances(), &[at(Object::Slow(0)), at(Object::Slow(1))])
