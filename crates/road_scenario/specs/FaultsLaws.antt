@@ -1,14 +1,14 @@
 -- The first fault of a list of edits, and when there is none.
-use Rattle.std.specs.Prelude.{◌≡◌, ℕ, ◌≤◌, not, cond, ◌&&◌, Bool, true, false, List, [], ◌∷◌, ◌++◌, nat_le, refl, is_some, IsNone}
+use Rattle.std.specs.Prelude.{◌≡◌, not, cond, ◌&&◌, Bool, true, false, List, [], ◌∷◌, ◌++◌, nat_le, refl, is_some, IsNone}
 use Rattle.std.specs.declared.option.Option.{Option}
 use Rattle.std.specs.declared.option.Option.TheVariants.{None, Some}
 use Rattle.std.specs.List.{list_any}
 use Rattle.std.specs.Option.{option_or}
 use Rattle.std.specs.Ordering.{eq_by_cmp, is_eq}
 use Rattle.std.specs.Cmp.{Equal-is, tied_itself}
-use Rattle.std.proofs.Common.{sym, ap, subst, ◌∙◌, inl, inr}
+use Rattle.std.proofs.Common.{sym, ap, ◌∙◌, inl, inr}
 use Rattle.std.proofs.lemmas.Bool.{true≢false, or_cases, or_left, or_right, and_parts, and_from, leb-true, le-leb}
-use Rattle.lattice_core.specs.Sets.{contains, items, contains-items}
+use Rattle.lattice_core.specs.Sets.{items, contains-items}
 use Rattle.road_plan.specs.Plan.{Plan}
 use Rattle.road_plan.specs.Objects.{in_plan}
 use Rattle.road_plan.specs.declared.limits.TheConstants.{LAST_EDIT_STEP, GREATEST_COUNT}
