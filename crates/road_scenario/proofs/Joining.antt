@@ -1,5 +1,5 @@
 -- Joining a scenario's maps joins the sets of edits that they hold.
-use Rattle.std.specs.Prelude.{◌≡◌, ℕ, Bool, true, false, cond, ◌&&◌, ◌||◌, T, List, [], ◌∷◌, ◌++◌, refl}
+use Rattle.std.specs.Prelude.{◌≡◌, ℕ, Bool, true, false, cond, ◌&&◌, ◌||◌, List, [], ◌∷◌, ◌++◌, refl}
 use Rattle.std.specs.declared.cmp.Ordering.{Ordering}
 use Rattle.std.specs.declared.cmp.Ordering.TheVariants.{Less, Equal, Greater}
 use Rattle.std.specs.Ordering.{nat_cmp, ordering_then, ordering_reverse, eq_by_cmp, is_eq, is_lt}
@@ -7,15 +7,14 @@ use Rattle.std.specs.Cmp.{IsTotalOrder, Equal-is, tied_itself, on_total, nat_cmp
 use Rattle.std.specs.List.{list_any}
 use Rattle.std.proofs.Common.{sym, ap, subst, ◌∙◌, inl, inr}
 use Rattle.std.proofs.lemmas.Bool.{true≢false, or_cases, or_left, and_from}
-use Rattle.lattice_core.specs.declared.greatest.Greatest.{Greatest}
 use Rattle.lattice_core.specs.declared.greatest.Greatest.TheVariants.{Nothing, Of}
 use Rattle.lattice_core.specs.Exact.{IsExact, exact_nat, exact_pair}
 use Rattle.lattice_core.specs.Fold.{fold_join, IsJoin, fold-joined_in, fold-map_join}
 use Rattle.lattice_core.specs.Greatest.{is_nothing, greatest_join, greatest_laws}
 use Rattle.lattice_core.specs.Lattice.{LatticeLaws}
-use Rattle.lattice_core.specs.Map.{IsHeld, IsProperMap, joined_in, map_join, is_empty}
+use Rattle.lattice_core.specs.Map.{IsHeld, joined_in, map_join, is_empty}
 use Rattle.lattice_core.specs.MapLaws.{map_laws, proper-map_join, proper-joined_in}
-use Rattle.lattice_core.specs.Sets.{empty, insert, union, retain, contains, items, from_list, from_list-empty, contains-empty, contains-from_list, contains-items, contains-retain, contains-union, same_set}
+use Rattle.lattice_core.specs.Sets.{empty, union, retain, contains, items, from_list, from_list-empty, contains-empty, contains-from_list, contains-items, contains-retain, contains-union, same_set}
 use Rattle.road_plan.specs.Objects.{order_key}
 use Rattle.road_plan.specs.ObjectOrder.{ordered, object_exact}
 use Rattle.road_plan.specs.declared.object.Object.{Object}
@@ -24,7 +23,7 @@ use Rattle.road_scenario.specs.declared.edit.Value.{Value}
 use Rattle.road_scenario.specs.declared.edit.Edit.{Edit}
 use Rattle.road_scenario.specs.contracts.edit.ValueOrd.TheImpl as derived_value
 use Rattle.road_scenario.specs.contracts.edit.StampOrd.TheImpl as derived_stamp
-use Rattle.road_scenario.specs.Edits.{Edits, Rank, edit_cmp, exceeds, place, rank, two_cmp, three_cmp, stamp_key, value_key}
+use Rattle.road_scenario.specs.Edits.{Edits, Rank, edit_cmp, exceeds, place, two_cmp, three_cmp, stamp_key, value_key}
 use Rattle.road_scenario.specs.EditOrder.{edit_total, edit_exact, exceeds_strict, winners_laws, two_total, three_total, ordered_values, stamp_exact, value_exact}
 use Rattle.road_scenario.specs.Winners.{winners, join}
 use Rattle.road_scenario.specs.Kept.{Won, Steps, Maps, edit_with, before, listed_at, listed, kept}

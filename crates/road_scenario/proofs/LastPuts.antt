@@ -1,5 +1,5 @@
 -- The number in force for an object is the last one put in its steps.
-use Rattle.std.specs.Prelude.{◌≡◌, ℕ, ◌<◌, Bool, true, false, not, cond, ◌&&◌, ◌||◌, T, List, [], ◌∷◌, ◌++◌, nat_le, nat_lt, is_some, refl}
+use Rattle.std.specs.Prelude.{◌≡◌, ℕ, ◌<◌, Bool, true, false, cond, ◌&&◌, ◌||◌, T, List, [], ◌∷◌, ◌++◌, nat_le, nat_lt, is_some, refl}
 use Rattle.std.specs.declared.cmp.Ordering.{Ordering}
 use Rattle.std.specs.declared.cmp.Ordering.TheVariants.{Less, Equal, Greater}
 use Rattle.std.specs.declared.option.Option.{Option}
@@ -9,13 +9,11 @@ use Rattle.std.specs.Option.{option_or, unwrap_or}
 use Rattle.std.specs.Ordering.{nat_cmp, ordering_reverse, eq_by_cmp, is_eq, is_lt}
 use Rattle.std.specs.Cmp.{tied_itself, Equal-is}
 use Rattle.std.specs.FinMap.Entries.{find, below_all, is_sorted}
-use Rattle.std.proofs.Common.{arith, sym, ap, subst, ◌∙◌, inl, inr}
+use Rattle.std.proofs.Common.{arith, sym, ap, subst, ◌∙◌}
 use Rattle.std.proofs.lemmas.Bool.{true≢false}
 use Rattle.std.proofs.lemmas.Bool.Decides.{nat_tests}
 use Rattle.lattice_core.specs.declared.greatest.Greatest.TheVariants.{Nothing, Of}
-use Rattle.lattice_core.specs.Map.{EachEntry, IsHeld, is_empty}
-use Rattle.road_plan.specs.Plan.{Plan}
-use Rattle.road_plan.specs.Objects.{order_key, by_kind_and_index, default}
+use Rattle.road_plan.specs.Objects.{order_key, by_kind_and_index}
 use Rattle.road_plan.specs.ObjectOrder.{ordered}
 use Rattle.road_plan.specs.declared.object.Object.{Object}
 use Rattle.road_scenario.specs.declared.edit.Stamp.{Stamp}
@@ -24,9 +22,9 @@ use Rattle.road_scenario.specs.declared.edit.Edit.{Edit}
 use Rattle.road_scenario.specs.Edits.{number_put, two_cmp}
 use Rattle.road_scenario.specs.EditOrder.{two_total}
 use Rattle.road_scenario.specs.Kept.{Won, Steps, Maps, edit_with, before, listed_at, listed}
-use Rattle.road_scenario.specs.Settings.{puts, latest, number_of, setting_in}
+use Rattle.road_scenario.specs.Settings.{puts, latest, number_of}
 use Rattle.road_scenario.specs.Walks.{won_number, put_by, last_put, steps_of}
-use Rattle.road_scenario.proofs.Rising.{object_cmp, IsSteps, AreMaps, left, right, is_less}
+use Rattle.road_scenario.proofs.Rising.{object_cmp, left, right, is_less}
 
 -- whether two objects are the same
 abbrev pub is_one : Object → Object → Bool

@@ -1,6 +1,5 @@
 -- The settings that a list of winners gives don't depend on its order.
-use Rattle.std.specs.Prelude.{◌≡◌, ℕ, ◌≤◌, Bool, true, false, cond, ◌&&◌, ◌||◌, List, [], ◌∷◌, nat_le, nat_lt, is_some, refl}
-use Rattle.std.specs.declared.option.Option.{Option}
+use Rattle.std.specs.Prelude.{◌≡◌, ℕ, ◌≤◌, Bool, true, false, cond, List, [], ◌∷◌, nat_lt, refl}
 use Rattle.std.specs.declared.option.Option.TheVariants.{None, Some}
 use Rattle.std.specs.List.{list_any, filter, best_of}
 use Rattle.std.specs.Option.{unwrap_or}
@@ -14,7 +13,7 @@ use Rattle.road_plan.specs.Plan.{Plan}
 use Rattle.road_plan.specs.Objects.{order_key, default}
 use Rattle.road_plan.specs.declared.object.Object.{Object}
 use Rattle.road_scenario.specs.declared.edit.Edit.{Edit}
-use Rattle.road_scenario.specs.Edits.{Edits, edit_cmp, place, number_put}
+use Rattle.road_scenario.specs.Edits.{Edits, edit_cmp, place}
 use Rattle.road_scenario.specs.EditOrder.{edit_total, edit_exact}
 use Rattle.road_scenario.specs.Settings.{puts, latest, number_of, setting_in, settings_in, settings_of, all_settings}
 use Rattle.road_scenario.specs.Winners.{winners, winners_in}

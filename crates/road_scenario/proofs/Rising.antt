@@ -1,14 +1,13 @@
 -- What a scenario's maps hold, as one list: it rises by object and step, so each edit of it is a winner.
-use Rattle.std.specs.Prelude.{◌≡◌, ℕ, Bool, true, false, not, cond, ◌&&◌, ◌||◌, T, List, [], ◌∷◌, ◌++◌, map, refl}
+use Rattle.std.specs.Prelude.{◌≡◌, ℕ, Bool, true, false, not, ◌&&◌, ◌||◌, T, List, [], ◌∷◌, ◌++◌, refl}
 use Rattle.std.specs.declared.cmp.Ordering.{Ordering}
 use Rattle.std.specs.declared.cmp.Ordering.TheVariants.{Less, Equal, Greater}
 use Rattle.std.specs.Ordering.{nat_cmp, ordering_then, ordering_reverse, eq_by_cmp, is_eq, is_lt}
-use Rattle.std.specs.Cmp.{IsTotalOrder, Equal-is, tied_itself}
+use Rattle.std.specs.Cmp.{Equal-is, tied_itself}
 use Rattle.std.specs.FinMap.Entries.{below_all, is_sorted}
 use Rattle.std.specs.List.{list_any}
 use Rattle.std.proofs.Common.{sym, ap, subst, ◌∙◌, inl, inr}
-use Rattle.std.proofs.lemmas.Bool.{true≢false, or_cases, and_parts, and_from}
-use Rattle.lattice_core.specs.declared.greatest.Greatest.{Greatest}
+use Rattle.std.proofs.lemmas.Bool.{true≢false, or_cases}
 use Rattle.lattice_core.specs.declared.greatest.Greatest.TheVariants.{Nothing, Of}
 use Rattle.lattice_core.specs.Greatest.{is_nothing}
 use Rattle.lattice_core.specs.Map.{EachEntry, IsHeld, IsProperMap, is_empty}
@@ -23,7 +22,7 @@ use Rattle.road_scenario.specs.declared.edit.Edit.{Edit}
 use Rattle.road_scenario.specs.Edits.{Edits, edit_cmp, exceeds, place, rank, two_cmp, three_cmp}
 use Rattle.road_scenario.specs.EditOrder.{edit_total, edit_exact, exceeds_strict, two_total, three_total}
 use Rattle.road_scenario.specs.Winners.{winners}
-use Rattle.road_scenario.specs.Kept.{Won, Steps, Maps, edit_with, before, listed_at, listed, kept}
+use Rattle.road_scenario.specs.Kept.{Steps, Maps, edit_with, before, listed_at, listed, kept}
 
 abbrev pub object_cmp : Object → Object → Ordering
 object_cmp = derived.ghosts.cmp

@@ -1,5 +1,5 @@
 -- Maps that hold the same edits are the same.
-use Rattle.std.specs.Prelude.{◌≡◌, ℕ, Bool, true, false, cond, T, List, [], ◌∷◌, ◌++◌, map, refl}
+use Rattle.std.specs.Prelude.{◌≡◌, Bool, true, false, cond, T, List, [], ◌∷◌, ◌++◌, map, refl}
 use Rattle.std.specs.declared.option.Option.{Option}
 use Rattle.std.specs.declared.option.Option.TheVariants.{None, Some}
 use Rattle.std.specs.List.{filter}
@@ -13,8 +13,6 @@ use Rattle.lattice_core.specs.MapLaws.{good_at, same_maps}
 use Rattle.lattice_core.specs.Sets.{items}
 use Rattle.road_plan.specs.ObjectOrder.{object_exact}
 use Rattle.road_plan.specs.declared.object.Object.{Object}
-use Rattle.road_scenario.specs.declared.edit.Stamp.{Stamp}
-use Rattle.road_scenario.specs.declared.edit.Value.{Value}
 use Rattle.road_scenario.specs.declared.edit.Edit.{Edit}
 use Rattle.road_scenario.specs.JoinLaws.{has_none}
 use Rattle.road_scenario.specs.Kept.{Won, Steps, Maps, edit_with, before, listed_at, listed, kept}

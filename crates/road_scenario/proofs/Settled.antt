@@ -1,15 +1,15 @@
 -- The settings of what a scenario's maps hold.
-use Rattle.std.specs.Prelude.{◌≡◌, ℕ, true, false, List, [], ◌∷◌, ◌++◌, refl}
-use Rattle.std.specs.declared.option.Option.TheVariants.{None, Some}
+use Rattle.std.specs.Prelude.{◌≡◌, ℕ, true, false, [], ◌∷◌}
+use Rattle.std.specs.declared.option.Option.TheVariants.{None}
 use Rattle.std.specs.Option.{unwrap_or}
-use Rattle.std.proofs.Common.{sym, ap, subst, ◌∙◌}
+use Rattle.std.proofs.Common.{sym, ap, ◌∙◌}
 use Rattle.std.proofs.lemmas.Bool.{true≢false}
 use Rattle.lattice_core.specs.declared.greatest.Greatest.TheVariants.{Nothing, Of}
 use Rattle.lattice_core.specs.Greatest.{is_nothing}
 use Rattle.lattice_core.specs.Map.{EachEntry, IsHeld, is_empty}
 use Rattle.lattice_core.specs.Sets.{items}
 use Rattle.road_plan.specs.Plan.{Plan, IsWithinLimits}
-use Rattle.road_plan.specs.Settings.{Settings, Fits, defaults}
+use Rattle.road_plan.specs.Settings.{Fits, defaults}
 use Rattle.road_plan.specs.Objects.{in_plan, default}
 use Rattle.road_plan.specs.declared.object.Object.{Object}
 use Rattle.road_scenario.specs.Faults.{first_fault, fault_in}

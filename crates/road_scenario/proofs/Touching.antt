@@ -1,5 +1,5 @@
 -- The walks over two scenarios' maps find the first step at which they put different numbers.
-use Rattle.std.specs.Prelude.{◌≡◌, ℕ, zero, suc, ◌<◌, ◌==◌, min, not, Bool, true, false, cond, ◌&&◌, T, List, [], ◌∷◌, ◌++◌, map, refl}
+use Rattle.std.specs.Prelude.{◌≡◌, ℕ, ◌<◌, ◌==◌, min, not, Bool, true, false, cond, T, List, [], ◌∷◌, ◌++◌, map, refl}
 use Rattle.std.specs.declared.cmp.Ordering.{Ordering}
 use Rattle.std.specs.declared.cmp.Ordering.TheVariants.{Less, Equal, Greater}
 use Rattle.std.specs.declared.option.Option.{Option}
@@ -20,11 +20,11 @@ use Rattle.road_plan.specs.declared.object.Object.{Object}
 use Rattle.road_scenario.specs.declared.edit.Stamp.{Stamp}
 use Rattle.road_scenario.specs.declared.edit.Value.{Value}
 use Rattle.road_scenario.specs.declared.edit.Edit.{Edit}
-use Rattle.road_scenario.specs.Edits.{Place, place, place_of, is_at, edit_cmp, number_put, two_cmp, three_cmp}
+use Rattle.road_scenario.specs.Edits.{place, place_of, edit_cmp, number_put, two_cmp}
 use Rattle.road_scenario.specs.EditOrder.{edit_total, edit_exact, two_total, three_total}
 use Rattle.road_scenario.specs.Kept.{Won, Steps, Maps, edit_with, before, listed_at, listed, kept}
 use Rattle.road_scenario.specs.Touched.{put_in, same_number, differs, least, touched, touched_in}
-use Rattle.road_scenario.specs.Walks.{won_number, number_won, number_found, changed_at, changed, earlier, steps_of}
+use Rattle.road_scenario.specs.Walks.{number_won, number_found, changed_at, changed, earlier, steps_of}
 use Rattle.road_scenario.proofs.Rising.{object_cmp, place_cmp, IsSteps, AreMaps, left, right, is_less, rising_listed, below-each}
 use Rattle.road_scenario.proofs.LastPuts.{is_one, filter-append, other_above, steps_here, steps_there}
 use Rattle.road_scenario.proofs.Puts.{same}

@@ -5,8 +5,8 @@ use Rattle.std.specs.declared.cmp.Ordering.TheVariants.{Less, Equal, Greater}
 use Rattle.std.specs.List.{list_any, filter}
 use Rattle.std.specs.Ordering.{ordering_then, ordering_reverse, eq_by_cmp, is_eq, is_lt}
 use Rattle.std.specs.Cmp.{Equal-is, tied_itself}
-use Rattle.std.proofs.Common.{sym, ap, subst, ◌∙◌, inl, inr}
-use Rattle.std.proofs.lemmas.Bool.{true≢false, or_cases, or_left, or_right, and_from, cases_Bool}
+use Rattle.std.proofs.Common.{sym, ap, ◌∙◌}
+use Rattle.std.proofs.lemmas.Bool.{true≢false}
 use Rattle.lattice_core.specs.Sets.{contains, items, from_list, contains-from_list, contains-items, same_set}
 use Rattle.lattice_core.specs.Tops.{any_gives, any_by, contains-tops}
 use Rattle.road_scenario.specs.declared.edit.Edit.{Edit}

@@ -1,18 +1,18 @@
 -- A set of edits and its winners have the same greatest count.
-use Rattle.std.specs.Prelude.{◌≡◌, ℕ, ◌≤◌, max, Bool, true, false, not, ◌&&◌, List, [], ◌∷◌, map, ◌⊎◌, refl}
+use Rattle.std.specs.Prelude.{◌≡◌, ℕ, ◌≤◌, max, true, List, [], ◌∷◌, map, ◌⊎◌, refl}
 use Rattle.std.specs.declared.cmp.Ordering.{Ordering}
 use Rattle.std.specs.declared.cmp.Ordering.TheVariants.{Less, Equal, Greater}
 use Rattle.std.specs.List.{list_any, fold}
 use Rattle.std.specs.Ordering.{nat_cmp, ordering_then, eq_by_cmp, is_eq, is_lt}
 use Rattle.std.specs.Cmp.{Equal-is, tied_itself}
-use Rattle.std.proofs.Common.{arith, sym, ap, subst, ◌∙◌, inl, inr}
+use Rattle.std.proofs.Common.{arith, sym, ap, ◌∙◌, inl, inr}
 use Rattle.std.proofs.lemmas.Bool.{true≢false, or_cases, or_left, or_right, and_parts, and_from, not_from_false, cases_Bool}
 use Rattle.std.proofs.lemmas.Bool.Decides.{nat_tests}
 use Rattle.lattice_core.specs.Sets.{contains, items, contains-items}
 use Rattle.lattice_core.specs.Tops.{any_gives, contains-tops, top_above}
 use Rattle.road_scenario.specs.declared.edit.Edit.{Edit}
-use Rattle.road_scenario.specs.Counts.{greatest_count, greatest_count_in}
-use Rattle.road_scenario.specs.Edits.{Edits, edit_cmp, exceeds, place, rank, three_cmp, two_cmp, stamp_key, value_key}
+use Rattle.road_scenario.specs.Counts.{greatest_count}
+use Rattle.road_scenario.specs.Edits.{Edits, edit_cmp, exceeds, place, rank, three_cmp, value_key}
 use Rattle.road_scenario.specs.EditOrder.{edit_total, edit_exact, exceeds_strict, winners_laws}
 use Rattle.road_scenario.specs.Winners.{winners}
 

@@ -1,14 +1,14 @@
 -- The first fault of a list of edits, and when there is none.
-use Rattle.std.specs.Prelude.{◌≡◌, ℕ, ◌≤◌, not, cond, ◌&&◌, Bool, true, false, List, [], ◌∷◌, ◌++◌, nat_le, refl, is_some, IsNone}
+use Rattle.std.specs.Prelude.{◌≡◌, ℕ, not, cond, ◌&&◌, Bool, true, false, List, [], ◌∷◌, ◌++◌, nat_le, refl, is_some, IsNone}
 use Rattle.std.specs.declared.option.Option.{Option}
 use Rattle.std.specs.declared.option.Option.TheVariants.{None, Some}
 use Rattle.std.specs.List.{list_any}
 use Rattle.std.specs.Option.{option_or}
 use Rattle.std.specs.Ordering.{eq_by_cmp, is_eq}
 use Rattle.std.specs.Cmp.{Equal-is, tied_itself}
-use Rattle.std.proofs.Common.{sym, ap, subst, ◌∙◌, inl, inr}
+use Rattle.std.proofs.Common.{sym, ap, ◌∙◌, inl, inr}
 use Rattle.std.proofs.lemmas.Bool.{true≢false, or_cases, or_left, or_right, and_parts, and_from, leb-true, le-leb}
-use Rattle.lattice_core.specs.Sets.{contains, items, contains-items}
+use Rattle.lattice_core.specs.Sets.{items, contains-items}
 use Rattle.road_plan.specs.Plan.{Plan}
 use Rattle.road_plan.specs.Objects.{in_plan}
 use Rattle.road_plan.specs.declared.limits.TheConstants.{LAST_EDIT_STEP, GREATEST_COUNT}
@@ -19,7 +19,8 @@ use Rattle.road_scenario.specs.declared.faults.EditFault.TheVariants.{NoObject, 
 use Rattle.road_scenario.specs.Edits.{Edits, edit_cmp}
 use Rattle.road_scenario.specs.EditOrder.{edit_total, edit_exact}
 use Rattle.road_scenario.specs.Faults.{fault_of, first_fault, fault_in, takes, IsInRange, AreInRange}
-use Rattle.road_scenario.specs.Kept.{Steps, Maps, listed_at, listed}
+use Rattle.road_scenario.specs.Kept.{Won, Steps, Maps, edit_with, before, listed_at, listed}
+use Rattle.lattice_core.specs.declared.greatest.Greatest.TheVariants.{Nothing, Of}
 
 or-assoc : (x y z : Option EditFault) → option_or (option_or x y) z ≡ option_or x (option_or y z)
 or-assoc None y z = refl
@@ -96,3 +97,22 @@ all_in_range p s x is h e i = each_in_range p (items s) (sym is ∙ is_nothing x
 
 pub no_fault : (p : Plan) (s : Edits) (x : Option EditFault) → x ≡ fault_in p s → AreInRange p s → IsNone x
 no_fault p s x is h = ap is_some (is ∙ none_faulty p (items s) (λ e i. faultless p e (h e (contains-items s e ∙ i))))
+
+-- ---- the walk over an object's steps
+
+first-before : (p : Plan) (o : Object) (step : ℕ) (won : Won) (es : List Edit) → first_fault p (before o step won es) ≡ option_or (first_fault p (before o step won [])) (first_fault p es)
+first-before p o step Nothing es = refl
+first-before p o step (Of w) es = ap (λ x. option_or x (first_fault p es)) (or_nothing (fault_of p (edit_with o step w)))
+  where
+    or_nothing : (x : Option EditFault) → x ≡ option_or x None
+    or_nothing None = refl
+    or_nothing (Some f) = refl
+
+-- the first so far, and what is left, give the first of all
+pub first_turn : (p : Plan) (o : Object) (steps rest : Steps) (step : ℕ) (won : Won) (first found next whole : Option EditFault) → steps ≡ (step, won) ∷ rest → found ≡ first_fault p (before o step won []) → next ≡ option_or first found
+    → option_or first (first_fault p (listed_at o steps)) ≡ whole → option_or next (first_fault p (listed_at o rest)) ≡ whole
+first_turn p o steps rest step won first found next whole is here or h =
+    ap (λ x. option_or x (first_fault p (listed_at o rest))) (or ∙ ap (option_or first) here)
+    ∙ or-assoc first (first_fault p (before o step won [])) (first_fault p (listed_at o rest))
+    ∙ ap (option_or first) (sym (ap (λ x. first_fault p (listed_at o x)) is ∙ first-before p o step won (listed_at o rest)))
+    ∙ h

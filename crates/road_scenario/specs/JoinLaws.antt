@@ -1,9 +1,9 @@
 -- Sets of winners under `join` are a lattice whose bottom is the empty set.
-use Rattle.std.specs.Prelude.{◌≡◌, Bool, true, false, ◌||◌, List, [], ◌∷◌, refl}
+use Rattle.std.specs.Prelude.{◌≡◌, Bool, true, ◌||◌, List, [], ◌∷◌, refl}
 use Rattle.std.specs.List.{list_any}
 use Rattle.std.specs.Ordering.{eq_by_cmp, is_eq}
 use Rattle.std.specs.Cmp.{tied_itself}
-use Rattle.std.proofs.Common.{sym, ap, subst, ◌∙◌, inl, inr}
+use Rattle.std.proofs.Common.{sym, ap, ◌∙◌, inl, inr}
 use Rattle.std.proofs.lemmas.Bool.{true≢false, or_left, and_from, not_from_false, cases_Bool}
 use Rattle.lattice_core.specs.Lattice.{LatticeLaws}
 use Rattle.lattice_core.specs.Map.{is_empty}

@@ -1,11 +1,10 @@
 -- Edits in the plan and its ranges.
-use Rattle.std.specs.Prelude.{◌≡◌, ◌≤◌, ℕ, true, false, ◌&&◌, ◌||◌, List, [], ◌∷◌, refl, IsNone}
+use Rattle.std.specs.Prelude.{◌≡◌, ◌≤◌, ℕ, true, false, [], ◌∷◌, refl, IsNone}
 use Rattle.std.specs.declared.option.Option.{Option}
 use Rattle.std.specs.declared.option.Option.TheVariants.{None, Some}
-use Rattle.std.specs.List.{list_any}
-use Rattle.std.specs.Ordering.{eq_by_cmp, is_eq}
+use Rattle.std.specs.Ordering.{eq_by_cmp}
 use Rattle.std.specs.Cmp.{Equal-is}
-use Rattle.std.proofs.Common.{arith, sym, ap, subst, ◌∙◌, inl, inr}
+use Rattle.std.proofs.Common.{arith, sym, subst, ◌∙◌, inl, inr}
 use Rattle.std.proofs.lemmas.Bool.{true≢false, or_cases}
 use Rattle.lattice_core.specs.Sets.{empty, contains, items, union, from_list, contains-items, contains-empty, contains-from_list, contains-union}
 use Rattle.road_plan.specs.Plan.{Plan}
@@ -17,7 +16,7 @@ use Rattle.road_scenario.specs.EditOrder.{edit_total, edit_exact, winners_laws}
 use Rattle.road_scenario.specs.Edits.{Edits, edit_cmp}
 use Rattle.road_scenario.specs.Faults.{fault_of, fault_in, IsInRange, AreInRange}
 use Rattle.road_scenario.specs.FaultsLaws.{in_range, no_fault}
-use Rattle.road_scenario.specs.Winners.{winners, join}
+use Rattle.road_scenario.specs.Winners.{join}
 
 pub in_range-empty : (p : Plan) → AreInRange p empty
 in_range-empty p e i = absurd (true≢false (sym i ∙ contains-empty edit_cmp e))

@@ -1,5 +1,5 @@
 -- What the walks over a scenario's maps find.
-use Rattle.std.specs.Prelude.{ℕ, ◌==◌, Bool, true, cond, min, List, [], ◌∷◌, ◌++◌, slice_set, nat_le, nat_lt, length}
+use Rattle.std.specs.Prelude.{ℕ, ◌==◌, Bool, true, cond, min, [], ◌∷◌, ◌++◌, slice_set, nat_le, nat_lt, length}
 use Rattle.std.specs.Option.{option_or, unwrap_or}
 use Rattle.std.specs.Ordering.{nat_cmp}
 use Rattle.std.specs.FinMap.Entries.{find}

@@ -84,13 +84,11 @@ pub(crate) fn fault_of_first(maps: &Maps, plan: &Plan) -> Option<EditFault>
 fn fault_at(object: Object, steps: &Steps, plan: &Plan) -> Option<EditFault>
     ensures { result ≡ first_fault plan.now (listed_at object steps.now) }
 {
-    for (step, winner) in steps.iter() {
-        match fault_of_won(object, *step, winner, plan) {
-            Some(fault) => return Some(fault),
-            None => {}
-        }
+    let mut first = None;
+    for (step, won) in steps.iter() {
+        first = first.or(fault_of_won(object, *step, won, plan));
     }
-    None
+    first
 }
 
 // The fault of the edit that won at an object and step.

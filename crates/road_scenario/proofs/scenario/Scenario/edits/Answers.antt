@@ -1,4 +1,4 @@
-use Rattle.std.proofs.Common.{◌≡◌, T, sym, ap, subst, ◌∙◌}
+use Rattle.std.proofs.Common.{T, sym, ap, subst, ◌∙◌}
 use Rattle.lattice_core.specs.Sets.{items, is_rising, items_rise}
 use Rattle.road_scenario.specs.Edits.{edit_cmp}
 use Rattle.road_scenario.proofs.Rising.{items-kept}
