@@ -2,7 +2,7 @@
 //!
 //! `road_bench STEPS` reads a plan line from standard input, takes STEPS steps with the plan's own settings, and then
 //! draws as many words as these steps drew. It writes five lines, each: the steps, the cars moved, the words drawn, the
-//! nanoseconds that the steps took, and those that the words took. Without STEPS it does nothing.
+//! nanoseconds that the steps took, those that the words took, and a mix of the words. Without STEPS it does nothing.
 #![tactic(auto)]
 
 mod work;

@@ -1,6 +1,6 @@
 //! The ends of the road: entries, the whole step with its deletions, the run, and its rows of text.
 //!
-//! The functions here are the plain program of the definitions: they go over the road cell by cell and car by car.
+//! A step goes from car to car; `plain` has the plain program of the definitions, which goes from cell to cell.
 #![tactic(auto)]
 
 mod alone;

@@ -14,7 +14,7 @@ use road_scenario::{Edit, Value as Put};
 use serde_json::{Value, json};
 use std::alloc::Global;
 
-/// The line that is written for an answer, its newline too: one compact JSON object of one field.
+/// The line that is written for an answer, its newline too: one compact JSON object.
 pub fn reply_line(alloc: Global, answer: &Answer) -> Result<String, OutOfMemory>
     ensures { IfOk result (λ line. string_bytes line ≡ reply (answer_view answer.now)) }
 {
