@@ -1,8 +1,12 @@
 -- Worked examples, from the bytes of an input to the bytes of its answers: a wrong definition does not check. The words
 -- are the steady ones.
-use Rattle.std.proofs.Common.{◌≡◌, ◌^◌, ℕ, List, [], ◌∷◌, ◌++◌, true, false, codes, refl, ap, ◌∙◌}
+use Rattle.std.proofs.Common.{◌≡◌, ◌≤◌, ◌<◌, ◌+◌, ◌^◌, ℕ, zero, suc, List, [], ◌∷◌, ◌++◌, take, length, true, false, codes, refl, ap, ◌∙◌, arith, length-append}
+use Rattle.std.specs.Prelude.{replicate, nat_le}
+use Rattle.std.proofs.lemmas.Bool.{lt-ltb, le-leb}
+use Rattle.std.proofs.lemmas.List.{take_all, length-replicate}
 use Rattle.lattice_core.specs.Sets.{empty, items, items-empty}
 use Rattle.road_plan.specs.Plan.{Plan}
+use Rattle.road_plan.specs.declared.limits.TheConstants.{LONGEST_LINE}
 use Rattle.road_plan.specs.declared.parts.WordKind.TheVariants.{Steady}
 use Rattle.road_scenario.specs.declared.edit.Edit.{Edit}
 use Rattle.road_scenario.specs.Edits.{Edits, edit_cmp}
@@ -13,13 +17,14 @@ use Rattle.std.specs.Str.{is_utf8, chars}
 use Rattle.std.specs.Fmt.{digits}
 use Rattle.serde_json.proofs.OnLiterals.{serde_json_on_literals}
 use Rattle.road_cells.specs.Gap.{free_before}
+use Rattle.road_format.specs.Cut.{newline, cut_at, cut}
 use Rattle.road_format.specs.Reading.{value_of}
 use Rattle.road_format.specs.CommandGrammar.{advance_in, cells_in, command_in, command_of}
 use Rattle.road_format.specs.PlanGrammar.{plan_line_in, plan_line_of}
 use Rattle.road_format.specs.Replies.{Open, Refused, Horizon, Cells as CellsReply, reply}
 use Rattle.road_format.specs.declared.refusal.Refusal.TheVariants as refusals
 use Rattle.road_lab.specs.Laboratory.{row_at}
-use Rattle.road_lab.specs.Answers.{replies, answers_within}
+use Rattle.road_lab.specs.Answers.{is_long, replies, answers_within}
 
 -- a road of 12 cells whose cars are never slowed by chance, and three replicas
 unfoldable free_road : List ℕ
@@ -51,8 +56,8 @@ at_six = refl
 
 -- the answers, with the rows that are asked for
 abbrev with_rows : List ℕ → List ℕ → List ℕ → List ℕ
-with_rows zero six two =
-    reply (Open 3) ++ (reply (CellsReply zero) ++ (reply (Refused refusals.NotSimulated) ++ (reply (Refused refusals.NotJson) ++ (reply (Horizon 6) ++ (reply (Horizon 6)
+with_rows first six two =
+    reply (Open 3) ++ (reply (CellsReply first) ++ (reply (Refused refusals.NotSimulated) ++ (reply (Refused refusals.NotJson) ++ (reply (Horizon 6) ++ (reply (Horizon 6)
     ++ (reply (CellsReply six) ++ (reply (Refused refusals.NotSimulated) ++ (reply (Refused refusals.NoReplica) ++ (reply (Refused refusals.Horizon)
     ++ (reply (Refused refusals.NotACommand) ++ (reply (CellsReply two) ++ [])))))))))))
 
@@ -108,3 +113,33 @@ too_short = refl
 two_names_alike : answers_within 1000000 (2 ^ 32) (codes "{\"detectors\":[5],\"exit\":1,\"inlets\":[[0,65536]],\"length\":7,\"replicas\":[\"A\",\"A\"],\"words\":7,\"zone\":12,\"zones\":[[2,0]]}\n") true ≡ codes "{\"refused\":\"Names\"}\n"
 unfolding serde_json_on_literals value_of is_utf8 chars plan_line_of plan_line_in digits reply replies answers_within
 two_names_alike = refl
+
+-- ---- a line that is too long
+
+spaces_cut : (n : ℕ) → cut (replicate n 32 ++ newline ∷ []) ≡ (replicate n 32 ∷ [], [])
+spaces_cut zero = refl
+spaces_cut (suc n) = ap (cut_at 32) (spaces_cut n)
+
+spaces_are_long : (n : ℕ) → LONGEST_LINE < n → is_long (replicate n 32) ≡ true
+spaces_are_long n long = lt-ltb LONGEST_LINE (length (replicate n 32)) (omega (arith, long, length-replicate {A = ℕ} n 32))
+
+no_more : (lines : ℕ) → take {A = List ℕ} lines [] ≡ []
+no_more zero = refl
+no_more (suc lines) = refl
+
+-- a plan line of too many spaces, with a newline behind it
+too_many_spaces : (n lines limit : ℕ) → LONGEST_LINE < n → n + 1 ≤ limit → answers_within lines limit (replicate n 32 ++ newline ∷ []) true ≡ reply (Refused refusals.LineTooLong)
+unfolding answers_within
+too_many_spaces n lines limit long within =
+    let input : List ℕ = replicate n 32 ++ newline ∷ [] in
+    let size : length input ≡ n + 1 = length-append (replicate n 32) (newline ∷ []) ∙ ap (λ (k : ℕ). k + 1) (length-replicate {A = ℕ} n 32) in
+    let all : take limit input ≡ input = take_all limit input (omega (arith, size, within)) in
+    let ended : nat_le (length input) limit ≡ true = le-leb (length input) limit (omega (arith, size, within)) in
+    rw (all, ended, spaces_cut n, no_more lines, spaces_are_long n long) refl
+
+said_too_long : reply (Refused refusals.LineTooLong) ≡ codes "{\"refused\":\"line too long\"}\n"
+unfolding serde_json_on_literals digits reply
+said_too_long = refl
+
+a_line_that_is_too_long : answers_within 1000000 (2 ^ 32) (replicate 65537 32 ++ newline ∷ []) true ≡ codes "{\"refused\":\"line too long\"}\n"
+a_line_that_is_too_long = too_many_spaces 65537 1000000 (2 ^ 32) (omega arith) (omega arith) ∙ said_too_long

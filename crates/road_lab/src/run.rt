@@ -1,6 +1,6 @@
 //! The program without its process.
 
-ghost use Rattle.std.specs.Prelude.{◌≡◌, ◌≢◌, ℕ, List, [], codes, Some, Result};
+ghost use Rattle.std.specs.Prelude.{◌≡◌, ◌≢◌, ◌↔◌, IsTrue, ℕ, List, [], codes, Some, Result};
 ghost use Rattle.std.specs.Io.KnownBytes.{Appends};
 ghost use Rattle.road_plan.specs.declared.limits.TheConstants.{MOST_LINES, MOST_BYTES};
 ghost use Rattle.road_lab.specs.Ending.{Ends, seen};
@@ -57,10 +57,17 @@ pub fn run<R: Source, W: Sink>(
         × Ends MOST_LINES MOST_BYTES input (seen (W.taken writer.old) (W.taken writer.new) (R.at_end reader.new) (W.flushed writer.new)
         (R.failures reader.old) (R.failures reader.new) (W.failures writer.old) (W.failures writer.new)) served }
 {
-    if !words.is_empty() {
+    if !are_accepted(words) {
         return Ended::bad_arguments();
     }
     after_run(&serve(alloc, reader, writer))
+}
+
+// Whether the program takes these words: today it takes none.
+fn are_accepted(words: &[String]) -> bool
+    ensures { IsTrue result ↔ (words.now ≡ []) }
+{
+    words.is_empty()
 }
 
 // How the program ends after a run.

@@ -1,6 +1,6 @@
 //! Reads an input, and writes its replies.
 
-ghost use Rattle.std.specs.Prelude.{◌≡◌, ℕ, List, [], length, true, OnOk, OnErr, None};
+ghost use Rattle.std.specs.Prelude.{◌≡◌, ℕ, List, [], length, min, true, OnOk, OnErr, None};
 ghost use Rattle.std.specs.Io.KnownBytes.{Appends};
 ghost use Rattle.road_plan.specs.declared.limits.TheConstants.{MOST_LINES, MOST_BYTES};
 ghost use Rattle.road_lab.specs.Streams.{RisesByOne};
@@ -59,7 +59,7 @@ pub fn serve_within<R: Source, W: Sink>(
             return finish(alloc, writer, &mut desk, &mut out, lines);
         }
         let room = bytes - count;
-        let within = room.min(n as u64) as usize;
+        let within = fitting(room, n);
         desk.piece(alloc, &buffer[..within], &mut out)?;
         send(writer, out.as_slice())?;
         out.clear();
@@ -72,6 +72,13 @@ pub fn serve_within<R: Source, W: Sink>(
         }
         count += n as u64;
     }
+}
+
+// How many of these bytes are within the limit.
+fn fitting(room: u64, bytes: usize) -> usize
+    ensures { result ≡ min room bytes }
+{
+    room.min(bytes as u64) as usize
 }
 
 // The input has ended: the last reply is written.
