@@ -14,6 +14,3 @@ pub mod map;
 
 /// A growth of memory was refused. It is the only error of this crate, and a call that answers it changed nothing.
 pub use std::alloc::AllocError as OutOfMemory;
-
-#[cfg(test)]
-mod tests;

@@ -12,6 +12,3 @@ pub use car::{Car, GREATEST_SPEED};
 pub use road::Road;
 /// Want of memory, answered only where a growth was refused.
 pub use std::alloc::AllocError as OutOfMemory;
-
-#[cfg(test)]
-mod tests;

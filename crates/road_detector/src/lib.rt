@@ -4,8 +4,6 @@
 mod counts;
 pub mod laws;
 mod rows;
-#[cfg(test)]
-mod tests;
 
 pub use counts::{Totals, passes};
 pub use rows::row_text;

@@ -15,8 +15,6 @@ mod pass;
 pub mod plain;
 mod rules;
 mod step;
-#[cfg(test)]
-mod tests;
 
 pub use alone::{Stepped, step_alone};
 pub use course::{Course, OwnSettings, row, run};

@@ -25,6 +25,3 @@ pub use plan_line::{PlanLine, read_plan};
 pub use refusal::Refusal;
 pub use reply::reply_line;
 pub use road_plan::OutOfMemory;
-
-#[cfg(test)]
-mod tests;

@@ -16,6 +16,3 @@ pub use parts::{PlanParts, WordKind};
 pub use plan::Plan;
 pub use settings::Settings;
 pub use std::alloc::AllocError as OutOfMemory;
-
-#[cfg(test)]
-mod tests;

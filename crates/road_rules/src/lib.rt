@@ -11,6 +11,3 @@ pub use motion::moved;
 pub use speeds::{slowed, two_rules, wanted};
 /// Want of memory, answered only where a growth was refused.
 pub use std::alloc::AllocError as OutOfMemory;
-
-#[cfg(test)]
-mod tests;

@@ -17,6 +17,3 @@ pub use edit::{Edit, Stamp, Value};
 pub use faults::EditFault;
 pub use road_plan::OutOfMemory;
 pub use scenario::{Scenario, Won};
-
-#[cfg(test)]
-mod tests;

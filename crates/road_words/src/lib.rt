@@ -10,6 +10,3 @@ pub use chacha::ChaChaWords;
 pub use plan_words::PlanWords;
 pub use steady::SteadyWords;
 pub use words::Words;
-
-#[cfg(test)]
-mod tests;

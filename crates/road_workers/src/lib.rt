@@ -4,8 +4,6 @@
 mod alone;
 mod crew;
 mod faults;
-#[cfg(test)]
-mod tests;
 
 pub use alone::Alone;
 pub use crew::Crew;

@@ -1,11 +1,19 @@
 //! The definitions as a plain, slow program over a list of edits, and the calls compared with it.
 
-use super::{are, plan, put, scenario, settings_at, with_edit, withdrawn};
-use crate::{Edit, OutOfMemory, Scenario, Value};
+use super::{are, put, scenario, settings_at, with_edit, withdrawn};
+use crate::plans::{FREE, Parts, plan_of};
 use road_plan::{Object, Plan};
+use road_scenario::{Edit, OutOfMemory, Scenario, Value};
 use std::alloc::Global;
 use std::process::Abort;
 use std::test::Fail;
+
+/// The free road in two zones.
+const TWO_ZONES: Parts = Parts {
+    road: (12, 1, 6),
+    zones: &[(2, 0), (1, 0)],
+    ..FREE
+};
 
 /// The greatest step that is looked at.
 const LAST: u32 = 4;
@@ -165,7 +173,7 @@ fn compare(rt: &impl Abort, alloc: Global, plan: &Plan, edits: &[Edit]) -> Resul
 // Every set of at most three edits of the pool, on a road of two zones.
 #[test]
 fn sets_of_three_edits(rt: HostRuntime) -> Result<(), Fail> {
-    let road = plan(rt.alloc(), 6, &[(2, 0), (1, 0)])?;
+    let road = plan_of(rt.alloc(), &TWO_ZONES)?;
     let pool = pool(rt.alloc())?;
     compare(&rt, rt.alloc(), &road, &[])?;
     for (first, &one) in pool.iter().enumerate() {

@@ -1,9 +1,10 @@
 //! Worked examples. Each call that may be refused memory is repeated where it was refused, once its arguments were seen
 //! to be as before: so these tests also pass where any one growth is refused.
 
-use super::{Edit, EditFault, OutOfMemory, Scenario, Stamp, Value};
+use crate::plans::{FREE, plan_of};
 use lattice_core::lattice::Lattice;
-use road_plan::{Object, Plan, PlanParts, Settings, WordKind};
+use road_plan::{Object, Plan, Settings};
+use road_scenario::{Edit, EditFault, OutOfMemory, Scenario, Stamp, Value};
 use std::alloc::Global;
 use std::process::Abort;
 use std::test::Fail;
@@ -35,32 +36,6 @@ fn put(object: Object, step: u32, count: u64, number: u16, value: u32) -> Edit {
 
 fn withdrawn(object: Object, step: u32, count: u64, number: u16) -> Edit {
     edit(object, step, count, number, Value::Withdrawn)
-}
-
-// A list with memory of its own.
-fn list<T: Copy>(alloc: Global, items: &[T]) -> Result<Vec<T>, OutOfMemory> {
-    match items.to_vec(alloc) {
-        Ok(items) => Ok(items),
-        Err(_) => Ok(items.to_vec(alloc)?),
-    }
-}
-
-// A road of twelve cells, the last one deleted, with these zones, an inlet at the first cell and a detector.
-fn plan(alloc: Global, width: u32, zones: &[(u32, u32)]) -> Result<Plan, Fail> {
-    Ok(Plan::new(PlanParts {
-        length: 12,
-        exit: 1,
-        width,
-        zones: list(alloc, zones)?,
-        inlets: list(alloc, &[(0, 65_536)])?,
-        detectors: list(alloc, &[5])?,
-        words: WordKind::Seeded(7),
-    })?)
-}
-
-// The same plan with one zone, of limit 2 and without slowing.
-fn small(alloc: Global) -> Result<Plan, Fail> {
-    plan(alloc, 12, &[(2, 0)])
 }
 
 fn are(items: &[u32], numbers: &[u32]) -> bool {
@@ -168,29 +143,33 @@ fn comes(
     let before = scenario(rt, alloc, held)?;
     let other = scenario(rt, alloc, come)?;
     let after = joined(rt, &before, &other)?;
-    assert!(rt; lists(alloc, &after, listed)?, "{held:?} {come:?}");
-    assert_eq!(rt; before.touched(&after), touched, "{held:?} {come:?}");
+    let are_listed = lists(alloc, &after, listed)?;
+    let is_bound = before.at_most(&after) && other.at_most(&after);
     assert!(rt;
-        before.at_most(&after) && other.at_most(&after),
+        are_listed && is_bound && before.touched(&after) == touched,
         "{held:?} {come:?}"
     );
     Ok(())
 }
 
+// Whether settings are the free road's own.
+fn are_own(own: &Settings) -> bool {
+    are(own.limits(), &[2])
+        && are(own.chances(), &[0])
+        && are(own.inflows(), &[65_536])
+        && own.blocks().is_empty()
+        && own.watched() == [true].as_slice()
+}
+
 // Without edits all settings are the plan's own.
 #[test]
 fn nothing_is_set_without_edits(rt: HostRuntime) -> Result<(), Fail> {
-    let road = small(rt.alloc())?;
     let none = Scenario::empty(rt.alloc());
-    assert!(rt; none.is_bottom() && lists(rt.alloc(), &none, &[])?);
-    assert_eq!(rt; none.greatest_count(), 0);
-    assert_eq!(rt; none.fits(&road), None);
-    assert_eq!(rt; none.touched(&none), None);
+    assert!(rt; none.is_bottom() && none.greatest_count() == 0 && none.touched(&none).is_none());
+    assert!(rt; lists(rt.alloc(), &none, &[])?);
+    let road = plan_of(rt.alloc(), &FREE)?;
     let own = settings_at(&rt, rt.alloc(), &none, &road, 0)?;
-    assert!(rt;
-        are(own.limits(), &[2]) && are(own.chances(), &[0]) && are(own.inflows(), &[65_536])
-    );
-    assert!(rt; own.blocks().is_empty() && own.watched() == [true].as_slice() && own.fits(&road));
+    assert!(rt; none.fits(&road).is_none() && are_own(&own) && own.fits(&road));
     Ok(())
 }
 
@@ -293,7 +272,7 @@ fn limit_at(
 // Puts from steps 3 and 5 on; where the later one is withdrawn, the earlier one is in force on.
 #[test]
 fn an_earlier_put_acts_on(rt: HostRuntime) -> Result<(), Fail> {
-    let road = small(rt.alloc())?;
+    let road = plan_of(rt.alloc(), &FREE)?;
     let (one, none) = (put(LIMIT, 3, 1, 0, 1), put(LIMIT, 5, 2, 0, 0));
     let back = withdrawn(LIMIT, 5, 3, 0);
     let table: [(&[Edit], [u32; 4]); 3] = [
@@ -313,7 +292,7 @@ fn an_earlier_put_acts_on(rt: HostRuntime) -> Result<(), Fail> {
 
 #[test]
 fn faults_are_named_in_order(rt: HostRuntime) -> Result<(), Fail> {
-    let road = small(rt.alloc())?;
+    let road = plan_of(rt.alloc(), &FREE)?;
     let table = [
         (put(Object::Limit(1), 0, 1, 0, 1), Some(EditFault::NoObject)),
         (
@@ -354,7 +333,7 @@ fn faults_are_named_in_order(rt: HostRuntime) -> Result<(), Fail> {
 // The first faulty edit by object and step counts, whichever came first.
 #[test]
 fn the_first_faulty_edit_is_named(rt: HostRuntime) -> Result<(), Fail> {
-    let road = small(rt.alloc())?;
+    let road = plan_of(rt.alloc(), &FREE)?;
     let (late, block) = (put(LIMIT, 65_536, 2, 0, 1), put(BLOCK, 4, 1, 0, 2));
     let (ten, well) = (put(LIMIT, 9, 2, 0, 10), put(LIMIT, 8, 3, 0, 1));
     let table: [(&[Edit], Option<EditFault>); 4] = [

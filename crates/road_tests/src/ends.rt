@@ -1,42 +1,34 @@
 //! Runs worked out by hand or by a program of another author, and the fast calls beside the plain ones.
 
+ghost use Rattle.std.specs.Prelude.{◌≡◌};
 ghost use Rattle.road_plan.specs.Settings.{Fits};
 
-use super::{
+use crate::plans::{DENSE, FREE, Parts, plan_of};
+use road_cells::{Car, Road};
+use road_ends::{
     BLOCKED, EMPTY, Meter, OwnSettings, STANDING, enter, entered, finish, next, plain, row, run,
     speeds, step_alone, stepped,
 };
-use road_cells::{Car, Road};
-use road_plan::{Plan, PlanParts, Settings, WordKind};
+use road_plan::{Plan, Settings, WordKind};
 use std::alloc::{AllocError, Global};
 use std::process::Abort;
 use std::sync::Arc;
 use std::test::Fail;
 
-/// A road with a detector at cell 5. From a step on the first zone has another limit, from a step on a cell is blocked.
-#[derive(Drop)]
+/// A road and its rows at some steps. From a step on the first zone has another limit, from a step on a cell is blocked.
+#[derive(Clone, Copy)]
 struct Example {
-    length: u32,
-    exit: u32,
-    width: u32,
-    zones: &'static [(u32, u32)],
-    inlets: &'static [(u32, u32)],
+    parts: Parts,
     lowered: &'static [(u32, u32)],
     blocked: &'static [(u32, u32)],
-    words: WordKind,
     rows: &'static [(u32, &'static str)],
 }
 
-/// 12 cells, limit 2, no slowing, an inlet that always lets in.
-const FREE: Example = Example {
-    length: 12,
-    exit: 1,
-    width: 12,
-    zones: &[(2, 0)],
-    inlets: &[(0, 65_536)],
+/// A limit of 2, no slowing, and an inlet at the first of 12 cells that always lets in.
+const FREE_ROAD: Example = Example {
+    parts: FREE,
     lowered: &[],
     blocked: &[],
-    words: WordKind::Seeded(7),
     rows: &[
         (0, "............"),
         (1, ".1.........."),
@@ -50,7 +42,10 @@ const FREE: Example = Example {
 
 /// Every car is slowed by chance at every step.
 const ALWAYS_SLOWED: Example = Example {
-    zones: &[(2, 65_536)],
+    parts: Parts {
+        zones: &[(2, 65_536)],
+        ..FREE
+    },
     rows: &[
         (1, "0..........."),
         (2, "0..........."),
@@ -59,13 +54,16 @@ const ALWAYS_SLOWED: Example = Example {
         (5, "0..........."),
         (6, "0..........."),
     ],
-    ..FREE
+    ..FREE_ROAD
 };
 
 /// Slowing chance one half, by the steady words.
 const HALF_SLOWED: Example = Example {
-    zones: &[(2, 32_768)],
-    words: WordKind::Steady,
+    parts: Parts {
+        zones: &[(2, 32_768)],
+        words: WordKind::Steady,
+        ..FREE
+    },
     rows: &[
         (1, "0..........."),
         (2, "0..........."),
@@ -74,42 +72,50 @@ const HALF_SLOWED: Example = Example {
         (5, "0...2......."),
         (6, ".1...1......"),
     ],
-    ..FREE
+    ..FREE_ROAD
 };
 
 /// The inlet's steady word at step 1 is 30,011 above its lower bits: not below an inflow of as much, below one more.
 const NOT_LET_IN: Example = Example {
-    inlets: &[(0, 30_011)],
-    words: WordKind::Steady,
+    parts: Parts {
+        inlets: &[(0, 30_011)],
+        words: WordKind::Steady,
+        ..FREE
+    },
     rows: &[(2, "...2........")],
-    ..FREE
+    ..FREE_ROAD
 };
 
 const LET_IN: Example = Example {
-    inlets: &[(0, 30_012)],
+    parts: Parts {
+        inlets: &[(0, 30_012)],
+        words: WordKind::Steady,
+        ..FREE
+    },
     rows: &[(2, "0..2........")],
-    ..NOT_LET_IN
+    ..FREE_ROAD
 };
 
 /// A deleted zone of 3 cells, and a limit of 1 in the second zone.
 const TWO_ZONES: Example = Example {
-    exit: 3,
-    width: 6,
-    zones: &[(2, 0), (1, 0)],
+    parts: Parts {
+        road: (12, 3, 6),
+        zones: &[(2, 0), (1, 0)],
+        ..FREE
+    },
     rows: &[(5, ".1...2..1..."), (6, "0..2...2....")],
-    ..FREE
+    ..FREE_ROAD
 };
 
 /// Random words that show: four zones, and places beyond the first blocks of the generator.
 const RANDOM: Example = Example {
-    length: 40,
-    exit: 2,
-    width: 10,
-    zones: &[(5, 20_000), (3, 30_000), (9, 10_000), (5, 20_000)],
-    inlets: &[(3, 40_000)],
-    lowered: &[],
-    blocked: &[],
-    words: WordKind::Seeded(1992),
+    parts: Parts {
+        road: (40, 2, 10),
+        zones: &[(5, 20_000), (3, 30_000), (9, 10_000), (5, 20_000)],
+        inlets: &[(3, 40_000)],
+        detectors: &[],
+        words: WordKind::Seeded(1992),
+    },
     rows: &[
         (10, "............2.....3......4.............."),
         (20, "...0.....3............2................."),
@@ -118,28 +124,17 @@ const RANDOM: Example = Example {
         (65, "...00..1.....3.1.1.........4........5..."),
         (70, "..........300....2.........4.......5...."),
     ],
+    ..FREE_ROAD
 };
 
 /// Nine inlets that always let in, slowing chance one half.
-const DENSE: Example = Example {
-    length: 32,
-    width: 32,
-    inlets: &[
-        (0, 65_536),
-        (3, 65_536),
-        (6, 65_536),
-        (9, 65_536),
-        (12, 65_536),
-        (15, 65_536),
-        (18, 65_536),
-        (21, 65_536),
-        (24, 65_536),
-    ],
+const DENSE_ROAD: Example = Example {
+    parts: DENSE,
     rows: &[
         (1, "0...1.0...1.0..0...1.0...1......"),
         (2, "0..00..1.00..1..1.00..1.0.1....."),
     ],
-    ..HALF_SLOWED
+    ..FREE_ROAD
 };
 
 /// The limit falls to 1 at step 3 and to 0 at step 5.
@@ -152,7 +147,7 @@ const LOWERED: Example = Example {
         (6, "00.0...0...."),
         (7, "00.0...0...."),
     ],
-    ..FREE
+    ..FREE_ROAD
 };
 
 /// Cell 8 is blocked from step 4 on.
@@ -163,7 +158,7 @@ const BLOCKED_AHEAD: Example = Example {
         (5, ".1...2.0#..."),
         (6, "0..2..10#..."),
     ],
-    ..FREE
+    ..FREE_ROAD
 };
 
 /// Cell 7 is blocked from step 4 on, where a car stands.
@@ -174,7 +169,7 @@ const BLOCKED_UNDER_CAR: Example = Example {
         (5, ".1...2.#.2.."),
         (6, "0..2..1#...."),
     ],
-    ..FREE
+    ..FREE_ROAD
 };
 
 /// The inlet's cell is blocked.
@@ -185,38 +180,43 @@ const BLOCKED_INLET: Example = Example {
         (6, "#..........."),
         (65_536, "#..........."),
     ],
-    ..FREE
+    ..FREE_ROAD
 };
 
 /// Nothing flows in.
 const NO_INFLOW: Example = Example {
-    inlets: &[(0, 0)],
+    parts: Parts {
+        inlets: &[(0, 0)],
+        ..FREE
+    },
     rows: &[(6, "............")],
-    ..FREE
+    ..FREE_ROAD
 };
 
 /// All at once: inlets out of the order of their cells, chances that come always, never and at random, blocks that come
 /// and lie under inlets and cars, in the deleted zone too.
 const MIXED: Example = Example {
-    length: 64,
-    exit: 5,
-    width: 11,
-    zones: &[
-        (9, 20_000),
-        (3, 0),
-        (1, 65_536),
-        (5, 40_000),
-        (0, 30_000),
-        (7, 1),
-    ],
-    inlets: &[
-        (40, 30_000),
-        (3, 50_000),
-        (17, 65_536),
-        (58, 65_536),
-        (0, 0),
-        (55, 9),
-    ],
+    parts: Parts {
+        road: (64, 5, 11),
+        zones: &[
+            (9, 20_000),
+            (3, 0),
+            (1, 65_536),
+            (5, 40_000),
+            (0, 30_000),
+            (7, 1),
+        ],
+        inlets: &[
+            (40, 30_000),
+            (3, 50_000),
+            (17, 65_536),
+            (58, 65_536),
+            (0, 0),
+            (55, 9),
+        ],
+        detectors: &[],
+        words: WordKind::Seeded(1992),
+    },
     lowered: &[(30, 4), (60, 0), (70, 9)],
     blocked: &[
         (10, 30),
@@ -227,28 +227,14 @@ const MIXED: Example = Example {
         (40, 63),
         (40, 8),
     ],
-    words: WordKind::Seeded(1992),
     rows: &[],
 };
-
-fn plan_of(alloc: Global, example: &Example) -> Result<Plan, Fail> {
-    let parts = PlanParts {
-        length: example.length,
-        exit: example.exit,
-        width: example.width,
-        zones: example.zones.to_vec(alloc)?,
-        inlets: example.inlets.to_vec(alloc)?,
-        detectors: [5].to_vec(alloc)?,
-        words: example.words,
-    };
-    Ok(Plan::new(parts)?)
-}
 
 #[test]
 fn runs_the_examples(rt: HostRuntime) -> Result<(), Fail> {
     let alloc = rt.alloc();
     for example in [
-        &FREE,
+        &FREE_ROAD,
         &ALWAYS_SLOWED,
         &HALF_SLOWED,
         &NOT_LET_IN,
@@ -256,7 +242,7 @@ fn runs_the_examples(rt: HostRuntime) -> Result<(), Fail> {
         &TWO_ZONES,
         &RANDOM,
     ] {
-        let plan = plan_of(alloc, example)?;
+        let plan = plan_of(alloc, &example.parts)?;
         let course = OwnSettings::new(alloc, &plan);
         for (step, text) in example.rows {
             let drawn = row(alloc, &plan, &course, *step)?;
@@ -324,7 +310,7 @@ fn stepped_to(
 
 // An example's rows, stepped alone.
 fn steps_alone(rt: &impl Abort, alloc: Global, example: &Example) -> Result<(), Fail> {
-    let plan = Arc::new(alloc, plan_of(alloc, example)?)?;
+    let plan = Arc::new(alloc, plan_of(alloc, &example.parts)?)?;
     let mut meter = Meter::new();
     let mut road = Road::empty(alloc);
     let mut step = 0;
@@ -343,14 +329,14 @@ fn steps_alone(rt: &impl Abort, alloc: Global, example: &Example) -> Result<(), 
 fn steps_the_examples_alone(rt: HostRuntime) -> Result<(), Fail> {
     let alloc = rt.alloc();
     for example in [
-        &FREE,
+        &FREE_ROAD,
         &ALWAYS_SLOWED,
         &HALF_SLOWED,
         &NOT_LET_IN,
         &LET_IN,
         &TWO_ZONES,
         &RANDOM,
-        &DENSE,
+        &DENSE_ROAD,
         &LOWERED,
         &BLOCKED_AHEAD,
         &BLOCKED_UNDER_CAR,
@@ -417,7 +403,7 @@ fn steps_in_parts(
     example: &Example,
     until: u32,
 ) -> Result<(), Fail> {
-    let plan = Arc::new(alloc, plan_of(alloc, example)?)?;
+    let plan = Arc::new(alloc, plan_of(alloc, &example.parts)?)?;
     let mut road = Road::empty(alloc);
     for step in 0..until {
         let settings = settings_of(alloc, &plan, example, step)?;
@@ -430,12 +416,22 @@ fn steps_in_parts(
 #[test]
 fn agrees_with_the_plain_program(rt: HostRuntime) -> Result<(), Fail> {
     let alloc = rt.alloc();
-    steps_in_parts(&rt, alloc, &FREE, 6)?;
+    steps_in_parts(&rt, alloc, &FREE_ROAD, 6)?;
     steps_in_parts(&rt, alloc, &LOWERED, 7)?;
     steps_in_parts(&rt, alloc, &HALF_SLOWED, 6)?;
-    steps_in_parts(&rt, alloc, &DENSE, 2)?;
+    steps_in_parts(&rt, alloc, &DENSE_ROAD, 2)?;
     steps_in_parts(&rt, alloc, &RANDOM, 100)?;
     steps_in_parts(&rt, alloc, &MIXED, 200)
+}
+
+const fn car(number: u64, cell: u32, speed: u8) -> Car
+    ensures { result ≡ record { number = number; cell = cell; speed = speed } }
+{
+    Car {
+        number,
+        cell,
+        speed,
+    }
 }
 
 #[test]
@@ -443,110 +439,73 @@ fn numbers_cars_by_step_and_inlet(rt: HostRuntime) -> Result<(), Fail> {
     let alloc = rt.alloc();
     let plan = plan_of(alloc, &FREE)?;
     let road = run(alloc, &plan, &OwnSettings::new(alloc, &plan), 6)?;
-    let cars = [(80, 0, 0), (48, 3, 2), (16, 7, 2)];
-    assert_eq!(rt; road.cars().len(), cars.len());
-    for (car, (number, cell, speed)) in road.cars().iter().zip(cars) {
-        assert_eq!(rt;
-            *car,
-            Car {
-                number,
-                cell,
-                speed
-            }
-        );
-    }
+    let cars = [car(80, 0, 0), car(48, 3, 2), car(16, 7, 2)];
+    assert!(rt; road.cars() == cars.as_slice());
     Ok(())
 }
 
-// A steady road of 40 cells with four inlets, of which the last has the given inflow, and one limit and chance.
-fn four_inlets(alloc: Global, inflow: u32, zone: (u32, u32)) -> Result<Plan, Fail> {
-    let parts = PlanParts {
-        length: 40,
-        exit: 1,
-        width: 40,
-        zones: [zone].to_vec(alloc)?,
-        inlets: [(20, 0), (5, 0), (10, 0), (0, inflow)].to_vec(alloc)?,
-        detectors: Vec::new(alloc),
-        words: WordKind::Steady,
-    };
-    Ok(Plan::new(parts)?)
-}
+// A steady road of 40 cells with limit 2 and no slowing.
+const STEADY: Parts = Parts {
+    road: (40, 1, 40),
+    zones: &[(2, 0)],
+    inlets: &[(0, 0)],
+    detectors: &[],
+    words: WordKind::Steady,
+};
 
 #[test]
 fn lets_in_by_the_words_of_each_inlet(rt: HostRuntime) -> Result<(), Fail> {
     let alloc = rt.alloc();
     // inlet 3, at step 1: (3 * 40,503 + 30,011) mod 65,536 is 20,448, not below a chance of as much
-    for (inflow, cars) in [
-        (0, &[][..]),
-        (20_448, &[]),
-        (
-            20_449,
-            &[Car {
-                number: 19,
-                cell: 0,
-                speed: 0,
-            }],
-        ),
-        (
-            65_536,
-            &[Car {
-                number: 19,
-                cell: 0,
-                speed: 0,
-            }],
-        ),
-    ] {
-        let plan = four_inlets(alloc, inflow, (2, 0))?;
+    let table: [(&[(u32, u32)], &[Car]); 4] = [
+        (&[(20, 0), (5, 0), (10, 0), (0, 0)], &[]),
+        (&[(20, 0), (5, 0), (10, 0), (0, 20_448)], &[]),
+        (&[(20, 0), (5, 0), (10, 0), (0, 20_449)], &[car(19, 0, 0)]),
+        (&[(20, 0), (5, 0), (10, 0), (0, 65_536)], &[car(19, 0, 0)]),
+    ];
+    for (inlets, cars) in table {
+        let plan = plan_of(alloc, &Parts { inlets, ..STEADY })?;
         let settings = Settings::of_plan(alloc, &plan)?;
         let moving = entered(alloc, &plan, &settings, 1, &Road::empty(alloc))?;
-        assert_eq!(rt; moving.cars(), cars, "inflow {inflow}");
+        assert!(rt; moving.cars() == cars, "{inlets:?}");
     }
     Ok(())
 }
 
-// The new speed of car 16, which stands at cell 7 with speed 3 on a free road, in step 1: by each of the calls.
-fn new_speed_of_car_16(
-    rt: &impl Abort,
-    alloc: Global,
-    plan: &Plan,
-    settings: &Settings,
-) -> Result<u8, Fail>
+// Whether a step by each of the calls takes car 16, which drives alone at cell 7 with speed 3, on by this speed.
+fn takes_car_16_by(alloc: Global, plan: &Plan, settings: &Settings, speed: u8) -> Result<bool, Fail>
     requires { Fits plan.now settings.now }
 {
-    let mut cars = Vec::new(alloc);
-    cars.push(Car {
-        number: 16,
-        cell: 7,
-        speed: 3,
-    })?;
-    let road = Road::of(cars);
+    let road = Road::of([car(16, 7, 3)].to_vec(alloc)?);
     let moving = entered(alloc, plan, settings, 1, &road)?;
     let new = speeds(alloc, plan, settings, 1, &moving)?;
     let later = next(alloc, plan, settings, 1, &moving)?;
-    assert_eq!(rt;
-        stepped(alloc, plan, settings, 1, &road)?.cars(),
-        later.cars()
-    );
-    assert_eq!(rt; new.len(), 1);
-    assert_eq!(rt; later.cars().len(), 1);
-    match (new.first(), later.cars().first()) {
-        (Some(new), Some(car)) => {
-            assert_eq!(rt; car.speed, *new);
-            Ok(*new)
-        }
-        _ => Ok(255),
-    }
+    let whole = stepped(alloc, plan, settings, 1, &road)?;
+    let want = [car(16, 7 + u32::from(speed), speed)];
+    Ok(
+        new.as_slice() == [speed].as_slice()
+            && later.cars() == want.as_slice()
+            && whole.cars() == want.as_slice(),
+    )
 }
 
 #[test]
 fn slows_by_the_word_of_the_car(rt: HostRuntime) -> Result<(), Fail> {
     let alloc = rt.alloc();
     // car 16 at step 1: (16 * 40,503 + 30,011) mod 65,536 is 22,699; the limit 5 and a free road let it come to 4
-    for (chance, speed) in [(0, 4), (22_699, 4), (22_700, 3), (65_536, 3)] {
-        let plan = four_inlets(alloc, 0, (5, chance))?;
+    let table: [(&[(u32, u32)], u8); 4] = [
+        (&[(5, 0)], 4),
+        (&[(5, 22_699)], 4),
+        (&[(5, 22_700)], 3),
+        (&[(5, 65_536)], 3),
+    ];
+    for (zones, speed) in table {
+        let plan = plan_of(alloc, &Parts { zones, ..STEADY })?;
         let settings = Settings::of_plan(alloc, &plan)?;
-        let new = new_speed_of_car_16(&rt, alloc, &plan, &settings)?;
-        assert_eq!(rt; new, speed, "chance {chance}");
+        assert!(rt;
+            takes_car_16_by(alloc, &plan, &settings, speed)?,
+            "{zones:?}"
+        );
     }
     Ok(())
 }

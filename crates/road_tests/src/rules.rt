@@ -1,9 +1,13 @@
 //! The rules on single cars and on small roads, worked out by hand.
 
-ghost use Rattle.std.specs.Prelude.{◌≡◌};
+ghost use Rattle.std.specs.Prelude.{◌≡◌, ◌≤◌, length};
+ghost use Rattle.road_cells.specs.Cars.{Rise, array_of};
+ghost use Rattle.road_rules.specs.Motion.{MayMove};
 
-use super::{moved, slowed, two_rules, wanted};
 use road_cells::{Car, Road};
+use road_rules::{moved, slowed, two_rules, wanted};
+use std::alloc::Global;
+use std::process::Abort;
 use std::test::Fail;
 
 fn car(number: u64, cell: u32, speed: u8) -> Car
@@ -99,46 +103,47 @@ fn slows_below_the_chance(rt: HostRuntime) {
     }
 }
 
+// Motion takes cars at these speeds to later places.
+fn moves(
+    rt: &impl Abort,
+    alloc: Global,
+    cars: &[Car],
+    speeds: &[u8],
+    later: &[Car],
+) -> Result<(), Fail>
+    requires rise { Rise cars.now }
+    requires low { length (array_of cars.now) ≤ 65536 }
+    requires may { MayMove (array_of cars.now) speeds.now }
+{
+    let road = Road::of(cars.to_vec(alloc)?);
+    let result = moved(alloc, &road, speeds);
+    assert!(rt; road.cars() == cars, "moved or refused");
+    let next = result?;
+    assert!(rt; next.cars() == later, "{speeds:?}");
+    Ok(())
+}
+
 /// The first four motions of a road with limit 2, where a car enters at cell 0 whenever it is empty.
 #[test]
 fn moves_each_car_by_its_speed(rt: HostRuntime) -> Result<(), Fail> {
-    let road = Road::of([car(0, 0, 0)].to_vec(rt.alloc())?);
-    let next = moved(rt.alloc(), &road, &[1])?;
-    assert_eq!(rt; next.cars(), [car(0, 1, 1)].as_slice());
-
-    let road = Road::of([car(16, 0, 0), car(0, 1, 1)].to_vec(rt.alloc())?);
-    let next = moved(rt.alloc(), &road, &[0, 2])?;
-    assert_eq!(rt; next.cars(), [car(16, 0, 0), car(0, 3, 2)].as_slice());
-
-    let next = moved(rt.alloc(), &next, &[1, 2])?;
-    assert_eq!(rt; next.cars(), [car(16, 1, 1), car(0, 5, 2)].as_slice());
-
-    let cars = [car(48, 0, 0), car(16, 1, 1), car(0, 5, 2)];
-    let road = Road::of(cars.to_vec(rt.alloc())?);
-    let result = moved(rt.alloc(), &road, &[0, 2, 2]);
-    assert_eq!(rt; road.cars(), cars.as_slice(), "moved or refused");
-    let next = result?;
-    assert_eq!(rt;
-        next.cars(),
-        [car(48, 0, 0), car(16, 3, 2), car(0, 7, 2)].as_slice()
-    );
-    Ok(())
+    let alloc = rt.alloc();
+    let one = [car(0, 0, 0)];
+    moves(&rt, alloc, &one, &[1], &[car(0, 1, 1)])?;
+    let two = [car(16, 0, 0), car(0, 1, 1)];
+    moves(&rt, alloc, &two, &[0, 2], &[car(16, 0, 0), car(0, 3, 2)])?;
+    let two = [car(16, 0, 0), car(0, 3, 2)];
+    moves(&rt, alloc, &two, &[1, 2], &[car(16, 1, 1), car(0, 5, 2)])?;
+    let three = [car(48, 0, 0), car(16, 1, 1), car(0, 5, 2)];
+    let later = [car(48, 0, 0), car(16, 3, 2), car(0, 7, 2)];
+    moves(&rt, alloc, &three, &[0, 2, 2], &later)
 }
 
-/// Nothing is lost at the greatest speed, nor behind a car that stays.
+/// Nothing is lost at the greatest speed, nor behind a car that stays, nor on an empty road.
 #[test]
 fn moves_a_fast_car(rt: HostRuntime) -> Result<(), Fail> {
-    let road = Road::of([car(2, 3, 4), car(1, 8, 9)].to_vec(rt.alloc())?);
-    let next = moved(rt.alloc(), &road, &[4, 9])?;
-    assert_eq!(rt; next.cars(), [car(2, 7, 4), car(1, 17, 9)].as_slice());
-    let next = moved(rt.alloc(), &road, &[4, 0])?;
-    assert_eq!(rt; next.cars(), [car(2, 7, 4), car(1, 8, 0)].as_slice());
-    Ok(())
-}
-
-#[test]
-fn moves_no_car_of_an_empty_road(rt: HostRuntime) -> Result<(), Fail> {
-    let next = moved(rt.alloc(), &Road::empty(rt.alloc()), &[])?;
-    assert_eq!(rt; next.cars().len(), 0);
-    Ok(())
+    let alloc = rt.alloc();
+    let two = [car(2, 3, 4), car(1, 8, 9)];
+    moves(&rt, alloc, &two, &[4, 9], &[car(2, 7, 4), car(1, 17, 9)])?;
+    moves(&rt, alloc, &two, &[4, 0], &[car(2, 7, 4), car(1, 8, 0)])?;
+    moves(&rt, alloc, &[], &[], &[])
 }

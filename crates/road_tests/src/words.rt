@@ -2,9 +2,10 @@
 
 mod chacha_words;
 
-use super::{ChaChaWords, PlanWords, SteadyWords, Words};
+use crate::plans::{FREE, Parts, plan_of};
 use chacha_words::{CHACHA_WORDS, ZERO_KEY};
-use road_plan::{Plan, PlanParts, WordKind};
+use road_plan::WordKind;
+use road_words::{ChaChaWords, PlanWords, SteadyWords, Words};
 use std::test::Fail;
 
 /// The word that any source of words gives.
@@ -55,19 +56,13 @@ fn a_plan_names_its_words(rt: HostRuntime) -> Result<(), Fail> {
         (WordKind::Steady, 22_699 << 16),
     ];
     for (kind, want) in table {
-        let parts = PlanParts {
-            length: 12,
-            exit: 1,
-            width: 12,
-            zones: vec![in rt.alloc(); (2, 0)]?,
-            inlets: vec![in rt.alloc(); (0, 65_536)]?,
-            detectors: Vec::new(rt.alloc()),
+        let parts = Parts {
             words: kind,
+            ..FREE
         };
-        let words = PlanWords::of(&Plan::new(parts)?);
+        let words = PlanWords::of(&plan_of(rt.alloc(), &parts)?);
         let copied = words;
-        assert_eq!(rt; word_of(&words, 16, 1), want);
-        assert_eq!(rt; word_of(&copied, 16, 1), want);
+        assert!(rt; word_of(&words, 16, 1) == want && word_of(&copied, 16, 1) == want);
     }
     Ok(())
 }

@@ -1,40 +1,21 @@
 //! Speeds by a crew.
 
-use super::{Alone, Crew, CrewFault};
+use crate::plans::{DENSE, FREE, Parts, plan_of};
 use road_cells::{Car, Road};
 use road_ends::{StepInput, enter, finish};
-use road_plan::{Plan, PlanParts, Settings, WordKind};
+use road_plan::{Plan, Settings, WordKind};
+use road_workers::{Alone, Crew, CrewFault};
 use std::alloc::Global;
 use std::process::Abort;
 use std::sync::Arc;
 use std::test::Fail;
 
-/// Nine inlets on 32 cells that always let in.
-const INLETS: [(u32, u32); 9] = [
-    (0, 65_536),
-    (3, 65_536),
-    (6, 65_536),
-    (9, 65_536),
-    (12, 65_536),
-    (15, 65_536),
-    (18, 65_536),
-    (21, 65_536),
-    (24, 65_536),
-];
-
-// A road with limit 2, slowing chance one half and steady words.
-fn half_slowed(alloc: Global, length: u32, inlets: &[(u32, u32)]) -> Result<Plan, Fail> {
-    let parts = PlanParts {
-        length,
-        exit: 1,
-        width: length,
-        zones: [(2, 32_768)].to_vec(alloc)?,
-        inlets: inlets.to_vec(alloc)?,
-        detectors: Vec::new(alloc),
-        words: WordKind::Steady,
-    };
-    Ok(Plan::new(parts)?)
-}
+/// The free road with slowing chance one half, by steady words.
+const HALF_SLOWED: Parts = Parts {
+    zones: &[(2, 32_768)],
+    words: WordKind::Steady,
+    ..FREE
+};
 
 // The cells and the speeds of cars.
 fn cells_and_speeds(alloc: Global, cars: &[Car]) -> Result<Vec<(u32, u8)>, Fail> {
@@ -81,7 +62,7 @@ fn gives<C: Crew>(
 fn one_worker_gives_the_worked_states(rt: HostRuntime) -> Result<(), Fail> {
     let alloc = rt.alloc();
     let mut crew = Alone;
-    let plan = Arc::new(alloc, half_slowed(alloc, 32, &INLETS)?)?;
+    let plan = Arc::new(alloc, plan_of(alloc, &DENSE)?)?;
     let states: [&[(u32, u8)]; 2] = [
         // 0...1.0...1.0..0...1.0...1......
         &[
@@ -113,7 +94,7 @@ fn one_worker_gives_the_worked_states(rt: HostRuntime) -> Result<(), Fail> {
         ],
     ];
     gives(&rt, alloc, &mut crew, &plan, &states)?;
-    let plan = Arc::new(alloc, half_slowed(alloc, 12, &[(0, 65_536)])?)?;
+    let plan = Arc::new(alloc, plan_of(alloc, &HALF_SLOWED)?)?;
     // 0..........., twice, .1.........., 0.1........., 0...2......., .1...1......
     let states: [&[(u32, u8)]; 6] = [
         &[(0, 0)],

@@ -4,10 +4,11 @@ ghost use Rattle.std.specs.Prelude.{◌≡◌, ◌↔◌, IsTrue};
 ghost use Rattle.road_ends.specs.Row.{HasDigits};
 ghost use Rattle.road_detector.specs.Marks.{HaveDigits};
 
-use super::{Totals, passes, row_text};
+use crate::plans::{FREE, Parts, plan_of};
 use road_cells::{Car, Road};
+use road_detector::{Totals, passes, row_text};
 use road_ends::{StepInput, enter, finish};
-use road_plan::{Plan, PlanParts, Settings, WordKind};
+use road_plan::{Plan, Settings, WordKind};
 use std::alloc::Global;
 use std::process::Abort;
 use std::sync::Arc;
@@ -23,33 +24,14 @@ fn car(number: u64, cell: u32, speed: u8) -> Car
     }
 }
 
-// A road of 12 cells with exit 1, limit 2, no slowing, and an inlet at cell 0 that always lets in.
-fn free_road(alloc: Global, detectors: &[u32]) -> Result<Plan, Fail> {
-    let parts = PlanParts {
-        length: 12,
-        exit: 1,
-        width: 12,
-        zones: [(2, 0)].to_vec(alloc)?,
-        inlets: [(0, 65_536)].to_vec(alloc)?,
-        detectors: detectors.to_vec(alloc)?,
-        words: WordKind::Seeded(7),
-    };
-    Ok(Plan::new(parts)?)
-}
-
 // A road of 400 cells where nobody enters.
-fn long_road(alloc: Global, detectors: &[u32]) -> Result<Plan, Fail> {
-    let parts = PlanParts {
-        length: 400,
-        exit: 1,
-        width: 400,
-        zones: [(9, 0)].to_vec(alloc)?,
-        inlets: [(0, 0)].to_vec(alloc)?,
-        detectors: detectors.to_vec(alloc)?,
-        words: WordKind::Seeded(7),
-    };
-    Ok(Plan::new(parts)?)
-}
+const LONG: Parts = Parts {
+    road: (400, 1, 400),
+    zones: &[(9, 0)],
+    inlets: &[(0, 0)],
+    detectors: &[100, 300, 1, 398],
+    words: WordKind::Seeded(7),
+};
 
 // What a detector of the plan counts.
 fn counted(rt: &impl Abort, input: &StepInput, speeds: &[u8], detector: u32) -> Totals {
@@ -78,7 +60,7 @@ fn total(
     (off, on): (u32, u32),
     (from, to): (u32, u32),
 ) -> Result<Totals, Fail> {
-    let plan = Arc::new(alloc, free_road(alloc, &[5])?)?;
+    let plan = Arc::new(alloc, plan_of(alloc, &FREE)?)?;
     let mut road = Road::empty(alloc);
     let mut totals = Totals { cars: 0, speeds: 0 };
     for step in 0..to {
@@ -117,7 +99,7 @@ fn counts_the_cars_of_the_worked_road(rt: HostRuntime) -> Result<(), Fail> {
 #[test]
 fn counts_by_any_speeds(rt: HostRuntime) -> Result<(), Fail> {
     let alloc = rt.alloc();
-    let plan = Arc::new(alloc, long_road(alloc, &[100, 300, 1, 398])?)?;
+    let plan = Arc::new(alloc, plan_of(alloc, &LONG)?)?;
     let cars = [
         car(1, 0, 0),
         car(2, 44, 0),
@@ -181,7 +163,7 @@ fn blocked_from(
     (from, cell): (u32, u32),
     until: u32,
 ) -> Result<Road, Fail> {
-    let plan = Arc::new(alloc, free_road(alloc, &[])?)?;
+    let plan = Arc::new(alloc, plan_of(alloc, &FREE)?)?;
     let mut road = Road::empty(alloc);
     for step in 0..until {
         let mut settings = Settings::of_plan(alloc, &plan)?;

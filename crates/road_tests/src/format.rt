@@ -1,0 +1,457 @@
+//! Lines and replies worked out by hand.
+
+use crate::plans::{FREE, reads};
+use road_cells::Car;
+use road_format::PlanLineFault::{Names, NotAPlan, NotJson, Plan};
+use road_format::{Answer, LineFault, PlanLineFault, Refusal, read_command, read_plan, reply_line};
+use road_plan::{PlanFault, WordKind};
+use std::alloc::Global;
+use std::process::Abort;
+use std::test::Fail;
+
+/// A plan of 12 cells with three replicas.
+const PLAN: &str =
+    r#"{"detectors":[5],"exit":1,"inlets":[[0,65536]],"length":12,"replicas":["A","B","C"],"words":7,"zone":12,"zones":[[2,0]]}"#;
+
+// Whether these are the names.
+fn are_named(names: &[String], wanted: &[&str]) -> bool {
+    names.len() == wanted.len()
+        && names
+            .iter()
+            .zip(wanted)
+            .all(|(name, want)| name.as_str() == *want)
+}
+
+#[test]
+fn reads_a_plan_line(rt: HostRuntime) -> Result<(), Fail> {
+    let line = read_plan(rt.alloc(), PLAN.as_bytes())?;
+    assert!(rt; are_named(&line.names, &["A", "B", "C"]) && reads(&line.plan, &FREE));
+    Ok(())
+}
+
+/// What stands in `PLAN`, what stands in its place, and how the line is refused.
+const FAULTS: &[(&str, &str, PlanLineFault)] = &[
+    ("\"length\":12", "\"length\":7", Plan(PlanFault::Length)),
+    ("\"exit\":1", "\"exit\":12", Plan(PlanFault::Exit)),
+    ("\"zone\":12", "\"zone\":11", Plan(PlanFault::Zones)),
+    ("[[0,65536]]", "[[11,65536]]", Plan(PlanFault::Inlets)),
+    ("[5]", "[0]", Plan(PlanFault::Detectors)),
+    ("[5]", "[11]", Plan(PlanFault::Detectors)),
+    ("[[2,0]]", "[[10,0]]", Plan(PlanFault::Default)),
+    ("\"A\",\"B\",\"C\"", "\"A\",\"B\",\"A\"", Names),
+    ("\"A\",\"B\",\"C\"", "\"A\",\"B\",\"B\"", Names),
+    ("\"A\",\"B\",\"C\"", "\"A\",\"B\",\"\\u0041\"", Names),
+    ("\"A\",\"B\",\"C\"", "", Names),
+    ("\"A\",\"B\",\"C\"", "\"\"", Names),
+    ("\"A\",\"B\",\"C\"", "\"A\",1", NotAPlan),
+    ("\"length\":12,", "", NotAPlan),
+    ("\"length\":12", "\"length\":12,\"lanes\":1", NotAPlan),
+    ("\"length\":12", "\"length\":12.0", NotAPlan),
+    ("\"length\":12", "\"length\":4294967296", NotAPlan),
+    ("\"words\":7", "\"words\":\"random\"", NotAPlan),
+    ("\"words\":7", "\"words\":18446744073709551616", NotAPlan),
+    ("[[2,0]]", "[[2,0,0]]", NotAPlan),
+    ("[[2,0]]", "[[2]]", NotAPlan),
+    ("[[2,0]]", "[2,0]", NotAPlan),
+    ("}", "", NotJson),
+];
+
+#[test]
+fn refuses_plan_lines(rt: HostRuntime) -> Result<(), Fail> {
+    for (old, new, want) in FAULTS {
+        let line = PLAN.replacen(rt.alloc(), old, new, 1)?;
+        let fault = read_plan(rt.alloc(), line.as_bytes()).err();
+        assert_eq!(rt; fault, Some(*want), "{new}");
+    }
+    Ok(())
+}
+
+/// Of two faults the one that is asked first is named: each row adds one that is asked before those above it.
+#[test]
+fn names_the_first_fault(rt: HostRuntime) -> Result<(), Fail> {
+    let mut line = String::from_str(rt.alloc(), PLAN)?;
+    for (old, new, want) in [
+        ("\"length\":12", "\"length\":7", Plan(PlanFault::Length)),
+        ("\"A\",\"B\",\"C\"", "", PlanLineFault::Names),
+        ("\"exit\":1", "\"exits\":1", PlanLineFault::NotAPlan),
+        ("}", "", PlanLineFault::NotJson),
+    ] {
+        line = line.replacen(rt.alloc(), old, new, 1)?;
+        let fault = read_plan(rt.alloc(), line.as_bytes()).err();
+        assert_eq!(rt; fault, Some(want), "{line}");
+    }
+    Ok(())
+}
+
+#[test]
+fn reads_words_and_seeds(rt: HostRuntime) -> Result<(), Fail> {
+    for (words, want) in [
+        ("\"steady\"", WordKind::Steady),
+        ("0", WordKind::Seeded(0)),
+        ("18446744073709551615", WordKind::Seeded(u64::MAX)),
+    ] {
+        let line = PLAN.replacen(rt.alloc(), "7", words, 1)?;
+        assert!(rt; read_plan(rt.alloc(), line.as_bytes())?.plan.words() == want);
+    }
+    Ok(())
+}
+
+// Whether a plan line with these replicas is accepted.
+fn opens(alloc: Global, replicas: &str) -> Result<bool, Fail> {
+    let line = PLAN.replacen(alloc, "\"A\",\"B\",\"C\"", replicas, 1)?;
+    Ok(read_plan(alloc, line.as_bytes()).is_ok())
+}
+
+/// A name may have 64 bytes and no more.
+#[test]
+fn bounds_names(rt: HostRuntime) -> Result<(), Fail> {
+    for (more, is_name) in [("", true), ("e", false)] {
+        let mut name = "é".repeat(rt.alloc(), 32)?;
+        name.push_str(more)?;
+        let line = format!(in rt.alloc(); "\"A\",\"{name}\"")?;
+        assert_eq!(rt; opens(rt.alloc(), &line)?, is_name);
+        let command = format!(in rt.alloc(); "{{\"scenario\":{{\"at\":\"{name}\"}}}}")?;
+        let read = read_command(rt.alloc(), command.as_bytes());
+        assert_eq!(rt; read.is_ok(), is_name);
+    }
+    Ok(())
+}
+
+/// There may be 64 replicas and no more.
+#[test]
+fn bounds_replicas(rt: HostRuntime) -> Result<(), Fail> {
+    let mut names = String::from_str(rt.alloc(), "\"1\"")?;
+    for number in 2..66 {
+        write!(names, ",\"{number}\"")?;
+        assert_eq!(rt; opens(rt.alloc(), &names)?, number <= 64, "{number}");
+    }
+    Ok(())
+}
+
+const NOT_JSON: &str = "Err(NotJson)";
+
+const NOT_A_COMMAND: &str = "Err(NotACommand)";
+
+/// Lines, and what is read of each.
+const COMMANDS: &[(&str, &str)] = &[
+    (
+        "{\"advance\":{\"at\":\"A\",\"to\":6}}",
+        "Ok(Advance { at: \"A\", to: 6 })",
+    ),
+    (
+        "{\"advance\":{\"to\":6,\"at\":\"A\"}}",
+        "Ok(Advance { at: \"A\", to: 6 })",
+    ),
+    (
+        " \t{\"advance\" : {\"to\":6, \"at\":\"\\u0041\"}} \r",
+        "Ok(Advance { at: \"A\", to: 6 })",
+    ),
+    (
+        "{\"advance\":{\"at\":\"B\",\"to\":6,\"at\":\"A\"}}",
+        "Ok(Advance { at: \"A\", to: 6 })",
+    ),
+    (
+        "{\"advance\":0,\"advance\":{\"at\":\"A\",\"to\":6}}",
+        "Ok(Advance { at: \"A\", to: 6 })",
+    ),
+    (
+        "{\"cells\":{\"at\":\"A\",\"step\":4294967295}}",
+        "Ok(Cells { at: \"A\", step: 4294967295 })",
+    ),
+    (
+        "{\"cars\":{\"at\":\"A\",\"step\":6}}",
+        "Ok(Cars { at: \"A\", step: 6 })",
+    ),
+    (
+        "{\"count\":{\"to\":6,\"at\":\"A\",\"detector\":2,\"from\":4294967295}}",
+        "Ok(Count { at: \"A\", detector: 2, from: 4294967295, to: 6 })",
+    ),
+    (
+        "{\"diagram\":{\"at\":\"B\",\"from\":0,\"to\":60}}",
+        "Ok(Diagram { at: \"B\", from: 0, to: 60 })",
+    ),
+    (
+        "{\"scenario\":{\"at\":\"A\"}}",
+        "Ok(Scenario { at: \"A\" })",
+    ),
+    (
+        "{\"edit\":{\"at\":\"A\",\"object\":[\"limit\",2],\"step\":3,\"value\":1}}",
+        "Ok(Edit { at: \"A\", object: Limit(2), step: 3, value: 1 })",
+    ),
+    (
+        "{\"withdraw\":{\"at\":\"A\",\"object\":[\"limit\",2],\"step\":65536}}",
+        "Ok(Withdraw { at: \"A\", object: Limit(2), step: 65536 })",
+    ),
+    (
+        "{\"withdraw\":{\"at\":\"A\",\"object\":[\"slow\",2],\"step\":65536}}",
+        "Ok(Withdraw { at: \"A\", object: Slow(2), step: 65536 })",
+    ),
+    (
+        "{\"withdraw\":{\"at\":\"A\",\"object\":[\"block\",2],\"step\":65536}}",
+        "Ok(Withdraw { at: \"A\", object: Block(2), step: 65536 })",
+    ),
+    (
+        "{\"withdraw\":{\"at\":\"A\",\"object\":[\"inflow\",2],\"step\":65536}}",
+        "Ok(Withdraw { at: \"A\", object: Inflow(2), step: 65536 })",
+    ),
+    (
+        "{\"withdraw\":{\"at\":\"A\",\"object\":[\"watch\",2],\"step\":65536}}",
+        "Ok(Withdraw { at: \"A\", object: Watch(2), step: 65536 })",
+    ),
+    ("", NOT_JSON),
+    ("\r", NOT_JSON),
+    ("{\"advance\":{\"at\":\"A\",\"to\":6}", NOT_JSON),
+    ("{\"advance\":{\"at\":\"A\",\"to\":6}},", NOT_JSON),
+    ("{\"advance\":{\"at\":\"A\",\"to\":06}}", NOT_JSON),
+    ("{\"advance\":{\"at\":\"A\",\"to\":1e999}}", NOT_JSON),
+    ("\u{feff}{\"advance\":{\"at\":\"A\",\"to\":6}}", NOT_JSON),
+    ("{\"advance\":{\"at\":\"\\ud800\",\"to\":6}}", NOT_JSON),
+    ("null", NOT_A_COMMAND),
+    ("{}", NOT_A_COMMAND),
+    ("[\"advance\"]", NOT_A_COMMAND),
+    ("{\"advance\":6}", NOT_A_COMMAND),
+    ("{\"restart\":{\"at\":\"A\",\"to\":6}}", NOT_A_COMMAND),
+    (
+        "{\"advance\":{\"at\":\"A\",\"to\":6},\"cells\":{\"at\":\"A\",\"step\":6}}",
+        NOT_A_COMMAND,
+    ),
+    ("{\"advance\":{\"at\":\"A\"}}", NOT_A_COMMAND),
+    ("{\"advance\":{\"at\":\"A\",\"step\":6}}", NOT_A_COMMAND),
+    (
+        "{\"advance\":{\"at\":\"A\",\"to\":6,\"by\":1}}",
+        NOT_A_COMMAND,
+    ),
+    ("{\"advance\":{\"at\":\"\",\"to\":6}}", NOT_A_COMMAND),
+    ("{\"advance\":{\"at\":1,\"to\":6}}", NOT_A_COMMAND),
+    ("{\"advance\":{\"at\":\"A\",\"to\":\"6\"}}", NOT_A_COMMAND),
+    ("{\"advance\":{\"at\":\"A\",\"to\":null}}", NOT_A_COMMAND),
+    ("{\"advance\":{\"at\":\"A\",\"to\":-0}}", NOT_A_COMMAND),
+    ("{\"advance\":{\"at\":\"A\",\"to\":-1}}", NOT_A_COMMAND),
+    ("{\"advance\":{\"at\":\"A\",\"to\":1.0}}", NOT_A_COMMAND),
+    ("{\"advance\":{\"at\":\"A\",\"to\":1e2}}", NOT_A_COMMAND),
+    (
+        "{\"advance\":{\"at\":\"A\",\"to\":4294967296}}",
+        NOT_A_COMMAND,
+    ),
+    (
+        "{\"advance\":{\"at\":\"A\",\"to\":18446744073709551616}}",
+        NOT_A_COMMAND,
+    ),
+    ("{\"cells\":{\"at\":\"A\",\"to\":6}}", NOT_A_COMMAND),
+    (
+        "{\"edit\":{\"at\":\"A\",\"object\":[\"limit\",0],\"step\":3,\"value\":null}}",
+        NOT_A_COMMAND,
+    ),
+    (
+        "{\"edit\":{\"at\":\"A\",\"object\":[\"limit\",0],\"step\":3}}",
+        NOT_A_COMMAND,
+    ),
+    (
+        "{\"edit\":{\"at\":\"A\",\"object\":[\"lane\",0],\"step\":3,\"value\":1}}",
+        NOT_A_COMMAND,
+    ),
+    (
+        "{\"edit\":{\"at\":\"A\",\"object\":[\"limit\"],\"step\":3,\"value\":1}}",
+        NOT_A_COMMAND,
+    ),
+    (
+        "{\"edit\":{\"at\":\"A\",\"object\":[0,\"limit\"],\"step\":3,\"value\":1}}",
+        NOT_A_COMMAND,
+    ),
+    (
+        "{\"edit\":{\"at\":\"A\",\"object\":[\"limit\",0,0],\"step\":3,\"value\":1}}",
+        NOT_A_COMMAND,
+    ),
+    (
+        "{\"edit\":{\"at\":\"A\",\"object\":[\"limit\",0],\"step\":4294967296,\"value\":1}}",
+        NOT_A_COMMAND,
+    ),
+    (
+        "{\"withdraw\":{\"at\":\"A\",\"object\":[\"limit\",0],\"step\":3,\"value\":1}}",
+        NOT_A_COMMAND,
+    ),
+    (
+        "{\"edit\":{\"at\":\"A\",\"object\":[\"Block\",0],\"step\":3,\"value\":1}}",
+        NOT_A_COMMAND,
+    ),
+    ("{\"scenario\":{\"at\":\"A\",\"step\":0}}", NOT_A_COMMAND),
+    ("{\"cars\":{\"at\":\"A\"}}", NOT_A_COMMAND),
+    (
+        "{\"cars\":{\"at\":\"A\",\"from\":0,\"to\":6}}",
+        NOT_A_COMMAND,
+    ),
+    (
+        "{\"count\":{\"at\":\"A\",\"from\":0,\"to\":6}}",
+        NOT_A_COMMAND,
+    ),
+    (
+        "{\"count\":{\"at\":\"A\",\"detector\":-1,\"from\":0,\"to\":6}}",
+        NOT_A_COMMAND,
+    ),
+    (
+        "{\"count\":{\"at\":\"A\",\"detector\":0,\"from\":0,\"to\":4294967296}}",
+        NOT_A_COMMAND,
+    ),
+    ("{\"diagram\":{\"at\":\"A\",\"from\":0}}", NOT_A_COMMAND),
+    (
+        "{\"diagram\":{\"at\":\"A\",\"from\":0,\"to\":6.0}}",
+        NOT_A_COMMAND,
+    ),
+    (
+        "{\"diagram\":{\"at\":\"A\",\"from\":0,\"step\":1,\"to\":6}}",
+        NOT_A_COMMAND,
+    ),
+];
+
+#[test]
+fn reads_commands(rt: HostRuntime) -> Result<(), Fail> {
+    for (line, want) in COMMANDS {
+        let read = read_command(rt.alloc(), line.as_bytes());
+        let said = format!(in rt.alloc(); "{read:?}")?;
+        assert_eq!(rt; said.as_str(), *want, "{line}");
+    }
+    Ok(())
+}
+
+/// Bytes that are no text, and brackets, each in the one before: 100 are read, 200 are not.
+#[test]
+fn refuses_bytes_and_deep_values(rt: HostRuntime) -> Result<(), Fail> {
+    let no_text = b"{\"advance\":{\"at\":\"\xff\",\"to\":6}}";
+    let fault = read_command(rt.alloc(), no_text).err();
+    assert_eq!(rt; fault, Some(LineFault::NotJson));
+    for (depth, want) in [(100, LineFault::NotACommand), (200, LineFault::NotJson)] {
+        let mut text = "[".repeat(rt.alloc(), depth)?;
+        text.push_str(&"]".repeat(rt.alloc(), depth)?)?;
+        let fault = read_command(rt.alloc(), text.as_bytes()).err();
+        assert_eq!(rt; fault, Some(want), "{depth}");
+    }
+    Ok(())
+}
+
+// An answer is written so.
+fn is_written(rt: &impl Abort, alloc: Global, answer: &Answer, want: &str) -> Result<(), Fail> {
+    let line = reply_line(alloc, answer)?;
+    assert_eq!(rt; line.as_str(), want);
+    Ok(())
+}
+
+#[test]
+fn writes_replies(rt: HostRuntime) -> Result<(), Fail> {
+    for (answer, want) in [
+        (Answer::Open { replicas: 3 }, "{\"open\":3}\n"),
+        (Answer::Horizon(65_536), "{\"horizon\":65536}\n"),
+        (
+            Answer::Counted {
+                cars: 65_536,
+                speeds: 589_824,
+            },
+            "{\"cars\":65536,\"speeds\":589824}\n",
+        ),
+        (Answer::Cars(Vec::new(rt.alloc())), "{\"cars\":[]}\n"),
+        (Answer::Rows(Vec::new(rt.alloc())), "{\"rows\":[]}\n"),
+    ] {
+        is_written(&rt, rt.alloc(), &answer, want)?;
+    }
+    Ok(())
+}
+
+#[test]
+fn writes_rows(rt: HostRuntime) -> Result<(), Fail> {
+    let row = String::from_str(rt.alloc(), "0..2..10#...")?;
+    let want = "{\"cells\":\"0..2..10#...\"}\n";
+    is_written(&rt, rt.alloc(), &Answer::Cells(row), want)?;
+    let mut rows = Vec::new(rt.alloc());
+    for row in ["0..2..10#...", "............"] {
+        rows.push(String::from_str(rt.alloc(), row)?)?;
+    }
+    let want = "{\"rows\":[\"0..2..10#...\",\"............\"]}\n";
+    is_written(&rt, rt.alloc(), &Answer::Rows(rows), want)
+}
+
+#[test]
+fn writes_cars(rt: HostRuntime) -> Result<(), Fail> {
+    let mut cars = Vec::new(rt.alloc());
+    for (number, cell, speed) in [(0, 3, 1), (u64::MAX, 1_048_575, 9)] {
+        cars.push(Car {
+            number,
+            cell,
+            speed,
+        })?;
+    }
+    let want = "{\"cars\":[[0,3,1],[18446744073709551615,1048575,9]]}\n";
+    is_written(&rt, rt.alloc(), &Answer::Cars(cars), want)
+}
+
+/// Refusals, and how each is written.
+const REFUSALS: &[(Refusal, &str)] = &[
+    (Refusal::NoPlan, "{\"refused\":\"no plan\"}\n"),
+    (Refusal::LineTooLong, "{\"refused\":\"line too long\"}\n"),
+    (Refusal::NotJson, "{\"refused\":\"not json\"}\n"),
+    (Refusal::NotAPlan, "{\"refused\":\"not a plan\"}\n"),
+    (Refusal::Names, "{\"refused\":\"Names\"}\n"),
+    (Refusal::Length, "{\"refused\":\"Length\"}\n"),
+    (Refusal::Exit, "{\"refused\":\"Exit\"}\n"),
+    (Refusal::Zones, "{\"refused\":\"Zones\"}\n"),
+    (Refusal::Inlets, "{\"refused\":\"Inlets\"}\n"),
+    (Refusal::Detectors, "{\"refused\":\"Detectors\"}\n"),
+    (Refusal::Default, "{\"refused\":\"Default\"}\n"),
+    (Refusal::NotACommand, "{\"refused\":\"not a command\"}\n"),
+    (Refusal::NoReplica, "{\"refused\":\"NoReplica\"}\n"),
+    (Refusal::NoObject, "{\"refused\":\"NoObject\"}\n"),
+    (Refusal::Step, "{\"refused\":\"Step\"}\n"),
+    (
+        Refusal::ValueOutOfRange,
+        "{\"refused\":\"ValueOutOfRange\"}\n",
+    ),
+    (Refusal::CountsSpent, "{\"refused\":\"CountsSpent\"}\n"),
+    (Refusal::Horizon, "{\"refused\":\"Horizon\"}\n"),
+    (Refusal::NoDetector, "{\"refused\":\"NoDetector\"}\n"),
+    (Refusal::Range, "{\"refused\":\"Range\"}\n"),
+    (Refusal::NotSimulated, "{\"refused\":\"NotSimulated\"}\n"),
+];
+
+#[test]
+fn writes_refusals(rt: HostRuntime) -> Result<(), Fail> {
+    for (refusal, want) in REFUSALS {
+        is_written(&rt, rt.alloc(), &Answer::Refused(*refusal), want)?;
+    }
+    Ok(())
+}
+
+#[test]
+fn names_refusals(rt: HostRuntime) {
+    for (fault, want) in [
+        (LineFault::NotJson, Some(Refusal::NotJson)),
+        (LineFault::NotACommand, Some(Refusal::NotACommand)),
+        (LineFault::OutOfMemory, None),
+    ] {
+        assert_eq!(rt; fault.refusal(), want);
+    }
+    for (fault, want) in [
+        (PlanLineFault::NotJson, Some(Refusal::NotJson)),
+        (PlanLineFault::NotAPlan, Some(Refusal::NotAPlan)),
+        (PlanLineFault::Names, Some(Refusal::Names)),
+        (
+            PlanLineFault::Plan(PlanFault::Length),
+            Some(Refusal::Length),
+        ),
+        (PlanLineFault::Plan(PlanFault::Exit), Some(Refusal::Exit)),
+        (PlanLineFault::Plan(PlanFault::Zones), Some(Refusal::Zones)),
+        (
+            PlanLineFault::Plan(PlanFault::Inlets),
+            Some(Refusal::Inlets),
+        ),
+        (
+            PlanLineFault::Plan(PlanFault::Detectors),
+            Some(Refusal::Detectors),
+        ),
+        (
+            PlanLineFault::Plan(PlanFault::Default),
+            Some(Refusal::Default),
+        ),
+        (PlanLineFault::OutOfMemory, None),
+    ] {
+        assert_eq!(rt; fault.refusal(), want);
+    }
+    assert_eq!(rt; Refusal::NoReplica.text(), "NoReplica");
+}
