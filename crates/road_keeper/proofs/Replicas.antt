@@ -1,5 +1,5 @@
 -- The replicas that are kept, one of them read or changed.
-use Rattle.std.proofs.Common.{◌≡◌, ◌<◌, ◌≤◌, ◌+◌, ℕ, List, [], ◌∷◌, ◌++◌, length, map, max, Bool, true, false, Option, Some, None, refl, ap, sym, subst, ◌∙◌, arith, String, Global, string_bytes}
+use Rattle.std.proofs.Common.{◌≡◌, ◌<◌, ◌≤◌, ◌+◌, ℕ, List, [], ◌∷◌, ◌++◌, length, map, max, true, false, Option, Some, None, refl, ap, sym, subst, ◌∙◌, arith, String, Global, string_bytes}
 use Rattle.std.specs.Prelude.{slice_set, nat_lt, replicate}
 use Rattle.std.specs.List.{All, slice_index_or, position}
 use Rattle.std.specs.Str.{bytes_eq}
@@ -17,7 +17,6 @@ use Rattle.road_scenario.specs.RangeLaws.{in_range-empty, in_range-one, in_range
 use Rattle.road_scenario.specs.Winners.{winners, join}
 use Rattle.road_scenario.specs.WinnersLaws.{winners-empty}
 use Rattle.road_scenario.specs.declared.edit.Edit.{Edit}
-use Rattle.road_format.specs.PlanGrammar.{PlanLine}
 use Rattle.road_format.specs.Replies as replies
 use Rattle.road_format.specs.Views.{texts}
 use Rattle.road_detector.specs.declared.counts.Totals.{Totals}

@@ -1,5 +1,5 @@
 -- The states of a run, one after another, and what is seen of them.
-use Rattle.std.proofs.Common.{◌≡◌, ◌≤◌, ◌<◌, ◌+◌, ◌-◌, ◌^◌, ◌∙◌, String, Global, string_bytes, ℕ, zero, suc, List, [], ◌∷◌, ◌++◌, map, refl, ap, sym, arith}
+use Rattle.std.proofs.Common.{◌≡◌, ◌≤◌, ◌<◌, ◌+◌, ◌-◌, ◌^◌, ◌∙◌, String, Global, string_bytes, ℕ, zero, suc, List, [], ◌∷◌, ◌++◌, map, ap, sym, arith}
 use Rattle.std.proofs.Math.Numerals.{add-one}
 use Rattle.std.proofs.lemmas.List.{map-append}
 use Rattle.road_plan.specs.Plan.{Plan}

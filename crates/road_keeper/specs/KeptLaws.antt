@@ -1,12 +1,12 @@
 -- What is kept of the replicas suffices: it agrees with the events.
-use Rattle.std.proofs.Common.{◌≡◌, ◌≢◌, ◌<◌, ◌-◌, ◌==◌, ℕ, suc, List, [], ◌∷◌, length, map, Bool, true, false, max, Option, Some, None, refl, ap, sym, ◌∙◌, arith}
+use Rattle.std.proofs.Common.{◌≡◌, ◌≢◌, ◌<◌, ◌-◌, ◌==◌, ℕ, suc, List, [], ◌∷◌, length, map, Bool, true, false, Option, Some, None, refl, ap, sym, ◌∙◌, arith}
 use Rattle.std.specs.Prelude.{slice_set, not, nat_lt, if◌then◌else◌}
 use Rattle.std.specs.List.{slice_index_or}
 use Rattle.std.specs.Str.{bytes_eq}
 use Rattle.std.proofs.lemmas.List.{get_or-set_same, get_or-set_other, get_or-replicate, length-set, length-replicate}
 use Rattle.std.proofs.lemmas.List.Quantifiers.{position-Some}
 use Rattle.std.proofs.lemmas.Bool.{eqb-true, eqb-false}
-use Rattle.lattice_core.specs.Sets.{empty, items, union, from_list}
+use Rattle.lattice_core.specs.Sets.{items, union, from_list}
 use Rattle.road_plan.specs.Plan.{Plan}
 use Rattle.road_plan.specs.declared.object.Object.{Object}
 use Rattle.road_plan.specs.declared.limits.TheConstants.{GREATEST_HORIZON}
@@ -241,7 +241,7 @@ after_agrees kept line events command a =
     agrees_on : (kept : Kept) (line : PlanLine) (events : List Event) (o : Option Event) → Agrees kept line events → ((e : Event) → o ≡ Some e → e.replica < length line.names) → Agrees (kept_event kept o) line (with_event events o)
     agrees_on kept line events o a below = record { line_is = line_kept kept o ∙ a.line_is; replicas = event_agrees kept (length line.names) events o a.replicas below }
 
--- so it does before any event
+-- before any event it agrees with no events
 pub start_agrees : (line : PlanLine) → Agrees (start line) line []
 start_agrees line = record {
   line_is = refl;

@@ -1,4 +1,4 @@
-use Rattle.std.proofs.Common.{◌≡◌, ◌∙◌, true, length, nat_lt, rules, sym}
+use Rattle.std.proofs.Common.{◌≡◌, true, length, nat_lt, rules}
 use Rattle.std.specs.Arc.{arc_value}
 use Rattle.road_keeper.proofs.Replicas.{count_after}
 use Rattle.road_keeper.proofs.keeper.Keeper.count.Goals as goal

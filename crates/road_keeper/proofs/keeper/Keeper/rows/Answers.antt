@@ -1,8 +1,6 @@
-use Rattle.std.proofs.Common.{◌≡◌, ◌∙◌, ℕ, List, ap, sym, subst, refl}
+use Rattle.std.proofs.Common.{ap, sym, refl}
 use Rattle.std.specs.Arc.{arc_value}
-use Rattle.road_keeper.specs.Laboratory.{rows_at}
-use Rattle.road_keeper.specs.Simulation.{run_at}
-use Rattle.road_keeper.proofs.Replicas.{kept_below, read_same, state_of_run, unchanged, both_read}
+use Rattle.road_keeper.proofs.Replicas.{kept_below, state_of_run, unchanged, both_read}
 use Rattle.road_keeper.proofs.keeper.Keeper.rows.Goals as goal
 
 pub invariant_of-self : goal.invariant_of-self

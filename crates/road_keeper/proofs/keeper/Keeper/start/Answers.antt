@@ -1,5 +1,4 @@
-use Rattle.std.proofs.Common.{List, ℕ, sym, subst}
-use Rattle.std.specs.Arc.{arc_value}
+use Rattle.std.proofs.Common.{sym, subst}
 use Rattle.road_plan.specs.Plan.{Plan}
 use Rattle.road_keeper.specs.Keeping.{IsKept}
 use Rattle.road_keeper.proofs.Replicas.{start_kept, few_texts}
