@@ -7,7 +7,7 @@ use Rattle.road_format.specs.Cut.{newline, Pieces, cut, cut_at, last_piece, line
 use Rattle.road_format.specs.PlanGrammar.{PlanLine}
 use Rattle.road_format.specs.declared.refusal.Refusal.{Refusal}
 use Rattle.road_lab.specs.Answers.{written, first_of, later}
-use Rattle.road_lab.specs.Kept.{Kept}
+use Rattle.road_keeper.specs.Kept.{Kept}
 use Rattle.road_lab.specs.Desk.{Desk, opening, fed, said, byte_done, byte_said, is_spent, is_clear, line_said, line_done, end_said, end_done, unopened_said, unopened_done}
 use Rattle.road_lab.specs.declared.faults.End.{End}
 use Rattle.road_lab.specs.declared.faults.End.TheVariants as ends

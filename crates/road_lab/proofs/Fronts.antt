@@ -5,7 +5,7 @@ use Rattle.road_format.specs.Cut.{lines_of}
 use Rattle.road_format.specs.PlanGrammar.{PlanLine}
 use Rattle.road_format.specs.Replies.{Open, Refused, reply}
 use Rattle.road_format.specs.declared.refusal.Refusal.{Refusal}
-use Rattle.road_lab.specs.Laboratory.{Event}
+use Rattle.road_keeper.specs.Laboratory.{Event}
 use Rattle.road_lab.specs.Answers.{first_of, command_line, answer_of, after_line, replies, session, written, ends_within, answers_within}
 use Rattle.road_lab.specs.Laws.{AnswersGoOn}
 

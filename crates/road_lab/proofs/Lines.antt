@@ -4,17 +4,28 @@ use Rattle.std.specs.Prelude.{nat_lt}
 use Rattle.std.proofs.lemmas.Bool.{le-ltb, lt-ltb, ltb-false, ltb-true}
 use Rattle.std.proofs.Math.Dec.{eqb-suc-zero}
 use Rattle.road_format.specs.Cut.{Pieces, last_piece}
+use Rattle.road_format.specs.CommandGrammar.{Command}
 use Rattle.road_format.specs.PlanGrammar.{PlanLine}
 use Rattle.road_format.specs.Replies.{Answer, reply}
 use Rattle.road_format.specs.declared.refusal.Refusal.{Refusal}
-use Rattle.road_lab.specs.Laboratory.{Event}
-use Rattle.road_lab.specs.Answers.{first_of, command_line, replies, session, written, after_line, first_read, is_refusal}
-use Rattle.road_lab.specs.Kept.{Kept, start, line_answer, line_after}
-use Rattle.road_lab.specs.Desk.{open_said}
+use Rattle.road_keeper.specs.Laboratory.{Event}
+use Rattle.road_lab.specs.Answers.{first_of, command_line, replies, session, written, answer_of, after_line, first_read, is_refusal}
+use Rattle.road_keeper.specs.Kept.{Kept, start}
+use Rattle.road_keeper.specs.KeptLaws.{Agrees, answer_agrees, after_agrees, start_agrees}
+use Rattle.road_lab.specs.Desk.{line_answer, line_after, open_said}
 use Rattle.road_lab.specs.declared.faults.End.{End}
 use Rattle.road_lab.specs.declared.faults.End.TheVariants as ends
-use Rattle.road_lab.proofs.Agreement.{Agrees, line_agrees, after_agrees, start_agrees}
 use Rattle.road_lab.proofs.Machine.{outcome_at, outcome_first, outcome, rest_over}
+
+-- ---- what is kept agrees with the events, line by line
+
+line_agrees : (kept : Kept) (line : PlanLine) (events : List Event) (read : Result Command Refusal) → Agrees kept line events → line_answer kept read ≡ answer_of line events read
+line_agrees kept line events (Err refusal) a = refl
+line_agrees kept line events (Ok command) a = answer_agrees kept line events command a
+
+agrees_after : (kept : Kept) (line : PlanLine) (events : List Event) (read : Result Command Refusal) → Agrees kept line events → Agrees (line_after kept read) line (after_line line events read)
+agrees_after kept line events (Err refusal) a = a
+agrees_after kept line events (Ok command) a = after_agrees kept line events command a
 
 -- ---- what is said
 
@@ -27,7 +38,7 @@ unfolding replies
 said_at_lines kept line events n [] rest a = sym (ap (replies line events) (no_lines n))
 said_at_lines kept line events zero (l ∷ ls) rest a = refl
 said_at_lines kept line events (suc n) (l ∷ ls) rest a =
-    ap (λ (t : List ℕ). reply (line_answer kept (command_line l)) ++ t) (said_at_lines (line_after kept (command_line l)) line (after_line line events (command_line l)) n ls rest (after_agrees kept line events (command_line l) a))
+    ap (λ (t : List ℕ). reply (line_answer kept (command_line l)) ++ t) (said_at_lines (line_after kept (command_line l)) line (after_line line events (command_line l)) n ls rest (agrees_after kept line events (command_line l) a))
     ∙ ap (λ (answer : Answer). reply answer ++ replies line (after_line line events (command_line l)) (take n ls)) (line_agrees kept line events (command_line l) a)
 
 said_first : (read : Result PlanLine Refusal) (n : ℕ) (lines : List (List ℕ)) (rest : List ℕ) → (outcome_first read n lines rest).said ≡ session read (take n lines)

@@ -10,8 +10,8 @@ use Rattle.road_format.specs.PlanGrammar.{PlanLine, plan_line_of}
 use Rattle.road_format.specs.Replies.{reply}
 use Rattle.road_format.specs.declared.refusal.Refusal.{Refusal}
 use Rattle.road_lab.specs.Answers.{unless_long, is_long, first_of, command_line}
-use Rattle.road_lab.specs.Kept.{Kept, start, line_answer, line_after}
-use Rattle.road_lab.specs.Desk.{Desk, opening, fed, said, byte_done, byte_said, is_spent, said_at, line_done, held_more, open_said, opened}
+use Rattle.road_keeper.specs.Kept.{Kept, start}
+use Rattle.road_lab.specs.Desk.{Desk, line_answer, line_after, opening, fed, said, byte_done, byte_said, is_spent, said_at, line_done, held_more, open_said, opened}
 use Rattle.road_lab.specs.declared.faults.End.{End}
 use Rattle.road_lab.specs.declared.faults.End.TheVariants as ends
 

@@ -7,7 +7,7 @@ use Rattle.road_format.specs.PlanGrammar.{PlanLine, plan_line_of}
 use Rattle.road_format.specs.Replies.{Answer, Open, Refused, reply}
 use Rattle.road_format.specs.declared.refusal.Refusal.{Refusal}
 use Rattle.road_format.specs.declared.refusal.Refusal.TheVariants as refusals
-use Rattle.road_lab.specs.Laboratory.{Event, answer_to, events_after}
+use Rattle.road_keeper.specs.Laboratory.{Event, answer_to, events_after}
 
 -- ---- one line
 

@@ -3,13 +3,13 @@
 use Rattle.std.specs.Prelude.{ℕ, List, [], ◌∷◌, ◌++◌, ◌-◌, ◌==◌, Bool, true, false, not, length, nat_lt, if◌then◌else◌, Option, Some, None, Result, Ok, Err}
 use Rattle.road_plan.specs.declared.limits.TheConstants.{LONGEST_LINE}
 use Rattle.road_format.specs.Cut.{newline}
-use Rattle.road_format.specs.CommandGrammar.{command_of}
+use Rattle.road_format.specs.CommandGrammar.{Command, command_of}
 use Rattle.road_format.specs.PlanGrammar.{PlanLine, plan_line_of}
-use Rattle.road_format.specs.Replies.{Open, Refused, reply}
+use Rattle.road_format.specs.Replies.{Answer, Open, Refused, reply}
 use Rattle.road_format.specs.declared.refusal.Refusal.{Refusal}
 use Rattle.road_format.specs.declared.refusal.Refusal.TheVariants as refusals
+use Rattle.road_keeper.specs.Kept.{Kept, start, kept_answer, kept_after}
 use Rattle.road_lab.specs.Answers.{unless_long}
-use Rattle.road_lab.specs.Kept.{Kept, start, line_answer, line_after}
 use Rattle.road_lab.specs.declared.faults.End.{End}
 use Rattle.road_lab.specs.declared.faults.End.TheVariants as ends
 
@@ -24,6 +24,16 @@ pub record Desk : Type 0 where
 
 abbrev pub opening : ℕ → Desk
 opening lines = record { serving = None; held = []; long = false; left = lines; over = None }
+
+-- ---- what is answered to a line, and what is kept after it: a refused one changes nothing
+
+abbrev pub line_answer : Kept → Result Command Refusal → Answer
+line_answer kept (Err refusal) = Refused refusal
+line_answer kept (Ok command) = kept_answer kept command
+
+abbrev pub line_after : Kept → Result Command Refusal → Kept
+line_after kept (Err refusal) = kept
+line_after kept (Ok command) = kept_after kept command
 
 -- ---- the line that is held has ended
 

@@ -6,13 +6,12 @@ ghost use Rattle.road_format.specs.PlanGrammar.{plan_line_of, all_differ};
 ghost use Rattle.road_format.specs.Replies.{reply};
 ghost use Rattle.road_format.specs.Views.{texts, plan_line_view, command_view, answer_view};
 ghost use Rattle.road_lab.specs.Answers.{unless_long};
-ghost use Rattle.road_lab.specs.Kept.{line_answer, line_after};
-ghost use Rattle.road_lab.specs.Desk.{line_said, line_done, byte_said, byte_done, fed, said, opening, is_spent, end_said, end_done};
+ghost use Rattle.road_lab.specs.Desk.{line_answer, line_after, line_said, line_done, byte_said, byte_done, fed, said, opening, is_spent, end_said, end_done};
 ghost use Rattle.road_lab.specs.Views.{IsRead};
 
 use crate::faults::End;
-use crate::keeper::Keeper;
 use road_format::{Answer, Command, PlanLine, Refusal, read_command, read_plan, reply_line};
+use road_keeper::Keeper;
 use road_plan::OutOfMemory;
 use road_plan::limits::LONGEST_LINE;
 use std::alloc::{AllocError, Global};

@@ -3,13 +3,10 @@
 
 mod desk;
 mod faults;
-mod keeper;
 mod laws;
 mod memory;
-mod names;
 mod run;
 mod serve;
-mod simulation;
 mod std_streams;
 mod streams;
 #[cfg(test)]

@@ -1,18 +1,16 @@
+//! Scripts, limits and faults worked out by hand.
+
 use crate::faults::ServeFault;
 use crate::memory::{MemorySink, MemorySource};
 use crate::run::run;
 use crate::serve::{serve, serve_within};
 use std::alloc::Global;
+use std::process::Abort;
 use std::test::Fail;
 
 /// A road of 12 cells without slowing, and three replicas.
 const FREE_ROAD: &str =
     r#"{"detectors":[5],"exit":1,"inlets":[[0,65536]],"length":12,"replicas":["A","B","C"],"words":7,"zone":12,"zones":[[2,0]]}
-"#;
-
-const ADVANCE_THRICE: &str = r#"{"advance":{"at":"A","to":1}}
-{"advance":{"at":"A","to":1}}
-{"advance":{"at":"A","to":1}}
 "#;
 
 fn source(text: &str) -> MemorySource<'_> {
@@ -23,68 +21,57 @@ fn sink(alloc: Global) -> MemorySink {
     MemorySink::new(Vec::new(alloc), usize::MAX, u64::MAX)
 }
 
-#[test]
-fn roads_with_and_without_chance(rt: HostRuntime) -> Result<(), Fail> {
-    let alloc = rt.alloc();
-    let scripts = [
-        // Every car is slowed at every step.
-        (
-            r#"{"detectors":[5],"exit":1,"inlets":[[0,65536]],"length":12,"replicas":["A"],"words":7,"zone":12,"zones":[[2,65536]]}
-{"advance":{"at":"A","to":6}}
+/// A plan line, commands, and what is answered to all. Edits act at their steps, simulated already or not; refused ones
+/// change nothing, not even the next count.
+const SCRIPTS: &[(&str, &str, &str)] = &[
+    // Every car is slowed at every step.
+    (
+        r#"{"detectors":[5],"exit":1,"inlets":[[0,65536]],"length":12,"replicas":["A"],"words":7,"zone":12,"zones":[[2,65536]]}
+"#,
+        r#"{"advance":{"at":"A","to":6}}
 {"cells":{"at":"A","step":1}}
 {"cells":{"at":"A","step":6}}
 "#,
-            r#"{"open":1}
+        r#"{"open":1}
 {"horizon":6}
 {"cells":"0..........."}
 {"cells":"0..........."}
 "#,
-        ),
-        // Steady words, and a chance of one half; the questions go back.
-        (
-            r#"{"detectors":[5],"exit":1,"inlets":[[0,65536]],"length":12,"replicas":["A"],"words":"steady","zone":12,"zones":[[2,32768]]}
-{"advance":{"at":"A","to":6}}
+    ),
+    // Steady words, and a chance of one half; the questions go back.
+    (
+        r#"{"detectors":[5],"exit":1,"inlets":[[0,65536]],"length":12,"replicas":["A"],"words":"steady","zone":12,"zones":[[2,32768]]}
+"#,
+        r#"{"advance":{"at":"A","to":6}}
 {"cells":{"at":"A","step":6}}
 {"cells":{"at":"A","step":5}}
 {"cells":{"at":"A","step":3}}
 {"cells":{"at":"A","step":4}}
 "#,
-            r#"{"open":1}
+        r#"{"open":1}
 {"horizon":6}
 {"cells":".1...1......"}
 {"cells":"0...2......."}
 {"cells":".1.........."}
 {"cells":"0.1........."}
 "#,
-        ),
-        // Two zones, and a deleted zone of three cells; no newline at the end.
-        (
-            r#"{"detectors":[5],"exit":3,"inlets":[[0,65536]],"length":12,"replicas":["A"],"words":7,"zone":6,"zones":[[2,0],[1,0]]}
-{"advance":{"at":"A","to":6}}
+    ),
+    // Two zones, and a deleted zone of three cells; no newline at the end.
+    (
+        r#"{"detectors":[5],"exit":3,"inlets":[[0,65536]],"length":12,"replicas":["A"],"words":7,"zone":6,"zones":[[2,0],[1,0]]}
+"#,
+        r#"{"advance":{"at":"A","to":6}}
 {"cells":{"at":"A","step":5}}
 {"cells":{"at":"A","step":6}}"#,
-            r#"{"open":1}
+        r#"{"open":1}
 {"horizon":6}
 {"cells":".1...2..1..."}
 {"cells":"0..2...2...."}
 "#,
-        ),
-    ];
-    for (input, answers) in scripts {
-        let mut writer = sink(alloc);
-        serve(alloc, &mut source(input), &mut writer)?;
-        assert!(rt; writer.bytes() == answers.as_bytes());
-    }
-    Ok(())
-}
-
-/// Edits act at their steps, simulated already or not; refused ones change nothing, not even the next count.
-#[test]
-fn edits_and_withdrawals(rt: HostRuntime) -> Result<(), Fail> {
-    let alloc = rt.alloc();
-    let scripts = [
-        (
-            r#"{"edit":{"at":"A","object":["limit",0],"step":3,"value":1}}
+    ),
+    (
+        FREE_ROAD,
+        r#"{"edit":{"at":"A","object":["limit",0],"step":3,"value":1}}
 {"edit":{"at":"A","object":["limit",0],"step":5,"value":0}}
 {"advance":{"at":"A","to":7}}
 {"cells":{"at":"A","step":3}}
@@ -93,7 +80,8 @@ fn edits_and_withdrawals(rt: HostRuntime) -> Result<(), Fail> {
 {"cells":{"at":"A","step":6}}
 {"cells":{"at":"A","step":7}}
 "#,
-            r#"{"stamp":[1,0]}
+        r#"{"open":3}
+{"stamp":[1,0]}
 {"stamp":[2,0]}
 {"horizon":7}
 {"cells":".1...2......"}
@@ -102,10 +90,11 @@ fn edits_and_withdrawals(rt: HostRuntime) -> Result<(), Fail> {
 {"cells":"00.0...0...."}
 {"cells":"00.0...0...."}
 "#,
-        ),
-        // The road was simulated, and asked for, before the edit and before its withdrawal.
-        (
-            r#"{"advance":{"at":"A","to":6}}
+    ),
+    // The road was simulated, and asked for, before the edit and before its withdrawal.
+    (
+        FREE_ROAD,
+        r#"{"advance":{"at":"A","to":6}}
 {"cells":{"at":"A","step":6}}
 {"edit":{"at":"A","object":["slow",0],"step":0,"value":65536}}
 {"cells":{"at":"A","step":6}}
@@ -115,7 +104,8 @@ fn edits_and_withdrawals(rt: HostRuntime) -> Result<(), Fail> {
 {"edit":{"at":"B","object":["limit",0],"step":6,"value":1}}
 {"cells":{"at":"B","step":6}}
 "#,
-            r#"{"horizon":6}
+        r#"{"open":3}
+{"horizon":6}
 {"cells":"0..2...2...."}
 {"stamp":[1,0]}
 {"cells":"0..........."}
@@ -125,25 +115,28 @@ fn edits_and_withdrawals(rt: HostRuntime) -> Result<(), Fail> {
 {"stamp":[1,1]}
 {"cells":"0..2...2...."}
 "#,
-        ),
-        (
-            r#"{"edit":{"at":"A","object":["limit",1],"step":0,"value":1}}
+    ),
+    (
+        FREE_ROAD,
+        r#"{"edit":{"at":"A","object":["limit",1],"step":0,"value":1}}
 {"edit":{"at":"A","object":["limit",0],"step":65536,"value":1}}
 {"edit":{"at":"A","object":["limit",0],"step":65535,"value":10}}
 {"edit":{"at":"D","object":["limit",1],"step":0,"value":1}}
 {"scenario":{"at":"A"}}
 {"edit":{"at":"A","object":["limit",0],"step":65535,"value":9}}
 "#,
-            r#"{"refused":"NoObject"}
+        r#"{"open":3}
+{"refused":"NoObject"}
 {"refused":"Step"}
 {"refused":"ValueOutOfRange"}
 {"refused":"NoReplica"}
 {"edits":[],"form":1}
 {"stamp":[1,0]}
 "#,
-        ),
-        (
-            r#"{"edit":{"at":"A","object":["limit",0],"step":3,"value":1}}
+    ),
+    (
+        FREE_ROAD,
+        r#"{"edit":{"at":"A","object":["limit",0],"step":3,"value":1}}
 {"withdraw":{"at":"A","object":["limit",0],"step":3}}
 {"withdraw":{"at":"A","object":["slow",0],"step":0}}
 {"scenario":{"at":"A"}}
@@ -151,7 +144,8 @@ fn edits_and_withdrawals(rt: HostRuntime) -> Result<(), Fail> {
 {"cells":{"at":"A","step":6}}
 {"scenario":{"at":"D"}}
 "#,
-            r#"{"stamp":[1,0]}
+        r#"{"open":3}
+{"stamp":[1,0]}
 {"stamp":[2,0]}
 {"stamp":[3,0]}
 {"edits":[["limit",0,3,2,0,null],["slow",0,0,3,0,null]],"form":1}
@@ -159,25 +153,10 @@ fn edits_and_withdrawals(rt: HostRuntime) -> Result<(), Fail> {
 {"cells":"0..2...2...."}
 {"refused":"NoReplica"}
 "#,
-        ),
-    ];
-    for (commands, answers) in scripts {
-        let input = format!(in alloc; "{FREE_ROAD}{commands}")?;
-        let want = format!(in alloc; "{{\"open\":3}}\n{answers}")?;
-        let mut writer = sink(alloc);
-        serve(alloc, &mut source(&input), &mut writer)?;
-        assert!(rt; writer.bytes() == want.as_bytes());
-    }
-    Ok(())
-}
-
-/// Closed cells, inflows and detectors, before and after the fact; cars, counts and diagrams.
-#[test]
-fn traffic(rt: HostRuntime) -> Result<(), Fail> {
-    let alloc = rt.alloc();
-    let scripts = [
-        (
-            r#"{"advance":{"at":"A","to":6}}
+    ),
+    (
+        FREE_ROAD,
+        r#"{"advance":{"at":"A","to":6}}
 {"cars":{"at":"A","step":6}}
 {"count":{"at":"A","detector":0,"from":0,"to":3}}
 {"count":{"at":"A","detector":0,"from":0,"to":6}}
@@ -190,7 +169,8 @@ fn traffic(rt: HostRuntime) -> Result<(), Fail> {
 {"edit":{"at":"A","object":["watch",0],"step":4,"value":1}}
 {"count":{"at":"A","detector":0,"from":0,"to":6}}
 "#,
-            r#"{"horizon":6}
+        r#"{"open":3}
+{"horizon":6}
 {"cars":[[80,0,0],[48,3,2],[16,7,2]]}
 {"cars":1,"speeds":2}
 {"cars":2,"speeds":4}
@@ -203,9 +183,10 @@ fn traffic(rt: HostRuntime) -> Result<(), Fail> {
 {"stamp":[2,0]}
 {"cars":1,"speeds":2}
 "#,
-        ),
-        (
-            r#"{"advance":{"at":"A","to":6}}
+    ),
+    (
+        FREE_ROAD,
+        r#"{"advance":{"at":"A","to":6}}
 {"edit":{"at":"A","object":["block",8],"step":4,"value":1}}
 {"cells":{"at":"A","step":6}}
 {"diagram":{"at":"A","from":4,"to":6}}
@@ -214,7 +195,8 @@ fn traffic(rt: HostRuntime) -> Result<(), Fail> {
 {"diagram":{"at":"A","from":0,"to":1024}}
 {"diagram":{"at":"A","from":0,"to":4294967295}}
 "#,
-            r#"{"horizon":6}
+        r#"{"open":3}
+{"horizon":6}
 {"stamp":[1,0]}
 {"cells":"0..2..10#..."}
 {"rows":["0..2...2#...",".1...2.0#...","0..2..10#..."]}
@@ -223,10 +205,11 @@ fn traffic(rt: HostRuntime) -> Result<(), Fail> {
 {"refused":"Range"}
 {"refused":"Range"}
 "#,
-        ),
-        // A car stands on the cell that is closed.
-        (
-            r#"{"advance":{"at":"A","to":6}}
+    ),
+    // A car stands on the cell that is closed.
+    (
+        FREE_ROAD,
+        r#"{"advance":{"at":"A","to":6}}
 {"edit":{"at":"A","object":["block",7],"step":4,"value":1}}
 {"diagram":{"at":"A","from":4,"to":6}}
 {"edit":{"at":"B","object":["inflow",0],"step":0,"value":0}}
@@ -234,7 +217,8 @@ fn traffic(rt: HostRuntime) -> Result<(), Fail> {
 {"cells":{"at":"B","step":6}}
 {"edit":{"at":"B","object":["block",12],"step":0,"value":1}}
 "#,
-            r#"{"horizon":6}
+        r#"{"open":3}
+{"horizon":6}
 {"stamp":[1,0]}
 {"rows":["0..2...2....",".1...2.#.2..","0..2..1#...."]}
 {"stamp":[1,1]}
@@ -242,54 +226,74 @@ fn traffic(rt: HostRuntime) -> Result<(), Fail> {
 {"cells":"............"}
 {"refused":"NoObject"}
 "#,
-        ),
-    ];
-    for (commands, answers) in scripts {
-        let input = format!(in alloc; "{FREE_ROAD}{commands}")?;
-        let want = format!(in alloc; "{{\"open\":3}}\n{answers}")?;
-        let mut writer = sink(alloc);
-        serve(alloc, &mut source(&input), &mut writer)?;
-        assert!(rt; writer.bytes() == want.as_bytes());
+    ),
+];
+
+#[test]
+fn answers_scripts(rt: HostRuntime) -> Result<(), Fail> {
+    for (plan, commands, answers) in SCRIPTS {
+        let input = format!(in rt.alloc(); "{plan}{commands}")?;
+        let mut writer = sink(rt.alloc());
+        serve(rt.alloc(), &mut source(&input), &mut writer)?;
+        assert!(rt; writer.bytes() == answers.as_bytes(), "{commands}");
     }
     Ok(())
 }
 
+/// Three commands on the free road, in 90 bytes.
+const COMMANDS: &str = r#"{"advance":{"at":"A","to":1}}
+{"advance":{"at":"A","to":1}}
+{"advance":{"at":"A","to":1}}
+"#;
+
+const REPLIES: &str = "{\"open\":3}\n{\"horizon\":1}\n{\"horizon\":1}\n{\"horizon\":1}\n";
+
+/// So many lines and bytes at most; how many bytes a read gives and how many reads succeed; how many bytes the writer takes
+/// and how many flushes succeed; how the run ends, and how many bytes it has written at least.
+type Run = ((u32, u64), (usize, u64), (usize, u64), &'static str, usize);
+
+const ALL: u64 = u64::MAX;
+
 #[test]
 fn limits_and_faults(rt: HostRuntime) -> Result<(), Fail> {
-    let alloc = rt.alloc();
-    let input = format!(in alloc; "{FREE_ROAD}{ADVANCE_THRICE}")?;
-    let replies = "{\"open\":3}\n{\"horizon\":1}\n{\"horizon\":1}\n{\"horizon\":1}\n";
-
-    let mut writer = sink(alloc);
-    let served = serve_within(alloc, &mut source(&input), &mut writer, 3, 1000)?;
-    assert_eq!(rt; served.lines, 3);
-    assert!(rt; writer.bytes() == replies.as_bytes());
-
-    let mut writer = sink(alloc);
-    let result = serve_within(alloc, &mut source(&input), &mut writer, 2, 1000);
-    assert!(rt; matches!(&result, Err(ServeFault::TooMany)));
-    assert!(rt; writer.bytes() == &replies.as_bytes()[..39]);
-
-    let mut writer = sink(alloc);
+    let input = format!(in rt.alloc(); "{FREE_ROAD}{COMMANDS}")?;
     let bytes = input.len() as u64;
-    let result = serve_within(alloc, &mut source(&input), &mut writer, 3, bytes - 1);
-    assert!(rt; matches!(&result, Err(ServeFault::TooMany)));
-    assert!(rt; writer.bytes() == &replies.as_bytes()[..39]);
-
-    let mut writer = MemorySink::new(Vec::new(alloc), 14, u64::MAX);
-    let result = serve(alloc, &mut source(&input), &mut writer);
-    assert!(rt; matches!(&result, Err(ServeFault::Write)));
-    assert!(rt; writer.bytes() == &replies.as_bytes()[..14]);
-
-    let mut writer = MemorySink::new(Vec::new(alloc), usize::MAX, 0);
-    let result = serve(alloc, &mut source(&input), &mut writer);
-    assert!(rt; matches!(&result, Err(ServeFault::Write)));
-
-    let mut writer = sink(alloc);
-    let mut reader = MemorySource::new(input.as_bytes(), FREE_ROAD.len(), 1);
-    let result = serve(alloc, &mut reader, &mut writer);
-    assert!(rt; matches!(&result, Err(ServeFault::Read)));
-    assert!(rt; writer.bytes() == "{\"open\":3}\n".as_bytes());
+    let first = FREE_ROAD.len();
+    let table: [Run; 7] = [
+        (
+            (3, 1000),
+            (7, ALL),
+            (1000, ALL),
+            "Ok(Served { lines: 3 })",
+            53,
+        ),
+        (
+            (3, bytes),
+            (7, ALL),
+            (1000, ALL),
+            "Ok(Served { lines: 3 })",
+            53,
+        ),
+        ((2, 1000), (7, ALL), (1000, ALL), "Err(TooMany)", 39),
+        ((3, bytes - 1), (7, ALL), (1000, ALL), "Err(TooMany)", 39),
+        ((3, 1000), (7, ALL), (14, ALL), "Err(Write)", 14),
+        ((3, 1000), (7, ALL), (1000, 0), "Err(Write)", 0),
+        ((3, 1000), (first, 1), (1000, ALL), "Err(Read)", 11),
+    ];
+    for ((lines, bytes), (piece, reads), (room, flushes), end, written) in table {
+        assert!(rt; piece > 0);
+        let mut reader = MemorySource::new(input.as_bytes(), piece, reads);
+        let mut writer = MemorySink::new(Vec::new(rt.alloc()), room, flushes);
+        let result = serve_within(rt.alloc(), &mut reader, &mut writer, lines, bytes);
+        let said = format!(in rt.alloc(); "{result:?}")?;
+        assert!(rt;
+            said.as_str() == end
+                && REPLIES.as_bytes().starts_with(writer.bytes())
+                && writer.bytes().len() >= written
+                && (written == 0 || writer.bytes().len() == written),
+            "{end}"
+        );
+    }
     Ok(())
 }
 
@@ -314,29 +318,36 @@ fn the_longest_line(rt: HostRuntime) -> Result<(), Fail> {
     Ok(())
 }
 
+// A run ends with a status and a line on standard error.
+fn ends_with(
+    rt: &impl Abort,
+    words: &[String],
+    mut reader: MemorySource<'_>,
+    (writer, alloc): (&mut MemorySink, Global),
+    (status, line): (u8, Option<&str>),
+) {
+    let ended = run(alloc, words, &mut reader, writer);
+    assert!(rt; ended.status == status && ended.line == line, "{status}");
+}
+
 #[test]
 fn statuses(rt: HostRuntime) -> Result<(), Fail> {
     let alloc = rt.alloc();
-    let none: [String; 0] = [];
-    let ended = run(alloc, &none, &mut source(FREE_ROAD), &mut sink(alloc));
-    assert_eq!(rt; ended.status, 0);
-    assert_eq!(rt; ended.line, None);
-    let ended = run(alloc, &none, &mut source(""), &mut sink(alloc));
-    assert_eq!(rt; ended.status, 2);
-    assert_eq!(rt; ended.line, Some("bad plan"));
-    let mut writer = MemorySink::new(Vec::new(alloc), 0, 0);
-    let ended = run(alloc, &none, &mut source(FREE_ROAD), &mut writer);
-    assert_eq!(rt; ended.status, 4);
-    assert_eq!(rt; ended.line, Some("write fault"));
-    let mut reader = MemorySource::new(FREE_ROAD.as_bytes(), 1, 0);
-    let ended = run(alloc, &none, &mut reader, &mut sink(alloc));
-    assert_eq!(rt; ended.status, 5);
-    assert_eq!(rt; ended.line, Some("read fault"));
+    let failing = MemorySource::new(FREE_ROAD.as_bytes(), 1, 0);
+    let table: [(MemorySource<'_>, usize, u8, Option<&str>); 4] = [
+        (source(FREE_ROAD), 1000, 0, None),
+        (source(""), 1000, 2, Some("bad plan")),
+        (source(FREE_ROAD), 0, 4, Some("write fault")),
+        (failing, 1000, 5, Some("read fault")),
+    ];
+    for (reader, room, status, line) in table {
+        let mut writer = MemorySink::new(Vec::new(alloc), room, u64::MAX);
+        ends_with(&rt, &[], reader, (&mut writer, alloc), (status, line));
+    }
     let words = [String::from_str(alloc, "--help")?];
     let mut writer = sink(alloc);
-    let ended = run(alloc, &words, &mut source(FREE_ROAD), &mut writer);
-    assert_eq!(rt; ended.status, 2);
-    assert_eq!(rt; ended.line, Some("bad arguments"));
+    let said = (2, Some("bad arguments"));
+    ends_with(&rt, &words, source(FREE_ROAD), (&mut writer, alloc), said);
     assert!(rt; writer.bytes().is_empty());
     Ok(())
 }

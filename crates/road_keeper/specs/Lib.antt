@@ -1,0 +1,5 @@
+pub mod Laboratory
+pub mod Simulation
+pub mod Keeping
+pub mod Kept
+pub mod KeptLaws
