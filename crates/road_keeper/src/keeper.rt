@@ -1,11 +1,13 @@
 //! The replicas, and what they answer.
 
-ghost use Rattle.std.specs.Prelude.{◌≡◌, ◌<◌, ◌≤◌, IfOk, OnOk, OnErr, nat_lt, length, map, replicate, true, Some, None, string_bytes};
+ghost use Rattle.std.specs.Prelude.{◌≡◌, ◌<◌, ◌≤◌, ◌∷◌, [], IfOk, OnOk, OnErr, nat_lt, length, map, replicate, true, Some, None, string_bytes};
 ghost use Rattle.std.specs.List.{All};
 ghost use Rattle.road_format.specs.PlanGrammar.{all_differ};
 ghost use Rattle.road_format.specs.Views.{texts, car_view, plan_line_view, command_view, answer_view};
 ghost use Rattle.road_plan.specs.declared.limits.TheConstants.{MOST_REPLICAS};
+ghost use Rattle.lattice_core.specs.Sets.{from_list};
 ghost use Rattle.road_scenario.specs.Faults.{fault_of};
+ghost use Rattle.road_scenario.specs.Winners.{join};
 ghost use Rattle.road_keeper.specs.Keeping.{seen, IsOfRun};
 ghost use Rattle.road_keeper.specs.Laboratory as laboratory;
 ghost use Rattle.road_keeper.specs.Laboratory.{replica_of, local_edit, edit_event, edit_answer, advance_event, advance_answer, cells_answer, cars_answer, cars_at, count_answer, total_at, diagram_answer, rows_at, scenario_answer, row_at};
@@ -33,6 +35,24 @@ pub struct Replica {
     pub horizon: u32,
     /// The last state, of the run by these edits.
     pub last: State,
+}
+
+impl Replica {
+    // The replica with one edit more. A state that was computed without it does not stay.
+    fn with_edit(&self, alloc: Global, edit: &Edit) -> Result<Replica, OutOfMemory>
+        ensures scenario { IfOk result (λ replica. replica.scenario ≡ join self.now.scenario (from_list (edit.now ∷ []))) }
+        ensures horizon { IfOk result (λ replica. replica.horizon ≡ self.now.horizon) }
+        ensures step { IfOk result (λ replica. replica.last.step ≡ 0) }
+        ensures road { IfOk result (λ replica. replica.last.road ≡ []) }
+    {
+        let scenario = self.scenario.with_edit(edit)?;
+        let last = State::opening(alloc);
+        Ok(Replica {
+            scenario,
+            horizon: self.horizon,
+            last,
+        })
+    }
 }
 
 /// The replicas of a plan line.
@@ -176,16 +196,15 @@ impl Keeper {
         }
     }
 
-    // A replica holds one edit more. The states that were computed without it are forgotten.
+    // A replica holds one edit more.
     fn hold(&mut self, alloc: Global, replica: usize, edit: &Edit) -> Result<(), OutOfMemory>
         requires within { replica < length self.old.line.names }
         requires fits { fault_of self.old.line.plan edit.now ≡ None }
         ensures after { OnOk result (self.new ≡ kept_event self.old (Some (record { replica = replica; deed = laboratory.Made edit.now }))) }
         ensures unchanged { OnErr result (self.new ≡ self.old) }
     {
-        let held = &mut self.replicas[replica];
-        held.scenario = held.scenario.with_edit(edit)?;
-        held.last = State::opening(alloc);
+        let held = self.replicas[replica].with_edit(alloc, edit)?;
+        self.replicas[replica] = held;
         Ok(())
     }
 

@@ -1,6 +1,6 @@
 use Rattle.std.specs.Arc.{arc_value}
 use Rattle.std.proofs.Common.{refl}
-use Rattle.road_keeper.proofs.Replicas.{still_kept, of_run_at, kept_below, hold_after, hold_of_run}
+use Rattle.road_keeper.proofs.Replicas.{still_kept, kept_below, hold_after, hold_of_run}
 use Rattle.road_keeper.proofs.keeper.Keeper.hold.Goals as goal
 
 pub invariant_of-self : goal.invariant_of-self
@@ -8,22 +8,14 @@ invariant_of-self c =
     let plan = arc_value c.self.inside.plan in
     let names = c.self.inside.names in
     let xs = c.self.inside.replicas.items in
-    let x = c.index_mut-held.result.now in
-    let below = kept_below plan names xs c.args.self.now c.args.replica c.self.view_is c.self.invariant c.requires.within in
-    still_kept plan names xs c.args.replica x c.self.invariant (of_run_at plan names xs c.args.replica x c.self.invariant c.index_mut-held.ensures.value below)
-
-pub invariant_of-self-2 : goal.invariant_of-self-2
-invariant_of-self-2 c =
-    let plan = arc_value c.self.inside.plan in
-    let names = c.self.inside.names in
-    let xs = c.self.inside.replicas.items in
-    let x = c.index_mut-held.result.now in
+    let x = c.index.result.now in
+    let e = c.in_ok-held.ensures in
     still_kept plan names xs c.args.replica _ c.self.invariant
-    (hold_of_run plan names xs c.args.self.now c.args.replica c.args.edit.now x _ c.self.view_is c.self.invariant c.index_mut-held.ensures.value c.requires.within c.requires.fits
-    c.in_ok-held.ensures refl c.opening.ensures.step c.opening.ensures.road)
+    (hold_of_run plan names xs c.args.self.now c.args.replica c.args.edit.now x _ c.self.view_is c.self.invariant c.index.ensures c.requires.within c.requires.fits e.scenario e.horizon e.step e.road)
 
 pub returns-clause-after : goal.returns-clause-after
 returns-clause-after c =
-    let x = c.index_mut-held.result.now in
-    hold_after (arc_value c.self.inside.plan) c.self.inside.names c.self.inside.replicas.items c.args.self.now c.args.replica c.args.edit.now _ x _ c.self.view_is c.self.invariant c.index_mut-held.ensures.value c.requires.within
-    c.in_ok-held.ensures refl refl
+    let x = c.index.result.now in
+    let e = c.in_ok-held.ensures in
+    hold_after (arc_value c.self.inside.plan) c.self.inside.names c.self.inside.replicas.items c.args.self.now c.args.replica c.args.edit.now _ x _ c.self.view_is c.self.invariant c.index.ensures c.requires.within
+    e.scenario refl e.horizon
