@@ -4,20 +4,11 @@ ghost use Rattle.std.specs.Prelude.{◌≡◌, IfOk};
 ghost use Rattle.std.specs.List.Sorted.{IsNonDecreasing};
 ghost use Rattle.road_cells.specs.Cars.{Rise, cars_of};
 
+use crate::plans::car;
 use road_cells::{Car, GREATEST_SPEED, Road, reached_blocks, reached_blocks_below};
 use std::alloc::{AllocError, Global};
 use std::process::Abort;
 use std::test::Fail;
-
-const fn car(number: u64, cell: u32, speed: u8) -> Car
-    ensures { result ≡ record { number = number; cell = cell; speed = speed } }
-{
-    Car {
-        number,
-        cell,
-        speed,
-    }
-}
 
 /// The three cars of the road `0..2...2....`, where each digit is a car's speed.
 const CARS: [Car; 3] = [

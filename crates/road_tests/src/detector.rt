@@ -1,10 +1,10 @@
 //! Counts and rows of worked roads.
 
-ghost use Rattle.std.specs.Prelude.{◌≡◌, ◌↔◌, IsTrue};
+ghost use Rattle.std.specs.Prelude.{◌↔◌, IsTrue};
 ghost use Rattle.road_ends.specs.Row.{HasDigits};
 ghost use Rattle.road_detector.specs.Marks.{HaveDigits};
 
-use crate::plans::{FREE, Parts, plan_of};
+use crate::plans::{FREE, Parts, car, plan_of};
 use road_cells::{Car, Road};
 use road_detector::{Totals, passes, row_text};
 use road_ends::{StepInput, enter, finish};
@@ -13,16 +13,6 @@ use std::alloc::Global;
 use std::process::Abort;
 use std::sync::Arc;
 use std::test::Fail;
-
-fn car(number: u64, cell: u32, speed: u8) -> Car
-    ensures { result ≡ record { number = number; cell = cell; speed = speed } }
-{
-    Car {
-        number,
-        cell,
-        speed,
-    }
-}
 
 // A road of 400 cells where nobody enters.
 const LONG: Parts = Parts {

@@ -1,9 +1,8 @@
 //! Runs worked out by hand or by a program of another author, and the fast calls beside the plain ones.
 
-ghost use Rattle.std.specs.Prelude.{◌≡◌};
 ghost use Rattle.road_plan.specs.Settings.{Fits};
 
-use crate::plans::{DENSE, FREE, Parts, plan_of};
+use crate::plans::{DENSE, FREE, Parts, car, plan_of};
 use road_cells::{Car, Road};
 use road_ends::{
     BLOCKED, EMPTY, Meter, OwnSettings, STANDING, enter, entered, finish, next, plain, row, run,
@@ -422,16 +421,6 @@ fn agrees_with_the_plain_program(rt: HostRuntime) -> Result<(), Fail> {
     steps_in_parts(&rt, alloc, &DENSE_ROAD, 2)?;
     steps_in_parts(&rt, alloc, &RANDOM, 100)?;
     steps_in_parts(&rt, alloc, &MIXED, 200)
-}
-
-const fn car(number: u64, cell: u32, speed: u8) -> Car
-    ensures { result ≡ record { number = number; cell = cell; speed = speed } }
-{
-    Car {
-        number,
-        cell,
-        speed,
-    }
 }
 
 #[test]

@@ -3,6 +3,7 @@
 use crate::plans::{FREE, Parts, parts_of, plan_of, reads};
 use road_plan::{Object, Plan, PlanFault as Fault, Settings, WordKind};
 use std::alloc::Global;
+use std::process::Abort;
 use std::test::Fail;
 
 // Sixteen inlets at different cells.
@@ -49,6 +50,19 @@ const fn with_zones(zones: &'static [(u32, u32)]) -> Parts {
 
 const ZONE: &[(u32, u32)] = &[(2, 0)];
 
+// Each of these parts is refused by its fault, or accepted.
+fn are_judged(
+    rt: &impl Abort,
+    alloc: Global,
+    table: &[(Parts, Option<Fault>)],
+) -> Result<(), Fail> {
+    for (parts, fault) in table {
+        let judged = Plan::new(parts_of(alloc, parts)?).err();
+        assert_eq!(rt; judged, *fault, "{parts:?}");
+    }
+    Ok(())
+}
+
 #[test]
 fn checks_lengths(rt: HostRuntime) -> Result<(), Fail> {
     let table = [
@@ -77,14 +91,7 @@ fn checks_lengths(rt: HostRuntime) -> Result<(), Fail> {
         (road(65, 1, 1, &[(2, 0); 65]), Some(Fault::Zones)),
         (road(8_192, 64, 128, &[(2, 0); 64]), None),
     ];
-    for (parts, fault) in table {
-        assert_eq!(rt;
-            Plan::new(parts_of(rt.alloc(), &parts)?).err(),
-            fault,
-            "{parts:?}"
-        );
-    }
-    Ok(())
+    are_judged(&rt, rt.alloc(), &table)
 }
 
 #[test]
@@ -126,14 +133,7 @@ fn checks_inlets_detectors_and_numbers(rt: HostRuntime) -> Result<(), Fail> {
         (with_zones(&[(2, 65_537)]), Some(Fault::Default)),
         (with_inlets(&[(0, 65_537)]), Some(Fault::Default)),
     ];
-    for (parts, fault) in table {
-        assert_eq!(rt;
-            Plan::new(parts_of(rt.alloc(), &parts)?).err(),
-            fault,
-            "{parts:?}"
-        );
-    }
-    Ok(())
+    are_judged(&rt, rt.alloc(), &table)
 }
 
 #[test]
@@ -167,17 +167,14 @@ fn names_the_earlier_of_two_faults(rt: HostRuntime) -> Result<(), Fail> {
         ..from_detectors
     };
     let table = [
-        (all, Fault::Length),
-        (from_exit, Fault::Exit),
-        (from_zones, Fault::Zones),
-        (from_inlets, Fault::Inlets),
-        (from_detectors, Fault::Detectors),
-        (from_default, Fault::Default),
+        (all, Some(Fault::Length)),
+        (from_exit, Some(Fault::Exit)),
+        (from_zones, Some(Fault::Zones)),
+        (from_inlets, Some(Fault::Inlets)),
+        (from_detectors, Some(Fault::Detectors)),
+        (from_default, Some(Fault::Default)),
     ];
-    for (parts, fault) in table {
-        assert_eq!(rt; Plan::new(parts_of(rt.alloc(), &parts)?).err(), Some(fault));
-    }
-    Ok(())
+    are_judged(&rt, rt.alloc(), &table)
 }
 
 #[test]

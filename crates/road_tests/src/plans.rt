@@ -1,22 +1,25 @@
-//! Plans that the tests share.
+//! Plans and cars that the tests share.
 
+ghost use Rattle.std.specs.Prelude.{◌≡◌};
+
+use road_cells::Car;
 use road_plan::{OutOfMemory, Plan, PlanParts, WordKind};
 use std::alloc::Global;
 use std::test::Fail;
 
 /// The parts of a plan, of which most tests change one or two.
 #[derive(Clone, Copy, Debug)]
-pub struct Parts {
+pub(crate) struct Parts {
     /// Length, exit and width of a zone.
-    pub road: (u32, u32, u32),
-    pub zones: &'static [(u32, u32)],
-    pub inlets: &'static [(u32, u32)],
-    pub detectors: &'static [u32],
-    pub words: WordKind,
+    pub(crate) road: (u32, u32, u32),
+    pub(crate) zones: &'static [(u32, u32)],
+    pub(crate) inlets: &'static [(u32, u32)],
+    pub(crate) detectors: &'static [u32],
+    pub(crate) words: WordKind,
 }
 
 /// 12 cells, limit 2, no slowing, an inlet at the first cell that always lets in, a detector at cell 5.
-pub const FREE: Parts = Parts {
+pub(crate) const FREE: Parts = Parts {
     road: (12, 1, 12),
     zones: &[(2, 0)],
     inlets: &[(0, 65_536)],
@@ -25,7 +28,7 @@ pub const FREE: Parts = Parts {
 };
 
 /// Nine inlets on 32 cells that always let in, limit 2, slowing chance one half by steady words.
-pub const DENSE: Parts = Parts {
+pub(crate) const DENSE: Parts = Parts {
     road: (32, 1, 32),
     zones: &[(2, 32_768)],
     inlets: &[
@@ -52,7 +55,7 @@ fn list<T: Copy>(alloc: Global, items: &[T]) -> Result<Vec<T>, OutOfMemory> {
 }
 
 /// These parts, with memory of their own.
-pub fn parts_of(alloc: Global, parts: &Parts) -> Result<PlanParts, OutOfMemory> {
+pub(crate) fn parts_of(alloc: Global, parts: &Parts) -> Result<PlanParts, OutOfMemory> {
     let (length, exit, width) = parts.road;
     Ok(PlanParts {
         length,
@@ -66,15 +69,26 @@ pub fn parts_of(alloc: Global, parts: &Parts) -> Result<PlanParts, OutOfMemory> 
 }
 
 /// The plan of these parts.
-pub fn plan_of(alloc: Global, parts: &Parts) -> Result<Plan, Fail> {
+pub(crate) fn plan_of(alloc: Global, parts: &Parts) -> Result<Plan, Fail> {
     Ok(Plan::new(parts_of(alloc, parts)?)?)
 }
 
 /// Whether a plan reads as these parts.
-pub fn reads(plan: &Plan, parts: &Parts) -> bool {
+pub(crate) fn reads(plan: &Plan, parts: &Parts) -> bool {
     (plan.length(), plan.exit(), plan.width()) == parts.road
         && plan.zones() == parts.zones
         && plan.inlets() == parts.inlets
         && plan.detectors() == parts.detectors
         && plan.words() == parts.words
+}
+
+/// A car.
+pub(crate) fn car(number: u64, cell: u32, speed: u8) -> Car
+    ensures { result ≡ record { number = number; cell = cell; speed = speed } }
+{
+    Car {
+        number,
+        cell,
+        speed,
+    }
 }

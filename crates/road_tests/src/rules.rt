@@ -1,24 +1,15 @@
 //! The rules on single cars and on small roads, worked out by hand.
 
-ghost use Rattle.std.specs.Prelude.{◌≡◌, ◌≤◌, length};
+ghost use Rattle.std.specs.Prelude.{◌≤◌, length};
 ghost use Rattle.road_cells.specs.Cars.{Rise, array_of};
 ghost use Rattle.road_rules.specs.Motion.{MayMove};
 
+use crate::plans::car;
 use road_cells::{Car, Road};
 use road_rules::{moved, slowed, two_rules, wanted};
 use std::alloc::Global;
 use std::process::Abort;
 use std::test::Fail;
-
-fn car(number: u64, cell: u32, speed: u8) -> Car
-    ensures { result ≡ record { number = number; cell = cell; speed = speed } }
-{
-    Car {
-        number,
-        cell,
-        speed,
-    }
-}
 
 #[test]
 fn wants_the_least_of_three(rt: HostRuntime) {
