@@ -6,7 +6,7 @@ ghost use Rattle.road_format.specs.PlanGrammar.{plan_line_of, all_differ};
 ghost use Rattle.road_format.specs.Replies.{reply};
 ghost use Rattle.road_format.specs.Views.{texts, plan_line_view, command_view, answer_view};
 ghost use Rattle.road_lab.specs.Answers.{unless_long};
-ghost use Rattle.road_lab.specs.Desk.{line_answer, line_after, line_said, line_done, byte_said, byte_done, fed, said, opening, is_spent, end_said, end_done};
+ghost use Rattle.road_lab.specs.Desk.{line_answer, line_after, line_said, line_done, held_more, byte_said, byte_done, fed, said, opening, is_spent, end_said, end_done};
 ghost use Rattle.road_lab.specs.Views.{IsRead};
 
 use crate::faults::End;
@@ -153,6 +153,18 @@ impl Desk {
         self.keeper.is_some() && self.left == 0
     }
 
+    // A byte more of the line that is held, as far as the longest line goes.
+    fn hold(&mut self, x: u8) -> Result<(), OutOfMemory>
+        ensures { OnOk result (desk_view self.new ≡ held_more (desk_view self.old) x) }
+    {
+        if self.held.len() < LONGEST_LINE {
+            self.held.push(x)?;
+        } else {
+            self.long = true;
+        }
+        Ok(())
+    }
+
     // The next byte.
     #[tactic(auto, unfolding(crate::specs::Desk::byte_said, crate::specs::Desk::byte_done))]
     fn byte(&mut self, alloc: Global, x: u8, out: &mut Vec<u8>) -> Result<(), OutOfMemory>
@@ -169,12 +181,7 @@ impl Desk {
         if x == b'\n' {
             return self.line(alloc, out);
         }
-        if self.held.len() < LONGEST_LINE {
-            self.held.push(x)?;
-        } else {
-            self.long = true;
-        }
-        Ok(())
+        self.hold(x)
     }
 
     /// The next bytes of the input. The replies go behind what is said.
