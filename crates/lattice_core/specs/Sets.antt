@@ -5,7 +5,7 @@
 --     items, from_list                                the elements, rising;  the set of any list's elements
 --     contains-.., same_set, same_items               what `contains` answers;  sets of the same elements are the same
 --     items_rise, items-from_list, from_list-items    the items rise, and a rising list is the items of its set
-use Rattle.std.specs.Prelude.{◌≡◌, Bool, true, false, cond, not, ◌&&◌, ◌||◌, T, List, [], ◌∷◌, map, length, is_some, refl}
+use Rattle.std.specs.Prelude.{◌≡◌, Bool, true, false, cond, ◌&&◌, ◌||◌, T, List, [], ◌∷◌, map, length, is_some, refl}
 use Rattle.std.specs.Coded.{Coded}
 use Rattle.std.specs.declared.cmp.Ordering.{Ordering}
 use Rattle.std.specs.declared.cmp.Ordering.TheVariants.{Less, Equal, Greater}

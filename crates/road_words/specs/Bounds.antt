@@ -2,7 +2,7 @@
 use Rattle.std.specs.Prelude.{ℕ, ◌+◌, ◌*◌, ◌/◌, ◌%◌, ◌^◌, ◌<◌, List}
 use Rattle.std.proofs.Common.{arith}
 use Rattle.rand_chacha.specs.Block.{block_word, add32}
-use Rattle.road_words.specs.Words.{chacha_word, steady_word}
+use Rattle.road_words.specs.Words.{steady_word}
 use Rattle.road_words.specs.PlanWords.{named_word}
 use Rattle.road_words.specs.declared.plan_words.PlanWords.{PlanWords}
 use Rattle.road_words.specs.declared.plan_words.PlanWords.TheVariants.{Seeded, Steady}

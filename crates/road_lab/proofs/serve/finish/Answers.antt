@@ -1,4 +1,4 @@
-use Rattle.std.proofs.Common.{◌≡◌, ◌∙◌, ◌++◌, ◌-◌, ℕ, List, subst, sym, ap}
+use Rattle.std.proofs.Common.{◌∙◌, ◌++◌, ◌-◌, ℕ, List, subst, sym, ap}
 use Rattle.std.specs.Io.KnownBytes.{Appends}
 use Rattle.road_lab.specs.Desk.{Desk, end_said}
 use Rattle.road_lab.specs.Views.{desk_view}

@@ -1,6 +1,6 @@
 use Rattle.std.specs.Arc.{arc_value}
 use Rattle.std.proofs.Common.{refl}
-use Rattle.road_keeper.proofs.Replicas.{still_kept, kept_below, hold_after, hold_of_run}
+use Rattle.road_keeper.proofs.Replicas.{still_kept, hold_after, hold_of_run}
 use Rattle.road_keeper.proofs.keeper.Keeper.hold.Goals as goal
 
 pub invariant_of-self : goal.invariant_of-self
