@@ -24,6 +24,9 @@ impl<'a> MemorySource<'a> {
         requires { 0 < step }
         ensures given { ⟦<MemorySource<'a> as Source>⟧.given result ≡ Some [] }
         ensures failures { ⟦<MemorySource<'a> as Source>⟧.failures result ≡ 0 }
+        ensures bytes { result.bytes.now ≡ bytes.now }
+        ensures step { result.step ≡ step }
+        ensures reads { result.reads ≡ reads }
     {
         MemorySource {
             bytes,
@@ -76,6 +79,8 @@ impl MemorySink {
     pub fn new(bytes: Vec<u8>, room: usize, flushes: u64) -> MemorySink
         ensures taken { ⟦<MemorySink as Sink>⟧.taken result ≡ Some bytes.items }
         ensures failures { ⟦<MemorySink as Sink>⟧.failures result ≡ 0 }
+        ensures room { result.room ≡ room }
+        ensures flushes { result.flushes ≡ flushes }
     {
         MemorySink {
             bytes,

@@ -5,7 +5,7 @@ use road_cells::Car;
 use road_format::PlanLineFault::{Names, NotAPlan, NotJson, Plan};
 use road_format::{Answer, LineFault, PlanLineFault, Refusal, read_command, read_plan, reply_line};
 use road_plan::{PlanFault, WordKind};
-use std::alloc::Global;
+use std::alloc::{AllocError, Global};
 use std::process::Abort;
 use std::test::Fail;
 
@@ -27,6 +27,24 @@ fn reads_a_plan_line(rt: HostRuntime) -> Result<(), Fail> {
     let line = read_plan(rt.alloc(), PLAN.as_bytes())?;
     assert!(rt; are_named(&line.names, &["A", "B", "C"]) && reads(&line.plan, &FREE));
     Ok(())
+}
+
+// How a plan line is refused. Want of memory ends the test.
+fn plan_fault(alloc: Global, line: &str) -> Result<Option<PlanLineFault>, Fail> {
+    match read_plan(alloc, line.as_bytes()) {
+        Ok(_) => Ok(None),
+        Err(PlanLineFault::OutOfMemory) => Err(AllocError)?,
+        Err(fault) => Ok(Some(fault)),
+    }
+}
+
+// How a command is refused.
+fn command_fault(alloc: Global, line: &[u8]) -> Result<Option<LineFault>, Fail> {
+    match read_command(alloc, line) {
+        Ok(_) => Ok(None),
+        Err(LineFault::OutOfMemory) => Err(AllocError)?,
+        Err(fault) => Ok(Some(fault)),
+    }
 }
 
 /// What stands in `PLAN`, what stands in its place, and how the line is refused.
@@ -60,7 +78,7 @@ const FAULTS: &[(&str, &str, PlanLineFault)] = &[
 fn refuses_plan_lines(rt: HostRuntime) -> Result<(), Fail> {
     for (old, new, want) in FAULTS {
         let line = PLAN.replacen(rt.alloc(), old, new, 1)?;
-        let fault = read_plan(rt.alloc(), line.as_bytes()).err();
+        let fault = plan_fault(rt.alloc(), &line)?;
         assert_eq!(rt; fault, Some(*want), "{new}");
     }
     Ok(())
@@ -77,7 +95,7 @@ fn names_the_first_fault(rt: HostRuntime) -> Result<(), Fail> {
         ("}", "", PlanLineFault::NotJson),
     ] {
         line = line.replacen(rt.alloc(), old, new, 1)?;
-        let fault = read_plan(rt.alloc(), line.as_bytes()).err();
+        let fault = plan_fault(rt.alloc(), &line)?;
         assert_eq!(rt; fault, Some(want), "{line}");
     }
     Ok(())
@@ -99,7 +117,7 @@ fn reads_words_and_seeds(rt: HostRuntime) -> Result<(), Fail> {
 // Whether a plan line with these replicas is accepted.
 fn opens(alloc: Global, replicas: &str) -> Result<bool, Fail> {
     let line = PLAN.replacen(alloc, "\"A\",\"B\",\"C\"", replicas, 1)?;
-    Ok(read_plan(alloc, line.as_bytes()).is_ok())
+    Ok(plan_fault(alloc, &line)?.is_none())
 }
 
 /// A name may have 64 bytes and no more.
@@ -111,8 +129,8 @@ fn bounds_names(rt: HostRuntime) -> Result<(), Fail> {
         let line = format!(in rt.alloc(); "\"A\",\"{name}\"")?;
         assert_eq!(rt; opens(rt.alloc(), &line)?, is_name);
         let command = format!(in rt.alloc(); "{{\"scenario\":{{\"at\":\"{name}\"}}}}")?;
-        let read = read_command(rt.alloc(), command.as_bytes());
-        assert_eq!(rt; read.is_ok(), is_name);
+        let fault = command_fault(rt.alloc(), command.as_bytes())?;
+        assert_eq!(rt; fault.is_none(), is_name);
     }
     Ok(())
 }
@@ -307,6 +325,9 @@ const COMMANDS: &[(&str, &str)] = &[
 fn reads_commands(rt: HostRuntime) -> Result<(), Fail> {
     for (line, want) in COMMANDS {
         let read = read_command(rt.alloc(), line.as_bytes());
+        if matches!(&read, Err(LineFault::OutOfMemory)) {
+            return Err(AllocError)?;
+        }
         let said = format!(in rt.alloc(); "{read:?}")?;
         assert_eq!(rt; said.as_str(), *want, "{line}");
     }
@@ -317,12 +338,12 @@ fn reads_commands(rt: HostRuntime) -> Result<(), Fail> {
 #[test]
 fn refuses_bytes_and_deep_values(rt: HostRuntime) -> Result<(), Fail> {
     let no_text = b"{\"advance\":{\"at\":\"\xff\",\"to\":6}}";
-    let fault = read_command(rt.alloc(), no_text).err();
+    let fault = command_fault(rt.alloc(), no_text)?;
     assert_eq!(rt; fault, Some(LineFault::NotJson));
     for (depth, want) in [(100, LineFault::NotACommand), (200, LineFault::NotJson)] {
         let mut text = "[".repeat(rt.alloc(), depth)?;
         text.push_str(&"]".repeat(rt.alloc(), depth)?)?;
-        let fault = read_command(rt.alloc(), text.as_bytes()).err();
+        let fault = command_fault(rt.alloc(), text.as_bytes())?;
         assert_eq!(rt; fault, Some(want), "{depth}");
     }
     Ok(())

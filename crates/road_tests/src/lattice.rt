@@ -227,12 +227,22 @@ fn replicas_merge(rt: HostRuntime) -> Result<(), Fail> {
     Ok(())
 }
 
+// Whether a replica is the bottom, and another one above it.
+fn is_bottom_of(low: &Replica, high: &Replica) -> bool {
+    low.is_bottom() && low.at_most(high) && !high.at_most(low) && !high.is_bottom()
+}
+
 #[test]
 fn empty_is_the_bottom(rt: HostRuntime) -> Result<(), Fail> {
-    let none = replica(&rt, rt.alloc(), &[], Greatest::Nothing)?;
-    let simulated = replica(&rt, rt.alloc(), &[], Greatest::Of(6))?;
-    assert!(rt; none.is_bottom() && none.first.is_bottom() && none.first.get(0).is_none());
-    assert!(rt; none.at_most(&none) && joined(&rt, &none, &none)?.is_bottom());
-    assert!(rt; none.at_most(&simulated) && !simulated.at_most(&none) && !simulated.is_bottom());
+    let none: Replica = Both {
+        first: LatMap::empty(rt.alloc()),
+        second: Greatest::Nothing,
+    };
+    let simulated: Replica = Both {
+        first: LatMap::empty(rt.alloc()),
+        second: Greatest::Of(6),
+    };
+    assert!(rt; is_bottom_of(&none, &simulated) && none.first.get(0).is_none());
+    assert!(rt; joins_to(&rt, &none, &simulated, &simulated)?);
     Ok(())
 }
