@@ -11,8 +11,8 @@ use Rattle.std.specs.Cmp.{IsTotalOrder}
 use Rattle.lattice_core.specs.Exact.{IsExact}
 use Rattle.lattice_core.specs.Lattice.{LatticeLaws}
 use Rattle.lattice_core.specs.Map.{EachEntry, IfHeld, IsHeld, IsProperMap, join_option, joined_in, map_join, join_options}
-use Rattle.lattice_core.specs.MapLaws.{same_maps, good_at, good-join, proper-put, proper-joined_in, proper-map_join, find-map_join, tied}
-use Rattle.lattice_core.specs.MapSteps.{beside, filled, raise, raised_by}
+use Rattle.lattice_core.specs.Instances.JoinedMaps.{same_maps, good_at, good-join, proper-put, proper-joined_in, proper-map_join, find-map_join, tied}
+use Rattle.lattice_core.specs.Private.EntryLists.{beside, filled, raise, raised_by}
 use Rattle.lattice_core.proofs.Steps.{is_sorted-raised_by}
 
 module _ {K V : Type 0} (cmp : K → K → Ordering) (total : IsTotalOrder cmp) (exact : IsExact cmp) (IsProper : V → Type 0) (join : V → V → V) (is_least : V → Bool) (laws : LatticeLaws IsProper join is_least) where

@@ -1,3 +1,6 @@
 pub mod Steps
 pub mod Calls
 pub mod UpTo
+pub mod FoldedMaps
+pub mod SetElements
+pub mod GreatestElements

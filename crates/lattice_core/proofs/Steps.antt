@@ -8,8 +8,8 @@ use Rattle.std.specs.BTreeMap.{is_at, insert_entry}
 use Rattle.std.specs.Map.{lookup}
 use Rattle.std.specs.Ordering.{is_eq, is_ne, is_lt, eq_by_cmp, match_ordering, ordering_reverse}
 use Rattle.std.specs.Cmp.{IsTotalOrder}
-use Rattle.lattice_core.specs.MapLaws.{first_of_both, second_of_both}
-use Rattle.lattice_core.specs.MapSteps.{beside, filled, raise, raised_by}
+use Rattle.lattice_core.specs.Instances.JoinedMaps.{first_of_both, second_of_both}
+use Rattle.lattice_core.specs.Private.EntryLists.{beside, filled, raise, raised_by}
 
 -- a look-up in a BTreeMap
 pub lookup-find : {K V : Type 0} (cmp : K → K → Ordering) (q : K) (es : List (K × V)) → lookup (is_at (cmp q)) es ≡ find cmp q es

@@ -3,8 +3,8 @@ pub mod Lattice
 pub mod Greatest
 pub mod Both
 pub mod Map
-pub mod MapLaws
-pub mod MapSteps
 pub mod Fold
 pub mod Sets
 pub mod Tops
+pub mod Instances
+pub mod Private

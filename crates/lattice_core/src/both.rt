@@ -9,7 +9,8 @@ pub struct Both<A, B> {
 }
 
 impl<A: Lattice, B: Lattice> Lattice for Both<A, B> {
-    ghost use Rattle.lattice_core.specs.Both.{IsProperPair, pair_join, is_least_pair, pair_laws};
+    ghost use Rattle.lattice_core.specs.Both.{IsProperPair, pair_join, is_least_pair};
+    ghost use Rattle.lattice_core.specs.Instances.PairedLattices.{pair_laws};
 
     ghost is_proper = { IsProperPair A.is_proper B.is_proper };
 

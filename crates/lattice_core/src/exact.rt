@@ -1,4 +1,5 @@
-ghost use Rattle.lattice_core.specs.Exact.{IsExact, exact_nat, exact_pair};
+ghost use Rattle.lattice_core.specs.Exact.{IsExact};
+ghost use Rattle.lattice_core.specs.Instances.ExactOrders.{exact_nat, exact_pair};
 
 /// An order that tells values apart: those that compare as equal are the same.
 pub trait Exact: Ord + Copy {

@@ -14,7 +14,8 @@ pub enum Greatest<T> {
 }
 
 impl<T: Exact> Lattice for Greatest<T> {
-    ghost use Rattle.lattice_core.specs.Greatest.{greatest_join, is_nothing, greatest_laws};
+    ghost use Rattle.lattice_core.specs.Greatest.{greatest_join, is_nothing};
+    ghost use Rattle.lattice_core.specs.Instances.GreaterValues.{greatest_laws};
 
     ghost is_proper = { λ _. Unit {0} };
 

@@ -3,7 +3,7 @@ ghost use Rattle.std.specs.Option.{option_copied};
 ghost use Rattle.std.specs.FinMap.Entries.{find, is_sorted, put};
 ghost use Rattle.std.specs.Map.{keys_of};
 ghost use Rattle.lattice_core.specs.Map.{IsHeld, IsProperMap, joined_in};
-ghost use Rattle.lattice_core.specs.MapSteps.{IsUpTo, beside, filled, raise, raised_by};
+ghost use Rattle.lattice_core.specs.Private.EntryLists.{IsUpTo, beside, filled, raise, raised_by};
 
 use crate::OutOfMemory;
 use crate::exact::Exact;
@@ -126,7 +126,7 @@ impl<K: Exact, V: Lattice> LatMap<K, V> {
 
 impl<K: Exact, V: Lattice> Lattice for LatMap<K, V> {
     ghost use Rattle.lattice_core.specs.Map.{IsProperMap, map_join, is_empty};
-    ghost use Rattle.lattice_core.specs.MapLaws.{map_laws};
+    ghost use Rattle.lattice_core.specs.Instances.JoinedMaps.{map_laws};
 
     ghost is_proper = { IsProperMap K.cmp V.is_proper V.is_least };
 

@@ -7,9 +7,9 @@ use Rattle.std.proofs.lemmas.Bool.{cases_lt, eq-eqb, ne_eqb}
 use Rattle.std.proofs.lemmas.Bool.Decides.{nat_tests}
 use Rattle.std.proofs.lemmas.List.Folds.{list_any_at}
 use Rattle.road_cells.specs.Cars.{Rise, standing, car_of, cell_at}
-use Rattle.road_cells.specs.CarsPlaces.{rise-at, standing-absent, standing-at}
+use Rattle.road_cells.proofs.CarPlaces.{rise-at, standing-absent, standing-at}
 use Rattle.road_cells.specs.Gap.{free_before, is_blocked, ArePartedAt}
-use Rattle.road_cells.specs.GapLaws.{free_before-first, free_before-none}
+use Rattle.road_cells.proofs.FreeCells.{free_before-first, free_before-none}
 use Rattle.road_cells.specs.declared.car.Car.{Car}
 
 -- the cell of a car that the list has at a place

@@ -8,7 +8,7 @@ use Rattle.std.proofs.lemmas.Bool.Decides.{nat_tests}
 use Rattle.std.proofs.lemmas.List.{get_or_default}
 use Rattle.std.proofs.lemmas.List.Sums.{sum_by-cons}
 use Rattle.road_cells.specs.Cars.{Rise, car_of, cell_at}
-use Rattle.road_cells.specs.CarsPlaces.{rise-at}
+use Rattle.road_cells.proofs.CarPlaces.{rise-at}
 use Rattle.road_cells.specs.declared.car.Car.{Car}
 
 -- one car more

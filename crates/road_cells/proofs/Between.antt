@@ -5,8 +5,8 @@ use Rattle.std.proofs.Common.{sym, ap, subst, ◌∙◌, arith, inl, inr}
 use Rattle.std.proofs.lemmas.Bool.{cases_eq, cases_lt}
 use Rattle.road_cells.specs.Array.{Array, Vehicle, vehicle_at, numbers}
 use Rattle.road_cells.specs.Cars.{cars_from, cars_of, vehicle_of, RiseFrom, standing, cars_before}
-use Rattle.road_cells.specs.CarsBefore.{before-more, before-none}
-use Rattle.road_cells.specs.CarsLaws.{from_here, from_later, standing-other, standing-here, standing-below, standing-cars_from, rise-cars_from}
+use Rattle.road_cells.proofs.CarsBefore.{before-more, before-none}
+use Rattle.road_cells.proofs.CarLists.{from_here, from_later, standing-other, standing-here, standing-below, standing-cars_from, rise-cars_from}
 use Rattle.road_cells.specs.declared.car.Car.{Car}
 
 -- the cars of n places that hold what the cars say, from cell k on, are the first of these cars

@@ -12,8 +12,8 @@ use Rattle.std.proofs.lemmas.Bool.Decides.{nat_tests}
 use Rattle.std.proofs.lemmas.List.Sorted.{IsNonDecreasingBy-from_default}
 use Rattle.road_cells.specs.Array.{vehicle_at}
 use Rattle.road_cells.specs.Cars.{Rise, array_of, standing, vehicle_of, car_of, cell_at}
-use Rattle.road_cells.specs.CarsLaws.{vehicle_at-array_of}
-use Rattle.road_cells.specs.CarsPlaces.{rise-at, standing-absent, standing-at}
+use Rattle.road_cells.proofs.CarLists.{vehicle_at-array_of}
+use Rattle.road_cells.proofs.CarPlaces.{rise-at, standing-absent, standing-at}
 use Rattle.road_cells.specs.declared.car.Car.{Car}
 
 -- stands for a car that is not in the list

@@ -7,8 +7,8 @@ use Rattle.std.proofs.lemmas.Bool.Decides.{nat_tests}
 use Rattle.std.proofs.lemmas.List.Sums.{count_by-le-length, sum_by-cons}
 use Rattle.std.proofs.lemmas.List.{drop_more, drop_all, length-drop, get_or-drop}
 use Rattle.road_cells.specs.Cars.{cell_at, cars_before, Rise}
-use Rattle.road_cells.specs.CarsBefore.{before-at}
-use Rattle.road_cells.specs.CarsPlaces.{rise-at}
+use Rattle.road_cells.proofs.CarsBefore.{before-at}
+use Rattle.road_cells.proofs.CarPlaces.{rise-at}
 use Rattle.road_cells.specs.declared.car.Car.{Car}
 use Rattle.road_detector.specs.Passes.{Drive, drives, is_passing, passing}
 

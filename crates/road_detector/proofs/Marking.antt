@@ -8,14 +8,15 @@ use Rattle.std.proofs.lemmas.Bool.{cases_eq}
 use Rattle.std.proofs.lemmas.List.{get_or-set_same, get_or-set_other, ext_get_or, drop_more, get_or-replicate, length-replicate}
 use Rattle.road_cells.specs.Array.{Array, Vehicle, vehicle_at, numbers}
 use Rattle.road_cells.specs.Cars.{cars_of, cars_from, car_of, vehicle_of, cell_at, RiseFrom, Rise, standing}
-use Rattle.road_cells.specs.CarsLaws.{standing-other, standing-here, standing-below, standing-cars_from, rise-cars_from}
-use Rattle.road_cells.specs.CarsPlaces.{standing-at}
+use Rattle.road_cells.proofs.CarLists.{standing-other, standing-here, standing-below, standing-cars_from, rise-cars_from}
+use Rattle.road_cells.proofs.CarPlaces.{standing-at}
 use Rattle.road_cells.specs.Gap.{is_blocked}
 use Rattle.road_cells.specs.declared.car.Car.{Car}
 use Rattle.road_cells.specs.declared.car.TheConstants.{GREATEST_SPEED}
 use Rattle.road_ends.specs.Row.{letter, row_of, HasDigits}
 use Rattle.road_ends.specs.declared.letters.TheConstants.{STANDING, BLOCKED, EMPTY}
-use Rattle.road_detector.specs.Marks.{with_block, with_car, HaveDigits}
+use Rattle.road_detector.specs.Rows.{HaveDigits}
+use Rattle.road_detector.specs.Private.MarkedRows.{with_block, with_car}
 
 -- a car more that is drawn is one less to draw
 car_drawn : (row : List ℕ) (car : Car) (cars : List Car) (c : ℕ) → RiseFrom (car.cell + 1) cars → car.cell < length row → c < length row

@@ -10,9 +10,9 @@ use Rattle.road_plan.specs.Plan.{Plan, zone_of}
 use Rattle.road_plan.specs.Settings.{Settings}
 use Rattle.road_cells.specs.Array.{Array, Vehicle, vehicle_at, numbers}
 use Rattle.road_cells.specs.Cars.{cars_of, vehicle_of, cell_at, standing}
-use Rattle.road_cells.specs.CarsLaws.{standing-cars_from, rise-cars_from}
-use Rattle.road_cells.specs.CarsPlaces.{standing-at, rise-at}
-use Rattle.road_cells.specs.GapLaws.{free_before-most}
+use Rattle.road_cells.proofs.CarLists.{standing-cars_from, rise-cars_from}
+use Rattle.road_cells.proofs.CarPlaces.{standing-at, rise-at}
+use Rattle.road_cells.proofs.FreeCells.{free_before-most}
 use Rattle.road_cells.specs.declared.car.Car.{Car}
 use Rattle.road_cells.specs.declared.car.TheConstants.{GREATEST_SPEED}
 use Rattle.road_rules.specs.Speeds.{wanted, slowed}

@@ -1,3 +1,4 @@
 pub mod Passes
-pub mod Marks
 pub mod Laws
+pub mod Rows
+pub mod Private

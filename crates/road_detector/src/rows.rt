@@ -3,7 +3,8 @@ ghost use Rattle.std.specs.String.{string_bytes};
 ghost use Rattle.road_cells.specs.Cars.{Rise, standing};
 ghost use Rattle.road_cells.specs.Gap.{is_blocked};
 ghost use Rattle.road_ends.specs.Row.{row_of, HasDigits};
-ghost use Rattle.road_detector.specs.Marks.{with_block, with_car, HaveDigits};
+ghost use Rattle.road_detector.specs.Rows.{HaveDigits};
+ghost use Rattle.road_detector.specs.Private.MarkedRows.{with_block, with_car};
 
 use road_cells::{Car, Road};
 use road_ends::{BLOCKED, EMPTY, STANDING};

@@ -9,9 +9,9 @@ use Rattle.std.proofs.lemmas.Bool.Decides.{nat_tests}
 use Rattle.road_plan.specs.Plan.{Plan, zone_of}
 use Rattle.road_plan.specs.Settings.{Settings}
 use Rattle.road_cells.specs.Array.{Array, Vehicle, vehicle_at, array}
-use Rattle.road_cells.specs.ArrayLaws.{past_array}
+use Rattle.road_cells.proofs.ArrayPlaces.{past_array}
 use Rattle.road_cells.specs.Gap.{is_blocked}
-use Rattle.road_cells.specs.GapLaws.{free_before-le, free_before-most}
+use Rattle.road_cells.proofs.FreeCells.{free_before-le, free_before-most}
 use Rattle.road_cells.specs.declared.car.TheConstants.{GREATEST_SPEED}
 use Rattle.road_rules.specs.Speeds.{wanted, slowed}
 use Rattle.road_ends.specs.Speed.{is_taken, gap, speed, is_slowed}

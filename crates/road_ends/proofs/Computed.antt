@@ -14,17 +14,17 @@ use Rattle.std.proofs.lemmas.List.{get_or_default, get_or-map}
 use Rattle.road_plan.specs.Plan.{Plan, road_end, IsWithinLimits}
 use Rattle.road_plan.specs.Settings.{Settings, Fits}
 use Rattle.road_cells.specs.Array.{Array, Vehicle, vehicle_at, array, numbers}
-use Rattle.road_cells.specs.ArrayLaws.{past_end, vehicle_at-array, past_array, array-same, array-agree}
+use Rattle.road_cells.proofs.ArrayPlaces.{past_end, vehicle_at-array, past_array, array-same, array-agree}
 use Rattle.road_cells.specs.Cars.{cars_of, cars_from, car_of, vehicle_of, cell_at, Rise, RiseFrom, array_of, standing, end_of}
-use Rattle.road_cells.specs.CarsLaws.{rise-cars_from, standing-cars_from, standing-below, vehicle_at-array_of, standing-past}
-use Rattle.road_cells.specs.CarsPlaces.{rise-at, standing-at}
+use Rattle.road_cells.proofs.CarLists.{rise-cars_from, standing-cars_from, standing-below, vehicle_at-array_of, standing-past}
+use Rattle.road_cells.proofs.CarPlaces.{rise-at, standing-at}
 use Rattle.road_cells.specs.Gap as cells
 use Rattle.road_cells.specs.Gap.{is_blocked, free_before, free_cells}
-use Rattle.road_cells.specs.GapLaws.{free_before-same}
+use Rattle.road_cells.proofs.FreeCells.{free_before-same}
 use Rattle.road_cells.specs.declared.car.Car.{Car}
 use Rattle.road_cells.specs.declared.car.TheConstants.{GREATEST_SPEED}
 use Rattle.road_rules.specs.Motion.{arriving, moved, moved_at, MayMove}
-use Rattle.road_rules.specs.MotionLaws.{moved_at-listed, cell_at-end, vehicle_at-moved}
+use Rattle.road_rules.proofs.MotionOfCars.{moved_at-listed, cell_at-end, vehicle_at-moved}
 use Rattle.road_ends.specs.Speed.{is_taken, gap, speed, speeds, nth_car}
 use Rattle.road_ends.specs.Run.{next, left}
 use Rattle.road_ends.proofs.Apart.{blocked-below, cars-apart, speed-most}

@@ -7,7 +7,7 @@ use Rattle.std.proofs.lemmas.Bool.Decides.{nat_tests}
 use Rattle.road_plan.specs.Plan.{Plan, road_end, IsWithinLimits}
 use Rattle.road_plan.specs.declared.limits.TheConstants.{MOST_INLETS}
 use Rattle.road_cells.specs.Array.{Vehicle, vehicle_at}
-use Rattle.road_cells.specs.ArrayLaws.{vehicle_at-array}
+use Rattle.road_cells.proofs.ArrayPlaces.{vehicle_at-array}
 use Rattle.road_rules.specs.Motion.{arriving}
 use Rattle.road_ends.specs.Speed.{speed}
 use Rattle.road_ends.specs.Run.{Course, run, moving}

@@ -10,7 +10,7 @@ use Rattle.std.proofs.lemmas.List.Quantifiers.{position-Some}
 use Rattle.road_plan.specs.Plan.{Plan}
 use Rattle.road_plan.specs.Settings.{Settings}
 use Rattle.road_cells.specs.Array.{Array, Vehicle, vehicle_at, numbers}
-use Rattle.road_cells.specs.ArrayLaws.{vehicle_at-array}
+use Rattle.road_cells.proofs.ArrayPlaces.{vehicle_at-array}
 use Rattle.road_rules.specs.Motion.{first_of, coming, arriving}
 use Rattle.road_ends.specs.Entries.{car_number, lets_in, let_in, entering, entered}
 use Rattle.road_ends.proofs.Apart.{within}

@@ -1,7 +1,7 @@
 pub mod Entries
 pub mod Speed
-pub mod Pass
 pub mod Run
 pub mod Input
 pub mod Row
 pub mod Laws
+pub mod Private

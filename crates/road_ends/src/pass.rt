@@ -6,7 +6,7 @@ ghost use Rattle.road_plan.specs.Settings.{Fits};
 ghost use Rattle.road_cells.specs.Cars.{cars_of, cell_at, vehicle_of};
 ghost use Rattle.road_words.specs.Words.{word};
 ghost use Rattle.road_ends.specs.Speed.{speed, speeds, nth_car};
-ghost use Rattle.road_ends.specs.Pass.{IsAt};
+ghost use Rattle.road_ends.specs.Private.PassPlaces.{IsAt};
 
 use crate::chance::slowed_by_chance;
 use road_cells::{Road, reached_blocks_below};

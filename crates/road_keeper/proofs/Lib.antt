@@ -1,3 +1,4 @@
 pub mod Numbered
 pub mod Stepping
 pub mod Replicas
+pub mod KeptAnswers

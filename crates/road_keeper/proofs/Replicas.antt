@@ -10,12 +10,12 @@ use Rattle.std.proofs.Math.Seq.{map-set_same}
 use Rattle.lattice_core.specs.Sets.{empty, items, from_list}
 use Rattle.road_plan.specs.Plan.{Plan}
 use Rattle.road_plan.specs.declared.limits.TheConstants.{GREATEST_HORIZON, MOST_REPLICAS}
-use Rattle.road_scenario.specs.EditOrder.{winners_laws}
+use Rattle.road_scenario.specs.Instances.EditOrder.{winners_laws}
 use Rattle.road_scenario.specs.Edits.{Edits}
 use Rattle.road_scenario.specs.Faults.{fault_of, AreInRange}
-use Rattle.road_scenario.specs.RangeLaws.{in_range-empty, in_range-one, in_range-join}
+use Rattle.road_scenario.proofs.EditRanges.{in_range-empty, in_range-one, in_range-join}
 use Rattle.road_scenario.specs.Winners.{winners, join}
-use Rattle.road_scenario.specs.WinnersLaws.{winners-empty}
+use Rattle.road_scenario.proofs.NoEdits.{winners-empty}
 use Rattle.road_scenario.specs.declared.edit.Edit.{Edit}
 use Rattle.road_format.specs.Replies as replies
 use Rattle.road_format.specs.Views.{texts}

@@ -2,4 +2,3 @@ pub mod Laboratory
 pub mod Simulation
 pub mod Keeping
 pub mod Kept
-pub mod KeptLaws

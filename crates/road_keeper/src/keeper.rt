@@ -67,7 +67,7 @@ impl Model for Keeper {
     ghost use Rattle.std.specs.Prelude.{map};
     ghost use Rattle.std.specs.Arc.{arc_value};
     ghost use Rattle.std.specs.Coded.{codes};
-    ghost use Rattle.road_scenario.specs.EditOrder.{edits_code};
+    ghost use Rattle.road_scenario.specs.Instances.EditOrder.{edits_code};
     ghost use Rattle.road_keeper.specs.Kept.{Kept};
     ghost use Rattle.road_keeper.specs.Keeping.{IsKept, seen};
 

@@ -4,14 +4,15 @@ use Rattle.std.proofs.Common.{◌≡◌, ◌≤◌, ◌<◌, ◌+◌, ◌^◌, �
 use Rattle.std.specs.Prelude.{replicate, nat_le}
 use Rattle.std.proofs.lemmas.Bool.{lt-ltb, le-leb}
 use Rattle.std.proofs.lemmas.List.{take_all, length-replicate}
-use Rattle.lattice_core.specs.Sets.{empty, items, items-empty}
+use Rattle.lattice_core.specs.Sets.{empty, items}
+use Rattle.lattice_core.proofs.SetElements.{items-empty}
 use Rattle.road_plan.specs.Plan.{Plan}
 use Rattle.road_plan.specs.declared.limits.TheConstants.{LONGEST_LINE}
 use Rattle.road_plan.specs.declared.parts.WordKind.TheVariants.{Steady}
 use Rattle.road_scenario.specs.declared.edit.Edit.{Edit}
 use Rattle.road_scenario.specs.Edits.{Edits, edit_cmp}
 use Rattle.road_scenario.specs.Settings.{settings_in}
-use Rattle.road_scenario.specs.WinnersLaws.{winners-empty}
+use Rattle.road_scenario.proofs.NoEdits.{winners-empty}
 use Rattle.road_ends.specs.Row.{row}
 use Rattle.std.specs.Str.{is_utf8, chars}
 use Rattle.std.specs.Fmt.{digits}

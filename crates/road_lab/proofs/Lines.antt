@@ -11,7 +11,7 @@ use Rattle.road_format.specs.declared.refusal.Refusal.{Refusal}
 use Rattle.road_keeper.specs.Laboratory.{Event}
 use Rattle.road_lab.specs.Answers.{first_of, command_line, replies, session, written, answer_of, after_line, first_read, is_refusal}
 use Rattle.road_keeper.specs.Kept.{Kept, start}
-use Rattle.road_keeper.specs.KeptLaws.{Agrees, answer_agrees, after_agrees, start_agrees}
+use Rattle.road_keeper.proofs.KeptAnswers.{Agrees, answer_agrees, after_agrees, start_agrees}
 use Rattle.road_lab.specs.Desk.{line_answer, line_after, open_said}
 use Rattle.road_lab.specs.declared.faults.End.{End}
 use Rattle.road_lab.specs.declared.faults.End.TheVariants as ends

@@ -2,3 +2,4 @@ pub mod Inlets
 pub mod Faultless
 pub mod Defaults
 pub mod Accepted
+mod Examples

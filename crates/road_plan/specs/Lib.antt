@@ -2,5 +2,4 @@ pub mod Plan
 pub mod Settings
 pub mod Refusals
 pub mod Objects
-pub mod ObjectOrder
-pub mod Examples
+pub mod Instances

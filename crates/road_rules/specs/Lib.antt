@@ -1,4 +1,2 @@
-mod Examples
 pub mod Speeds
 pub mod Motion
-pub mod MotionLaws

@@ -20,7 +20,7 @@ use Rattle.road_scenario.specs.declared.edit.Edit.{Edit}
 use Rattle.road_scenario.specs.declared.edit.Value.{Value}
 use Rattle.road_scenario.specs.declared.edit.Value.TheVariants.{Withdrawn, Put}
 use Rattle.road_scenario.specs.Edits.{edit_cmp, number_put}
-use Rattle.road_scenario.specs.EditOrder.{edit_total, edit_exact}
+use Rattle.road_scenario.specs.Instances.EditOrder.{edit_total, edit_exact}
 use Rattle.road_scenario.specs.Faults.{takes, IsInRange}
 use Rattle.road_scenario.specs.Settings.{puts, latest, number_of, setting_in, settings_in}
 use Rattle.road_scenario.proofs.Puts.{same}

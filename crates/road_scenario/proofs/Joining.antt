@@ -8,15 +8,19 @@ use Rattle.std.specs.List.{list_any}
 use Rattle.std.proofs.Common.{sym, ap, subst, ◌∙◌, inl, inr}
 use Rattle.std.proofs.lemmas.Bool.{true≢false, or_cases, or_left, and_from}
 use Rattle.lattice_core.specs.declared.greatest.Greatest.TheVariants.{Nothing, Of}
-use Rattle.lattice_core.specs.Exact.{IsExact, exact_nat, exact_pair}
-use Rattle.lattice_core.specs.Fold.{fold_join, IsJoin, fold-joined_in, fold-map_join}
-use Rattle.lattice_core.specs.Greatest.{is_nothing, greatest_join, greatest_laws}
+use Rattle.lattice_core.specs.Exact.{IsExact}
+use Rattle.lattice_core.specs.Instances.ExactOrders.{exact_nat, exact_pair}
+use Rattle.lattice_core.specs.Fold.{fold_join, IsJoin}
+use Rattle.lattice_core.proofs.FoldedMaps.{fold-joined_in, fold-map_join}
+use Rattle.lattice_core.specs.Greatest.{is_nothing, greatest_join}
+use Rattle.lattice_core.specs.Instances.GreaterValues.{greatest_laws}
 use Rattle.lattice_core.specs.Lattice.{LatticeLaws}
 use Rattle.lattice_core.specs.Map.{IsHeld, joined_in, map_join, is_empty}
-use Rattle.lattice_core.specs.MapLaws.{map_laws, proper-map_join, proper-joined_in}
-use Rattle.lattice_core.specs.Sets.{empty, union, retain, contains, items, from_list, from_list-empty, contains-empty, contains-from_list, contains-items, contains-retain, contains-union, same_set}
+use Rattle.lattice_core.specs.Instances.JoinedMaps.{map_laws, proper-map_join, proper-joined_in}
+use Rattle.lattice_core.specs.Sets.{empty, union, retain, contains, items, from_list}
+use Rattle.lattice_core.proofs.SetElements.{from_list-empty, contains-empty, contains-from_list, contains-items, contains-retain, contains-union, same_set}
 use Rattle.road_plan.specs.Objects.{order_key}
-use Rattle.road_plan.specs.ObjectOrder.{ordered, object_exact}
+use Rattle.road_plan.specs.Instances.ObjectOrder.{ordered, object_exact}
 use Rattle.road_plan.specs.declared.object.Object.{Object}
 use Rattle.road_scenario.specs.declared.edit.Stamp.{Stamp}
 use Rattle.road_scenario.specs.declared.edit.Value.{Value}
@@ -24,9 +28,9 @@ use Rattle.road_scenario.specs.declared.edit.Edit.{Edit}
 use Rattle.road_scenario.specs.contracts.edit.ValueOrd.TheImpl as derived_value
 use Rattle.road_scenario.specs.contracts.edit.StampOrd.TheImpl as derived_stamp
 use Rattle.road_scenario.specs.Edits.{Edits, Rank, edit_cmp, exceeds, place, two_cmp, three_cmp, stamp_key, value_key}
-use Rattle.road_scenario.specs.EditOrder.{edit_total, edit_exact, exceeds_strict, winners_laws, two_total, three_total, ordered_values, stamp_exact, value_exact}
+use Rattle.road_scenario.specs.Instances.EditOrder.{edit_total, edit_exact, exceeds_strict, winners_laws, two_total, three_total, ordered_values, stamp_exact, value_exact}
 use Rattle.road_scenario.specs.Winners.{winners, join}
-use Rattle.road_scenario.specs.Kept.{Won, Steps, Maps, edit_with, before, listed_at, listed, kept}
+use Rattle.road_scenario.specs.Private.Registers.{Won, Steps, Maps, edit_with, before, listed_at, listed, kept}
 use Rattle.road_scenario.proofs.Rising.{object_cmp, IsSteps, AreMaps, winners-kept}
 
 -- ---- sets of one edit

@@ -14,16 +14,16 @@ use Rattle.std.proofs.lemmas.Bool.{true≢false}
 use Rattle.std.proofs.lemmas.Bool.Decides.{nat_tests}
 use Rattle.lattice_core.specs.declared.greatest.Greatest.TheVariants.{Nothing, Of}
 use Rattle.road_plan.specs.Objects.{order_key, by_kind_and_index}
-use Rattle.road_plan.specs.ObjectOrder.{ordered}
+use Rattle.road_plan.specs.Instances.ObjectOrder.{ordered}
 use Rattle.road_plan.specs.declared.object.Object.{Object}
 use Rattle.road_scenario.specs.declared.edit.Stamp.{Stamp}
 use Rattle.road_scenario.specs.declared.edit.Value.{Value}
 use Rattle.road_scenario.specs.declared.edit.Edit.{Edit}
 use Rattle.road_scenario.specs.Edits.{number_put, two_cmp}
-use Rattle.road_scenario.specs.EditOrder.{two_total}
-use Rattle.road_scenario.specs.Kept.{Won, Steps, Maps, edit_with, before, listed_at, listed}
+use Rattle.road_scenario.specs.Instances.EditOrder.{two_total}
+use Rattle.road_scenario.specs.Private.Registers.{Won, Steps, Maps, edit_with, before, listed_at, listed}
 use Rattle.road_scenario.specs.Settings.{puts, latest, number_of}
-use Rattle.road_scenario.specs.Walks.{won_number, put_by, last_put, steps_of}
+use Rattle.road_scenario.specs.Private.ScenarioWalks.{won_number, put_by, last_put, steps_of}
 use Rattle.road_scenario.proofs.Rising.{object_cmp, left, right, is_less}
 
 -- whether two objects are the same

@@ -8,3 +8,8 @@ pub mod Touching
 pub mod Same
 pub mod Winning
 pub mod Orderless
+pub mod GreatestCounts
+pub mod FirstFaults
+pub mod EditRanges
+pub mod NoEdits
+mod Examples

@@ -8,13 +8,14 @@ use Rattle.std.specs.Cmp.{Equal-is, tied_itself}
 use Rattle.std.proofs.Common.{arith, sym, ap, subst, ◌∙◌, inl, inr}
 use Rattle.std.proofs.lemmas.Bool.{true≢false, or_cases, or_left, or_right, and_parts, and_from}
 use Rattle.std.proofs.lemmas.Bool.Decides.{nat_tests}
-use Rattle.lattice_core.specs.Sets.{contains, items, from_list, contains-from_list, contains-items}
+use Rattle.lattice_core.specs.Sets.{contains, items, from_list}
+use Rattle.lattice_core.proofs.SetElements.{contains-from_list, contains-items}
 use Rattle.road_plan.specs.Plan.{Plan}
 use Rattle.road_plan.specs.Objects.{order_key, default}
 use Rattle.road_plan.specs.declared.object.Object.{Object}
 use Rattle.road_scenario.specs.declared.edit.Edit.{Edit}
 use Rattle.road_scenario.specs.Edits.{Edits, edit_cmp, place}
-use Rattle.road_scenario.specs.EditOrder.{edit_total, edit_exact}
+use Rattle.road_scenario.specs.Instances.EditOrder.{edit_total, edit_exact}
 use Rattle.road_scenario.specs.Settings.{puts, latest, number_of, setting_in, settings_in, settings_of, all_settings}
 use Rattle.road_scenario.specs.Winners.{winners, winners_in}
 use Rattle.road_scenario.proofs.Fitting.{kept_in, latest_in}

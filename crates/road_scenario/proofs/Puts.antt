@@ -15,12 +15,12 @@ use Rattle.lattice_core.specs.Map.{EachEntry, IsHeld, is_empty}
 use Rattle.road_plan.specs.Plan.{Plan}
 use Rattle.road_plan.specs.Settings.{Settings, defaults}
 use Rattle.road_plan.specs.Objects.{in_plan, default, by_kind_and_index}
-use Rattle.road_plan.specs.ObjectOrder.{ordered, object_exact}
+use Rattle.road_plan.specs.Instances.ObjectOrder.{ordered, object_exact}
 use Rattle.road_plan.specs.declared.object.Object.{Object}
 use Rattle.road_plan.specs.declared.object.Object.TheVariants.{Limit, Slow, Block, Inflow, Watch}
-use Rattle.road_scenario.specs.Kept.{Steps, Maps, listed_at, listed}
+use Rattle.road_scenario.specs.Private.Registers.{Steps, Maps, listed_at, listed}
 use Rattle.road_scenario.specs.Settings.{puts, latest, number_of, setting_in, settings_in, all_settings}
-use Rattle.road_scenario.specs.Walks.{last_put, steps_of, with_number, with_put, with_puts, has_place}
+use Rattle.road_scenario.specs.Private.ScenarioWalks.{last_put, steps_of, with_number, with_put, with_puts, has_place}
 use Rattle.road_scenario.proofs.Rising.{object_cmp, IsSteps, AreMaps, left, right, is_less}
 use Rattle.road_scenario.proofs.LastPuts.{is_one, chosen, none_of_other, none_above, latest_put, filter-append, append_none, other_above, steps_here, steps_there, one_object}
 

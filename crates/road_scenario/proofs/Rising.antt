@@ -11,18 +11,19 @@ use Rattle.std.proofs.lemmas.Bool.{true≢false, or_cases}
 use Rattle.lattice_core.specs.declared.greatest.Greatest.TheVariants.{Nothing, Of}
 use Rattle.lattice_core.specs.Greatest.{is_nothing}
 use Rattle.lattice_core.specs.Map.{EachEntry, IsHeld, IsProperMap, is_empty}
-use Rattle.lattice_core.specs.Sets.{is_below, is_rising, items, contains, contains-items, contains-retain, from_list, same_set, items-from_list}
+use Rattle.lattice_core.specs.Sets.{is_below, is_rising, items, contains, from_list}
+use Rattle.lattice_core.proofs.SetElements.{contains-items, contains-retain, same_set, items-from_list}
 use Rattle.road_plan.specs.Objects.{order_key}
-use Rattle.road_plan.specs.ObjectOrder.{ordered}
+use Rattle.road_plan.specs.Instances.ObjectOrder.{ordered}
 use Rattle.road_plan.specs.declared.object.Object.{Object}
 use Rattle.road_plan.specs.contracts.object.ObjectOrd.TheImpl as derived
 use Rattle.road_scenario.specs.declared.edit.Stamp.{Stamp}
 use Rattle.road_scenario.specs.declared.edit.Value.{Value}
 use Rattle.road_scenario.specs.declared.edit.Edit.{Edit}
 use Rattle.road_scenario.specs.Edits.{Edits, edit_cmp, exceeds, place, rank, two_cmp, three_cmp}
-use Rattle.road_scenario.specs.EditOrder.{edit_total, edit_exact, exceeds_strict, two_total, three_total}
+use Rattle.road_scenario.specs.Instances.EditOrder.{edit_total, edit_exact, exceeds_strict, two_total, three_total}
 use Rattle.road_scenario.specs.Winners.{winners}
-use Rattle.road_scenario.specs.Kept.{Steps, Maps, edit_with, before, listed_at, listed, kept}
+use Rattle.road_scenario.specs.Private.Registers.{Steps, Maps, edit_with, before, listed_at, listed, kept}
 
 abbrev pub object_cmp : Object → Object → Ordering
 object_cmp = derived.ghosts.cmp

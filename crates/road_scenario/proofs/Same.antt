@@ -9,14 +9,14 @@ use Rattle.std.proofs.lemmas.Bool.{true≢false}
 use Rattle.lattice_core.specs.declared.greatest.Greatest.TheVariants.{Nothing, Of}
 use Rattle.lattice_core.specs.Greatest.{is_nothing}
 use Rattle.lattice_core.specs.Map.{EachEntry, IfHeld, IsHeld, is_empty}
-use Rattle.lattice_core.specs.MapLaws.{good_at, same_maps}
+use Rattle.lattice_core.specs.Instances.JoinedMaps.{good_at, same_maps}
 use Rattle.lattice_core.specs.Sets.{items}
-use Rattle.road_plan.specs.ObjectOrder.{object_exact}
+use Rattle.road_plan.specs.Instances.ObjectOrder.{object_exact}
 use Rattle.road_plan.specs.declared.object.Object.{Object}
 use Rattle.road_scenario.specs.declared.edit.Edit.{Edit}
-use Rattle.road_scenario.specs.JoinLaws.{has_none}
-use Rattle.road_scenario.specs.Kept.{Won, Steps, Maps, edit_with, before, listed_at, listed, kept}
-use Rattle.road_scenario.specs.Walks.{or_none, steps_of}
+use Rattle.road_scenario.specs.Winners.{has_none}
+use Rattle.road_scenario.specs.Private.Registers.{Won, Steps, Maps, edit_with, before, listed_at, listed, kept}
+use Rattle.road_scenario.specs.Private.ScenarioWalks.{or_none, steps_of}
 use Rattle.road_scenario.specs.Winners.{join}
 use Rattle.road_scenario.proofs.Rising.{object_cmp, IsSteps, AreMaps, left, right, is_less, items-kept}
 use Rattle.road_scenario.proofs.Joining.{object_total, steps_join, steps_laws, maps_join, proper-joined, kept-joined}

@@ -13,12 +13,12 @@ use Rattle.road_plan.specs.Settings.{Fits, defaults}
 use Rattle.road_plan.specs.Objects.{in_plan, default}
 use Rattle.road_plan.specs.declared.object.Object.{Object}
 use Rattle.road_scenario.specs.Faults.{first_fault, fault_in}
-use Rattle.road_scenario.specs.Kept.{Won, Steps, Maps, edit_with, before, listed_at, listed, kept}
+use Rattle.road_scenario.specs.Private.Registers.{Won, Steps, Maps, edit_with, before, listed_at, listed, kept}
 use Rattle.road_scenario.specs.Settings.{setting, setting_in, settings_in, settings_of}
 use Rattle.road_scenario.specs.Winners.{winners}
-use Rattle.road_scenario.specs.Walks.{last_put, steps_of, with_puts}
+use Rattle.road_scenario.specs.Private.ScenarioWalks.{last_put, steps_of, with_puts}
 use Rattle.road_scenario.proofs.Rising.{object_cmp, IsSteps, AreMaps, items-kept, winners-kept}
-use Rattle.road_scenario.specs.FaultsLaws.{first-append, none_of_both, in_range, each_in_range}
+use Rattle.road_scenario.proofs.FirstFaults.{first-append, none_of_both, in_range, each_in_range}
 use Rattle.road_scenario.proofs.Puts.{AreInPlan, setting-listed, puts-settings}
 use Rattle.road_scenario.proofs.Fitting as fitting
 

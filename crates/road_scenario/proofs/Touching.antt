@@ -21,10 +21,10 @@ use Rattle.road_scenario.specs.declared.edit.Stamp.{Stamp}
 use Rattle.road_scenario.specs.declared.edit.Value.{Value}
 use Rattle.road_scenario.specs.declared.edit.Edit.{Edit}
 use Rattle.road_scenario.specs.Edits.{place, place_of, edit_cmp, number_put, two_cmp}
-use Rattle.road_scenario.specs.EditOrder.{edit_total, edit_exact, two_total, three_total}
-use Rattle.road_scenario.specs.Kept.{Won, Steps, Maps, edit_with, before, listed_at, listed, kept}
+use Rattle.road_scenario.specs.Instances.EditOrder.{edit_total, edit_exact, two_total, three_total}
+use Rattle.road_scenario.specs.Private.Registers.{Won, Steps, Maps, edit_with, before, listed_at, listed, kept}
 use Rattle.road_scenario.specs.Touched.{put_in, same_number, differs, least, touched, touched_in}
-use Rattle.road_scenario.specs.Walks.{number_won, number_found, changed_at, changed, earlier, steps_of}
+use Rattle.road_scenario.specs.Private.ScenarioWalks.{number_won, number_found, changed_at, changed, earlier, steps_of}
 use Rattle.road_scenario.proofs.Rising.{object_cmp, place_cmp, IsSteps, AreMaps, left, right, is_less, rising_listed, below-each}
 use Rattle.road_scenario.proofs.LastPuts.{is_one, filter-append, other_above, steps_here, steps_there}
 use Rattle.road_scenario.proofs.Puts.{same}

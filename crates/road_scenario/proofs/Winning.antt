@@ -7,11 +7,12 @@ use Rattle.std.specs.Ordering.{ordering_then, ordering_reverse, eq_by_cmp, is_eq
 use Rattle.std.specs.Cmp.{Equal-is, tied_itself}
 use Rattle.std.proofs.Common.{sym, ap, ◌∙◌}
 use Rattle.std.proofs.lemmas.Bool.{true≢false}
-use Rattle.lattice_core.specs.Sets.{contains, items, from_list, contains-from_list, contains-items, same_set}
-use Rattle.lattice_core.specs.Tops.{any_gives, any_by, contains-tops}
+use Rattle.lattice_core.specs.Sets.{contains, items, from_list}
+use Rattle.lattice_core.proofs.SetElements.{contains-from_list, contains-items, same_set}
+use Rattle.lattice_core.proofs.GreatestElements.{any_gives, any_by, contains-tops}
 use Rattle.road_scenario.specs.declared.edit.Edit.{Edit}
 use Rattle.road_scenario.specs.Edits.{Edits, edit_cmp, exceeds, place, rank, three_cmp}
-use Rattle.road_scenario.specs.EditOrder.{edit_total, edit_exact, exceeds_strict, winners_laws, three_total}
+use Rattle.road_scenario.specs.Instances.EditOrder.{edit_total, edit_exact, exceeds_strict, winners_laws, three_total}
 use Rattle.road_scenario.specs.Winners.{winners, winners_in}
 
 -- ---- one for each object and step

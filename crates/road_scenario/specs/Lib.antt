@@ -1,15 +1,8 @@
 pub mod Edits
-pub mod EditOrder
 pub mod Winners
-pub mod JoinLaws
 pub mod Settings
 pub mod Touched
 pub mod Faults
 pub mod Counts
-pub mod Kept
-pub mod WinnersLaws
-pub mod CountsLaws
-pub mod FaultsLaws
-pub mod RangeLaws
-pub mod Walks
-pub mod Examples
+pub mod Instances
+pub mod Private

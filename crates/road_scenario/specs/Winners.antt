@@ -1,6 +1,8 @@
 -- The winners of a set of edits, and their join.
-use Rattle.std.specs.Prelude.{not, List}
+use Rattle.std.specs.Prelude.{◌≡◌, Bool, not, List}
 use Rattle.std.specs.List.{list_any, filter}
+use Rattle.lattice_core.specs.Map.{is_empty}
+use Rattle.lattice_core.specs.Sets.{items}
 use Rattle.lattice_core.specs.Tops.{tops, join_by}
 use Rattle.road_scenario.specs.declared.edit.Edit.{Edit}
 use Rattle.road_scenario.specs.Edits.{Edits, exceeds}
@@ -16,3 +18,11 @@ join s t = join_by exceeds s t
 -- the winners of a list of edits
 abbrev pub winners_in : List Edit → List Edit
 winners_in edits = filter (λ e. not (list_any (exceeds e) edits)) edits
+
+-- no edit of the set exceeds another
+abbrev pub AreWinners : Edits → Type 0
+AreWinners s = winners s ≡ s
+
+-- whether there is no edit
+abbrev pub has_none : Edits → Bool
+has_none s = is_empty (items s)

@@ -5,7 +5,8 @@ use road_plan::OutOfMemory;
 /// Scenarios under `joined`, from the one without edits up: merges agree in any order, grouping and repetition.
 impl Lattice for Scenario {
     ghost use Rattle.road_scenario.specs.Winners.{join};
-    ghost use Rattle.road_scenario.specs.JoinLaws.{AreWinners, has_none, join_laws};
+    ghost use Rattle.road_scenario.specs.Winners.{AreWinners, has_none};
+    ghost use Rattle.road_scenario.specs.Instances.JoinedWinners.{join_laws};
 
     ghost is_proper = { AreWinners };
 

@@ -4,7 +4,7 @@ ghost use Rattle.std.specs.Prelude.{◌≡◌, [], ◌++◌, OnOk, IfOk, map, ma
 ghost use Rattle.std.specs.List.{fold};
 ghost use Rattle.road_plan.specs.declared.object.Object.{Object};
 ghost use Rattle.road_scenario.specs.Faults.{first_fault};
-ghost use Rattle.road_scenario.specs.Kept.{before, listed, listed_at};
+ghost use Rattle.road_scenario.specs.Private.Registers.{before, listed, listed_at};
 
 use crate::edit::Edit;
 use crate::faults::EditFault;

@@ -5,7 +5,7 @@ ghost use Rattle.road_plan.specs.Settings.{Fits};
 ghost use Rattle.road_scenario.specs.Counts.{greatest_count};
 ghost use Rattle.road_scenario.specs.Edits.{Edits, edit_cmp};
 ghost use Rattle.road_scenario.specs.Faults.{fault_in, AreInRange};
-ghost use Rattle.road_scenario.specs.JoinLaws.{AreWinners, has_none};
+ghost use Rattle.road_scenario.specs.Winners.{AreWinners, has_none};
 ghost use Rattle.road_scenario.specs.Settings.{setting, settings_of};
 ghost use Rattle.road_scenario.specs.Touched.{touched};
 ghost use Rattle.road_scenario.specs.Winners.{winners, join};
@@ -40,8 +40,8 @@ pub struct Scenario {
 
 impl Model for Scenario {
     ghost use Rattle.road_scenario.specs.Edits.{Edits};
-    ghost use Rattle.road_scenario.specs.EditOrder.{edits_code};
-    ghost use Rattle.road_scenario.specs.Kept.{kept};
+    ghost use Rattle.road_scenario.specs.Instances.EditOrder.{edits_code};
+    ghost use Rattle.road_scenario.specs.Private.Registers.{kept};
 
     ghost Value = { Edits };
 

@@ -2,7 +2,7 @@
 
 ghost use Rattle.std.specs.Prelude.{◌≡◌, true, OnOk};
 ghost use Rattle.lattice_core.specs.Map.{EachEntry};
-ghost use Rattle.road_scenario.specs.Walks as walks;
+ghost use Rattle.road_scenario.specs.Private.ScenarioWalks as walks;
 
 use crate::edit::Value;
 use crate::scenario::{Maps, Steps, Won};

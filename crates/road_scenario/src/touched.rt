@@ -2,7 +2,7 @@
 
 ghost use Rattle.std.specs.Prelude.{◌≡◌};
 ghost use Rattle.std.specs.Option.{option_copied};
-ghost use Rattle.road_scenario.specs.Walks as walks;
+ghost use Rattle.road_scenario.specs.Private.ScenarioWalks as walks;
 
 use crate::scenario::{Maps, Steps};
 use crate::settings::number_put;

@@ -2,7 +2,7 @@
 
 ghost use Rattle.std.specs.Prelude.{◌↔◌, IsTrue};
 ghost use Rattle.road_ends.specs.Row.{HasDigits};
-ghost use Rattle.road_detector.specs.Marks.{HaveDigits};
+ghost use Rattle.road_detector.specs.Rows.{HaveDigits};
 
 use crate::plans::{FREE, Parts, car, plan_of};
 use road_cells::{Car, Road};

@@ -1,4 +1,4 @@
-use Rattle.lattice_core.specs.Tops.{tops_laws}
+use Rattle.lattice_core.proofs.GreatestElements.{tops_laws}
 use Rattle.lattice_core.proofs.laws.greatest_elements_agree.Goals as goal
 
 pub returns : goal.returns

@@ -1,4 +1,4 @@
-use Rattle.lattice_core.specs.MapLaws.{same_maps, find-map_join}
+use Rattle.lattice_core.specs.Instances.JoinedMaps.{same_maps, find-map_join}
 use Rattle.lattice_core.proofs.laws.maps_are_what_they_give.Goals as goal
 
 pub returns-clause-same : goal.returns-clause-same

@@ -1,4 +1,4 @@
-use Rattle.lattice_core.specs.Fold.{fold-map_join}
+use Rattle.lattice_core.proofs.FoldedMaps.{fold-map_join}
 use Rattle.lattice_core.proofs.laws.reading_keeps_joins.Goals as goal
 
 pub returns : goal.returns

@@ -1,8 +1,8 @@
 use Rattle.std.proofs.Common.{◌≡◌, ◌+◌, ◌-◌, ◌<◌, ◌≤◌, ◌∙◌, sym, ap, arith, length, drop, sum}
 use Rattle.std.specs.Prelude.{slice_index}
 use Rattle.road_cells.specs.Cars.{cell_at, cars_before}
-use Rattle.road_cells.specs.CarsBefore.{before-at}
-use Rattle.road_cells.specs.CarsPlaces.{length-cars_from}
+use Rattle.road_cells.proofs.CarsBefore.{before-at}
+use Rattle.road_cells.proofs.CarPlaces.{length-cars_from}
 use Rattle.road_detector.specs.Passes.{drives, passing, counted}
 use Rattle.road_detector.proofs.Counting.{none_ahead, one_slow, one_counted, too_far, cars_before-le}
 use Rattle.road_detector.proofs.counts.counted.Goals as goal

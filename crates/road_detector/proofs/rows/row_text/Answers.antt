@@ -5,7 +5,7 @@ use Rattle.std.specs.String.{string_vec}
 use Rattle.std.specs.declared.string.String.{String}
 use Rattle.std.proofs.lemmas.Str.{IsUtf8-from_ascii}
 use Rattle.std.proofs.lemmas.Str.Ascii.{IsAscii-from_all}
-use Rattle.road_detector.specs.Marks.{HaveDigits}
+use Rattle.road_detector.specs.Rows.{HaveDigits}
 use Rattle.road_detector.proofs.Marking.{made, have_digits, row_small}
 use Rattle.road_detector.proofs.rows.row_text.Goals as goal
 

@@ -1,7 +1,7 @@
 use Rattle.std.proofs.Common.{◌≡◌, ℕ, ◌<◌, length, drop}
 use Rattle.std.specs.Prelude.{slice_index}
 use Rattle.road_cells.specs.Gap.{is_blocked}
-use Rattle.road_detector.specs.Marks.{with_block}
+use Rattle.road_detector.specs.Private.MarkedRows.{with_block}
 use Rattle.road_detector.proofs.rows.with_blocks.Given as goal
 
 abbrev pub invariant-loop-block : goal.invariant-loop-block

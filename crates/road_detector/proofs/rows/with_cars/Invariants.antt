@@ -1,7 +1,7 @@
 use Rattle.std.proofs.Common.{◌≡◌, ℕ, ◌<◌, length, drop}
 use Rattle.std.specs.Prelude.{slice_index}
 use Rattle.road_cells.specs.Cars.{standing}
-use Rattle.road_detector.specs.Marks.{with_car}
+use Rattle.road_detector.specs.Private.MarkedRows.{with_car}
 use Rattle.road_detector.proofs.rows.with_cars.Given as goal
 
 abbrev pub invariant-loop-car : goal.invariant-loop-car

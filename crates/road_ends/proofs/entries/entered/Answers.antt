@@ -3,9 +3,9 @@ use Rattle.std.specs.List.{position}
 use Rattle.std.specs.Prelude.{nat_eq, None}
 use Rattle.std.specs.Option.{option_or}
 use Rattle.road_cells.specs.Array.{vehicle_at, numbers}
-use Rattle.road_cells.specs.ArrayLaws.{length-array}
+use Rattle.road_cells.proofs.ArrayPlaces.{length-array}
 use Rattle.road_cells.specs.Cars.{array_of, Rise}
-use Rattle.road_cells.specs.CarsLaws.{rise-cars_from, array_of-cars_from}
+use Rattle.road_cells.proofs.CarLists.{rise-cars_from, array_of-cars_from}
 use Rattle.road_cells.specs.declared.car.Car.{Car}
 use Rattle.road_ends.specs.Entries.{entering}
 use Rattle.road_ends.proofs.Computed.{cars_left, one_here, nobody_here, all_here, all_left}

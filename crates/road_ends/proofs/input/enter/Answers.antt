@@ -4,7 +4,7 @@ use Rattle.std.specs.Option.{option_or}
 use Rattle.road_plan.specs.Plan.{Plan}
 use Rattle.road_plan.specs.Settings.{Fits}
 use Rattle.road_cells.specs.Array.{vehicle_at}
-use Rattle.road_cells.specs.ArrayLaws.{length-array}
+use Rattle.road_cells.proofs.ArrayPlaces.{length-array}
 use Rattle.road_ends.specs.Entries.{entering, entered}
 use Rattle.road_ends.proofs.input.enter.Goals as goal
 

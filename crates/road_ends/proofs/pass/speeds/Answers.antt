@@ -2,8 +2,8 @@ use Rattle.std.proofs.Common.{◌≡◌, ◌+◌, ◌-◌, ◌<◌, ◌∙◌, s
 use Rattle.std.proofs.lemmas.List.{length-set}
 use Rattle.std.specs.Prelude.{slice_index}
 use Rattle.road_cells.specs.Cars.{cars_of, cell_at}
-use Rattle.road_cells.specs.CarsLaws.{rise-cars_from}
-use Rattle.road_cells.specs.CarsPlaces.{rise-at}
+use Rattle.road_cells.proofs.CarLists.{rise-cars_from}
+use Rattle.road_cells.proofs.CarPlaces.{rise-at}
 use Rattle.road_ends.specs.Speed.{speeds}
 use Rattle.road_ends.proofs.OnePass.{one_speed_before}
 use Rattle.road_ends.proofs.pass.speeds.Goals as goal

@@ -2,7 +2,7 @@ use Rattle.std.proofs.Common.{◌≡◌, ◌∙◌, None, ap, sym, subst}
 use Rattle.std.specs.Arc.{arc_value}
 use Rattle.road_plan.specs.Plan.{Plan}
 use Rattle.road_scenario.specs.Faults.{fault_in}
-use Rattle.road_scenario.specs.RangeLaws.{in_range-faultless}
+use Rattle.road_scenario.proofs.EditRanges.{in_range-faultless}
 use Rattle.road_scenario.specs.Settings.{settings_of}
 use Rattle.road_keeper.proofs.Stepping.{step_more}
 use Rattle.road_keeper.proofs.simulation.next.Goals as goal

@@ -1,7 +1,7 @@
 use Rattle.std.proofs.Common.{◌≡◌, ◌<◌, ◌∙◌, sym, ap, subst, arith, length}
 use Rattle.road_cells.specs.Cars.{Rise, cars_of, cell_at, array_of}
 use Rattle.road_rules.specs.Motion.{advanced_at}
-use Rattle.road_rules.specs.MotionLaws.{moved_at-array_of, rise-advanced_at, cell_at-end}
+use Rattle.road_rules.proofs.MotionOfCars.{moved_at-array_of, rise-advanced_at, cell_at-end}
 use Rattle.road_rules.proofs.Advancing.{all_done}
 use Rattle.road_rules.proofs.motion.moved.Goals as goal
 

@@ -1,4 +1,4 @@
-use Rattle.road_scenario.specs.EditOrder.{winners_laws}
+use Rattle.road_scenario.specs.Instances.EditOrder.{winners_laws}
 use Rattle.road_scenario.proofs.Joining.{winners-empty, winners-single}
 use Rattle.road_scenario.proofs.Winning as winning
 use Rattle.road_scenario.proofs.laws.winners_agree.Goals as goal

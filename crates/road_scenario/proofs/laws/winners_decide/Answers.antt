@@ -1,9 +1,9 @@
 use Rattle.std.proofs.Common.{ap}
 use Rattle.lattice_core.specs.Sets.{items}
-use Rattle.road_scenario.specs.EditOrder.{winners_laws}
+use Rattle.road_scenario.specs.Instances.EditOrder.{winners_laws}
 use Rattle.road_scenario.specs.Settings.{settings_in}
 use Rattle.road_scenario.specs.Touched.{touched_in}
-use Rattle.road_scenario.specs.CountsLaws.{greatest_count-winners}
+use Rattle.road_scenario.proofs.GreatestCounts.{greatest_count-winners}
 use Rattle.road_scenario.proofs.Orderless.{settings-listed}
 use Rattle.road_scenario.proofs.laws.winners_decide.Goals as goal
 

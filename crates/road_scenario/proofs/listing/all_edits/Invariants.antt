@@ -1,5 +1,5 @@
 use Rattle.std.proofs.Common.{◌≡◌, ◌++◌}
-use Rattle.road_scenario.specs.Kept.{listed}
+use Rattle.road_scenario.specs.Private.Registers.{listed}
 use Rattle.road_scenario.proofs.listing.all_edits.Given as goal
 
 -- what is listed, and what is left, give the whole

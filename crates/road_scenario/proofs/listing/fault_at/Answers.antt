@@ -1,6 +1,6 @@
 use Rattle.road_scenario.specs.Faults.{first_fault}
-use Rattle.road_scenario.specs.FaultsLaws.{first_turn}
-use Rattle.road_scenario.specs.Kept.{listed_at}
+use Rattle.road_scenario.proofs.FirstFaults.{first_turn}
+use Rattle.road_scenario.specs.Private.Registers.{listed_at}
 use Rattle.road_scenario.proofs.listing.fault_at.Goals as goal
 
 pub loop-step-preserved : goal.loop-step-preserved

@@ -1,7 +1,7 @@
 use Rattle.std.proofs.Common.{◌≡◌}
 use Rattle.std.specs.Option.{option_or}
 use Rattle.road_scenario.specs.Faults.{first_fault}
-use Rattle.road_scenario.specs.Kept.{listed_at}
+use Rattle.road_scenario.specs.Private.Registers.{listed_at}
 use Rattle.road_scenario.proofs.listing.fault_at.Given as goal
 
 -- the first fault is the one found, or else that of what is left

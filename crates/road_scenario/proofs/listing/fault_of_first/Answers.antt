@@ -1,5 +1,5 @@
 use Rattle.std.proofs.Common.{sym, ◌∙◌}
-use Rattle.road_scenario.specs.FaultsLaws.{found_here, not_here}
+use Rattle.road_scenario.proofs.FirstFaults.{found_here, not_here}
 use Rattle.road_scenario.proofs.listing.fault_of_first.Goals as goal
 
 pub returns-in-Some-fault_at : goal.returns-in-Some-fault_at

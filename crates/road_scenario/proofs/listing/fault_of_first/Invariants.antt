@@ -1,6 +1,6 @@
 use Rattle.std.proofs.Common.{◌≡◌}
 use Rattle.road_scenario.specs.Faults.{first_fault}
-use Rattle.road_scenario.specs.Kept.{listed}
+use Rattle.road_scenario.specs.Private.Registers.{listed}
 use Rattle.road_scenario.proofs.listing.fault_of_first.Given as goal
 
 -- the first fault is that of what is left

@@ -1,7 +1,7 @@
 use Rattle.std.proofs.Common.{◌≡◌, map, max}
 use Rattle.std.specs.List.{fold}
 use Rattle.road_plan.specs.declared.object.Object.{Object}
-use Rattle.road_scenario.specs.Kept.{listed_at}
+use Rattle.road_scenario.specs.Private.Registers.{listed_at}
 use Rattle.road_scenario.proofs.listing.greatest_count_at.Given as goal
 
 -- what is left leads to the greatest of all

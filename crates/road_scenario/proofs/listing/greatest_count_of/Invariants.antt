@@ -1,6 +1,6 @@
 use Rattle.std.proofs.Common.{◌≡◌, map, max}
 use Rattle.std.specs.List.{fold}
-use Rattle.road_scenario.specs.Kept.{listed}
+use Rattle.road_scenario.specs.Private.Registers.{listed}
 use Rattle.road_scenario.proofs.listing.greatest_count_of.Given as goal
 
 -- what is left leads to the greatest of all

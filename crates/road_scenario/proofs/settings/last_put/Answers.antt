@@ -1,4 +1,4 @@
-use Rattle.road_scenario.specs.Walks.{last_put}
+use Rattle.road_scenario.specs.Private.ScenarioWalks.{last_put}
 use Rattle.road_scenario.proofs.LastPuts.{all_found}
 use Rattle.road_scenario.proofs.settings.last_put.Goals as goal
 

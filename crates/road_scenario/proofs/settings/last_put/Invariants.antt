@@ -2,7 +2,7 @@ use Rattle.std.proofs.Common.{◌≡◌, T}
 use Rattle.std.specs.FinMap.Entries.{is_sorted}
 use Rattle.std.specs.Option.{option_or}
 use Rattle.std.specs.Ordering.{nat_cmp}
-use Rattle.road_scenario.specs.Walks.{last_put}
+use Rattle.road_scenario.specs.Private.ScenarioWalks.{last_put}
 use Rattle.road_scenario.proofs.settings.last_put.Given as goal
 
 -- the last number of what is left, or else the one found

@@ -1,4 +1,4 @@
-use Rattle.road_scenario.specs.Walks.{with_puts}
+use Rattle.road_scenario.specs.Private.ScenarioWalks.{with_puts}
 use Rattle.road_scenario.proofs.Puts.{put_turn, place_turn}
 use Rattle.road_scenario.proofs.settings.put_all.Goals as goal
 

@@ -1,6 +1,6 @@
 use Rattle.std.proofs.Common.{◌≡◌, true}
 use Rattle.lattice_core.specs.Map.{EachEntry}
-use Rattle.road_scenario.specs.Walks.{has_place, with_puts}
+use Rattle.road_scenario.specs.Private.ScenarioWalks.{has_place, with_puts}
 use Rattle.road_scenario.proofs.settings.put_all.Given as goal
 
 -- what is left leads to the whole, and has its places

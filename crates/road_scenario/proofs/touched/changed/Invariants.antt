@@ -1,5 +1,5 @@
 use Rattle.std.proofs.Common.{◌≡◌}
-use Rattle.road_scenario.specs.Walks.{earlier, changed}
+use Rattle.road_scenario.specs.Private.ScenarioWalks.{earlier, changed}
 use Rattle.road_scenario.proofs.Rising.{object_cmp}
 use Rattle.road_scenario.proofs.touched.changed.Given as goal
 

@@ -1,6 +1,6 @@
 use Rattle.std.proofs.Common.{◌≡◌}
 use Rattle.std.specs.Option.{option_copied}
-use Rattle.road_scenario.specs.Walks.{changed_at, or_none}
+use Rattle.road_scenario.specs.Private.ScenarioWalks.{changed_at, or_none}
 use Rattle.road_scenario.proofs.touched.changed_at.Given as goal
 
 -- the first is that of what is left

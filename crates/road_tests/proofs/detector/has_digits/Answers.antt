@@ -1,5 +1,5 @@
 use Rattle.std.proofs.Common.{subst}
-use Rattle.road_detector.specs.Marks.{HaveDigits}
+use Rattle.road_detector.specs.Rows.{HaveDigits}
 use Rattle.road_detector.proofs.Marking.{from_cars}
 use Rattle.road_tests.proofs.detector.has_digits.Goals as goal
 

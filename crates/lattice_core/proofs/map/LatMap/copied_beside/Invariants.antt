@@ -1,5 +1,5 @@
 use Rattle.std.proofs.Common.{◌≡◌, ◌++◌}
-use Rattle.lattice_core.specs.MapSteps.{beside}
+use Rattle.lattice_core.specs.Private.EntryLists.{beside}
 use Rattle.lattice_core.proofs.map.LatMap.copied_beside.Given as goal
 
 -- what is copied, and what is left, give the whole

@@ -1,5 +1,5 @@
 use Rattle.std.proofs.Common.{◌≡◌}
-use Rattle.lattice_core.specs.MapSteps.{filled}
+use Rattle.lattice_core.specs.Private.EntryLists.{filled}
 use Rattle.lattice_core.proofs.map.LatMap.fill.Given as goal
 
 -- filling in what is left gives the whole

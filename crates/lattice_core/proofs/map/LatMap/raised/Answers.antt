@@ -1,6 +1,6 @@
 use Rattle.std.proofs.Common.{ap, subst, T, ◌∙◌}
 use Rattle.std.specs.FinMap.Entries.{is_sorted, find}
-use Rattle.lattice_core.specs.MapSteps.{raise}
+use Rattle.lattice_core.specs.Private.EntryLists.{raise}
 use Rattle.lattice_core.proofs.Steps.{raised_turn, lookup-find}
 use Rattle.lattice_core.proofs.map.LatMap.raised.Goals as goal
 

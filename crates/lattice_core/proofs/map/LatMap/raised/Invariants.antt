@@ -1,5 +1,5 @@
 use Rattle.std.proofs.Common.{◌≡◌, ◌++◌}
-use Rattle.lattice_core.specs.MapSteps.{raised_by}
+use Rattle.lattice_core.specs.Private.EntryLists.{raised_by}
 use Rattle.lattice_core.proofs.map.LatMap.raised.Given as goal
 
 -- what is joined, and what is left, give the whole

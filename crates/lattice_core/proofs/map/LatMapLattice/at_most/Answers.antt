@@ -2,7 +2,7 @@ use Rattle.std.proofs.Common.{◌≡◌, refl, ◌∙◌, ap, sym, subst}
 use Rattle.std.proofs.lemmas.Bool.{true≢false}
 use Rattle.std.specs.FinMap.Entries.{find}
 use Rattle.std.specs.Option.{option_copied}
-use Rattle.lattice_core.specs.MapSteps.{IsUpTo}
+use Rattle.lattice_core.specs.Private.EntryLists.{IsUpTo}
 use Rattle.lattice_core.proofs.Steps.{lookup-find}
 use Rattle.lattice_core.proofs.UpTo.{AreUpTo, join-up_to, up_to-join}
 use Rattle.lattice_core.proofs.map.LatMapLattice.at_most.Goals as goal

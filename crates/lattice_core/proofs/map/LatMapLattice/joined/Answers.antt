@@ -1,7 +1,7 @@
 use Rattle.std.proofs.Common.{◌≡◌, ◌∙◌, ap, sym, subst}
 use Rattle.lattice_core.specs.Map.{IsProperMap, map_join}
-use Rattle.lattice_core.specs.MapLaws.{proper-map_join}
-use Rattle.lattice_core.specs.MapSteps.{filled}
+use Rattle.lattice_core.specs.Instances.JoinedMaps.{proper-map_join}
+use Rattle.lattice_core.specs.Private.EntryLists.{filled}
 use Rattle.lattice_core.proofs.Calls.{filled-raised_by}
 use Rattle.lattice_core.proofs.map.LatMapLattice.joined.Given as given
 use Rattle.lattice_core.proofs.map.LatMapLattice.joined.Goals as goal

@@ -1,6 +1,6 @@
 use Rattle.std.proofs.Common.{◌∙◌, ap, sym}
 use Rattle.road_cells.specs.Cars.{cars_of}
-use Rattle.road_cells.specs.CarsLaws.{cars_of-array_of}
+use Rattle.road_cells.proofs.CarLists.{cars_of-array_of}
 use Rattle.road_cells.proofs.road.Road.cars.Goals as goal
 
 pub returns-clause-all : goal.returns-clause-all

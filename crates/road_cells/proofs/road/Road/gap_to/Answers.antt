@@ -2,9 +2,9 @@ use Rattle.std.proofs.Common.{◌≡◌, sym, ap, ◌+◌, ◌∙◌, arith, min
 use Rattle.std.specs.Option.{is_some}
 use Rattle.road_cells.specs.Array.{vehicle_at}
 use Rattle.road_cells.specs.Cars.{cars_of, cell_at, standing}
-use Rattle.road_cells.specs.CarsLaws.{standing-cars_from}
+use Rattle.road_cells.proofs.CarLists.{standing-cars_from}
 use Rattle.road_cells.specs.Gap.{free_before, is_blocked}
-use Rattle.road_cells.specs.GapLaws.{free_before-or, free_before-same}
+use Rattle.road_cells.proofs.FreeCells.{free_before-or, free_before-same}
 use Rattle.road_cells.specs.declared.car.TheConstants.{GREATEST_SPEED}
 use Rattle.road_cells.proofs.road.Road.gap_to.Goals as goal
 

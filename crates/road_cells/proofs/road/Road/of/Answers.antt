@@ -1,4 +1,4 @@
-use Rattle.road_cells.specs.CarsLaws.{cars_of-array_of}
+use Rattle.road_cells.proofs.CarLists.{cars_of-array_of}
 use Rattle.road_cells.proofs.road.Road.of.Goals as goal
 
 pub returns-clause-cars : goal.returns-clause-cars

@@ -1,6 +1,6 @@
 use Rattle.std.specs.Arc.{arc_value}
 use Rattle.std.proofs.Common.{arith}
-use Rattle.road_scenario.specs.RangeLaws.{in_range-count}
+use Rattle.road_scenario.proofs.EditRanges.{in_range-count}
 use Rattle.road_keeper.proofs.Replicas.{of_run_at, kept_below}
 use Rattle.road_keeper.proofs.keeper.Keeper.local_edit.Goals as goal
 

@@ -1,4 +1,4 @@
-use Rattle.road_plan.specs.ObjectOrder.{ordered}
+use Rattle.road_plan.specs.Instances.ObjectOrder.{ordered}
 use Rattle.road_plan.proofs.object.Object.are_ordered.Goals as goal
 
 pub returns : goal.returns

@@ -1,5 +1,5 @@
 use Rattle.std.proofs.Common.{subst}
-use Rattle.road_scenario.specs.JoinLaws.{AreWinners}
+use Rattle.road_scenario.specs.Winners.{AreWinners}
 use Rattle.road_scenario.proofs.Rising.{winners-kept}
 use Rattle.road_scenario.proofs.scenario.Scenario.are_winners.Goals as goal
 

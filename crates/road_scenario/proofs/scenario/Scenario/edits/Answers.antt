@@ -1,5 +1,6 @@
 use Rattle.std.proofs.Common.{T, sym, ap, subst, ◌∙◌}
-use Rattle.lattice_core.specs.Sets.{items, is_rising, items_rise}
+use Rattle.lattice_core.specs.Sets.{items, is_rising}
+use Rattle.lattice_core.proofs.SetElements.{items_rise}
 use Rattle.road_scenario.specs.Edits.{edit_cmp}
 use Rattle.road_scenario.proofs.Rising.{items-kept}
 use Rattle.road_scenario.proofs.scenario.Scenario.edits.Goals as goal

@@ -1,6 +1,6 @@
 use Rattle.std.proofs.Common.{◌≡◌, sym, ap, ◌∙◌}
 use Rattle.road_scenario.specs.Faults.{first_fault, fault_in}
-use Rattle.road_scenario.specs.FaultsLaws.{all_in_range, no_fault}
+use Rattle.road_scenario.proofs.FirstFaults.{all_in_range, no_fault}
 use Rattle.road_scenario.proofs.Rising.{items-kept}
 use Rattle.road_scenario.proofs.scenario.Scenario.fits.Goals as goal
 

@@ -1,6 +1,6 @@
 use Rattle.std.proofs.Common.{◌≡◌, sym, ap, ◌∙◌}
 use Rattle.road_scenario.specs.Counts.{greatest_count, greatest_count_in}
-use Rattle.road_scenario.specs.CountsLaws.{greatest_count-winners}
+use Rattle.road_scenario.proofs.GreatestCounts.{greatest_count-winners}
 use Rattle.road_scenario.proofs.Rising.{items-kept}
 use Rattle.road_scenario.proofs.scenario.Scenario.greatest_count.Goals as goal
 

@@ -1,5 +1,5 @@
 use Rattle.std.proofs.Common.{ap, ◌∙◌}
-use Rattle.road_scenario.specs.JoinLaws.{has_none}
+use Rattle.road_scenario.specs.Winners.{has_none}
 use Rattle.road_scenario.proofs.Same.{empty-kept}
 use Rattle.road_scenario.proofs.scenario.Scenario.is_empty.Goals as goal
 

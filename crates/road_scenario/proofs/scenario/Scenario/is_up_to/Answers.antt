@@ -1,5 +1,5 @@
 use Rattle.std.proofs.Common.{◌≡◌, sym, subst}
-use Rattle.road_scenario.specs.Kept.{kept}
+use Rattle.road_scenario.specs.Private.Registers.{kept}
 use Rattle.road_scenario.specs.Winners.{join}
 use Rattle.road_scenario.proofs.Same.{up_to, up_to_back}
 use Rattle.road_scenario.proofs.scenario.Scenario.is_up_to.Goals as goal

@@ -1,6 +1,6 @@
 use Rattle.std.proofs.Common.{ap, ◌∙◌}
 use Rattle.road_scenario.specs.Winners.{join}
-use Rattle.road_scenario.specs.Kept.{kept}
+use Rattle.road_scenario.specs.Private.Registers.{kept}
 use Rattle.road_scenario.proofs.Joining.{kept-joined}
 use Rattle.road_scenario.proofs.scenario.Scenario.joined.Goals as goal
 

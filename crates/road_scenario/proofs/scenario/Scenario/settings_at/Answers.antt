@@ -2,9 +2,9 @@ use Rattle.std.proofs.Common.{◌≡◌, None, true, sym, ap, subst, ◌∙◌}
 use Rattle.lattice_core.specs.Map.{EachEntry}
 use Rattle.road_plan.specs.Settings.{Fits}
 use Rattle.road_scenario.specs.Faults.{fault_in}
-use Rattle.road_scenario.specs.Kept.{kept}
+use Rattle.road_scenario.specs.Private.Registers.{kept}
 use Rattle.road_scenario.specs.Settings.{settings_of}
-use Rattle.road_scenario.specs.Walks.{has_place, with_puts}
+use Rattle.road_scenario.specs.Private.ScenarioWalks.{has_place, with_puts}
 use Rattle.road_scenario.proofs.Puts.{places_own}
 use Rattle.road_scenario.proofs.Settled.{inside_plan, settings-kept, fits-kept}
 use Rattle.road_scenario.proofs.scenario.Scenario.settings_at.Goals as goal

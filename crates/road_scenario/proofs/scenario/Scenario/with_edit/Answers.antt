@@ -5,7 +5,7 @@ use Rattle.lattice_core.specs.Map.{joined_in}
 use Rattle.lattice_core.specs.Sets.{from_list}
 use Rattle.lattice_core.specs.declared.greatest.Greatest.TheVariants.{Of}
 use Rattle.road_scenario.specs.Winners.{join}
-use Rattle.road_scenario.specs.Kept.{kept}
+use Rattle.road_scenario.specs.Private.Registers.{kept}
 use Rattle.road_scenario.proofs.Joining.{kept-with, won_join}
 use Rattle.road_scenario.proofs.scenario.Scenario.with_edit.Goals as goal
 

@@ -2,9 +2,10 @@
 use Rattle.std.specs.Prelude.{◌≡◌, not, ◌&&◌}
 use Rattle.std.specs.List.{list_any}
 use Rattle.std.proofs.Common.{sym, ap, ◌∙◌}
-use Rattle.lattice_core.specs.Sets.{empty, items, contains-empty, same_set}
-use Rattle.lattice_core.specs.Tops.{contains-tops}
-use Rattle.road_scenario.specs.EditOrder.{edit_total, edit_exact, exceeds_strict}
+use Rattle.lattice_core.specs.Sets.{empty, items}
+use Rattle.lattice_core.proofs.SetElements.{contains-empty, same_set}
+use Rattle.lattice_core.proofs.GreatestElements.{contains-tops}
+use Rattle.road_scenario.specs.Instances.EditOrder.{edit_total, edit_exact, exceeds_strict}
 use Rattle.road_scenario.specs.Edits.{edit_cmp, exceeds}
 use Rattle.road_scenario.specs.Winners.{winners}
 

@@ -2,7 +2,8 @@
 use Rattle.std.specs.Prelude.{◌≡◌, ℕ, zero, suc, refl}
 use Rattle.std.specs.Ordering.{nat_cmp}
 use Rattle.std.proofs.Common.{sym, ap, ◌∙◌}
-use Rattle.lattice_core.specs.Exact.{IsExact, exact_by, exact_nat, exact_pair, pair_cmp}
+use Rattle.lattice_core.specs.Exact.{IsExact, pair_cmp}
+use Rattle.lattice_core.specs.Instances.ExactOrders.{exact_by, exact_nat, exact_pair}
 use Rattle.road_plan.specs.Objects.{by_kind_and_index, order_key}
 use Rattle.road_plan.specs.declared.object.Object.{Object}
 use Rattle.road_plan.specs.declared.object.Object.TheVariants.{Limit, Slow, Block, Inflow, Watch}

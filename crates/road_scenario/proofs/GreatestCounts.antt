@@ -8,12 +8,13 @@ use Rattle.std.specs.Cmp.{Equal-is, tied_itself}
 use Rattle.std.proofs.Common.{arith, sym, ap, ◌∙◌, inl, inr}
 use Rattle.std.proofs.lemmas.Bool.{true≢false, or_cases, or_left, or_right, and_parts, and_from, not_from_false, cases_Bool}
 use Rattle.std.proofs.lemmas.Bool.Decides.{nat_tests}
-use Rattle.lattice_core.specs.Sets.{contains, items, contains-items}
-use Rattle.lattice_core.specs.Tops.{any_gives, contains-tops, top_above}
+use Rattle.lattice_core.specs.Sets.{contains, items}
+use Rattle.lattice_core.proofs.SetElements.{contains-items}
+use Rattle.lattice_core.proofs.GreatestElements.{any_gives, contains-tops, top_above}
 use Rattle.road_scenario.specs.declared.edit.Edit.{Edit}
 use Rattle.road_scenario.specs.Counts.{greatest_count}
 use Rattle.road_scenario.specs.Edits.{Edits, edit_cmp, exceeds, place, rank, three_cmp, value_key}
-use Rattle.road_scenario.specs.EditOrder.{edit_total, edit_exact, exceeds_strict, winners_laws}
+use Rattle.road_scenario.specs.Instances.EditOrder.{edit_total, edit_exact, exceeds_strict, winners_laws}
 use Rattle.road_scenario.specs.Winners.{winners}
 
 abbrev counts_from : ℕ → List Edit → ℕ

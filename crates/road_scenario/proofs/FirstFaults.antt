@@ -8,7 +8,8 @@ use Rattle.std.specs.Ordering.{eq_by_cmp, is_eq}
 use Rattle.std.specs.Cmp.{Equal-is, tied_itself}
 use Rattle.std.proofs.Common.{sym, ap, ◌∙◌, inl, inr}
 use Rattle.std.proofs.lemmas.Bool.{true≢false, or_cases, or_left, or_right, and_parts, and_from, leb-true, le-leb}
-use Rattle.lattice_core.specs.Sets.{items, contains-items}
+use Rattle.lattice_core.specs.Sets.{items}
+use Rattle.lattice_core.proofs.SetElements.{contains-items}
 use Rattle.road_plan.specs.Plan.{Plan}
 use Rattle.road_plan.specs.Objects.{in_plan}
 use Rattle.road_plan.specs.declared.limits.TheConstants.{LAST_EDIT_STEP, GREATEST_COUNT}
@@ -17,9 +18,9 @@ use Rattle.road_scenario.specs.declared.edit.Edit.{Edit}
 use Rattle.road_scenario.specs.declared.faults.EditFault.{EditFault}
 use Rattle.road_scenario.specs.declared.faults.EditFault.TheVariants.{NoObject, Step, ValueOutOfRange, Count}
 use Rattle.road_scenario.specs.Edits.{Edits, edit_cmp}
-use Rattle.road_scenario.specs.EditOrder.{edit_total, edit_exact}
+use Rattle.road_scenario.specs.Instances.EditOrder.{edit_total, edit_exact}
 use Rattle.road_scenario.specs.Faults.{fault_of, first_fault, fault_in, takes, IsInRange, AreInRange}
-use Rattle.road_scenario.specs.Kept.{Won, Steps, Maps, edit_with, before, listed_at, listed}
+use Rattle.road_scenario.specs.Private.Registers.{Won, Steps, Maps, edit_with, before, listed_at, listed}
 use Rattle.lattice_core.specs.declared.greatest.Greatest.TheVariants.{Nothing, Of}
 
 or-assoc : (x y z : Option EditFault) → option_or (option_or x y) z ≡ option_or x (option_or y z)

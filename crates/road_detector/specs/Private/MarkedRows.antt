@@ -1,11 +1,8 @@
 -- The letters that are written over those of a row.
-use Rattle.std.specs.Prelude.{ℕ, ◌+◌, ◌≤◌, Bool, List, if◌then◌else◌}
-use Rattle.std.specs.List.{All}
+use Rattle.std.specs.Prelude.{ℕ, ◌+◌, Bool, if◌then◌else◌}
 use Rattle.std.specs.declared.option.Option.{Option}
 use Rattle.std.specs.declared.option.Option.TheVariants.{None, Some}
 use Rattle.road_cells.specs.Array.{Vehicle}
-use Rattle.road_cells.specs.declared.car.Car.{Car}
-use Rattle.road_cells.specs.declared.car.TheConstants.{GREATEST_SPEED}
 use Rattle.road_ends.specs.declared.letters.TheConstants.{STANDING, BLOCKED}
 
 -- a blocked cell gets its mark
@@ -16,7 +13,3 @@ with_block blocked letter = if blocked then BLOCKED else letter
 abbrev pub with_car : Option Vehicle → ℕ → ℕ
 with_car (Some v) letter = STANDING + v.speed
 with_car None letter = letter
-
--- each car's speed is a digit
-abbrev pub HaveDigits : List Car → Type 0
-HaveDigits cars = All (λ car. car.speed ≤ GREATEST_SPEED) cars

@@ -5,7 +5,7 @@ use Rattle.std.specs.declared.option.Option.TheVariants.{None, Some}
 use Rattle.std.proofs.Common.{sym, ap, subst, ◌∙◌, inl, inr, arith}
 use Rattle.std.proofs.lemmas.Bool.{cases_eq, cases_lt, eq-eqb, ne_eqb}
 use Rattle.road_cells.specs.Array.{Array, Vehicle, vehicle_at, array, cut, before, numbers}
-use Rattle.road_cells.specs.ArrayLaws.{vehicle_at-array, past_array, array-same, vehicle_at-cut}
+use Rattle.road_cells.proofs.ArrayPlaces.{vehicle_at-array, past_array, array-same, vehicle_at-cut}
 use Rattle.road_cells.specs.Cars.{cars_from, cars_of, car_of, vehicle_of, RiseFrom, Rise, standing, end_of, array_of}
 use Rattle.road_cells.specs.declared.car.Car.{Car}
 

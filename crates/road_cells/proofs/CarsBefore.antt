@@ -4,7 +4,7 @@ use Rattle.std.proofs.Common.{ap, ◌∙◌, arith, inl, inr}
 use Rattle.std.proofs.lemmas.Bool.{cases_lt, lt-ltb, le-ltb}
 use Rattle.std.proofs.lemmas.List.Sums.{sum_by-cons}
 use Rattle.road_cells.specs.Cars.{cars_before, RiseFrom, cell_at}
-use Rattle.road_cells.specs.CarsPlaces.{rise-from}
+use Rattle.road_cells.proofs.CarPlaces.{rise-from}
 use Rattle.road_cells.specs.declared.car.Car.{Car}
 
 before-step : (c : ℕ) (car : Car) (cars : List Car) → cars_before c (car ∷ cars) ≡ cond (nat_lt car.cell c) 1 0 + cars_before c cars

@@ -11,13 +11,13 @@ use Rattle.road_plan.specs.Plan.{Plan}
 use Rattle.road_plan.specs.declared.object.Object.{Object}
 use Rattle.road_plan.specs.declared.limits.TheConstants.{GREATEST_HORIZON}
 use Rattle.road_scenario.specs.Counts.{greatest_count}
-use Rattle.road_scenario.specs.CountsLaws.{greatest_count-winners}
-use Rattle.road_scenario.specs.EditOrder.{winners_laws}
+use Rattle.road_scenario.proofs.GreatestCounts.{greatest_count-winners}
+use Rattle.road_scenario.specs.Instances.EditOrder.{winners_laws}
 use Rattle.road_scenario.specs.Edits.{Edits}
 use Rattle.road_scenario.specs.Faults.{fault_of}
 use Rattle.road_scenario.specs.Settings.{settings_in, settings_of}
 use Rattle.road_scenario.specs.Winners.{winners, join}
-use Rattle.road_scenario.specs.WinnersLaws.{winners-empty}
+use Rattle.road_scenario.proofs.NoEdits.{winners-empty}
 use Rattle.road_scenario.specs.declared.edit.Edit.{Edit}
 use Rattle.road_scenario.specs.declared.edit.Value.{Value}
 use Rattle.road_scenario.specs.declared.edit.Value.TheVariants.{Withdrawn, Put}

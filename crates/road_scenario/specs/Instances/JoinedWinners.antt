@@ -1,5 +1,5 @@
 -- Sets of winners under `join` are a lattice whose bottom is the empty set.
-use Rattle.std.specs.Prelude.{◌≡◌, Bool, true, ◌||◌, List, [], ◌∷◌, refl}
+use Rattle.std.specs.Prelude.{◌≡◌, true, ◌||◌, List, [], ◌∷◌, refl}
 use Rattle.std.specs.List.{list_any}
 use Rattle.std.specs.Ordering.{eq_by_cmp, is_eq}
 use Rattle.std.specs.Cmp.{tied_itself}
@@ -7,20 +7,14 @@ use Rattle.std.proofs.Common.{sym, ap, ◌∙◌, inl, inr}
 use Rattle.std.proofs.lemmas.Bool.{true≢false, or_left, and_from, not_from_false, cases_Bool}
 use Rattle.lattice_core.specs.Lattice.{LatticeLaws}
 use Rattle.lattice_core.specs.Map.{is_empty}
-use Rattle.lattice_core.specs.Sets.{empty, union, contains, items, from_list, contains-empty, contains-items, contains-union, same_set, from_list-items, from_list-empty}
-use Rattle.lattice_core.specs.Tops.{any_gives, contains-tops, top_above, union_left}
+use Rattle.lattice_core.specs.Sets.{empty, union, contains, items, from_list}
+use Rattle.lattice_core.proofs.SetElements.{contains-empty, contains-items, contains-union, same_set, from_list-items, from_list-empty}
+use Rattle.lattice_core.proofs.GreatestElements.{any_gives, contains-tops, top_above, union_left}
 use Rattle.road_scenario.specs.declared.edit.Edit.{Edit}
 use Rattle.road_scenario.specs.Edits.{Edits, edit_cmp, exceeds}
-use Rattle.road_scenario.specs.EditOrder.{edit_total, edit_exact, exceeds_strict, winners_laws}
+use Rattle.road_scenario.specs.Instances.EditOrder.{edit_total, edit_exact, exceeds_strict, winners_laws}
 use Rattle.road_scenario.specs.Winners.{winners, join}
-
--- no edit of the set exceeds another
-abbrev pub AreWinners : Edits → Type 0
-AreWinners s = winners s ≡ s
-
--- whether there is no edit
-abbrev pub has_none : Edits → Bool
-has_none s = is_empty (items s)
+use Rattle.road_scenario.specs.Winners.{AreWinners, has_none}
 
 no_items : (es : List Edit) → is_empty es ≡ true → es ≡ []
 no_items [] h = refl

@@ -11,7 +11,7 @@ use Rattle.road_plan.specs.Settings.{Settings}
 use Rattle.road_plan.specs.declared.object.Object.{Object}
 use Rattle.road_plan.specs.declared.object.Object.TheVariants.{Limit, Slow, Block, Inflow, Watch}
 use Rattle.road_scenario.specs.Edits.{number_put}
-use Rattle.road_scenario.specs.Kept.{Won, Steps, Maps}
+use Rattle.road_scenario.specs.Private.Registers.{Won, Steps, Maps}
 use Rattle.road_scenario.specs.Touched.{same_number}
 
 -- the number that won, nothing where a withdrawal did

@@ -9,10 +9,12 @@ use Rattle.std.specs.Coded.{Coded, code_by, coded×, coded_ℕ}
 use Rattle.std.proofs.lemmas.Bool.{true≢false, and_parts, and_from, false_from_ne_true}
 use Rattle.std.proofs.lemmas.Bool.Decides.{nat_tests}
 use Rattle.std.proofs.Common.{arith, sym, ap, ◌∙◌}
-use Rattle.lattice_core.specs.Exact.{IsExact, exact_by, exact_nat, exact_pair, total_pair}
+use Rattle.lattice_core.specs.Exact.{IsExact}
+use Rattle.lattice_core.specs.Instances.ExactOrders.{exact_by, exact_nat, exact_pair, total_pair}
 use Rattle.lattice_core.specs.Sets as sets
-use Rattle.lattice_core.specs.Tops.{IsStrict, TopsLaws, tops_laws}
-use Rattle.road_plan.specs.ObjectOrder.{object_of, object_back}
+use Rattle.lattice_core.specs.Tops.{IsStrict, TopsLaws}
+use Rattle.lattice_core.proofs.GreatestElements.{tops_laws}
+use Rattle.road_plan.specs.Instances.ObjectOrder.{object_of, object_back}
 use Rattle.road_scenario.specs.declared.edit.Stamp.{Stamp}
 use Rattle.road_scenario.specs.declared.edit.Value.{Value}
 use Rattle.road_scenario.specs.declared.edit.Value.TheVariants.{Withdrawn, Put}

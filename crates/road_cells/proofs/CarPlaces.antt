@@ -5,7 +5,7 @@ use Rattle.std.specs.declared.option.Option.TheVariants.{None, Some}
 use Rattle.road_cells.specs.Array.{Array}
 use Rattle.std.proofs.Common.{◌∙◌, arith}
 use Rattle.road_cells.specs.Cars.{cars_from, RiseFrom, standing, vehicle_of, cell_at}
-use Rattle.road_cells.specs.CarsLaws.{standing-other, standing-here}
+use Rattle.road_cells.proofs.CarLists.{standing-other, standing-here}
 use Rattle.road_cells.specs.declared.car.Car.{Car}
 
 -- where cars rise from k on, each cell is k at least

@@ -9,10 +9,10 @@ use Rattle.std.proofs.lemmas.Bool.{cases_lt, le-ltb, lt-ltb}
 use Rattle.std.proofs.lemmas.List.{length-map}
 use Rattle.std.proofs.lemmas.List.Sums.{sum_by-cons}
 use Rattle.road_cells.specs.Array.{Array, Vehicle, vehicle_at, array, numbers}
-use Rattle.road_cells.specs.ArrayLaws.{vehicle_at-array, past_array, array-same}
+use Rattle.road_cells.proofs.ArrayPlaces.{vehicle_at-array, past_array, array-same}
 use Rattle.road_cells.specs.Cars.{cars_from, cars_of, cell_at, vehicle_of, RiseFrom, Rise, standing, end_of, array_of}
-use Rattle.road_cells.specs.CarsLaws.{vehicle_at-array_of, standing-past, rise-cars_from}
-use Rattle.road_cells.specs.CarsPlaces.{rise-from}
+use Rattle.road_cells.proofs.CarLists.{vehicle_at-array_of, standing-past, rise-cars_from}
+use Rattle.road_cells.proofs.CarPlaces.{rise-from}
 use Rattle.road_cells.specs.declared.car.Car.{Car}
 use Rattle.road_cells.specs.declared.car.TheConstants.{GREATEST_SPEED}
 use Rattle.road_rules.specs.Motion.{advanced_by, advanced_at, first_of, coming, arriving, moved, speed_at, moved_at, MayMove}

@@ -6,16 +6,17 @@ use Rattle.std.specs.Ordering.{eq_by_cmp}
 use Rattle.std.specs.Cmp.{Equal-is}
 use Rattle.std.proofs.Common.{arith, sym, subst, ◌∙◌, inl, inr}
 use Rattle.std.proofs.lemmas.Bool.{true≢false, or_cases}
-use Rattle.lattice_core.specs.Sets.{empty, contains, items, union, from_list, contains-items, contains-empty, contains-from_list, contains-union}
+use Rattle.lattice_core.specs.Sets.{empty, contains, items, union, from_list}
+use Rattle.lattice_core.proofs.SetElements.{contains-items, contains-empty, contains-from_list, contains-union}
 use Rattle.road_plan.specs.Plan.{Plan}
 use Rattle.road_plan.specs.declared.limits.TheConstants.{GREATEST_COUNT}
 use Rattle.road_scenario.specs.declared.edit.Edit.{Edit}
 use Rattle.road_scenario.specs.Counts.{greatest_count}
-use Rattle.road_scenario.specs.CountsLaws.{reached}
-use Rattle.road_scenario.specs.EditOrder.{edit_total, edit_exact, winners_laws}
+use Rattle.road_scenario.proofs.GreatestCounts.{reached}
+use Rattle.road_scenario.specs.Instances.EditOrder.{edit_total, edit_exact, winners_laws}
 use Rattle.road_scenario.specs.Edits.{Edits, edit_cmp}
 use Rattle.road_scenario.specs.Faults.{fault_of, fault_in, IsInRange, AreInRange}
-use Rattle.road_scenario.specs.FaultsLaws.{in_range, no_fault}
+use Rattle.road_scenario.proofs.FirstFaults.{in_range, no_fault}
 use Rattle.road_scenario.specs.Winners.{join}
 
 pub in_range-empty : (p : Plan) → AreInRange p empty

@@ -1,0 +1,2 @@
+-- What the contracts of private functions say of their loops; no public contract names it.
+pub mod MarkedRows

@@ -1,0 +1,2 @@
+-- The laws that implementations of traits give, with their proofs: a contract may cite no proof of its own crate, so they stand here.
+pub mod ObjectOrder

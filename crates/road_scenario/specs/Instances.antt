@@ -1,0 +1,3 @@
+-- The laws that implementations of traits give, with their proofs: a contract may cite no proof of its own crate, so they stand here.
+pub mod JoinedWinners
+pub mod EditOrder

@@ -1,0 +1,3 @@
+-- What the contracts of private functions say of their loops; no public contract names it.
+pub mod ScenarioWalks
+pub mod Registers

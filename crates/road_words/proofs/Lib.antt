@@ -1,0 +1,2 @@
+pub mod WordSizes
+mod Examples
