@@ -3,7 +3,7 @@ use Rattle.std.specs.Prelude.{◌≡◌, ℕ, zero, suc, ◌+◌, ◌<◌, ◌�
 use Rattle.std.proofs.Common.{ap, ◌∙◌, arith, inl, inr}
 use Rattle.std.proofs.lemmas.Bool.{cases_lt, lt-ltb, le-ltb}
 use Rattle.std.proofs.lemmas.List.Sums.{sum_by-cons}
-use Rattle.road_cells.specs.Cars.{cars_before, RiseFrom, cell_at}
+use Rattle.road_cells.specs.Cars.{cars_before, AreRisingFrom, cell_at}
 use Rattle.road_cells.proofs.CarPlaces.{rise-from}
 use Rattle.road_cells.specs.declared.car.Car.{Car}
 
@@ -17,7 +17,7 @@ before-more c car cars lt =
     before-step c car cars ∙ ap (λ b. cond {A = ℕ} b 1 0 + cars_before c cars) (lt-ltb car.cell c lt) ∙ more
 
 -- of cars that rise from the cell on none stands before it
-pub before-none : (c k : ℕ) (cars : List Car) → c ≤ k → RiseFrom k cars → cars_before c cars ≡ 0
+pub before-none : (c k : ℕ) (cars : List Car) → c ≤ k → AreRisingFrom k cars → cars_before c cars ≡ 0
 before-none c k [] le rise = refl
 before-none c k (car ∷ cars) le rise =
     let from : k ≤ car.cell = rise.0 in
@@ -30,7 +30,7 @@ pub record IsFirstBehind (c : ℕ) (cars : List Car) (k : ℕ) : Type 0 where
   pub stands_before : k < cars_before c cars → cell_at cars k < c
   pub stands_behind : cars_before c cars ≤ k → c ≤ cell_at cars k
 
-pub before-at : (c m : ℕ) (cars : List Car) (k : ℕ) → RiseFrom m cars → k < length cars → IsFirstBehind c cars k
+pub before-at : (c m : ℕ) (cars : List Car) (k : ℕ) → AreRisingFrom m cars → k < length cars → IsFirstBehind c cars k
 before-at c m [] k rise below = absurd (omega arith)
 before-at c m (car ∷ cars) zero rise below = elim (cases_lt car.cell c) as (λ _. IsFirstBehind c (car ∷ cars) zero) [
   | inl lt ↦ let one = before-more c car cars lt in record { stands_before = λ _. lt; stands_behind = λ le. absurd (omega arith) }

@@ -2,7 +2,7 @@
 use Rattle.std.specs.Prelude.{◌≡◌, ℕ, List, [], ◌∷◌, refl}
 use Rattle.std.specs.declared.option.Option.{Option}
 use Rattle.std.specs.declared.option.Option.TheVariants.{None, Some}
-use Rattle.road_cells.specs.Array.{Array, Vehicle, vehicle_at, array, cut}
+use Rattle.road_cells.specs.Array.{Array, Vehicle, vehicle_at, array, array_of_places}
 use Rattle.road_cells.specs.Cars.{cars_of, cell_at, end_of, array_of}
 use Rattle.road_cells.specs.Gap.{free_before, free_cells}
 use Rattle.road_cells.specs.declared.car.Car.{Car}
@@ -61,9 +61,9 @@ cars_of-empty = refl
 array-empty : array 5 (λ c. None) ≡ []
 array-empty = refl
 
-cut-end : cut (None ∷ vehicle 1 4 ∷ None ∷ None ∷ []) ≡ None ∷ vehicle 1 4 ∷ []
+array_of_places-end : array_of_places (None ∷ vehicle 1 4 ∷ None ∷ None ∷ []) ≡ None ∷ vehicle 1 4 ∷ []
 unfolding vehicle
-cut-end = refl
+array_of_places-end = refl
 
 -- ---- the free cells in front of a car
 

@@ -1,8 +1,8 @@
-pub mod Ahead
-pub mod Found
-pub mod BlockFound
-pub mod Before
-pub mod Between
+pub mod CellsAhead
+pub mod CarSearch
+pub mod BlockSearch
+pub mod CarCounts
+pub mod CarsBetween
 pub mod ArrayPlaces
 pub mod CarLists
 pub mod CarPlaces

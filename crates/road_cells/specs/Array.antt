@@ -1,5 +1,6 @@
 -- The road as an array: each place is empty or holds a vehicle.
 use Rattle.std.specs.Prelude.{ℕ, zero, suc, ◌+◌, List, [], ◌∷◌, map, slice_get}
+use Rattle.std.specs.List.{range_with_len}
 use Rattle.std.specs.declared.option.Option.{Option}
 use Rattle.std.specs.declared.option.Option.TheVariants.{None, Some}
 
@@ -20,22 +21,17 @@ vehicle_at a c = standing (slice_get a c)
     standing None = None
     standing (Some place) = place
 
--- the numbers from a on, n of them
-abbrev pub numbers : ℕ → ℕ → List ℕ
-numbers a zero = []
-numbers a (suc n) = a ∷ numbers (a + 1) n
-
 -- a place in front of others: an empty one is left out where all others are
-abbrev pub before : Option Vehicle → Array → Array
-before None [] = []
-before None (y ∷ ys) = None ∷ y ∷ ys
-before (Some x) ys = Some x ∷ ys
+abbrev pub array_behind : Option Vehicle → Array → Array
+array_behind None [] = []
+array_behind None (y ∷ ys) = None ∷ y ∷ ys
+array_behind (Some x) ys = Some x ∷ ys
 
 -- the places, without the empty ones at the end
-abbrev pub cut : List (Option Vehicle) → Array
-cut [] = []
-cut (x ∷ xs) = before x (cut xs)
+abbrev pub array_of_places : List (Option Vehicle) → Array
+array_of_places [] = []
+array_of_places (x ∷ xs) = array_behind x (array_of_places xs)
 
 -- the array that has at each cell below n what the function gives, and nothing from n on
 abbrev pub array : ℕ → (ℕ → Option Vehicle) → Array
-array n f = cut (map f (numbers 0 n))
+array n f = array_of_places (map f (range_with_len 0 n))

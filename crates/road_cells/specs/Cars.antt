@@ -32,17 +32,17 @@ abbrev pub cars_before : ℕ → List Car → ℕ
 cars_before c cars = count_by (λ car. nat_lt car.cell c) cars
 
 -- the cells of cars strictly rise, from k on
-abbrev pub RiseFrom : ℕ → List Car → Type 0
-RiseFrom k [] = Unit {0}
-RiseFrom k (car ∷ cars) = (k ≤ car.cell) × RiseFrom (car.cell + 1) cars
+abbrev pub AreRisingFrom : ℕ → List Car → Type 0
+AreRisingFrom k [] = Unit {0}
+AreRisingFrom k (car ∷ cars) = (k ≤ car.cell) × AreRisingFrom (car.cell + 1) cars
 
-abbrev pub Rise : List Car → Type 0
-Rise cars = RiseFrom 0 cars
+abbrev pub AreRising : List Car → Type 0
+AreRising cars = AreRisingFrom 0 cars
 
 -- which of the cars stands at a cell
-abbrev pub standing : ℕ → List Car → Option Vehicle
-standing c [] = None
-standing c (car ∷ cars) = if nat_eq car.cell c then Some (vehicle_of car) else standing c cars
+abbrev pub vehicle_among : ℕ → List Car → Option Vehicle
+vehicle_among c [] = None
+vehicle_among c (car ∷ cars) = if nat_eq car.cell c then Some (vehicle_of car) else vehicle_among c cars
 
 -- one above the greatest cell of a car
 abbrev pub end_of : List Car → ℕ
@@ -51,4 +51,4 @@ end_of (car ∷ cars) = max (car.cell + 1) (end_of cars)
 
 -- the array that cars make
 abbrev pub array_of : List Car → Array
-array_of cars = array (end_of cars) (λ c. standing c cars)
+array_of cars = array (end_of cars) (λ c. vehicle_among c cars)

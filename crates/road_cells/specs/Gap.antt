@@ -1,12 +1,12 @@
 -- The free cells in front of a cell.
 use Rattle.std.specs.Prelude.{ℕ, ◌+◌, ◌<◌, ◌≤◌, ◌||◌, Bool, List, length, nat_eq, is_some, slice_index}
-use Rattle.std.specs.List.{list_any, position_or_len}
-use Rattle.road_cells.specs.Array.{Array, vehicle_at, numbers}
+use Rattle.std.specs.List.{list_any, position_or_len, range_with_len}
+use Rattle.road_cells.specs.Array.{Array, vehicle_at}
 use Rattle.road_cells.specs.declared.car.TheConstants.{GREATEST_SPEED}
 
 -- how many cells from c on come before the first that passes the test, n at most
 unfoldable pub free_before : (ℕ → Bool) → ℕ → ℕ → ℕ
-free_before test c n = position_or_len test (numbers c n)
+free_before test c n = position_or_len test (range_with_len c n)
 
 -- whether a cell is one of the blocked ones
 abbrev pub is_blocked : List ℕ → ℕ → Bool

@@ -1,8 +1,9 @@
 ghost use Rattle.std.specs.Prelude.{◌≡◌, ℕ, ◌+◌, ◌<◌, ◌≤◌, ◌-◌, min, [], length, map, is_some, IfOk};
+ghost use Rattle.std.specs.List.{range_with_len};
 ghost use Rattle.std.specs.List.Sorted.{IsNonDecreasing};
 ghost use Rattle.std.specs.Option.{option_map};
-ghost use Rattle.road_cells.specs.Array.{vehicle_at, numbers};
-ghost use Rattle.road_cells.specs.Cars.{Rise, cars_of, cars_from, car_of, cars_before, array_of, cell_at, standing};
+ghost use Rattle.road_cells.specs.Array.{vehicle_at};
+ghost use Rattle.road_cells.specs.Cars.{AreRising, cars_of, cars_from, car_of, cars_before, array_of, cell_at, vehicle_among};
 ghost use Rattle.road_cells.specs.Gap.{free_before, free_cells, is_blocked, ArePartedAt};
 
 use crate::OutOfMemory;
@@ -20,13 +21,13 @@ pub struct Road {
 
 impl Model for Road {
     ghost use Rattle.road_cells.specs.Array.{Array};
-    ghost use Rattle.road_cells.specs.Cars.{Rise, array_of};
+    ghost use Rattle.road_cells.specs.Cars.{AreRising, array_of};
 
     ghost Value = { Array };
 
     ghost view = { λ road. array_of road.cars.items };
 
-    ghost invariant = { λ road. Rise road.cars.items };
+    ghost invariant = { λ road. AreRising road.cars.items };
 }
 
 impl Road {
@@ -41,7 +42,7 @@ impl Road {
 
     /// The road of these cars, whose cells have to rise strictly. It keeps the list and takes no memory.
     pub fn of(cars: Vec<Car>) -> Self
-        requires { Rise cars.items }
+        requires { AreRising cars.items }
         ensures road { result ≡ array_of cars.items }
         ensures cars { cars_of result ≡ cars.items }
     {
@@ -51,7 +52,7 @@ impl Road {
     /// The cars in strictly rising cells, as the list that the road kept. It takes no memory.
     pub fn into_cars(self) -> Vec<Car>
         ensures all { result.items ≡ cars_of self }
-        ensures rise { Rise result.items }
+        ensures rise { AreRising result.items }
         ensures road { array_of result.items ≡ self }
     {
         let Road { cars } = self;
@@ -61,7 +62,7 @@ impl Road {
     /// The cars in strictly rising cells. A car's index here is its place.
     pub fn cars(&self) -> &[Car]
         ensures all { result.now ≡ cars_of self.now }
-        ensures rise { Rise result.now }
+        ensures rise { AreRising result.now }
         ensures road { array_of result.now ≡ self.now }
     {
         self.cars.as_slice()
@@ -87,7 +88,7 @@ impl Road {
     /// The cars at the cells from `from` on and before `to`. They are found by two binary searches.
     pub fn between(&self, from: u32, to: u32) -> &[Car]
         requires { from ≤ to }
-        ensures { result.now ≡ cars_from from (map (vehicle_at self.now) (numbers from (to - from))) }
+        ensures { result.now ≡ cars_from from (map (vehicle_at self.now) (range_with_len from (to - from))) }
     {
         let first = self.cars_before(from);
         let end = self.cars_before(to);
@@ -140,8 +141,8 @@ impl Road {
 // The free cells in front of a car, as far as the next car.
 fn free_to_car(cars: &[Car], place: usize) -> u8
     requires car { place < length cars.now }
-    requires rising { Rise cars.now }
-    ensures { result ≡ free_before (λ c. is_some (standing c cars.now)) (cell_at cars.now place + 1) GREATEST_SPEED }
+    requires rising { AreRising cars.now }
+    ensures { result ≡ free_before (λ c. is_some (vehicle_among c cars.now)) (cell_at cars.now place + 1) GREATEST_SPEED }
 {
     match cars.get(place + 1) {
         Some(next) => free_between(cars[place].cell, next.cell),

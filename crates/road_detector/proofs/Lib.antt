@@ -1,3 +1,4 @@
-pub mod Counting
-pub mod Marking
-pub mod OneByOne
+pub mod CarsPassing
+pub mod MarkedRow
+pub mod CarsPassOneByOne
+mod Examples

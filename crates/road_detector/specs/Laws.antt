@@ -2,14 +2,17 @@
 use Rattle.std.specs.Prelude.{ℕ, ◌*◌, ◌-◌, ◌≤◌}
 use Rattle.road_plan.specs.Plan.{Plan}
 use Rattle.road_cells.specs.declared.car.TheConstants.{GREATEST_SPEED}
-use Rattle.road_ends.specs.Run.{Course}
+use Rattle.road_cells.specs.Cars.{cars_of}
+use Rattle.road_ends.specs.Run.{Course, run}
 use Rattle.road_detector.specs.Passes.{passes, total}
+use Rattle.road_detector.specs.Rows.{HaveDigits}
 
 -- at most one car passes a site in one step, none faster than the greatest speed
 pub record PassesOneByOne (p : Plan) (course : Course) (d t : ℕ) : Type 0 where
   pub one : (passes p course d t).cars ≤ 1
   pub slow : (passes p course d t).speeds ≤ GREATEST_SPEED
 
+-- and so in every step of every run
 abbrev pub PassOneByOne : Plan → Type 0
 PassOneByOne p = (course : Course) (d t : ℕ) → PassesOneByOne p course d t
 
@@ -18,5 +21,10 @@ pub record IsTotalBounded (p : Plan) (course : Course) (d a b : ℕ) : Type 0 wh
   pub few : (total p course d a b).cars ≤ b - a
   pub slow : (total p course d a b).speeds ≤ GREATEST_SPEED * (b - a)
 
+-- all totals of every run
 abbrev pub BoundTotals : Plan → Type 0
 BoundTotals p = (course : Course) (d a b : ℕ) → IsTotalBounded p course d a b
+
+-- the speed of each car of a run is a digit, so each state has a row
+abbrev pub HaveDigitsInRuns : Plan → Type 0
+HaveDigitsInRuns p = (course : Course) (t : ℕ) → HaveDigits (cars_of (run p course t))

@@ -1,8 +1,7 @@
 -- What the detectors count.
 use Rattle.std.specs.Prelude.{ℕ, ◌+◌, ◌-◌, ◌&&◌, Bool, false, List, [], ◌∷◌, length, map, sum, nat_lt, nat_le, slice_index, if◌then◌else◌}
-use Rattle.std.specs.List.{filter, slice_index_or}
+use Rattle.std.specs.List.{filter, slice_index_or, range_with_len}
 use Rattle.road_plan.specs.Plan.{Plan}
-use Rattle.road_cells.specs.Array.{numbers}
 use Rattle.road_cells.specs.Cars.{cars_of}
 use Rattle.road_cells.specs.declared.car.Car.{Car}
 use Rattle.road_ends.specs.Input.{StepInput, input_of, input_speeds}
@@ -25,20 +24,20 @@ abbrev pub is_passing : ℕ → Drive → Bool
 is_passing site x = nat_lt x.cell site && nat_le site (x.cell + x.speed)
 
 -- the new speeds of the cars that pass a site
-abbrev pub passing : ℕ → List Drive → List ℕ
-passing site xs = map (λ x. x.speed) (filter (is_passing site) xs)
+abbrev pub passing_speeds : ℕ → List Drive → List ℕ
+passing_speeds site xs = map (λ x. x.speed) (filter (is_passing site) xs)
 
 -- the cars that pass a site, and the sum of their new speeds
-abbrev pub counted : ℕ → List Drive → Totals
-counted site xs = record { cars = length (passing site xs); speeds = sum (passing site xs) }
+abbrev pub totals_of : ℕ → List Drive → Totals
+totals_of site xs = record { cars = length (passing_speeds site xs); speeds = sum (passing_speeds site xs) }
 
-abbrev pub nothing : Totals
-nothing = record { cars = 0; speeds = 0 }
+abbrev pub no_totals : Totals
+no_totals = record { cars = 0; speeds = 0 }
 
 -- what a detector counts in a step at these speeds: nothing where it is off
 abbrev pub passes_at : StepInput → List ℕ → ℕ → Totals
 passes_at input speeds d =
-    if slice_index_or input.settings.watched d false then counted (slice_index input.plan.detectors d) (drives (cars_of input.road) speeds) else nothing
+    if slice_index_or input.settings.watched d false then totals_of (slice_index input.plan.detectors d) (drives (cars_of input.road) speeds) else no_totals
 
 -- what a detector counts in step t of a run
 abbrev pub passes : Plan → Course → ℕ → ℕ → Totals
@@ -48,10 +47,10 @@ passes p course d t = let input = input_of p (course t) t (run p course t) in pa
 abbrev pub plus : Totals → Totals → Totals
 plus x y = record { cars = x.cars + y.cars; speeds = x.speeds + y.speeds }
 
-abbrev pub add_all : List Totals → Totals
-add_all [] = nothing
-add_all (x ∷ xs) = plus x (add_all xs)
+abbrev pub sum_of_totals : List Totals → Totals
+sum_of_totals [] = no_totals
+sum_of_totals (x ∷ xs) = plus x (sum_of_totals xs)
 
 -- what a detector counts in the steps from a to b - 1 of a run
 abbrev pub total : Plan → Course → ℕ → ℕ → ℕ → Totals
-total p course d a b = add_all (map (passes p course d) (numbers a (b - a)))
+total p course d a b = sum_of_totals (map (passes p course d) (range_with_len a (b - a)))

@@ -1,7 +1,7 @@
 ghost use Rattle.std.specs.Prelude.{◌≡◌, ◌<◌, ◌≤◌, length};
 ghost use Rattle.road_plan.specs.declared.limits.TheConstants.{GREATEST_LENGTH};
 ghost use Rattle.road_cells.specs.Cars.{cars_of};
-ghost use Rattle.road_detector.specs.Passes.{counted, drives, passes_at};
+ghost use Rattle.road_detector.specs.Passes.{totals_of, drives, passes_at};
 
 use road_cells::Road;
 use road_ends::StepInput;
@@ -40,7 +40,7 @@ pub fn passes(input: &StepInput, speeds: &[u8], detector: u32) -> Totals
 fn counted(road: &Road, speeds: &[u8], site: u32) -> Totals
     requires one_each { length speeds.now ≡ length (cars_of road.now) }
     requires short { length road.now ≤ GREATEST_LENGTH }
-    ensures { result ≡ counted site (drives (cars_of road.now) speeds.now) }
+    ensures { result ≡ totals_of site (drives (cars_of road.now) speeds.now) }
 {
     let cars = road.cars();
     let mut totals = Totals { cars: 0, speeds: 0 };

@@ -1,9 +1,9 @@
 //! Laws of the detectors of every run of a plan, for every course of settings. The functions do nothing when they run:
 //! each law is its function's contract.
 
-ghost use Rattle.road_detector.specs.Laws.{PassOneByOne, BoundTotals};
+ghost use Rattle.road_detector.specs.Laws.{PassOneByOne, BoundTotals, HaveDigitsInRuns};
 
-use road_ends::laws::cars_never_collide;
+use road_ends::laws::{cars_keep_below_greatest_speed, cars_never_collide, cars_stay_on_road};
 use road_plan::Plan;
 
 /// At most one car passes a site in one step.
@@ -11,6 +11,7 @@ pub fn cars_pass_one_by_one(plan: &Plan)
     ensures { PassOneByOne plan.now }
 {
     cars_never_collide(plan);
+    cars_keep_below_greatest_speed(plan);
 }
 
 /// A total over some steps has at most one car for each step.
@@ -18,4 +19,12 @@ pub fn totals_are_bounded(plan: &Plan)
     ensures { BoundTotals plan.now }
 {
     cars_never_collide(plan);
+    cars_keep_below_greatest_speed(plan);
+}
+
+/// The speed of each car of a run is a digit, so that each state has a row of text.
+pub fn cars_have_digits(plan: &Plan)
+    ensures { HaveDigitsInRuns plan.now }
+{
+    cars_stay_on_road(plan);
 }

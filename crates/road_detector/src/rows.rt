@@ -1,8 +1,8 @@
 ghost use Rattle.std.specs.Prelude.{◌≡◌, ◌<◌, ℕ, length, slice_index, IfOk};
 ghost use Rattle.std.specs.String.{string_bytes};
-ghost use Rattle.road_cells.specs.Cars.{Rise, standing};
+ghost use Rattle.road_cells.specs.Cars.{AreRising, cars_of, vehicle_among};
 ghost use Rattle.road_cells.specs.Gap.{is_blocked};
-ghost use Rattle.road_ends.specs.Row.{row_of, HasDigits};
+ghost use Rattle.road_ends.specs.Row.{row_of};
 ghost use Rattle.road_detector.specs.Rows.{HaveDigits};
 ghost use Rattle.road_detector.specs.Private.MarkedRows.{with_block, with_car};
 
@@ -24,7 +24,7 @@ pub fn row_text(
     blocks: &[u32],
     length: u32,
 ) -> Result<String, AllocError>
-    requires { HasDigits road.now }
+    requires { HaveDigits (cars_of road.now) }
     ensures { IfOk result (λ text. string_bytes text ≡ row_of length blocks.now road.now) }
 {
     let row = vec![in alloc; EMPTY; length as usize]?;
@@ -48,10 +48,10 @@ fn with_blocks(mut row: Vec<u8>, blocks: &[u32]) -> Vec<u8>
 
 // A row with the cars marked, each by the digit of its speed.
 fn with_cars(mut row: Vec<u8>, cars: &[Car]) -> Vec<u8>
-    requires rise { Rise cars.now }
+    requires rise { AreRising cars.now }
     requires digits { HaveDigits cars.now }
     ensures same_length { length result.items ≡ length row.items }
-    ensures marked { (c : ℕ) → c < length row.items → slice_index result.items c ≡ with_car (standing c cars.now) (slice_index row.items c) }
+    ensures marked { (c : ℕ) → c < length row.items → slice_index result.items c ≡ with_car (vehicle_among c cars.now) (slice_index row.items c) }
 {
     for car in cars {
         if (car.cell as usize) < row.len() {

@@ -1,9 +1,9 @@
-pub mod Apart
-pub mod Origins
-pub mod Numbers
+pub mod NoCollision
+pub mod WhereCarsComeFrom
+pub mod CarNumbers
 pub mod Locality
 pub mod Examples
-pub mod Computed
-pub mod Chances
-pub mod OnePass
-pub mod Inlets
+pub mod StepByCars
+pub mod ChanceEvents
+pub mod PassOverCars
+pub mod CellsBetweenInlets

@@ -21,18 +21,18 @@ abbrev pub inlet_stream : ℕ → ℕ
 inlet_stream i = 2 ^ 63 + i
 
 -- whether inlet i, at cell c, lets a car in at step t: its cell is not blocked, and its word has its event
-abbrev pub lets_in : Plan → Settings → ℕ → ℕ → ℕ → Bool
-lets_in p s t c i = not (is_blocked s.blocks c) && has_event (word p.words (inlet_stream i) t) (slice_index s.inflows i)
+abbrev pub is_admitting : Plan → Settings → ℕ → ℕ → ℕ → Bool
+is_admitting p s t c i = not (is_blocked s.blocks c) && has_event (word p.words (inlet_stream i) t) (slice_index s.inflows i)
 
 -- the car that inlet i lets in
-abbrev pub let_in : Plan → Settings → ℕ → ℕ → Option ℕ → Option Vehicle
-let_in p s t c None = None
-let_in p s t c (Some i) = if lets_in p s t c i then Some (record { number = car_number t i; speed = 0 }) else None
+abbrev pub admitted_car : Plan → Settings → ℕ → ℕ → Option ℕ → Option Vehicle
+admitted_car p s t c None = None
+admitted_car p s t c (Some i) = if is_admitting p s t c i then Some (record { number = car_number t i; speed = 0 }) else None
 
 -- the car that wants to enter at cell c, where that is an inlet's
-abbrev pub entering : Plan → Settings → ℕ → ℕ → Option Vehicle
-entering p s t c = let_in p s t c (position (λ inlet. nat_eq c inlet.0) p.inlets)
+abbrev pub entry_at : Plan → Settings → ℕ → ℕ → Option Vehicle
+entry_at p s t c = admitted_car p s t c (position (λ inlet. nat_eq c inlet.0) p.inlets)
 
 -- the array with the cars that enter: a cell that holds a car keeps it
-abbrev pub entered : Plan → Settings → ℕ → Array → Array
-entered p s t a = array p.cells (λ c. option_or (vehicle_at a c) (entering p s t c))
+abbrev pub road_with_entries : Plan → Settings → ℕ → Array → Array
+road_with_entries p s t a = array p.cells (λ c. option_or (vehicle_at a c) (entry_at p s t c))

@@ -3,9 +3,9 @@ use Rattle.std.specs.Prelude.{ℕ, List}
 use Rattle.road_plan.specs.Plan.{Plan}
 use Rattle.road_plan.specs.Settings.{Settings}
 use Rattle.road_cells.specs.Array.{Array}
-use Rattle.road_ends.specs.Entries.{entered}
+use Rattle.road_ends.specs.Entries.{road_with_entries}
 use Rattle.road_ends.specs.Speed.{speeds}
-use Rattle.road_ends.specs.Run.{next}
+use Rattle.road_ends.specs.Run.{road_after_motion}
 
 -- a plan, the settings and the number of a step, and the array with the cars that have entered in it
 pub record StepInput : Type 0 where
@@ -16,7 +16,7 @@ pub record StepInput : Type 0 where
 
 -- the input of step t on an array
 abbrev pub input_of : Plan → Settings → ℕ → Array → StepInput
-input_of p s t a = record { plan = p; settings = s; step = t; road = entered p s t a }
+input_of p s t a = record { plan = p; settings = s; step = t; road = road_with_entries p s t a }
 
 -- the new speeds of all cars of the step
 abbrev pub input_speeds : StepInput → List ℕ
@@ -24,4 +24,4 @@ input_speeds input = speeds input.plan input.settings input.step input.road
 
 -- the array after the step
 abbrev pub input_next : StepInput → Array
-input_next input = next input.plan input.settings input.step input.road
+input_next input = road_after_motion input.plan input.settings input.step input.road

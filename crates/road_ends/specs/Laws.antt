@@ -1,42 +1,50 @@
--- Laws of every run of a plan.
-use Rattle.std.specs.Prelude.{◌≡◌, ℕ, ◌+◌, ◌*◌, ◌<◌, ◌≤◌, true}
+-- Laws of every step and of every run of a plan.
+use Rattle.std.specs.Prelude.{◌≡◌, ℕ, ◌+◌, ◌*◌, ◌<◌, ◌≤◌, true, length}
 use Rattle.std.specs.declared.option.Option.TheVariants.{Some}
 use Rattle.road_plan.specs.Plan.{Plan, road_end}
-use Rattle.road_plan.specs.Settings.{Fits}
+use Rattle.road_plan.specs.Settings.{Settings, Fits}
 use Rattle.road_plan.specs.declared.limits.TheConstants.{MOST_INLETS}
-use Rattle.road_cells.specs.Array.{Vehicle, vehicle_at}
+use Rattle.road_cells.specs.Array.{Array, Vehicle, vehicle_at}
 use Rattle.road_cells.specs.Gap.{is_blocked}
 use Rattle.road_cells.specs.declared.car.TheConstants.{GREATEST_SPEED}
 use Rattle.road_ends.specs.Speed.{speed}
-use Rattle.road_ends.specs.Run.{Course, run, moving}
+use Rattle.road_ends.specs.Run.{Course, run, road_before_motion}
 
--- where the car of cell c drives to in step t
-abbrev pub target : Plan → Course → ℕ → ℕ → Vehicle → ℕ
-target p course t c car = c + speed p (course t) t (moving p course t) c car
+-- what may hold of one step: of a plan, the settings and the number of the step, and the array before the motion
+abbrev pub StepLaw : Type 1
+StepLaw = Plan → Settings → ℕ → Array → Type 0
+
+-- a law holds of each step from an array whose cars are on the road, and so of each step of every run
+pub record HoldsInEachStep (law : StepLaw) (p : Plan) : Type 0 where
+  pub on_arrays : (s : Settings) (t : ℕ) (a : Array) → length a ≤ p.cells → law p s t a
+  pub in_runs : (course : Course) (t : ℕ) → law p (course t) t (road_before_motion p course t)
+
+-- where the car of cell c drives to
+abbrev pub target : Plan → Settings → ℕ → Array → ℕ → Vehicle → ℕ
+target p s t a c car = c + speed p s t a c car
+
+-- no car is faster than the greatest speed
+abbrev pub KeepBelowGreatestSpeed : StepLaw
+KeepBelowGreatestSpeed p s t a = (c : ℕ) (car : Vehicle) → speed p s t a c car ≤ GREATEST_SPEED
 
 -- a car stays behind the cell of the next one: no two cars share a cell, and none passes through another
-abbrev pub NeverCollide : Plan → Type 0
-NeverCollide p = (course : Course) (t c d : ℕ) (x y : Vehicle)
-    → vehicle_at (moving p course t) c ≡ Some x → vehicle_at (moving p course t) d ≡ Some y
-    → c < d → target p course t c x < d
+abbrev pub NeverCollide : StepLaw
+NeverCollide p s t a = (c d : ℕ) (x y : Vehicle) → vehicle_at a c ≡ Some x → vehicle_at a d ≡ Some y → c < d → target p s t a c x < d
 
 -- at most one car comes to a cell
-abbrev pub ArriveAlone : Plan → Type 0
-ArriveAlone p = (course : Course) (t c d : ℕ) (x y : Vehicle)
-    → vehicle_at (moving p course t) c ≡ Some x → vehicle_at (moving p course t) d ≡ Some y
-    → target p course t c x ≡ target p course t d y → c ≡ d
+abbrev pub ArriveAlone : StepLaw
+ArriveAlone p s t a = (c d : ℕ) (x y : Vehicle) → vehicle_at a c ≡ Some x → vehicle_at a d ≡ Some y
+    → target p s t a c x ≡ target p s t a d y → c ≡ d
 
 -- cars keep their order
-abbrev pub KeepOrder : Plan → Type 0
-KeepOrder p = (course : Course) (t c d : ℕ) (x y : Vehicle)
-    → vehicle_at (moving p course t) c ≡ Some x → vehicle_at (moving p course t) d ≡ Some y
-    → c < d → target p course t c x < target p course t d y
+abbrev pub KeepOrder : StepLaw
+KeepOrder p s t a = (c d : ℕ) (x y : Vehicle) → vehicle_at a c ≡ Some x → vehicle_at a d ≡ Some y → c < d
+    → target p s t a c x < target p s t a d y
 
 -- under settings that fit the plan no car drives onto a blocked cell or past it
-abbrev pub StopAtBlocks : Plan → Type 0
-StopAtBlocks p = (course : Course) → ((u : ℕ) → Fits p (course u)) → (t c j : ℕ) (x : Vehicle)
-    → vehicle_at (moving p course t) c ≡ Some x → is_blocked (course t).blocks j ≡ true
-    → c < j → target p course t c x < j
+abbrev pub StopAtBlocks : StepLaw
+StopAtBlocks p s t a = Fits p s → (c j : ℕ) (x : Vehicle) → vehicle_at a c ≡ Some x → is_blocked s.blocks j ≡ true → c < j
+    → target p s t a c x < j
 
 -- no number is on the road twice
 abbrev pub HaveOwnNumbers : Plan → Type 0
@@ -50,6 +58,7 @@ pub record IsOnRoad (p : Plan) (t c : ℕ) (car : Vehicle) : Type 0 where
   pub slow_enough : car.speed ≤ GREATEST_SPEED
   pub has_entered : car.number < MOST_INLETS * t
 
+-- each car of a run is so on the road
 abbrev pub StayOnRoad : Plan → Type 0
 StayOnRoad p = (course : Course) (t c : ℕ) (car : Vehicle) → vehicle_at (run p course t) c ≡ Some car → IsOnRoad p t c car
 

@@ -1,9 +1,10 @@
 -- The road at a step as a row of text.
 use Rattle.std.specs.Prelude.{◌≡◌, ℕ, ◌+◌, ◌≤◌, Bool, true, false, List, map}
+use Rattle.std.specs.List.{range_with_len}
 use Rattle.std.specs.declared.option.Option.{Option}
 use Rattle.std.specs.declared.option.Option.TheVariants.{None, Some}
 use Rattle.road_plan.specs.Plan.{Plan}
-use Rattle.road_cells.specs.Array.{Array, Vehicle, vehicle_at, numbers}
+use Rattle.road_cells.specs.Array.{Array, Vehicle, vehicle_at}
 use Rattle.road_cells.specs.Gap.{is_blocked}
 use Rattle.road_cells.specs.declared.car.TheConstants.{GREATEST_SPEED}
 use Rattle.road_ends.specs.Run.{Course, run}
@@ -21,7 +22,7 @@ HasDigits a = (c : ℕ) (car : Vehicle) → vehicle_at a c ≡ Some car → car.
 
 -- one letter for each cell
 abbrev pub row_of : ℕ → List ℕ → Array → List ℕ
-row_of cells blocks a = map (λ c. letter (is_blocked blocks c) (vehicle_at a c)) (numbers 0 cells)
+row_of cells blocks a = map (λ c. letter (is_blocked blocks c) (vehicle_at a c)) (range_with_len 0 cells)
 
 -- the row of a step, with the blocks of that step
 abbrev pub row : Plan → Course → ℕ → List ℕ

@@ -13,12 +13,12 @@ use Rattle.road_cells.specs.declared.car.Car.{Car}
 use Rattle.road_rules.specs.Speeds.{wanted, slowed, has_event}
 
 -- whether a cell is on the road and holds a car or is blocked
-abbrev pub is_taken : Plan → Settings → Array → ℕ → Bool
-is_taken p s a c = nat_lt c p.cells && cells.is_taken s.blocks a c
+abbrev pub is_taken_on_road : Plan → Settings → Array → ℕ → Bool
+is_taken_on_road p s a c = nat_lt c p.cells && cells.is_taken s.blocks a c
 
 -- the free cells in front of cell c, at most 9: cells past the end of the road are free
 abbrev pub gap : Plan → Settings → Array → ℕ → ℕ
-gap p s a c = free_before (is_taken p s a) (c + 1) GREATEST_SPEED
+gap p s a c = free_before (is_taken_on_road p s a) (c + 1) GREATEST_SPEED
 
 -- whether the car is slowed by chance: its word at this step has its event under the chance of a zone
 abbrev pub is_slowed : Plan → Settings → ℕ → ℕ → Vehicle → Bool

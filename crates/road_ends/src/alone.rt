@@ -2,7 +2,7 @@ ghost use Rattle.std.specs.Prelude.{◌≡◌, ◌+◌, min, IfOk, OnOk, OnErr};
 ghost use Rattle.std.specs.Arc.{arc_value};
 ghost use Rattle.road_plan.specs.Settings.{Fits};
 ghost use Rattle.road_ends.specs.Input.{input_of, input_speeds};
-ghost use Rattle.road_ends.specs.Run.{stepped};
+ghost use Rattle.road_ends.specs.Run.{road_after_step};
 
 use crate::input::{StepInput, enter};
 use crate::meter::Meter;
@@ -40,7 +40,7 @@ pub fn step_alone(
     requires { Fits (arc_value plan.now) settings }
     ensures input { IfOk result (λ done. arc_value done.input ≡ input_of (arc_value plan.now) settings step road.now) }
     ensures speeds { IfOk result (λ done. done.speeds.items ≡ input_speeds (input_of (arc_value plan.now) settings step road.now)) }
-    ensures road { IfOk result (λ done. done.road ≡ stepped (arc_value plan.now) settings step road.now) }
+    ensures road { IfOk result (λ done. done.road ≡ road_after_step (arc_value plan.now) settings step road.now) }
     ensures counted { OnOk result (meter.new ≡ min (meter.old + 1) u64.MAX) }
     ensures kept { OnErr result (meter.new ≡ meter.old) }
 {

@@ -4,7 +4,7 @@ ghost use Rattle.std.specs.Option.{option_map, option_or};
 ghost use Rattle.road_plan.specs.Settings.{Fits};
 ghost use Rattle.road_cells.specs.Array.{vehicle_at};
 ghost use Rattle.road_cells.specs.Cars.{car_of};
-ghost use Rattle.road_ends.specs.Entries.{entering, entered};
+ghost use Rattle.road_ends.specs.Entries.{entry_at, road_with_entries};
 
 use crate::chance::has_event;
 use road_cells::{Car, Road, is_blocked};
@@ -32,7 +32,7 @@ pub fn entered(
     road: &Road,
 ) -> Result<Road, AllocError>
     requires { Fits plan.now settings.now }
-    ensures moving { IfOk result (λ moving. moving ≡ entered plan.now settings.now step road.now) }
+    ensures moving { IfOk result (λ moving. moving ≡ road_with_entries plan.now settings.now step road.now) }
     ensures on_road { IfOk result (λ moving. length moving ≤ plan.now.cells) }
 {
     plan.limits();
@@ -77,7 +77,7 @@ pub(crate) fn standing_or_entering(
     cell: u32,
 ) -> Option<Car>
     requires { Fits plan.now settings.now }
-    ensures { result ≡ option_map (car_of cell) (option_or (vehicle_at road.now cell) (entering plan.now settings.now step cell)) }
+    ensures { result ≡ option_map (car_of cell) (option_or (vehicle_at road.now cell) (entry_at plan.now settings.now step cell)) }
 {
     match road.car_at(cell) {
         Some(car) => Some(car),
@@ -88,7 +88,7 @@ pub(crate) fn standing_or_entering(
 // The car that enters at a cell, where that is an inlet's.
 fn entering(plan: &Plan, settings: &Settings, step: u32, cell: u32) -> Option<Car>
     requires { Fits plan.now settings.now }
-    ensures { result ≡ option_map (car_of cell) (entering plan.now settings.now step cell) }
+    ensures { result ≡ option_map (car_of cell) (entry_at plan.now settings.now step cell) }
 {
     plan.limits();
     let inlet = inlet_at(plan.inlets(), cell)?;

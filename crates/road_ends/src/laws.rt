@@ -1,34 +1,42 @@
-//! Laws of every run of a plan, for every course of settings. The functions do nothing when they run: each law is its
-//! function's contract.
+//! Laws of every step of a plan, from any road whose cars are on it, and of every run, for every course of settings. The
+//! functions do nothing when they run: each law is its function's contract.
 
-ghost use Rattle.road_ends.specs.Laws.{NeverCollide, ArriveAlone, KeepOrder, StopAtBlocks, HaveOwnNumbers, StayOnRoad, DependOnEarlierSettings};
+ghost use Rattle.road_ends.specs.Laws.{HoldsInEachStep, KeepBelowGreatestSpeed, NeverCollide, ArriveAlone, KeepOrder, StopAtBlocks};
+ghost use Rattle.road_ends.specs.Laws.{HaveOwnNumbers, StayOnRoad, DependOnEarlierSettings};
 
 use road_plan::Plan;
 
+/// No car is faster than the greatest speed, 9 cells per step.
+pub fn cars_keep_below_greatest_speed(plan: &Plan)
+    ensures { HoldsInEachStep KeepBelowGreatestSpeed plan.now }
+{
+    let _ = plan;
+}
+
 /// A car stays behind the cell of the next one: no two cars share a cell, and none passes through another.
 pub fn cars_never_collide(plan: &Plan)
-    ensures { NeverCollide plan.now }
+    ensures { HoldsInEachStep NeverCollide plan.now }
 {
     let _ = plan;
 }
 
 /// At most one car comes to a cell.
 pub fn cars_arrive_alone(plan: &Plan)
-    ensures { ArriveAlone plan.now }
+    ensures { HoldsInEachStep ArriveAlone plan.now }
 {
     let _ = plan;
 }
 
 /// Cars keep their order.
 pub fn cars_keep_order(plan: &Plan)
-    ensures { KeepOrder plan.now }
+    ensures { HoldsInEachStep KeepOrder plan.now }
 {
     let _ = plan;
 }
 
 /// No car drives onto a blocked cell or past it.
 pub fn cars_stop_at_blocks(plan: &Plan)
-    ensures { StopAtBlocks plan.now }
+    ensures { HoldsInEachStep StopAtBlocks plan.now }
 {
     let _ = plan;
 }

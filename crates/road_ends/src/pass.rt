@@ -6,7 +6,7 @@ ghost use Rattle.road_plan.specs.Settings.{Fits};
 ghost use Rattle.road_cells.specs.Cars.{cars_of, cell_at, vehicle_of};
 ghost use Rattle.road_words.specs.Words.{word};
 ghost use Rattle.road_ends.specs.Speed.{speed, speeds, nth_car};
-ghost use Rattle.road_ends.specs.Private.PassPlaces.{IsAt};
+ghost use Rattle.road_ends.specs.Private.PassPlaces.{IsPassAt};
 
 use crate::chance::slowed_by_chance;
 use road_cells::{Road, reached_blocks_below};
@@ -70,7 +70,7 @@ fn moved_back(plan: &Plan, settings: &Settings, cell: u32, cursor: Cursor) -> Cu
     requires bound { cursor.reached ≤ length settings.now.blocks }
     requires ahead { (i : ℕ) → cursor.reached ≤ i → i < length settings.now.blocks → cell < slice_index settings.now.blocks i }
     requires start { cursor.zone.start ≡ cursor.zone.index * plan.now.width }
-    ensures at { IsAt plan.now settings.now cell result.reached result.zone.index }
+    ensures at { IsPassAt plan.now settings.now cell result.reached result.zone.index }
     ensures bound { result.reached ≤ length settings.now.blocks }
     ensures start { result.zone.start ≡ result.zone.index * plan.now.width }
 {
@@ -112,7 +112,7 @@ fn new_speed(
     requires on_road { length road.now ≤ plan.now.cells }
     requires words { (stream step : ℕ) → ⟦<PlanWords as Words>⟧.word_of words.now stream step ≡ word plan.now.words stream step }
     requires car { place < length (cars_of road.now) }
-    requires at { IsAt plan.now settings.now (cell_at (cars_of road.now) place) cursor.reached cursor.zone.index }
+    requires at { IsPassAt plan.now settings.now (cell_at (cars_of road.now) place) cursor.reached cursor.zone.index }
     ensures { let car = nth_car (cars_of road.now) place in result ≡ speed plan.now settings.now step road.now car.cell (vehicle_of car) }
 {
     plan.limits();

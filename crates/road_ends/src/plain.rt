@@ -3,7 +3,7 @@
 
 ghost use Rattle.std.specs.Prelude.{◌≡◌, ◌≤◌, length, IfOk};
 ghost use Rattle.road_plan.specs.Settings.{Fits};
-ghost use Rattle.road_ends.specs.Entries.{entered};
+ghost use Rattle.road_ends.specs.Entries.{road_with_entries};
 ghost use Rattle.road_ends.specs.Speed.{speeds};
 
 use crate::entries::standing_or_entering;
@@ -21,7 +21,7 @@ pub fn entered(
     road: &Road,
 ) -> Result<Road, AllocError>
     requires { Fits plan.now settings.now }
-    ensures moving { IfOk result (λ moving. moving ≡ entered plan.now settings.now step road.now) }
+    ensures moving { IfOk result (λ moving. moving ≡ road_with_entries plan.now settings.now step road.now) }
     ensures on_road { IfOk result (λ moving. length moving ≤ plan.now.cells) }
 {
     let mut cars = Vec::new(alloc);

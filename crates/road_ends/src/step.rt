@@ -1,7 +1,8 @@
 ghost use Rattle.std.specs.Prelude.{◌≡◌, ◌≤◌, length, IfOk};
 ghost use Rattle.road_plan.specs.Settings.{Fits};
+ghost use Rattle.road_rules.specs.Motion.{array_after_motion_at};
 ghost use Rattle.road_ends.specs.Input.{input_next, input_speeds};
-ghost use Rattle.road_ends.specs.Run.{next, left, stepped};
+ghost use Rattle.road_ends.specs.Run.{road_after_motion, road_before_exit, road_after_step};
 
 use crate::entries::entered;
 use crate::input::StepInput;
@@ -13,7 +14,7 @@ use std::alloc::{AllocError, Global};
 
 /// The road without the cars in its deleted zone or past it. It takes no memory.
 pub fn leave(plan: &Plan, road: Road) -> Road
-    ensures { result ≡ left plan.now road }
+    ensures { result ≡ road_before_exit plan.now road }
 {
     plan.limits();
     let end = plan.length() - plan.exit();
@@ -33,7 +34,7 @@ pub fn next(
 ) -> Result<Road, AllocError>
     requires fits { Fits plan.now settings.now }
     requires on_road { length road.now ≤ plan.now.cells }
-    ensures { IfOk result (λ later. later ≡ next plan.now settings.now step road.now) }
+    ensures { IfOk result (λ later. later ≡ road_after_motion plan.now settings.now step road.now) }
 {
     plan.limits();
     let speeds = speeds(alloc, plan, settings, step, road)?;
@@ -49,7 +50,7 @@ pub fn stepped(
     road: &Road,
 ) -> Result<Road, AllocError>
     requires { Fits plan.now settings.now }
-    ensures { IfOk result (λ later. later ≡ stepped plan.now settings.now step road.now) }
+    ensures { IfOk result (λ later. later ≡ road_after_step plan.now settings.now step road.now) }
 {
     let moving = entered(alloc, plan, settings, step, road)?;
     next(alloc, plan, settings, step, &moving)
@@ -62,7 +63,8 @@ pub fn stepped(
 /// `OutOfMemory` where the growth of the new road is refused.
 pub fn finish(alloc: Global, input: &StepInput, speeds: &[u8]) -> Result<Road, AllocError>
     requires { speeds.now ≡ input_speeds input.now }
-    ensures { IfOk result (λ later. later ≡ input_next input.now) }
+    ensures step { IfOk result (λ later. later ≡ input_next input.now) }
+    ensures parts { IfOk result (λ later. later ≡ road_before_exit input.now.plan (array_after_motion_at speeds.now input.now.road)) }
 {
     input.fits();
     let moved = moved(alloc, input.road(), speeds)?;

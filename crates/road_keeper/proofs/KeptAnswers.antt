@@ -1,7 +1,7 @@
 -- What is kept of the replicas suffices: it agrees with the events.
 use Rattle.std.proofs.Common.{◌≡◌, ◌≢◌, ◌<◌, ◌-◌, ◌==◌, ℕ, suc, List, [], ◌∷◌, length, map, Bool, true, false, Option, Some, None, refl, ap, sym, ◌∙◌, arith}
 use Rattle.std.specs.Prelude.{slice_set, not, nat_lt, if◌then◌else◌}
-use Rattle.std.specs.List.{slice_index_or}
+use Rattle.std.specs.List.{slice_index_or, range_with_len}
 use Rattle.std.specs.Str.{bytes_eq}
 use Rattle.std.proofs.lemmas.List.{get_or-set_same, get_or-set_other, get_or-replicate, length-set, length-replicate}
 use Rattle.std.proofs.lemmas.List.Quantifiers.{position-Some}
@@ -22,7 +22,6 @@ use Rattle.road_scenario.specs.declared.edit.Edit.{Edit}
 use Rattle.road_scenario.specs.declared.edit.Value.{Value}
 use Rattle.road_scenario.specs.declared.edit.Value.TheVariants.{Withdrawn, Put}
 use Rattle.road_scenario.specs.declared.faults.EditFault.{EditFault}
-use Rattle.road_cells.specs.Array.{numbers}
 use Rattle.road_cells.specs.Cars.{cars_of}
 use Rattle.road_ends.specs.Row.{row}
 use Rattle.road_ends.specs.Run.{Course, run}
@@ -130,7 +129,7 @@ diagram_agrees kept real n plan from to None a below = refl
 diagram_agrees kept real n plan from to (Some r) a below =
     let is = a r (below r refl) in
     ap (λ (h : ℕ). if is_out_of_range from to then Refused refusals.Range else (if nat_lt h to then Refused refusals.NotSimulated else replies.Rows (rows_at plan (kept r).edits from to))) (ap (λ (x : Replica). x.horizon) is)
-    ∙ read_agrees (λ course. if is_out_of_range from to then Refused refusals.Range else (if nat_lt (real r).horizon to then Refused refusals.NotSimulated else replies.Rows (map (λ t. row plan course t) (numbers from (suc to - from))))) plan (kept r) (real r) is
+    ∙ read_agrees (λ course. if is_out_of_range from to then Refused refusals.Range else (if nat_lt (real r).horizon to then Refused refusals.NotSimulated else replies.Rows (map (λ t. row plan course t) (range_with_len from (suc to - from))))) plan (kept r) (real r) is
 
 scenario_agrees : (kept real : ℕ → Replica) (n : ℕ) (place : Option ℕ) → Alike kept real n → ((r : ℕ) → place ≡ Some r → r < n) → scenario_answer kept place ≡ scenario_answer real place
 scenario_agrees kept real n None a below = refl

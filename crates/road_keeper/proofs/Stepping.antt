@@ -1,13 +1,14 @@
 -- The states of a run, one after another, and what is seen of them.
 use Rattle.std.proofs.Common.{◌≡◌, ◌≤◌, ◌<◌, ◌+◌, ◌-◌, ◌^◌, ◌∙◌, String, Global, string_bytes, ℕ, zero, suc, List, [], ◌∷◌, ◌++◌, map, ap, sym, arith}
+use Rattle.std.specs.List.{range_with_len}
 use Rattle.std.proofs.Math.Numerals.{add-one}
 use Rattle.std.proofs.lemmas.List.{map-append}
 use Rattle.road_plan.specs.Plan.{Plan}
 use Rattle.road_plan.specs.Settings.{Settings}
-use Rattle.road_cells.specs.Array.{Array, numbers}
+use Rattle.road_cells.specs.Array.{Array}
 use Rattle.road_ends.specs.Input.{StepInput, input_of, input_speeds}
-use Rattle.road_ends.specs.Run.{Course, stepped}
-use Rattle.road_detector.specs.Passes.{passes_at, passes, plus, add_all, total, nothing}
+use Rattle.road_ends.specs.Run.{Course, road_after_step}
+use Rattle.road_detector.specs.Passes.{passes_at, passes, plus, sum_of_totals, total, no_totals}
 use Rattle.road_detector.specs.Laws.{PassOneByOne, BoundTotals}
 use Rattle.road_detector.specs.declared.counts.Totals.{Totals}
 use Rattle.road_scenario.specs.Edits.{Edits}
@@ -16,37 +17,37 @@ use Rattle.road_keeper.specs.Laboratory.{row_at, rows_at}
 use Rattle.road_keeper.specs.Simulation.{run_at}
 
 -- one step on from the road of a step is the road of the next
-pub step_more : (p : Plan) (edits : Edits) (settings : Settings) (t : ℕ) (road later : Array) → settings ≡ settings_of p edits t → road ≡ run_at p edits t → later ≡ stepped p settings t road → later ≡ run_at p edits (t + 1)
+pub step_more : (p : Plan) (edits : Edits) (settings : Settings) (t : ℕ) (road later : Array) → settings ≡ settings_of p edits t → road ≡ run_at p edits t → later ≡ road_after_step p settings t road → later ≡ run_at p edits (t + 1)
 step_more p edits settings t road later set is step =
-    step ∙ ap (λ (s : Settings). stepped p s t road) set ∙ ap (λ (a : Array). stepped p (settings_of p edits t) t a) is ∙ sym (ap (run_at p edits) (add-one t))
+    step ∙ ap (λ (s : Settings). road_after_step p s t road) set ∙ ap (λ (a : Array). road_after_step p (settings_of p edits t) t a) is ∙ sym (ap (run_at p edits) (add-one t))
 
 -- ---- what comes after n numbers
 
-numbers_more : (a n : ℕ) → numbers a (suc n) ≡ numbers a n ++ (a + n) ∷ []
+numbers_more : (a n : ℕ) → range_with_len a (suc n) ≡ range_with_len a n ++ (a + n) ∷ []
 numbers_more a zero = let here : a ≡ a + 0 = omega arith in ap (λ (k : ℕ). k ∷ []) here
 numbers_more a (suc n) =
     let there : (a + 1) + n ≡ a + suc n = omega arith in
-    ap (λ (ks : List ℕ). a ∷ ks) (numbers_more (a + 1) n ∙ ap (λ (k : ℕ). numbers (a + 1) n ++ k ∷ []) there)
+    ap (λ (ks : List ℕ). a ∷ ks) (numbers_more (a + 1) n ∙ ap (λ (k : ℕ). range_with_len (a + 1) n ++ k ∷ []) there)
 
-numbers_to : (a b : ℕ) → a ≤ b → numbers a (b + 1 - a) ≡ numbers a (b - a) ++ b ∷ []
+numbers_to : (a b : ℕ) → a ≤ b → range_with_len a (b + 1 - a) ≡ range_with_len a (b - a) ++ b ∷ []
 numbers_to a b before =
     let count : b + 1 - a ≡ suc (b - a) = omega arith in
     let last : a + (b - a) ≡ b = omega arith in
-    ap (numbers a) count ∙ numbers_more a (b - a) ∙ ap (λ (k : ℕ). numbers a (b - a) ++ k ∷ []) last
+    ap (range_with_len a) count ∙ numbers_more a (b - a) ∙ ap (λ (k : ℕ). range_with_len a (b - a) ++ k ∷ []) last
 
 -- ---- rows
 
 pub first_row : (p : Plan) (edits : Edits) (a : ℕ) → row_at p edits a ∷ [] ≡ rows_at p edits a a
-first_row p edits a = let one : suc a - a ≡ 1 = omega arith in sym (ap (λ (n : ℕ). map (row_at p edits) (numbers a n)) one)
+first_row p edits a = let one : suc a - a ≡ 1 = omega arith in sym (ap (λ (n : ℕ). map (row_at p edits) (range_with_len a n)) one)
 
 rows_more : (p : Plan) (edits : Edits) (a b : ℕ) → a ≤ b → rows_at p edits a b ++ row_at p edits (b + 1) ∷ [] ≡ rows_at p edits a (b + 1)
 rows_more p edits a b before =
     let rest = numbers_to a (b + 1) (omega arith) in
     let one : b + 1 + 1 - a ≡ suc (b + 1) - a = omega arith in
     let same : b + 1 - a ≡ suc b - a = omega arith in
-    sym (map-append (row_at p edits) (numbers a (suc b - a)) ((b + 1) ∷ []))
-    ∙ ap (λ (n : ℕ). map (row_at p edits) (numbers a n ++ (b + 1) ∷ [])) (sym same)
-    ∙ ap (map (row_at p edits)) (sym rest) ∙ ap (λ (n : ℕ). map (row_at p edits) (numbers a n)) one
+    sym (map-append (row_at p edits) (range_with_len a (suc b - a)) ((b + 1) ∷ []))
+    ∙ ap (λ (n : ℕ). map (row_at p edits) (range_with_len a n ++ (b + 1) ∷ [])) (sym same)
+    ∙ ap (map (row_at p edits)) (sym rest) ∙ ap (λ (n : ℕ). map (row_at p edits) (range_with_len a n)) one
 
 pub one_row_more : (p : Plan) (edits : Edits) (a b : ℕ) (rows : List (String Global)) (row : String Global) → a ≤ b → map string_bytes rows ≡ rows_at p edits a b → string_bytes row ≡ row_at p edits (b + 1)
     → map string_bytes (rows ++ row ∷ []) ≡ rows_at p edits a (b + 1)
@@ -55,21 +56,21 @@ one_row_more p edits a b rows row before are is =
 
 -- ---- counts
 
-add_last : (xs : List Totals) (x : Totals) → add_all (xs ++ x ∷ []) ≡ plus (add_all xs) x
+add_last : (xs : List Totals) (x : Totals) → sum_of_totals (xs ++ x ∷ []) ≡ plus (sum_of_totals xs) x
 add_last [] x = let cars : x.cars + 0 ≡ 0 + x.cars = omega arith in let speeds : x.speeds + 0 ≡ 0 + x.speeds = omega arith in λ i. record { cars = cars i; speeds = speeds i }
 add_last (y ∷ ys) x =
     let rest = add_last ys x in
-    let cars : y.cars + ((add_all ys).cars + x.cars) ≡ y.cars + (add_all ys).cars + x.cars = omega arith in
-    let speeds : y.speeds + ((add_all ys).speeds + x.speeds) ≡ y.speeds + (add_all ys).speeds + x.speeds = omega arith in
+    let cars : y.cars + ((sum_of_totals ys).cars + x.cars) ≡ y.cars + (sum_of_totals ys).cars + x.cars = omega arith in
+    let speeds : y.speeds + ((sum_of_totals ys).speeds + x.speeds) ≡ y.speeds + (sum_of_totals ys).speeds + x.speeds = omega arith in
     ap (plus y) rest ∙ (λ i. record { cars = cars i; speeds = speeds i })
 
-pub none_yet : (p : Plan) (course : Course) (d a : ℕ) → nothing ≡ total p course d a a
-none_yet p course d a = let none : a - a ≡ 0 = omega arith in sym (ap (λ (n : ℕ). add_all (map (passes p course d) (numbers a n))) none)
+pub none_yet : (p : Plan) (course : Course) (d a : ℕ) → no_totals ≡ total p course d a a
+none_yet p course d a = let none : a - a ≡ 0 = omega arith in sym (ap (λ (n : ℕ). sum_of_totals (map (passes p course d) (range_with_len a n))) none)
 
 total_more : (p : Plan) (course : Course) (d a b : ℕ) → a ≤ b → plus (total p course d a b) (passes p course d b) ≡ total p course d a (b + 1)
 total_more p course d a b before =
-    sym (ap (λ (ks : List ℕ). add_all (map (passes p course d) ks)) (numbers_to a b before)
-    ∙ ap add_all (map-append (passes p course d) (numbers a (b - a)) (b ∷ [])) ∙ add_last (map (passes p course d) (numbers a (b - a))) (passes p course d b))
+    sym (ap (λ (ks : List ℕ). sum_of_totals (map (passes p course d) ks)) (numbers_to a b before)
+    ∙ ap sum_of_totals (map-append (passes p course d) (range_with_len a (b - a)) (b ∷ [])) ∙ add_last (map (passes p course d) (range_with_len a (b - a))) (passes p course d b))
 
 -- what is counted at the input of a step of the run
 pub passed_is : (p : Plan) (edits : Edits) (d t : ℕ) (road : Array) (input seen : StepInput) (speeds vs : List ℕ) (passed : Totals) → input ≡ input_of p (settings_of p edits t) t road → road ≡ run_at p edits t → speeds ≡ input_speeds input

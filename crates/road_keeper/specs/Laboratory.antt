@@ -1,6 +1,6 @@
 -- The replicas of a laboratory: what happens at them, and what is answered.
 use Rattle.std.specs.Prelude.{ℕ, suc, ◌-◌, ◌==◌, ◌||◌, ◌∷◌, Bool, not, List, [], length, map, max, nat_lt, if◌then◌else◌, Option, Some, None}
-use Rattle.std.specs.List.{position}
+use Rattle.std.specs.List.{position, range_with_len}
 use Rattle.std.specs.Str.{bytes_eq}
 use Rattle.lattice_core.specs.Sets.{empty, union, items, from_list}
 use Rattle.road_plan.specs.Plan.{Plan}
@@ -16,7 +16,6 @@ use Rattle.road_scenario.specs.declared.edit.Value.{Value}
 use Rattle.road_scenario.specs.declared.edit.Value.TheVariants.{Withdrawn, Put}
 use Rattle.road_scenario.specs.declared.faults.EditFault.{EditFault}
 use Rattle.road_scenario.specs.declared.faults.EditFault.TheVariants as edit_faults
-use Rattle.road_cells.specs.Array.{numbers}
 use Rattle.road_cells.specs.Cars.{cars_of}
 use Rattle.road_ends.specs.Row.{row}
 use Rattle.road_ends.specs.Run.{run}
@@ -119,7 +118,7 @@ row_at plan edits step = row plan (settings_of plan edits) step
 
 -- the rows of the steps from one to another, both of them
 abbrev pub rows_at : Plan → Edits → ℕ → ℕ → List (List ℕ)
-rows_at plan edits from to = map (row_at plan edits) (numbers from (suc to - from))
+rows_at plan edits from to = map (row_at plan edits) (range_with_len from (suc to - from))
 
 abbrev pub fault_or_stamp : Option EditFault → Edit → Answer
 fault_or_stamp (Some fault) edit = Refused (refusal_of fault)

@@ -11,9 +11,8 @@ ghost use Rattle.road_keeper.specs.Laboratory.{row_at, rows_at};
 ghost use Rattle.road_keeper.specs.Simulation.{run_at};
 
 use road_cells::Road;
-use road_detector::laws::{cars_pass_one_by_one, totals_are_bounded};
+use road_detector::laws::{cars_have_digits, cars_pass_one_by_one, totals_are_bounded};
 use road_detector::{Totals, passes, row_text};
-use road_ends::laws::cars_stay_on_road;
 use road_ends::{Meter, Stepped, step_alone};
 use road_plan::{OutOfMemory, Plan};
 use road_scenario::Scenario;
@@ -116,7 +115,7 @@ pub fn row_of(
     requires run { state.now.road ≡ run_at (arc_value plan.now) scenario.now state.now.step }
     ensures { IfOk result (λ text. string_bytes text ≡ row_at (arc_value plan.now) scenario.now state.now.step) }
 {
-    cars_stay_on_road(plan);
+    cars_have_digits(plan);
     let settings = scenario.settings_at(alloc, plan, state.step)?;
     row_text(alloc, &state.road, settings.blocks(), plan.length())
 }

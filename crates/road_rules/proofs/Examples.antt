@@ -3,8 +3,8 @@ use Rattle.std.specs.Prelude.{◌≡◌, ℕ, ◌*◌, ◌+◌, true, false, [],
 use Rattle.road_cells.specs.Array.{Array}
 use Rattle.road_cells.specs.Cars.{array_of, cars_of}
 use Rattle.road_cells.specs.declared.car.Car.{Car}
-use Rattle.road_rules.specs.Speeds.{wanted, accelerated, braked, has_event, slowed}
-use Rattle.road_rules.specs.Motion.{moved, moved_at, speed_at}
+use Rattle.road_rules.specs.Speeds.{wanted, speed_after_acceleration, speed_after_braking, has_event, slowed}
+use Rattle.road_rules.specs.Motion.{array_after_motion, array_after_motion_at, speed_at}
 
 -- ---- rules 1 and 2
 
@@ -27,23 +27,23 @@ wanted-blocked : wanted 5 5 0 ≡ 0
 wanted-blocked = refl
 
 -- at speed 2 the next car has to be more than three cells away
-accelerated-free : accelerated 2 5 4 ≡ 3
+accelerated-free : speed_after_acceleration 2 5 4 ≡ 3
 accelerated-free = refl
 
-accelerated-near : accelerated 2 5 3 ≡ 2
+accelerated-near : speed_after_acceleration 2 5 3 ≡ 2
 accelerated-near = refl
 
-accelerated-greatest : accelerated 5 5 9 ≡ 5
+accelerated-greatest : speed_after_acceleration 5 5 9 ≡ 5
 accelerated-greatest = refl
 
 -- a car that would come to the next one stops in the cell behind it
-braked-at : braked 3 3 ≡ 2
+braked-at : speed_after_braking 3 3 ≡ 2
 braked-at = refl
 
-braked-near : braked 5 1 ≡ 0
+braked-near : speed_after_braking 5 1 ≡ 0
 braked-near = refl
 
-braked-free : braked 3 4 ≡ 3
+braked-free : speed_after_braking 3 4 ≡ 3
 braked-free = refl
 
 -- ---- rule 3
@@ -65,8 +65,8 @@ has_event-always = refl
 slowed-event : slowed 3 true ≡ 2
 slowed-event = refl
 
-slowed-standing : slowed 0 true ≡ 0
-slowed-standing = refl
+slowed-vehicle_among : slowed 0 true ≡ 0
+slowed-vehicle_among = refl
 
 slowed-none : slowed 3 false ≡ 3
 slowed-none = refl
@@ -80,9 +80,9 @@ car number cell speed = record { number = number; cell = cell; speed = speed }
 entered : Array
 entered = array_of (car 48 0 0 ∷ car 16 1 1 ∷ car 0 5 2 ∷ [])
 
-moved_at-road : moved_at (0 ∷ 2 ∷ 2 ∷ []) entered ≡ array_of (car 48 0 0 ∷ car 16 3 2 ∷ car 0 7 2 ∷ [])
+array_after_motion_at-road : array_after_motion_at (0 ∷ 2 ∷ 2 ∷ []) entered ≡ array_of (car 48 0 0 ∷ car 16 3 2 ∷ car 0 7 2 ∷ [])
 unfolding entered car
-moved_at-road = refl
+array_after_motion_at-road = refl
 
 -- the speed of the car at cell 5 is the third
 speed_at-third : speed_at entered (0 ∷ 2 ∷ 1 ∷ []) 5 ≡ 1
@@ -90,20 +90,20 @@ unfolding entered car
 speed_at-third = refl
 
 -- the same by a function of cell and vehicle
-moved-road : moved (λ c v. wanted v.speed 2 c) entered ≡ array_of (car 48 0 0 ∷ car 16 2 1 ∷ car 0 7 2 ∷ [])
+array_after_motion-road : array_after_motion (λ c v. wanted v.speed 2 c) entered ≡ array_of (car 48 0 0 ∷ car 16 2 1 ∷ car 0 7 2 ∷ [])
 unfolding entered car
-moved-road = refl
+array_after_motion-road = refl
 
 -- cars keep their new speeds, also where they stay or drive the greatest distance
-moved_at-far : moved_at (0 ∷ 9 ∷ []) (array_of (car 2 3 4 ∷ car 1 8 9 ∷ [])) ≡ array_of (car 2 3 0 ∷ car 1 17 9 ∷ [])
+array_after_motion_at-far : array_after_motion_at (0 ∷ 9 ∷ []) (array_of (car 2 3 4 ∷ car 1 8 9 ∷ [])) ≡ array_of (car 2 3 0 ∷ car 1 17 9 ∷ [])
 unfolding car
-moved_at-far = refl
+array_after_motion_at-far = refl
 
 -- an empty road stays empty
-moved_at-empty : moved_at [] [] ≡ []
-moved_at-empty = refl
+array_after_motion_at-empty : array_after_motion_at [] [] ≡ []
+array_after_motion_at-empty = refl
 
 -- the list of the cars after motion, in order
-cars_of-moved : cars_of (moved_at (0 ∷ 2 ∷ 2 ∷ []) entered) ≡ car 48 0 0 ∷ car 16 3 2 ∷ car 0 7 2 ∷ []
+cars_of-array_after_motion : cars_of (array_after_motion_at (0 ∷ 2 ∷ 2 ∷ []) entered) ≡ car 48 0 0 ∷ car 16 3 2 ∷ car 0 7 2 ∷ []
 unfolding entered car
-cars_of-moved = refl
+cars_of-array_after_motion = refl

@@ -1,3 +1,3 @@
-pub mod Advancing
+pub mod MotionLoop
 pub mod MotionOfCars
 mod Examples

@@ -1,39 +1,39 @@
 -- Rule 4: each vehicle advances by its speed (Nagel and Schreckenberg 1992).
 use Rattle.std.specs.Prelude.{◌≡◌, ℕ, ◌+◌, ◌<◌, ◌≤◌, ◌==◌, List, [], ◌∷◌, length, slice_index, nat_lt, if◌then◌else◌}
-use Rattle.std.specs.List.{All, count_by}
+use Rattle.std.specs.List.{All, count_by, range_with_len}
 use Rattle.std.specs.Option.{option_or}
 use Rattle.std.specs.declared.option.Option.{Option}
 use Rattle.std.specs.declared.option.Option.TheVariants.{None, Some}
-use Rattle.road_cells.specs.Array.{Array, Vehicle, vehicle_at, array, numbers}
+use Rattle.road_cells.specs.Array.{Array, Vehicle, vehicle_at, array}
 use Rattle.road_cells.specs.Cars.{cars_of, cell_at}
 use Rattle.road_cells.specs.declared.car.Car.{Car}
 use Rattle.road_cells.specs.declared.car.TheConstants.{GREATEST_SPEED}
 
 -- what a function gives of the first number for which it gives something
-abbrev pub first_of : {X : Type 0} → (ℕ → Option X) → List ℕ → Option X
-first_of f [] = None
-first_of f (c ∷ cs) = option_or (f c) (first_of f cs)
+abbrev pub first_some : {X : Type 0} → (ℕ → Option X) → List ℕ → Option X
+first_some f [] = None
+first_some f (c ∷ cs) = option_or (f c) (first_some f cs)
 
 -- what stands at c where it comes to j at a speed, at that speed
-abbrev pub coming : ℕ → ℕ → (Vehicle → ℕ) → Option Vehicle → Option Vehicle
-coming j c speed None = None
-coming j c speed (Some v) = if c + speed v == j then Some (record { number = v.number; speed = speed v }) else None
+abbrev pub arrival_from : ℕ → ℕ → (Vehicle → ℕ) → Option Vehicle → Option Vehicle
+arrival_from j c speed None = None
+arrival_from j c speed (Some v) = if c + speed v == j then Some (record { number = v.number; speed = speed v }) else None
 
 -- the vehicle of the cell c with c + its speed = j, at its new speed
-abbrev pub arriving : (ℕ → Vehicle → ℕ) → Array → ℕ → Option Vehicle
-arriving speed a j = first_of (λ c. coming j c (speed c) (vehicle_at a c)) (numbers 0 (length a))
+abbrev pub arrival_at : (ℕ → Vehicle → ℕ) → Array → ℕ → Option Vehicle
+arrival_at speed a j = first_some (λ c. arrival_from j c (speed c) (vehicle_at a c)) (range_with_len 0 (length a))
 
 -- motion: place j holds the vehicle that arrives there, else it is empty; at the greatest speed at most, none arrives farther on
-abbrev pub moved : (ℕ → Vehicle → ℕ) → Array → Array
-moved speed a = array (length a + GREATEST_SPEED) (arriving speed a)
+abbrev pub array_after_motion : (ℕ → Vehicle → ℕ) → Array → Array
+array_after_motion speed a = array (length a + GREATEST_SPEED) (arrival_at speed a)
 
 -- speeds in the order of the cars: that of the vehicle at c is behind as many as there are cars before c
 abbrev pub speed_at : Array → List ℕ → ℕ → ℕ
 speed_at a speeds c = slice_index speeds (count_by (λ car. nat_lt car.cell c) (cars_of a))
 
 -- motion at these speeds
-abbrev pub moved_at : List ℕ → Array → Array
-moved_at speeds a = moved (λ c v. speed_at a speeds c) a
+abbrev pub array_after_motion_at : List ℕ → Array → Array
+array_after_motion_at speeds a = array_after_motion (λ c v. speed_at a speeds c) a
 
 -- one speed for each car, none above the greatest or so high that a car reaches the next one
 pub record MayMove (a : Array) (speeds : List ℕ) : Type 0 where
@@ -42,11 +42,11 @@ pub record MayMove (a : Array) (speeds : List ℕ) : Type 0 where
   pub apart : (k : ℕ) → k + 1 < length speeds → cell_at (cars_of a) k + slice_index speeds k < cell_at (cars_of a) (k + 1)
 
 -- a car at a new speed, that many cells further on
-abbrev pub advanced_by : ℕ → Car → Car
-advanced_by speed car = record { number = car.number; cell = car.cell + speed; speed = speed }
+abbrev pub car_after_motion : ℕ → Car → Car
+car_after_motion speed car = record { number = car.number; cell = car.cell + speed; speed = speed }
 
 -- each car at the speed of its place in a list
-abbrev pub advanced_at : List ℕ → List Car → List Car
-advanced_at speeds [] = []
-advanced_at [] (car ∷ cars) = []
-advanced_at (v ∷ speeds) (car ∷ cars) = advanced_by v car ∷ advanced_at speeds cars
+abbrev pub cars_after_motion : List ℕ → List Car → List Car
+cars_after_motion speeds [] = []
+cars_after_motion [] (car ∷ cars) = []
+cars_after_motion (v ∷ speeds) (car ∷ cars) = car_after_motion v car ∷ cars_after_motion speeds cars

@@ -6,12 +6,12 @@ abbrev pub wanted : ℕ → ℕ → ℕ → ℕ
 wanted speed limit free = min (min (speed + 1) limit) free
 
 -- rule 1: where the next vehicle is more than v + 1 sites away, a speed below the greatest grows by one
-abbrev pub accelerated : ℕ → ℕ → ℕ → ℕ
-accelerated v greatest distance = if nat_lt v greatest && nat_lt (v + 1) distance then v + 1 else v
+abbrev pub speed_after_acceleration : ℕ → ℕ → ℕ → ℕ
+speed_after_acceleration v greatest distance = if nat_lt v greatest && nat_lt (v + 1) distance then v + 1 else v
 
 -- rule 2: where the next vehicle is at most v sites away, the speed falls to one below that distance
-abbrev pub braked : ℕ → ℕ → ℕ
-braked v distance = if nat_le distance v then distance - 1 else v
+abbrev pub speed_after_braking : ℕ → ℕ → ℕ
+speed_after_braking v distance = if nat_le distance v then distance - 1 else v
 
 -- whether a word has its event under a chance in 1/65,536
 abbrev pub has_event : ℕ → ℕ → Bool

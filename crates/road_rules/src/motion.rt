@@ -1,5 +1,5 @@
-ghost use Rattle.std.specs.Prelude.{◌≡◌, ◌≤◌, length, IfOk};
-ghost use Rattle.road_rules.specs.Motion.{moved_at, MayMove, advanced_by, advanced_at};
+ghost use Rattle.std.specs.Prelude.{◌≡◌, ◌≤◌, [], length, IfOk, IsOk};
+ghost use Rattle.road_rules.specs.Motion.{array_after_motion_at, MayMove, car_after_motion, cars_after_motion};
 ghost use Rattle.road_cells.specs.Cars.{cars_of};
 
 use crate::OutOfMemory;
@@ -10,7 +10,7 @@ use std::alloc::Global;
 ///
 /// `speeds` has one speed for each car, in the order of [`Road::cars`], each at most 9 and at most the free cells before
 /// the next car. No cell is above 65,535. Cars past the end of a road are not taken off. It is one pass in one growth,
-/// or none where no car is on the road.
+/// and none where no car is on the road.
 ///
 /// # Errors
 ///
@@ -18,8 +18,22 @@ use std::alloc::Global;
 pub fn moved(alloc: Global, road: &Road, speeds: &[u8]) -> Result<Road, OutOfMemory>
     requires low { length road.now ≤ 65536 }
     requires may { MayMove road.now speeds.now }
-    ensures motion { IfOk result (λ moved. moved ≡ moved_at speeds.now road.now) }
-    ensures cars { IfOk result (λ moved. cars_of moved ≡ advanced_at speeds.now (cars_of road.now)) }
+    ensures nothing_grows { road.now ≡ [] → IsOk result }
+    ensures motion { IfOk result (λ moved. moved ≡ array_after_motion_at speeds.now road.now) }
+    ensures cars { IfOk result (λ moved. cars_of moved ≡ cars_after_motion speeds.now (cars_of road.now)) }
+{
+    if road.cars().is_empty() {
+        return Ok(Road::empty(alloc));
+    }
+    moved_cars(alloc, road, speeds)
+}
+
+// The same, one car after the other.
+fn moved_cars(alloc: Global, road: &Road, speeds: &[u8]) -> Result<Road, OutOfMemory>
+    requires low { length road.now ≤ 65536 }
+    requires may { MayMove road.now speeds.now }
+    ensures motion { IfOk result (λ moved. moved ≡ array_after_motion_at speeds.now road.now) }
+    ensures cars { IfOk result (λ moved. cars_of moved ≡ cars_after_motion speeds.now (cars_of road.now)) }
 {
     let cars = road.cars();
     let mut moved = Vec::with_capacity(alloc, cars.len())?;
@@ -32,7 +46,7 @@ pub fn moved(alloc: Global, road: &Road, speeds: &[u8]) -> Result<Road, OutOfMem
 // A car after its motion.
 fn advanced(car: Car, speed: u8) -> Car
     requires { car.cell ≤ 65535 }
-    ensures { result ≡ advanced_by speed car }
+    ensures { result ≡ car_after_motion speed car }
 {
     Car {
         number: car.number,

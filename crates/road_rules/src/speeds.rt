@@ -1,5 +1,5 @@
 ghost use Rattle.std.specs.Prelude.{◌≡◌, ◌-◌, ◌<◌, ◌≤◌};
-ghost use Rattle.road_rules.specs.Speeds.{wanted, accelerated, braked, has_event, slowed};
+ghost use Rattle.road_rules.specs.Speeds.{wanted, speed_after_acceleration, speed_after_braking, has_event, slowed};
 
 /// Rules 1 and 2 as one: the speed grows by one, but neither above the limit nor above the free cells in front, so it is
 /// the least of `speed + 1`, `limit` and `gap`. A car above a lowered limit drops to it at once.
@@ -19,7 +19,7 @@ pub fn wanted(speed: u8, limit: u32, gap: u8) -> u8
 /// `distance`, at least 1, is that in cells to the next vehicle: one more than the free cells.
 pub fn two_rules(speed: u8, vmax: u8, distance: u32) -> u8
     requires { 0 < distance }
-    ensures rules { result ≡ braked (accelerated speed vmax distance) distance }
+    ensures rules { result ≡ speed_after_braking (speed_after_acceleration speed vmax distance) distance }
     ensures law { speed ≤ vmax → result ≡ wanted speed vmax (distance - 1) }
 {
     let mut speed = speed;

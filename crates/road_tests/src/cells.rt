@@ -2,7 +2,7 @@
 
 ghost use Rattle.std.specs.Prelude.{◌≡◌, IfOk};
 ghost use Rattle.std.specs.List.Sorted.{IsNonDecreasing};
-ghost use Rattle.road_cells.specs.Cars.{Rise, cars_of};
+ghost use Rattle.road_cells.specs.Cars.{AreRising, cars_of};
 
 use crate::plans::car;
 use road_cells::{Car, GREATEST_SPEED, Road, reached_blocks, reached_blocks_below};
@@ -30,7 +30,7 @@ const CARS: [Car; 3] = [
 ];
 
 fn road_of(alloc: Global, cars: &[Car]) -> Result<Road, AllocError>
-    requires { Rise cars.now }
+    requires { AreRising cars.now }
     ensures { IfOk result (λ road. cars_of road ≡ cars.now) }
 {
     Ok(Road::of(cars.to_vec(alloc)?))

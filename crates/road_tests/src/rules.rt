@@ -1,7 +1,7 @@
 //! The rules on single cars and on small roads, worked out by hand.
 
 ghost use Rattle.std.specs.Prelude.{◌≤◌, length};
-ghost use Rattle.road_cells.specs.Cars.{Rise, array_of};
+ghost use Rattle.road_cells.specs.Cars.{AreRising, array_of};
 ghost use Rattle.road_rules.specs.Motion.{MayMove};
 
 use crate::plans::car;
@@ -102,7 +102,7 @@ fn moves(
     speeds: &[u8],
     later: &[Car],
 ) -> Result<(), Fail>
-    requires rise { Rise cars.now }
+    requires rise { AreRising cars.now }
     requires low { length (array_of cars.now) ≤ 65536 }
     requires may { MayMove (array_of cars.now) speeds.now }
 {

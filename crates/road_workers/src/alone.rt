@@ -1,3 +1,9 @@
+ghost use Rattle.std.specs.Prelude.{◌≡◌, ◌≢◌, IfOk, Err};
+ghost use Rattle.std.specs.Arc.{arc_value};
+ghost use Rattle.road_ends.specs.Input.{input_speeds};
+ghost use Rattle.road_workers.specs.Crews.{gone_after};
+ghost use Rattle.road_workers.specs.declared.faults.CrewFault.TheVariants.{WorkersGone};
+
 use crate::crew::Crew;
 use crate::faults::CrewFault;
 use road_ends::StepInput;
@@ -8,11 +14,24 @@ use std::sync::Arc;
 #[derive(Clone, Copy, Debug, PartialEq, Eq)]
 pub struct Alone;
 
+impl Alone {
+    /// Tells a proof that it has never answered `WorkersGone`. It does nothing.
+    pub fn known(&self)
+        ensures { ⟦<Alone as Crew>⟧.gone self.now ≡ 0 }
+    {
+        let _ = self;
+    }
+}
+
 impl Crew for Alone {
     // It has no worker that could go, so its count stays 0.
     ghost gone = { λ _. 0 };
 
-    fn speeds(&mut self, alloc: Global, input: &Arc<StepInput>) -> Result<Vec<u8>, CrewFault> {
+    fn speeds(&mut self, alloc: Global, input: &Arc<StepInput>) -> Result<Vec<u8>, CrewFault>
+        ensures speeds { IfOk result (λ new. new.items ≡ input_speeds (arc_value input.now)) }
+        ensures gone { ⟦<Alone as Crew>⟧.gone self.new ≡ gone_after result (⟦<Alone as Crew>⟧.gone self.old) }
+        ensures memory_at_most { result ≢ Err WorkersGone }
+    {
         Ok(input.speeds(alloc)?)
     }
 }

@@ -1,5 +1,5 @@
 use Rattle.std.proofs.Common.{◌∙◌}
-use Rattle.road_cells.proofs.BlockFound.{searched}
+use Rattle.road_cells.proofs.BlockSearch.{searched}
 use Rattle.road_cells.proofs.blocks.is_blocked.Goals as goal
 
 pub returns : goal.returns

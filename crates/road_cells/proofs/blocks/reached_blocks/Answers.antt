@@ -1,6 +1,6 @@
 use Rattle.std.proofs.Common.{rules, of_calls, nat_le}
 use Rattle.std.proofs.lemmas.Fn.{always_returns_same}
-use Rattle.road_cells.proofs.Ahead.{parted, parted_at}
+use Rattle.road_cells.proofs.CellsAhead.{parted, parted_at}
 use Rattle.road_cells.proofs.blocks.reached_blocks.Goals as goal
 
 pub returns-clause-parted : goal.returns-clause-parted

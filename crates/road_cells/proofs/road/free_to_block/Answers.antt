@@ -1,6 +1,6 @@
 use Rattle.std.proofs.Common.{sym, ap, ◌+◌, ◌-◌, ◌∙◌, arith, min}
 use Rattle.road_cells.specs.declared.car.TheConstants.{GREATEST_SPEED}
-use Rattle.road_cells.proofs.Ahead.{free_to_point, free_to_end}
+use Rattle.road_cells.proofs.CellsAhead.{free_to_point, free_to_end}
 use Rattle.road_cells.proofs.road.free_to_block.Goals as goal
 
 pub free_between-requires : goal.free_between-requires

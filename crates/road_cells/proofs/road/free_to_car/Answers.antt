@@ -2,7 +2,7 @@ use Rattle.std.proofs.Common.{sym, ap, ◌+◌, ◌-◌, ◌∙◌, arith, min}
 use Rattle.road_cells.specs.Cars.{cell_at}
 use Rattle.road_cells.proofs.CarPlaces.{rise-at}
 use Rattle.road_cells.specs.declared.car.TheConstants.{GREATEST_SPEED}
-use Rattle.road_cells.proofs.Ahead.{cell_at-is, free_to_next, free_to_none}
+use Rattle.road_cells.proofs.CellsAhead.{cell_at-is, free_to_next, free_to_none}
 use Rattle.road_cells.proofs.road.free_to_car.Goals as goal
 
 pub free_between-requires : goal.free_between-requires

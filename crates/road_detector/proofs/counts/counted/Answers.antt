@@ -3,8 +3,8 @@ use Rattle.std.specs.Prelude.{slice_index}
 use Rattle.road_cells.specs.Cars.{cell_at, cars_before}
 use Rattle.road_cells.proofs.CarsBefore.{before-at}
 use Rattle.road_cells.proofs.CarPlaces.{length-cars_from}
-use Rattle.road_detector.specs.Passes.{drives, passing, counted}
-use Rattle.road_detector.proofs.Counting.{none_ahead, one_slow, one_counted, too_far, cars_before-le}
+use Rattle.road_detector.specs.Passes.{drives, passing_speeds, totals_of}
+use Rattle.road_detector.proofs.CarsPassing.{none_ahead, one_slow, one_counted, too_far, cars_before-le}
 use Rattle.road_detector.proofs.counts.counted.Goals as goal
 
 pub loop-place-init : goal.loop-place-init
@@ -12,7 +12,7 @@ loop-place-init c =
     let cars = c.cars-cars.result.now in
     let one : length c.args.speeds.now ≡ length cars = c.requires.one_each ∙ ap length (sym c.cars-cars.ensures.all) in
     let before : c.cars_before-place.result ≡ cars_before c.args.site cars = c.cars_before-place.ensures ∙ ap (cars_before c.args.site) (sym c.cars-cars.ensures.all) in
-    let none = ap (λ k. passing c.args.site (drop k (drives cars c.args.speeds.now))) before ∙ none_ahead c.args.site cars c.args.speeds.now c.cars-cars.ensures.rise one in
+    let none = ap (λ k. passing_speeds c.args.site (drop k (drives cars c.args.speeds.now))) before ∙ none_ahead c.args.site cars c.args.speeds.now c.cars-cars.ensures.rise one in
     record { cars = ap length (sym none); speeds = ap sum (sym none); few = omega arith; slow = omega arith }
 
 pub overflow_sub-distance : goal.overflow_sub-distance
@@ -71,7 +71,7 @@ loop-place-preserved c =
     let short = cars_before-le c.args.site cars in
     let stays : cell_at cars (place - 1) + slice_index c.args.speeds.now (place - 1) < c.args.site = let test = c.if-distance-from-2.false in let is = c.from-in-loop-place.ensures in omega arith in
     let next : place ≡ (place - 1) + 1 = omega arith in
-    let same = ap (λ k. passing c.args.site (drop k (drives cars c.args.speeds.now))) next ∙ sym (one_slow c.args.site cars c.args.speeds.now c.cars-cars.ensures.rise one (place - 1) (omega arith) stays) in
+    let same = ap (λ k. passing_speeds c.args.site (drop k (drives cars c.args.speeds.now))) next ∙ sym (one_slow c.args.site cars c.args.speeds.now c.cars-cars.ensures.rise one (place - 1) (omega arith) stays) in
     record { cars = inv.cars ∙ ap length same; speeds = inv.speeds ∙ ap sum same; few = omega arith; slow = inv.slow }
 
 pub returns-then-distance-from : goal.returns-then-distance-from
@@ -84,7 +84,7 @@ returns-then-distance-from c =
     let short = cars_before-le c.args.site cars in
     let next : place ≡ (place - 1) + 1 = omega arith in
     let far : cell_at cars (place - 1) + 255 < c.args.site = let test = c.if-distance-from.true in let is = c.from.ensures in omega arith in
-    let same = ap (λ k. passing c.args.site (drop k (drives cars c.args.speeds.now))) next
+    let same = ap (λ k. passing_speeds c.args.site (drop k (drives cars c.args.speeds.now))) next
     ∙ sym (too_far c.args.site cars c.args.speeds.now c.cars-cars.ensures.rise one (place - 1) 255 (omega arith) (λ i. let byte = (c.type_inv.speeds i).fits in omega arith) far) in
     (λ i. record { cars = (inv.cars ∙ ap length same) i; speeds = (inv.speeds ∙ ap sum same) i })
-    ∙ ap (λ cars. counted c.args.site (drives cars c.args.speeds.now)) c.cars-cars.ensures.all
+    ∙ ap (λ cars. totals_of c.args.site (drives cars c.args.speeds.now)) c.cars-cars.ensures.all

@@ -1,12 +1,12 @@
 use Rattle.std.proofs.Common.{◌≡◌, ◌+◌, ◌*◌, ◌≤◌, length, drop, sum}
 use Rattle.road_cells.specs.Cars.{cars_before}
-use Rattle.road_detector.specs.Passes.{drives, passing}
+use Rattle.road_detector.specs.Passes.{drives, passing_speeds}
 use Rattle.road_detector.proofs.counts.counted.Given as goal
 
 abbrev pub invariant-loop-place : goal.invariant-loop-place
 invariant-loop-place l = record {
-  cars : l.totals.cars ≡ length (passing l.site (drop l.place (drives l.cars l.speeds)));
-  speeds : l.totals.speeds ≡ sum (passing l.site (drop l.place (drives l.cars l.speeds)));
+  cars : l.totals.cars ≡ length (passing_speeds l.site (drop l.place (drives l.cars l.speeds)));
+  speeds : l.totals.speeds ≡ sum (passing_speeds l.site (drop l.place (drives l.cars l.speeds)));
   few : l.totals.cars + l.place ≤ cars_before l.site l.cars;
   slow : l.totals.speeds ≤ 255 * l.totals.cars;
 }

@@ -1,6 +1,6 @@
 use Rattle.road_words.proofs.WordSizes.{named_word-small}
 use Rattle.road_words.specs.PlanWords.{named_word}
-use Rattle.road_ends.proofs.Chances.{certain}
+use Rattle.road_ends.proofs.ChanceEvents.{certain}
 use Rattle.road_ends.proofs.chance.has_event.Goals as goal
 
 pub returns-then-chance-ge-CERTAIN : goal.returns-then-chance-ge-CERTAIN

@@ -2,7 +2,7 @@ use Rattle.std.proofs.Common.{◌∙◌, ap, sym, subst}
 use Rattle.std.specs.List.Sorted.{IsNonDecreasing}
 use Rattle.road_plan.specs.Settings.{Settings}
 use Rattle.road_ends.specs.Row.{HasDigits}
-use Rattle.road_ends.proofs.Computed.{not_falling}
+use Rattle.road_ends.proofs.StepByCars.{not_falling}
 use Rattle.road_ends.proofs.course.row.Goals as goal
 
 pub row_text-requires-clause-rising : goal.row_text-requires-clause-rising

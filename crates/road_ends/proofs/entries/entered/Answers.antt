@@ -1,27 +1,27 @@
 use Rattle.std.proofs.Common.{ℕ, Vec, Global, ◌≡◌, ◌+◌, ◌∙◌, ◌++◌, ◌<◌, ◌≤◌, sym, ap, subst, arith, length, map}
-use Rattle.std.specs.List.{position}
+use Rattle.std.specs.List.{position, range_with_len}
 use Rattle.std.specs.Prelude.{nat_eq, None}
 use Rattle.std.specs.Option.{option_or}
-use Rattle.road_cells.specs.Array.{vehicle_at, numbers}
+use Rattle.road_cells.specs.Array.{vehicle_at}
 use Rattle.road_cells.proofs.ArrayPlaces.{length-array}
-use Rattle.road_cells.specs.Cars.{array_of, Rise}
+use Rattle.road_cells.specs.Cars.{array_of, AreRising}
 use Rattle.road_cells.proofs.CarLists.{rise-cars_from, array_of-cars_from}
 use Rattle.road_cells.specs.declared.car.Car.{Car}
-use Rattle.road_ends.specs.Entries.{entering}
-use Rattle.road_ends.proofs.Computed.{cars_left, one_here, nobody_here, all_here, all_left}
-use Rattle.road_ends.proofs.Inlets.{cars_up_to, nobody_past, nobody_enters}
+use Rattle.road_ends.specs.Entries.{entry_at}
+use Rattle.road_ends.proofs.StepByCars.{cars_left, one_here, nobody_here, all_here, all_left}
+use Rattle.road_ends.proofs.CellsBetweenInlets.{cars_up_to, nobody_past, nobody_enters}
 use Rattle.road_ends.proofs.entries.entered.Goals as goal
 use Rattle.road_ends.proofs.entries.entered.Goals.{then-inlet-length+in-Some+in_ok-push-in-Some, then-inlet-length+in-None, else-inlet-length}
 
 pub loop-cell-init : goal.loop-cell-init
 loop-cell-init c =
-    let f = λ (c' : ℕ). option_or (vehicle_at c.args.road.now c') (entering c.args.plan.now c.args.settings.now c.args.step c') in
+    let f = λ (c' : ℕ). option_or (vehicle_at c.args.road.now c') (entry_at c.args.plan.now c.args.settings.now c.args.step c') in
     ap (λ cars. cars ++ cars_left f c.args.plan.now.cells 0) c.in_ok-cars.ensures.items ∙ all_left f c.args.plan.now.cells
 
 pub loop-cell-preserved : goal.loop-cell-preserved
 loop-cell-preserved c =
     let a = c.args.road.now in
-    let f = λ (c' : ℕ). option_or (vehicle_at c.args.road.now c') (entering c.args.plan.now c.args.settings.now c.args.step c') in
+    let f = λ (c' : ℕ). option_or (vehicle_at c.args.road.now c') (entry_at c.args.plan.now c.args.settings.now c.args.step c') in
     let n = c.args.plan.now.cells in
     let inlet = c.next_inlet-inlet.result in
     let cars = c.extend_from_slice.new.self.items in
@@ -44,19 +44,19 @@ loop-cell-preserved c =
 
 pub of-requires : goal.of-requires
 of-requires c =
-    let f = λ (c' : ℕ). option_or (vehicle_at c.args.road.now c') (entering c.args.plan.now c.args.settings.now c.args.step c') in
+    let f = λ (c' : ℕ). option_or (vehicle_at c.args.road.now c') (entry_at c.args.plan.now c.args.settings.now c.args.step c') in
     let past : c.args.plan.now.cells ≤ c.loop-cell.cell = let end = c.length.ensures in let test = c.loop-cell-test.false in omega arith in
-    subst Rise (sym (all_here f c.args.plan.now.cells c.loop-cell.cell c.loop-cell.cars.items _ past c.loop-cell.invariant)) (rise-cars_from 0 (map f (numbers 0 c.args.plan.now.cells)))
+    subst AreRising (sym (all_here f c.args.plan.now.cells c.loop-cell.cell c.loop-cell.cars.items _ past c.loop-cell.invariant)) (rise-cars_from 0 (map f (range_with_len 0 c.args.plan.now.cells)))
 
 pub returns-clause-moving : goal.returns-clause-moving
 returns-clause-moving c =
-    let f = λ (c' : ℕ). option_or (vehicle_at c.args.road.now c') (entering c.args.plan.now c.args.settings.now c.args.step c') in
+    let f = λ (c' : ℕ). option_or (vehicle_at c.args.road.now c') (entry_at c.args.plan.now c.args.settings.now c.args.step c') in
     let past : c.args.plan.now.cells ≤ c.loop-cell.cell = let end = c.length.ensures in let test = c.loop-cell-test.false in omega arith in
     c.of.ensures.road ∙ ap array_of (all_here f c.args.plan.now.cells c.loop-cell.cell c.loop-cell.cars.items _ past c.loop-cell.invariant) ∙ array_of-cars_from c.args.plan.now.cells f
 
 pub returns-clause-on_road : goal.returns-clause-on_road
 returns-clause-on_road c =
-    let f = λ (c' : ℕ). option_or (vehicle_at c.args.road.now c') (entering c.args.plan.now c.args.settings.now c.args.step c') in
+    let f = λ (c' : ℕ). option_or (vehicle_at c.args.road.now c') (entry_at c.args.plan.now c.args.settings.now c.args.step c') in
     let past : c.args.plan.now.cells ≤ c.loop-cell.cell = let end = c.length.ensures in let test = c.loop-cell-test.false in omega arith in
     subst (λ a. length a ≤ c.args.plan.now.cells)
     (sym (c.of.ensures.road ∙ ap array_of (all_here f c.args.plan.now.cells c.loop-cell.cell c.loop-cell.cars.items _ past c.loop-cell.invariant) ∙ array_of-cars_from c.args.plan.now.cells f))

@@ -1,4 +1,4 @@
-use Rattle.road_ends.proofs.Computed.{not_falling}
+use Rattle.road_ends.proofs.StepByCars.{not_falling}
 use Rattle.road_ends.proofs.entries.entering.Goals as goal
 
 pub is_blocked-requires : goal.is_blocked-requires

@@ -1,6 +1,6 @@
 use Rattle.std.proofs.Common.{◌≤◌, arith}
 use Rattle.std.specs.List.{slice_index_or}
-use Rattle.road_ends.proofs.Inlets.{no_inlet}
+use Rattle.road_ends.proofs.CellsBetweenInlets.{no_inlet}
 use Rattle.road_ends.proofs.entries.next_inlet.Goals as goal
 
 pub returns-clause-first : goal.returns-clause-first

@@ -5,12 +5,12 @@ use Rattle.road_plan.specs.Plan.{Plan}
 use Rattle.road_plan.specs.Settings.{Fits}
 use Rattle.road_cells.specs.Array.{vehicle_at}
 use Rattle.road_cells.proofs.ArrayPlaces.{length-array}
-use Rattle.road_ends.specs.Entries.{entering, entered}
+use Rattle.road_ends.specs.Entries.{entry_at, road_with_entries}
 use Rattle.road_ends.proofs.input.enter.Goals as goal
 
 pub invariant_of-input : goal.invariant_of-input
 invariant_of-input c =
     let p = arc_value c.args.plan.now in
-    let moving = c.in_ok-road.ensures.moving ∙ ap (λ (p : Plan). entered p c.args.settings c.args.step c.args.road.now) c.deref.ensures in
-    let on_road = subst (λ a. length a ≤ p.cells) (sym moving) (length-array p.cells (λ c'. option_or (vehicle_at c.args.road.now c') (entering p c.args.settings c.args.step c'))) in
+    let moving = c.in_ok-road.ensures.moving ∙ ap (λ (p : Plan). road_with_entries p c.args.settings c.args.step c.args.road.now) c.deref.ensures in
+    let on_road = subst (λ a. length a ≤ p.cells) (sym moving) (length-array p.cells (λ c'. option_or (vehicle_at c.args.road.now c') (entry_at p c.args.settings c.args.step c'))) in
     subst (λ (p : Plan). Fits p c.args.settings × (length c.in_ok-road.road ≤ p.cells)) (sym c.in_ok-plan.ensures) (c.requires.fits, on_road)

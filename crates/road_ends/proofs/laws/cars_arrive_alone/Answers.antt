@@ -1,4 +1,4 @@
-use Rattle.road_ends.proofs.Apart.{arrive_alone}
+use Rattle.road_ends.proofs.NoCollision.{arrive_alone}
 use Rattle.road_ends.proofs.laws.cars_arrive_alone.Goals as goal
 
 pub returns : goal.returns

@@ -1,4 +1,4 @@
-use Rattle.road_ends.proofs.Numbers.{have_own_numbers}
+use Rattle.road_ends.proofs.CarNumbers.{have_own_numbers}
 use Rattle.road_ends.proofs.laws.cars_have_own_numbers.Goals as goal
 
 pub returns : goal.returns

@@ -1,4 +1,4 @@
-use Rattle.road_ends.proofs.Apart.{keep_order}
+use Rattle.road_ends.proofs.NoCollision.{keep_order}
 use Rattle.road_ends.proofs.laws.cars_keep_order.Goals as goal
 
 pub returns : goal.returns

@@ -1,4 +1,4 @@
-use Rattle.road_ends.proofs.Apart.{never_collide}
+use Rattle.road_ends.proofs.NoCollision.{never_collide}
 use Rattle.road_ends.proofs.laws.cars_never_collide.Goals as goal
 
 pub returns : goal.returns

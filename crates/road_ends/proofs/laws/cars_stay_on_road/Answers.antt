@@ -1,4 +1,4 @@
-use Rattle.road_ends.proofs.Numbers.{stay_on_road}
+use Rattle.road_ends.proofs.CarNumbers.{stay_on_road}
 use Rattle.road_ends.proofs.laws.cars_stay_on_road.Goals as goal
 
 pub returns : goal.returns

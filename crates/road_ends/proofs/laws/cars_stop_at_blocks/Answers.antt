@@ -1,4 +1,4 @@
-use Rattle.road_ends.proofs.Apart.{stop_at_blocks}
+use Rattle.road_ends.proofs.NoCollision.{stop_at_blocks}
 use Rattle.road_ends.proofs.laws.cars_stop_at_blocks.Goals as goal
 
 pub returns : goal.returns

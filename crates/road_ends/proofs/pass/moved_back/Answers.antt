@@ -1,4 +1,4 @@
-use Rattle.road_ends.proofs.Computed.{not_falling}
+use Rattle.road_ends.proofs.StepByCars.{not_falling}
 use Rattle.road_ends.proofs.pass.moved_back.Goals as goal
 
 pub reached_blocks_below-requires-clause-rising : goal.reached_blocks_below-requires-clause-rising

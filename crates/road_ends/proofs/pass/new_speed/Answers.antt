@@ -1,8 +1,8 @@
 use Rattle.std.proofs.Common.{arith, refl}
 use Rattle.road_cells.specs.Cars.{cars_of}
 use Rattle.road_words.specs.PlanWords.{named_word}
-use Rattle.road_ends.proofs.Computed.{not_falling, zone_in_plan}
-use Rattle.road_ends.proofs.OnePass.{read_speed}
+use Rattle.road_ends.proofs.StepByCars.{not_falling, zone_in_plan}
+use Rattle.road_ends.proofs.PassOverCars.{read_speed}
 use Rattle.road_ends.proofs.pass.new_speed.Goals as goal
 
 pub gap_to-gap-requires-clause-rising : goal.gap_to-gap-requires-clause-rising

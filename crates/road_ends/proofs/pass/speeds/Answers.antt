@@ -5,7 +5,7 @@ use Rattle.road_cells.specs.Cars.{cars_of, cell_at}
 use Rattle.road_cells.proofs.CarLists.{rise-cars_from}
 use Rattle.road_cells.proofs.CarPlaces.{rise-at}
 use Rattle.road_ends.specs.Speed.{speeds}
-use Rattle.road_ends.proofs.OnePass.{one_speed_before}
+use Rattle.road_ends.proofs.PassOverCars.{one_speed_before}
 use Rattle.road_ends.proofs.pass.speeds.Goals as goal
 
 pub loop-place-preserved : goal.loop-place-preserved

@@ -1,5 +1,5 @@
 use Rattle.std.proofs.Common.{◌<◌, subst, length}
-use Rattle.road_ends.proofs.Computed.{one_speed_more}
+use Rattle.road_ends.proofs.StepByCars.{one_speed_more}
 use Rattle.road_ends.proofs.plain.speeds.Goals as goal
 
 pub loop-place-preserved : goal.loop-place-preserved

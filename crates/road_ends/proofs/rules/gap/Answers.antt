@@ -1,7 +1,7 @@
 use Rattle.std.proofs.Common.{◌∙◌, ap}
 use Rattle.road_cells.specs.Cars.{cars_of, cell_at}
 use Rattle.road_cells.specs.Gap.{free_cells}
-use Rattle.road_ends.proofs.Computed.{not_falling, gap-free_cells}
+use Rattle.road_ends.proofs.StepByCars.{not_falling, gap-free_cells}
 use Rattle.road_ends.proofs.rules.gap.Goals as goal
 
 pub gap-requires-clause-rising : goal.gap-requires-clause-rising

@@ -1,5 +1,5 @@
 use Rattle.std.proofs.Common.{arith}
-use Rattle.road_ends.proofs.Computed.{zone_in_plan}
+use Rattle.road_ends.proofs.StepByCars.{zone_in_plan}
 use Rattle.road_ends.proofs.rules.speed.Goals as goal
 
 pub bounds-limits-zone : goal.bounds-limits-zone

@@ -1,7 +1,7 @@
-use Rattle.std.proofs.Common.{◌∙◌, sym, subst}
-use Rattle.road_rules.specs.Motion.{MayMove, moved_at}
-use Rattle.road_ends.specs.Run.{left}
-use Rattle.road_ends.proofs.Computed.{may_move, left-moved_at}
+use Rattle.std.proofs.Common.{◌∙◌, sym, subst, ap}
+use Rattle.road_rules.specs.Motion.{MayMove, array_after_motion_at}
+use Rattle.road_ends.specs.Run.{road_before_exit}
+use Rattle.road_ends.proofs.StepByCars.{may_move, left-array_after_motion_at}
 use Rattle.road_ends.proofs.step.finish.Goals as goal
 
 pub moved-requires-clause-may : goal.moved-requires-clause-may
@@ -9,8 +9,12 @@ moved-requires-clause-may c =
     let input = c.args.input.now in
     subst (λ a. MayMove a c.args.speeds.now) (sym c.road.ensures) (subst (MayMove input.road) (sym c.requires) (may_move input.plan input.settings input.step input.road c.fits.ensures.on_road))
 
-pub returns : goal.returns
-returns c =
+pub returns-clause-step : goal.returns-clause-step
+returns-clause-step c =
     let input = c.args.input.now in
-    c.leave.ensures ∙ (λ i. left (c.plan.ensures i) ((c.in_ok-moved.ensures.motion ∙ (λ j. moved_at (c.requires j) (c.road.ensures j))) i))
-    ∙ left-moved_at input.plan input.settings input.step input.road
+    c.leave.ensures ∙ (λ i. road_before_exit (c.plan.ensures i) ((c.in_ok-moved.ensures.motion ∙ (λ j. array_after_motion_at (c.requires j) (c.road.ensures j))) i))
+    ∙ left-array_after_motion_at input.plan input.settings input.step input.road
+
+pub returns-clause-parts : goal.returns-clause-parts
+returns-clause-parts c =
+    c.leave.ensures ∙ (λ i. road_before_exit (c.plan.ensures i) ((c.in_ok-moved.ensures.motion ∙ ap (array_after_motion_at c.args.speeds.now) c.road.ensures) i))

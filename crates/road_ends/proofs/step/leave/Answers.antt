@@ -2,12 +2,12 @@ use Rattle.std.proofs.Common.{rules, of_calls, ◌≡◌, ◌∙◌, true, false
 use Rattle.std.specs.List.Sorted.{IsPartitionPoint, IsPartitionedBy}
 use Rattle.std.proofs.lemmas.Fn.{always_returns_same}
 use Rattle.road_plan.specs.Plan.{road_end}
-use Rattle.road_cells.specs.Cars.{Rise, array_of}
-use Rattle.road_ends.proofs.Computed.{rise-take, left-take, cars_parted}
+use Rattle.road_cells.specs.Cars.{AreRising, array_of}
+use Rattle.road_ends.proofs.StepByCars.{rise-take, left-take, cars_parted}
 use Rattle.road_ends.proofs.step.leave.Goals as goal
 
 pub of-requires : goal.of-requires
-of-requires c = subst Rise (sym c.truncate.ensures.items) (rise-take c.partition_point-staying.result c.into_cars-cars.result.items c.into_cars-cars.ensures.rise)
+of-requires c = subst AreRising (sym c.truncate.ensures.items) (rise-take c.partition_point-staying.result c.into_cars-cars.result.items c.into_cars-cars.ensures.rise)
 
 pub returns : goal.returns
 returns c =

@@ -1,6 +1,6 @@
 use Rattle.std.proofs.Common.{subst}
 use Rattle.road_detector.specs.Rows.{HaveDigits}
-use Rattle.road_detector.proofs.Marking.{from_cars}
+use Rattle.road_detector.proofs.MarkedRow.{from_cars}
 use Rattle.road_tests.proofs.detector.has_digits.Goals as goal
 
 pub returns : goal.returns

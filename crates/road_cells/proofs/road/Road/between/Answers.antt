@@ -1,5 +1,5 @@
 use Rattle.std.proofs.Common.{rules, ◌≤◌, ◌-◌, ◌∙◌, arith, take, drop}
-use Rattle.road_cells.proofs.Between.{found_between, before-le}
+use Rattle.road_cells.proofs.CarsBetween.{found_between, before-le}
 use Rattle.road_cells.proofs.road.Road.between.Goals as goal
 
 pub slice_bounds-result-count : goal.slice_bounds-result-count

@@ -7,7 +7,7 @@ use Rattle.std.proofs.lemmas.List.Sorted.{answers_always}
 use Rattle.road_cells.specs.Array.{vehicle_at}
 use Rattle.road_cells.specs.Cars.{car_of}
 use Rattle.road_cells.specs.declared.car.Car.{Car}
-use Rattle.road_cells.proofs.Found.{found, not_found, answers_rise}
+use Rattle.road_cells.proofs.CarSearch.{found, not_found, answers_rise}
 use Rattle.road_cells.proofs.road.Road.car_at.Goals as goal
 
 pub returns-in-Ok : goal.returns-in-Ok

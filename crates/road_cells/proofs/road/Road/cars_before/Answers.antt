@@ -4,7 +4,7 @@ use Rattle.std.specs.List.Sorted.{IsPartitionedBy}
 use Rattle.std.proofs.lemmas.Fn.{always_returns_same}
 use Rattle.road_cells.specs.Cars.{cars_of}
 use Rattle.road_cells.proofs.CarLists.{cars_of-array_of}
-use Rattle.road_cells.proofs.Before.{count-parted, parted_by_cell}
+use Rattle.road_cells.proofs.CarCounts.{count-parted, parted_by_cell}
 use Rattle.road_cells.proofs.road.Road.cars_before.Goals as goal
 
 pub returns : goal.returns

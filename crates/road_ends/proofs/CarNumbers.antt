@@ -8,19 +8,19 @@ use Rattle.road_plan.specs.Plan.{Plan, road_end, IsWithinLimits}
 use Rattle.road_plan.specs.declared.limits.TheConstants.{MOST_INLETS}
 use Rattle.road_cells.specs.Array.{Vehicle, vehicle_at}
 use Rattle.road_cells.proofs.ArrayPlaces.{vehicle_at-array}
-use Rattle.road_rules.specs.Motion.{arriving}
+use Rattle.road_rules.specs.Motion.{arrival_at}
 use Rattle.road_ends.specs.Speed.{speed}
-use Rattle.road_ends.specs.Run.{Course, run, moving}
+use Rattle.road_ends.specs.Run.{Course, run, road_before_motion}
 use Rattle.road_ends.specs.Laws.{IsOnRoad, StayOnRoad, HaveOwnNumbers}
-use Rattle.road_ends.proofs.Apart.{within, speed-most}
-use Rattle.road_ends.proofs.Origins.{CameFrom, came_from, EnteredBy, stood_or_entered}
+use Rattle.road_ends.proofs.NoCollision.{within, speed-most}
+use Rattle.road_ends.proofs.WhereCarsComeFrom.{CameFrom, came_from, EnteredBy, stood_or_entered}
 
 module _ (p : Plan) (limits : IsWithinLimits p) (course : Course) where
   -- who is on the road at the next step came from a cell
-  moved_from : (t j : ℕ) (car : Vehicle) → vehicle_at (run p course (suc t)) j ≡ Some car → CameFrom (speed p (course t) t (moving p course t)) (moving p course t) j car
+  moved_from : (t j : ℕ) (car : Vehicle) → vehicle_at (run p course (suc t)) j ≡ Some car → CameFrom (speed p (course t) t (road_before_motion p course t)) (road_before_motion p course t) j car
   moved_from t j car here =
-      let below = within (road_end p) (arriving (speed p (course t) t (moving p course t)) (moving p course t)) j car here in
-      came_from _ (moving p course t) j car (sym (vehicle_at-array (road_end p) (arriving (speed p (course t) t (moving p course t)) (moving p course t)) j below) ∙ here)
+      let below = within (road_end p) (arrival_at (speed p (course t) t (road_before_motion p course t)) (road_before_motion p course t)) j car here in
+      came_from _ (road_before_motion p course t) j car (sym (vehicle_at-array (road_end p) (arrival_at (speed p (course t) t (road_before_motion p course t)) (road_before_motion p course t)) j below) ∙ here)
 
   -- a car that enters has a number of this step
   new_number : (t c : ℕ) (car : Vehicle) (by : EnteredBy p t c car) → (MOST_INLETS * t ≤ car.number) × (car.number < MOST_INLETS * (t + 1))
@@ -35,12 +35,12 @@ module _ (p : Plan) (limits : IsWithinLimits p) (course : Course) where
   stay (suc t) c car here =
       let from = moved_from t c car here in
       record {
-        before_exit = within (road_end p) (arriving (speed p (course t) t (moving p course t)) (moving p course t)) c car here;
-        slow_enough = let most = speed-most p (course t) t (moving p course t) from.cell from.earlier in let is = from.new_speed in omega arith;
+        before_exit = within (road_end p) (arrival_at (speed p (course t) t (road_before_motion p course t)) (road_before_motion p course t)) c car here;
+        slow_enough = let most = speed-most p (course t) t (road_before_motion p course t) from.cell from.earlier in let is = from.new_speed in omega arith;
         has_entered = number from (stood_or_entered p (course t) t (run p course t) from.cell from.earlier from.stood) (stay t from.cell from.earlier);
       }
     where
-      number : (from : CameFrom (speed p (course t) t (moving p course t)) (moving p course t) c car) → (vehicle_at (run p course t) from.cell ≡ Some from.earlier) ⊎ EnteredBy p t from.cell from.earlier
+      number : (from : CameFrom (speed p (course t) t (road_before_motion p course t)) (road_before_motion p course t) c car) → (vehicle_at (run p course t) from.cell ≡ Some from.earlier) ⊎ EnteredBy p t from.cell from.earlier
           → (vehicle_at (run p course t) from.cell ≡ Some from.earlier → IsOnRoad p t from.cell from.earlier) → car.number < MOST_INLETS * suc t
       number from (inl stood) before = let old = (before stood).has_entered in let same = from.same_number in omega arith
       number from (inr by) before = let new = new_number t from.cell from.earlier by in let low = new.1 in let same = from.same_number in omega arith
@@ -74,9 +74,9 @@ module _ (p : Plan) (limits : IsWithinLimits p) (course : Course) where
       let cell : left.cell ≡ right.cell = apart_after_entries t left.cell right.cell left.earlier right.earlier (own t)
       (stood_or_entered p (course t) t (run p course t) left.cell left.earlier left.stood)
       (stood_or_entered p (course t) t (run p course t) right.cell right.earlier right.stood) numbers in
-      let who : Some left.earlier ≡ Some right.earlier = sym left.stood ∙ ap (vehicle_at (moving p course t)) cell ∙ right.stood in
+      let who : Some left.earlier ≡ Some right.earlier = sym left.stood ∙ ap (vehicle_at (road_before_motion p course t)) cell ∙ right.stood in
       let car : left.earlier ≡ right.earlier = cc in
-      sym left.reached ∙ (λ i. cell i + speed p (course t) t (moving p course t) (cell i) (car i)) ∙ right.reached
+      sym left.reached ∙ (λ i. cell i + speed p (course t) t (road_before_motion p course t) (cell i) (car i)) ∙ right.reached
 
 pub stay_on_road : (p : Plan) → IsWithinLimits p → StayOnRoad p
 stay_on_road p limits course t c car here = stay p limits course t c car here

@@ -11,16 +11,16 @@ use Rattle.std.proofs.lemmas.Bool.{cases_lt}
 use Rattle.std.proofs.lemmas.Bool.Decides.{nat_tests}
 use Rattle.std.proofs.lemmas.List.Sorted.{IsNonDecreasingBy-from_default}
 use Rattle.road_cells.specs.Array.{vehicle_at}
-use Rattle.road_cells.specs.Cars.{Rise, array_of, standing, vehicle_of, car_of, cell_at}
+use Rattle.road_cells.specs.Cars.{AreRising, array_of, vehicle_among, vehicle_of, car_of, cell_at}
 use Rattle.road_cells.proofs.CarLists.{vehicle_at-array_of}
-use Rattle.road_cells.proofs.CarPlaces.{rise-at, standing-absent, standing-at}
+use Rattle.road_cells.proofs.CarPlaces.{rise-at, vehicle_among-absent, vehicle_among-at}
 use Rattle.road_cells.specs.declared.car.Car.{Car}
 
 -- stands for a car that is not in the list
 abbrev nobody : Car
 nobody = car_of 0 (record { number = 0; speed = 0 })
 
-module _ (cars : List Car) (cell : ℕ) (rise : Rise cars) where
+module _ (cars : List Car) (cell : ℕ) (rise : AreRising cars) where
   -- the cells' answers rise along the list
   pub answers_rise : IsNonDecreasingBy (λ car. ordering_index (nat_cmp car.cell cell)) cars
   answers_rise = IsNonDecreasingBy-from_default (λ car. ordering_index (nat_cmp car.cell cell)) cars nobody (λ i j le below. elim (cases_lt i j) as (λ _. ordering_index (nat_cmp (cell_at cars i) cell) ≤ ordering_index (nat_cmp (cell_at cars j) cell)) [
@@ -34,11 +34,11 @@ module _ (cars : List Car) (cell : ℕ) (rise : Rise cars) where
       let at : cell_at cars place ≡ cell = (let test = equal nobody in grind (arith, nat_tests)) in
       let mine : car.cell ≡ cell = (let test = equal car in let same = ap (λ x. x.cell) is in grind (arith, nat_tests)) in
       (λ i. Some (record { number = car.number; cell = mine i; speed = car.speed }))
-      ∙ ap (option_map (car_of cell)) (ap (λ x. Some (vehicle_of x)) is ∙ sym (standing-at 0 cars place car rise in_list) ∙ ap (λ c. standing c cars) at ∙ sym (vehicle_at-array_of cars cell))
+      ∙ ap (option_map (car_of cell)) (ap (λ x. Some (vehicle_of x)) is ∙ sym (vehicle_among-at 0 cars place car rise in_list) ∙ ap (λ c. vehicle_among c cars) at ∙ sym (vehicle_at-array_of cars cell))
 
   -- where none was found the cell is empty
   pub not_found : (gap : ℕ) → IsPartitionPoint (λ car. nat_cmp car.cell cell ≡ Less) (λ car. nat_cmp car.cell cell ≡ Greater) cars gap → None ≡ option_map (car_of cell) (vehicle_at (array_of cars) cell)
-  not_found gap point = ap (option_map (car_of cell)) (sym (standing-absent cars cell apart) ∙ sym (vehicle_at-array_of cars cell))
+  not_found gap point = ap (option_map (car_of cell)) (sym (vehicle_among-absent cars cell apart) ∙ sym (vehicle_at-array_of cars cell))
     where
       apart : (i : ℕ) → i < length cars → cell_at cars i ≡ cell → ⊥
       apart i below same = elim (cases_lt i gap) as (λ _. ⊥) [

@@ -9,14 +9,14 @@ use Rattle.std.proofs.lemmas.Bool.Decides.{nat_tests}
 use Rattle.road_plan.specs.Plan.{Plan, zone_of}
 use Rattle.road_plan.specs.Settings.{Settings}
 use Rattle.road_cells.specs.Array.{Array, Vehicle, vehicle_at, array}
-use Rattle.road_cells.proofs.ArrayPlaces.{past_array}
+use Rattle.road_cells.proofs.ArrayPlaces.{past_array, past_end, length-array}
 use Rattle.road_cells.specs.Gap.{is_blocked}
 use Rattle.road_cells.proofs.FreeCells.{free_before-le, free_before-most}
 use Rattle.road_cells.specs.declared.car.TheConstants.{GREATEST_SPEED}
 use Rattle.road_rules.specs.Speeds.{wanted, slowed}
-use Rattle.road_ends.specs.Speed.{is_taken, gap, speed, is_slowed}
-use Rattle.road_ends.specs.Run.{moving}
-use Rattle.road_ends.specs.Laws.{NeverCollide, ArriveAlone, KeepOrder, StopAtBlocks}
+use Rattle.road_ends.specs.Speed.{is_taken_on_road, gap, speed, is_slowed}
+use Rattle.road_ends.specs.Run.{Course, road_before_motion}
+use Rattle.road_ends.specs.Laws.{StepLaw, HoldsInEachStep, KeepBelowGreatestSpeed, NeverCollide, ArriveAlone, KeepOrder, StopAtBlocks}
 
 slowed-le : (v : ℕ) (event : Bool) → slowed v event ≤ v
 slowed-le v true = omega arith
@@ -34,24 +34,24 @@ speed-le p s t a c x = both (wanted x.speed (slice_index s.limits (zone_of p c))
 
 -- no car is too fast
 pub speed-most : (p : Plan) (s : Settings) (t : ℕ) (a : Array) (c : ℕ) (x : Vehicle) → speed p s t a c x ≤ GREATEST_SPEED
-speed-most p s t a c x = both (speed p s t a c x) (gap p s a c) (speed-le p s t a c x) (free_before-most (is_taken p s a) (c + 1) GREATEST_SPEED)
+speed-most p s t a c x = both (speed p s t a c x) (gap p s a c) (speed-le p s t a c x) (free_before-most (is_taken_on_road p s a) (c + 1) GREATEST_SPEED)
   where
     both : (v free : ℕ) → v ≤ free → free ≤ GREATEST_SPEED → v ≤ GREATEST_SPEED
     both v free le most = omega arith
 
 -- a car stays behind each taken cell in front of it
-pub before_taken : (p : Plan) (s : Settings) (t : ℕ) (a : Array) (c d : ℕ) (x : Vehicle) → c < d → is_taken p s a d ≡ true → c + speed p s t a c x < d
-before_taken p s t a c d x lt taken = both (speed p s t a c x) (gap p s a c) (speed-le p s t a c x) (free_before-le (is_taken p s a) GREATEST_SPEED (c + 1) d (omega arith) taken)
+pub before_taken : (p : Plan) (s : Settings) (t : ℕ) (a : Array) (c d : ℕ) (x : Vehicle) → c < d → is_taken_on_road p s a d ≡ true → c + speed p s t a c x < d
+before_taken p s t a c d x lt taken = both (speed p s t a c x) (gap p s a c) (speed-le p s t a c x) (free_before-le (is_taken_on_road p s a) GREATEST_SPEED (c + 1) d (omega arith) taken)
   where
     both : (v free : ℕ) → v ≤ free → free ≤ d - (c + 1) → c + v < d
     both v free le most = omega arith
 
 -- a cell of the road that holds a car is taken
-pub taken-car : (p : Plan) (s : Settings) (a : Array) (d : ℕ) (y : Vehicle) → d < p.cells → vehicle_at a d ≡ Some y → is_taken p s a d ≡ true
+pub taken-car : (p : Plan) (s : Settings) (a : Array) (d : ℕ) (y : Vehicle) → d < p.cells → vehicle_at a d ≡ Some y → is_taken_on_road p s a d ≡ true
 taken-car p s a d y on here = λ i. lt-ltb d p.cells on i && (is_some (here i) || is_blocked s.blocks d)
 
 -- a blocked cell of the road is taken
-taken-blocked : (p : Plan) (s : Settings) (a : Array) (d : ℕ) → d < p.cells → is_blocked s.blocks d ≡ true → is_taken p s a d ≡ true
+taken-blocked : (p : Plan) (s : Settings) (a : Array) (d : ℕ) → d < p.cells → is_blocked s.blocks d ≡ true → is_taken_on_road p s a d ≡ true
 taken-blocked p s a d on blocked = (λ i. lt-ltb d p.cells on i && (is_some (vehicle_at a d) || blocked i)) ∙ either (is_some (vehicle_at a d))
   where
     either : (b : Bool) → true && (b || true) ≡ true
@@ -68,21 +68,47 @@ within n f d y here = elim (cases_lt d n) as (λ _. d < n) [
 pub cars-apart : (p : Plan) (s : Settings) (t : ℕ) (a : Array) (c d : ℕ) (x y : Vehicle) → length a ≤ p.cells → d < p.cells → vehicle_at a d ≡ Some y → c < d → c + speed p s t a c x < d
 cars-apart p s t a c d x y long on there lt = before_taken p s t a c d x lt (taken-car p s a d y on there)
 
-pub never_collide : (p : Plan) → NeverCollide p
-never_collide p course t c d x y here there lt =
-    before_taken p (course t) t (moving p course t) c d x lt (taken-car p (course t) (moving p course t) d y (within p.cells _ d y there) there)
+-- the cars of a run's step are on the road before they move
+before_motion-on_road : (p : Plan) (course : Course) (t : ℕ) → length (road_before_motion p course t) ≤ p.cells
+before_motion-on_road p course t = length-array p.cells _
 
-pub keep_order : (p : Plan) → KeepOrder p
-keep_order p course t c d x y here there lt = let behind = never_collide p course t c d x y here there lt in omega arith
+-- what holds on arrays holds in runs
+each_step : (law : StepLaw) (p : Plan) → ((s : Settings) (t : ℕ) (a : Array) → length a ≤ p.cells → law p s t a) → HoldsInEachStep law p
+each_step law p holds = record { on_arrays = holds; in_runs = λ course t. holds (course t) t (road_before_motion p course t) (before_motion-on_road p course t) }
 
-pub arrive_alone : (p : Plan) → ArriveAlone p
-arrive_alone p course t c d x y here there same = elim (cases_lt c d) as (λ _. c ≡ d) [
-  | inl lt ↦ let order = keep_order p course t c d x y here there lt in absurd (omega arith)
+pub keep_below_greatest_speed : (p : Plan) → HoldsInEachStep KeepBelowGreatestSpeed p
+keep_below_greatest_speed p = each_step KeepBelowGreatestSpeed p (λ s t a on_road c car. speed-most p s t a c car)
+
+-- a car stands below the end of its array
+below_end : (a : Array) (n c : ℕ) (x : Vehicle) → length a ≤ n → vehicle_at a c ≡ Some x → c < n
+below_end a n c x long here = elim (cases_lt c (length a)) as (λ _. c < n) [
+  | inl below ↦ omega arith
+  | inr past ↦ let gone : Some x ≡ None = sym here ∙ past_end a c past in cc
+]
+
+behind_next : (p : Plan) (s : Settings) (t : ℕ) (a : Array) → length a ≤ p.cells → NeverCollide p s t a
+behind_next p s t a on_road c d x y here there lt = before_taken p s t a c d x lt (taken-car p s a d y (below_end a p.cells d y on_road there) there)
+
+in_order : (p : Plan) (s : Settings) (t : ℕ) (a : Array) → length a ≤ p.cells → KeepOrder p s t a
+in_order p s t a on_road c d x y here there lt = let behind = behind_next p s t a on_road c d x y here there lt in omega arith
+
+apart : (p : Plan) (s : Settings) (t : ℕ) (a : Array) → length a ≤ p.cells → ArriveAlone p s t a
+apart p s t a on_road c d x y here there same = elim (cases_lt c d) as (λ _. c ≡ d) [
+  | inl lt ↦ let order = in_order p s t a on_road c d x y here there lt in absurd (omega arith)
   | inr ge ↦ elim (cases_lt d c) as (λ _. c ≡ d) [
-    | inl lt ↦ let order = keep_order p course t d c y x there here lt in absurd (omega arith)
+    | inl lt ↦ let order = in_order p s t a on_road d c y x there here lt in absurd (omega arith)
     | inr le ↦ omega arith
   ]
 ]
+
+pub never_collide : (p : Plan) → HoldsInEachStep NeverCollide p
+never_collide p = each_step NeverCollide p (behind_next p)
+
+pub keep_order : (p : Plan) → HoldsInEachStep KeepOrder p
+keep_order p = each_step KeepOrder p (in_order p)
+
+pub arrive_alone : (p : Plan) → HoldsInEachStep ArriveAlone p
+arrive_alone p = each_step ArriveAlone p (apart p)
 
 -- blocked cells are on the road
 pub blocked-below : (blocks : List ℕ) (n j : ℕ) → All (λ cell. cell < n) blocks → is_blocked blocks j ≡ true → j < n
@@ -92,6 +118,6 @@ blocked-below (block ∷ blocks) n j below blocked = elim (nat_eq j block) as (�
   | false ↦ λ other. blocked-below blocks n j (λ k d lt. below (suc k) d (omega arith)) (sym (ap (λ b. b || is_blocked blocks j) other) ∙ blocked)
 ] refl
 
-pub stop_at_blocks : (p : Plan) → StopAtBlocks p
-stop_at_blocks p course fits t c j x here blocked lt =
-    before_taken p (course t) t (moving p course t) c j x lt (taken-blocked p (course t) (moving p course t) j (blocked-below (course t).blocks p.cells j (fits t).blocks_on_road blocked) blocked)
+pub stop_at_blocks : (p : Plan) → HoldsInEachStep StopAtBlocks p
+stop_at_blocks p = each_step StopAtBlocks p (λ s t a on_road fits c j x here blocked lt.
+    before_taken p s t a c j x lt (taken-blocked p s a j (blocked-below s.blocks p.cells j fits.blocks_on_road blocked) blocked))

@@ -11,7 +11,7 @@ use Rattle.road_cells.specs.Gap.{free_cells}
 use Rattle.road_cells.specs.declared.car.Car.{Car}
 use Rattle.road_rules.specs.Speeds.{wanted, slowed, has_event}
 use Rattle.road_ends.specs.Speed.{gap, speed, speeds, nth_car}
-use Rattle.road_ends.proofs.Computed.{gap-free_cells}
+use Rattle.road_ends.proofs.StepByCars.{gap-free_cells}
 
 module _ (p : Plan) (s : Settings) (t : ℕ) (a : Array) where
   -- the speed by the limit, the free cells, the chance and the word that were read is that of the definition

@@ -1,6 +1,6 @@
 -- What the program computes.
 use Rattle.std.specs.Prelude.{◌≡◌, ℕ, zero, suc, ◌+◌, ◌-◌, ◌*◌, ◌/◌, ◌<◌, ◌≤◌, ◌&&◌, ◌||◌, true, false, cond, List, [], ◌∷◌, ◌++◌, length, map, take, is_some, nat_eq, nat_lt, slice_index, refl}
-use Rattle.std.specs.List.{slice_index_or}
+use Rattle.std.specs.List.{slice_index_or, range_with_len}
 use Rattle.std.specs.List.Sorted.{IsStrictlyIncreasing, IsNonDecreasing, IsPartitionedBy, IsPartitionPoint}
 use Rattle.std.specs.Option.{option_map}
 use Rattle.std.specs.declared.option.Option.{Option}
@@ -13,21 +13,21 @@ use Rattle.std.proofs.lemmas.Bool.Decides.{nat_tests}
 use Rattle.std.proofs.lemmas.List.{get_or_default, get_or-map}
 use Rattle.road_plan.specs.Plan.{Plan, road_end, IsWithinLimits}
 use Rattle.road_plan.specs.Settings.{Settings, Fits}
-use Rattle.road_cells.specs.Array.{Array, Vehicle, vehicle_at, array, numbers}
+use Rattle.road_cells.specs.Array.{Array, Vehicle, vehicle_at, array}
 use Rattle.road_cells.proofs.ArrayPlaces.{past_end, vehicle_at-array, past_array, array-same, array-agree}
-use Rattle.road_cells.specs.Cars.{cars_of, cars_from, car_of, vehicle_of, cell_at, Rise, RiseFrom, array_of, standing, end_of}
-use Rattle.road_cells.proofs.CarLists.{rise-cars_from, standing-cars_from, standing-below, vehicle_at-array_of, standing-past}
-use Rattle.road_cells.proofs.CarPlaces.{rise-at, standing-at}
+use Rattle.road_cells.specs.Cars.{cars_of, cars_from, car_of, vehicle_of, cell_at, AreRising, AreRisingFrom, array_of, vehicle_among, end_of}
+use Rattle.road_cells.proofs.CarLists.{rise-cars_from, vehicle_among-cars_from, vehicle_among-below, vehicle_at-array_of, vehicle_among-past}
+use Rattle.road_cells.proofs.CarPlaces.{rise-at, vehicle_among-at}
 use Rattle.road_cells.specs.Gap as cells
 use Rattle.road_cells.specs.Gap.{is_blocked, free_before, free_cells}
 use Rattle.road_cells.proofs.FreeCells.{free_before-same}
 use Rattle.road_cells.specs.declared.car.Car.{Car}
 use Rattle.road_cells.specs.declared.car.TheConstants.{GREATEST_SPEED}
-use Rattle.road_rules.specs.Motion.{arriving, moved, moved_at, MayMove}
-use Rattle.road_rules.proofs.MotionOfCars.{moved_at-listed, cell_at-end, vehicle_at-moved}
-use Rattle.road_ends.specs.Speed.{is_taken, gap, speed, speeds, nth_car}
-use Rattle.road_ends.specs.Run.{next, left}
-use Rattle.road_ends.proofs.Apart.{blocked-below, cars-apart, speed-most}
+use Rattle.road_rules.specs.Motion.{arrival_at, array_after_motion, array_after_motion_at, MayMove}
+use Rattle.road_rules.proofs.MotionOfCars.{array_after_motion_at-listed, cell_at-end, vehicle_at-array_after_motion}
+use Rattle.road_ends.specs.Speed.{is_taken_on_road, gap, speed, speeds, nth_car}
+use Rattle.road_ends.specs.Run.{road_after_motion, road_before_exit}
+use Rattle.road_ends.proofs.NoCollision.{blocked-below, cars-apart, speed-most}
 
 -- numbers that strictly rise do not fall
 climbs : (xs : List ℕ) (i n : ℕ) → IsStrictlyIncreasing xs → i + n < length xs → slice_index xs i ≤ slice_index xs (i + n)
@@ -35,8 +35,8 @@ climbs xs i zero rise below = let here : i + 0 ≡ i = omega arith in let same =
 climbs xs i (suc n) rise below =
     let rest = climbs xs i n rise (omega arith) in
     let step = rise (i + n) (omega arith) in
-    let next : (i + n) + 1 ≡ i + suc n = omega arith in
-    let same = ap (slice_index xs) next in omega arith
+    let road_after_motion : (i + n) + 1 ≡ i + suc n = omega arith in
+    let same = ap (slice_index xs) road_after_motion in omega arith
 
 pub not_falling : (xs : List ℕ) → IsStrictlyIncreasing xs → IsNonDecreasing xs
 not_falling xs rise i j d le below =
@@ -61,8 +61,8 @@ zone_in_plan p a cars k width limits long below all wide =
     omega arith
 
 -- where cars and blocks are on the road, a cell is taken on the road exactly where it is taken
-taken-on_road : (p : Plan) (s : Settings) (a : Array) (k : ℕ) → Fits p s → length a ≤ p.cells → cells.is_taken s.blocks a k ≡ is_taken p s a k
-taken-on_road p s a k fits long = elim (cases_lt k p.cells) as (λ _. cells.is_taken s.blocks a k ≡ is_taken p s a k) [
+taken-on_road : (p : Plan) (s : Settings) (a : Array) (k : ℕ) → Fits p s → length a ≤ p.cells → cells.is_taken s.blocks a k ≡ is_taken_on_road p s a k
+taken-on_road p s a k fits long = elim (cases_lt k p.cells) as (λ _. cells.is_taken s.blocks a k ≡ is_taken_on_road p s a k) [
   | inl on ↦ ap (λ b. b && cells.is_taken s.blocks a k) (sym (lt-ltb k p.cells on))
   | inr past ↦ (λ i. is_some (past_end a k (omega arith) i) || not_blocked past i) ∙ ap (λ b. b && cells.is_taken s.blocks a k) (sym (not_lt k p.cells past))
 ]
@@ -78,7 +78,7 @@ taken-on_road p s a k fits long = elim (cases_lt k p.cells) as (λ _. cells.is_t
 
 -- the gap on the road is that of the cells
 pub gap-free_cells : (p : Plan) (s : Settings) (a : Array) (c : ℕ) → Fits p s → length a ≤ p.cells → free_cells s.blocks a c ≡ gap p s a c
-gap-free_cells p s a c fits long = free_before-same (cells.is_taken s.blocks a) (is_taken p s a) GREATEST_SPEED (c + 1) (λ k le lt. taken-on_road p s a k fits long)
+gap-free_cells p s a c fits long = free_before-same (cells.is_taken s.blocks a) (is_taken_on_road p s a) GREATEST_SPEED (c + 1) (λ k le lt. taken-on_road p s a k fits long)
 
 -- the speeds of the definition let all cars move
 pub may_move : (p : Plan) (s : Settings) (t : ℕ) (a : Array) → length a ≤ p.cells → MayMove a (speeds p s t a)
@@ -91,13 +91,13 @@ may_move p s t a long = record {
   apart = λ k below.
       let same = one_each (cars_of a) in
       let is = get_or-map new (cars_of a) k nobody 0 (omega arith) in
-      let there = standing-at 0 (cars_of a) (k + 1) nobody (rise-cars_from 0 a) (omega arith) in
-      let stands = sym (standing-cars_from 0 (cell_at (cars_of a) (k + 1)) a) in
+      let there = vehicle_among-at 0 (cars_of a) (k + 1) nobody (rise-cars_from 0 a) (omega arith) in
+      let stands = sym (vehicle_among-cars_from 0 (cell_at (cars_of a) (k + 1)) a) in
       let zero_on : 0 + cell_at (cars_of a) (k + 1) ≡ cell_at (cars_of a) (k + 1) = omega arith in
       let on = cell_at-end 0 a (k + 1) (omega arith) in
       let order = rise-at 0 (cars_of a) k (k + 1) (rise-cars_from 0 a) (omega arith) (omega arith) in
       let free = cars-apart p s t a (cell_at (cars_of a) k) (cell_at (cars_of a) (k + 1)) (vehicle_of (nth_car (cars_of a) k)) (vehicle_of (nth_car (cars_of a) (k + 1))) long (omega arith)
-      (stands ∙ ap (λ c. standing c (cars_of a)) zero_on ∙ there) order in
+      (stands ∙ ap (λ c. vehicle_among c (cars_of a)) zero_on ∙ there) order in
       omega arith;
 }
   where
@@ -112,27 +112,27 @@ may_move p s t a long = record {
     one_each (car ∷ cars) = ap suc (one_each cars)
 
 -- motion at the speeds of the definition, then deletion, is the next array
-pub left-moved_at : (p : Plan) (s : Settings) (t : ℕ) (a : Array) → left p (moved_at (speeds p s t a) a) ≡ next p s t a
-left-moved_at p s t a =
-    ap (left p) (moved_at-listed (speed p s t a) a)
-    ∙ array-agree (road_end p) (vehicle_at (moved (speed p s t a) a)) (arriving (speed p s t a) a) (λ j below. vehicle_at-moved (speed p s t a) a j (speed-most p s t a))
+pub left-array_after_motion_at : (p : Plan) (s : Settings) (t : ℕ) (a : Array) → road_before_exit p (array_after_motion_at (speeds p s t a) a) ≡ road_after_motion p s t a
+left-array_after_motion_at p s t a =
+    ap (road_before_exit p) (array_after_motion_at-listed (speed p s t a) a)
+    ∙ array-agree (road_end p) (vehicle_at (array_after_motion (speed p s t a) a)) (arrival_at (speed p s t a) a) (λ j below. vehicle_at-array_after_motion (speed p s t a) a j (speed-most p s t a))
 
 -- the cars in front of the deleted zone
-first_cars : (m n : ℕ) (cars : List Car) → RiseFrom m cars → RiseFrom m (take n cars)
+first_cars : (m n : ℕ) (cars : List Car) → AreRisingFrom m cars → AreRisingFrom m (take n cars)
 first_cars m zero cars rise = tt
 first_cars m (suc n) [] rise = tt
 first_cars m (suc n) (car ∷ cars) rise = (rise.0, first_cars (car.cell + 1) n cars rise.1)
 
-pub rise-take : (n : ℕ) (cars : List Car) → Rise cars → Rise (take n cars)
+pub rise-take : (n : ℕ) (cars : List Car) → AreRising cars → AreRising (take n cars)
 rise-take n cars rise = first_cars 0 n cars rise
 
 module _ (end : ℕ) where
-  kept : (m n : ℕ) (cars : List Car) (j : ℕ) → RiseFrom m cars → j < end → ((k : ℕ) → n ≤ k → k < length cars → end ≤ cell_at cars k) → standing j (take n cars) ≡ standing j cars
+  kept : (m n : ℕ) (cars : List Car) (j : ℕ) → AreRisingFrom m cars → j < end → ((k : ℕ) → n ≤ k → k < length cars → end ≤ cell_at cars k) → vehicle_among j (take n cars) ≡ vehicle_among j cars
   kept m zero [] j rise before past = refl
   kept m (suc n) [] j rise before past = refl
   kept m zero (car ∷ cars) j rise before past =
       let far : end ≤ car.cell = past 0 (omega arith) (omega arith) in
-      sym (standing-below car.cell j (car ∷ cars) ((omega arith), rise.1) (omega arith))
+      sym (vehicle_among-below car.cell j (car ∷ cars) ((omega arith), rise.1) (omega arith))
   kept m (suc n) (car ∷ cars) j rise before past = ap (λ o. cond (nat_eq car.cell j) (Some (vehicle_of car)) o) (kept (car.cell + 1) n cars j rise.1 before (λ k le below. past (suc k) (omega arith) (omega arith)))
 
   ends : (n : ℕ) (cars : List Car) → ((k : ℕ) → k < n → k < length cars → cell_at cars k < end) → end_of (take n cars) ≤ end
@@ -143,28 +143,28 @@ module _ (end : ℕ) where
       let rest = ends n cars (λ k lt below. low (suc k) (omega arith) (omega arith)) in omega arith
 
   -- cutting the list where the deleted zone begins cuts the array there
-  pub array_of-take : (n : ℕ) (cars : List Car) → Rise cars → ((k : ℕ) → k < n → k < length cars → cell_at cars k < end) → ((k : ℕ) → n ≤ k → k < length cars → end ≤ cell_at cars k)
+  pub array_of-take : (n : ℕ) (cars : List Car) → AreRising cars → ((k : ℕ) → k < n → k < length cars → cell_at cars k < end) → ((k : ℕ) → n ≤ k → k < length cars → end ≤ cell_at cars k)
       → array_of (take n cars) ≡ array end (vehicle_at (array_of cars))
-  array_of-take n cars rise low past = array-same (end_of (take n cars)) end (λ c. standing c (take n cars)) (vehicle_at (array_of cars)) (λ j. vehicle_at-array_of (take n cars) j ∙ (elim (cases_lt j end) as (λ _. standing j (take n cars) ≡ vehicle_at (array end (vehicle_at (array_of cars))) j) [
+  array_of-take n cars rise low past = array-same (end_of (take n cars)) end (λ c. vehicle_among c (take n cars)) (vehicle_at (array_of cars)) (λ j. vehicle_at-array_of (take n cars) j ∙ (elim (cases_lt j end) as (λ _. vehicle_among j (take n cars) ≡ vehicle_at (array end (vehicle_at (array_of cars))) j) [
     | inl before ↦ kept 0 n cars j rise before past ∙ sym (vehicle_at-array_of cars j) ∙ sym (vehicle_at-array end (vehicle_at (array_of cars)) j before)
-    | inr behind ↦ standing-past (take n cars) j (let last = ends n cars low in omega arith) ∙ sym (past_array end (vehicle_at (array_of cars)) j behind)
+    | inr behind ↦ vehicle_among-past (take n cars) j (let last = ends n cars low in omega arith) ∙ sym (past_array end (vehicle_at (array_of cars)) j behind)
   ]))
 
 -- going over the cells of a tabulated array, car by car
 module _ (f : ℕ → Option Vehicle) (n : ℕ) where
   -- the cars from a cell on
   unfoldable pub cars_left : ℕ → List Car
-  cars_left cell = cars_from cell (map f (numbers cell (n - cell)))
+  cars_left cell = cars_from cell (map f (range_with_len cell (n - cell)))
 
-  turn : (cell : ℕ) → cell < n → cars_left cell ≡ cars_from cell (f cell ∷ map f (numbers (cell + 1) (n - (cell + 1))))
+  turn : (cell : ℕ) → cell < n → cars_left cell ≡ cars_from cell (f cell ∷ map f (range_with_len (cell + 1) (n - (cell + 1))))
   unfolding cars_left
-  turn cell below = let left : n - cell ≡ suc (n - (cell + 1)) = omega arith in ap (λ k. cars_from cell (map f (numbers cell k))) left
+  turn cell below = let road_before_exit : n - cell ≡ suc (n - (cell + 1)) = omega arith in ap (λ k. cars_from cell (map f (range_with_len cell k))) road_before_exit
 
   pub nobody_here : (cell : ℕ) (done all : List Car) → cell < n → None ≡ option_map (car_of cell) (f cell) → done ++ cars_left cell ≡ all → done ++ cars_left (cell + 1) ≡ all
   unfolding cars_left
   nobody_here cell done all below none rest = ap (λ cars. done ++ cars) (sym (turn cell below ∙ empty (f cell) none)) ∙ rest
     where
-      empty : (o : Option Vehicle) → None ≡ option_map (car_of cell) o → cars_from cell (o ∷ map f (numbers (cell + 1) (n - (cell + 1)))) ≡ cars_from (cell + 1) (map f (numbers (cell + 1) (n - (cell + 1))))
+      empty : (o : Option Vehicle) → None ≡ option_map (car_of cell) o → cars_from cell (o ∷ map f (range_with_len (cell + 1) (n - (cell + 1)))) ≡ cars_from (cell + 1) (map f (range_with_len (cell + 1) (n - (cell + 1))))
       empty None none = refl
       empty (Some v) none = cc
 
@@ -174,17 +174,17 @@ module _ (f : ℕ → Option Vehicle) (n : ℕ) where
       ap (λ cars. cars ++ cars_left (cell + 1)) new ∙ append_assoc done (car ∷ []) (cars_left (cell + 1))
       ∙ ap (λ cars. done ++ cars) (sym (turn cell below ∙ taken (f cell) some)) ∙ rest
     where
-      taken : (o : Option Vehicle) → Some car ≡ option_map (car_of cell) o → cars_from cell (o ∷ map f (numbers (cell + 1) (n - (cell + 1)))) ≡ car ∷ cars_from (cell + 1) (map f (numbers (cell + 1) (n - (cell + 1))))
+      taken : (o : Option Vehicle) → Some car ≡ option_map (car_of cell) o → cars_from cell (o ∷ map f (range_with_len (cell + 1) (n - (cell + 1)))) ≡ car ∷ cars_from (cell + 1) (map f (range_with_len (cell + 1) (n - (cell + 1))))
       taken None some = cc
-      taken (Some v) some = let same : car ≡ car_of cell v = cc in ap (λ c. c ∷ cars_from (cell + 1) (map f (numbers (cell + 1) (n - (cell + 1))))) (sym same)
+      taken (Some v) some = let same : car ≡ car_of cell v = cc in ap (λ c. c ∷ cars_from (cell + 1) (map f (range_with_len (cell + 1) (n - (cell + 1))))) (sym same)
 
   pub all_here : (cell : ℕ) (done all : List Car) → n ≤ cell → done ++ cars_left cell ≡ all → done ≡ all
   unfolding cars_left
-  all_here cell done all past rest = let none : n - cell ≡ 0 = omega arith in sym (append-nil done) ∙ ap (λ k. done ++ cars_from cell (map f (numbers cell k))) (sym none) ∙ rest
+  all_here cell done all past rest = let none : n - cell ≡ 0 = omega arith in sym (append-nil done) ∙ ap (λ k. done ++ cars_from cell (map f (range_with_len cell k))) (sym none) ∙ rest
 
-  pub all_left : cars_left 0 ≡ cars_from 0 (map f (numbers 0 n))
+  pub all_left : cars_left 0 ≡ cars_from 0 (map f (range_with_len 0 n))
   unfolding cars_left
-  all_left = let all : n - 0 ≡ n = omega arith in ap (λ k. cars_from 0 (map f (numbers 0 k))) all
+  all_left = let all : n - 0 ≡ n = omega arith in ap (λ k. cars_from 0 (map f (range_with_len 0 k))) all
 
 -- the speeds listed so far, and the next one
 pub one_speed_more : (p : Plan) (s : Settings) (t : ℕ) (a : Array) (done now : List ℕ) (k v : ℕ) → k < length (cars_of a) → done ≡ take k (speeds p s t a)
@@ -192,8 +192,8 @@ pub one_speed_more : (p : Plan) (s : Settings) (t : ℕ) (a : Array) (done now :
 one_speed_more p s t a done now k v below rest is new =
     let long = (may_move_lengths p s t a) in
     let at = get_or-map (λ car. speed p s t a car.cell (vehicle_of car)) (cars_of a) k (record { number = 0; cell = 0; speed = 0 }) 0 below in
-    let next : suc k ≡ k + 1 = omega arith in
-    new ∙ (λ i. rest i ++ (is ∙ sym at) i ∷ []) ∙ sym (take-suc (speeds p s t a) k 0 (omega arith)) ∙ ap (λ n. take n (speeds p s t a)) next
+    let road_after_motion : suc k ≡ k + 1 = omega arith in
+    new ∙ (λ i. rest i ++ (is ∙ sym at) i ∷ []) ∙ sym (take-suc (speeds p s t a) k 0 (omega arith)) ∙ ap (λ n. take n (speeds p s t a)) road_after_motion
   where
     may_move_lengths : (p : Plan) (s : Settings) (t : ℕ) (a : Array) → length (speeds p s t a) ≡ length (cars_of a)
     may_move_lengths p s t a = each (cars_of a)
@@ -203,7 +203,7 @@ one_speed_more p s t a done now k v below rest is new =
         each (car ∷ cars) = ap suc (each cars)
 
 -- cars in rising cells are parted by a cell
-pub cars_parted : (cars : List Car) (end : ℕ) → Rise cars → IsPartitionedBy (λ car. nat_lt car.cell end) cars
+pub cars_parted : (cars : List Car) (end : ℕ) → AreRising cars → IsPartitionedBy (λ car. nat_lt car.cell end) cars
 cars_parted cars end rise i j d le below before = elim (cases_lt i j) as (λ _. nat_lt (slice_index_or cars i d).cell end ≡ true) [
   | inl lt ↦
       let order = rise-at 0 cars i j rise lt below in
@@ -214,12 +214,12 @@ cars_parted cars end rise i j d le below before = elim (cases_lt i j) as (λ _. 
 ]
 
 -- the cars before the deleted zone make the array without those in it
-pub left-take : (p : Plan) (a : Array) (cars : List Car) (n : ℕ) → cars ≡ cars_of a → Rise cars
-    → IsPartitionPoint (λ car. nat_lt car.cell (road_end p) ≡ true) (λ car. nat_lt car.cell (road_end p) ≡ false) cars n → array_of (take n cars) ≡ left p a
+pub left-take : (p : Plan) (a : Array) (cars : List Car) (n : ℕ) → cars ≡ cars_of a → AreRising cars
+    → IsPartitionPoint (λ car. nat_lt car.cell (road_end p) ≡ true) (λ car. nat_lt car.cell (road_end p) ≡ false) cars n → array_of (take n cars) ≡ road_before_exit p a
 left-take p a cars n all rise point =
     array_of-take (road_end p) n cars rise
     (λ k lt below. let test : nat_lt (cell_at cars k) (road_end p) ≡ true = point.0 k (car_of 0 (record { number = 0; speed = 0 })) (omega arith) lt in grind (arith, nat_tests))
     (λ k le below. let test : nat_lt (cell_at cars k) (road_end p) ≡ false = point.1 k (car_of 0 (record { number = 0; speed = 0 })) le below in grind (arith, nat_tests))
     ∙ array-agree (road_end p) (vehicle_at (array_of cars)) (vehicle_at a) (λ j below.
     let here : j ≡ 0 + j = omega arith in
-    vehicle_at-array_of cars j ∙ ap (standing j) all ∙ ap (λ c. standing c (cars_of a)) here ∙ standing-cars_from 0 j a)
+    vehicle_at-array_of cars j ∙ ap (vehicle_among j) all ∙ ap (λ c. vehicle_among c (cars_of a)) here ∙ vehicle_among-cars_from 0 j a)

@@ -6,8 +6,8 @@ use Rattle.std.proofs.Common.{sym, ap, ◌∙◌, arith, inl, inr}
 use Rattle.std.proofs.lemmas.Bool.{cases_lt, eq-eqb, ne_eqb}
 use Rattle.std.proofs.lemmas.Bool.Decides.{nat_tests}
 use Rattle.std.proofs.lemmas.List.Folds.{list_any_at}
-use Rattle.road_cells.specs.Cars.{Rise, standing, car_of, cell_at}
-use Rattle.road_cells.proofs.CarPlaces.{rise-at, standing-absent, standing-at}
+use Rattle.road_cells.specs.Cars.{AreRising, vehicle_among, car_of, cell_at}
+use Rattle.road_cells.proofs.CarPlaces.{rise-at, vehicle_among-absent, vehicle_among-at}
 use Rattle.road_cells.specs.Gap.{free_before, is_blocked, ArePartedAt}
 use Rattle.road_cells.proofs.FreeCells.{free_before-first, free_before-none}
 use Rattle.road_cells.specs.declared.car.Car.{Car}
@@ -17,8 +17,8 @@ pub cell_at-is : (cars : List Car) (k : ℕ) (car : Car) → ((d : Car) → car 
 cell_at-is cars k car is = ap (λ x. x.cell) (sym (is (car_of 0 (record { number = 0; speed = 0 }))))
 
 -- no car stands between two neighbours
-between : (cars : List Car) (place k : ℕ) → Rise cars → place + 1 < length cars → cell_at cars place < k → k < cell_at cars (place + 1) → is_some (standing k cars) ≡ false
-between cars place k rise next after below = ap is_some (standing-absent cars k apart)
+between : (cars : List Car) (place k : ℕ) → AreRising cars → place + 1 < length cars → cell_at cars place < k → k < cell_at cars (place + 1) → is_some (vehicle_among k cars) ≡ false
+between cars place k rise next after below = ap is_some (vehicle_among-absent cars k apart)
   where
     apart : (i : ℕ) → i < length cars → cell_at cars i ≢ k
     apart i in_list same = elim (cases_lt i (place + 1)) as (λ _. ⊥) [
@@ -33,18 +33,18 @@ between cars place k rise next after below = ap is_some (standing-absent cars k 
     ]
 
 -- the cells up to the next car are free
-pub free_to_next : (cars : List Car) (place n : ℕ) (d : Car) → Rise cars → place + 1 < length cars
-    → free_before (λ c. is_some (standing c cars)) (cell_at cars place + 1) n ≡ min n (cell_at cars (place + 1) - (cell_at cars place + 1))
+pub free_to_next : (cars : List Car) (place n : ℕ) (d : Car) → AreRising cars → place + 1 < length cars
+    → free_before (λ c. is_some (vehicle_among c cars)) (cell_at cars place + 1) n ≡ min n (cell_at cars (place + 1) - (cell_at cars place + 1))
 free_to_next cars place n d rise next =
     let further = rise-at 0 cars place (place + 1) rise (omega arith) next in
-    free_before-first (λ c. is_some (standing c cars)) n (cell_at cars place + 1) (cell_at cars (place + 1)) (omega arith)
+    free_before-first (λ c. is_some (vehicle_among c cars)) n (cell_at cars place + 1) (cell_at cars (place + 1)) (omega arith)
     (λ k le lt. between cars place k rise next (omega arith) lt)
-    (ap is_some (standing-at 0 cars (place + 1) d rise next))
+    (ap is_some (vehicle_among-at 0 cars (place + 1) d rise next))
 
 -- nothing stands in front of the last car
-pub free_to_none : (cars : List Car) (place n : ℕ) → Rise cars → place < length cars → length cars ≤ place + 1
-    → free_before (λ c. is_some (standing c cars)) (cell_at cars place + 1) n ≡ n
-free_to_none cars place n rise here last = free_before-none (λ c. is_some (standing c cars)) n (cell_at cars place + 1) (λ k le lt. ap is_some (standing-absent cars k (apart k le)))
+pub free_to_none : (cars : List Car) (place n : ℕ) → AreRising cars → place < length cars → length cars ≤ place + 1
+    → free_before (λ c. is_some (vehicle_among c cars)) (cell_at cars place + 1) n ≡ n
+free_to_none cars place n rise here last = free_before-none (λ c. is_some (vehicle_among c cars)) n (cell_at cars place + 1) (λ k le lt. ap is_some (vehicle_among-absent cars k (apart k le)))
   where
     apart : (k : ℕ) → cell_at cars place + 1 ≤ k → (i : ℕ) → i < length cars → cell_at cars i ≢ k
     apart k after i in_list same = elim (cases_lt i place) as (λ _. ⊥) [

@@ -7,7 +7,7 @@ use Rattle.std.proofs.lemmas.Bool.{cases_lt}
 use Rattle.std.proofs.lemmas.Bool.Decides.{nat_tests}
 use Rattle.std.proofs.lemmas.List.{get_or_default}
 use Rattle.std.proofs.lemmas.List.Sums.{sum_by-cons}
-use Rattle.road_cells.specs.Cars.{Rise, car_of, cell_at}
+use Rattle.road_cells.specs.Cars.{AreRising, car_of, cell_at}
 use Rattle.road_cells.proofs.CarPlaces.{rise-at}
 use Rattle.road_cells.specs.declared.car.Car.{Car}
 
@@ -29,7 +29,7 @@ count-parted test (car ∷ cars) (suc n) below point =
     omega arith
 
 -- cars in rising cells are parted by a cell
-pub parted_by_cell : (cars : List Car) (cell : ℕ) → Rise cars → IsPartitionedBy (λ car. nat_lt car.cell cell) cars
+pub parted_by_cell : (cars : List Car) (cell : ℕ) → AreRising cars → IsPartitionedBy (λ car. nat_lt car.cell cell) cars
 parted_by_cell cars cell rise i j d le below before = elim (cases_lt i j) as (λ _. nat_lt (slice_index_or cars i d).cell cell ≡ true) [
   | inl lt ↦
       let order = rise-at 0 cars i j rise lt below in

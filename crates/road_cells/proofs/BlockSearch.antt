@@ -8,7 +8,7 @@ use Rattle.std.proofs.lemmas.Bool.{cases_lt}
 use Rattle.std.proofs.lemmas.Bool.Decides.{nat_tests}
 use Rattle.std.proofs.lemmas.List.Sorted.{IsNonDecreasingBy-from_default}
 use Rattle.road_cells.specs.Gap.{is_blocked}
-use Rattle.road_cells.proofs.Ahead.{not_blocked, blocked_at}
+use Rattle.road_cells.proofs.CellsAhead.{not_blocked, blocked_at}
 
 module _ (blocks : List ℕ) (cell : ℕ) (rising : IsNonDecreasing blocks) where
   answers_rise : IsNonDecreasingBy (λ block. ordering_index (nat_cmp block cell)) blocks
