@@ -25,7 +25,7 @@ pub fn passes(input: &StepInput, speeds: &[u8], detector: u32) -> Totals
     requires in_plan { detector < length input.now.plan.detectors }
     ensures { result ≡ passes_at input.now speeds.now detector }
 {
-    input.fits();
+    input.known();
     if !input.settings().watched()[detector as usize] {
         return Totals { cars: 0, speeds: 0 };
     }

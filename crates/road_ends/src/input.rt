@@ -80,12 +80,12 @@ impl StepInput {
     pub fn speeds(&self, alloc: Global) -> Result<Vec<u8>, AllocError>
         ensures { IfOk result (λ new. new.items ≡ input_speeds self.now) }
     {
-        self.fits();
+        self.known();
         speeds(alloc, &self.plan, &self.settings, self.step, &self.road)
     }
 
-    /// That the settings fit the plan, and that all cars stand on the road. It is a fact for proofs: the call does nothing.
-    pub fn fits(&self)
+    /// Tells a proof that the settings fit the plan, and that all cars stand on the road. It does nothing.
+    pub fn known(&self)
         ensures settings { Fits self.now.plan self.now.settings }
         ensures on_road { length self.now.road ≤ self.now.plan.cells }
         ensures within { IsWithinLimits self.now.plan }

@@ -66,7 +66,7 @@ pub fn finish(alloc: Global, input: &StepInput, speeds: &[u8]) -> Result<Road, A
     ensures step { IfOk result (λ later. later ≡ input_next input.now) }
     ensures parts { IfOk result (λ later. later ≡ road_before_exit input.now.plan (array_after_motion_at speeds.now input.now.road)) }
 {
-    input.fits();
+    input.known();
     let moved = moved(alloc, input.road(), speeds)?;
     Ok(leave(input.plan(), moved))
 }

@@ -7,7 +7,7 @@ use Rattle.road_ends.proofs.step.finish.Goals as goal
 pub moved-requires-clause-may : goal.moved-requires-clause-may
 moved-requires-clause-may c =
     let input = c.args.input.now in
-    subst (λ a. MayMove a c.args.speeds.now) (sym c.road.ensures) (subst (MayMove input.road) (sym c.requires) (may_move input.plan input.settings input.step input.road c.fits.ensures.on_road))
+    subst (λ a. MayMove a c.args.speeds.now) (sym c.road.ensures) (subst (MayMove input.road) (sym c.requires) (may_move input.plan input.settings input.step input.road c.known.ensures.on_road))
 
 pub returns-clause-step : goal.returns-clause-step
 returns-clause-step c =
