@@ -3,7 +3,8 @@ ghost use Rattle.std.specs.List.{range_with_len};
 ghost use Rattle.std.specs.List.Sorted.{IsNonDecreasing};
 ghost use Rattle.std.specs.Option.{option_map};
 ghost use Rattle.road_cells.specs.Array.{vehicle_at};
-ghost use Rattle.road_cells.specs.Cars.{AreRising, cars_of, cars_from, car_of, cars_before, array_of, cell_at, vehicle_among};
+ghost use Rattle.road_cells.specs.Cars.{AreRising, cars_of, cars_from, car_of, cars_before, array_of, cell_at};
+ghost use Rattle.road_cells.specs.Cars.{vehicle_among};
 ghost use Rattle.road_cells.specs.Gap.{free_before, free_cells, is_blocked, ArePartedAt};
 
 use crate::OutOfMemory;
@@ -110,8 +111,8 @@ impl Road {
         self.gap_to(place, blocks, reached_blocks(blocks, cell))
     }
 
-    /// The free cells in front of a car, as [`Road::gap`], where it is known how many of the blocked cells are not in front
-    /// of it: the first `reached`. Nothing is searched.
+    /// The free cells in front of a car, as [`Road::gap`], where it is known how many of the blocked cells are not in
+    /// front of it: the first `reached`. Nothing is searched.
     pub fn gap_to(&self, place: usize, blocks: &[u32], reached: usize) -> u8
         requires car { place < length (cars_of self.now) }
         requires rising { IsNonDecreasing blocks.now }
@@ -142,7 +143,8 @@ impl Road {
 fn free_to_car(cars: &[Car], place: usize) -> u8
     requires car { place < length cars.now }
     requires rising { AreRising cars.now }
-    ensures { result ≡ free_before (λ c. is_some (vehicle_among c cars.now)) (cell_at cars.now place + 1) GREATEST_SPEED }
+    ensures { result ≡ free_before (λ c. is_some (vehicle_among c cars.now)) (cell_at cars.now place + 1)
+        GREATEST_SPEED }
 {
     match cars.get(place + 1) {
         Some(next) => free_between(cars[place].cell, next.cell),

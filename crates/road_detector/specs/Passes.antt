@@ -1,5 +1,6 @@
 -- What the detectors count.
-use Rattle.std.specs.Prelude.{ℕ, ◌+◌, ◌-◌, ◌&&◌, Bool, false, List, [], ◌∷◌, length, map, sum, nat_lt, nat_le, slice_index, if◌then◌else◌}
+use Rattle.std.specs.Prelude.{ℕ, ◌+◌, ◌-◌, ◌&&◌, Bool, false, List, [], ◌∷◌, length, map, sum, nat_lt, nat_le}
+use Rattle.std.specs.Prelude.{slice_index, if◌then◌else◌}
 use Rattle.std.specs.List.{filter, slice_index_or, range_with_len}
 use Rattle.road_plan.specs.Plan.{Plan}
 use Rattle.road_cells.specs.Cars.{cars_of}
@@ -37,7 +38,8 @@ no_totals = record { cars = 0; speeds = 0 }
 -- what a detector counts in a step at these speeds: nothing where it is off
 abbrev pub passes_at : StepInput → List ℕ → ℕ → Totals
 passes_at input speeds d =
-    if slice_index_or input.settings.watched d false then totals_of (slice_index input.plan.detectors d) (drives (cars_of input.road) speeds) else no_totals
+    if slice_index_or input.settings.watched d false
+    then totals_of (slice_index input.plan.detectors d) (drives (cars_of input.road) speeds) else no_totals
 
 -- what a detector counts in step t of a run
 abbrev pub passes : Plan → Course → ℕ → ℕ → Totals

@@ -10,8 +10,9 @@ use road_cells::{Car, Road};
 use road_ends::{BLOCKED, EMPTY, STANDING};
 use std::alloc::{AllocError, Global};
 
-/// The road as a row of text, with one letter for each of its `length` cells: a car's speed as a digit, else `#` where the
-/// cell is blocked, else `.`. A speed above 9 would have no digit. Blocked cells and cars at or past `length` are not drawn.
+/// The road as a row of text, with one letter for each of its `length` cells: a car's speed as a digit, else `#` where
+/// the cell is blocked, else `.`. A speed above 9 would have no digit. Blocked cells and cars at or past `length` are
+/// not drawn.
 ///
 /// It goes over the blocked cells once, in whatever order they are, and over the cars once, in one growth.
 ///
@@ -36,7 +37,8 @@ pub fn row_text(
 // A row with the blocked cells marked.
 fn with_blocks(mut row: Vec<u8>, blocks: &[u32]) -> Vec<u8>
     ensures same_length { length result.items ≡ length row.items }
-    ensures marked { (c : ℕ) → c < length row.items → slice_index result.items c ≡ with_block (is_blocked blocks.now c) (slice_index row.items c) }
+    ensures marked { (c : ℕ) → c < length row.items
+        → slice_index result.items c ≡ with_block (is_blocked blocks.now c) (slice_index row.items c) }
 {
     for block in blocks {
         if (*block as usize) < row.len() {
@@ -51,7 +53,8 @@ fn with_cars(mut row: Vec<u8>, cars: &[Car]) -> Vec<u8>
     requires rise { AreRising cars.now }
     requires digits { HaveDigits cars.now }
     ensures same_length { length result.items ≡ length row.items }
-    ensures marked { (c : ℕ) → c < length row.items → slice_index result.items c ≡ with_car (vehicle_among c cars.now) (slice_index row.items c) }
+    ensures marked { (c : ℕ) → c < length row.items
+        → slice_index result.items c ≡ with_car (vehicle_among c cars.now) (slice_index row.items c) }
 {
     for car in cars {
         if (car.cell as usize) < row.len() {

@@ -22,12 +22,14 @@ inlet_stream i = 2 ^ 63 + i
 
 -- whether inlet i, at cell c, lets a car in at step t: its cell is not blocked, and its word has its event
 abbrev pub is_admitting : Plan → Settings → ℕ → ℕ → ℕ → Bool
-is_admitting p s t c i = not (is_blocked s.blocks c) && has_event (word p.words (inlet_stream i) t) (slice_index s.inflows i)
+is_admitting p s t c i = not (is_blocked s.blocks c)
+    && has_event (word p.words (inlet_stream i) t) (slice_index s.inflows i)
 
 -- the car that inlet i lets in
 abbrev pub admitted_car : Plan → Settings → ℕ → ℕ → Option ℕ → Option Vehicle
 admitted_car p s t c None = None
-admitted_car p s t c (Some i) = if is_admitting p s t c i then Some (record { number = car_number t i; speed = 0 }) else None
+admitted_car p s t c (Some i) = if is_admitting p s t c i then Some (record { number = car_number t i; speed = 0 })
+    else None
 
 -- the car that wants to enter at cell c, where that is an inlet's
 abbrev pub entry_at : Plan → Settings → ℕ → ℕ → Option Vehicle

@@ -29,7 +29,8 @@ KeepBelowGreatestSpeed p s t a = (c : ℕ) (car : Vehicle) → speed p s t a c c
 
 -- a car stays behind the cell of the next one: no two cars share a cell, and none passes through another
 abbrev pub NeverCollide : StepLaw
-NeverCollide p s t a = (c d : ℕ) (x y : Vehicle) → vehicle_at a c ≡ Some x → vehicle_at a d ≡ Some y → c < d → target p s t a c x < d
+NeverCollide p s t a = (c d : ℕ) (x y : Vehicle) → vehicle_at a c ≡ Some x → vehicle_at a d ≡ Some y → c < d
+    → target p s t a c x < d
 
 -- at most one car comes to a cell
 abbrev pub ArriveAlone : StepLaw
@@ -43,7 +44,8 @@ KeepOrder p s t a = (c d : ℕ) (x y : Vehicle) → vehicle_at a c ≡ Some x �
 
 -- under settings that fit the plan no car drives onto a blocked cell or past it
 abbrev pub StopAtBlocks : StepLaw
-StopAtBlocks p s t a = Fits p s → (c j : ℕ) (x : Vehicle) → vehicle_at a c ≡ Some x → is_blocked s.blocks j ≡ true → c < j
+StopAtBlocks p s t a = Fits p s → (c j : ℕ) (x : Vehicle) → vehicle_at a c ≡ Some x → is_blocked s.blocks j ≡ true
+    → c < j
     → target p s t a c x < j
 
 -- no number is on the road twice
@@ -60,8 +62,10 @@ pub record IsOnRoad (p : Plan) (t c : ℕ) (car : Vehicle) : Type 0 where
 
 -- each car of a run is so on the road
 abbrev pub StayOnRoad : Plan → Type 0
-StayOnRoad p = (course : Course) (t c : ℕ) (car : Vehicle) → vehicle_at (run p course t) c ≡ Some car → IsOnRoad p t c car
+StayOnRoad p = (course : Course) (t c : ℕ) (car : Vehicle) → vehicle_at (run p course t) c ≡ Some car
+    → IsOnRoad p t c car
 
 -- locality: courses of settings that agree below step s give the same run up to s
 abbrev pub DependOnEarlierSettings : Plan → Type 0
-DependOnEarlierSettings p = (f g : Course) (s : ℕ) → ((u : ℕ) → u < s → f u ≡ g u) → (t : ℕ) → t ≤ s → run p f t ≡ run p g t
+DependOnEarlierSettings p = (f g : Course) (s : ℕ) → ((u : ℕ) → u < s → f u ≡ g u) → (t : ℕ) → t ≤ s
+    → run p f t ≡ run p g t

@@ -17,13 +17,15 @@ first_some f (c ∷ cs) = option_or (f c) (first_some f cs)
 -- what stands at c where it comes to j at a speed, at that speed
 abbrev pub arrival_from : ℕ → ℕ → (Vehicle → ℕ) → Option Vehicle → Option Vehicle
 arrival_from j c speed None = None
-arrival_from j c speed (Some v) = if c + speed v == j then Some (record { number = v.number; speed = speed v }) else None
+arrival_from j c speed (Some v) = if c + speed v == j then Some (record { number = v.number; speed = speed v })
+    else None
 
 -- the vehicle of the cell c with c + its speed = j, at its new speed
 abbrev pub arrival_at : (ℕ → Vehicle → ℕ) → Array → ℕ → Option Vehicle
 arrival_at speed a j = first_some (λ c. arrival_from j c (speed c) (vehicle_at a c)) (range_with_len 0 (length a))
 
--- motion: place j holds the vehicle that arrives there, else it is empty; at the greatest speed at most, none arrives farther on
+-- motion: place j holds the vehicle that arrives there, else it is empty; at the greatest speed at most, none arrives
+-- farther on
 abbrev pub array_after_motion : (ℕ → Vehicle → ℕ) → Array → Array
 array_after_motion speed a = array (length a + GREATEST_SPEED) (arrival_at speed a)
 
@@ -39,7 +41,8 @@ array_after_motion_at speeds a = array_after_motion (λ c v. speed_at a speeds c
 pub record MayMove (a : Array) (speeds : List ℕ) : Type 0 where
   pub one_each : length speeds ≡ length (cars_of a)
   pub slow_enough : All (λ v. v ≤ GREATEST_SPEED) speeds
-  pub apart : (k : ℕ) → k + 1 < length speeds → cell_at (cars_of a) k + slice_index speeds k < cell_at (cars_of a) (k + 1)
+  pub apart : (k : ℕ) → k + 1 < length speeds
+      → cell_at (cars_of a) k + slice_index speeds k < cell_at (cars_of a) (k + 1)
 
 -- a car at a new speed, that many cells further on
 abbrev pub car_after_motion : ℕ → Car → Car

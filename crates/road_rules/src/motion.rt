@@ -8,7 +8,8 @@ use std::alloc::Global;
 
 /// Rule 4 of 1992, motion: all cars advance at once, each by as many cells as its new speed.
 ///
-/// `speeds` has one speed for each car, in the order of [`Road::cars`], each at most 9 and at most the free cells before
+/// `speeds` has one speed for each car, in the order of [`Road::cars`], each at most 9 and at most the free cells
+/// before
 /// the next car. No cell is above 65,535. Cars past the end of a road are not taken off. It is one pass in one growth,
 /// and none where no car is on the road.
 ///

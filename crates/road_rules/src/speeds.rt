@@ -1,8 +1,8 @@
 ghost use Rattle.std.specs.Prelude.{◌≡◌, ◌-◌, ◌<◌, ◌≤◌};
 ghost use Rattle.road_rules.specs.Speeds.{wanted, speed_after_acceleration, speed_after_braking, has_event, slowed};
 
-/// Rules 1 and 2 as one: the speed grows by one, but neither above the limit nor above the free cells in front, so it is
-/// the least of `speed + 1`, `limit` and `gap`. A car above a lowered limit drops to it at once.
+/// Rules 1 and 2 as one: the speed grows by one, but neither above the limit nor above the free cells in front, so it
+/// is the least of `speed + 1`, `limit` and `gap`. A car above a lowered limit drops to it at once.
 ///
 /// `speed` and `limit` are in cells per step, `gap` is in cells (`road_cells::Road::gap`).
 pub fn wanted(speed: u8, limit: u32, gap: u8) -> u8

@@ -13,8 +13,8 @@ pub trait Crew {
     /// How often it has answered `WorkersGone`, at most 2^64 - 1. Contracts alone see this count.
     ghost gone: { Self → ℕ };
 
-    /// The new speeds of all cars of a step, in their order, by rules 1 to 3. They are the same for every crew and every
-    /// number of workers.
+    /// The new speeds of all cars of a step, in their order, by rules 1 to 3. They are the same for every crew and
+    /// every number of workers.
     ///
     /// # Errors
     ///
