@@ -10,6 +10,7 @@ use Rattle.road_cells.specs.declared.car.Car.{Car}
 abbrev pub vehicle_of : Car → Vehicle
 vehicle_of car = record { number = car.number; speed = car.speed }
 
+-- the car that a vehicle at cell c is
 abbrev pub car_of : ℕ → Vehicle → Car
 car_of c v = record { number = v.number; cell = c; speed = v.speed }
 
@@ -36,6 +37,7 @@ abbrev pub AreRisingFrom : ℕ → List Car → Type 0
 AreRisingFrom k [] = Unit {0}
 AreRisingFrom k (car ∷ cars) = (k ≤ car.cell) × AreRisingFrom (car.cell + 1) cars
 
+-- the cells of cars strictly rise
 abbrev pub AreRising : List Car → Type 0
 AreRising cars = AreRisingFrom 0 cars
 

@@ -32,6 +32,7 @@ passing_speeds site xs = map (λ x. x.speed) (filter (is_passing site) xs)
 abbrev pub totals_of : ℕ → List Drive → Totals
 totals_of site xs = record { cars = length (passing_speeds site xs); speeds = sum (passing_speeds site xs) }
 
+-- no car, no speed
 abbrev pub no_totals : Totals
 no_totals = record { cars = 0; speeds = 0 }
 
@@ -49,6 +50,7 @@ passes p course d t = let input = input_of p (course t) t (run p course t) in pa
 abbrev pub plus : Totals → Totals → Totals
 plus x y = record { cars = x.cars + y.cars; speeds = x.speeds + y.speeds }
 
+-- the totals of a list of totals
 abbrev pub sum_of_totals : List Totals → Totals
 sum_of_totals [] = no_totals
 sum_of_totals (x ∷ xs) = plus x (sum_of_totals xs)

@@ -85,16 +85,19 @@ refusal_of edit_faults.Count = refusals.CountsSpent
 
 -- ---- the events that commands add: a refused one adds none
 
+-- the edit is made, unless it has a fault
 abbrev pub unless_faulty : Option EditFault → ℕ → Edit → Option Event
 unless_faulty (Some fault) r edit = None
 unless_faulty None r edit = Some (record { replica = r; deed = Made edit })
 
+-- an edit with a value at the replica of a name, if there is one
 abbrev pub edit_event : (ℕ → Replica) → Plan → Object → ℕ → Value → Option ℕ → Option Event
 edit_event replica plan object step value None = None
 edit_event replica plan object step value (Some r) =
     let edit = local_edit r (replica r).edits object step value in
     unless_faulty (fault_of plan edit) r edit
 
+-- an advance of the replica of a name, if there is one, where the step is no greater than the greatest horizon
 abbrev pub advance_event : ℕ → Option ℕ → Option Event
 advance_event to None = None
 advance_event to (Some r) = if nat_lt GREATEST_HORIZON to then None else Some (record { replica = r; deed = Advanced to })
@@ -120,6 +123,7 @@ row_at plan edits step = row plan (settings_of plan edits) step
 abbrev pub rows_at : Plan → Edits → ℕ → ℕ → List (List ℕ)
 rows_at plan edits from to = map (row_at plan edits) (range_with_len from (suc to - from))
 
+-- an edit is answered its stamp, a faulty one its refusal
 abbrev pub fault_or_stamp : Option EditFault → Edit → Answer
 fault_or_stamp (Some fault) edit = Refused (refusal_of fault)
 fault_or_stamp None edit = Stamped edit.stamp
@@ -152,6 +156,7 @@ cars_answer replica plan step None = Refused refusals.NoReplica
 cars_answer replica plan step (Some r) =
     if nat_lt (replica r).horizon step then Refused refusals.NotSimulated else replies.Cars (cars_at plan (replica r).edits step)
 
+-- what was counted, as an answer
 abbrev pub counted_as : Totals → Answer
 counted_as totals = replies.Counted totals.cars totals.speeds
 
@@ -197,9 +202,11 @@ answer_by replica line (commands.Scenario name) = scenario_answer replica (repli
 
 -- ---- commands after events
 
+-- what a command is answered after these events
 abbrev pub answer_to : PlanLine → List Event → Command → Answer
 answer_to line events command = answer_by (replica_after events) line command
 
+-- an event more, if there is one
 abbrev pub with_event : List Event → Option Event → List Event
 with_event events None = events
 with_event events (Some event) = event ∷ events
