@@ -4,6 +4,7 @@ use Rattle.std.specs.List.{range_with_len}
 use Rattle.std.specs.declared.option.Option.{Option}
 use Rattle.std.specs.declared.option.Option.TheVariants.{None, Some}
 use Rattle.std.proofs.Common.{sym, ap, ◌∙◌, inl, inr, arith}
+use Rattle.std.proofs.lemmas.List.FromFn.{length-map-range_with_len}
 use Rattle.std.proofs.lemmas.Bool.{cases_lt}
 use Rattle.road_cells.specs.Array.{Array, Vehicle, vehicle_at, array, array_of_places, array_behind}
 
@@ -67,13 +68,9 @@ length-array_of_places : (xs : List (Option Vehicle)) → length (array_of_place
 length-array_of_places [] = omega arith
 length-array_of_places (x ∷ xs) = let rest = length-array_of_places xs in let all = length-before x (array_of_places xs) in omega arith
 
-length-range_with_len : (f : ℕ → Option Vehicle) (n a : ℕ) → length (map f (range_with_len a n)) ≡ n
-length-range_with_len f zero a = refl
-length-range_with_len f (suc n) a = ap suc (length-range_with_len f n (a + 1))
-
 -- no array is longer than its bound
 pub length-array : (n : ℕ) (f : ℕ → Option Vehicle) → length (array n f) ≤ n
-length-array n f = let all = length-array_of_places (map f (range_with_len 0 n)) in let is = length-range_with_len f n 0 in omega arith
+length-array n f = let all = length-array_of_places (map f (range_with_len 0 n)) in let is = length-map-range_with_len f 0 n in omega arith
 
 -- nothing stands past the end
 pub past_end : (a : Array) (j : ℕ) → length a ≤ j → vehicle_at a j ≡ None

@@ -5,6 +5,7 @@ use Rattle.std.specs.Option.{option_or}
 use Rattle.std.specs.declared.option.Option.{Option}
 use Rattle.std.specs.declared.option.Option.TheVariants.{None, Some}
 use Rattle.std.proofs.Common.{sym, ap, ◌∙◌, arith, append_assoc}
+use Rattle.std.proofs.lemmas.List.FromFn.{length-map-range_with_len}
 use Rattle.std.proofs.lemmas.Bool.Decides.{nat_tests}
 use Rattle.std.proofs.lemmas.List.{map-append}
 use Rattle.std.proofs.lemmas.List.Quantifiers.{position-Some}
@@ -53,10 +54,6 @@ cars_from-append k (suc m) (Some v ∷ xs) ys is =
     let next : (k + 1) + m ≡ k + suc m = omega arith in
     ap (λ cars. car_of k v ∷ cars) (cars_from-append (k + 1) m xs ys (omega arith) ∙ ap (λ j. cars_from (k + 1) xs ++ cars_from j ys) next)
 
-length-range_with_len : (f : ℕ → Option Vehicle) (n a : ℕ) → length (map f (range_with_len a n)) ≡ n
-length-range_with_len f zero a = refl
-length-range_with_len f (suc n) a = ap suc (length-range_with_len f n (a + 1))
-
 same_on : (f g : ℕ → Option Vehicle) (n a : ℕ) → ((c : ℕ) → a ≤ c → c < a + n → f c ≡ g c) → map f (range_with_len a n) ≡ map g (range_with_len a n)
 same_on f g zero a same = refl
 same_on f g (suc n) a same = λ i. same a (omega arith) (omega arith) i ∷ same_on f g n (a + 1) (λ c le lt. same c (omega arith) (omega arith)) i
@@ -73,7 +70,7 @@ module _ (f g : ℕ → Option Vehicle) (n : ℕ) where
       ap (λ k. cars_from cell (map f (range_with_len cell k))) parts
       ∙ ap (λ xs. cars_from cell (map f xs)) (range_with_len-append cell (to - cell) (n - to))
       ∙ ap (cars_from cell) (map-append f (range_with_len cell (to - cell)) (range_with_len (cell + (to - cell)) (n - to)))
-      ∙ cars_from-append cell (to - cell) (map f (range_with_len cell (to - cell))) (map f (range_with_len (cell + (to - cell)) (n - to))) (length-range_with_len f (to - cell) cell)
+      ∙ cars_from-append cell (to - cell) (map f (range_with_len cell (to - cell))) (map f (range_with_len (cell + (to - cell)) (n - to))) (length-map-range_with_len f cell (to - cell))
       ∙ (λ i. cars_from cell (same_on f g (to - cell) cell (λ c low high. same c low (omega arith)) i) ++ cars_from (far i) (map f (range_with_len (far i) (n - to)))) in
       ap (λ cars. cars ++ cars_from to (map f (range_with_len to (n - to)))) new
       ∙ append_assoc done (cars_from cell (map g (range_with_len cell (to - cell)))) (cars_from to (map f (range_with_len to (n - to))))

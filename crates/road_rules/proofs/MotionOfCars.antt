@@ -1,18 +1,17 @@
 -- The motion of an array is that of the list of its cars.
-use Rattle.std.specs.Prelude.{◌≡◌, ℕ, zero, suc, ◌+◌, ◌<◌, ◌≤◌, ◌==◌, max, true, false, cond, if◌then◌else◌, List, [], ◌∷◌, map, length, slice_index, nat_lt, refl}
-use Rattle.std.specs.List.{count_by, range_with_len}
+use Rattle.std.specs.Prelude.{◌≡◌, ℕ, zero, suc, ◌+◌, ◌<◌, ◌≤◌, ◌==◌, max, true, false, cond, if◌then◌else◌, List, [], ◌∷◌, map, length, slice_index, refl}
+use Rattle.std.specs.List.{range_with_len}
 use Rattle.std.specs.Option.{option_or}
 use Rattle.std.specs.declared.option.Option.{Option}
 use Rattle.std.specs.declared.option.Option.TheVariants.{None, Some}
 use Rattle.std.proofs.Common.{sym, ap, ◌∙◌, arith, inl, inr}
-use Rattle.std.proofs.lemmas.Bool.{cases_lt, le-ltb, lt-ltb}
+use Rattle.std.proofs.lemmas.Bool.{cases_lt}
 use Rattle.std.proofs.lemmas.List.{length-map}
-use Rattle.std.proofs.lemmas.List.Sums.{sum_by-cons}
 use Rattle.road_cells.specs.Array.{Array, Vehicle, vehicle_at, array}
 use Rattle.road_cells.proofs.ArrayPlaces.{vehicle_at-array, past_array, array-same}
 use Rattle.road_cells.specs.Cars.{cars_from, cars_of, cell_at, vehicle_of, AreRisingFrom, AreRising, vehicle_among, end_of, array_of}
 use Rattle.road_cells.proofs.CarLists.{vehicle_at-array_of, vehicle_among-past, rise-cars_from}
-use Rattle.road_cells.proofs.CarPlaces.{rise-from}
+use Rattle.road_cells.proofs.CarsBefore.{before-cell_at}
 use Rattle.road_cells.specs.declared.car.Car.{Car}
 use Rattle.road_cells.specs.declared.car.TheConstants.{GREATEST_SPEED}
 use Rattle.road_rules.specs.Motion.{car_after_motion, cars_after_motion, first_some, arrival_from, arrival_at, array_after_motion, speed_at, array_after_motion_at, MayMove}
@@ -84,37 +83,6 @@ arrival_at-vehicle_among speed a j =
 
 -- ---- the speed of a car is that of its place in the list
 
--- the cars before c, one by one
-count-step : (c : ℕ) (car : Car) (cars : List Car) → count_by (λ x. nat_lt x.cell c) (car ∷ cars) ≡ cond (nat_lt car.cell c) 1 0 + count_by (λ x. nat_lt x.cell c) cars
-count-step c car cars = sum_by-cons (λ x. cond (nat_lt x.cell c) 1 0) car cars
-
--- a car that is not before c does not count
-count-out : (c : ℕ) (car : Car) (cars : List Car) → nat_lt car.cell c ≡ false → count_by (λ x. nat_lt x.cell c) (car ∷ cars) ≡ count_by (λ x. nat_lt x.cell c) cars
-count-out c car cars out =
-    let rest : 0 + count_by (λ x. nat_lt x.cell c) cars ≡ count_by (λ x. nat_lt x.cell c) cars = omega arith in
-    count-step c car cars ∙ ap (λ b. cond {A = ℕ} b 1 0 + count_by (λ x. nat_lt x.cell c) cars) out ∙ rest
-
--- a car that is before c counts
-count-in : (c : ℕ) (car : Car) (cars : List Car) → nat_lt car.cell c ≡ true → count_by (λ x. nat_lt x.cell c) (car ∷ cars) ≡ 1 + count_by (λ x. nat_lt x.cell c) cars
-count-in c car cars before = count-step c car cars ∙ ap (λ b. cond {A = ℕ} b 1 0 + count_by (λ x. nat_lt x.cell c) cars) before
-
--- of cars that rise from c on none counts
-count-none : (c k : ℕ) (cars : List Car) → c ≤ k → AreRisingFrom k cars → count_by (λ x. nat_lt x.cell c) cars ≡ 0
-count-none c k [] le rise = refl
-count-none c k (car ∷ cars) le rise =
-    let from : k ≤ car.cell = rise.0 in
-    count-out c car cars (le-ltb car.cell c (omega arith)) ∙ count-none c (car.cell + 1) cars (omega arith) rise.1
-
--- as many cars stand before the k-th car as there are before it in the list
-pub count-before : (m : ℕ) (cars : List Car) (k : ℕ) → AreRisingFrom m cars → k < length cars → count_by (λ x. nat_lt x.cell (cell_at cars k)) cars ≡ k
-count-before m [] k rise below = absurd (omega arith)
-count-before m (car ∷ cars) zero rise below = count-none car.cell car.cell (car ∷ cars) (omega arith) ((omega arith), rise.1)
-count-before m (car ∷ cars) (suc k) rise below =
-    let further = rise-from (car.cell + 1) cars k rise.1 (omega arith) in
-    let rest = count-before (car.cell + 1) cars k rise.1 (omega arith) in
-    let both : 1 + count_by (λ x. nat_lt x.cell (cell_at cars k)) cars ≡ suc k = omega arith in
-    count-in (cell_at cars k) car cars (lt-ltb car.cell (cell_at cars k) (omega arith)) ∙ both
-
 -- where a function gives each car the speed of its place
 pub advanced-at : (cars : List Car) (speeds : List ℕ) (f : ℕ → ℕ) → length speeds ≡ length cars → ((k : ℕ) → k < length cars → f (cell_at cars k) ≡ slice_index speeds k) → cars_driven (λ c v. f c) cars ≡ cars_after_motion speeds cars
 advanced-at [] [] f long is = refl
@@ -125,7 +93,7 @@ advanced-at (car ∷ cars) (v ∷ speeds) f long is = λ i. car_after_motion (is
 -- the cars after motion at speeds in their order
 pub advanced-speed_at : (a : Array) (speeds : List ℕ) → length speeds ≡ length (cars_of a) → cars_driven (λ c v. speed_at a speeds c) (cars_of a) ≡ cars_after_motion speeds (cars_of a)
 advanced-speed_at a speeds long =
-    advanced-at (cars_of a) speeds (speed_at a speeds) long (λ k below. ap (slice_index speeds) (count-before 0 (cars_of a) k (rise-cars_from 0 a) below))
+    advanced-at (cars_of a) speeds (speed_at a speeds) long (λ k below. ap (slice_index speeds) (before-cell_at 0 (cars_of a) k (rise-cars_from 0 a) below))
 
 -- speeds that a function gives, listed in the order of the cars
 advanced-listed : (speed : ℕ → Vehicle → ℕ) (cars : List Car) → cars_after_motion (map (λ car. speed car.cell (vehicle_of car)) cars) cars ≡ cars_driven speed cars

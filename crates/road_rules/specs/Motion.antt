@@ -1,11 +1,11 @@
 -- Rule 4: each vehicle advances by its speed (Nagel and Schreckenberg 1992).
-use Rattle.std.specs.Prelude.{◌≡◌, ℕ, ◌+◌, ◌<◌, ◌≤◌, ◌==◌, List, [], ◌∷◌, length, slice_index, nat_lt, if◌then◌else◌}
-use Rattle.std.specs.List.{All, count_by, range_with_len}
+use Rattle.std.specs.Prelude.{◌≡◌, ℕ, ◌+◌, ◌<◌, ◌≤◌, ◌==◌, List, [], ◌∷◌, length, slice_index, if◌then◌else◌}
+use Rattle.std.specs.List.{All, range_with_len}
 use Rattle.std.specs.Option.{option_or}
 use Rattle.std.specs.declared.option.Option.{Option}
 use Rattle.std.specs.declared.option.Option.TheVariants.{None, Some}
 use Rattle.road_cells.specs.Array.{Array, Vehicle, vehicle_at, array}
-use Rattle.road_cells.specs.Cars.{cars_of, cell_at}
+use Rattle.road_cells.specs.Cars.{cars_of, cell_at, cars_before}
 use Rattle.road_cells.specs.declared.car.Car.{Car}
 use Rattle.road_cells.specs.declared.car.TheConstants.{GREATEST_SPEED}
 
@@ -31,7 +31,7 @@ array_after_motion speed a = array (length a + GREATEST_SPEED) (arrival_at speed
 
 -- speeds in the order of the cars: that of the vehicle at c is behind as many as there are cars before c
 abbrev pub speed_at : Array → List ℕ → ℕ → ℕ
-speed_at a speeds c = slice_index speeds (count_by (λ car. nat_lt car.cell c) (cars_of a))
+speed_at a speeds c = slice_index speeds (cars_before c (cars_of a))
 
 -- motion at these speeds
 abbrev pub array_after_motion_at : List ℕ → Array → Array
