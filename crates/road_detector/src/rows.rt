@@ -6,9 +6,10 @@ ghost use Rattle.road_ends.specs.Row.{row_of};
 ghost use Rattle.road_detector.specs.Rows.{HaveDigits};
 ghost use Rattle.road_detector.specs.Private.MarkedRows.{with_block, with_car};
 
+use crate::OutOfMemory;
 use road_cells::{Car, Road};
 use road_ends::{BLOCKED, EMPTY, STANDING};
-use std::alloc::{AllocError, Global};
+use std::alloc::Global;
 
 /// The road as a row of text, with one letter for each of its `length` cells: a car's speed as a digit, else `#` where
 /// the cell is blocked, else `.`. A speed above 9 would have no digit. Blocked cells and cars at or past `length` are
@@ -24,7 +25,7 @@ pub fn row_text(
     road: &Road,
     blocks: &[u32],
     length: u32,
-) -> Result<String, AllocError>
+) -> Result<String, OutOfMemory>
     requires { HaveDigits (cars_of road.now) }
     ensures { IfOk result (λ text. string_bytes text ≡ row_of length blocks.now road.now) }
 {

@@ -1,4 +1,19 @@
 //! Crews: who computes the speeds of a step. Whoever it is, and with however many workers, the speeds are the same.
+//!
+//! ```
+//! // One step of a road, its speeds computed by a crew. Its contract asks that the settings fit the plan.
+//! fn next<C: Crew>(
+//!     alloc: Global,
+//!     plan: &Arc<Plan>,
+//!     settings: Settings,
+//!     road: &Road,
+//!     crew: &mut C,
+//! ) -> Result<Road, CrewFault> {
+//!     let input = enter(alloc, plan, settings, 0, road)?;
+//!     let speeds = crew.speeds(alloc, &input)?;
+//!     Ok(finish(alloc, &input, &speeds)?)
+//! }
+//! ```
 #![tactic(auto)]
 
 mod alone;
