@@ -1,4 +1,4 @@
-ghost use Rattle.std.specs.Prelude.{◌≡◌, ◌↔◌, [], IfOk, IfSome, IsTrue, T};
+ghost use Rattle.std.specs.Prelude.{◌≡◌, ◌↔◌, [], IfOk, IfSome, IsOk, IsTrue, T};
 ghost use Rattle.std.specs.Option.{option_copied};
 ghost use Rattle.std.specs.FinMap.Entries.{find, is_sorted, put};
 ghost use Rattle.std.specs.Map.{keys_of};
@@ -105,7 +105,8 @@ impl<K: Exact, V: Lattice> LatMap<K, V> {
 
     // The entries of this map, each joined with what the other one has at its key.
     fn joined_entries(&self, other: &Self) -> Result<BTreeMap<K, V>, OutOfMemory>
-        ensures { IfOk result (λ map. map.entries ≡ joined_entries K.cmp V.join other.now self.now) }
+        ensures made { IfOk result (λ map. map.entries ≡ joined_entries K.cmp V.join other.now self.now) }
+        ensures grows_nothing { self.now ≡ [] → IsOk result }
     {
         let mut map = BTreeMap::new(self.alloc);
         for (key, value) in &self.map {
@@ -116,7 +117,8 @@ impl<K: Exact, V: Lattice> LatMap<K, V> {
 
     // Copies the entries whose keys the map lacks into it.
     fn fill(&self, map: &mut BTreeMap<K, V>) -> Result<(), OutOfMemory>
-        ensures { IfOk result (λ _. map.new.entries ≡ left_union K.cmp map.old.entries self.now) }
+        ensures made { IfOk result (λ _. map.new.entries ≡ left_union K.cmp map.old.entries self.now) }
+        ensures grows_nothing { self.now ≡ [] → IsOk result }
     {
         for (key, value) in &self.map {
             if !map.contains_key(key) {
@@ -139,7 +141,11 @@ impl<K: Exact, V: Lattice> Lattice for LatMap<K, V> {
 
     ghost laws = { map_laws K.cmp K.total K.exact V.is_proper V.join V.is_least V.laws };
 
-    fn joined(&self, other: &Self) -> Result<Self, OutOfMemory> {
+    /// The join key by key. It takes no memory where neither map has an entry.
+    fn joined(&self, other: &Self) -> Result<Self, OutOfMemory>
+        ensures made { IfOk result (λ joined. joined ≡ map_join K.cmp V.join V.is_least self.now other.now) }
+        ensures grows_nothing { self.now ≡ [] → other.now ≡ [] → IsOk result }
+    {
         self.known();
         other.known();
         let mut map = self.joined_entries(other)?;
@@ -150,7 +156,11 @@ impl<K: Exact, V: Lattice> Lattice for LatMap<K, V> {
         })
     }
 
-    fn copied(&self) -> Result<Self, OutOfMemory> {
+    /// A copy of each entry. It takes no memory where there is none.
+    fn copied(&self) -> Result<Self, OutOfMemory>
+        ensures made { IfOk result (λ copy. copy ≡ self.now) }
+        ensures grows_nothing { self.now ≡ [] → IsOk result }
+    {
         let mut map = BTreeMap::new(self.alloc);
         for (key, value) in &self.map {
             put_in(&mut map, *key, value.copied()?)?;

@@ -98,7 +98,7 @@ faultless p = (within, none)
           few_detectors = detectors.0;
           sites_after_start = λ k d i. (detectors.1 k d i).0;
           sites_before_exit = λ k d i. (detectors.1 k d i).1;
-          limits_allowed = λ k d i. (defaults.0 k d i).0;
+          speed_limits_allowed = λ k d i. (defaults.0 k d i).0;
           chances_allowed = λ k d i. (defaults.0 k d i).1;
           inflows_allowed = defaults.1;
         }
@@ -115,7 +115,7 @@ faultless p = (within, none)
                 (inlets_test p).1 (((w.some_inlet, w.few_inlets), w.inlets_before_exit), w.inlets_apart),
                 (passed (has_detectors p) _ _).1 (
                   (detectors_test p).1 (w.few_detectors, λ k d i. (w.sites_after_start k d i, w.sites_before_exit k d i)),
-                  (passed (has_defaults p) _ _).1 ((defaults_test p).1 (λ k d i. (w.limits_allowed k d i, w.chances_allowed k d i), w.inflows_allowed), refl),
+                  (passed (has_defaults p) _ _).1 ((defaults_test p).1 (λ k d i. (w.speed_limits_allowed k d i, w.chances_allowed k d i), w.inflows_allowed), refl),
                 ),
               ),
             ),

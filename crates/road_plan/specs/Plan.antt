@@ -58,6 +58,6 @@ pub record IsWithinLimits (p : Plan) : Type 0 where
   pub few_detectors : length p.detectors ≤ MOST_DETECTORS
   pub sites_after_start : All (λ site. 0 < site) p.detectors
   pub sites_before_exit : All (λ site. site < road_end p) p.detectors
-  pub limits_allowed : All (λ zone. zone.0 ≤ GREATEST_LIMIT) p.zones
+  pub speed_limits_allowed : All (λ zone. zone.0 ≤ GREATEST_LIMIT) p.zones
   pub chances_allowed : All (λ zone. zone.1 ≤ CERTAIN) p.zones
   pub inflows_allowed : All (λ inlet. inlet.1 ≤ CERTAIN) p.inlets

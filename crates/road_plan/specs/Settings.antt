@@ -17,8 +17,8 @@ pub record Settings : Type 0 where
 -- settings fit a plan where they have one allowed number for each of its zones, inlets and detectors, and the blocked
 -- cells rise and are on its road
 pub record Fits (p : Plan) (s : Settings) : Type 0 where
-  pub limit_each : length s.limits ≡ length p.zones
-  pub limits_allowed : All (λ limit. limit ≤ GREATEST_LIMIT) s.limits
+  pub speed_limit_each : length s.limits ≡ length p.zones
+  pub speed_limits_allowed : All (λ limit. limit ≤ GREATEST_LIMIT) s.limits
   pub chance_each : length s.chances ≡ length p.zones
   pub chances_allowed : All (λ chance. chance ≤ CERTAIN) s.chances
   pub inflow_each : length s.inflows ≡ length p.inlets

@@ -17,7 +17,7 @@ offset_bounds-limits-cursor c =
 pub bounds-limits-cursor : goal.bounds-limits-cursor
 bounds-limits-cursor c =
     let within = zone_in_plan c.args.plan.now c.args.road.now (cars_of c.args.road.now) c.args.place c.args.plan.now.width c.known.ensures c.requires.on_road c.requires.car refl refl in
-    let each = c.requires.fits.limit_each in
+    let each = c.requires.fits.speed_limit_each in
     let zone = c.requires.at.in_zone in
     rw c.limits.ensures (omega arith)
 
