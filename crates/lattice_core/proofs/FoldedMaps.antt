@@ -1,5 +1,6 @@
 -- A map read as the join of what its entries give: the join of two maps gives the join of what the two give.
 use Rattle.std.specs.Prelude.{◌≡◌, Bool, true, false, cond, T, List, [], ◌∷◌, refl, ◌&&◌}
+use Rattle.std.specs.List.{AllByRecursion}
 use Rattle.std.specs.declared.cmp.Ordering.{Ordering}
 use Rattle.std.specs.declared.cmp.Ordering.TheVariants.{Less, Equal, Greater}
 use Rattle.std.specs.declared.option.Option.TheVariants.{None, Some}
@@ -9,8 +10,8 @@ use Rattle.std.specs.FinMap.Entries.{find, is_sorted, put, by_order, below_all}
 use Rattle.std.proofs.Common.{sym, ap, subst, ◌∙◌}
 use Rattle.lattice_core.specs.Exact.{IsExact}
 use Rattle.lattice_core.specs.Lattice.{LatticeLaws}
-use Rattle.lattice_core.specs.Map.{EachEntry, IsHeld, IsProperMap, join_option, joined_in, map_join}
-use Rattle.lattice_core.specs.Instances.JoinedMaps.{first_of_both, second_of_both, joined_in-good, proper-joined_in, find-below}
+use Rattle.lattice_core.specs.Map.{IsHeld, IsProperMap, join_option, map_with, map_join}
+use Rattle.lattice_core.specs.Instances.JoinedMaps.{first_of_both, second_of_both, map_with-good, proper-map_with, find-below}
 use Rattle.lattice_core.specs.Fold.{fold_join, IsJoin, GivesJoins}
 
 module _ {K V S : Type 0} (cmp : K → K → Ordering) (total : IsTotalOrder cmp) (exact : IsExact cmp) (IsProper : V → Type 0) (join : V → V → V) (is_least : V → Bool) (laws : LatticeLaws IsProper join is_least)
@@ -22,7 +23,7 @@ module _ {K V S : Type 0} (cmp : K → K → Ordering) (total : IsTotalOrder cmp
   IsMap es = IsProperMap cmp IsProper is_least es
 
   abbrev AllHeld : List (K × V) → Type 0
-  AllHeld es = EachEntry (λ e. IsHeld IsProper is_least e.1) es
+  AllHeld es = AllByRecursion (λ e. IsHeld IsProper is_least e.1) es
 
   -- the unit adds nothing to what a map gives
   pub fold-unit : (es : List (K × V)) → J (F es) unit ≡ F es
@@ -67,13 +68,13 @@ module _ {K V S : Type 0} (cmp : K → K → Ordering) (total : IsTotalOrder cmp
       ] refl
 
   -- a value joined in gives what it gives, joined with what was given
-  pub fold-joined_in : (es : List (K × V)) (k : K) (v : V) → IsMap es → IsHeld IsProper is_least v → F (joined_in cmp join is_least es k v) ≡ J (give k v) (F es)
-  fold-joined_in es k v m g = ap F (joined_in-good cmp total exact IsProper join is_least laws es k v g) ∙ put_gives es k v m.rises m.held g.0
+  pub fold-joined_in : (es : List (K × V)) (k : K) (v : V) → IsMap es → IsHeld IsProper is_least v → F (map_with cmp join is_least es k v) ≡ J (give k v) (F es)
+  fold-joined_in es k v m g = ap F (map_with-good cmp total exact IsProper join is_least laws es k v g) ∙ put_gives es k v m.rises m.held g.0
 
   each_gives : (es fs : List (K × V)) → IsMap es → AllHeld fs → F (map_join cmp join is_least es fs) ≡ J (F es) (F fs)
   each_gives es [] m g = sym (fold-unit es)
   each_gives es (f ∷ fs) m g =
-      each_gives (joined_in cmp join is_least es f.0 f.1) fs (proper-joined_in cmp total exact IsProper join is_least laws es f.0 f.1 m g.0.0) g.1
+      each_gives (map_with cmp join is_least es f.0 f.1) fs (proper-map_with cmp total exact IsProper join is_least laws es f.0 f.1 m g.0.0) g.1
       ∙ ap (λ x. J x (F fs)) (fold-joined_in es f.0 f.1 m g.0 ∙ j.commutative (give f.0 f.1) (F es))
       ∙ j.associative (F es) (give f.0 f.1) (F fs)
 

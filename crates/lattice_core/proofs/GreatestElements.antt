@@ -10,7 +10,7 @@ use Rattle.lattice_core.specs.Exact.{IsExact}
 use Rattle.lattice_core.specs.Sets as sets
 use Rattle.lattice_core.specs.Sets.{contains, retain, items, union}
 use Rattle.lattice_core.proofs.SetElements.{contains-items, contains-retain, contains-union, same_set}
-use Rattle.lattice_core.specs.Tops.{tops, join_by, IsStrict, IsTop, TopsLaws}
+use Rattle.lattice_core.specs.Tops.{tops, tops_join, IsStrict, IsTop, TopsLaws}
 
 not_both : (b : Bool) → b ≡ true → b ≡ false → ⊥
 not_both b p q = true≢false (sym p ∙ q)
@@ -160,7 +160,7 @@ module _ {K : Type 0} {R : K → K → Ordering} (total : IsTotalOrder R) (exact
     }
 
     -- the tops of a union are the join of the tops
-    pub tops-union : (s t : Set) → tops exceeded (union s t) ≡ join_by exceeded (tops exceeded s) (tops exceeded t)
+    pub tops-union : (s t : Set) → tops exceeded (union s t) ≡ tops_join exceeded (tops exceeded s) (tops exceeded t)
     tops-union s t = same_elements _ _
         (λ e h. in_top _ e (top_of_union s t e (top_in _ e h)))
         (λ e h. in_top _ e (union_of_top s t e (top_in _ e h)))
@@ -170,20 +170,20 @@ module _ {K : Type 0} {R : K → K → Ordering} (total : IsTotalOrder R) (exact
         (λ e h. (top_in _ e h).inside)
         (λ e h. in_top _ e (record { inside = h; none = λ f w. (top_in s e h).none f (top_in s f w).inside }))
 
-    pub join-comm : (s t : Set) → join_by exceeded s t ≡ join_by exceeded t s
+    pub join-comm : (s t : Set) → tops_join exceeded s t ≡ tops_join exceeded t s
     join-comm s t = ap (tops exceeded) (union-comm s t)
 
-    pub join-assoc : (s t u : Set) → join_by exceeded (join_by exceeded s t) u ≡ join_by exceeded s (join_by exceeded t u)
+    pub join-assoc : (s t u : Set) → tops_join exceeded (tops_join exceeded s t) u ≡ tops_join exceeded s (tops_join exceeded t u)
     join-assoc s t u =
         tops-union _ u ∙ ap (λ x. tops exceeded (union x (tops exceeded u))) (tops-tops (union s t)) ∙ sym (tops-union (union s t) u)
         ∙ ap (tops exceeded) (union-assoc s t u)
         ∙ tops-union s (union t u) ∙ sym (tops-union s _ ∙ ap (λ x. tops exceeded (union (tops exceeded s) x)) (tops-tops (union t u)))
 
-    pub join-idem : (s : Set) → tops exceeded s ≡ s → join_by exceeded s s ≡ s
+    pub join-idem : (s : Set) → tops exceeded s ≡ s → tops_join exceeded s s ≡ s
     join-idem s h = ap (tops exceeded) (union-idem s) ∙ h
 
     -- what s exceeds can be left out of what is joined to it
-    pub join-without : (s t : Set) (p : K → Bool) → ((e : K) → contains t e ≡ true → p e ≡ false → list_any (exceeded e) (items s) ≡ true) → join_by exceeded s (retain t p) ≡ join_by exceeded s t
+    pub join-without : (s t : Set) (p : K → Bool) → ((e : K) → contains t e ≡ true → p e ≡ false → list_any (exceeded e) (items s) ≡ true) → tops_join exceeded s (retain t p) ≡ tops_join exceeded s t
     join-without s t p beaten = same_elements _ _
         (λ e h. let w = top_in (union s (retain t p)) e h in in_top _ e (record {
           inside = elim (in_union s (retain t p) e w.inside) as (λ _. contains (union s t) e ≡ true) [

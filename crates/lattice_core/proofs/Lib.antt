@@ -1,6 +1,6 @@
-pub mod Steps
-pub mod Calls
-pub mod UpTo
+pub mod MapLoops
+pub mod MapJoins
+pub mod MapOrder
 pub mod FoldedMaps
 pub mod SetElements
 pub mod GreatestElements

@@ -1,4 +1,5 @@
--- The laws that implementations of traits give, with their proofs: a contract may cite no proof of its own crate, so they stand here.
+-- The laws that implementations of traits give, with their proofs: they stand here since a contract may cite no proof
+-- of its own crate.
 pub mod ExactOrders
 pub mod GreaterValues
 pub mod PairedLattices

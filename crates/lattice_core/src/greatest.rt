@@ -1,4 +1,4 @@
-ghost use Rattle.std.specs.Prelude.{◌≡◌};
+ghost use Rattle.std.specs.Prelude.{◌≡◌, IfOk, IsOk};
 ghost use Rattle.lattice_core.specs.Greatest.{greater_of};
 
 use crate::OutOfMemory;
@@ -25,8 +25,11 @@ impl<T: Exact> Lattice for Greatest<T> {
 
     ghost laws = { greatest_laws T.cmp T.total T.exact };
 
-    /// The greater of the two. Nothing is refused here, since no value takes memory.
-    fn joined(&self, other: &Self) -> Result<Self, OutOfMemory> {
+    /// The greater of the two, or the one that there is. It takes no memory, and answers no error.
+    fn joined(&self, other: &Self) -> Result<Self, OutOfMemory>
+        ensures made { IfOk result (λ joined. joined ≡ greatest_join T.cmp self.now other.now) }
+        ensures grows_nothing { IsOk result }
+    {
         Ok(match (*self, *other) {
             (Greatest::Nothing, theirs) => theirs,
             (ours, Greatest::Nothing) => ours,
@@ -34,7 +37,11 @@ impl<T: Exact> Lattice for Greatest<T> {
         })
     }
 
-    fn copied(&self) -> Result<Self, OutOfMemory> {
+    /// The same. It takes no memory, and answers no error.
+    fn copied(&self) -> Result<Self, OutOfMemory>
+        ensures made { IfOk result (λ copy. copy ≡ self.now) }
+        ensures grows_nothing { IsOk result }
+    {
         Ok(*self)
     }
 
@@ -53,6 +60,7 @@ impl<T: Exact> Lattice for Greatest<T> {
     fn known(&self) {}
 }
 
+// The greater of the two.
 fn greater<T: Exact>(ours: T, theirs: T) -> T
     ensures { result ≡ greater_of T.cmp ours theirs }
 {

@@ -17,12 +17,19 @@ pub trait Lattice: Drop {
     /// Whether a value is the bottom.
     ghost is_least: { Self → Bool };
 
-    /// The join of the two, the least value that neither exceeds. `OutOfMemory` comes where a growth was refused, and
-    /// both are then as before.
+    /// The join of the two, the least value that neither exceeds.
+    ///
+    /// # Errors
+    ///
+    /// `OutOfMemory` where a growth was refused. Both are then as before.
     fn joined(&self, other: &Self) -> Result<Self, OutOfMemory>
         ensures { IfOk result (λ joined. joined ≡ join self.now other.now) };
 
-    /// An equal value with memory of its own. `OutOfMemory` comes where a growth was refused.
+    /// An equal value with memory of its own.
+    ///
+    /// # Errors
+    ///
+    /// `OutOfMemory` where a growth was refused.
     fn copied(&self) -> Result<Self, OutOfMemory>
         ensures { IfOk result (λ copy. copy ≡ self.now) };
 

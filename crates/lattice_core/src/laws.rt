@@ -25,7 +25,8 @@ pub fn joins_agree<L: Lattice>(a: &L, b: &L, c: &L)
 pub fn join_is_the_least_upper_bound<L: Lattice>(a: &L, b: &L, c: &L)
     ensures first { L.join a.now (L.join a.now b.now) ≡ L.join a.now b.now }
     ensures second { L.join b.now (L.join a.now b.now) ≡ L.join a.now b.now }
-    ensures least { L.join a.now c.now ≡ c.now → L.join b.now c.now ≡ c.now → L.join (L.join a.now b.now) c.now ≡ c.now }
+    ensures least { L.join a.now c.now ≡ c.now → L.join b.now c.now ≡ c.now
+        → L.join (L.join a.now b.now) c.now ≡ c.now }
 {
     a.known();
     b.known();
@@ -35,7 +36,8 @@ pub fn join_is_the_least_upper_bound<L: Lattice>(a: &L, b: &L, c: &L)
 /// The bottom adds nothing, and a join is the bottom only where both values are.
 pub fn bottom_adds_nothing<L: Lattice>(a: &L, b: &L)
     ensures neutral { L.is_least a.now ≡ true → L.join a.now b.now ≡ b.now }
-    ensures only_of_bottoms { L.is_least (L.join a.now b.now) ≡ true → (L.is_least a.now ≡ true) × (L.is_least b.now ≡ true) }
+    ensures only_of_bottoms { L.is_least (L.join a.now b.now) ≡ true
+        → (L.is_least a.now ≡ true) × (L.is_least b.now ≡ true) }
 {
     a.known();
     b.known();
@@ -44,7 +46,9 @@ pub fn bottom_adds_nothing<L: Lattice>(a: &L, b: &L)
 /// Two maps that give equal values at every key are equal, and their join gives at each key the join of what they give.
 pub fn maps_are_what_they_give<K: Exact, V: Lattice>(a: &LatMap<K, V>, b: &LatMap<K, V>)
     ensures same { ((key : K) → find K.cmp key a.now ≡ find K.cmp key b.now) → a.now ≡ b.now }
-    ensures joined { (key : K) → find K.cmp key (⟦<LatMap<K, V> as Lattice>⟧.join a.now b.now) ≡ join_options V.join (find K.cmp key a.now) (find K.cmp key b.now) }
+    ensures joined { (key : K) →
+        find K.cmp key (⟦<LatMap<K, V> as Lattice>⟧.join a.now b.now)
+        ≡ join_options V.join (find K.cmp key a.now) (find K.cmp key b.now) }
 {
     a.known();
     b.known();
@@ -52,8 +56,10 @@ pub fn maps_are_what_they_give<K: Exact, V: Lattice>(a: &LatMap<K, V>, b: &LatMa
 
 /// Where the entries of maps are read as values of another join, the join of two maps is read as the join of the two.
 pub fn reading_keeps_joins<K: Exact, V: Lattice, S>(a: &LatMap<K, V>, b: &LatMap<K, V>)
-    ensures { (join : S → S → S) (unit : S) → IsJoin join unit → (give : K → V → S) → GivesJoins V.is_proper V.join join give →
-        fold_join join unit give (⟦<LatMap<K, V> as Lattice>⟧.join a.now b.now) ≡ join (fold_join join unit give a.now) (fold_join join unit give b.now) }
+    ensures { (join : S → S → S) (unit : S) → IsJoin join unit
+        → (give : K → V → S) → GivesJoins V.is_proper V.join join give
+        → fold_join join unit give (⟦<LatMap<K, V> as Lattice>⟧.join a.now b.now)
+        ≡ join (fold_join join unit give a.now) (fold_join join unit give b.now) }
 {
     a.known();
     b.known();

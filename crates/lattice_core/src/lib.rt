@@ -3,6 +3,18 @@
 //!
 //! A `Lattice` has a least value, the bottom, and a join of two values. `Greatest` keeps the greatest value that came,
 //! `Both` joins pairs part by part, and `LatMap` joins maps key by key. `laws` has what holds of all of them.
+//!
+//! ```rust
+//! use lattice_core::greatest::Greatest;
+//! use lattice_core::lattice::Lattice;
+//! use lattice_core::map::LatMap;
+//!
+//! let none: LatMap<u32, Greatest<u32>> = LatMap::empty(alloc);
+//! let ours = none.with(3, &Greatest::Of(7))?;
+//! let theirs = none.with(3, &Greatest::Of(8))?.with(5, &Greatest::Of(1))?;
+//! let merged = ours.joined(&theirs)?;
+//! // `merged.get(3)` is `Some(&Greatest::Of(8))`, and so it is after `theirs.joined(&ours)?`.
+//! ```
 #![tactic(auto)]
 
 pub mod both;

@@ -1,9 +1,9 @@
-ghost use Rattle.std.specs.Prelude.{◌≡◌, ◌↔◌, [], IfOk, IfSome, IsTrue, T};
+ghost use Rattle.std.specs.Prelude.{◌≡◌, ◌↔◌, [], IfOk, IfSome, IsOk, IsTrue, T};
 ghost use Rattle.std.specs.Option.{option_copied};
 ghost use Rattle.std.specs.FinMap.Entries.{find, is_sorted, put};
 ghost use Rattle.std.specs.Map.{keys_of};
-ghost use Rattle.lattice_core.specs.Map.{IsHeld, IsProperMap, joined_in};
-ghost use Rattle.lattice_core.specs.Private.EntryLists.{IsUpTo, beside, filled, raise, raised_by};
+ghost use Rattle.lattice_core.specs.Map.{IsHeld, IsProperMap, map_with};
+ghost use Rattle.lattice_core.specs.Private.EntryLists.{IsUpTo, other_entries, left_union, join_with_option, joined_entries};
 
 use crate::OutOfMemory;
 use crate::exact::Exact;
@@ -68,10 +68,13 @@ impl<K: Exact, V: Lattice> LatMap<K, V> {
         self.map.iter()
     }
 
-    /// A copy of the map with `value` joined in at `key`. A bottom adds nothing. `OutOfMemory` comes where a growth was
-    /// refused, and map and value are then as before.
+    /// A copy of the map with `value` joined in at `key`. A bottom adds nothing.
+    ///
+    /// # Errors
+    ///
+    /// `OutOfMemory` where a growth was refused. Map and value are then as before.
     pub fn with(&self, key: K, value: &V) -> Result<Self, OutOfMemory>
-        ensures { IfOk result (λ new. new ≡ joined_in K.cmp V.join V.is_least self.now key value.now) }
+        ensures { IfOk result (λ new. new ≡ map_with K.cmp V.join V.is_least self.now key value.now) }
     {
         self.known();
         value.known();
@@ -79,7 +82,7 @@ impl<K: Exact, V: Lattice> LatMap<K, V> {
         if joined.is_bottom() {
             return self.copied();
         }
-        let mut map = self.copied_beside(key)?;
+        let mut map = self.copied_others(key)?;
         put_in(&mut map, key, joined)?;
         Ok(LatMap {
             map,
@@ -88,8 +91,8 @@ impl<K: Exact, V: Lattice> LatMap<K, V> {
     }
 
     // The entries at all other keys.
-    fn copied_beside(&self, key: K) -> Result<BTreeMap<K, V>, OutOfMemory>
-        ensures { IfOk result (λ map. map.entries ≡ beside K.cmp key self.now) }
+    fn copied_others(&self, key: K) -> Result<BTreeMap<K, V>, OutOfMemory>
+        ensures { IfOk result (λ map. map.entries ≡ other_entries K.cmp key self.now) }
     {
         let mut map = BTreeMap::new(self.alloc);
         for (other, value) in &self.map {
@@ -101,8 +104,9 @@ impl<K: Exact, V: Lattice> LatMap<K, V> {
     }
 
     // The entries of this map, each joined with what the other one has at its key.
-    fn raised(&self, other: &Self) -> Result<BTreeMap<K, V>, OutOfMemory>
-        ensures { IfOk result (λ map. map.entries ≡ raised_by K.cmp V.join other.now self.now) }
+    fn joined_entries(&self, other: &Self) -> Result<BTreeMap<K, V>, OutOfMemory>
+        ensures made { IfOk result (λ map. map.entries ≡ joined_entries K.cmp V.join other.now self.now) }
+        ensures grows_nothing { self.now ≡ [] → IsOk result }
     {
         let mut map = BTreeMap::new(self.alloc);
         for (key, value) in &self.map {
@@ -113,7 +117,8 @@ impl<K: Exact, V: Lattice> LatMap<K, V> {
 
     // Copies the entries whose keys the map lacks into it.
     fn fill(&self, map: &mut BTreeMap<K, V>) -> Result<(), OutOfMemory>
-        ensures { IfOk result (λ _. map.new.entries ≡ filled K.cmp map.old.entries self.now) }
+        ensures made { IfOk result (λ _. map.new.entries ≡ left_union K.cmp map.old.entries self.now) }
+        ensures grows_nothing { self.now ≡ [] → IsOk result }
     {
         for (key, value) in &self.map {
             if !map.contains_key(key) {
@@ -136,10 +141,14 @@ impl<K: Exact, V: Lattice> Lattice for LatMap<K, V> {
 
     ghost laws = { map_laws K.cmp K.total K.exact V.is_proper V.join V.is_least V.laws };
 
-    fn joined(&self, other: &Self) -> Result<Self, OutOfMemory> {
+    /// The join key by key. It takes no memory where neither map has an entry.
+    fn joined(&self, other: &Self) -> Result<Self, OutOfMemory>
+        ensures made { IfOk result (λ joined. joined ≡ map_join K.cmp V.join V.is_least self.now other.now) }
+        ensures grows_nothing { self.now ≡ [] → other.now ≡ [] → IsOk result }
+    {
         self.known();
         other.known();
-        let mut map = self.raised(other)?;
+        let mut map = self.joined_entries(other)?;
         other.fill(&mut map)?;
         Ok(LatMap {
             map,
@@ -147,7 +156,11 @@ impl<K: Exact, V: Lattice> Lattice for LatMap<K, V> {
         })
     }
 
-    fn copied(&self) -> Result<Self, OutOfMemory> {
+    /// A copy of each entry. It takes no memory where there is none.
+    fn copied(&self) -> Result<Self, OutOfMemory>
+        ensures made { IfOk result (λ copy. copy ≡ self.now) }
+        ensures grows_nothing { self.now ≡ [] → IsOk result }
+    {
         let mut map = BTreeMap::new(self.alloc);
         for (key, value) in &self.map {
             put_in(&mut map, *key, value.copied()?)?;
@@ -202,7 +215,7 @@ fn put_in<K: Exact, V: Lattice>(
 
 // A value joined with what there is at its key.
 fn joined_with<V: Lattice>(value: &V, other: Option<&V>) -> Result<V, OutOfMemory>
-    ensures { IfOk result (λ new. new ≡ raise V.join value.now (option_copied other.entry)) }
+    ensures { IfOk result (λ new. new ≡ join_with_option V.join value.now (option_copied other.entry)) }
 {
     match other {
         Some(other) => value.joined(other),

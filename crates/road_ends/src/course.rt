@@ -34,7 +34,7 @@ impl<'a> OwnSettings<'a> {
         ensures own { (u : ℕ) → ⟦<OwnSettings<'a> as Course>⟧.settings_at result u ≡ defaults plan.now }
         ensures fits { (u : ℕ) → Fits plan.now (⟦<OwnSettings<'a> as Course>⟧.settings_at result u) }
     {
-        plan.own_settings_fit();
+        plan.known_own_settings();
         OwnSettings { alloc, plan }
     }
 }

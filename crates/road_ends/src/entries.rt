@@ -35,7 +35,7 @@ pub fn entered(
     ensures moving { IfOk result (λ moving. moving ≡ road_with_entries plan.now settings.now step road.now) }
     ensures on_road { IfOk result (λ moving. length moving ≤ plan.now.cells) }
 {
-    plan.limits();
+    plan.known();
     let mut cars = Vec::with_capacity(alloc, road.cars().len() + plan.inlets().len())?;
     let mut cell = 0;
     while cell < plan.length() {
@@ -90,7 +90,7 @@ fn entering(plan: &Plan, settings: &Settings, step: u32, cell: u32) -> Option<Ca
     requires { Fits plan.now settings.now }
     ensures { result ≡ option_map (car_of cell) (entry_at plan.now settings.now step cell) }
 {
-    plan.limits();
+    plan.known();
     let inlet = inlet_at(plan.inlets(), cell)?;
     if is_blocked(settings.blocks(), cell) {
         return None;

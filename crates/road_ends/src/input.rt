@@ -90,7 +90,7 @@ impl StepInput {
         ensures on_road { length self.now.road ≤ self.now.plan.cells }
         ensures within { IsWithinLimits self.now.plan }
     {
-        self.plan.limits();
+        self.plan.known();
     }
 }
 

@@ -86,7 +86,7 @@ fn zone_at(plan: &Plan, cell: u32, last: Zone) -> Zone
     ensures zone { result.index ≡ zone_of plan.now cell }
     ensures start { result.start ≡ result.index * plan.now.width }
 {
-    plan.limits();
+    plan.known();
     let width = plan.width();
     if last.start <= cell && cell - last.start < width {
         return last;
@@ -115,7 +115,7 @@ fn new_speed(
     requires at { IsPassAt plan.now settings.now (cell_at (cars_of road.now) place) cursor.reached cursor.zone.index }
     ensures { let car = nth_car (cars_of road.now) place in result ≡ speed plan.now settings.now step road.now car.cell (vehicle_of car) }
 {
-    plan.limits();
+    plan.known();
     let car = road.cars()[place];
     let gap = road.gap_to(place, settings.blocks(), cursor.reached);
     let wished = wanted(car.speed, settings.limits()[cursor.zone.index], gap);

@@ -26,7 +26,7 @@ pub fn speed(plan: &Plan, settings: &Settings, step: u32, road: &Road, place: us
     requires car { place < length (cars_of road.now) }
     ensures { let car = nth_car (cars_of road.now) place in result ≡ speed plan.now settings.now step road.now car.cell (vehicle_of car) }
 {
-    plan.limits();
+    plan.known();
     let car = road.cars()[place];
     let zone = (car.cell / plan.width()) as usize;
     let wished = wanted(

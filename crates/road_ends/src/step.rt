@@ -16,7 +16,7 @@ use std::alloc::{AllocError, Global};
 pub fn leave(plan: &Plan, road: Road) -> Road
     ensures { result ≡ road_before_exit plan.now road }
 {
-    plan.limits();
+    plan.known();
     let end = plan.length() - plan.exit();
     let mut cars = road.into_cars();
     let staying = cars.partition_point(|car| car.cell < end);
@@ -36,7 +36,7 @@ pub fn next(
     requires on_road { length road.now ≤ plan.now.cells }
     ensures { IfOk result (λ later. later ≡ road_after_motion plan.now settings.now step road.now) }
 {
-    plan.limits();
+    plan.known();
     let speeds = speeds(alloc, plan, settings, step, road)?;
     Ok(leave(plan, moved(alloc, road, &speeds)?))
 }

@@ -1,5 +1,4 @@
-pub mod Inlets
-pub mod Faultless
-pub mod Defaults
-pub mod Accepted
+pub mod InletCells
+pub mod PlanFaults
+pub mod OwnSettings
 mod Examples

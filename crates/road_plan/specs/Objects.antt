@@ -1,8 +1,9 @@
 -- What an edit sets: its kinds, where it exists, what it takes.
 use Rattle.std.specs.Prelude.{ℕ, Bool, length, nat_lt, nat_le}
 use Rattle.std.specs.List.{slice_index_or}
-use Rattle.std.specs.Ordering.{nat_cmp, ordering_then}
+use Rattle.std.specs.Ordering.{nat_cmp}
 use Rattle.std.specs.declared.cmp.Ordering.{Ordering}
+use Rattle.lattice_core.specs.Exact.{pair_cmp}
 use Rattle.road_plan.specs.Plan.{Plan}
 use Rattle.road_plan.specs.declared.object.Object.{Object}
 use Rattle.road_plan.specs.declared.object.Object.TheVariants.{Limit, Slow, Block, Inflow, Watch}
@@ -16,7 +17,7 @@ in_plan p (Block cell) = nat_lt cell p.cells
 in_plan p (Inflow inlet) = nat_lt inlet (length p.inlets)
 in_plan p (Watch detector) = nat_lt detector (length p.detectors)
 
--- whether it takes a value: speed limits and chances up to the greatest, and 0 or 1 for what is off or on
+-- whether an object takes a value: speed limits and chances up to the greatest, and 0 or 1 for what is off or on
 abbrev pub allows : Object → ℕ → Bool
 allows (Limit zone) value = nat_le value GREATEST_LIMIT
 allows (Slow zone) value = nat_le value CERTAIN
@@ -24,7 +25,7 @@ allows (Block cell) value = nat_le value 1
 allows (Inflow inlet) value = nat_le value CERTAIN
 allows (Watch detector) value = nat_le value 1
 
--- what it is where nothing is put: the plan's number, no block, and a detector that is on
+-- what an object is where nothing is put: the plan's number, no block, and a detector that is on
 abbrev pub default : Plan → Object → ℕ
 default p (Limit zone) = (slice_index_or p.zones zone (0, 0)).0
 default p (Slow zone) = (slice_index_or p.zones zone (0, 0)).1
@@ -32,7 +33,7 @@ default p (Block cell) = 0
 default p (Inflow inlet) = (slice_index_or p.inlets inlet (0, 0)).1
 default p (Watch detector) = 1
 
--- the kind's place among the kinds, and the index
+-- what objects are ordered by: the kind's place among the kinds, and the index
 abbrev pub order_key : Object → ℕ × ℕ
 order_key (Limit zone) = (0, zone)
 order_key (Slow zone) = (1, zone)
@@ -40,6 +41,6 @@ order_key (Block cell) = (2, cell)
 order_key (Inflow inlet) = (3, inlet)
 order_key (Watch detector) = (4, detector)
 
--- by kind, then by index
-abbrev pub by_kind_and_index : Object → Object → Ordering
-by_kind_and_index x y = ordering_then (nat_cmp (order_key x).0 (order_key y).0) (nat_cmp (order_key x).1 (order_key y).1)
+-- the order of objects, by kind, then by index
+abbrev pub object_order : Object → Object → Ordering
+object_order x y = pair_cmp nat_cmp nat_cmp (order_key x) (order_key y)

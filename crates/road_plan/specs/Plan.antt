@@ -3,10 +3,13 @@ use Rattle.std.specs.Prelude.{◌≡◌, ℕ, ◌+◌, ◌-◌, ◌/◌, ◌<◌
 use Rattle.std.specs.List.{All, IsDistinct}
 use Rattle.road_plan.specs.declared.parts.WordKind.{WordKind}
 use Rattle.road_plan.specs.declared.parts.PlanParts.{PlanParts}
-use Rattle.road_plan.specs.declared.limits.TheConstants.{LEAST_LENGTH, GREATEST_LENGTH, GREATEST_EXIT, MOST_ZONES, MOST_INLETS, MOST_DETECTORS, GREATEST_LIMIT, CERTAIN}
+use Rattle.road_plan.specs.declared.limits.TheConstants.{LEAST_LENGTH, GREATEST_LENGTH, GREATEST_EXIT}
+use Rattle.road_plan.specs.declared.limits.TheConstants.{MOST_ZONES, MOST_INLETS, MOST_DETECTORS}
+use Rattle.road_plan.specs.declared.limits.TheConstants.{GREATEST_LIMIT, CERTAIN}
 
--- A road of so many cells, the last `exit` of which are the deleted zone. Zones are `width` cells wide, each with its
--- speed limit and slowing chance; inlets have a cell and an inflow chance; detectors have a site.
+-- a plan: a road of so many cells, the last `exit` of which are the deleted zone; zones of `width` cells, each with
+-- its speed limit in cells per step and its slowing chance in 1/65,536; inlets, each with its cell and its inflow
+-- chance in 1/65,536; detectors, each with its site; and where the random words come from
 pub record Plan : Type 0 where
   pub cells : ℕ
   pub exit : ℕ
@@ -28,16 +31,17 @@ plan_of parts = record {
   words = parts.words;
 }
 
--- the first cell of the deleted zone: cars at or past it are deleted
+-- the first cell of the deleted zone, past which no car stays
 abbrev pub road_end : Plan → ℕ
 road_end p = p.cells - p.exit
 
--- the zone of a cell
+-- the number of the zone in which a cell lies
 abbrev pub zone_of : Plan → ℕ → ℕ
 zone_of p c = c / p.width
 
--- the limits within which every plan lies: a road with a deleted zone at its end, one entry for each zone up to that of
--- the last cell, inlets at different cells before the deleted zone, detectors behind the first cell and before it
+-- a plan is within the limits of the laboratory: it has a road with a deleted zone at its end, one entry for each zone
+-- up to that of the last cell, inlets at different cells before the deleted zone, detectors behind the first cell and
+-- before the deleted zone, and allowed speed limits, slowing chances and inflows
 pub record IsWithinLimits (p : Plan) : Type 0 where
   pub long_enough : LEAST_LENGTH ≤ p.cells
   pub short_enough : p.cells ≤ GREATEST_LENGTH
@@ -54,6 +58,6 @@ pub record IsWithinLimits (p : Plan) : Type 0 where
   pub few_detectors : length p.detectors ≤ MOST_DETECTORS
   pub sites_after_start : All (λ site. 0 < site) p.detectors
   pub sites_before_exit : All (λ site. site < road_end p) p.detectors
-  pub limits_allowed : All (λ zone. zone.0 ≤ GREATEST_LIMIT) p.zones
+  pub speed_limits_allowed : All (λ zone. zone.0 ≤ GREATEST_LIMIT) p.zones
   pub chances_allowed : All (λ zone. zone.1 ≤ CERTAIN) p.zones
   pub inflows_allowed : All (λ inlet. inlet.1 ≤ CERTAIN) p.inlets

@@ -1,12 +1,15 @@
 -- Which plans are refused, and by which fault.
-use Rattle.std.specs.Prelude.{ℕ, ◌+◌, ◌-◌, ◌==◌, ◌&&◌, not, Bool, true, List, [], ◌∷◌, length, map, nat_eq, nat_lt, nat_le, if◌then◌else◌}
-use Rattle.std.specs.List.{list_all, list_any}
+use Rattle.std.specs.Prelude.{◌+◌, ◌-◌, ◌==◌, ◌&&◌, not, Bool, length, map, nat_eq, nat_lt, nat_le, if◌then◌else◌}
+use Rattle.std.specs.List.{list_all}
+use Rattle.std.specs.Set.{distinct_count}
 use Rattle.std.specs.declared.option.Option.{Option}
 use Rattle.std.specs.declared.option.Option.TheVariants.{None, Some}
 use Rattle.road_plan.specs.Plan.{Plan, road_end, zone_of}
 use Rattle.road_plan.specs.declared.faults.PlanFault.{PlanFault}
 use Rattle.road_plan.specs.declared.faults.PlanFault.TheVariants.{Length, Exit, Zones, Inlets, Detectors, Default}
-use Rattle.road_plan.specs.declared.limits.TheConstants.{LEAST_LENGTH, GREATEST_LENGTH, GREATEST_EXIT, MOST_ZONES, MOST_INLETS, MOST_DETECTORS, GREATEST_LIMIT, CERTAIN}
+use Rattle.road_plan.specs.declared.limits.TheConstants.{LEAST_LENGTH, GREATEST_LENGTH, GREATEST_EXIT}
+use Rattle.road_plan.specs.declared.limits.TheConstants.{MOST_ZONES, MOST_INLETS, MOST_DETECTORS}
+use Rattle.road_plan.specs.declared.limits.TheConstants.{GREATEST_LIMIT, CERTAIN}
 
 -- whether the road is neither too short nor too long
 abbrev pub has_length : Plan → Bool
@@ -20,24 +23,20 @@ has_exit p = nat_lt 0 p.exit && nat_le p.exit GREATEST_EXIT && nat_lt p.exit p.c
 abbrev pub has_zones : Plan → Bool
 has_zones p = nat_lt 0 p.width && nat_le (length p.zones) MOST_ZONES && length p.zones == zone_of p (p.cells - 1) + 1
 
--- whether no number stands twice in a list
-abbrev pub all_differ : List ℕ → Bool
-all_differ [] = true
-all_differ (n ∷ ns) = not (list_any (nat_eq n) ns) && all_differ ns
-
--- whether the inlets are few enough, before the deleted zone, and at different cells
+-- whether the inlets are few enough, before the deleted zone, and at as many different cells as there are inlets
 abbrev pub has_inlets : Plan → Bool
 has_inlets p =
     nat_lt 0 (length p.inlets) && nat_le (length p.inlets) MOST_INLETS
     && list_all (λ inlet. nat_lt inlet.0 (road_end p)) p.inlets
-    && all_differ (map (λ inlet. inlet.0) p.inlets)
+    && distinct_count nat_eq (map (λ inlet. inlet.0) p.inlets) == length p.inlets
 
 -- whether the detectors are few enough, behind the first cell and before the deleted zone
 abbrev pub has_detectors : Plan → Bool
 has_detectors p =
-    nat_le (length p.detectors) MOST_DETECTORS && list_all (λ site. nat_lt 0 site && nat_lt site (road_end p)) p.detectors
+    nat_le (length p.detectors) MOST_DETECTORS
+    && list_all (λ site. nat_lt 0 site && nat_lt site (road_end p)) p.detectors
 
--- whether each limit, slowing chance and inflow is in its range
+-- whether each speed limit, slowing chance and inflow is in its range
 abbrev pub has_defaults : Plan → Bool
 has_defaults p =
     list_all (λ zone. nat_le zone.0 GREATEST_LIMIT && nat_le zone.1 CERTAIN) p.zones

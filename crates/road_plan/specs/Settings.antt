@@ -5,8 +5,8 @@ use Rattle.std.specs.List.Sorted.{IsStrictlyIncreasing}
 use Rattle.road_plan.specs.Plan.{Plan}
 use Rattle.road_plan.specs.declared.limits.TheConstants.{GREATEST_LIMIT, CERTAIN}
 
--- A speed limit and a slowing chance for each zone, an inflow chance for each inlet, the blocked cells, and for each
--- detector whether it is on.
+-- all settings of a road at one step: for each zone its speed limit and its slowing chance, for each inlet its inflow
+-- chance, the blocked cells, and for each detector whether it is on
 pub record Settings : Type 0 where
   pub limits : List ℕ
   pub chances : List ℕ
@@ -14,10 +14,11 @@ pub record Settings : Type 0 where
   pub blocks : List ℕ
   pub watched : List Bool
 
--- one allowed number for each zone, inlet and detector of the plan; the blocked cells rise and are on the road
+-- settings fit a plan where they have one allowed number for each of its zones, inlets and detectors, and the blocked
+-- cells rise and are on its road
 pub record Fits (p : Plan) (s : Settings) : Type 0 where
-  pub limit_each : length s.limits ≡ length p.zones
-  pub limits_allowed : All (λ limit. limit ≤ GREATEST_LIMIT) s.limits
+  pub speed_limit_each : length s.limits ≡ length p.zones
+  pub speed_limits_allowed : All (λ limit. limit ≤ GREATEST_LIMIT) s.limits
   pub chance_each : length s.chances ≡ length p.zones
   pub chances_allowed : All (λ chance. chance ≤ CERTAIN) s.chances
   pub inflow_each : length s.inflows ≡ length p.inlets

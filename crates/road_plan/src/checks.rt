@@ -1,7 +1,8 @@
 //! The checks of a plan's parts, one by one, and the first that fails.
 
-ghost use Rattle.std.specs.Prelude.{◌≡◌, ◌&&◌, map, nat_eq, nat_le, nat_lt};
+ghost use Rattle.std.specs.Prelude.{◌≡◌, ◌==◌, ◌&&◌, length, map, nat_eq, nat_le, nat_lt};
 ghost use Rattle.std.specs.List.{list_all, list_any};
+ghost use Rattle.std.specs.Set.{distinct_count};
 ghost use Rattle.road_plan.specs.Plan.{plan_of, road_end};
 ghost use Rattle.road_plan.specs.Refusals as refusals;
 
@@ -12,7 +13,7 @@ use crate::limits::{
 };
 use crate::parts::PlanParts;
 
-/// The first fault of these parts, in the order of `PlanFault`. Takes no memory.
+// The first fault of these parts, in the order of `PlanFault`. Takes no memory.
 pub(crate) fn first_fault(parts: &PlanParts) -> Option<PlanFault>
     ensures { result ≡ refusals.fault_of (plan_of parts.now) }
 {
@@ -37,21 +38,21 @@ pub(crate) fn first_fault(parts: &PlanParts) -> Option<PlanFault>
     None
 }
 
-/// Whether the road is neither too short nor too long.
+// Whether the road is neither too short nor too long.
 fn has_length(parts: &PlanParts) -> bool
     ensures { result ≡ refusals.has_length (plan_of parts.now) }
 {
     LEAST_LENGTH <= parts.length && parts.length <= GREATEST_LENGTH
 }
 
-/// Whether the deleted zone is a part of the road.
+// Whether the deleted zone is a part of the road.
 fn has_exit(parts: &PlanParts) -> bool
     ensures { result ≡ refusals.has_exit (plan_of parts.now) }
 {
     0 < parts.exit && parts.exit <= GREATEST_EXIT && parts.exit < parts.length
 }
 
-/// Whether there is one entry for each zone of the road.
+// Whether there is one entry for each zone of the road.
 fn has_zones(parts: &PlanParts) -> bool
     ensures { result ≡ refusals.has_zones (plan_of parts.now) }
 {
@@ -60,7 +61,7 @@ fn has_zones(parts: &PlanParts) -> bool
         && parts.zones.len() == (parts.length.saturating_sub(1) / parts.width + 1) as usize
 }
 
-/// Whether the inlets are few enough, before the deleted zone, and at different cells.
+// Whether the inlets are few enough, before the deleted zone, and at different cells.
 fn has_inlets(parts: &PlanParts) -> bool
     ensures { result ≡ refusals.has_inlets (plan_of parts.now) }
 {
@@ -71,16 +72,16 @@ fn has_inlets(parts: &PlanParts) -> bool
         && have_own_cells(&parts.inlets)
 }
 
-/// Whether these inlets are before the deleted zone, which begins at `end`.
+// Whether these inlets are before the deleted zone, which begins at `end`.
 fn are_before(inlets: &[(u32, u32)], end: u32) -> bool
     ensures { result ≡ list_all (λ inlet. nat_lt inlet.0 end) inlets.now }
 {
     inlets.iter().all(|inlet| inlet.0 < end)
 }
 
-/// Whether no two of these inlets are at the same cell.
+// Whether no two of these inlets are at the same cell.
 fn have_own_cells(inlets: &[(u32, u32)]) -> bool
-    ensures { result ≡ refusals.all_differ (map (λ inlet. inlet.0) inlets.now) }
+    ensures { result ≡ (distinct_count nat_eq (map (λ inlet. inlet.0) inlets.now) == length inlets.now) }
 {
     match inlets.split_first() {
         None => true,
@@ -88,14 +89,14 @@ fn have_own_cells(inlets: &[(u32, u32)]) -> bool
     }
 }
 
-/// Whether one of these inlets is at this cell.
+// Whether one of these inlets is at this cell.
 fn has_inlet_at(cell: u32, inlets: &[(u32, u32)]) -> bool
     ensures { result ≡ list_any (λ inlet. nat_eq cell inlet.0) inlets.now }
 {
     inlets.iter().any(|inlet| cell == inlet.0)
 }
 
-/// Whether the detectors are few enough, behind the first cell and before the deleted zone.
+// Whether the detectors are few enough, behind the first cell and before the deleted zone.
 fn has_detectors(parts: &PlanParts) -> bool
     ensures { result ≡ refusals.has_detectors (plan_of parts.now) }
 {
@@ -103,21 +104,21 @@ fn has_detectors(parts: &PlanParts) -> bool
     parts.detectors.len() <= MOST_DETECTORS && are_between(&parts.detectors, end)
 }
 
-/// Whether these sites are behind the first cell and before the deleted zone, which begins at `end`.
+// Whether these sites are behind the first cell and before the deleted zone, which begins at `end`.
 fn are_between(sites: &[u32], end: u32) -> bool
     ensures { result ≡ list_all (λ site. nat_lt 0 site && nat_lt site end) sites.now }
 {
     sites.iter().all(|&site| 0 < site && site < end)
 }
 
-/// Whether each limit, slowing chance and inflow is in its range.
+// Whether each speed limit, slowing chance and inflow is in its range.
 fn has_defaults(parts: &PlanParts) -> bool
     ensures { result ≡ refusals.has_defaults (plan_of parts.now) }
 {
     are_zones(&parts.zones) && are_inflows(&parts.inlets)
 }
 
-/// Whether the limit and the slowing chance of each zone are in their ranges.
+// Whether the speed limit and the slowing chance of each zone are in their ranges.
 fn are_zones(zones: &[(u32, u32)]) -> bool
     ensures { result ≡ list_all (λ zone. nat_le zone.0 GREATEST_LIMIT && nat_le zone.1 CERTAIN) zones.now }
 {
@@ -126,7 +127,7 @@ fn are_zones(zones: &[(u32, u32)]) -> bool
         .all(|zone| zone.0 <= GREATEST_LIMIT && zone.1 <= CERTAIN)
 }
 
-/// Whether the inflow of each inlet is a chance.
+// Whether the inflow of each inlet is a chance.
 fn are_inflows(inlets: &[(u32, u32)]) -> bool
     ensures { result ≡ list_all (λ inlet. nat_le inlet.1 CERTAIN) inlets.now }
 {

@@ -4,7 +4,7 @@ ghost use Rattle.road_plan.specs.Objects as objects;
 use crate::limits::{CERTAIN, GREATEST_LIMIT};
 use crate::plan::Plan;
 
-/// What an edit sets. Objects are ordered by their kinds in the order below, then by their indexes.
+/// What an edit sets, by the index of its zone, cell, inlet or detector, counted from 0. Objects are ordered by their kinds in the order below, then by their indexes.
 #[derive(Clone, Copy, Debug, PartialEq, Eq, PartialOrd, Ord)]
 pub enum Object {
     /// The speed limit of a zone, in cells per step.
@@ -32,7 +32,8 @@ impl Object {
         }
     }
 
-    /// Whether it takes the value: limits from 0 to 9, chances from 0 to 65,536, and 0 or 1 for what is off or on.
+    /// Whether it takes the value: speed limits from 0 to 9 cells per step, chances from 0 to 65,536 in 1/65,536, and 0
+    /// or 1 for what is off or on.
     pub fn allows(self, value: u32) -> bool
         ensures { result ≡ objects.allows self value }
     {
@@ -43,7 +44,7 @@ impl Object {
         }
     }
 
-    /// What it is where nothing is put: the plan's number, no block, and a detector that is on.
+    /// What it is where nothing is put: the plan's number, no block, and a detector that is on. The plan has the object.
     pub fn default(self, plan: &Plan) -> u32
         requires { objects.in_plan plan.now self ≡ true }
         ensures { result ≡ objects.default plan.now self }
@@ -57,8 +58,8 @@ impl Object {
         }
     }
 
-    /// That objects are ordered by their kinds, then by their indexes. It is a fact for proofs: the call does nothing.
-    pub fn are_ordered(self, other: Object)
-        ensures { ⟦<Object as Ord>⟧.cmp self other ≡ objects.by_kind_and_index self other }
+    /// Tells a proof that objects are ordered by their kinds, then by their indexes. It does nothing.
+    pub fn known_order(self, other: Object)
+        ensures { ⟦<Object as Ord>⟧.cmp self other ≡ objects.object_order self other }
     {}
 }

@@ -25,8 +25,11 @@ impl Model for Plan {
 }
 
 impl Plan {
-    /// The plan of these parts. A refusal names the first fault in the order of `PlanFault`; it is never
-    /// `OutOfMemory`, since the parts become the plan and nothing is copied.
+    /// The plan of these parts, if they are within the limits. It takes no memory: the parts become the plan.
+    ///
+    /// # Errors
+    ///
+    /// The first fault of the parts, in the order of `PlanFault`. It is never `OutOfMemory`.
     pub fn new(parts: PlanParts) -> Result<Plan, PlanFault>
         // Accepted exactly where no fault is found, and then the parts are the plan.
         ensures made { IfOk result (λ plan. plan ≡ plan_of parts) }
@@ -93,17 +96,17 @@ impl Plan {
         self.parts.words
     }
 
-    /// That the plan is within the limits. It is a fact for proofs: the call does nothing.
-    pub fn limits(&self)
+    /// Tells a proof that the plan is within the limits. It does nothing.
+    pub fn known(&self)
         ensures { IsWithinLimits self.now }
     {
         let _ = &self.parts;
     }
 
-    /// That the plan's own settings fit it. It is a fact for proofs: the call does nothing.
-    pub fn own_settings_fit(&self)
+    /// Tells a proof that the plan's own settings fit it. It does nothing.
+    pub fn known_own_settings(&self)
         ensures { Fits self.now (defaults self.now) }
     {
-        self.limits();
+        self.known();
     }
 }

@@ -3,9 +3,10 @@ ghost use Rattle.std.specs.List.{All};
 ghost use Rattle.std.specs.List.Sorted.{IsStrictlyIncreasing};
 ghost use Rattle.road_plan.specs.Settings.{defaults, Fits};
 
+use crate::OutOfMemory;
 use crate::limits::{CERTAIN, GREATEST_LIMIT};
 use crate::plan::Plan;
-use std::alloc::{AllocError as OutOfMemory, Global};
+use std::alloc::Global;
 use std::marker::Model;
 
 /// All settings of a road at one step.
@@ -28,18 +29,28 @@ impl Model for Settings {
 
     ghost Value = { Settings };
 
-    ghost view = { λ s. record { limits = s.limits.items; chances = s.chances.items; inflows = s.inflows.items; blocks = s.blocks.items; watched = s.watched.items } };
+    ghost view = { λ s. record {
+      limits = s.limits.items;
+      chances = s.chances.items;
+      inflows = s.inflows.items;
+      blocks = s.blocks.items;
+      watched = s.watched.items;
+    } };
 }
 
 impl Settings {
-    /// The plan's own settings: its limits, slowing chances and inflows, no blocked cell, every detector on.
+    /// The plan's own settings: its speed limits, slowing chances and inflows, no blocked cell, every detector on.
+    ///
+    /// # Errors
+    ///
+    /// `OutOfMemory` where a growth was refused.
     pub fn of_plan(alloc: Global, plan: &Plan) -> Result<Settings, OutOfMemory>
         ensures made { IfOk result (λ settings. settings ≡ defaults plan.now) }
         ensures fits { IfOk result (λ settings. Fits plan.now settings) }
     {
-        plan.limits();
+        plan.known();
         Ok(Settings {
-            limits: limits_of(alloc, plan.zones())?,
+            limits: speed_limits_of(alloc, plan.zones())?,
             chances: chances_of(alloc, plan.zones())?,
             inflows: inflows_of(alloc, plan.inlets())?,
             blocks: Vec::new(alloc),
@@ -47,8 +58,8 @@ impl Settings {
         })
     }
 
-    /// Whether they fit the plan: one allowed number for each zone, inlet and detector, and the blocked cells rise and are
-    /// on the road. It takes no memory.
+    /// Whether they fit the plan: one allowed number for each zone, inlet and detector, and the blocked cells rise and
+    /// are on the road. It takes no memory.
     pub fn fits(&self, plan: &Plan) -> bool
         ensures { IsTrue result ↔ Fits plan.now self.now }
     {
@@ -57,7 +68,12 @@ impl Settings {
 
     // Whether there is one for each zone, inlet and detector.
     fn have_sizes(&self, plan: &Plan) -> bool
-        ensures { IsTrue result ↔ ((length self.now.limits ≡ length plan.now.zones) × (length self.now.chances ≡ length plan.now.zones) × (length self.now.inflows ≡ length plan.now.inlets) × (length self.now.watched ≡ length plan.now.detectors)) }
+        ensures { IsTrue result ↔ (
+            (length self.now.limits ≡ length plan.now.zones)
+            × (length self.now.chances ≡ length plan.now.zones)
+            × (length self.now.inflows ≡ length plan.now.inlets)
+            × (length self.now.watched ≡ length plan.now.detectors)
+            ) }
     {
         self.limits.len() == plan.zones().len()
             && self.chances.len() == plan.zones().len()
@@ -67,7 +83,11 @@ impl Settings {
 
     // Whether each is in its range.
     fn are_allowed(&self) -> bool
-        ensures { IsTrue result ↔ (All (λ n. n ≤ GREATEST_LIMIT) self.now.limits × All (λ n. n ≤ CERTAIN) self.now.chances × All (λ n. n ≤ CERTAIN) self.now.inflows) }
+        ensures { IsTrue result ↔ (
+            All (λ n. n ≤ GREATEST_LIMIT) self.now.limits
+            × All (λ n. n ≤ CERTAIN) self.now.chances
+            × All (λ n. n ≤ CERTAIN) self.now.inflows
+            ) }
     {
         are_at_most(self.limits.as_slice(), GREATEST_LIMIT)
             && are_at_most(self.chances.as_slice(), CERTAIN)
@@ -76,7 +96,9 @@ impl Settings {
 
     // Whether the blocked cells rise and are on the road.
     fn have_blocks(&self, plan: &Plan) -> bool
-        ensures { IsTrue result ↔ (IsStrictlyIncreasing self.now.blocks × All (λ cell. cell < plan.now.cells) self.now.blocks) }
+        ensures { IsTrue result ↔ (
+            IsStrictlyIncreasing self.now.blocks × All (λ cell. cell < plan.now.cells) self.now.blocks
+            ) }
     {
         do_rise(self.blocks.as_slice()) && are_below(self.blocks.as_slice(), plan.length())
     }
@@ -117,49 +139,49 @@ impl Settings {
     }
 }
 
-/// The speed limits of these zones.
-fn limits_of(alloc: Global, zones: &[(u32, u32)]) -> Result<Vec<u32>, OutOfMemory>
+// The speed limits of these zones.
+fn speed_limits_of(alloc: Global, zones: &[(u32, u32)]) -> Result<Vec<u32>, OutOfMemory>
     ensures { IfOk result (λ limits. limits.items ≡ map (λ zone. zone.0) zones.now) }
 {
     zones.iter().map(|zone| zone.0).collect(alloc)
 }
 
-/// The slowing chances of these zones.
+// The slowing chances of these zones.
 fn chances_of(alloc: Global, zones: &[(u32, u32)]) -> Result<Vec<u32>, OutOfMemory>
     ensures { IfOk result (λ chances. chances.items ≡ map (λ zone. zone.1) zones.now) }
 {
     zones.iter().map(|zone| zone.1).collect(alloc)
 }
 
-/// The inflow chances of these inlets.
+// The inflow chances of these inlets.
 fn inflows_of(alloc: Global, inlets: &[(u32, u32)]) -> Result<Vec<u32>, OutOfMemory>
     ensures { IfOk result (λ inflows. inflows.items ≡ map (λ inlet. inlet.1) inlets.now) }
 {
     inlets.iter().map(|inlet| inlet.1).collect(alloc)
 }
 
-/// Each of these detectors on.
+// Each of these detectors on.
 fn all_on(alloc: Global, detectors: &[u32]) -> Result<Vec<bool>, OutOfMemory>
     ensures { IfOk result (λ watched. watched.items ≡ map (λ site. true) detectors.now) }
 {
     detectors.iter().map(|_| true).collect(alloc)
 }
 
-/// Whether none of these numbers is above `most`.
+// Whether none of these numbers is above `most`.
 fn are_at_most(numbers: &[u32], most: u32) -> bool
     ensures { IsTrue result ↔ All (λ n. n ≤ most) numbers.now }
 {
     numbers.iter().all(|n| *n <= most)
 }
 
-/// Whether all of these cells are below `end`.
+// Whether all of these cells are below `end`.
 fn are_below(cells: &[u32], end: u32) -> bool
     ensures { IsTrue result ↔ All (λ cell. cell < end) cells.now }
 {
     cells.iter().all(|cell| *cell < end)
 }
 
-/// Whether these cells strictly rise.
+// Whether these cells strictly rise.
 fn do_rise(cells: &[u32]) -> bool
     ensures { IsTrue result ↔ IsStrictlyIncreasing cells.now }
 {

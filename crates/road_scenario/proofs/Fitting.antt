@@ -64,7 +64,7 @@ latest_in (f ∷ es) e h = subst (λ x. IsIn x (f ∷ es)) (the_one h) (best_in 
 
 module _ (p : Plan) (limits : IsWithinLimits p) (es : List Edit) (each : (e : Edit) → IsIn e es → IsInRange p e) where
   default_allowed : (o : Object) → in_plan p o ≡ true → allows o (default p o) ≡ true
-  default_allowed (Limit zone) h = le-leb _ _ (limits.limits_allowed zone (0, 0) (ltb-true _ _ h))
+  default_allowed (Limit zone) h = le-leb _ _ (limits.speed_limits_allowed zone (0, 0) (ltb-true _ _ h))
   default_allowed (Slow zone) h = le-leb _ _ (limits.chances_allowed zone (0, 0) (ltb-true _ _ h))
   default_allowed (Block cell) h = refl
   default_allowed (Inflow inlet) h = le-leb _ _ (limits.inflows_allowed inlet (0, 0) (ltb-true _ _ h))
@@ -116,8 +116,8 @@ module _ (p : Plan) (limits : IsWithinLimits p) (es : List Edit) (each : (e : Ed
 
   pub fits : (step : ℕ) → Fits p (settings_in p es step)
   fits step = record {
-    limit_each = length-map-range_with_len (λ z. setting_in p es (Limit z) step) 0 (length p.zones);
-    limits_allowed = each_at (λ n. n ≤ GREATEST_LIMIT) (λ z. setting_in p es (Limit z) step) (length p.zones) (λ k l. at_most step (Limit k) GREATEST_LIMIT (lt-ltb _ _ l) (λ n. refl));
+    speed_limit_each = length-map-range_with_len (λ z. setting_in p es (Limit z) step) 0 (length p.zones);
+    speed_limits_allowed = each_at (λ n. n ≤ GREATEST_LIMIT) (λ z. setting_in p es (Limit z) step) (length p.zones) (λ k l. at_most step (Limit k) GREATEST_LIMIT (lt-ltb _ _ l) (λ n. refl));
     chance_each = length-map-range_with_len (λ z. setting_in p es (Slow z) step) 0 (length p.zones);
     chances_allowed = each_at (λ n. n ≤ CERTAIN) (λ z. setting_in p es (Slow z) step) (length p.zones) (λ k l. at_most step (Slow k) CERTAIN (lt-ltb _ _ l) (λ n. refl));
     inflow_each = length-map-range_with_len (λ z. setting_in p es (Inflow z) step) 0 (length p.inlets);

@@ -15,8 +15,8 @@ use Rattle.lattice_core.proofs.FoldedMaps.{fold-joined_in, fold-map_join}
 use Rattle.lattice_core.specs.Greatest.{is_nothing, greatest_join}
 use Rattle.lattice_core.specs.Instances.GreaterValues.{greatest_laws}
 use Rattle.lattice_core.specs.Lattice.{LatticeLaws}
-use Rattle.lattice_core.specs.Map.{IsHeld, joined_in, map_join, is_empty}
-use Rattle.lattice_core.specs.Instances.JoinedMaps.{map_laws, proper-map_join, proper-joined_in}
+use Rattle.lattice_core.specs.Map.{IsHeld, map_with, map_join, is_empty}
+use Rattle.lattice_core.specs.Instances.JoinedMaps.{map_laws, proper-map_join, proper-map_with}
 use Rattle.lattice_core.specs.Sets.{empty, union, retain, contains, items, from_list}
 use Rattle.lattice_core.proofs.SetElements.{from_list-empty, contains-empty, contains-from_list, contains-items, contains-retain, contains-union, same_set}
 use Rattle.road_plan.specs.Objects.{order_key}
@@ -227,13 +227,13 @@ kept-joined m n p q =
     ∙ both_kept m n p q
 
 -- maps with one edit joined in hold the join with it
-pub kept-with : (m : Maps) (e : Edit) (steps : Steps) → AreMaps m → steps ≡ (e.step, Of (e.stamp, e.value)) ∷ [] → kept (joined_in object_cmp steps_join is_empty m e.object steps) ≡ join (kept m) (single e)
+pub kept-with : (m : Maps) (e : Edit) (steps : Steps) → AreMaps m → steps ≡ (e.step, Of (e.stamp, e.value)) ∷ [] → kept (map_with object_cmp steps_join is_empty m e.object steps) ≡ join (kept m) (single e)
 kept-with m e steps p is =
     let one : Steps = (e.step, Of (e.stamp, e.value)) ∷ [] in
     let held : IsHeld IsSteps is_empty one = (record { rises = tt; held = ((tt, refl), tt) }, refl) in
-    ap (λ x. kept (joined_in object_cmp steps_join is_empty m e.object x)) is
-    ∙ sym (winners-kept _ (proper-joined_in object_cmp object_total object_exact IsSteps steps_join is_empty steps_laws m e.object one p held.0))
-    ∙ winners-listed (joined_in object_cmp steps_join is_empty m e.object one)
+    ap (λ x. kept (map_with object_cmp steps_join is_empty m e.object x)) is
+    ∙ sym (winners-kept _ (proper-map_with object_cmp object_total object_exact IsSteps steps_join is_empty steps_laws m e.object one p held.0))
+    ∙ winners-listed (map_with object_cmp steps_join is_empty m e.object one)
     ∙ fold-joined_in object_cmp object_total object_exact IsSteps steps_join is_empty steps_laws join empty edits_join joined_at steps_joins m e.object one p held
     ∙ winners_laws.commutative (joined_at e.object one) (all_joined m)
     ∙ (λ i. join ((sym (winners-listed m) ∙ winners-kept m p) i) ((join-empty (single e) ∙ winners-single e) i))

@@ -13,7 +13,7 @@ use Rattle.std.proofs.Common.{arith, sym, ap, subst, ◌∙◌}
 use Rattle.std.proofs.lemmas.Bool.{true≢false}
 use Rattle.std.proofs.lemmas.Bool.Decides.{nat_tests}
 use Rattle.lattice_core.specs.declared.greatest.Greatest.TheVariants.{Nothing, Of}
-use Rattle.road_plan.specs.Objects.{order_key, by_kind_and_index}
+use Rattle.road_plan.specs.Objects.{order_key, object_order}
 use Rattle.road_plan.specs.Instances.ObjectOrder.{ordered}
 use Rattle.road_plan.specs.declared.object.Object.{Object}
 use Rattle.road_scenario.specs.declared.edit.Stamp.{Stamp}
@@ -28,7 +28,7 @@ use Rattle.road_scenario.proofs.Rising.{object_cmp, left, right, is_less}
 
 -- whether two objects are the same
 abbrev pub is_one : Object → Object → Bool
-is_one p o = is_eq (by_kind_and_index p o)
+is_one p o = is_eq (object_order p o)
 
 -- ---- the code's walk
 

@@ -5,12 +5,12 @@ use Rattle.std.specs.declared.cmp.Ordering.TheVariants.{Less, Equal, Greater}
 use Rattle.std.specs.Ordering.{nat_cmp, ordering_then, ordering_reverse, eq_by_cmp, is_eq, is_lt}
 use Rattle.std.specs.Cmp.{Equal-is, tied_itself}
 use Rattle.std.specs.FinMap.Entries.{below_all, is_sorted}
-use Rattle.std.specs.List.{list_any}
+use Rattle.std.specs.List.{AllByRecursion, list_any}
 use Rattle.std.proofs.Common.{sym, ap, subst, ◌∙◌, inl, inr}
 use Rattle.std.proofs.lemmas.Bool.{true≢false, or_cases}
 use Rattle.lattice_core.specs.declared.greatest.Greatest.TheVariants.{Nothing, Of}
 use Rattle.lattice_core.specs.Greatest.{is_nothing}
-use Rattle.lattice_core.specs.Map.{EachEntry, IsHeld, IsProperMap, is_empty}
+use Rattle.lattice_core.specs.Map.{IsHeld, IsProperMap, is_empty}
 use Rattle.lattice_core.specs.Sets.{is_below, is_rising, items, contains, from_list}
 use Rattle.lattice_core.proofs.SetElements.{contains-items, contains-retain, same_set, items-from_list}
 use Rattle.road_plan.specs.Objects.{order_key}
@@ -128,7 +128,7 @@ rising_at o (s ∷ steps) h =
       | Of w ↦ both _ _ (below_steps o s.0 w steps (left (below_all nat_cmp s.0 steps) _ h)) rest
     ]
 
-pub rising_listed : (m : Maps) → T (is_sorted object_cmp m) → EachEntry (λ e. IsHeld IsSteps is_empty e.1) m → T (is_rising place_cmp (listed m))
+pub rising_listed : (m : Maps) → T (is_sorted object_cmp m) → AllByRecursion (λ e. IsHeld IsSteps is_empty e.1) m → T (is_rising place_cmp (listed m))
 rising_listed [] h k = tt
 rising_listed (x ∷ m) h k =
     rising-append place_cmp (listed_at x.0 x.1) (listed m) (rising_at x.0 x.1 k.0.0.rises) (rising_listed m (right (below_all object_cmp x.0 m) _ h) k.1) (each_below x.0 x.1 m (left (below_all object_cmp x.0 m) _ h))

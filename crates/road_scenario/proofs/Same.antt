@@ -2,13 +2,13 @@
 use Rattle.std.specs.Prelude.{◌≡◌, Bool, true, false, cond, T, List, [], ◌∷◌, ◌++◌, map, refl}
 use Rattle.std.specs.declared.option.Option.{Option}
 use Rattle.std.specs.declared.option.Option.TheVariants.{None, Some}
-use Rattle.std.specs.List.{filter}
+use Rattle.std.specs.List.{AllByRecursion, filter}
 use Rattle.std.specs.FinMap.Entries.{find, below_all, is_sorted}
 use Rattle.std.proofs.Common.{sym, ap, subst, ◌∙◌}
 use Rattle.std.proofs.lemmas.Bool.{true≢false}
 use Rattle.lattice_core.specs.declared.greatest.Greatest.TheVariants.{Nothing, Of}
 use Rattle.lattice_core.specs.Greatest.{is_nothing}
-use Rattle.lattice_core.specs.Map.{EachEntry, IfHeld, IsHeld, is_empty}
+use Rattle.lattice_core.specs.Map.{IfHeld, IsHeld, is_empty}
 use Rattle.lattice_core.specs.Instances.JoinedMaps.{good_at, same_maps}
 use Rattle.lattice_core.specs.Sets.{items}
 use Rattle.road_plan.specs.Instances.ObjectOrder.{object_exact}
@@ -70,7 +70,7 @@ of_object (e ∷ m) s o =
 abbrev unlisted : List Edit → Steps
 unlisted es = map (λ e. (e.step, Of (e.stamp, e.value))) es
 
-back : (o : Object) (steps : Steps) → EachEntry (λ e. IsHeld (λ _. Unit {0}) is_nothing e.1) steps → unlisted (listed_at o steps) ≡ steps
+back : (o : Object) (steps : Steps) → AllByRecursion (λ e. IsHeld (λ _. Unit {0}) is_nothing e.1) steps → unlisted (listed_at o steps) ≡ steps
 back o [] h = refl
 back o (s ∷ steps) h = here s.1 h.0.1 (back o steps h.1)
   where
@@ -120,7 +120,7 @@ some_listed o (s ∷ steps) es h = here s.1 h.0.held.0.1
     here Nothing g = absurd (true≢false g)
     here (Of w) g = refl
 
-empty_listed : (m : Maps) → EachEntry (λ e. IsHeld IsSteps is_empty e.1) m → is_empty m ≡ is_empty (listed m)
+empty_listed : (m : Maps) → AllByRecursion (λ e. IsHeld IsSteps is_empty e.1) m → is_empty m ≡ is_empty (listed m)
 empty_listed [] h = refl
 empty_listed (e ∷ m) h = sym (some_listed e.0 e.1 (listed m) h.0)
 

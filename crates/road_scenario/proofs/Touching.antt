@@ -4,7 +4,7 @@ use Rattle.std.specs.declared.cmp.Ordering.{Ordering}
 use Rattle.std.specs.declared.cmp.Ordering.TheVariants.{Less, Equal, Greater}
 use Rattle.std.specs.declared.option.Option.{Option}
 use Rattle.std.specs.declared.option.Option.TheVariants.{None, Some}
-use Rattle.std.specs.List.{filter, fold, list_any}
+use Rattle.std.specs.List.{AllByRecursion, filter, fold, list_any}
 use Rattle.std.specs.Ordering.{nat_cmp, ordering_then, eq_by_cmp, is_eq, is_lt}
 use Rattle.std.specs.Cmp.{Equal-is, tied_itself}
 use Rattle.std.specs.FinMap.Entries.{find, below_all, is_sorted}
@@ -13,7 +13,7 @@ use Rattle.std.proofs.lemmas.Bool.{true≢false, or_cases, or_left, or_right}
 use Rattle.std.proofs.lemmas.Bool.Decides.{nat_tests}
 use Rattle.lattice_core.specs.declared.greatest.Greatest.TheVariants.{Nothing, Of}
 use Rattle.lattice_core.specs.Greatest.{is_nothing}
-use Rattle.lattice_core.specs.Map.{EachEntry, IsHeld, is_empty}
+use Rattle.lattice_core.specs.Map.{IsHeld, is_empty}
 use Rattle.lattice_core.specs.Sets.{is_below, is_rising}
 use Rattle.road_plan.specs.Objects.{order_key}
 use Rattle.road_plan.specs.declared.object.Object.{Object}
@@ -65,7 +65,7 @@ put_above o step (e ∷ m) h =
 turned : (a b : ℕ) → is_eq (nat_cmp a b) ≡ is_eq (nat_cmp b a)
 turned a b = grind (arith, nat_tests)
 
-put_here : (o : Object) (step : ℕ) (steps : Steps) (fs : List Edit) → EachEntry (λ e. IsHeld (λ _. Unit {0}) is_nothing e.1) steps → put_in fs (place_of o step) ≡ None → put_in (listed_at o steps ++ fs) (place_of o step) ≡ number_found steps step
+put_here : (o : Object) (step : ℕ) (steps : Steps) (fs : List Edit) → AllByRecursion (λ e. IsHeld (λ _. Unit {0}) is_nothing e.1) steps → put_in fs (place_of o step) ≡ None → put_in (listed_at o steps ++ fs) (place_of o step) ≡ number_found steps step
 put_here o step [] fs h none = none
 put_here o step (s ∷ steps) fs h none = here s.1 h.0.1 (put_here o step steps fs h.1 none)
   where
@@ -83,7 +83,7 @@ put_here o step (s ∷ steps) fs h none = here s.1 h.0.1 (put_here o step steps 
         ∙ either (is_eq (nat_cmp step s.0)) w (find nat_cmp step steps)
 
 -- what is put at an object and step is found by look-ups
-put_found : (m : Maps) → T (is_sorted object_cmp m) → EachEntry (λ e. IsHeld IsSteps is_empty e.1) m → (o : Object) (step : ℕ) → put_in (listed m) (place_of o step) ≡ number_found (steps_of object_cmp m o) step
+put_found : (m : Maps) → T (is_sorted object_cmp m) → AllByRecursion (λ e. IsHeld IsSteps is_empty e.1) m → (o : Object) (step : ℕ) → put_in (listed m) (place_of o step) ≡ number_found (steps_of object_cmp m o) step
 put_found [] s h o step = refl
 put_found (e ∷ m) s h o step = elim (is_one e.0 o) as (λ b. is_one e.0 o ≡ b → put_in (listed (e ∷ m)) (place_of o step) ≡ number_found (steps_of object_cmp (e ∷ m) o) step) [
   | true ↦ λ t.
@@ -154,7 +154,7 @@ first_least a (e ∷ es) h = ap (λ x. fold min x (steps_of_edits es)) (lesser a
 abbrev is_new : Maps → Edit → Bool
 is_new n e = not (same_number (number_put e.value) (number_found (steps_of object_cmp n e.object) e.step))
 
-least_at : (n : Maps) (o : Object) (steps : Steps) → T (is_sorted nat_cmp steps) → EachEntry (λ e. IsHeld (λ _. Unit {0}) is_nothing e.1) steps → least (steps_of_edits (filter (is_new n) (listed_at o steps))) ≡ changed_at steps (steps_of object_cmp n o)
+least_at : (n : Maps) (o : Object) (steps : Steps) → T (is_sorted nat_cmp steps) → AllByRecursion (λ e. IsHeld (λ _. Unit {0}) is_nothing e.1) steps → least (steps_of_edits (filter (is_new n) (listed_at o steps))) ≡ changed_at steps (steps_of object_cmp n o)
 least_at n o [] s h = refl
 least_at n o (x ∷ steps) s h = here x.1 h.0.1 (least_at n o steps (right (below_all nat_cmp x.0 steps) _ s) h.1) (later_kept (is_new n) x.0 (listed_at o steps) (later_listed o x.0 steps (left (below_all nat_cmp x.0 steps) _ s)))
   where
@@ -172,7 +172,7 @@ map-append : (es fs : List Edit) → steps_of_edits (es ++ fs) ≡ steps_of_edit
 map-append [] fs = refl
 map-append (e ∷ es) fs = ap (λ x. e.step ∷ x) (map-append es fs)
 
-least_all : (n m : Maps) → EachEntry (λ e. IsHeld IsSteps is_empty e.1) m → least (steps_of_edits (filter (is_new n) (listed m))) ≡ changed object_cmp m n
+least_all : (n m : Maps) → AllByRecursion (λ e. IsHeld IsSteps is_empty e.1) m → least (steps_of_edits (filter (is_new n) (listed m))) ≡ changed object_cmp m n
 least_all n [] h = refl
 least_all n (e ∷ m) h =
     ap (λ es. least (steps_of_edits es)) (filter-append (is_new n) (listed_at e.0 e.1) (listed m))

@@ -8,7 +8,7 @@ use Rattle.std.specs.declared.option.Option.TheVariants.{None, Some}
 use Rattle.lattice_core.specs.Sets.{items}
 use Rattle.road_plan.specs.Plan.{Plan}
 use Rattle.road_plan.specs.Settings.{Settings}
-use Rattle.road_plan.specs.Objects.{by_kind_and_index, default}
+use Rattle.road_plan.specs.Objects.{object_order, default}
 use Rattle.road_plan.specs.declared.object.Object.{Object}
 use Rattle.road_plan.specs.declared.object.Object.TheVariants.{Limit, Slow, Block, Inflow, Watch}
 use Rattle.road_scenario.specs.declared.edit.Edit.{Edit}
@@ -17,7 +17,7 @@ use Rattle.road_scenario.specs.Winners.{winners}
 
 -- whether an edit puts a number to an object, dated at most at a step
 abbrev pub puts : Object → ℕ → Edit → Bool
-puts o step e = is_eq (by_kind_and_index e.object o) && (nat_le e.step step && is_some (number_put e.value))
+puts o step e = is_eq (object_order e.object o) && (nat_le e.step step && is_some (number_put e.value))
 
 -- the latest-dated of these edits
 abbrev pub latest : List Edit → Option Edit

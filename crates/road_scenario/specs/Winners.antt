@@ -3,7 +3,7 @@ use Rattle.std.specs.Prelude.{◌≡◌, Bool, not, List}
 use Rattle.std.specs.List.{list_any, filter}
 use Rattle.lattice_core.specs.Map.{is_empty}
 use Rattle.lattice_core.specs.Sets.{items}
-use Rattle.lattice_core.specs.Tops.{tops, join_by}
+use Rattle.lattice_core.specs.Tops.{tops, tops_join}
 use Rattle.road_scenario.specs.declared.edit.Edit.{Edit}
 use Rattle.road_scenario.specs.Edits.{Edits, exceeds}
 
@@ -13,7 +13,7 @@ winners edits = tops exceeds edits
 
 -- the winners of both sets
 abbrev pub join : Edits → Edits → Edits
-join s t = join_by exceeds s t
+join s t = tops_join exceeds s t
 
 -- the winners of a list of edits
 abbrev pub winners_in : List Edit → List Edit

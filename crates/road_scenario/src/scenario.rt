@@ -125,7 +125,7 @@ impl Scenario {
         ensures fits { IfOk result (λ settings. Fits plan.now settings) }
     {
         self.maps.known();
-        plan.limits();
+        plan.known();
         let mut settings = Settings::of_plan(alloc, plan)?;
         put_all(&mut settings, &self.maps, step)?;
         Ok(settings)

@@ -1,7 +1,7 @@
 //! Walks over a scenario's maps that read the numbers put.
 
 ghost use Rattle.std.specs.Prelude.{◌≡◌, true, OnOk};
-ghost use Rattle.lattice_core.specs.Map.{EachEntry};
+ghost use Rattle.std.specs.List.{AllByRecursion};
 ghost use Rattle.road_scenario.specs.Private.ScenarioWalks as walks;
 
 use crate::edit::Value;
@@ -11,7 +11,7 @@ use road_plan::{Object, OutOfMemory, Settings};
 
 // Puts the last number of each object up to a step into the settings.
 pub(crate) fn put_all(settings: &mut Settings, maps: &Maps, step: u32) -> Result<(), OutOfMemory>
-    requires { EachEntry (λ e. walks.has_place settings.now e.0 ≡ true) maps.now }
+    requires { AllByRecursion (λ e. walks.has_place settings.now e.0 ≡ true) maps.now }
     ensures { OnOk result (settings.new ≡ walks.with_puts step settings.old maps.now) }
 {
     for (object, steps) in maps.iter() {

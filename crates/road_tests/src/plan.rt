@@ -188,7 +188,7 @@ fn reads_the_parts(rt: HostRuntime) -> Result<(), Fail> {
     };
     for parts in [FREE, greatest] {
         let plan = plan_of(rt.alloc(), &parts)?;
-        plan.limits();
+        plan.known();
         assert!(rt; reads(&plan, &parts), "{parts:?}");
     }
     Ok(())

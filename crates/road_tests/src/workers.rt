@@ -34,7 +34,7 @@ fn stepped_by<C: Crew>(
     step: u32,
     road: &Road,
 ) -> Result<Road, Fail> {
-    plan.own_settings_fit();
+    plan.known_own_settings();
     let settings = Settings::of_plan(alloc, plan)?;
     let input: Arc<StepInput> = enter(alloc, plan, settings, step, road)?;
     let speeds = crew.speeds(alloc, &input)?;

@@ -3,7 +3,7 @@ use Rattle.std.specs.Prelude.{ℕ, ◌+◌, ◌*◌, ◌/◌, ◌%◌, ◌^◌, 
 use Rattle.std.proofs.Common.{arith}
 use Rattle.rand_chacha.specs.Block.{block_word, add32}
 use Rattle.road_words.specs.Words.{steady_word}
-use Rattle.road_words.specs.PlanWords.{named_word}
+use Rattle.road_words.specs.PlanWords.{source_word}
 use Rattle.road_words.specs.declared.plan_words.PlanWords.{PlanWords}
 use Rattle.road_words.specs.declared.plan_words.PlanWords.TheVariants.{Seeded, Steady}
 
@@ -21,6 +21,6 @@ steady_word-small stream place = let x = stream * 40503 + place * 30011 in small
     small x = omega arith
 
 -- no word is longer
-pub named_word-small : (words : PlanWords) (stream place : ℕ) → named_word words stream place < 2 ^ 32
-named_word-small (Seeded words) stream place = block_word-small 4 _ (place / 16) stream (place % 16)
-named_word-small (Steady words) stream place = steady_word-small stream place
+pub source_word-small : (words : PlanWords) (stream place : ℕ) → source_word words stream place < 2 ^ 32
+source_word-small (Seeded words) stream place = block_word-small 4 _ (place / 16) stream (place % 16)
+source_word-small (Steady words) stream place = steady_word-small stream place

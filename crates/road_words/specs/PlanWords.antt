@@ -1,10 +1,10 @@
--- The words that a value of the program's type names.
+-- The words of a source, a value of the program's type.
 use Rattle.std.specs.Prelude.{ℕ}
 use Rattle.road_words.specs.Words.{chacha_word, steady_word}
 use Rattle.road_words.specs.declared.plan_words.PlanWords.{PlanWords}
 use Rattle.road_words.specs.declared.plan_words.PlanWords.TheVariants.{Seeded, Steady}
 
--- the generator's word under the key that is held, or the steady word
-abbrev pub named_word : PlanWords → ℕ → ℕ → ℕ
-named_word (Seeded words) stream place = chacha_word words.key stream place
-named_word (Steady words) stream place = steady_word stream place
+-- the word of a source: the generator's word under the key that it holds, or the steady word
+abbrev pub source_word : PlanWords → ℕ → ℕ → ℕ
+source_word (Seeded words) stream place = chacha_word words.key stream place
+source_word (Steady words) stream place = steady_word stream place

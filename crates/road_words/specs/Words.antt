@@ -10,11 +10,11 @@ use Rattle.road_plan.specs.declared.parts.WordKind.TheVariants.{Seeded, Steady}
 abbrev pub chacha_word : List ℕ → ℕ → ℕ → ℕ
 chacha_word key stream place = word_at 4 (key_of key) stream place
 
--- a seed's key: its eight big-endian bytes, then 24 zeros
+-- the key of a seed: its eight big-endian bytes, then 24 zeros
 abbrev pub key_bytes : ℕ → List ℕ
 key_bytes seed = to_be_bytes w64 seed ++ replicate 24 0
 
--- the word of a seed
+-- the word of a seed: that of ChaCha8 under the seed's key
 abbrev pub seeded_word : ℕ → ℕ → ℕ → ℕ
 seeded_word seed stream place = chacha_word (key_bytes seed) stream place
 

@@ -16,7 +16,8 @@ pub struct ChaChaWords {
 impl ChaChaWords {
     /// The words under the key of this seed: its eight big-endian bytes, then 24 zeros. Takes no memory.
     pub fn new(seed: u64) -> Self
-        ensures { (stream place : ℕ) → ⟦<ChaChaWords as Words>⟧.word_of result stream place ≡ seeded_word seed stream place }
+        ensures { (stream place : ℕ) →
+            ⟦<ChaChaWords as Words>⟧.word_of result stream place ≡ seeded_word seed stream place }
     {
         let mut key = [0u8; 32];
         key[..8].copy_from_slice(&seed.to_be_bytes());

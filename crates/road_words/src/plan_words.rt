@@ -18,7 +18,8 @@ pub enum PlanWords {
 impl PlanWords {
     /// The words of this plan. Takes no memory.
     pub fn of(plan: &Plan) -> Self
-        ensures { (stream place : ℕ) → ⟦<PlanWords as Words>⟧.word_of result stream place ≡ word plan.now.words stream place }
+        ensures { (stream place : ℕ) →
+            ⟦<PlanWords as Words>⟧.word_of result stream place ≡ word plan.now.words stream place }
     {
         match plan.words() {
             WordKind::Seeded(seed) => PlanWords::Seeded(ChaChaWords::new(seed)),
@@ -28,9 +29,9 @@ impl PlanWords {
 }
 
 impl Words for PlanWords {
-    ghost use Rattle.road_words.specs.PlanWords.{named_word};
+    ghost use Rattle.road_words.specs.PlanWords.{source_word};
 
-    ghost word_of = { named_word };
+    ghost word_of = { source_word };
 
     fn word(&self, stream: u64, place: u64) -> u32 {
         match self {

@@ -65,7 +65,8 @@ module _ {T : Type 0} (cmp : T → T → Ordering) (total : IsTotalOrder cmp) (e
   comm (Of a) Nothing = refl
   comm (Of a) (Of b) = ap Of (greater_of-comm a b)
 
-  assoc : (x y z : Greatest T) → greatest_join cmp (greatest_join cmp x y) z ≡ greatest_join cmp x (greatest_join cmp y z)
+  assoc : (x y z : Greatest T)
+      → greatest_join cmp (greatest_join cmp x y) z ≡ greatest_join cmp x (greatest_join cmp y z)
   assoc Nothing y z = refl
   assoc (Of a) Nothing z = refl
   assoc (Of a) (Of b) Nothing = refl

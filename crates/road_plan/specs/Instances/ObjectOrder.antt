@@ -4,12 +4,12 @@ use Rattle.std.specs.Ordering.{nat_cmp}
 use Rattle.std.proofs.Common.{sym, ap, ◌∙◌}
 use Rattle.lattice_core.specs.Exact.{IsExact, pair_cmp}
 use Rattle.lattice_core.specs.Instances.ExactOrders.{exact_by, exact_nat, exact_pair}
-use Rattle.road_plan.specs.Objects.{by_kind_and_index, order_key}
+use Rattle.road_plan.specs.Objects.{object_order, order_key}
 use Rattle.road_plan.specs.declared.object.Object.{Object}
 use Rattle.road_plan.specs.declared.object.Object.TheVariants.{Limit, Slow, Block, Inflow, Watch}
 use Rattle.road_plan.specs.contracts.object.ObjectOrd.TheImpl as derived
 
-pub ordered : (x y : Object) → derived.ghosts.cmp x y ≡ by_kind_and_index x y
+pub ordered : (x y : Object) → derived.ghosts.cmp x y ≡ object_order x y
 ordered (Limit i) (Limit j) = refl
 ordered (Limit i) (Slow j) = refl
 ordered (Limit i) (Block j) = refl
@@ -55,4 +55,6 @@ pub same_object : (x y : Object) → order_key x ≡ order_key y → x ≡ y
 same_object x y e = sym (object_back x) ∙ ap object_of e ∙ object_back y
 
 pub object_exact : IsExact derived.ghosts.cmp
-object_exact = exact_by order_key derived.ghosts.cmp (pair_cmp nat_cmp nat_cmp) ordered same_object (exact_pair nat_cmp nat_cmp exact_nat exact_nat)
+object_exact =
+    exact_by order_key derived.ghosts.cmp (pair_cmp nat_cmp nat_cmp) ordered same_object
+    (exact_pair nat_cmp nat_cmp exact_nat exact_nat)

@@ -1,5 +1,5 @@
 use Rattle.std.proofs.Common.{◌∙◌}
-use Rattle.lattice_core.proofs.Steps.{insert_entry-put}
+use Rattle.lattice_core.proofs.MapLoops.{insert_entry-put}
 use Rattle.lattice_core.proofs.map.put_in.Goals as goal
 
 pub returns : goal.returns

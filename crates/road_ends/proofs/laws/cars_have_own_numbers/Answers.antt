@@ -2,4 +2,4 @@ use Rattle.road_ends.proofs.CarNumbers.{have_own_numbers}
 use Rattle.road_ends.proofs.laws.cars_have_own_numbers.Goals as goal
 
 pub returns : goal.returns
-returns c = have_own_numbers c.args.plan.now c.limits.ensures
+returns c = have_own_numbers c.args.plan.now c.known.ensures

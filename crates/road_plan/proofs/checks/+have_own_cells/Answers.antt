@@ -1,5 +1,5 @@
 use Rattle.std.proofs.Common.{refl}
-use Rattle.road_plan.proofs.Inlets.{cells_differ}
+use Rattle.road_plan.proofs.InletCells.{cells_differ}
 use Rattle.road_plan.proofs.checks.+have_own_cells.Goals as goal
 
 -- no other inlet is at the first one's cell

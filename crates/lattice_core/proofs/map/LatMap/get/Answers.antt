@@ -1,7 +1,7 @@
 use Rattle.std.proofs.Common.{◌∙◌, ap}
 use Rattle.std.specs.FinMap.Entries.{find}
-use Rattle.lattice_core.proofs.Calls.{held-found}
-use Rattle.lattice_core.proofs.Steps.{lookup-find}
+use Rattle.lattice_core.proofs.MapJoins.{held-found}
+use Rattle.lattice_core.proofs.MapLoops.{lookup-find}
 use Rattle.lattice_core.proofs.map.LatMap.get.Goals as goal
 
 pub returns-clause-value : goal.returns-clause-value

@@ -3,8 +3,8 @@ use Rattle.std.proofs.lemmas.Bool.{true≢false}
 use Rattle.std.specs.FinMap.Entries.{find}
 use Rattle.std.specs.Option.{option_copied}
 use Rattle.lattice_core.specs.Private.EntryLists.{IsUpTo}
-use Rattle.lattice_core.proofs.Steps.{lookup-find}
-use Rattle.lattice_core.proofs.UpTo.{AreUpTo, join-up_to, up_to-join}
+use Rattle.lattice_core.proofs.MapLoops.{lookup-find}
+use Rattle.lattice_core.proofs.MapOrder.{AreUpTo, join-up_to, up_to-join}
 use Rattle.lattice_core.proofs.map.LatMapLattice.at_most.Goals as goal
 
 pub loop-key-preserved : goal.loop-key-preserved

@@ -1,4 +1,4 @@
-use Rattle.lattice_core.proofs.UpTo.{AreUpTo}
+use Rattle.lattice_core.proofs.MapOrder.{AreUpTo}
 use Rattle.lattice_core.proofs.map.LatMapLattice.at_most.Given as goal
 
 -- what is left decides

@@ -1,6 +1,6 @@
 use Rattle.std.proofs.Common.{subst, T}
 use Rattle.std.specs.FinMap.Entries.{is_sorted}
-use Rattle.lattice_core.proofs.Steps.{copied_turn}
+use Rattle.lattice_core.proofs.MapLoops.{copied_turn}
 use Rattle.lattice_core.proofs.map.LatMapLattice.copied.Goals as goal
 
 pub loop-key-preserved : goal.loop-key-preserved

@@ -1,14 +1,13 @@
 use Rattle.std.proofs.Common.{sym, ◌∙◌}
 use Rattle.std.proofs.lemmas.Option.{none-some}
-use Rattle.road_plan.proofs.Accepted.{no_fault}
-use Rattle.road_plan.proofs.Faultless.{within_limits}
+use Rattle.road_plan.proofs.PlanFaults.{faultless}
 use Rattle.road_plan.proofs.plan.Plan.new.Goals as goal
 
 -- no fault was found
 pub invariant_of-result : goal.invariant_of-result
-invariant_of-result c = within_limits _ (sym c.first_fault.ensures ∙ c.in-None.is)
+invariant_of-result c = (faultless _).0 (sym c.first_fault.ensures ∙ c.in-None.is)
 
 -- a fault was found, so the plan is not within the limits
 pub returns-in-Some-clause-accepted : goal.returns-in-Some-clause-accepted
 returns-in-Some-clause-accepted c = λ within.
-    absurd (none-some _ (sym (no_fault _ within) ∙ sym c.first_fault.ensures ∙ c.in-Some.is))
+    absurd (none-some _ (sym ((faultless _).1 within) ∙ sym c.first_fault.ensures ∙ c.in-Some.is))

@@ -6,5 +6,5 @@ use Rattle.road_scenario.proofs.scenario.Scenario.joined.Goals as goal
 
 pub returns : goal.returns
 returns c =
-    ap kept c.in_ok-joined.ensures ∙ kept-joined c.self.inside.maps c.other.inside.maps c.known.ensures c.known-2.ensures
+    ap kept c.in_ok-joined.ensures.made ∙ kept-joined c.self.inside.maps c.other.inside.maps c.known.ensures c.known-2.ensures
     ∙ (λ i. join (c.self.view_is i) (c.other.view_is i))

@@ -1,5 +1,5 @@
 use Rattle.std.proofs.Common.{◌≡◌, None, true, sym, ap, subst, ◌∙◌}
-use Rattle.lattice_core.specs.Map.{EachEntry}
+use Rattle.std.specs.List.{AllByRecursion}
 use Rattle.road_plan.specs.Settings.{Fits}
 use Rattle.road_scenario.specs.Faults.{fault_in}
 use Rattle.road_scenario.specs.Private.Registers.{kept}
@@ -12,7 +12,7 @@ use Rattle.road_scenario.proofs.scenario.Scenario.settings_at.Goals as goal
 pub put_all-requires : goal.put_all-requires
 put_all-requires c =
     let p = c.args.plan.now in
-    subst (λ s. EachEntry (λ e. has_place s e.0 ≡ true) c.self.inside.maps) (sym c.in_ok-settings.ensures.made) (places_own p c.self.inside.maps (inside_plan p c.self.inside.maps c.known.ensures (ap (fault_in p) c.self.view_is ∙ c.requires)))
+    subst (λ s. AllByRecursion (λ e. has_place s e.0 ≡ true) c.self.inside.maps) (sym c.in_ok-settings.ensures.made) (places_own p c.self.inside.maps (inside_plan p c.self.inside.maps c.known.ensures (ap (fault_in p) c.self.view_is ∙ c.requires)))
 
 pub returns-clause-made : goal.returns-clause-made
 returns-clause-made c =
@@ -27,4 +27,4 @@ returns-clause-fits c =
     let p = c.args.plan.now in
     let m = c.self.inside.maps in
     let f : fault_in p (kept m) ≡ None = ap (fault_in p) c.self.view_is ∙ c.requires in
-    subst (Fits p) (sym (c.in_ok-put_all.ensures ∙ ap (λ s. with_puts c.args.step s m) c.in_ok-settings.ensures.made ∙ settings-kept p m c.args.step c.known.ensures (inside_plan p m c.known.ensures f))) (fits-kept p c.limits.ensures m c.known.ensures f c.args.step)
+    subst (Fits p) (sym (c.in_ok-put_all.ensures ∙ ap (λ s. with_puts c.args.step s m) c.in_ok-settings.ensures.made ∙ settings-kept p m c.args.step c.known.ensures (inside_plan p m c.known.ensures f))) (fits-kept p c.known-2.ensures m c.known.ensures f c.args.step)

@@ -12,8 +12,8 @@ empty_rises k past = absurd (omega (arith, past))
 
 defaults_fit : (p : Plan) → IsWithinLimits p → Fits p (defaults p)
 defaults_fit p within = record {
-  limit_each = length-map p.zones _;
-  limits_allowed = All-map (λ limit. limit ≤ GREATEST_LIMIT) _ p.zones within.limits_allowed;
+  speed_limit_each = length-map p.zones _;
+  speed_limits_allowed = All-map (λ limit. limit ≤ GREATEST_LIMIT) _ p.zones within.speed_limits_allowed;
   chance_each = length-map p.zones _;
   chances_allowed = All-map (λ chance. chance ≤ CERTAIN) _ p.zones within.chances_allowed;
   inflow_each = length-map p.inlets _;

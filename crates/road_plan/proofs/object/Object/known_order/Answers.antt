@@ -1,5 +1,5 @@
 use Rattle.road_plan.specs.Instances.ObjectOrder.{ordered}
-use Rattle.road_plan.proofs.object.Object.are_ordered.Goals as goal
+use Rattle.road_plan.proofs.object.Object.known_order.Goals as goal
 
 pub returns : goal.returns
 returns c = ordered c.args.self c.args.other

@@ -9,7 +9,7 @@ use Rattle.std.specs.Map.{lookup}
 use Rattle.std.specs.Ordering.{is_eq, is_ne, is_lt, eq_by_cmp, match_ordering, ordering_reverse}
 use Rattle.std.specs.Cmp.{IsTotalOrder}
 use Rattle.lattice_core.specs.Instances.JoinedMaps.{first_of_both, second_of_both}
-use Rattle.lattice_core.specs.Private.EntryLists.{beside, filled, raise, raised_by}
+use Rattle.lattice_core.specs.Private.EntryLists.{other_entries, left_union, join_with_option, joined_entries}
 
 -- a look-up in a BTreeMap
 pub lookup-find : {K V : Type 0} (cmp : K → K → Ordering) (q : K) (es : List (K × V)) → lookup (is_at (cmp q)) es ≡ find cmp q es
@@ -59,34 +59,34 @@ module _ {K V : Type 0} (cmp : K → K → Ordering) (total : IsTotalOrder cmp) 
   copied_turn old new it rest all k v w steps inv sorted made same =
       next_put old new rest all k v (ap (λ x. old ++ x) (sym steps) ∙ inv) sorted (made ∙ ap (λ x. put cmp k x old) same)
 
-  below-raised_by : (join : V → V → V) (fs : List (K × V)) (q : K) (es : List (K × V)) → below_all cmp q (raised_by cmp join fs es) ≡ below_all cmp q es
-  below-raised_by join fs q [] = refl
-  below-raised_by join fs q (e ∷ es) = ap (λ b. is_lt (cmp q e.0) && b) (below-raised_by join fs q es)
+  below-joined_entries : (join : V → V → V) (fs : List (K × V)) (q : K) (es : List (K × V)) → below_all cmp q (joined_entries cmp join fs es) ≡ below_all cmp q es
+  below-joined_entries join fs q [] = refl
+  below-joined_entries join fs q (e ∷ es) = ap (λ b. is_lt (cmp q e.0) && b) (below-joined_entries join fs q es)
 
-  pub is_sorted-raised_by : (join : V → V → V) (fs es : List (K × V)) → is_sorted cmp (raised_by cmp join fs es) ≡ is_sorted cmp es
-  is_sorted-raised_by join fs [] = refl
-  is_sorted-raised_by join fs (e ∷ es) =
-      ap (λ b. b && is_sorted cmp (raised_by cmp join fs es)) (below-raised_by join fs e.0 es)
-      ∙ ap (λ b. below_all cmp e.0 es && b) (is_sorted-raised_by join fs es)
+  pub is_sorted-joined_entries : (join : V → V → V) (fs es : List (K × V)) → is_sorted cmp (joined_entries cmp join fs es) ≡ is_sorted cmp es
+  is_sorted-joined_entries join fs [] = refl
+  is_sorted-joined_entries join fs (e ∷ es) =
+      ap (λ b. b && is_sorted cmp (joined_entries cmp join fs es)) (below-joined_entries join fs e.0 es)
+      ∙ ap (λ b. below_all cmp e.0 es && b) (is_sorted-joined_entries join fs es)
 
-  pub raised_turn : (join : V → V → V) (fs old new it rest all : List (K × V)) (k : K) (v w : V) → it ≡ (k, v) ∷ rest → old ++ raised_by cmp join fs it ≡ raised_by cmp join fs all → T (is_sorted cmp all) → new ≡ put cmp k w old → w ≡ raise join v (find cmp k fs) → new ++ raised_by cmp join fs rest ≡ raised_by cmp join fs all
-  raised_turn join fs old new it rest all k v w steps inv sorted made same =
-      next_put old new (raised_by cmp join fs rest) _ k _ (ap (λ x. old ++ raised_by cmp join fs x) (sym steps) ∙ inv) (subst T (sym (is_sorted-raised_by join fs all)) sorted) (made ∙ ap (λ x. put cmp k x old) same)
+  pub joined_entries_turn : (join : V → V → V) (fs old new it rest all : List (K × V)) (k : K) (v w : V) → it ≡ (k, v) ∷ rest → old ++ joined_entries cmp join fs it ≡ joined_entries cmp join fs all → T (is_sorted cmp all) → new ≡ put cmp k w old → w ≡ join_with_option join v (find cmp k fs) → new ++ joined_entries cmp join fs rest ≡ joined_entries cmp join fs all
+  joined_entries_turn join fs old new it rest all k v w steps inv sorted made same =
+      next_put old new (joined_entries cmp join fs rest) _ k _ (ap (λ x. old ++ joined_entries cmp join fs x) (sym steps) ∙ inv) (subst T (sym (is_sorted-joined_entries join fs all)) sorted) (made ∙ ap (λ x. put cmp k x old) same)
 
-  pub beside_turn : (key : K) (old new it rest all : List (K × V)) (k : K) (v w : V) → it ≡ (k, v) ∷ rest → old ++ beside cmp key it ≡ beside cmp key all → T (is_sorted cmp all) → eq_by_cmp cmp k key ≡ false → new ≡ put cmp k w old → w ≡ v → new ++ beside cmp key rest ≡ beside cmp key all
-  beside_turn key old new it rest all k v w steps inv sorted apart made same =
-      next_put old new (beside cmp key rest) _ k v (ap (λ b. old ++ cond (not b) ((k, v) ∷ beside cmp key rest) (beside cmp key rest)) (sym apart) ∙ ap (λ x. old ++ beside cmp key x) (sym steps) ∙ inv) (is_sorted-where_key cmp (λ x. not (eq_by_cmp cmp x key)) all sorted) (made ∙ ap (λ x. put cmp k x old) same)
+  pub other_entries_turn : (key : K) (old new it rest all : List (K × V)) (k : K) (v w : V) → it ≡ (k, v) ∷ rest → old ++ other_entries cmp key it ≡ other_entries cmp key all → T (is_sorted cmp all) → eq_by_cmp cmp k key ≡ false → new ≡ put cmp k w old → w ≡ v → new ++ other_entries cmp key rest ≡ other_entries cmp key all
+  other_entries_turn key old new it rest all k v w steps inv sorted apart made same =
+      next_put old new (other_entries cmp key rest) _ k v (ap (λ b. old ++ cond (not b) ((k, v) ∷ other_entries cmp key rest) (other_entries cmp key rest)) (sym apart) ∙ ap (λ x. old ++ other_entries cmp key x) (sym steps) ∙ inv) (is_sorted-where_key cmp (λ x. not (eq_by_cmp cmp x key)) all sorted) (made ∙ ap (λ x. put cmp k x old) same)
 
-  pub beside_skip : (key : K) (old it rest all : List (K × V)) (k : K) (v : V) → it ≡ (k, v) ∷ rest → old ++ beside cmp key it ≡ beside cmp key all → eq_by_cmp cmp k key ≡ true → old ++ beside cmp key rest ≡ beside cmp key all
-  beside_skip key old it rest all k v steps inv tie =
-      ap (λ b. old ++ cond (not b) ((k, v) ∷ beside cmp key rest) (beside cmp key rest)) (sym tie) ∙ ap (λ x. old ++ beside cmp key x) (sym steps) ∙ inv
+  pub other_entries_skip : (key : K) (old it rest all : List (K × V)) (k : K) (v : V) → it ≡ (k, v) ∷ rest → old ++ other_entries cmp key it ≡ other_entries cmp key all → eq_by_cmp cmp k key ≡ true → old ++ other_entries cmp key rest ≡ other_entries cmp key all
+  other_entries_skip key old it rest all k v steps inv tie =
+      ap (λ b. old ++ cond (not b) ((k, v) ∷ other_entries cmp key rest) (other_entries cmp key rest)) (sym tie) ∙ ap (λ x. old ++ other_entries cmp key x) (sym steps) ∙ inv
 
-  pub filled_turn : (old new it rest all : List (K × V)) (k : K) (v w : V) → it ≡ (k, v) ∷ rest → filled cmp old it ≡ all → is_some (find cmp k old) ≡ false → new ≡ put cmp k w old → w ≡ v → filled cmp new rest ≡ all
-  filled_turn old new it rest all k v w steps inv lacks made same =
-      ap (λ x. filled cmp x rest) (made ∙ ap (λ x. put cmp k x old) same)
-      ∙ ap (λ b. filled cmp (cond b old (put cmp k v old)) rest) (sym lacks)
-      ∙ ap (filled cmp old) (sym steps) ∙ inv
+  pub left_union_turn : (old new it rest all : List (K × V)) (k : K) (v w : V) → it ≡ (k, v) ∷ rest → left_union cmp old it ≡ all → is_some (find cmp k old) ≡ false → new ≡ put cmp k w old → w ≡ v → left_union cmp new rest ≡ all
+  left_union_turn old new it rest all k v w steps inv lacks made same =
+      ap (λ x. left_union cmp x rest) (made ∙ ap (λ x. put cmp k x old) same)
+      ∙ ap (λ b. left_union cmp (cond b old (put cmp k v old)) rest) (sym lacks)
+      ∙ ap (left_union cmp old) (sym steps) ∙ inv
 
-  pub filled_skip : (old it rest all : List (K × V)) (k : K) (v : V) → it ≡ (k, v) ∷ rest → filled cmp old it ≡ all → is_some (find cmp k old) ≡ true → filled cmp old rest ≡ all
-  filled_skip old it rest all k v steps inv has =
-      ap (λ b. filled cmp (cond b old (put cmp k v old)) rest) (sym has) ∙ ap (filled cmp old) (sym steps) ∙ inv
+  pub left_union_skip : (old it rest all : List (K × V)) (k : K) (v : V) → it ≡ (k, v) ∷ rest → left_union cmp old it ≡ all → is_some (find cmp k old) ≡ true → left_union cmp old rest ≡ all
+  left_union_skip old it rest all k v steps inv has =
+      ap (λ b. left_union cmp (cond b old (put cmp k v old)) rest) (sym has) ∙ ap (left_union cmp old) (sym steps) ∙ inv

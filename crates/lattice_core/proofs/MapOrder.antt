@@ -1,5 +1,6 @@
 -- `at_most` of maps: each entry is up to what the other map gives at its key.
 use Rattle.std.proofs.Common.{◌≡◌, Bool, true, false, cond, T, List, [], ◌∷◌, refl, sym, ap, subst, ◌∙◌}
+use Rattle.std.specs.List.{AllByRecursion}
 use Rattle.std.specs.declared.cmp.Ordering.{Ordering}
 use Rattle.std.specs.declared.option.Option.{Option}
 use Rattle.std.specs.declared.option.Option.TheVariants.{None, Some}
@@ -8,13 +9,13 @@ use Rattle.std.specs.Ordering.{is_eq, eq_by_cmp}
 use Rattle.std.specs.Cmp.{IsTotalOrder, tied_itself}
 use Rattle.lattice_core.specs.Exact.{IsExact}
 use Rattle.lattice_core.specs.Lattice.{LatticeLaws}
-use Rattle.lattice_core.specs.Map.{EachEntry, IsProperMap, map_join, join_options}
+use Rattle.lattice_core.specs.Map.{IsProperMap, map_join, join_options}
 use Rattle.lattice_core.specs.Instances.JoinedMaps.{first_of_both, second_of_both, same_maps, proper-map_join, find-map_join, find-below, tied}
 use Rattle.lattice_core.specs.Private.EntryLists.{IsUpTo}
 
 -- each value is at most what fs gives at its key
 abbrev pub AreUpTo : {K V : Type 0} → (K → K → Ordering) → (V → V → V) → List (K × V) → List (K × V) → Type 0
-AreUpTo cmp join es fs = EachEntry (λ e. IsUpTo join e.1 (find cmp e.0 fs)) es
+AreUpTo cmp join es fs = AllByRecursion (λ e. IsUpTo join e.1 (find cmp e.0 fs)) es
 
 module _ {K V : Type 0} (cmp : K → K → Ordering) (total : IsTotalOrder cmp) (exact : IsExact cmp) (IsProper : V → Type 0) (join : V → V → V) (is_least : V → Bool) (laws : LatticeLaws IsProper join is_least) where
   abbrev IsMap : List (K × V) → Type 0

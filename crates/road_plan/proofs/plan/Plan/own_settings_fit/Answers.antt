@@ -1,7 +1,0 @@
-use Rattle.std.proofs.Common.{refl}
-use Rattle.road_plan.specs.Settings.{defaults}
-use Rattle.road_plan.proofs.Defaults.{own_settings_fit}
-use Rattle.road_plan.proofs.plan.Plan.own_settings_fit.Goals as goal
-
-pub returns : goal.returns
-returns c = own_settings_fit c.args.self.now (defaults c.args.self.now) refl c.limits.ensures
