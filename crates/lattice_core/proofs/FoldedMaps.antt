@@ -12,6 +12,7 @@ use Rattle.lattice_core.specs.Exact.{IsExact}
 use Rattle.lattice_core.specs.Lattice.{LatticeLaws}
 use Rattle.lattice_core.specs.Map.{IsHeld, IsProperMap, join_option, map_with, map_join}
 use Rattle.lattice_core.specs.Instances.JoinedMaps.{first_of_both, second_of_both, map_with-good, proper-map_with, find-below}
+use Rattle.lattice_core.specs.Instances.Orderings.{less_by_T}
 use Rattle.lattice_core.specs.Fold.{fold_join, IsJoin, GivesJoins}
 
 module _ {K V S : Type 0} (cmp : K → K → Ordering) (total : IsTotalOrder cmp) (exact : IsExact cmp) (IsProper : V → Type 0) (join : V → V → V) (is_least : V → Bool) (laws : LatticeLaws IsProper join is_least)
@@ -33,24 +34,16 @@ module _ {K V S : Type 0} (cmp : K → K → Ordering) (total : IsTotalOrder cmp
   past : (x y z : S) → J x (J y z) ≡ J y (J x z)
   past x y z = sym (j.associative x y z) ∙ ap (λ a. J a z) (j.commutative x y) ∙ j.associative y x z
 
-  less_not_equal : (r : Ordering) → r ≡ Less → is_eq r ≡ false
-  less_not_equal r e = ap is_eq e
-
   below_first : (k : K) (e : K × V) (es : List (K × V)) → cmp k e.0 ≡ Less → T (below_all cmp e.0 es) → find cmp k (e ∷ es) ≡ None
-  below_first k e es l h = ap (λ b. cond b (Some e.1) (find cmp k es)) (less_not_equal _ l) ∙ find-below cmp total exact IsProper join is_least laws k es (lower es h)
+  below_first k e es l h = ap (λ b. cond b (Some e.1) (find cmp k es)) (ap is_eq l) ∙ find-below cmp total exact IsProper join is_least laws k es (lower es h)
     where
-      less : (r : Ordering) → T (is_lt r) → r ≡ Less
-      less Less p = refl
-      less Equal p = absurd p
-      less Greater p = absurd p
-
       both : (a b : Bool) → T a → T b → T (a && b)
       both true b p q = q
       both false b p q = p
 
       lower : (es : List (K × V)) → T (below_all cmp e.0 es) → T (below_all cmp k es)
       lower [] h = tt
-      lower (x ∷ xs) h = both _ _ (subst (λ r. T (is_lt r)) (sym (total.trans k e.0 x.0 l (less _ (first_of_both _ _ h)))) tt) (lower xs (second_of_both (is_lt (cmp e.0 x.0)) _ h))
+      lower (x ∷ xs) h = both _ _ (subst (λ r. T (is_lt r)) (sym (total.trans k e.0 x.0 l (less_by_T _ (first_of_both _ _ h)))) tt) (lower xs (second_of_both (is_lt (cmp e.0 x.0)) _ h))
 
   put_gives : (es : List (K × V)) (k : K) (v : V) → T (is_sorted cmp es) → AllHeld es → IsProper v → F (put cmp k (join_option join (find cmp k es) v) es) ≡ J (give k v) (F es)
   put_gives [] k v s g p = refl
@@ -68,14 +61,14 @@ module _ {K V S : Type 0} (cmp : K → K → Ordering) (total : IsTotalOrder cmp
       ] refl
 
   -- a value joined in gives what it gives, joined with what was given
-  pub fold-joined_in : (es : List (K × V)) (k : K) (v : V) → IsMap es → IsHeld IsProper is_least v → F (map_with cmp join is_least es k v) ≡ J (give k v) (F es)
-  fold-joined_in es k v m g = ap F (map_with-good cmp total exact IsProper join is_least laws es k v g) ∙ put_gives es k v m.rises m.held g.0
+  pub fold-map_with : (es : List (K × V)) (k : K) (v : V) → IsMap es → IsHeld IsProper is_least v → F (map_with cmp join is_least es k v) ≡ J (give k v) (F es)
+  fold-map_with es k v m g = ap F (map_with-good cmp total exact IsProper join is_least laws es k v g) ∙ put_gives es k v m.rises m.held g.0
 
   each_gives : (es fs : List (K × V)) → IsMap es → AllHeld fs → F (map_join cmp join is_least es fs) ≡ J (F es) (F fs)
   each_gives es [] m g = sym (fold-unit es)
   each_gives es (f ∷ fs) m g =
       each_gives (map_with cmp join is_least es f.0 f.1) fs (proper-map_with cmp total exact IsProper join is_least laws es f.0 f.1 m g.0.0) g.1
-      ∙ ap (λ x. J x (F fs)) (fold-joined_in es f.0 f.1 m g.0 ∙ j.commutative (give f.0 f.1) (F es))
+      ∙ ap (λ x. J x (F fs)) (fold-map_with es f.0 f.1 m g.0 ∙ j.commutative (give f.0 f.1) (F es))
       ∙ j.associative (F es) (give f.0 f.1) (F fs)
 
   -- a join gives the join of what the two give

@@ -11,7 +11,7 @@ use Rattle.lattice_core.specs.declared.greatest.Greatest.TheVariants.{Nothing, O
 use Rattle.lattice_core.specs.Exact.{IsExact}
 use Rattle.lattice_core.specs.Instances.ExactOrders.{exact_nat, exact_pair}
 use Rattle.lattice_core.specs.Fold.{fold_join, IsJoin}
-use Rattle.lattice_core.proofs.FoldedMaps.{fold-joined_in, fold-map_join}
+use Rattle.lattice_core.proofs.FoldedMaps.{fold-map_with, fold-map_join}
 use Rattle.lattice_core.specs.Greatest.{is_nothing, greatest_join}
 use Rattle.lattice_core.specs.Instances.GreaterValues.{greatest_laws}
 use Rattle.lattice_core.specs.Lattice.{LatticeLaws}
@@ -234,6 +234,6 @@ kept-with m e steps p is =
     ap (λ x. kept (map_with object_cmp steps_join is_empty m e.object x)) is
     ∙ sym (winners-kept _ (proper-map_with object_cmp object_total object_exact IsSteps steps_join is_empty steps_laws m e.object one p held.0))
     ∙ winners-listed (map_with object_cmp steps_join is_empty m e.object one)
-    ∙ fold-joined_in object_cmp object_total object_exact IsSteps steps_join is_empty steps_laws join empty edits_join joined_at steps_joins m e.object one p held
+    ∙ fold-map_with object_cmp object_total object_exact IsSteps steps_join is_empty steps_laws join empty edits_join joined_at steps_joins m e.object one p held
     ∙ winners_laws.commutative (joined_at e.object one) (all_joined m)
     ∙ (λ i. join ((sym (winners-listed m) ∙ winners-kept m p) i) ((join-empty (single e) ∙ winners-single e) i))
