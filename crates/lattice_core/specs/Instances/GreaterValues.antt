@@ -10,7 +10,7 @@ use Rattle.lattice_core.specs.declared.greatest.Greatest.{Greatest}
 use Rattle.lattice_core.specs.declared.greatest.Greatest.TheVariants.{Nothing, Of}
 use Rattle.lattice_core.specs.Exact.{IsExact}
 use Rattle.lattice_core.specs.Lattice.{LatticeLaws}
-use Rattle.lattice_core.specs.Instances.Orderings.{less}
+use Rattle.lattice_core.specs.Instances.TestAnswers.{less}
 use Rattle.lattice_core.specs.Greatest.{is_nothing, greater_of, greatest_join}
 
 turn : (r : Ordering) → is_gt (ordering_reverse r) ≡ is_lt r

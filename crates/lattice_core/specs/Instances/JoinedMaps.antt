@@ -1,6 +1,6 @@
 -- The laws of joining maps. A map is what it gives at each key (`same_maps`), and a join gives at each key the join of
 -- what the two give (`find-map_join`): each law of maps is that law of values, key by key.
-use Rattle.std.specs.Prelude.{◌≡◌, Bool, true, false, cond, ◌&&◌, T, List, [], ◌∷◌, refl}
+use Rattle.std.specs.Prelude.{◌≡◌, Bool, true, false, cond, T, List, [], ◌∷◌, refl}
 use Rattle.std.specs.List.{AllByRecursion}
 use Rattle.std.specs.declared.cmp.Ordering.{Ordering}
 use Rattle.std.specs.declared.cmp.Ordering.TheVariants.{Less, Equal, Greater}
@@ -13,16 +13,8 @@ use Rattle.std.proofs.Common.{sym, ap, ◌∙◌}
 use Rattle.std.proofs.lemmas.Bool.{true≢false, false_from_ne_true}
 use Rattle.lattice_core.specs.Exact.{IsExact}
 use Rattle.lattice_core.specs.Lattice.{LatticeLaws}
-use Rattle.lattice_core.specs.Instances.Orderings.{less_by_T}
+use Rattle.lattice_core.specs.Instances.TestAnswers.{less_by_T, first_of_both, second_of_both}
 use Rattle.lattice_core.specs.Map.{IfHeld, IsHeld, IsProperMap, join_option, map_with, map_join, join_options, is_empty}
-
-pub first_of_both : (a b : Bool) → T (a && b) → T a
-first_of_both true b p = tt
-first_of_both false b p = p
-
-pub second_of_both : (a b : Bool) → T (a && b) → T b
-second_of_both true b p = p
-second_of_both false b p = absurd p
 
 module _ {K V : Type 0} (cmp : K → K → Ordering) (total : IsTotalOrder cmp) (exact : IsExact cmp)
     (IsProper : V → Type 0) (join : V → V → V) (is_least : V → Bool) (laws : LatticeLaws IsProper join is_least) where

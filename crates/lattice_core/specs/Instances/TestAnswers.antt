@@ -1,5 +1,5 @@
--- What the test `is_lt` tells of a comparison.
-use Rattle.std.specs.Prelude.{◌≡◌, true, T, refl}
+-- What tests tell of what they test.
+use Rattle.std.specs.Prelude.{◌≡◌, Bool, true, false, ◌&&◌, T, refl}
 use Rattle.std.specs.declared.cmp.Ordering.{Ordering}
 use Rattle.std.specs.declared.cmp.Ordering.TheVariants.{Less, Equal, Greater}
 use Rattle.std.specs.Ordering.{is_lt}
@@ -15,3 +15,11 @@ pub less_by_T : (r : Ordering) → T (is_lt r) → r ≡ Less
 less_by_T Less h = refl
 less_by_T Equal h = absurd h
 less_by_T Greater h = absurd h
+
+pub first_of_both : (a b : Bool) → T (a && b) → T a
+first_of_both true b p = tt
+first_of_both false b p = p
+
+pub second_of_both : (a b : Bool) → T (a && b) → T b
+second_of_both true b p = p
+second_of_both false b p = absurd p
