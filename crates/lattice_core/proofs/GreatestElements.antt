@@ -7,6 +7,7 @@ use Rattle.std.specs.Cmp.{IsTotalOrder, Equal-is, tied_itself}
 use Rattle.std.proofs.Common.{sym, ap, subst, ◌∙◌, inl, inr}
 use Rattle.std.proofs.lemmas.Bool.{true≢false, false_from_ne_true, and_parts, and_from, or_cases, or_left, or_right, not-true, not_from_false, cases_Bool}
 use Rattle.lattice_core.specs.Exact.{IsExact}
+use Rattle.std.proofs.Math.Bool.{or_assoc}
 use Rattle.lattice_core.specs.Sets as sets
 use Rattle.lattice_core.specs.Sets.{contains, retain, items, union}
 use Rattle.lattice_core.proofs.SetElements.{contains-items, contains-retain, contains-union, same_set}
@@ -19,10 +20,6 @@ same_test : (s t : Bool) → (s ≡ true → t ≡ true) → (t ≡ true → s �
 same_test true t f g = sym (f refl)
 same_test false true f g = g refl
 same_test false false f g = refl
-
-or_assoc : (a b c : Bool) → ((a || b) || c) ≡ (a || (b || c))
-or_assoc true b c = refl
-or_assoc false b c = refl
 
 module _ {K : Type 0} {R : K → K → Ordering} (total : IsTotalOrder R) (exact : IsExact R) where
   abbrev Set : Type 0

@@ -145,7 +145,7 @@ module _ {K V : Type 0} (cmp : K → K → Ordering) (total : IsTotalOrder cmp) 
   map_with-bottom es k v m p e =
       ap (λ b. cond b es (put cmp k (join_option join (find cmp k es) v) es)) (sym (joined_bottom v (find cmp k es) p (at k es m) e))
 
-  -- the joined value, put in beside the others
+  -- the joined value, put in among the other entries
   pub proper-put_other_entries : (es : List (K × V)) (k : K) (v : V) → IsMap es → IsProper v → is_least (join_with_option join v (find cmp k es)) ≡ false → IsMap (put cmp k (join_with_option join v (find cmp k es)) (other_entries cmp k es))
   proper-put_other_entries es k v m p n = proper-put cmp total exact IsProper join is_least laws (other_entries cmp k es) k _ (proper-other_entries k es m) (proper_join (find cmp k es) (at k es m), n)
     where

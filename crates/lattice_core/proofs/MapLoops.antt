@@ -8,7 +8,7 @@ use Rattle.std.specs.BTreeMap.{is_at, insert_entry}
 use Rattle.std.specs.Map.{lookup}
 use Rattle.std.specs.Ordering.{is_eq, is_ne, is_lt, eq_by_cmp, match_ordering, ordering_reverse}
 use Rattle.std.specs.Cmp.{IsTotalOrder}
-use Rattle.lattice_core.specs.Instances.JoinedMaps.{first_of_both, second_of_both}
+use Rattle.lattice_core.specs.Instances.TestAnswers.{first_of_both, second_of_both}
 use Rattle.lattice_core.specs.Private.EntryLists.{other_entries, left_union, join_with_option, joined_entries}
 
 -- a look-up in a BTreeMap

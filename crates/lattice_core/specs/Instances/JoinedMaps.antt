@@ -1,27 +1,20 @@
 -- The laws of joining maps. A map is what it gives at each key (`same_maps`), and a join gives at each key the join of
 -- what the two give (`find-map_join`): each law of maps is that law of values, key by key.
-use Rattle.std.specs.Prelude.{◌≡◌, Bool, true, false, cond, ◌&&◌, T, List, [], ◌∷◌, refl}
+use Rattle.std.specs.Prelude.{◌≡◌, Bool, true, false, cond, T, List, [], ◌∷◌, refl}
 use Rattle.std.specs.List.{AllByRecursion}
 use Rattle.std.specs.declared.cmp.Ordering.{Ordering}
 use Rattle.std.specs.declared.cmp.Ordering.TheVariants.{Less, Equal, Greater}
 use Rattle.std.specs.declared.option.Option.{Option}
 use Rattle.std.specs.declared.option.Option.TheVariants.{None, Some}
 use Rattle.std.specs.FinMap.Entries.{find, is_sorted, put, by_order, below_all, is_sorted-put, find-put, same_entries}
-use Rattle.std.specs.Ordering.{is_eq, is_lt, eq_by_cmp}
+use Rattle.std.specs.Ordering.{is_eq, eq_by_cmp}
 use Rattle.std.specs.Cmp.{IsTotalOrder, Equal-is}
 use Rattle.std.proofs.Common.{sym, ap, ◌∙◌}
 use Rattle.std.proofs.lemmas.Bool.{true≢false, false_from_ne_true}
 use Rattle.lattice_core.specs.Exact.{IsExact}
 use Rattle.lattice_core.specs.Lattice.{LatticeLaws}
+use Rattle.lattice_core.specs.Instances.TestAnswers.{less_by_T, first_of_both, second_of_both}
 use Rattle.lattice_core.specs.Map.{IfHeld, IsHeld, IsProperMap, join_option, map_with, map_join, join_options, is_empty}
-
-pub first_of_both : (a b : Bool) → T (a && b) → T a
-first_of_both true b p = tt
-first_of_both false b p = p
-
-pub second_of_both : (a b : Bool) → T (a && b) → T b
-second_of_both true b p = p
-second_of_both false b p = absurd p
 
 module _ {K V : Type 0} (cmp : K → K → Ordering) (total : IsTotalOrder cmp) (exact : IsExact cmp)
     (IsProper : V → Type 0) (join : V → V → V) (is_least : V → Bool) (laws : LatticeLaws IsProper join is_least) where
@@ -96,16 +89,11 @@ module _ {K V : Type 0} (cmp : K → K → Ordering) (total : IsTotalOrder cmp) 
   pub proper-map_join : (es fs : List (K × V)) → IsMap es → IsMap fs → IsMap (map_join cmp join is_least es fs)
   proper-map_join es fs m n = proper-each es fs m n.held
 
-  less_not_equal : (r : Ordering) → T (is_lt r) → is_eq r ≡ false
-  less_not_equal Less h = refl
-  less_not_equal Equal h = absurd h
-  less_not_equal Greater h = absurd h
-
   -- a key below all has no entry
   pub find-below : (q : K) (es : List (K × V)) → T (below_all cmp q es) → find cmp q es ≡ None
   find-below q [] h = refl
   find-below q (e ∷ es) h =
-      ap (λ b. cond b (Some e.1) (find cmp q es)) (less_not_equal _ (first_of_both _ _ h))
+      ap (λ b. cond b (Some e.1) (find cmp q es)) (ap is_eq (less_by_T _ (first_of_both _ _ h)))
       ∙ find-below q es (second_of_both _ _ h)
 
   -- keys that tie are the same
