@@ -23,7 +23,7 @@ pub fn reply_line(alloc: Global, answer: &Answer) -> Result<String, OutOfMemory>
     Ok(line)
 }
 
-/// The JSON value of an answer.
+// The JSON value of an answer.
 fn value_of(alloc: Global, answer: &Answer) -> Result<Value, OutOfMemory>
     ensures { IfOk result (λ value. view value ≡ data_of (answer_view answer.now)) }
 {
@@ -52,7 +52,7 @@ fn value_of(alloc: Global, answer: &Answer) -> Result<Value, OutOfMemory>
     }
 }
 
-/// The JSON list of these cars.
+// The JSON list of these cars.
 fn car_values(alloc: Global, cars: &[Car]) -> Result<Value, OutOfMemory>
     ensures { IfOk result (λ value. view value ≡ listed (map car_data (map car_view cars.now))) }
 {
@@ -63,14 +63,14 @@ fn car_values(alloc: Global, cars: &[Car]) -> Result<Value, OutOfMemory>
     Ok(Value::Array(values))
 }
 
-/// The JSON value of a car: number, cell, speed.
+// The JSON value of a car: number, cell, speed.
 fn car_value(alloc: Global, car: Car) -> Result<Value, OutOfMemory>
     ensures { IfOk result (λ value. view value ≡ car_data (car_view car)) }
 {
     json!(in alloc; [car.number, car.cell, car.speed])
 }
 
-/// The JSON list of these rows of cells.
+// The JSON list of these rows of cells.
 fn row_values(alloc: Global, rows: &[String]) -> Result<Value, OutOfMemory>
     ensures { IfOk result (λ value. view value ≡ listed (map string (texts rows.now))) }
 {
@@ -81,14 +81,14 @@ fn row_values(alloc: Global, rows: &[String]) -> Result<Value, OutOfMemory>
     Ok(Value::Array(values))
 }
 
-/// The JSON value of a row of cells: its text.
+// The JSON value of a row of cells: its text.
 fn row_value(alloc: Global, row: &str) -> Result<Value, OutOfMemory>
     ensures { IfOk result (λ value. view value ≡ string row.now) }
 {
     json!(in alloc; row)
 }
 
-/// The JSON list of these edits.
+// The JSON list of these edits.
 fn edit_values(alloc: Global, edits: &[Edit]) -> Result<Value, OutOfMemory>
     ensures { IfOk result (λ value. view value ≡ listed (map edit_data edits.now)) }
 {
@@ -99,7 +99,7 @@ fn edit_values(alloc: Global, edits: &[Edit]) -> Result<Value, OutOfMemory>
     Ok(Value::Array(values))
 }
 
-/// The JSON value of an edit: kind, index, step, count, number, value.
+// The JSON value of an edit: kind, index, step, count, number, value.
 fn edit_value(alloc: Global, edit: Edit) -> Result<Value, OutOfMemory>
     ensures { IfOk result (λ value. view value ≡ edit_data edit) }
 {

@@ -1,7 +1,7 @@
 use Rattle.std.proofs.Common.{string_bytes}
 use Rattle.serde_json.specs.View.{view}
 use Rattle.road_format.specs.Views.{answer_view}
-use Rattle.road_format.proofs.Values.{reply_is}
+use Rattle.road_format.proofs.ReplyValues.{reply_is}
 use Rattle.road_format.proofs.reply.reply_line.Goals as goal
 
 pub returns : goal.returns

@@ -9,7 +9,7 @@ use Rattle.std.specs.declared.cmp.Ordering.{Ordering}
 use Rattle.std.specs.declared.cmp.Ordering.TheVariants.{Less, Equal, Greater}
 use Rattle.serde_json.specs.Data.{Data, Members, no_members, member}
 use Rattle.serde_json.specs.Find.{get_member}
-use Rattle.road_format.specs.Fields.{members_len}
+use Rattle.road_format.specs.Fields.{member_count}
 use Rattle.road_format.specs.FieldsLaws.{IsOneOf, AllDiffer, field_names, NoOtherField}
 
 -- ---- one text taken out of a list
@@ -72,11 +72,11 @@ found : (name : List ℕ) (fields : Members) → get_member name fields ≢ None
 found name no_members at = absurd (at refl)
 found name (member k d fields) at = found_at (slice_cmp nat_cmp name k) name k d fields refl (found name fields) at
 
-length-field_names : (fields : Members) → length (field_names fields) ≡ members_len fields
+length-field_names : (fields : Members) → length (field_names fields) ≡ member_count fields
 length-field_names no_members = refl
 length-field_names (member k d fields) = ap suc (length-field_names fields)
 
 pub no_other_field : NoOtherField
 no_other_field names fields differ exactly all =
     no_other names (field_names fields) differ (λ name here. found name fields (all name here))
-    (length-field_names fields ∙ eqb-true (members_len fields) (length names) exactly)
+    (length-field_names fields ∙ eqb-true (member_count fields) (length names) exactly)
