@@ -180,9 +180,9 @@ unfolding road_format_on_literals
 three_rows = refl
 
 an_edit_and_a_withdrawal : reply (replies.Edits (
-  record { object = Limit 1; step = 10; stamp = record { count = 1; number = 0 }; value = Put 0 }
-  ∷ record { object = Block 8; step = 4; stamp = record { count = 2; number = 0 }; value = Withdrawn }
-  ∷ []))
+    record { object = Limit 1; step = 10; stamp = record { count = 1; number = 0 }; value = Put 0 }
+    ∷ record { object = Block 8; step = 4; stamp = record { count = 2; number = 0 }; value = Withdrawn }
+    ∷ []))
     ≡ codes "{\"edits\":[[\"limit\",1,10,1,0,0],[\"block\",8,4,2,0,null]],\"form\":1}\n"
 unfolding road_format_on_literals
 an_edit_and_a_withdrawal = refl

@@ -1,5 +1,5 @@
 -- Members and items of JSON values.
-use Rattle.std.proofs.Common.{◌≡◌, ◌≢◌, string_bytes, slice_get, ℕ, suc, List, [], ◌∷◌, ◌++◌, length, map, refl, ap, arith, Option, Some, None, String}
+use Rattle.std.proofs.Common.{◌≡◌, ◌≢◌, string_bytes, slice_get, suc, List, [], ◌∷◌, ◌++◌, length, map, refl, ap, arith, Option, Some, None, String}
 use Rattle.std.specs.declared.alloc.Global.{Global}
 use Rattle.serde_json.specs.Data.{Data}
 use Rattle.serde_json.specs.View.{members_of, members_view, items_view, view}

@@ -3,6 +3,7 @@ pub mod OnLiterals
 pub mod CutLines
 pub mod LineValues
 pub mod JsonParts
+pub mod AcceptedNames
 pub mod NoOtherField
 pub mod ReplyValues
 pub mod ReplyTexts

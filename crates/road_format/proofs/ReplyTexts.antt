@@ -7,7 +7,7 @@ use Rattle.std.specs.Fmt.{digits, digits_onto, digit_glyph}
 use Rattle.json.specs.Print.{escape_letter, escape_byte, escape, quoted}
 use Rattle.serde_json.specs.Data.{Num, unsigned, negative, float, Data, null, boolean, number, string, array, object, Items, no_items, item, Members, no_members, member}
 use Rattle.serde_json.specs.Written.{comma_if, number_text, items_text, members_text, compact_text}
-use Rattle.road_format.specs.Cut.{newline, cut_at, cut}
+use Rattle.road_format.specs.Cut.{newline, pieces_with_byte, pieces_of}
 use Rattle.road_format.specs.Replies.{data_of, reply}
 use Rattle.road_format.specs.RepliesLaws.{RepliesAreLines}
 
@@ -28,13 +28,13 @@ unfolding IsPlain
 plain_nil = All-nil (λ byte. byte ≢ newline)
 
 -- a newline cuts off just what stands before it
-cut_at-plain : (x : ℕ) (xs : List ℕ) → x ≢ newline → cut_at x (xs ∷ [], []) ≡ ((x ∷ xs) ∷ [], [])
+cut_at-plain : (x : ℕ) (xs : List ℕ) → x ≢ newline → pieces_with_byte x (xs ∷ [], []) ≡ ((x ∷ xs) ∷ [], [])
 cut_at-plain x xs other = rw (ne_eqb x newline other) refl
 
-cut-plain : (xs : List ℕ) → IsPlain xs → cut (xs ++ newline ∷ []) ≡ (xs ∷ [], [])
+cut-plain : (xs : List ℕ) → IsPlain xs → pieces_of (xs ++ newline ∷ []) ≡ (xs ∷ [], [])
 unfolding IsPlain
 cut-plain [] plain = refl
-cut-plain (x ∷ xs) plain = ap (cut_at x) (cut-plain xs (All-tail (λ byte. byte ≢ newline) x xs plain)) ∙ cut_at-plain x xs (All-head (λ byte. byte ≢ newline) x xs plain)
+cut-plain (x ∷ xs) plain = ap (pieces_with_byte x) (cut-plain xs (All-tail (λ byte. byte ≢ newline) x xs plain)) ∙ cut_at-plain x xs (All-head (λ byte. byte ≢ newline) x xs plain)
 
 either : (xs ys : List ℕ) (b : Bool) → IsPlain xs → IsPlain ys → IsPlain (cond b xs ys)
 either xs ys true one other = one

@@ -1,14 +1,14 @@
 -- The value that is written for an answer has no number with a fraction, so its text is known.
-use Rattle.std.proofs.Common.{◌≡◌, ℕ, List, [], ◌∷◌, ◌++◌, map, Bool, true, false, refl, ap, ◌∙◌}
+use Rattle.std.proofs.Common.{◌≡◌, ℕ, List, [], ◌∷◌, ◌++◌, map, false, refl, ap, ◌∙◌}
 use Rattle.serde_json.specs.Data.{Data, string}
 use Rattle.serde_json.specs.Written.{has_float, compact_text}
 use Rattle.road_scenario.specs.declared.edit.Edit.{Edit}
 use Rattle.road_scenario.specs.declared.edit.Value as edits
 use Rattle.road_scenario.specs.declared.edit.Value.TheVariants.{Withdrawn, Put}
-use Rattle.road_format.specs.Replies.{Answer, Open, Refused, Horizon, Cells, Cars, Counted, Rows, Stamped, Edits, car_data, value_data, edit_data, listed, data_of, reply}
+use Rattle.road_format.specs.Replies.{Answer, Open, Refused, Horizon, Cells, Cars, Counted, Rows, Stamped, Edits, car_data, value_data, edit_data, list_data, data_of, reply}
 
 -- a list of values without fractions has none
-list_has_no_float : {A : Type 0} (data_of_one : A → Data) → ((x : A) → has_float (data_of_one x) ≡ false) → (xs : List A) → has_float (listed (map data_of_one xs)) ≡ false
+list_has_no_float : {A : Type 0} (data_of_one : A → Data) → ((x : A) → has_float (data_of_one x) ≡ false) → (xs : List A) → has_float (list_data (map data_of_one xs)) ≡ false
 list_has_no_float data_of_one none [] = refl
 list_has_no_float data_of_one none (x ∷ xs) = rw (none x) (list_has_no_float data_of_one none xs)
 

@@ -54,22 +54,27 @@ withdraw_in at d = do
   step ← number_at (codes "step") d
   Some (Withdraw at object step)
 
+-- the steps at `from` and `to`
+abbrev pub steps_at : Data → Option (ℕ × ℕ)
+steps_at d = do
+  from ← number_at (codes "from") d
+  to ← number_at (codes "to") d
+  Some (from, to)
+
 -- exactly the fields `at`, `detector`, `from` and `to`
 unfoldable pub count_in : List ℕ → Data → Option Command
 count_in at d = do
   exact ← check (has_fields 4 d)
   detector ← number_at (codes "detector") d
-  from ← number_at (codes "from") d
-  to ← number_at (codes "to") d
-  Some (Count at detector from to)
+  steps ← steps_at d
+  Some (Count at detector steps.0 steps.1)
 
 -- exactly the fields `at`, `from` and `to`
 unfoldable pub diagram_in : List ℕ → Data → Option Command
 diagram_in at d = do
   exact ← check (has_fields 3 d)
-  from ← number_at (codes "from") d
-  to ← number_at (codes "to") d
-  Some (Diagram at from to)
+  steps ← steps_at d
+  Some (Diagram at steps.0 steps.1)
 
 -- exactly the field `at`
 abbrev pub scenario_in : List ℕ → Data → Option Command

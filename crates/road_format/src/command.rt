@@ -97,11 +97,7 @@ pub enum Command {
 ///
 /// `NotJson` where the line is no JSON value, then `NotACommand` where the value is no command. The length of the
 /// line is not asked here.
-#[tactic(
-    auto,
-    using(crate::proofs::LineValues::length_of_value),
-    unfolding(crate::specs::CommandGrammar::command_of)
-)]
+#[tactic(auto, using(crate::proofs::LineValues::length_of_value), unfolding(crate::specs::CommandGrammar::command_of))]
 pub fn read_command(alloc: Global, line: &[u8]) -> Result<Command, LineFault>
     // The grammar's command, or its refusal; want of memory is none.
     ensures command { Gives command_view line_refusal result (grammar.command_of line.now) }
@@ -141,9 +137,18 @@ fn command_of_name(name: &str, at: String, fields: &Value) -> Option<Command>
     match name {
         "edit" => edit_in(at, fields),
         "withdraw" => withdraw_in(at, fields),
-        "advance" => Some(Command::Advance { at, to: only_number("to", fields)? }),
-        "cells" => Some(Command::Cells { at, step: only_number("step", fields)? }),
-        "cars" => Some(Command::Cars { at, step: only_number("step", fields)? }),
+        "advance" => Some(Command::Advance {
+            at,
+            to: only_number("to", fields)?,
+        }),
+        "cells" => Some(Command::Cells {
+            at,
+            step: only_number("step", fields)?,
+        }),
+        "cars" => Some(Command::Cars {
+            at,
+            step: only_number("step", fields)?,
+        }),
         "count" => count_in(at, fields),
         "diagram" => diagram_in(at, fields),
         "scenario" => scenario_in(at, fields),
@@ -169,11 +174,14 @@ fn edit_in(at: String, fields: &Value) -> Option<Command>
     if !has_fields(4, fields) {
         return None;
     }
+    let object = object_at("object", fields)?;
+    let step = number_at("step", fields)?;
+    let value = number_at("value", fields)?;
     Some(Command::Edit {
         at,
-        object: object_at("object", fields)?,
-        step: number_at("step", fields)?,
-        value: number_at("value", fields)?,
+        object,
+        step,
+        value,
     })
 }
 
@@ -185,11 +193,16 @@ fn withdraw_in(at: String, fields: &Value) -> Option<Command>
     if !has_fields(3, fields) {
         return None;
     }
-    Some(Command::Withdraw {
-        at,
-        object: object_at("object", fields)?,
-        step: number_at("step", fields)?,
-    })
+    let object = object_at("object", fields)?;
+    let step = number_at("step", fields)?;
+    Some(Command::Withdraw { at, object, step })
+}
+
+// The steps at `from` and `to`.
+fn steps_at(fields: &Value) -> Option<(u32, u32)>
+    ensures { result ≡ grammar.steps_at (view fields.now) }
+{
+    Some((number_at("from", fields)?, number_at("to", fields)?))
 }
 
 // The `count` at a replica, of exactly its fields.
@@ -200,11 +213,13 @@ fn count_in(at: String, fields: &Value) -> Option<Command>
     if !has_fields(4, fields) {
         return None;
     }
+    let detector = number_at("detector", fields)?;
+    let (from, to) = steps_at(fields)?;
     Some(Command::Count {
         at,
-        detector: number_at("detector", fields)?,
-        from: number_at("from", fields)?,
-        to: number_at("to", fields)?,
+        detector,
+        from,
+        to,
     })
 }
 
@@ -216,11 +231,8 @@ fn diagram_in(at: String, fields: &Value) -> Option<Command>
     if !has_fields(3, fields) {
         return None;
     }
-    Some(Command::Diagram {
-        at,
-        from: number_at("from", fields)?,
-        to: number_at("to", fields)?,
-    })
+    let (from, to) = steps_at(fields)?;
+    Some(Command::Diagram { at, from, to })
 }
 
 // The `scenario` at a replica, of exactly its field.

@@ -22,7 +22,11 @@ pub(crate) fn items_at<'a>(field: &str, value: &'a Value) -> Option<&'a [Value]>
 }
 
 // The texts of the list of texts at this field.
-pub(crate) fn texts_at(alloc: Global, field: &str, value: &Value) -> Result<Option<Vec<String>>, OutOfMemory>
+pub(crate) fn texts_at(
+    alloc: Global,
+    field: &str,
+    value: &Value,
+) -> Result<Option<Vec<String>>, OutOfMemory>
     ensures { IfOk result (λ found. option_map (λ found. texts found.items) found
         ≡ fields.list_at as_str field.now (view value.now)) }
 {
@@ -33,7 +37,11 @@ pub(crate) fn texts_at(alloc: Global, field: &str, value: &Value) -> Result<Opti
 }
 
 // The numbers of the list of numbers at this field.
-pub(crate) fn numbers_at(alloc: Global, field: &str, value: &Value) -> Result<Option<Vec<u32>>, OutOfMemory>
+pub(crate) fn numbers_at(
+    alloc: Global,
+    field: &str,
+    value: &Value,
+) -> Result<Option<Vec<u32>>, OutOfMemory>
     ensures { IfOk result (λ found. option_map (λ found. found.items) found
         ≡ fields.list_at fields.number_in field.now (view value.now)) }
 {
@@ -44,7 +52,11 @@ pub(crate) fn numbers_at(alloc: Global, field: &str, value: &Value) -> Result<Op
 }
 
 // The pairs of the list of pairs of numbers at this field.
-pub(crate) fn pairs_at(alloc: Global, field: &str, value: &Value) -> Result<Option<Vec<(u32, u32)>>, OutOfMemory>
+pub(crate) fn pairs_at(
+    alloc: Global,
+    field: &str,
+    value: &Value,
+) -> Result<Option<Vec<(u32, u32)>>, OutOfMemory>
     ensures { IfOk result (λ found. option_map (λ found. found.items) found
         ≡ fields.list_at fields.pair_in field.now (view value.now)) }
 {

@@ -1,10 +1,11 @@
 //! The first line of an input.
 
-ghost use Rattle.std.specs.Prelude.{◌≡◌, ◌<◌, length, true, None, IfOk, IfErr, IsSome, option_map};
+ghost use Rattle.std.specs.Prelude.{◌≡◌, ◌<◌, ◌≤◌, length, true, None, IfOk, IfErr, IsSome, option_map};
 ghost use Rattle.serde_json.specs.View.{view};
 ghost use Rattle.road_plan.specs.Plan.{plan_of};
+ghost use Rattle.road_plan.specs.declared.limits.TheConstants.{MOST_REPLICAS};
 ghost use Rattle.road_format.specs.PlanGrammar as grammar;
-ghost use Rattle.road_format.specs.PlanGrammar.{are_names};
+ghost use Rattle.road_format.specs.PlanGrammar.{all_differ};
 ghost use Rattle.road_format.specs.Refusals.{plan_line_refusal};
 ghost use Rattle.road_format.specs.Views.{Gives, texts, plan_line_view, parts_view};
 ghost use Rattle.road_format.specs.declared.faults.PlanLineFault.TheVariants as plan_line_faults;
@@ -55,17 +56,14 @@ struct PlanLineParts {
 /// `NotJson` where the line is no JSON value, then `NotAPlan` where the value has another shape, then `Names` where
 /// the replicas are not 1 to 64 or their names not all different and of 1 to 64 bytes, then `Plan` with the first
 /// fault of the plan. The length of the line is not asked here.
-#[tactic(
-    auto,
-    using(crate::proofs::LineValues::length_of_value),
-    unfolding(crate::specs::PlanGrammar::plan_line_of)
-)]
+#[tactic(auto, using(crate::proofs::LineValues::length_of_value), unfolding(crate::specs::PlanGrammar::plan_line_of))]
 pub fn read_plan(alloc: Global, line: &[u8]) -> Result<PlanLine, PlanLineFault>
     // The grammar's plan line, or its refusal; want of memory is none.
     ensures plan_line { Gives plan_line_view plan_line_refusal result (grammar.plan_line_of line.now) }
 
-    // A line that is accepted has names, no two alike.
-    ensures names { IfOk result (λ line. are_names (texts line.names.items) ≡ true) }
+    // The names of an accepted line are few, and no two are alike.
+    ensures few { IfOk result (λ line. length line.names.items ≤ MOST_REPLICAS) }
+    ensures apart { IfOk result (λ line. all_differ (texts line.names.items) ≡ true) }
 
     // Want of memory is said in one way, and a line without a byte grows nothing.
     ensures memory { IfErr result (λ fault. plan_line_refusal fault ≡ None
@@ -81,9 +79,11 @@ pub fn read_plan(alloc: Global, line: &[u8]) -> Result<PlanLine, PlanLineFault>
 }
 
 // The plan line of these parts. It takes no memory.
+#[tactic(auto, using(crate::proofs::AcceptedNames::names_are_few, crate::proofs::AcceptedNames::names_differ))]
 fn checked_line(line: PlanLineParts) -> Result<PlanLine, PlanLineFault>
     ensures plan_line { Gives plan_line_view plan_line_refusal result (grammar.checked_line (parts_view line)) }
-    ensures names { IfOk result (λ line. are_names (texts line.names.items) ≡ true) }
+    ensures few { IfOk result (λ line. length line.names.items ≤ MOST_REPLICAS) }
+    ensures apart { IfOk result (λ line. all_differ (texts line.names.items) ≡ true) }
     ensures memory { IfErr result (λ fault. IsSome (plan_line_refusal fault)) }
 {
     if !are_names(&line.names) {

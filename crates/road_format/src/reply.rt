@@ -3,7 +3,7 @@
 ghost use Rattle.std.specs.Prelude.{◌≡◌, IfOk, string_bytes, map};
 ghost use Rattle.serde_json.specs.Data.{string};
 ghost use Rattle.serde_json.specs.View.{view};
-ghost use Rattle.road_format.specs.Replies.{listed, car_data, edit_data, data_of, reply};
+ghost use Rattle.road_format.specs.Replies.{list_data, car_data, edit_data, data_of, reply};
 ghost use Rattle.road_format.specs.Views.{texts, car_view, answer_view};
 
 use crate::answer::Answer;
@@ -54,7 +54,7 @@ fn value_of(alloc: Global, answer: &Answer) -> Result<Value, OutOfMemory>
 
 // The JSON list of these cars.
 fn car_values(alloc: Global, cars: &[Car]) -> Result<Value, OutOfMemory>
-    ensures { IfOk result (λ value. view value ≡ listed (map car_data (map car_view cars.now))) }
+    ensures { IfOk result (λ value. view value ≡ list_data (map car_data (map car_view cars.now))) }
 {
     let mut values = Vec::new(alloc);
     for car in cars {
@@ -72,7 +72,7 @@ fn car_value(alloc: Global, car: Car) -> Result<Value, OutOfMemory>
 
 // The JSON list of these rows of cells.
 fn row_values(alloc: Global, rows: &[String]) -> Result<Value, OutOfMemory>
-    ensures { IfOk result (λ value. view value ≡ listed (map string (texts rows.now))) }
+    ensures { IfOk result (λ value. view value ≡ list_data (map string (texts rows.now))) }
 {
     let mut values = Vec::new(alloc);
     for row in rows {
@@ -90,7 +90,7 @@ fn row_value(alloc: Global, row: &str) -> Result<Value, OutOfMemory>
 
 // The JSON list of these edits.
 fn edit_values(alloc: Global, edits: &[Edit]) -> Result<Value, OutOfMemory>
-    ensures { IfOk result (λ value. view value ≡ listed (map edit_data edits.now)) }
+    ensures { IfOk result (λ value. view value ≡ list_data (map edit_data edits.now)) }
 {
     let mut values = Vec::new(alloc);
     for edit in edits {

@@ -18,7 +18,7 @@ use Rattle.std.specs.Str.{is_utf8, chars}
 use Rattle.std.specs.Fmt.{digits}
 use Rattle.serde_json.proofs.OnLiterals.{serde_json_on_literals}
 use Rattle.road_cells.specs.Gap.{free_before}
-use Rattle.road_format.specs.Cut.{newline, cut_at, cut}
+use Rattle.road_format.specs.Cut.{newline, pieces_with_byte, pieces_of}
 use Rattle.road_format.specs.Reading.{value_of}
 use Rattle.road_format.specs.CommandGrammar.{advance_in, cells_in, command_in, command_of}
 use Rattle.road_format.specs.PlanGrammar.{plan_line_in, plan_line_of}
@@ -117,9 +117,9 @@ two_names_alike = refl
 
 -- ---- a line that is too long
 
-spaces_cut : (n : ℕ) → cut (replicate n 32 ++ newline ∷ []) ≡ (replicate n 32 ∷ [], [])
+spaces_cut : (n : ℕ) → pieces_of (replicate n 32 ++ newline ∷ []) ≡ (replicate n 32 ∷ [], [])
 spaces_cut zero = refl
-spaces_cut (suc n) = ap (cut_at 32) (spaces_cut n)
+spaces_cut (suc n) = ap (pieces_with_byte 32) (spaces_cut n)
 
 spaces_are_long : (n : ℕ) → LONGEST_LINE < n → is_long (replicate n 32) ≡ true
 spaces_are_long n long = lt-ltb LONGEST_LINE (length (replicate n 32)) (omega (arith, long, length-replicate {A = ℕ} n 32))
