@@ -3,7 +3,7 @@ use Rattle.std.proofs.Common.{◌≡◌, ◌≢◌, ◌==◌, ℕ, List, [], ◌
 use Rattle.std.proofs.lemmas.Bool.{eqb-true, eqb-false}
 use Rattle.std.proofs.lemmas.List.Elements.{All-nil, All-cons, All-head, All-tail}
 use Rattle.road_format.specs.Cut.{Pieces, newline, pieces_with_byte, pieces_of, last_line}
-use Rattle.road_format.specs.CutLaws.{LinesGoOn, lines_and_newlines, CutLosesNothing, LinesHaveNoNewline}
+use Rattle.road_format.specs.CutLaws.{LinesGoOn, lines_and_newlines, CutLosesNothing, HasNoNewline, LinesHaveNoNewline}
 
 -- pieces, and then the pieces of what goes on from their last one
 abbrev pub joined : Pieces → Pieces → Pieces
@@ -45,21 +45,18 @@ cut_loses_nothing (x ∷ xs) = together-cut_at x (pieces_of xs).0 (pieces_of xs)
 
 -- ---- no newline in a line
 
-abbrev IsPlain : List ℕ → Type 0
-IsPlain line = All (λ byte. byte ≢ newline) line
-
 abbrev ArePlain : Pieces → Type 0
-ArePlain p = All IsPlain p.0 × IsPlain p.1
+ArePlain p = All HasNoNewline p.0 × HasNoNewline p.1
 
-plain-cons : (x : ℕ) (line : List ℕ) → (x == newline) ≡ false → IsPlain line → IsPlain (x ∷ line)
+plain-cons : (x : ℕ) (line : List ℕ) → (x == newline) ≡ false → HasNoNewline line → HasNoNewline (x ∷ line)
 plain-cons x line other plain = All-cons (λ byte. byte ≢ newline) x line (eqb-false x newline other) plain
 
 plain-cut_at : (x : ℕ) (lines : List (List ℕ)) (rest : List ℕ) (b : Bool) → (x == newline) ≡ b → ArePlain (lines, rest) → ArePlain (pieces_with_byte x (lines, rest))
-plain-cut_at x lines rest true e plain = rw e (All-cons IsPlain [] lines (All-nil (λ byte. byte ≢ newline)) plain.0, plain.1)
-plain-cut_at x [] rest false e plain = rw e (All-nil IsPlain, plain-cons x rest e plain.1)
+plain-cut_at x lines rest true e plain = rw e (All-cons HasNoNewline [] lines (All-nil (λ byte. byte ≢ newline)) plain.0, plain.1)
+plain-cut_at x [] rest false e plain = rw e (All-nil HasNoNewline, plain-cons x rest e plain.1)
 plain-cut_at x (line ∷ lines) rest false e plain =
-    rw e (All-cons IsPlain (x ∷ line) lines (plain-cons x line e (All-head IsPlain line lines plain.0)) (All-tail IsPlain line lines plain.0), plain.1)
+    rw e (All-cons HasNoNewline (x ∷ line) lines (plain-cons x line e (All-head HasNoNewline line lines plain.0)) (All-tail HasNoNewline line lines plain.0), plain.1)
 
 pub lines_have_no_newline : LinesHaveNoNewline
-lines_have_no_newline [] = (All-nil IsPlain, All-nil (λ byte. byte ≢ newline))
+lines_have_no_newline [] = (All-nil HasNoNewline, All-nil (λ byte. byte ≢ newline))
 lines_have_no_newline (x ∷ xs) = plain-cut_at x (pieces_of xs).0 (pieces_of xs).1 (x == newline) refl (lines_have_no_newline xs)

@@ -1,74 +1,37 @@
 -- An object of as many fields as names, with one of each name, has no other field.
-use Rattle.std.proofs.Common.{◌≡◌, ◌≢◌, ℕ, suc, List, [], ◌∷◌, length, Some, None, refl, ap, sym, ◌∙◌, arith, subst, ◌⊎◌, inl, inr}
+use Rattle.std.proofs.Common.{◌≡◌, ◌≢◌, ◌≤◌, ℕ, suc, List, [], ◌∷◌, ◌||◌, Bool, true, false, length, Some, None, refl, ap, sym, ◌∙◌, arith, subst}
 use Rattle.std.proofs.lemmas.Bool.{eqb-true}
+use Rattle.std.proofs.lemmas.Cmp.{nat_list_eq_equiv}
 use Rattle.std.proofs.lemmas.Map.Text.{is_eq-slice_cmp}
+use Rattle.std.proofs.lemmas.Map.Keys.{IsDistinct-cons}
+use Rattle.std.proofs.lemmas.Map.Made.{length-le_from_is_member}
 use Rattle.std.proofs.lemmas.Slice.Eq.{bytes_eq-Decides}
 use Rattle.std.specs.Cmp.Lexicographic.{slice_cmp}
+use Rattle.std.specs.List.{AllByRecursion, IsDistinct}
 use Rattle.std.specs.Ordering.{nat_cmp, match_ordering, is_eq}
+use Rattle.std.specs.Set.{is_member}
+use Rattle.std.specs.Str.{bytes_eq}
 use Rattle.std.specs.declared.cmp.Ordering.{Ordering}
 use Rattle.std.specs.declared.cmp.Ordering.TheVariants.{Less, Equal, Greater}
-use Rattle.serde_json.specs.Data.{Data, Members, no_members, member}
-use Rattle.serde_json.specs.Find.{get_member}
+use Rattle.serde_json.specs.Data.{Data, Members, no_members, member, object}
+use Rattle.serde_json.specs.Find.{get, get_member}
 use Rattle.road_format.specs.Fields.{member_count}
-use Rattle.road_format.specs.FieldsLaws.{IsOneOf, AllDiffer, field_names, NoOtherField}
-
--- ---- one text taken out of a list
-
-without : (text : List ℕ) (texts : List (List ℕ)) → IsOneOf text texts → List (List ℕ)
-without text [] at = []
-without text (first ∷ others) (inl is) = others
-without text (first ∷ others) (inr at) = first ∷ without text others at
-
-length-without : (text : List ℕ) (texts : List (List ℕ)) (at : IsOneOf text texts) → suc (length (without text texts at)) ≡ length texts
-unfolding without
-length-without text [] at = absurd at
-length-without text (first ∷ others) (inl is) = refl
-length-without text (first ∷ others) (inr at) = ap suc (length-without text others at)
-
-either : (text n : List ℕ) (P Q : Type 0) → (P → Q) → (text ≡ n) ⊎ P → (text ≡ n) ⊎ Q
-either text n P Q f (inl same) = inl same
-either text n P Q f (inr p) = inr (f p)
-
--- another is still there
-still : (other text : List ℕ) (texts : List (List ℕ)) (at : IsOneOf text texts) → IsOneOf other texts → (other ≡ text) ⊎ IsOneOf other (without text texts at)
-unfolding without
-still other text [] at there = absurd at
-still other text (first ∷ others) (inl is) (inl same) = inl (same ∙ sym is)
-still other text (first ∷ others) (inl is) (inr there) = inr there
-still other text (first ∷ others) (inr at) (inl same) = inr (inl same)
-still other text (first ∷ others) (inr at) (inr there) = either other text _ _ inr (still other text others at there)
-
--- ---- as many different names as texts, each of them among the texts: no text is another
-
-left_of : (m n : List ℕ) (ns : List (List ℕ)) (P : Type 0) → ¬ IsOneOf n ns → IsOneOf m ns → (m ≡ n) ⊎ P → P
-left_of m n ns P fresh here (inl same) = absurd (fresh (subst (λ (t : List ℕ). IsOneOf t ns) same here))
-left_of m n ns P fresh here (inr found) = found
-
-none_left : (text : List ℕ) (texts : List (List ℕ)) → length texts ≡ 0 → IsOneOf text texts → ⊥
-none_left text [] none there = there
-none_left text (first ∷ others) none there = absurd (omega (arith, none))
-
-no_other : (names texts : List (List ℕ)) → AllDiffer names → ((name : List ℕ) → IsOneOf name names → IsOneOf name texts) → length texts ≡ length names
-    → (text : List ℕ) → IsOneOf text texts → IsOneOf text names
-no_other [] texts differ all same text there = absurd (none_left text texts same there)
-no_other (n ∷ ns) texts differ all same text there =
-    let at : IsOneOf n texts = all n (inl refl) in
-    let rest : List (List ℕ) = without n texts at in
-    either text n (IsOneOf text rest) (IsOneOf text ns)
-    (no_other ns rest differ.1 (λ m here. left_of m n ns (IsOneOf m rest) differ.0 here (still m n texts at (all m (inr here))))
-    (omega (arith, length-without n texts at, same)) text)
-    (still text n texts at there)
+use Rattle.road_format.specs.FieldsLaws.{field_names, NoOtherField}
 
 -- ---- what is found at a name is a field of that name
 
-found_at : (o : Ordering) (name k : List ℕ) (d : Data) (fields : Members) → slice_cmp nat_cmp name k ≡ o
-    → (get_member name fields ≢ None → IsOneOf name (field_names fields))
-    → match_ordering o (get_member name fields) (Some d) (get_member name fields) ≢ None → IsOneOf name (k ∷ field_names fields)
-found_at Less name k d fields is more found = inr (more found)
-found_at Equal name k d fields is more found = inl ((bytes_eq-Decides name k).0 (sym (is_eq-slice_cmp name k) ∙ ap is_eq is))
-found_at Greater name k d fields is more found = inr (more found)
+or_true : (a : Bool) → (a || true) ≡ true
+or_true true = refl
+or_true false = refl
 
-found : (name : List ℕ) (fields : Members) → get_member name fields ≢ None → IsOneOf name (field_names fields)
+found_at : (o : Ordering) (name k : List ℕ) (d : Data) (fields : Members) → slice_cmp nat_cmp name k ≡ o
+    → (get_member name fields ≢ None → is_member bytes_eq (field_names fields) name ≡ true)
+    → match_ordering o (get_member name fields) (Some d) (get_member name fields) ≢ None → is_member bytes_eq (k ∷ field_names fields) name ≡ true
+found_at Less name k d fields is more found = rw (more found) (or_true (bytes_eq name k))
+found_at Equal name k d fields is more found = rw (sym (is_eq-slice_cmp name k) ∙ ap is_eq is) refl
+found_at Greater name k d fields is more found = rw (more found) (or_true (bytes_eq name k))
+
+found : (name : List ℕ) (fields : Members) → get_member name fields ≢ None → is_member bytes_eq (field_names fields) name ≡ true
 found name no_members at = absurd (at refl)
 found name (member k d fields) at = found_at (slice_cmp nat_cmp name k) name k d fields refl (found name fields) at
 
@@ -76,7 +39,42 @@ length-field_names : (fields : Members) → length (field_names fields) ≡ memb
 length-field_names no_members = refl
 length-field_names (member k d fields) = ap suc (length-field_names fields)
 
+-- ---- were there another, it and the names would be more than the fields
+
+or_left : (a b : Bool) → (a || b) ≡ false → a ≡ false
+or_left true b e = e
+or_left false b e = refl
+
+or_right : (a b : Bool) → (a || b) ≡ false → b ≡ false
+or_right true b e = absurd (cc)
+or_right false b e = e
+
+differs : (name : List ℕ) (names : List (List ℕ)) → is_member bytes_eq names name ≡ false → AllByRecursion (λ other. bytes_eq name other ≡ false) names
+differs name [] other = tt
+differs name (n ∷ ns) other = (or_left (bytes_eq name n) _ other, differs name ns (or_right (bytes_eq name n) _ other))
+
+among : (b : Bool) (q name : List ℕ) (names fields : List (List ℕ)) → bytes_eq q name ≡ b
+    → is_member bytes_eq fields name ≡ true
+    → (is_member bytes_eq names q ≡ true → is_member bytes_eq fields q ≡ true)
+    → (b || is_member bytes_eq names q) ≡ true → is_member bytes_eq fields q ≡ true
+among true q name names fields is there rest here = subst (λ (t : List ℕ). is_member bytes_eq fields t ≡ true) (sym ((bytes_eq-Decides q name).0 is)) there
+among false q name names fields is there rest here = rest here
+
+one_of : (b : Bool) (names : List (List ℕ)) (fields : Members) (name : List ℕ)
+    → is_member bytes_eq names name ≡ b
+    → IsDistinct bytes_eq names
+    → member_count fields ≡ length names
+    → ((q : List ℕ) → is_member bytes_eq names q ≡ true → is_member bytes_eq (field_names fields) q ≡ true)
+    → is_member bytes_eq (field_names fields) name ≡ true
+    → is_member bytes_eq names name ≡ true
+one_of true names fields name is distinct count all there = is
+one_of false names fields name is distinct count all there =
+    let more : length (name ∷ names) ≤ length (field_names fields) =
+    length-le_from_is_member nat_list_eq_equiv (name ∷ names) (field_names fields)
+    (IsDistinct-cons bytes_eq name names (differs name names is) distinct)
+    (λ q. among (bytes_eq q name) q name names (field_names fields) refl there (all q)) in
+    absurd (omega (arith, more, length-field_names fields, count))
+
 pub no_other_field : NoOtherField
-no_other_field names fields differ exactly all =
-    no_other names (field_names fields) differ (λ name here. found name fields (all name here))
-    (length-field_names fields ∙ eqb-true (member_count fields) (length names) exactly)
+no_other_field names fields distinct exactly all name there =
+    one_of (is_member bytes_eq names name) names fields name refl distinct (eqb-true (member_count fields) (length names) exactly) (λ q here. found q fields (all q here)) there

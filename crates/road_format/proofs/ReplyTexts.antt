@@ -8,12 +8,13 @@ use Rattle.json.specs.Print.{escape_letter, escape_byte, escape, quoted}
 use Rattle.serde_json.specs.Data.{Num, unsigned, negative, float, Data, null, boolean, number, string, array, object, Items, no_items, item, Members, no_members, member}
 use Rattle.serde_json.specs.Written.{comma_if, number_text, items_text, members_text, compact_text}
 use Rattle.road_format.specs.Cut.{newline, pieces_with_byte, pieces_of}
+use Rattle.road_format.specs.CutLaws.{HasNoNewline}
 use Rattle.road_format.specs.Replies.{data_of, reply}
 use Rattle.road_format.specs.RepliesLaws.{RepliesAreLines}
 
 -- it has no newline. It does not unfold, so that a text is read off what is claimed of it.
 IsPlain : List ℕ → Type 0
-IsPlain text = All (λ byte. byte ≢ newline) text
+IsPlain text = HasNoNewline text
 
 plain_cons : (x : ℕ) (xs : List ℕ) → x ≢ newline → IsPlain xs → IsPlain (x ∷ xs)
 unfolding IsPlain

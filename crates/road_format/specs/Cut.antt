@@ -16,7 +16,8 @@ pieces_with_byte_in_line x (line ∷ lines) rest = ((x ∷ line) ∷ lines, rest
 
 -- the pieces once a byte stands in front of them: a newline is an empty line of its own
 abbrev pub pieces_with_byte : ℕ → Pieces → Pieces
-pieces_with_byte x pieces = if x == newline then ([] ∷ pieces.0, pieces.1) else pieces_with_byte_in_line x pieces.0 pieces.1
+pieces_with_byte x pieces =
+    if x == newline then ([] ∷ pieces.0, pieces.1) else pieces_with_byte_in_line x pieces.0 pieces.1
 
 -- the pieces of these bytes
 abbrev pub pieces_of : List ℕ → Pieces

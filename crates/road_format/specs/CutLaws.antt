@@ -4,7 +4,8 @@ use Rattle.road_format.specs.Cut.{newline, pieces_of, lines_of}
 
 -- the lines of what was read are the first of the lines of whatever goes on from it
 abbrev pub LinesGoOn : Type 0
-LinesGoOn = (first more : List ℕ) (ended : Bool) → (rest : List (List ℕ)) × (lines_of (first ++ more) ended ≡ lines_of first false ++ rest)
+LinesGoOn = (first more : List ℕ) (ended : Bool)
+    → (rest : List (List ℕ)) × (lines_of (first ++ more) ended ≡ lines_of first false ++ rest)
 
 -- these lines, a newline behind each
 abbrev pub lines_and_newlines : List (List ℕ) → List ℕ
@@ -15,6 +16,10 @@ lines_and_newlines (line ∷ lines) = line ++ newline ∷ lines_and_newlines lin
 abbrev pub CutLosesNothing : Type 0
 CutLosesNothing = (bytes : List ℕ) → lines_and_newlines (pieces_of bytes).0 ++ (pieces_of bytes).1 ≡ bytes
 
+-- a text has no newline in it
+abbrev pub HasNoNewline : List ℕ → Type 0
+HasNoNewline text = All (λ byte. byte ≢ newline) text
+
 -- no line and no last piece has a newline in it
 abbrev pub LinesHaveNoNewline : Type 0
-LinesHaveNoNewline = (bytes : List ℕ) → All (All (λ byte. byte ≢ newline)) (pieces_of bytes).0 × All (λ byte. byte ≢ newline) (pieces_of bytes).1
+LinesHaveNoNewline = (bytes : List ℕ) → All HasNoNewline (pieces_of bytes).0 × HasNoNewline (pieces_of bytes).1

@@ -1,5 +1,6 @@
 -- Which lines are plan lines: the first line of an input, with the names of the replicas and the plan of the road.
-use Rattle.std.specs.Prelude.{ℕ, List, [], ◌∷◌, ◌&&◌, not, Bool, true, length, nat_lt, nat_le, codes, if◌then◌else◌, Option, Some, None, Result, Ok, Err, option_and_then}
+use Rattle.std.specs.Prelude.{ℕ, List, [], ◌∷◌, ◌&&◌, not, Bool, true, length, nat_lt, nat_le, codes}
+use Rattle.std.specs.Prelude.{if◌then◌else◌, Option, Some, None, Result, Ok, Err, option_and_then}
 use Rattle.std.specs.List.{list_any, list_all}
 use Rattle.std.specs.Str.{bytes_eq}
 use Rattle.serde_json.specs.Data.{Data}
@@ -10,7 +11,8 @@ use Rattle.road_plan.specs.declared.parts.WordKind.{WordKind}
 use Rattle.road_plan.specs.declared.parts.WordKind.TheVariants.{Seeded, Steady}
 use Rattle.road_plan.specs.declared.limits.TheConstants.{MOST_REPLICAS}
 use Rattle.road_format.specs.Reading.{value_of}
-use Rattle.road_format.specs.Fields.{◌>>=◌, check, has_fields, long_number_in, number_at, is_name, list_at, number_in, pair_in}
+use Rattle.road_format.specs.Fields.{◌>>=◌, check, has_fields, is_name, list_at, pair_in}
+use Rattle.road_format.specs.Fields.{long_number_in, number_at, number_in}
 use Rattle.road_format.specs.Refusals.{plan_refusal, result_or_refusal}
 use Rattle.road_format.specs.declared.refusal.Refusal.{Refusal}
 use Rattle.road_format.specs.declared.refusal.Refusal.TheVariants.{NotJson, NotAPlan, Names}

@@ -56,7 +56,8 @@ value_data (Put n) = number_data n
 -- an edit: kind, index, step, count, number, value
 abbrev pub edit_data : Edit → Data
 edit_data e =
-    list_data (string (kind_of e.object) ∷ number_data (index_of e.object) ∷ number_data e.step ∷ number_data e.stamp.count ∷ number_data e.stamp.number ∷ value_data e.value ∷ [])
+    list_data (string (kind_of e.object) ∷ number_data (index_of e.object) ∷ number_data e.step
+    ∷ number_data e.stamp.count ∷ number_data e.stamp.number ∷ value_data e.value ∷ [])
 
 -- the value that is written for an answer
 abbrev pub data_of : Answer → Data
@@ -65,10 +66,13 @@ data_of (Refused refusal) = field_data (codes "refused") (string (text_of refusa
 data_of (Horizon horizon) = field_data (codes "horizon") (number_data horizon)
 data_of (Cells row) = field_data (codes "cells") (string row)
 data_of (Cars cars) = field_data (codes "cars") (list_data (map car_data cars))
-data_of (Counted cars speeds) = object (member (codes "cars") (number_data cars) (member (codes "speeds") (number_data speeds) no_members))
+data_of (Counted cars speeds) =
+    object (member (codes "cars") (number_data cars) (member (codes "speeds") (number_data speeds) no_members))
 data_of (Rows rows) = field_data (codes "rows") (list_data (map string rows))
-data_of (Stamped stamp) = field_data (codes "stamp") (list_data (number_data stamp.count ∷ number_data stamp.number ∷ []))
-data_of (Edits edits) = object (member (codes "edits") (list_data (map edit_data edits)) (member (codes "form") (number_data 1) no_members))
+data_of (Stamped stamp) =
+    field_data (codes "stamp") (list_data (number_data stamp.count ∷ number_data stamp.number ∷ []))
+data_of (Edits edits) =
+    object (member (codes "edits") (list_data (map edit_data edits)) (member (codes "form") (number_data 1) no_members))
 
 -- the line that is written for an answer, as serde_json writes a value
 unfoldable pub reply : Answer → List ℕ

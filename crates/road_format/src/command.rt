@@ -86,12 +86,10 @@ pub enum Command {
     },
 }
 
-/// The command that a line is: an object of one field, the command's name, whose value is the object of exactly its
-/// fields: `edit` of `at`, `object`, `step` and `value`, `withdraw` of `at`, `object` and `step`, `advance` of `at` and
-/// `to`, `cells` of `at` and `step`, `cars` of `at` and `step`, `count` of `at`, `detector`, `from` and `to`, `diagram` of
-/// `at`, `from` and `to`, `scenario` of `at`. A name is a text of 1 to 64 bytes; a number is whole, of at most 32 bits, and
-/// written without point and exponent; an object is a list of its kind and its index. Of a field that stands twice the last
-/// counts.
+/// The command that a line is: an object of one field, whose name is that of a variant of `Command` in small letters,
+/// and whose value is an object of exactly the variant's fields, in any order. A name is a text of 1 to 64 bytes; a
+/// number is whole, of at most 32 bits, and written without point and exponent; an object is a list of its kind and its
+/// index. Of a field that stands twice the last counts.
 ///
 /// # Errors
 ///

@@ -14,17 +14,22 @@ use road_scenario::{Edit, Value as Put};
 use serde_json::{Value, json};
 use std::alloc::Global;
 
-/// The line that is written for an answer, its newline too: one compact JSON object.
+/// The line that is written for an answer, its newline too: one compact JSON object, whose fields stand in the order of
+/// their bytes.
+///
+/// # Errors
+///
+/// `OutOfMemory`, and nothing else: every answer has a line.
 pub fn reply_line(alloc: Global, answer: &Answer) -> Result<String, OutOfMemory>
     ensures { IfOk result (λ line. string_bytes line ≡ reply (answer_view answer.now)) }
 {
-    let mut line = value_of(alloc, answer)?.to_string(alloc)?;
+    let mut line = answer_value(alloc, answer)?.to_string(alloc)?;
     line.push('\n')?;
     Ok(line)
 }
 
 // The JSON value of an answer.
-fn value_of(alloc: Global, answer: &Answer) -> Result<Value, OutOfMemory>
+fn answer_value(alloc: Global, answer: &Answer) -> Result<Value, OutOfMemory>
     ensures { IfOk result (λ value. view value ≡ data_of (answer_view answer.now)) }
 {
     match answer {
