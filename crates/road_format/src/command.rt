@@ -1,8 +1,9 @@
 //! Lines that are commands.
 
-ghost use Rattle.std.specs.Prelude.{◌≡◌, ◌<◌, length, IfOk, IfErr, option_map, string_bytes};
+ghost use Rattle.std.specs.Prelude.{◌≡◌, ◌<◌, length, IfOk, IfErr, OnErr, IsSome, option_map, string_bytes};
 ghost use Rattle.serde_json.specs.View.{view};
 ghost use Rattle.road_format.specs.CommandGrammar as grammar;
+ghost use Rattle.road_format.specs.Fields as fields;
 ghost use Rattle.road_format.specs.Refusals.{line_refusal};
 ghost use Rattle.road_format.specs.Views.{Gives, command_view};
 ghost use Rattle.road_format.specs.declared.faults.LineFault.TheVariants as line_faults;
@@ -115,7 +116,8 @@ pub fn read_command(alloc: Global, line: &[u8]) -> Result<Command, LineFault>
 // The command that a value is.
 #[tactic(auto, unfolding(crate::specs::CommandGrammar::command_in))]
 fn command_in(alloc: Global, value: &Value) -> Result<Option<Command>, OutOfMemory>
-    ensures { IfOk result (λ command. option_map command_view command ≡ grammar.command_in (view value.now)) }
+    ensures command { IfOk result (λ command. option_map command_view command ≡ grammar.command_in (view value.now)) }
+    ensures memory { OnErr result (IsSome (fields.only_field (view value.now))) }
 {
     let Some((name, fields)) = only_field(value) else {
         return Ok(None);

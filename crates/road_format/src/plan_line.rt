@@ -1,9 +1,10 @@
 //! The first line of an input.
 
-ghost use Rattle.std.specs.Prelude.{◌≡◌, ◌<◌, ◌≤◌, length, true, None, IfOk, IfErr, IsSome, option_map};
+ghost use Rattle.std.specs.Prelude.{◌≡◌, ◌<◌, ◌≤◌, length, true, None, IfOk, IfErr, OnErr, IsSome, option_map};
 ghost use Rattle.serde_json.specs.View.{view};
 ghost use Rattle.road_plan.specs.Plan.{plan_of};
 ghost use Rattle.road_plan.specs.declared.limits.TheConstants.{MOST_REPLICAS};
+ghost use Rattle.road_format.specs.Fields as fields;
 ghost use Rattle.road_format.specs.PlanGrammar as grammar;
 ghost use Rattle.road_format.specs.PlanGrammar.{all_differ};
 ghost use Rattle.road_format.specs.Refusals.{plan_line_refusal};
@@ -101,7 +102,8 @@ fn checked_line(line: PlanLineParts) -> Result<PlanLine, PlanLineFault>
 // The parts of a plan line that a value has.
 #[tactic(auto, unfolding(crate::specs::PlanGrammar::plan_line_in))]
 fn parts_in(alloc: Global, value: &Value) -> Result<Option<PlanLineParts>, OutOfMemory>
-    ensures { IfOk result (λ line. option_map parts_view line ≡ grammar.plan_line_in (view value.now)) }
+    ensures parts { IfOk result (λ line. option_map parts_view line ≡ grammar.plan_line_in (view value.now)) }
+    ensures memory { OnErr result (fields.has_fields 8 (view value.now) ≡ true) }
 {
     if !has_fields(8, value) {
         return Ok(None);
@@ -118,7 +120,8 @@ fn parts_in(alloc: Global, value: &Value) -> Result<Option<PlanLineParts>, OutOf
 // The parts of a plan that stand at the fields of a value.
 #[tactic(auto, unfolding(crate::specs::PlanGrammar::plan_in))]
 fn plan_in(alloc: Global, value: &Value) -> Result<Option<PlanParts>, OutOfMemory>
-    ensures { IfOk result (λ parts. option_map plan_of parts ≡ grammar.plan_in (view value.now)) }
+    ensures parts { IfOk result (λ parts. option_map plan_of parts ≡ grammar.plan_in (view value.now)) }
+    ensures memory { OnErr result (IsSome (grammar.measures_in (view value.now))) }
 {
     let Some((length, exit, width)) = measures_in(value) else {
         return Ok(None);
