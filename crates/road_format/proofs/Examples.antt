@@ -1,15 +1,16 @@
 -- Worked examples: the definitions, computed.
-use Rattle.std.proofs.Common.{◌≡◌, [], ◌∷◌, true, false, codes, refl, Ok, Err}
-use Rattle.std.specs.Str.{is_utf8, chars}
-use Rattle.std.specs.Fmt.{digits}
-use Rattle.serde_json.proofs.OnLiterals.{serde_json_on_literals}
-use Rattle.road_plan.specs.declared.parts.WordKind.TheVariants.{Seeded}
+use Rattle.std.proofs.Common.{◌≡◌, [], ◌∷◌, true, false, codes, refl, Ok, Err, replicate}
+use Rattle.road_plan.specs.declared.parts.WordKind.TheVariants.{Seeded, Steady}
+use Rattle.road_plan.specs.declared.object.Object.TheVariants.{Limit, Block}
+use Rattle.road_scenario.specs.declared.edit.Value.TheVariants.{Withdrawn, Put}
 use Rattle.road_format.specs.Cut.{lines_of}
-use Rattle.road_format.specs.Reading.{value_of}
-use Rattle.road_format.specs.CommandGrammar.{Advance, Cells, Count, advance_in, cells_in, count_in, command_in, command_of}
-use Rattle.road_format.specs.PlanGrammar.{plan_line_in, plan_line_of}
-use Rattle.road_format.specs.Replies.{Open, Refused, Horizon, Cells as CellsReply, Cars, reply}
+use Rattle.road_format.specs.Fields.{is_name}
+use Rattle.road_format.specs.CommandGrammar.{Edit, Withdraw, Advance, Cells, Cars, Count, Diagram, Scenario, command_of}
+use Rattle.road_format.specs.PlanGrammar.{plan_line_of}
+use Rattle.road_format.specs.Replies as replies
+use Rattle.road_format.specs.Replies.{reply}
 use Rattle.road_format.specs.declared.refusal.Refusal.TheVariants as refusals
+use Rattle.road_format.proofs.OnLiterals.{road_format_on_literals}
 
 -- ---- cutting
 
@@ -22,34 +23,77 @@ the_input_goes_on = refl
 no_line_behind_the_last_newline : lines_of (codes "a\n") true ≡ codes "a" ∷ []
 no_line_behind_the_last_newline = refl
 
+-- ---- names
+
+the_longest_name : is_name (replicate 64 97) ≡ true
+the_longest_name = refl
+
+a_name_too_long : is_name (replicate 65 97) ≡ false
+a_name_too_long = refl
+
+no_name : is_name [] ≡ false
+no_name = refl
+
 -- ---- commands
 
+an_edit : command_of (codes "{\"edit\":{\"at\":\"A\",\"object\":[\"block\",8],\"step\":4,\"value\":1}}") ≡ Ok (Edit (codes "A") (Block 8) 4 1)
+unfolding road_format_on_literals
+an_edit = refl
+
+a_withdrawal : command_of (codes "{\"withdraw\":{\"at\":\"A\",\"object\":[\"block\",8],\"step\":4}}") ≡ Ok (Withdraw (codes "A") (Block 8) 4)
+unfolding road_format_on_literals
+a_withdrawal = refl
+
 an_advance : command_of (codes "{\"advance\":{\"to\":6,\"at\":\"A\"}}") ≡ Ok (Advance (codes "A") 6)
-unfolding serde_json_on_literals value_of is_utf8 chars command_of command_in advance_in cells_in
+unfolding road_format_on_literals
 an_advance = refl
 
 some_cells : command_of (codes " {\"cells\" : {\"at\":\"\\u0041\",\"step\":0}}\r") ≡ Ok (Cells (codes "A") 0)
-unfolding serde_json_on_literals value_of is_utf8 chars command_of command_in advance_in cells_in
+unfolding road_format_on_literals
 some_cells = refl
 
+some_cars : command_of (codes "{\"cars\":{\"at\":\"A\",\"step\":6}}") ≡ Ok (Cars (codes "A") 6)
+unfolding road_format_on_literals
+some_cars = refl
+
 a_count : command_of (codes "{\"count\":{\"at\":\"A\",\"detector\":2,\"from\":0,\"to\":6}}") ≡ Ok (Count (codes "A") 2 0 6)
-unfolding serde_json_on_literals value_of is_utf8 chars command_of command_in count_in
+unfolding road_format_on_literals
 a_count = refl
 
+a_diagram : command_of (codes "{\"diagram\":{\"at\":\"B\",\"from\":4,\"to\":6}}") ≡ Ok (Diagram (codes "B") 4 6)
+unfolding road_format_on_literals
+a_diagram = refl
+
+a_scenario : command_of (codes "{\"scenario\":{\"at\":\"A\"}}") ≡ Ok (Scenario (codes "A"))
+unfolding road_format_on_literals
+a_scenario = refl
+
 the_last_of_two_counts : command_of (codes "{\"cells\":{\"at\":\"A\",\"step\":7,\"step\":0}}") ≡ Ok (Cells (codes "A") 0)
-unfolding serde_json_on_literals value_of is_utf8 chars command_of command_in advance_in cells_in
+unfolding road_format_on_literals
 the_last_of_two_counts = refl
 
 an_unknown_field : command_of (codes "{\"cells\":{\"at\":\"A\",\"step\":0,\"to\":1}}") ≡ Err refusals.NotACommand
-unfolding serde_json_on_literals value_of is_utf8 chars command_of command_in advance_in cells_in
+unfolding road_format_on_literals
 an_unknown_field = refl
 
+a_second_command : command_of (codes "{\"advance\":{\"at\":\"A\",\"to\":6},\"cells\":{\"at\":\"A\",\"step\":6}}") ≡ Err refusals.NotACommand
+unfolding road_format_on_literals
+a_second_command = refl
+
 a_point : command_of (codes "{\"cells\":{\"at\":\"A\",\"step\":1.0}}") ≡ Err refusals.NotACommand
-unfolding serde_json_on_literals value_of is_utf8 chars command_of command_in advance_in cells_in
+unfolding road_format_on_literals
 a_point = refl
 
+the_greatest_number : command_of (codes "{\"advance\":{\"at\":\"A\",\"to\":4294967295}}") ≡ Ok (Advance (codes "A") 4294967295)
+unfolding road_format_on_literals
+the_greatest_number = refl
+
+a_number_too_great : command_of (codes "{\"advance\":{\"at\":\"A\",\"to\":4294967296}}") ≡ Err refusals.NotACommand
+unfolding road_format_on_literals
+a_number_too_great = refl
+
 no_json : command_of [] ≡ Err refusals.NotJson
-unfolding serde_json_on_literals value_of is_utf8 chars command_of command_in advance_in cells_in
+unfolding road_format_on_literals
 no_json = refl
 
 -- ---- plan lines
@@ -66,40 +110,79 @@ a_plan : plan_line_of (codes "{\"detectors\":[5],\"exit\":1,\"inlets\":[[0,65536
     words = Seeded 7;
   };
 })
-unfolding serde_json_on_literals value_of is_utf8 chars plan_line_of plan_line_in
+unfolding road_format_on_literals
 a_plan = refl
+
+a_plan_of_steady_words : plan_line_of (codes "{\"detectors\":[],\"exit\":1,\"inlets\":[[0,65536],[3,65536]],\"length\":32,\"replicas\":[\"A\"],\"words\":\"steady\",\"zone\":32,\"zones\":[[2,32768]]}") ≡ Ok (record {
+  names = codes "A" ∷ [];
+  plan = record {
+    cells = 32;
+    exit = 1;
+    width = 32;
+    zones = (2, 32768) ∷ [];
+    inlets = (0, 65536) ∷ (3, 65536) ∷ [];
+    detectors = [];
+    words = Steady;
+  };
+})
+unfolding road_format_on_literals
+a_plan_of_steady_words = refl
 
 -- names are asked before the length of the road
 two_alike : plan_line_of (codes "{\"detectors\":[],\"exit\":1,\"inlets\":[[0,65536]],\"length\":7,\"replicas\":[\"A\",\"A\"],\"words\":\"steady\",\"zone\":12,\"zones\":[[2,0]]}") ≡ Err refusals.Names
-unfolding serde_json_on_literals value_of is_utf8 chars plan_line_of plan_line_in
+unfolding road_format_on_literals
 two_alike = refl
 
 too_short : plan_line_of (codes "{\"detectors\":[],\"exit\":1,\"inlets\":[[0,65536]],\"length\":7,\"replicas\":[\"A\"],\"words\":\"steady\",\"zone\":12,\"zones\":[[2,0]]}") ≡ Err refusals.Length
-unfolding serde_json_on_literals value_of is_utf8 chars plan_line_of plan_line_in
+unfolding road_format_on_literals
 too_short = refl
 
 no_plan_line : plan_line_of (codes "{}") ≡ Err refusals.NotAPlan
-unfolding serde_json_on_literals value_of is_utf8 chars plan_line_of plan_line_in
+unfolding road_format_on_literals
 no_plan_line = refl
 
 -- ---- replies
 
-opened : reply (Open 3) ≡ codes "{\"open\":3}\n"
-unfolding serde_json_on_literals digits reply
+opened : reply (replies.Open 3) ≡ codes "{\"open\":3}\n"
+unfolding road_format_on_literals
 opened = refl
 
-refused : reply (Refused refusals.LineTooLong) ≡ codes "{\"refused\":\"line too long\"}\n"
-unfolding serde_json_on_literals digits reply
+refused : reply (replies.Refused refusals.LineTooLong) ≡ codes "{\"refused\":\"line too long\"}\n"
+unfolding road_format_on_literals
 refused = refl
 
-advanced : reply (Horizon 65536) ≡ codes "{\"horizon\":65536}\n"
-unfolding serde_json_on_literals digits reply
+stamped : reply (replies.Stamped (record { count = 1; number = 0 })) ≡ codes "{\"stamp\":[1,0]}\n"
+unfolding road_format_on_literals
+stamped = refl
+
+advanced : reply (replies.Horizon 65536) ≡ codes "{\"horizon\":65536}\n"
+unfolding road_format_on_literals
 advanced = refl
 
-a_row : reply (CellsReply (codes "0..2...2....")) ≡ codes "{\"cells\":\"0..2...2....\"}\n"
-unfolding serde_json_on_literals digits reply
+a_row : reply (replies.Cells (codes "0..2...2....")) ≡ codes "{\"cells\":\"0..2...2....\"}\n"
+unfolding road_format_on_literals
 a_row = refl
 
-some_cars : reply (Cars ((0, 3, 1) ∷ (18446744073709551615, 11, 9) ∷ [])) ≡ codes "{\"cars\":[[0,3,1],[18446744073709551615,11,9]]}\n"
-unfolding serde_json_on_literals digits reply
-some_cars = refl
+three_cars : reply (replies.Cars ((80, 0, 0) ∷ (48, 3, 2) ∷ (16, 7, 2) ∷ [])) ≡ codes "{\"cars\":[[80,0,0],[48,3,2],[16,7,2]]}\n"
+unfolding road_format_on_literals
+three_cars = refl
+
+the_greatest_car_number : reply (replies.Cars ((18446744073709551615, 11, 9) ∷ [])) ≡ codes "{\"cars\":[[18446744073709551615,11,9]]}\n"
+unfolding road_format_on_literals
+the_greatest_car_number = refl
+
+two_counted : reply (replies.Counted 2 4) ≡ codes "{\"cars\":2,\"speeds\":4}\n"
+unfolding road_format_on_literals
+two_counted = refl
+
+three_rows : reply (replies.Rows (codes "0..2...2#..." ∷ codes ".1...2.0#..." ∷ codes "0..2..10#..." ∷ [])) ≡ codes "{\"rows\":[\"0..2...2#...\",\".1...2.0#...\",\"0..2..10#...\"]}\n"
+unfolding road_format_on_literals
+three_rows = refl
+
+an_edit_and_a_withdrawal : reply (replies.Edits (
+    record { object = Limit 1; step = 10; stamp = record { count = 1; number = 0 }; value = Put 0 }
+    ∷ record { object = Block 8; step = 4; stamp = record { count = 2; number = 0 }; value = Withdrawn }
+    ∷ []))
+    ≡ codes "{\"edits\":[[\"limit\",1,10,1,0,0],[\"block\",8,4,2,0,null]],\"form\":1}\n"
+unfolding road_format_on_literals
+an_edit_and_a_withdrawal = refl

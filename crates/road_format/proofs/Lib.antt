@@ -1,5 +1,9 @@
 mod Examples
-pub mod Values
-pub mod Lines
-pub mod OneLine
-pub mod Exactly
+pub mod OnLiterals
+pub mod CutLines
+pub mod LineValues
+pub mod JsonParts
+pub mod AcceptedNames
+pub mod NoOtherField
+pub mod ReplyValues
+pub mod ReplyTexts

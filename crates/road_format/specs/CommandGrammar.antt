@@ -1,11 +1,13 @@
 -- Which lines are commands. A command is an object of one field, the command's name, whose value is the object of its
--- fields.
-use Rattle.std.specs.Prelude.{ℕ, List, codes, Option, Some, None, Result, Ok, Err}
+-- fields: `at`, a replica's name, and those of the command.
+use Rattle.std.specs.Prelude.{ℕ, List, codes, if◌then◌else◌, Option, Some, None, option_map, Result}
+use Rattle.std.specs.Option.{ok_or}
+use Rattle.std.specs.Str.{bytes_eq}
 use Rattle.serde_json.specs.Data.{Data}
-use Rattle.serde_json.specs.Find.{get}
 use Rattle.road_format.specs.Reading.{value_of}
-use Rattle.road_format.specs.Fields.{◌>>=◌, only_if, has_fields, name_at, number_at}
+use Rattle.road_format.specs.Fields.{◌>>=◌, check, has_fields, only_field, name_at, number_at}
 use Rattle.road_format.specs.ObjectGrammar.{object_at}
+use Rattle.road_format.specs.Refusals.{result_or_refusal}
 use Rattle.road_plan.specs.declared.object.Object.{Object}
 use Rattle.road_format.specs.declared.refusal.Refusal.{Refusal}
 use Rattle.road_format.specs.declared.refusal.Refusal.TheVariants.{NotJson, NotACommand}
@@ -29,108 +31,77 @@ pub data Command : Type 0 where
   -- at
   Scenario : List ℕ → Command
 
+-- the number at a field, of an object that has exactly this field and `at`
+abbrev pub only_number : List ℕ → Data → Option ℕ
+only_number field d = do
+  exact ← check (has_fields 2 d)
+  number_at field d
+
 -- exactly the fields `at`, `object`, `step` and `value`
-unfoldable pub edit_in : Data → Option Command
-edit_in d = do
-  exact ← only_if (has_fields 4 d)
-  at ← name_at (codes "at") d
+unfoldable pub edit_in : List ℕ → Data → Option Command
+edit_in at d = do
+  exact ← check (has_fields 4 d)
   object ← object_at (codes "object") d
   step ← number_at (codes "step") d
   value ← number_at (codes "value") d
   Some (Edit at object step value)
 
 -- exactly the fields `at`, `object` and `step`
-unfoldable pub withdraw_in : Data → Option Command
-withdraw_in d = do
-  exact ← only_if (has_fields 3 d)
-  at ← name_at (codes "at") d
+unfoldable pub withdraw_in : List ℕ → Data → Option Command
+withdraw_in at d = do
+  exact ← check (has_fields 3 d)
   object ← object_at (codes "object") d
   step ← number_at (codes "step") d
   Some (Withdraw at object step)
 
--- exactly the fields `at` and `to`
-unfoldable pub advance_in : Data → Option Command
-advance_in d = do
-  exact ← only_if (has_fields 2 d)
-  at ← name_at (codes "at") d
+-- the steps at `from` and `to`
+abbrev pub steps_at : Data → Option (ℕ × ℕ)
+steps_at d = do
+  from ← number_at (codes "from") d
   to ← number_at (codes "to") d
-  Some (Advance at to)
-
--- exactly the fields `at` and `step`
-unfoldable pub cells_in : Data → Option Command
-cells_in d = do
-  exact ← only_if (has_fields 2 d)
-  at ← name_at (codes "at") d
-  step ← number_at (codes "step") d
-  Some (Cells at step)
-
--- exactly the fields `at` and `step`
-unfoldable pub cars_in : Data → Option Command
-cars_in d = do
-  exact ← only_if (has_fields 2 d)
-  at ← name_at (codes "at") d
-  step ← number_at (codes "step") d
-  Some (Cars at step)
+  Some (from, to)
 
 -- exactly the fields `at`, `detector`, `from` and `to`
-unfoldable pub count_in : Data → Option Command
-count_in d = do
-  exact ← only_if (has_fields 4 d)
-  at ← name_at (codes "at") d
+unfoldable pub count_in : List ℕ → Data → Option Command
+count_in at d = do
+  exact ← check (has_fields 4 d)
   detector ← number_at (codes "detector") d
-  from ← number_at (codes "from") d
-  to ← number_at (codes "to") d
-  Some (Count at detector from to)
+  steps ← steps_at d
+  Some (Count at detector steps.0 steps.1)
 
 -- exactly the fields `at`, `from` and `to`
-unfoldable pub diagram_in : Data → Option Command
-diagram_in d = do
-  exact ← only_if (has_fields 3 d)
-  at ← name_at (codes "at") d
-  from ← number_at (codes "from") d
-  to ← number_at (codes "to") d
-  Some (Diagram at from to)
+unfoldable pub diagram_in : List ℕ → Data → Option Command
+diagram_in at d = do
+  exact ← check (has_fields 3 d)
+  steps ← steps_at d
+  Some (Diagram at steps.0 steps.1)
 
 -- exactly the field `at`
-unfoldable pub scenario_in : Data → Option Command
-scenario_in d = do
-  exact ← only_if (has_fields 1 d)
-  at ← name_at (codes "at") d
+abbrev pub scenario_in : List ℕ → Data → Option Command
+scenario_in at d = do
+  exact ← check (has_fields 1 d)
   Some (Scenario at)
 
--- the command that these fields are, if they are there; else another
-abbrev pub named_or : Option Data → (Data → Option Command) → Option Command → Option Command
-named_or (Some fields) read other = read fields
-named_or None read other = other
-
--- the command whose name has fields; an object of one field has those of one at most
-abbrev pub command_named : Data → Option Command
-command_named d =
-    named_or (get (codes "edit") d) edit_in
-    (named_or (get (codes "withdraw") d) withdraw_in
-    (named_or (get (codes "advance") d) advance_in
-    (named_or (get (codes "cells") d) cells_in
-    (named_or (get (codes "cars") d) cars_in
-    (named_or (get (codes "count") d) count_in
-    (named_or (get (codes "diagram") d) diagram_in
-    (named_or (get (codes "scenario") d) scenario_in None)))))))
+-- the command of a name at a replica, with these fields
+unfoldable pub command_of_name : List ℕ → List ℕ → Data → Option Command
+command_of_name name at d =
+    if bytes_eq name (codes "edit") then edit_in at d
+    else if bytes_eq name (codes "withdraw") then withdraw_in at d
+    else if bytes_eq name (codes "advance") then option_map (Advance at) (only_number (codes "to") d)
+    else if bytes_eq name (codes "cells") then option_map (Cells at) (only_number (codes "step") d)
+    else if bytes_eq name (codes "cars") then option_map (Cars at) (only_number (codes "step") d)
+    else if bytes_eq name (codes "count") then count_in at d
+    else if bytes_eq name (codes "diagram") then diagram_in at d
+    else if bytes_eq name (codes "scenario") then scenario_in at d
+    else None
 
 -- the command that a value is
 unfoldable pub command_in : Data → Option Command
 command_in d = do
-  exact ← only_if (has_fields 1 d)
-  command_named d
-
--- the command, where the value is one
-abbrev pub or_not_a_command : Option Command → Result Command Refusal
-or_not_a_command None = Err NotACommand
-or_not_a_command (Some command) = Ok command
-
--- the command, where the line is a value and the value a command
-abbrev pub command_from : Option Data → Result Command Refusal
-command_from None = Err NotJson
-command_from (Some d) = or_not_a_command (command_in d)
+  field ← only_field d
+  at ← name_at (codes "at") field.1
+  command_of_name field.0 at field.1
 
 -- the command that a line is, or its refusal: first a line that is no JSON, then a value that is no command
 unfoldable pub command_of : List ℕ → Result Command Refusal
-command_of line = command_from (value_of line)
+command_of line = result_or_refusal NotJson (value_of line) (λ d. ok_or (command_in d) NotACommand)

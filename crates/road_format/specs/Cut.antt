@@ -10,25 +10,26 @@ abbrev pub Pieces : Type 0
 Pieces = List (List ℕ) × List ℕ
 
 -- the pieces once a byte is put in front of the first of them
-abbrev pub begun : ℕ → List (List ℕ) → List ℕ → Pieces
-begun x [] rest = ([], x ∷ rest)
-begun x (line ∷ lines) rest = ((x ∷ line) ∷ lines, rest)
+abbrev pub pieces_with_byte_in_line : ℕ → List (List ℕ) → List ℕ → Pieces
+pieces_with_byte_in_line x [] rest = ([], x ∷ rest)
+pieces_with_byte_in_line x (line ∷ lines) rest = ((x ∷ line) ∷ lines, rest)
 
 -- the pieces once a byte stands in front of them: a newline is an empty line of its own
-abbrev pub cut_at : ℕ → Pieces → Pieces
-cut_at x pieces = if x == newline then ([] ∷ pieces.0, pieces.1) else begun x pieces.0 pieces.1
+abbrev pub pieces_with_byte : ℕ → Pieces → Pieces
+pieces_with_byte x pieces =
+    if x == newline then ([] ∷ pieces.0, pieces.1) else pieces_with_byte_in_line x pieces.0 pieces.1
 
 -- the pieces of these bytes
-abbrev pub cut : List ℕ → Pieces
-cut [] = ([], [])
-cut (x ∷ xs) = cut_at x (cut xs)
+abbrev pub pieces_of : List ℕ → Pieces
+pieces_of [] = ([], [])
+pieces_of (x ∷ xs) = pieces_with_byte x (pieces_of xs)
 
 -- a last piece without a newline is a line where the input has ended and the piece isn't empty
-abbrev pub last_piece : Bool → List ℕ → List (List ℕ)
-last_piece false rest = []
-last_piece true [] = []
-last_piece true (x ∷ rest) = (x ∷ rest) ∷ []
+abbrev pub last_line : Bool → List ℕ → List (List ℕ)
+last_line false rest = []
+last_line true [] = []
+last_line true (x ∷ rest) = (x ∷ rest) ∷ []
 
 -- the lines of an input, or of what has been read of it so far
 abbrev pub lines_of : List ℕ → Bool → List (List ℕ)
-lines_of bytes ended = let pieces = cut bytes in pieces.0 ++ last_piece ended pieces.1
+lines_of bytes ended = let pieces = pieces_of bytes in pieces.0 ++ last_line ended pieces.1

@@ -1,20 +1,25 @@
 -- What holds of the lines of every input.
 use Rattle.std.specs.Prelude.{◌≡◌, ◌≢◌, ℕ, List, [], ◌∷◌, ◌++◌, Bool, false, All}
-use Rattle.road_format.specs.Cut.{newline, cut, lines_of}
+use Rattle.road_format.specs.Cut.{newline, pieces_of, lines_of}
 
 -- the lines of what was read are the first of the lines of whatever goes on from it
 abbrev pub LinesGoOn : Type 0
-LinesGoOn = (first more : List ℕ) (ended : Bool) → (rest : List (List ℕ)) × (lines_of (first ++ more) ended ≡ lines_of first false ++ rest)
+LinesGoOn = (first more : List ℕ) (ended : Bool)
+    → (rest : List (List ℕ)) × (lines_of (first ++ more) ended ≡ lines_of first false ++ rest)
 
 -- these lines, a newline behind each
-abbrev pub laid_out : List (List ℕ) → List ℕ
-laid_out [] = []
-laid_out (line ∷ lines) = line ++ newline ∷ laid_out lines
+abbrev pub lines_and_newlines : List (List ℕ) → List ℕ
+lines_and_newlines [] = []
+lines_and_newlines (line ∷ lines) = line ++ newline ∷ lines_and_newlines lines
 
 -- the pieces of an input, put together again, are the input
 abbrev pub CutLosesNothing : Type 0
-CutLosesNothing = (bytes : List ℕ) → laid_out (cut bytes).0 ++ (cut bytes).1 ≡ bytes
+CutLosesNothing = (bytes : List ℕ) → lines_and_newlines (pieces_of bytes).0 ++ (pieces_of bytes).1 ≡ bytes
+
+-- a text has no newline in it
+abbrev pub HasNoNewline : List ℕ → Type 0
+HasNoNewline text = All (λ byte. byte ≢ newline) text
 
 -- no line and no last piece has a newline in it
 abbrev pub LinesHaveNoNewline : Type 0
-LinesHaveNoNewline = (bytes : List ℕ) → All (All (λ byte. byte ≢ newline)) (cut bytes).0 × All (λ byte. byte ≢ newline) (cut bytes).1
+LinesHaveNoNewline = (bytes : List ℕ) → All HasNoNewline (pieces_of bytes).0 × HasNoNewline (pieces_of bytes).1

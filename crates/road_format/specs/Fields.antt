@@ -1,5 +1,6 @@
 -- What stands at the fields of an object, and in lists.
-use Rattle.std.specs.Prelude.{ℕ, suc, List, [], ◌∷◌, ◌==◌, ◌&&◌, ◌^◌, Bool, true, false, length, nat_lt, nat_le, if◌then◌else◌, Option, Some, None}
+use Rattle.std.specs.Prelude.{ℕ, suc, List, [], ◌∷◌, ◌==◌, ◌&&◌, ◌^◌, Bool, true, false, length, nat_lt, nat_le}
+use Rattle.std.specs.Prelude.{if◌then◌else◌, Option, Some, None}
 use Rattle.serde_json.specs.Data.{Data, Items, no_items, item, Members, no_members, member}
 use Rattle.serde_json.specs.Find.{get, as_str, as_number, as_array, as_object, as_u64}
 use Rattle.road_format.specs.declared.names.TheConstants.{LONGEST_NAME}
@@ -10,33 +11,43 @@ abbrev pub ◌>>=◌ : {A B : Type 0} → Option A → (A → Option B) → Opti
 None >>= f = None
 (Some x) >>= f = f x
 
--- nothing where this is false
-abbrev pub only_if : Bool → Option Bool
-only_if true = Some true
-only_if false = None
+-- a step that gives nothing where this is false
+abbrev pub check : Bool → Option Bool
+check true = Some true
+check false = None
 
 -- ---- an object
 
 -- how many fields these are
-abbrev pub members_len : Members → ℕ
-members_len no_members = 0
-members_len (member k d ms) = suc (members_len ms)
+abbrev pub member_count : Members → ℕ
+member_count no_members = 0
+member_count (member name d fields) = suc (member_count fields)
 
 -- whether there are fields, and so many
-abbrev pub is_count : ℕ → Option Members → Bool
-is_count n None = false
-is_count n (Some ms) = members_len ms == n
+abbrev pub has_members : ℕ → Option Members → Bool
+has_members n None = false
+has_members n (Some fields) = member_count fields == n
 
 -- whether this is an object of so many fields. With that many look-ups by different names it has exactly these fields
--- (specs/FieldsLaws.antt).
+-- (`NoOtherField`).
 abbrev pub has_fields : ℕ → Data → Bool
-has_fields n d = is_count n (as_object d)
+has_fields n d = has_members n (as_object d)
+
+-- the name and the value of the only one of these fields
+abbrev pub only_member : Members → Option (List ℕ × Data)
+only_member no_members = None
+only_member (member name d no_members) = Some (name, d)
+only_member (member name d (member other e fields)) = None
+
+-- the name and the value of an object's only field
+abbrev pub only_field : Data → Option (List ℕ × Data)
+only_field d = as_object d >>= only_member
 
 -- ---- numbers
 
 -- the number, if it fits 32 bits
-abbrev pub small : ℕ → Option ℕ
-small n = if nat_lt n (2 ^ 32) then Some n else None
+abbrev pub number_of_32_bits : ℕ → Option ℕ
+number_of_32_bits n = if nat_lt n (2 ^ 32) then Some n else None
 
 -- a whole number of at most 64 bits, written without point and exponent
 abbrev pub long_number_in : Data → Option ℕ
@@ -44,7 +55,7 @@ long_number_in d = as_number d >>= as_u64
 
 -- a whole number of at most 32 bits, written without point and exponent
 abbrev pub number_in : Data → Option ℕ
-number_in d = long_number_in d >>= small
+number_in d = long_number_in d >>= number_of_32_bits
 
 -- the number at a field
 abbrev pub number_at : List ℕ → Data → Option ℕ
@@ -57,19 +68,19 @@ abbrev pub is_name : List ℕ → Bool
 is_name text = nat_lt 0 (length text) && nat_le (length text) LONGEST_NAME
 
 -- the text, if it is a name
-abbrev pub named : List ℕ → Option (List ℕ)
-named text = if is_name text then Some text else None
+abbrev pub name_of_text : List ℕ → Option (List ℕ)
+name_of_text text = if is_name text then Some text else None
 
 -- the name at a field
 abbrev pub name_at : List ℕ → Data → Option (List ℕ)
-name_at field d = get field d >>= as_str >>= named
+name_at field d = get field d >>= as_str >>= name_of_text
 
 -- ---- lists
 
 -- what each item reads as; nothing, where one reads as nothing
-abbrev pub each : {A : Type 0} → (Data → Option A) → Items → Option (List A)
-each read no_items = Some []
-each read (item d ds) = read d >>= λ x. each read ds >>= λ xs. Some (x ∷ xs)
+abbrev pub values_of_items : {A : Type 0} → (Data → Option A) → Items → Option (List A)
+values_of_items read no_items = Some []
+values_of_items read (item d ds) = read d >>= λ x. values_of_items read ds >>= λ xs. Some (x ∷ xs)
 
 -- the items of the list at a field
 abbrev pub items_at : List ℕ → Data → Option Items
@@ -77,15 +88,19 @@ items_at field d = get field d >>= as_array
 
 -- what each item of the list at a field reads as
 abbrev pub list_at : {A : Type 0} → (Data → Option A) → List ℕ → Data → Option (List A)
-list_at read field d = items_at field d >>= each read
+list_at read field d = items_at field d >>= values_of_items read
 
--- two numbers, from just two items
-abbrev pub two_in : Items → Option (ℕ × ℕ)
-two_in no_items = None
-two_in (item a no_items) = None
-two_in (item a (item b no_items)) = number_in a >>= λ x. number_in b >>= λ y. Some (x, y)
-two_in (item a (item b (item c ds))) = None
+-- the two items of a list of just two
+abbrev pub two_items : Items → Option (Data × Data)
+two_items no_items = None
+two_items (item a no_items) = None
+two_items (item a (item b no_items)) = Some (a, b)
+two_items (item a (item b (item c ds))) = None
+
+-- both these values, where each is a number
+abbrev pub two_numbers : Data × Data → Option (ℕ × ℕ)
+two_numbers both = number_in both.0 >>= λ a. number_in both.1 >>= λ b. Some (a, b)
 
 -- a list of just two numbers
 abbrev pub pair_in : Data → Option (ℕ × ℕ)
-pair_in d = as_array d >>= two_in
+pair_in d = as_array d >>= two_items >>= two_numbers

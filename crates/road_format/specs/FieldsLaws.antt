@@ -1,18 +1,11 @@
 -- What counting and finding the fields of an object says: it has exactly these.
-use Rattle.std.specs.Prelude.{◌≡◌, ◌≢◌, ℕ, List, [], ◌∷◌, true, length, None, ◌⊎◌}
+use Rattle.std.specs.Prelude.{◌≡◌, ◌≢◌, ℕ, List, [], ◌∷◌, true, length, None}
+use Rattle.std.specs.List.{IsDistinct}
+use Rattle.std.specs.Set.{is_member}
+use Rattle.std.specs.Str.{bytes_eq}
 use Rattle.serde_json.specs.Data.{object, Members, no_members, member}
 use Rattle.serde_json.specs.Find.{get}
 use Rattle.road_format.specs.Fields.{has_fields}
-
--- a text is one of these
-abbrev pub IsOneOf : List ℕ → List (List ℕ) → Type 0
-IsOneOf text [] = ⊥
-IsOneOf text (first ∷ others) = (text ≡ first) ⊎ IsOneOf text others
-
--- no text stands twice
-abbrev pub AllDiffer : List (List ℕ) → Type 0
-AllDiffer [] = Unit {0}
-AllDiffer (first ∷ others) = ¬ IsOneOf first others × AllDiffer others
 
 -- the names of the fields
 abbrev pub field_names : Members → List (List ℕ)
@@ -23,7 +16,7 @@ field_names (member name d fields) = name ∷ field_names fields
 -- name
 abbrev pub NoOtherField : Type 0
 NoOtherField = (names : List (List ℕ)) (fields : Members)
-    → AllDiffer names
+    → IsDistinct bytes_eq names
     → has_fields (length names) (object fields) ≡ true
-    → ((name : List ℕ) → IsOneOf name names → get name (object fields) ≢ None)
-    → (name : List ℕ) → IsOneOf name (field_names fields) → IsOneOf name names
+    → ((name : List ℕ) → is_member bytes_eq names name ≡ true → get name (object fields) ≢ None)
+    → (name : List ℕ) → is_member bytes_eq (field_names fields) name ≡ true → is_member bytes_eq names name ≡ true

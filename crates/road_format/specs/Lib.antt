@@ -3,7 +3,6 @@ pub mod Reading
 pub mod Fields
 pub mod ObjectGrammar
 pub mod Refusals
-pub mod Faults
 pub mod CommandGrammar
 pub mod PlanGrammar
 pub mod Replies

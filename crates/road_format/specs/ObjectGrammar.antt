@@ -1,11 +1,11 @@
 -- How objects are written: a list of a kind's name and an index.
 use Rattle.std.specs.Prelude.{ℕ, List, codes, if◌then◌else◌, Option, Some, None}
 use Rattle.std.specs.Str.{bytes_eq}
-use Rattle.serde_json.specs.Data.{Data, Items, no_items, item}
+use Rattle.serde_json.specs.Data.{Data}
 use Rattle.serde_json.specs.Find.{as_str}
 use Rattle.road_plan.specs.declared.object.Object.{Object}
 use Rattle.road_plan.specs.declared.object.Object.TheVariants.{Limit, Slow, Block, Inflow, Watch}
-use Rattle.road_format.specs.Fields.{◌>>=◌, number_in, items_at}
+use Rattle.road_format.specs.Fields.{◌>>=◌, number_in, items_at, two_items}
 
 -- the name of an object's kind
 abbrev pub kind_of : Object → List ℕ
@@ -33,13 +33,10 @@ object_of kind index =
     else if bytes_eq kind (codes "watch") then Some (Watch index)
     else None
 
--- of just two items, a kind's name and an index
-abbrev pub object_from : Items → Option Object
-object_from no_items = None
-object_from (item a no_items) = None
-object_from (item a (item b no_items)) = as_str a >>= λ kind. number_in b >>= λ index. object_of kind index
-object_from (item a (item b (item c ds))) = None
+-- the object of these two values, a kind's name and an index
+abbrev pub object_from : Data × Data → Option Object
+object_from both = as_str both.0 >>= λ kind. number_in both.1 >>= λ index. object_of kind index
 
--- the object at a field
+-- the object at a field: a list of just two items
 abbrev pub object_at : List ℕ → Data → Option Object
-object_at field d = items_at field d >>= object_from
+object_at field d = items_at field d >>= two_items >>= object_from

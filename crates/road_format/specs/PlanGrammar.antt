@@ -1,5 +1,6 @@
 -- Which lines are plan lines: the first line of an input, with the names of the replicas and the plan of the road.
-use Rattle.std.specs.Prelude.{ℕ, List, [], ◌∷◌, ◌&&◌, not, Bool, true, length, nat_lt, nat_le, codes, if◌then◌else◌, Option, Some, None, Result, Ok, Err, option_and_then}
+use Rattle.std.specs.Prelude.{ℕ, List, [], ◌∷◌, ◌&&◌, not, Bool, true, length, nat_lt, nat_le, codes}
+use Rattle.std.specs.Prelude.{if◌then◌else◌, Option, Some, None, Result, Ok, Err, option_and_then}
 use Rattle.std.specs.List.{list_any, list_all}
 use Rattle.std.specs.Str.{bytes_eq}
 use Rattle.serde_json.specs.Data.{Data}
@@ -10,8 +11,9 @@ use Rattle.road_plan.specs.declared.parts.WordKind.{WordKind}
 use Rattle.road_plan.specs.declared.parts.WordKind.TheVariants.{Seeded, Steady}
 use Rattle.road_plan.specs.declared.limits.TheConstants.{MOST_REPLICAS}
 use Rattle.road_format.specs.Reading.{value_of}
-use Rattle.road_format.specs.Fields.{◌>>=◌, only_if, has_fields, long_number_in, number_at, is_name, list_at, number_in, pair_in}
-use Rattle.road_format.specs.Refusals.{plan_refusal}
+use Rattle.road_format.specs.Fields.{◌>>=◌, check, has_fields, is_name, list_at, pair_in}
+use Rattle.road_format.specs.Fields.{long_number_in, number_at, number_in}
+use Rattle.road_format.specs.Refusals.{plan_refusal, result_or_refusal}
 use Rattle.road_format.specs.declared.refusal.Refusal.{Refusal}
 use Rattle.road_format.specs.declared.refusal.Refusal.TheVariants.{NotJson, NotAPlan, Names}
 
@@ -23,14 +25,14 @@ pub record PlanLine : Type 0 where
 -- ---- where the words come from: a seed, or the text `steady`
 
 -- steady words, for that text alone
-abbrev pub steady_if : List ℕ → Option WordKind
-steady_if text = if bytes_eq text (codes "steady") then Some Steady else None
+abbrev pub steady_words : List ℕ → Option WordKind
+steady_words text = if bytes_eq text (codes "steady") then Some Steady else None
 
 -- a seed where there is a number, and else what the text says
 abbrev pub words_from : Option ℕ → Option (List ℕ) → Option WordKind
 words_from (Some seed) text = Some (Seeded seed)
 words_from None None = None
-words_from None (Some text) = steady_if text
+words_from None (Some text) = steady_words text
 
 -- where the words come from, by a value
 abbrev pub words_in : Data → Option WordKind
@@ -42,30 +44,39 @@ words_at field d = get field d >>= words_in
 
 -- ---- the fields
 
--- exactly the eight fields of a plan line
+-- the cells of a road, of its deleted zone and of a zone, at `length`, `exit` and `zone`
+unfoldable pub measures_in : Data → Option (ℕ × ℕ × ℕ)
+measures_in d = do
+  cells ← number_at (codes "length") d
+  exit ← number_at (codes "exit") d
+  width ← number_at (codes "zone") d
+  Some (cells, exit, width)
+
+-- the plan, at these fields and at `words`, `zones`, `inlets` and `detectors`
+unfoldable pub plan_in : Data → Option Plan
+plan_in d = do
+  measures ← measures_in d
+  words ← words_at (codes "words") d
+  zones ← list_at pair_in (codes "zones") d
+  inlets ← list_at pair_in (codes "inlets") d
+  detectors ← list_at number_in (codes "detectors") d
+  Some (record {
+    cells = measures.0;
+    exit = measures.1;
+    width = measures.2;
+    zones = zones;
+    inlets = inlets;
+    detectors = detectors;
+    words = words;
+  })
+
+-- exactly the fields of a plan, and `replicas`
 unfoldable pub plan_line_in : Data → Option PlanLine
 plan_line_in d = do
-  exact ← only_if (has_fields 8 d)
-  detectors ← list_at number_in (codes "detectors") d
-  exit ← number_at (codes "exit") d
-  inlets ← list_at pair_in (codes "inlets") d
-  cells ← number_at (codes "length") d
+  exact ← check (has_fields 8 d)
+  plan ← plan_in d
   names ← list_at as_str (codes "replicas") d
-  words ← words_at (codes "words") d
-  width ← number_at (codes "zone") d
-  zones ← list_at pair_in (codes "zones") d
-  Some (record {
-    names = names;
-    plan = record {
-      cells = cells;
-      exit = exit;
-      width = width;
-      zones = zones;
-      inlets = inlets;
-      detectors = detectors;
-      words = words;
-    };
-  })
+  Some (record { names = names; plan = plan })
 
 -- ---- the refusals, in their order
 
@@ -74,34 +85,28 @@ abbrev pub all_differ : List (List ℕ) → Bool
 all_differ [] = true
 all_differ (text ∷ texts) = not (list_any (bytes_eq text) texts) && all_differ texts
 
--- 1 to 64 names of 1 to 64 bytes, no two alike
+-- whether these are 1 to 64 names of 1 to 64 bytes, no two alike
 abbrev pub are_names : List (List ℕ) → Bool
-are_names texts = nat_lt 0 (length texts) && nat_le (length texts) MOST_REPLICAS && list_all is_name texts && all_differ texts
+are_names texts =
+    nat_lt 0 (length texts) && nat_le (length texts) MOST_REPLICAS
+    && list_all is_name texts
+    && all_differ texts
+
+-- the first refusal of a plan line: of its names, then of its plan
+abbrev pub refusal_of : PlanLine → Option Refusal
+refusal_of line = if are_names line.names then option_and_then plan_refusal (fault_of line.plan) else Some Names
 
 -- the line, unless there is a refusal
-abbrev pub unless_refused : PlanLine → Option Refusal → Result PlanLine Refusal
-unless_refused line None = Ok line
-unless_refused line (Some refusal) = Err refusal
-
--- the line, unless its plan is refused
-abbrev pub with_plan : PlanLine → Result PlanLine Refusal
-with_plan line = unless_refused line (option_and_then plan_refusal (fault_of line.plan))
+abbrev pub line_or_refusal : PlanLine → Option Refusal → Result PlanLine Refusal
+line_or_refusal line None = Ok line
+line_or_refusal line (Some refusal) = Err refusal
 
 -- the line, unless its names or its plan are refused
-abbrev pub with_names : PlanLine → Result PlanLine Refusal
-with_names line = if are_names line.names then with_plan line else Err Names
-
--- the plan line, where the value is one
-abbrev pub or_not_a_plan : Option PlanLine → Result PlanLine Refusal
-or_not_a_plan None = Err NotAPlan
-or_not_a_plan (Some line) = with_names line
-
--- the plan line, where the line is a value and the value a plan line
-abbrev pub plan_line_from : Option Data → Result PlanLine Refusal
-plan_line_from None = Err NotJson
-plan_line_from (Some d) = or_not_a_plan (plan_line_in d)
+abbrev pub checked_line : PlanLine → Result PlanLine Refusal
+checked_line line = line_or_refusal line (refusal_of line)
 
 -- the plan line that a line is, or its refusal: first a line that is no JSON, then a value that is no plan line, then
 -- the names, then the plan
 unfoldable pub plan_line_of : List ℕ → Result PlanLine Refusal
-plan_line_of line = plan_line_from (value_of line)
+plan_line_of line =
+    result_or_refusal NotJson (value_of line) (λ d. result_or_refusal NotAPlan (plan_line_in d) checked_line)

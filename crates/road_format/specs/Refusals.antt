@@ -1,5 +1,5 @@
 -- The refusals of lines, and their texts.
-use Rattle.std.specs.Prelude.{ℕ, List, codes, Option, Some, None}
+use Rattle.std.specs.Prelude.{ℕ, List, codes, Option, Some, None, Result, Err}
 use Rattle.road_plan.specs.declared.faults.PlanFault.{PlanFault}
 use Rattle.road_plan.specs.declared.faults.PlanFault.TheVariants as plan_faults
 use Rattle.road_format.specs.declared.refusal.Refusal.{Refusal}
@@ -56,3 +56,8 @@ abbrev pub line_refusal : LineFault → Option Refusal
 line_refusal line_faults.NotJson = Some refusals.NotJson
 line_refusal line_faults.NotACommand = Some refusals.NotACommand
 line_refusal line_faults.OutOfMemory = None
+
+-- what the next step makes of a value; where there is none, this refusal
+abbrev pub result_or_refusal : {A B : Type 0} → Refusal → Option A → (A → Result B Refusal) → Result B Refusal
+result_or_refusal refusal None next = Err refusal
+result_or_refusal refusal (Some x) next = next x

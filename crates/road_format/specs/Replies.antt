@@ -33,42 +33,46 @@ pub data Answer : Type 0 where
   Edits : List Edit → Answer
 
 -- a whole number
-abbrev pub whole : ℕ → Data
-whole n = number (unsigned n)
+abbrev pub number_data : ℕ → Data
+number_data n = number (unsigned n)
 
 -- a list
-abbrev pub listed : List Data → Data
-listed ds = array (items_of ds)
+abbrev pub list_data : List Data → Data
+list_data ds = array (items_of ds)
 
 -- the object of one field
-abbrev pub one_field : List ℕ → Data → Data
-one_field name d = object (member name d no_members)
+abbrev pub field_data : List ℕ → Data → Data
+field_data name d = object (member name d no_members)
 
 -- a car: number, cell, speed
 abbrev pub car_data : ℕ × ℕ × ℕ → Data
-car_data car = listed (whole car.0 ∷ whole car.1 ∷ whole car.2 ∷ [])
+car_data car = list_data (number_data car.0 ∷ number_data car.1 ∷ number_data car.2 ∷ [])
 
 -- the number that an edit puts, or null for a withdrawal
 abbrev pub value_data : Value → Data
 value_data Withdrawn = null
-value_data (Put n) = whole n
+value_data (Put n) = number_data n
 
 -- an edit: kind, index, step, count, number, value
 abbrev pub edit_data : Edit → Data
 edit_data e =
-    listed (string (kind_of e.object) ∷ whole (index_of e.object) ∷ whole e.step ∷ whole e.stamp.count ∷ whole e.stamp.number ∷ value_data e.value ∷ [])
+    list_data (string (kind_of e.object) ∷ number_data (index_of e.object) ∷ number_data e.step
+    ∷ number_data e.stamp.count ∷ number_data e.stamp.number ∷ value_data e.value ∷ [])
 
 -- the value that is written for an answer
 abbrev pub data_of : Answer → Data
-data_of (Open replicas) = one_field (codes "open") (whole replicas)
-data_of (Refused refusal) = one_field (codes "refused") (string (text_of refusal))
-data_of (Horizon horizon) = one_field (codes "horizon") (whole horizon)
-data_of (Cells row) = one_field (codes "cells") (string row)
-data_of (Cars cars) = one_field (codes "cars") (listed (map car_data cars))
-data_of (Counted cars speeds) = object (member (codes "cars") (whole cars) (member (codes "speeds") (whole speeds) no_members))
-data_of (Rows rows) = one_field (codes "rows") (listed (map string rows))
-data_of (Stamped stamp) = one_field (codes "stamp") (listed (whole stamp.count ∷ whole stamp.number ∷ []))
-data_of (Edits edits) = object (member (codes "edits") (listed (map edit_data edits)) (member (codes "form") (whole 1) no_members))
+data_of (Open replicas) = field_data (codes "open") (number_data replicas)
+data_of (Refused refusal) = field_data (codes "refused") (string (text_of refusal))
+data_of (Horizon horizon) = field_data (codes "horizon") (number_data horizon)
+data_of (Cells row) = field_data (codes "cells") (string row)
+data_of (Cars cars) = field_data (codes "cars") (list_data (map car_data cars))
+data_of (Counted cars speeds) =
+    object (member (codes "cars") (number_data cars) (member (codes "speeds") (number_data speeds) no_members))
+data_of (Rows rows) = field_data (codes "rows") (list_data (map string rows))
+data_of (Stamped stamp) =
+    field_data (codes "stamp") (list_data (number_data stamp.count ∷ number_data stamp.number ∷ []))
+data_of (Edits edits) =
+    object (member (codes "edits") (list_data (map edit_data edits)) (member (codes "form") (number_data 1) no_members))
 
 -- the line that is written for an answer, as serde_json writes a value
 unfoldable pub reply : Answer → List ℕ

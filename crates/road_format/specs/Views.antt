@@ -5,8 +5,6 @@ use Rattle.road_format.specs.CommandGrammar as grammar
 use Rattle.road_format.specs.PlanGrammar as plan_grammar
 use Rattle.road_format.specs.Replies as replies
 use Rattle.road_format.specs.declared.refusal.Refusal.{Refusal}
-use Rattle.road_format.specs.declared.faults.Unread.{Unread}
-use Rattle.road_format.specs.declared.faults.Unread.TheVariants as unread
 use Rattle.road_format.specs.declared.command.Command.{Command}
 use Rattle.road_format.specs.declared.command.Command.TheVariants as commands
 use Rattle.road_format.specs.declared.plan_line.PlanLine.{PlanLine}
@@ -55,13 +53,7 @@ answer_view (answers.Rows rows) = replies.Rows (texts rows.items)
 answer_view (answers.Stamped stamp) = replies.Stamped stamp
 answer_view (answers.Edits edits) = replies.Edits edits.items
 
--- ---- what a reader returned, beside what the grammar gives
-
--- a value read is what the grammar reads, and one unread is read as nothing there; want of memory says nothing
-abbrev pub Reads : {X Y : Type 0} → (X → Y) → Result X Unread → Option Y → Type 0
-Reads view (Ok x) read = read ≡ Some (view x)
-Reads view (Err unread.Shape) read = read ≡ None
-Reads view (Err unread.OutOfMemory) read = Unit {0}
+-- ---- what was returned, beside what the grammar gives
 
 -- refused as the grammar refuses; want of memory, which is no refusal, says nothing
 abbrev pub Refuses : {Y : Type 0} → Option Refusal → Result Y Refusal → Type 0

@@ -1,15 +1,18 @@
 //! Lines that are commands.
 
+ghost use Rattle.std.specs.Prelude.{◌≡◌, ◌<◌, length, IfOk, IfErr, OnErr, IsSome, option_map, string_bytes};
 ghost use Rattle.serde_json.specs.View.{view};
 ghost use Rattle.road_format.specs.CommandGrammar as grammar;
+ghost use Rattle.road_format.specs.Fields as fields;
 ghost use Rattle.road_format.specs.Refusals.{line_refusal};
-ghost use Rattle.road_format.specs.Views.{Reads, Gives, command_view};
+ghost use Rattle.road_format.specs.Views.{Gives, command_view};
+ghost use Rattle.road_format.specs.declared.faults.LineFault.TheVariants as line_faults;
 
-use crate::faults::{LineFault, Unread};
-use crate::fields::{exactly, name_at, number_at};
+use crate::faults::LineFault;
+use crate::fields::{has_fields, name_at, number_at, only_field};
 use crate::object::object_at;
 use crate::reading::value_in;
-use road_plan::Object;
+use road_plan::{Object, OutOfMemory};
 use serde_json::Value;
 use std::alloc::Global;
 
@@ -84,72 +87,97 @@ pub enum Command {
     },
 }
 
-/// The command that a line is: an object of one field, the command's name, whose value is the object of exactly its
-/// fields: `edit` of `at`, `object`, `step` and `value`, `withdraw` of `at`, `object` and `step`, `advance` of `at` and
-/// `to`, `cells` of `at` and `step`, `cars` of `at` and `step`, `count` of `at`, `detector`, `from` and `to`, `diagram` of
-/// `at`, `from` and `to`, `scenario` of `at`. A name is a text of 1 to 64 bytes; a number is whole, of at most 32 bits, and
-/// written without point and exponent; an object is a list of its kind and its index. Of a field that stands twice the last
-/// counts.
+/// The command that a line is: an object of one field, whose name is that of a variant of `Command` in small letters,
+/// and whose value is an object of exactly the variant's fields, in any order. A name is a text of 1 to 64 bytes; a
+/// number is whole, of at most 32 bits, and written without point and exponent; an object is a list of its kind and its
+/// index. Of a field that stands twice the last counts.
 ///
 /// # Errors
 ///
 /// `NotJson` where the line is no JSON value, then `NotACommand` where the value is no command. The length of the
 /// line is not asked here.
-#[tactic(auto, unfolding(crate::specs::CommandGrammar::command_of))]
+#[tactic(auto, using(crate::proofs::LineValues::length_of_value), unfolding(crate::specs::CommandGrammar::command_of))]
 pub fn read_command(alloc: Global, line: &[u8]) -> Result<Command, LineFault>
-    ensures { Gives command_view line_refusal result (grammar.command_of line.now) }
+    // The grammar's command, or its refusal; want of memory is none.
+    ensures command { Gives command_view line_refusal result (grammar.command_of line.now) }
+
+    // A line without a byte grows nothing.
+    ensures memory { IfErr result (λ fault. fault ≡ line_faults.OutOfMemory → 0 < length line.now) }
 {
-    match value_in(alloc, line) {
-        Ok(value) => Ok(command_in(alloc, &value)?),
-        Err(Unread::Shape) => Err(LineFault::NotJson),
-        Err(Unread::OutOfMemory) => Err(LineFault::OutOfMemory),
+    let Some(value) = value_in(alloc, line)? else {
+        return Err(LineFault::NotJson);
+    };
+    match command_in(alloc, &value)? {
+        Some(command) => Ok(command),
+        None => Err(LineFault::NotACommand),
     }
 }
 
-/// The command that a value is.
+// The command that a value is.
 #[tactic(auto, unfolding(crate::specs::CommandGrammar::command_in))]
-fn command_in(alloc: Global, value: &Value) -> Result<Command, Unread>
-    ensures { Reads command_view result (grammar.command_in (view value.now)) }
+fn command_in(alloc: Global, value: &Value) -> Result<Option<Command>, OutOfMemory>
+    ensures command { IfOk result (λ command. option_map command_view command ≡ grammar.command_in (view value.now)) }
+    ensures memory { OnErr result (IsSome (fields.only_field (view value.now))) }
 {
-    exactly(1, value)?;
-    if let Some(fields) = value.get("edit") {
-        return edit_in(alloc, fields);
-    }
-    if let Some(fields) = value.get("withdraw") {
-        return withdraw_in(alloc, fields);
-    }
-    if let Some(fields) = value.get("advance") {
-        return advance_in(alloc, fields);
-    }
-    if let Some(fields) = value.get("cells") {
-        return cells_in(alloc, fields);
-    }
-    if let Some(fields) = value.get("cars") {
-        return cars_in(alloc, fields);
-    }
-    if let Some(fields) = value.get("count") {
-        return count_in(alloc, fields);
-    }
-    if let Some(fields) = value.get("diagram") {
-        return diagram_in(alloc, fields);
-    }
-    if let Some(fields) = value.get("scenario") {
-        return scenario_in(alloc, fields);
-    }
-    Err(Unread::Shape)
+    let Some((name, fields)) = only_field(value) else {
+        return Ok(None);
+    };
+    let Some(at) = name_at("at", fields) else {
+        return Ok(None);
+    };
+    let at = String::from_str(alloc, at)?;
+    Ok(command_of_name(name, at, fields))
 }
 
-/// The `edit` of these fields.
-#[tactic(auto, unfolding(crate::specs::CommandGrammar::edit_in))]
-fn edit_in(alloc: Global, fields: &Value) -> Result<Command, Unread>
-    ensures { Reads command_view result (grammar.edit_in (view fields.now)) }
+// The command of a name at a replica, with these fields.
+#[tactic(auto, unfolding(crate::specs::CommandGrammar::command_of_name))]
+fn command_of_name(name: &str, at: String, fields: &Value) -> Option<Command>
+    ensures { option_map command_view result ≡ grammar.command_of_name name.now (string_bytes at) (view fields.now) }
 {
-    exactly(4, fields)?;
-    let at = name_at(alloc, "at", fields)?;
+    match name {
+        "edit" => edit_in(at, fields),
+        "withdraw" => withdraw_in(at, fields),
+        "advance" => Some(Command::Advance {
+            at,
+            to: only_number("to", fields)?,
+        }),
+        "cells" => Some(Command::Cells {
+            at,
+            step: only_number("step", fields)?,
+        }),
+        "cars" => Some(Command::Cars {
+            at,
+            step: only_number("step", fields)?,
+        }),
+        "count" => count_in(at, fields),
+        "diagram" => diagram_in(at, fields),
+        "scenario" => scenario_in(at, fields),
+        _ => None,
+    }
+}
+
+// The number at this field, of an object that has exactly this field and `at`.
+fn only_number(field: &str, fields: &Value) -> Option<u32>
+    ensures { result ≡ grammar.only_number field.now (view fields.now) }
+{
+    if !has_fields(2, fields) {
+        return None;
+    }
+    number_at(field, fields)
+}
+
+// The `edit` at a replica, of exactly its fields.
+#[tactic(auto, unfolding(crate::specs::CommandGrammar::edit_in))]
+fn edit_in(at: String, fields: &Value) -> Option<Command>
+    ensures { option_map command_view result ≡ grammar.edit_in (string_bytes at) (view fields.now) }
+{
+    if !has_fields(4, fields) {
+        return None;
+    }
     let object = object_at("object", fields)?;
     let step = number_at("step", fields)?;
     let value = number_at("value", fields)?;
-    Ok(Command::Edit {
+    Some(Command::Edit {
         at,
         object,
         step,
@@ -157,62 +185,37 @@ fn edit_in(alloc: Global, fields: &Value) -> Result<Command, Unread>
     })
 }
 
-/// The `withdraw` of these fields.
+// The `withdraw` at a replica, of exactly its fields.
 #[tactic(auto, unfolding(crate::specs::CommandGrammar::withdraw_in))]
-fn withdraw_in(alloc: Global, fields: &Value) -> Result<Command, Unread>
-    ensures { Reads command_view result (grammar.withdraw_in (view fields.now)) }
+fn withdraw_in(at: String, fields: &Value) -> Option<Command>
+    ensures { option_map command_view result ≡ grammar.withdraw_in (string_bytes at) (view fields.now) }
 {
-    exactly(3, fields)?;
-    let at = name_at(alloc, "at", fields)?;
+    if !has_fields(3, fields) {
+        return None;
+    }
     let object = object_at("object", fields)?;
     let step = number_at("step", fields)?;
-    Ok(Command::Withdraw { at, object, step })
+    Some(Command::Withdraw { at, object, step })
 }
 
-/// The `advance` of these fields.
-#[tactic(auto, unfolding(crate::specs::CommandGrammar::advance_in))]
-fn advance_in(alloc: Global, fields: &Value) -> Result<Command, Unread>
-    ensures { Reads command_view result (grammar.advance_in (view fields.now)) }
+// The steps at `from` and `to`.
+fn steps_at(fields: &Value) -> Option<(u32, u32)>
+    ensures { result ≡ grammar.steps_at (view fields.now) }
 {
-    exactly(2, fields)?;
-    let at = name_at(alloc, "at", fields)?;
-    let to = number_at("to", fields)?;
-    Ok(Command::Advance { at, to })
+    Some((number_at("from", fields)?, number_at("to", fields)?))
 }
 
-/// The `cells` of these fields.
-#[tactic(auto, unfolding(crate::specs::CommandGrammar::cells_in))]
-fn cells_in(alloc: Global, fields: &Value) -> Result<Command, Unread>
-    ensures { Reads command_view result (grammar.cells_in (view fields.now)) }
-{
-    exactly(2, fields)?;
-    let at = name_at(alloc, "at", fields)?;
-    let step = number_at("step", fields)?;
-    Ok(Command::Cells { at, step })
-}
-
-/// The `cars` of these fields.
-#[tactic(auto, unfolding(crate::specs::CommandGrammar::cars_in))]
-fn cars_in(alloc: Global, fields: &Value) -> Result<Command, Unread>
-    ensures { Reads command_view result (grammar.cars_in (view fields.now)) }
-{
-    exactly(2, fields)?;
-    let at = name_at(alloc, "at", fields)?;
-    let step = number_at("step", fields)?;
-    Ok(Command::Cars { at, step })
-}
-
-/// The `count` of these fields.
+// The `count` at a replica, of exactly its fields.
 #[tactic(auto, unfolding(crate::specs::CommandGrammar::count_in))]
-fn count_in(alloc: Global, fields: &Value) -> Result<Command, Unread>
-    ensures { Reads command_view result (grammar.count_in (view fields.now)) }
+fn count_in(at: String, fields: &Value) -> Option<Command>
+    ensures { option_map command_view result ≡ grammar.count_in (string_bytes at) (view fields.now) }
 {
-    exactly(4, fields)?;
-    let at = name_at(alloc, "at", fields)?;
+    if !has_fields(4, fields) {
+        return None;
+    }
     let detector = number_at("detector", fields)?;
-    let from = number_at("from", fields)?;
-    let to = number_at("to", fields)?;
-    Ok(Command::Count {
+    let (from, to) = steps_at(fields)?;
+    Some(Command::Count {
         at,
         detector,
         from,
@@ -220,24 +223,24 @@ fn count_in(alloc: Global, fields: &Value) -> Result<Command, Unread>
     })
 }
 
-/// The `diagram` of these fields.
+// The `diagram` at a replica, of exactly its fields.
 #[tactic(auto, unfolding(crate::specs::CommandGrammar::diagram_in))]
-fn diagram_in(alloc: Global, fields: &Value) -> Result<Command, Unread>
-    ensures { Reads command_view result (grammar.diagram_in (view fields.now)) }
+fn diagram_in(at: String, fields: &Value) -> Option<Command>
+    ensures { option_map command_view result ≡ grammar.diagram_in (string_bytes at) (view fields.now) }
 {
-    exactly(3, fields)?;
-    let at = name_at(alloc, "at", fields)?;
-    let from = number_at("from", fields)?;
-    let to = number_at("to", fields)?;
-    Ok(Command::Diagram { at, from, to })
+    if !has_fields(3, fields) {
+        return None;
+    }
+    let (from, to) = steps_at(fields)?;
+    Some(Command::Diagram { at, from, to })
 }
 
-/// The `scenario` of these fields.
-#[tactic(auto, unfolding(crate::specs::CommandGrammar::scenario_in))]
-fn scenario_in(alloc: Global, fields: &Value) -> Result<Command, Unread>
-    ensures { Reads command_view result (grammar.scenario_in (view fields.now)) }
+// The `scenario` at a replica, of exactly its field.
+fn scenario_in(at: String, fields: &Value) -> Option<Command>
+    ensures { option_map command_view result ≡ grammar.scenario_in (string_bytes at) (view fields.now) }
 {
-    exactly(1, fields)?;
-    let at = name_at(alloc, "at", fields)?;
-    Ok(Command::Scenario { at })
+    if !has_fields(1, fields) {
+        return None;
+    }
+    Some(Command::Scenario { at })
 }

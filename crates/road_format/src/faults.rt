@@ -2,12 +2,11 @@
 
 ghost use Rattle.std.specs.Prelude.{◌≡◌};
 ghost use Rattle.road_format.specs.Refusals.{plan_refusal, plan_line_refusal, line_refusal};
-ghost use Rattle.road_format.specs.declared.faults.Unread.TheVariants as unread;
-ghost use Rattle.road_format.specs.Faults.{line_fault_of, plan_line_fault_of};
+ghost use Rattle.road_format.specs.declared.faults.LineFault.TheVariants as line_faults;
+ghost use Rattle.road_format.specs.declared.faults.PlanLineFault.TheVariants as plan_line_faults;
 
 use crate::refusal::Refusal;
 use road_plan::{OutOfMemory, PlanFault};
-use std::alloc::AllocFailed;
 use thiserror::Error;
 
 /// Why a line after the first is not read. The causes are asked in this order; want of memory may come in the place
@@ -74,7 +73,7 @@ impl PlanLineFault {
     }
 }
 
-/// The refusal that names this fault of a plan.
+// The refusal that names this fault of a plan.
 fn refusal_of_plan(fault: PlanFault) -> Option<Refusal>
     ensures { result ≡ plan_refusal fault }
 {
@@ -89,49 +88,18 @@ fn refusal_of_plan(fault: PlanFault) -> Option<Refusal>
     }
 }
 
-/// Why a value is not read.
-#[derive(Clone, Copy)]
-pub(crate) enum Unread {
-    /// The value has another shape.
-    Shape,
-    /// There was no memory.
-    OutOfMemory,
-}
+impl From<OutOfMemory> for LineFault {
+    ghost from_gives = { λ _ fault. fault ≡ line_faults.OutOfMemory };
 
-impl From<OutOfMemory> for Unread {
-    ghost from_gives = { λ _ e. e ≡ unread.OutOfMemory };
-
-    fn from(_e: OutOfMemory) -> Unread {
-        Unread::OutOfMemory
+    fn from(_e: OutOfMemory) -> LineFault {
+        LineFault::OutOfMemory
     }
 }
 
-impl<T: Drop> From<AllocFailed<T>> for Unread {
-    ghost from_gives = { λ _ e. e ≡ unread.OutOfMemory };
+impl From<OutOfMemory> for PlanLineFault {
+    ghost from_gives = { λ _ fault. fault ≡ plan_line_faults.OutOfMemory };
 
-    fn from(_e: AllocFailed<T>) -> Unread {
-        Unread::OutOfMemory
-    }
-}
-
-impl From<Unread> for LineFault {
-    ghost from_gives = { λ e fault. fault ≡ line_fault_of e };
-
-    fn from(e: Unread) -> LineFault {
-        match e {
-            Unread::Shape => LineFault::NotACommand,
-            Unread::OutOfMemory => LineFault::OutOfMemory,
-        }
-    }
-}
-
-impl From<Unread> for PlanLineFault {
-    ghost from_gives = { λ e fault. fault ≡ plan_line_fault_of e };
-
-    fn from(e: Unread) -> PlanLineFault {
-        match e {
-            Unread::Shape => PlanLineFault::NotAPlan,
-            Unread::OutOfMemory => PlanLineFault::OutOfMemory,
-        }
+    fn from(_e: OutOfMemory) -> PlanLineFault {
+        PlanLineFault::OutOfMemory
     }
 }

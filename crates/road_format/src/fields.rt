@@ -1,18 +1,14 @@
 //! What stands at the fields of an object.
 
-ghost use Rattle.std.specs.Prelude.{◌≡◌, true, string_bytes};
+ghost use Rattle.std.specs.Prelude.{◌≡◌, option_map};
 ghost use Rattle.serde_json.specs.View.{view};
-ghost use Rattle.road_format.specs.Fields.{only_if};
 ghost use Rattle.road_format.specs.Fields as fields;
-ghost use Rattle.road_format.specs.Views.{Reads};
 
-use crate::faults::Unread;
 use crate::names::is_name;
 use serde_json::Value;
-use std::alloc::Global;
 
-/// Whether this value is an object of so many fields.
-fn has_fields(count: usize, value: &Value) -> bool
+// Whether this value is an object of so many fields.
+pub(crate) fn has_fields(count: usize, value: &Value) -> bool
     ensures { result ≡ fields.has_fields count (view value.now) }
 {
     match value.as_object() {
@@ -21,46 +17,44 @@ fn has_fields(count: usize, value: &Value) -> bool
     }
 }
 
-/// Goes on where this value is an object of so many fields.
-pub(crate) fn exactly(count: usize, value: &Value) -> Result<(), Unread>
-    ensures { Reads (λ _. true) result (only_if (fields.has_fields count (view value.now))) }
+// The name and the value of the only field of an object.
+pub(crate) fn only_field(value: &Value) -> Option<(&str, &Value)>
+    ensures { option_map (λ field. (field.0.now, view field.1.now)) result ≡ fields.only_field (view value.now) }
 {
-    if has_fields(count, value) {
-        Ok(())
-    } else {
-        Err(Unread::Shape)
+    let fields = value.as_object()?;
+    if fields.len() != 1 {
+        return None;
     }
+    let (name, value) = fields.first_key_value()?;
+    Some((name.as_str(), value))
 }
 
-/// The whole number of at most 32 bits that this value is.
-pub(crate) fn number_in(value: &Value) -> Result<u32, Unread>
-    ensures { Reads (λ n. n) result (fields.number_in (view value.now)) }
+// The whole number of at most 32 bits that this value is.
+pub(crate) fn number_in(value: &Value) -> Option<u32>
+    ensures { result ≡ fields.number_in (view value.now) }
 {
     match value.as_u64() {
-        Some(n) => match u32::try_from(n) {
-            Ok(n) => Ok(n),
-            Err(_) => Err(Unread::Shape),
-        },
-        None => Err(Unread::Shape),
+        Some(n) => u32::try_from(n).ok(),
+        None => None,
     }
 }
 
-/// The whole number of at most 32 bits at this field.
-pub(crate) fn number_at(field: &str, value: &Value) -> Result<u32, Unread>
-    ensures { Reads (λ n. n) result (fields.number_at field.now (view value.now)) }
+// The whole number of at most 32 bits at this field.
+pub(crate) fn number_at(field: &str, value: &Value) -> Option<u32>
+    ensures { result ≡ fields.number_at field.now (view value.now) }
 {
     match value.get(field) {
         Some(value) => number_in(value),
-        None => Err(Unread::Shape),
+        None => None,
     }
 }
 
-/// The name at this field: a text of 1 to 64 bytes.
-pub(crate) fn name_at(alloc: Global, field: &str, value: &Value) -> Result<String, Unread>
-    ensures { Reads string_bytes result (fields.name_at field.now (view value.now)) }
+// The name at this field: a text of 1 to 64 bytes.
+pub(crate) fn name_at<'a>(field: &str, value: &'a Value) -> Option<&'a str>
+    ensures { option_map (λ name. name.now) result ≡ fields.name_at field.now (view value.now) }
 {
     match value.get(field).and_then(Value::as_str) {
-        Some(text) if is_name(text) => Ok(String::from_str(alloc, text)?),
-        _ => Err(Unread::Shape),
+        Some(text) if is_name(text) => Some(text),
+        _ => None,
     }
 }

@@ -9,17 +9,17 @@ ghost use Rattle.road_format.specs.Views.{texts};
 
 use road_plan::limits::MOST_REPLICAS;
 
-/// The most bytes of a name, in UTF-8; it has one at least.
+// The most bytes of a name, in UTF-8; it has one at least.
 pub(crate) const LONGEST_NAME: usize = 64;
 
-/// Whether this is a name: a text of 1 to 64 bytes.
+// Whether this is a name: a text of 1 to 64 bytes.
 pub(crate) fn is_name(text: &str) -> bool
     ensures { result ≡ fields.is_name text.now }
 {
     0 < text.len() && text.len() <= LONGEST_NAME
 }
 
-/// Whether these are 1 to 64 names, no two alike.
+// Whether these are 1 to 64 names, no two alike.
 pub(crate) fn are_names(names: &[String]) -> bool
     ensures { result ≡ grammar.are_names (texts names.now) }
 {
@@ -29,7 +29,7 @@ pub(crate) fn are_names(names: &[String]) -> bool
         && all_differ(names)
 }
 
-/// Whether each of these is a name.
+// Whether each of these is a name.
 fn are_all_names(names: &[String]) -> bool
     ensures { result ≡ list_all fields.is_name (texts names.now) }
 {
@@ -41,7 +41,7 @@ fn are_all_names(names: &[String]) -> bool
     true
 }
 
-/// Whether no two of these are alike.
+// Whether no two of these are alike.
 fn all_differ(names: &[String]) -> bool
     ensures { result ≡ grammar.all_differ (texts names.now) }
 {
@@ -51,7 +51,7 @@ fn all_differ(names: &[String]) -> bool
     }
 }
 
-/// Whether this text is one of these names.
+// Whether this text is one of these names.
 fn is_among(text: &str, names: &[String]) -> bool
     ensures { result ≡ list_any (bytes_eq text.now) (texts names.now) }
 {

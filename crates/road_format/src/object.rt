@@ -1,44 +1,23 @@
 //! How objects are written.
 
 ghost use Rattle.std.specs.Prelude.{◌≡◌};
-ghost use Rattle.serde_json.specs.View.{items_view, view};
-ghost use Rattle.serde_json.specs.Find.{as_str};
+ghost use Rattle.serde_json.specs.View.{view};
 ghost use Rattle.road_format.specs.ObjectGrammar as objects;
-ghost use Rattle.road_format.specs.Views.{Reads};
 
-use crate::faults::Unread;
 use crate::fields::number_in;
-use crate::lists::items_at;
+use crate::lists::{items_at, two_items};
 use road_plan::Object;
 use serde_json::Value;
 
-/// The object at this field: a list of just a kind's name and an index.
-pub(crate) fn object_at(field: &str, value: &Value) -> Result<Object, Unread>
-    ensures { Reads (λ object. object) result (objects.object_at field.now (view value.now)) }
+// The object at this field: a list of just a kind's name and an index.
+pub(crate) fn object_at(field: &str, value: &Value) -> Option<Object>
+    ensures { result ≡ objects.object_at field.now (view value.now) }
 {
-    object_from(items_at(field, value)?)
+    let (kind, index) = two_items(items_at(field, value)?)?;
+    object_of(kind.as_str()?, number_in(index)?)
 }
 
-/// The object that these items are.
-fn object_from(items: &[Value]) -> Result<Object, Unread>
-    ensures { Reads (λ object. object) result (objects.object_from (items_view items.now)) }
-{
-    match items {
-        [kind, index] => {
-            let Some(kind) = kind.as_str() else {
-                return Err(Unread::Shape);
-            };
-            let index = number_in(index)?;
-            match object_of(kind, index) {
-                Some(object) => Ok(object),
-                None => Err(Unread::Shape),
-            }
-        }
-        _ => Err(Unread::Shape),
-    }
-}
-
-/// The name of an object's kind.
+// The name of an object's kind.
 pub(crate) fn kind_of(object: Object) -> &'static str
     ensures { result.now ≡ objects.kind_of object }
 {
@@ -51,7 +30,7 @@ pub(crate) fn kind_of(object: Object) -> &'static str
     }
 }
 
-/// The index of an object among those of its kind.
+// The index of an object among those of its kind.
 pub(crate) fn index_of(object: Object) -> u32
     ensures { result ≡ objects.index_of object }
 {
@@ -63,7 +42,7 @@ pub(crate) fn index_of(object: Object) -> u32
     }
 }
 
-/// The object of a kind and an index.
+// The object of a kind and an index.
 fn object_of(kind: &str, index: u32) -> Option<Object>
     ensures { result ≡ objects.object_of kind.now index }
 {

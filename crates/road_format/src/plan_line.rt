@@ -1,16 +1,22 @@
 //! The first line of an input.
 
+ghost use Rattle.std.specs.Prelude.{◌≡◌, ◌<◌, ◌≤◌, length, true, None, IfOk, IfErr, OnErr, IsSome, option_map};
 ghost use Rattle.serde_json.specs.View.{view};
+ghost use Rattle.road_plan.specs.Plan.{plan_of};
+ghost use Rattle.road_plan.specs.declared.limits.TheConstants.{MOST_REPLICAS};
+ghost use Rattle.road_format.specs.Fields as fields;
 ghost use Rattle.road_format.specs.PlanGrammar as grammar;
+ghost use Rattle.road_format.specs.PlanGrammar.{all_differ};
 ghost use Rattle.road_format.specs.Refusals.{plan_line_refusal};
-ghost use Rattle.road_format.specs.Views.{Reads, Gives, plan_line_view, parts_view};
+ghost use Rattle.road_format.specs.Views.{Gives, texts, plan_line_view, parts_view};
+ghost use Rattle.road_format.specs.declared.faults.PlanLineFault.TheVariants as plan_line_faults;
 
-use crate::faults::{PlanLineFault, Unread};
-use crate::fields::{exactly, number_at};
-use crate::lists::{items_at, numbers_in, pairs_in, texts_in};
+use crate::faults::PlanLineFault;
+use crate::fields::{has_fields, number_at};
+use crate::lists::{numbers_at, pairs_at, texts_at};
 use crate::names::are_names;
 use crate::reading::value_in;
-use road_plan::{Plan, PlanFault, PlanParts, WordKind};
+use road_plan::{OutOfMemory, Plan, PlanParts, WordKind};
 use serde_json::Value;
 use std::alloc::Global;
 
@@ -23,7 +29,7 @@ pub struct PlanLine {
     pub plan: Plan,
 }
 
-/// What a plan line says, before it is checked.
+// What a plan line says, before it is checked.
 #[derive(Drop)]
 struct PlanLineParts {
     names: Vec<String>,
@@ -51,20 +57,35 @@ struct PlanLineParts {
 /// `NotJson` where the line is no JSON value, then `NotAPlan` where the value has another shape, then `Names` where
 /// the replicas are not 1 to 64 or their names not all different and of 1 to 64 bytes, then `Plan` with the first
 /// fault of the plan. The length of the line is not asked here.
-#[tactic(auto, unfolding(crate::specs::PlanGrammar::plan_line_of))]
+#[tactic(auto, using(crate::proofs::LineValues::length_of_value), unfolding(crate::specs::PlanGrammar::plan_line_of))]
 pub fn read_plan(alloc: Global, line: &[u8]) -> Result<PlanLine, PlanLineFault>
-    ensures { Gives plan_line_view plan_line_refusal result (grammar.plan_line_of line.now) }
+    // The grammar's plan line, or its refusal; want of memory is none.
+    ensures plan_line { Gives plan_line_view plan_line_refusal result (grammar.plan_line_of line.now) }
+
+    // The names of an accepted line are few, and no two are alike.
+    ensures few { IfOk result (λ line. length line.names.items ≤ MOST_REPLICAS) }
+    ensures apart { IfOk result (λ line. all_differ (texts line.names.items) ≡ true) }
+
+    // Want of memory is said in one way, and a line without a byte grows nothing.
+    ensures memory { IfErr result (λ fault. plan_line_refusal fault ≡ None
+        → (fault ≡ plan_line_faults.OutOfMemory) × (0 < length line.now)) }
 {
-    match value_in(alloc, line) {
-        Ok(value) => checked(parts_in(alloc, &value)?),
-        Err(Unread::Shape) => Err(PlanLineFault::NotJson),
-        Err(Unread::OutOfMemory) => Err(PlanLineFault::OutOfMemory),
+    let Some(value) = value_in(alloc, line)? else {
+        return Err(PlanLineFault::NotJson);
+    };
+    match parts_in(alloc, &value)? {
+        Some(parts) => checked_line(parts),
+        None => Err(PlanLineFault::NotAPlan),
     }
 }
 
-/// The plan line of these parts.
-fn checked(line: PlanLineParts) -> Result<PlanLine, PlanLineFault>
-    ensures { Gives plan_line_view plan_line_refusal result (grammar.with_names (parts_view line)) }
+// The plan line of these parts. It takes no memory.
+#[tactic(auto, using(crate::proofs::AcceptedNames::names_are_few, crate::proofs::AcceptedNames::names_differ))]
+fn checked_line(line: PlanLineParts) -> Result<PlanLine, PlanLineFault>
+    ensures plan_line { Gives plan_line_view plan_line_refusal result (grammar.checked_line (parts_view line)) }
+    ensures few { IfOk result (λ line. length line.names.items ≤ MOST_REPLICAS) }
+    ensures apart { IfOk result (λ line. all_differ (texts line.names.items) ≡ true) }
+    ensures memory { IfErr result (λ fault. IsSome (plan_line_refusal fault)) }
 {
     if !are_names(&line.names) {
         return Err(PlanLineFault::Names);
@@ -74,58 +95,90 @@ fn checked(line: PlanLineParts) -> Result<PlanLine, PlanLineFault>
             names: line.names,
             plan,
         }),
-        Err(PlanFault::OutOfMemory) => Err(PlanLineFault::OutOfMemory),
         Err(fault) => Err(PlanLineFault::Plan(fault)),
     }
 }
 
-/// The parts of a plan line that a value has.
+// The parts of a plan line that a value has.
 #[tactic(auto, unfolding(crate::specs::PlanGrammar::plan_line_in))]
-fn parts_in(alloc: Global, value: &Value) -> Result<PlanLineParts, Unread>
-    ensures { Reads parts_view result (grammar.plan_line_in (view value.now)) }
+fn parts_in(alloc: Global, value: &Value) -> Result<Option<PlanLineParts>, OutOfMemory>
+    ensures parts { IfOk result (λ line. option_map parts_view line ≡ grammar.plan_line_in (view value.now)) }
+    ensures memory { OnErr result (fields.has_fields 8 (view value.now) ≡ true) }
 {
-    exactly(8, value)?;
-    let detectors = numbers_in(alloc, items_at("detectors", value)?)?;
-    let exit = number_at("exit", value)?;
-    let inlets = pairs_in(alloc, items_at("inlets", value)?)?;
-    let length = number_at("length", value)?;
-    let names = texts_in(alloc, items_at("replicas", value)?)?;
-    let words = words_at("words", value)?;
-    let width = number_at("zone", value)?;
-    let zones = pairs_in(alloc, items_at("zones", value)?)?;
-    Ok(PlanLineParts {
-        names,
-        parts: PlanParts {
-            length,
-            exit,
-            width,
-            zones,
-            inlets,
-            detectors,
-            words,
-        },
-    })
+    if !has_fields(8, value) {
+        return Ok(None);
+    }
+    let Some(parts) = plan_in(alloc, value)? else {
+        return Ok(None);
+    };
+    let Some(names) = texts_at(alloc, "replicas", value)? else {
+        return Ok(None);
+    };
+    Ok(Some(PlanLineParts { names, parts }))
 }
 
-/// Where the words come from, at this field: a seed, or the text `steady`.
-fn words_at(field: &str, value: &Value) -> Result<WordKind, Unread>
-    ensures { Reads (λ words. words) result (grammar.words_at field.now (view value.now)) }
+// The parts of a plan that stand at the fields of a value.
+#[tactic(auto, unfolding(crate::specs::PlanGrammar::plan_in))]
+fn plan_in(alloc: Global, value: &Value) -> Result<Option<PlanParts>, OutOfMemory>
+    ensures parts { IfOk result (λ parts. option_map plan_of parts ≡ grammar.plan_in (view value.now)) }
+    ensures memory { OnErr result (IsSome (grammar.measures_in (view value.now))) }
+{
+    let Some((length, exit, width)) = measures_in(value) else {
+        return Ok(None);
+    };
+    let Some(words) = words_at("words", value) else {
+        return Ok(None);
+    };
+    let Some(zones) = pairs_at(alloc, "zones", value)? else {
+        return Ok(None);
+    };
+    let Some(inlets) = pairs_at(alloc, "inlets", value)? else {
+        return Ok(None);
+    };
+    let Some(detectors) = numbers_at(alloc, "detectors", value)? else {
+        return Ok(None);
+    };
+    Ok(Some(PlanParts {
+        length,
+        exit,
+        width,
+        zones,
+        inlets,
+        detectors,
+        words,
+    }))
+}
+
+// The cells of a road, of its deleted zone and of a zone.
+#[tactic(auto, unfolding(crate::specs::PlanGrammar::measures_in))]
+fn measures_in(value: &Value) -> Option<(u32, u32, u32)>
+    ensures { result ≡ grammar.measures_in (view value.now) }
+{
+    let length = number_at("length", value)?;
+    let exit = number_at("exit", value)?;
+    let width = number_at("zone", value)?;
+    Some((length, exit, width))
+}
+
+// Where the words come from, at this field: a seed, or the text `steady`.
+fn words_at(field: &str, value: &Value) -> Option<WordKind>
+    ensures { result ≡ grammar.words_at field.now (view value.now) }
 {
     match value.get(field) {
         Some(value) => words_in(value),
-        None => Err(Unread::Shape),
+        None => None,
     }
 }
 
-/// Where the words come from.
-fn words_in(value: &Value) -> Result<WordKind, Unread>
-    ensures { Reads (λ words. words) result (grammar.words_in (view value.now)) }
+// Where the words come from.
+fn words_in(value: &Value) -> Option<WordKind>
+    ensures { result ≡ grammar.words_in (view value.now) }
 {
     if let Some(seed) = value.as_u64() {
-        return Ok(WordKind::Seeded(seed));
+        return Some(WordKind::Seeded(seed));
     }
     match value.as_str() {
-        Some("steady") => Ok(WordKind::Steady),
-        _ => Err(Unread::Shape),
+        Some("steady") => Some(WordKind::Steady),
+        _ => None,
     }
 }

@@ -3,7 +3,7 @@
 ghost use Rattle.std.specs.Prelude.{◌≡◌, IfOk, string_bytes, map};
 ghost use Rattle.serde_json.specs.Data.{string};
 ghost use Rattle.serde_json.specs.View.{view};
-ghost use Rattle.road_format.specs.Replies.{listed, car_data, edit_data, data_of, reply};
+ghost use Rattle.road_format.specs.Replies.{list_data, car_data, edit_data, data_of, reply};
 ghost use Rattle.road_format.specs.Views.{texts, car_view, answer_view};
 
 use crate::answer::Answer;
@@ -14,17 +14,22 @@ use road_scenario::{Edit, Value as Put};
 use serde_json::{Value, json};
 use std::alloc::Global;
 
-/// The line that is written for an answer, its newline too: one compact JSON object.
+/// The line that is written for an answer, its newline too: one compact JSON object, whose fields stand in the order of
+/// their bytes.
+///
+/// # Errors
+///
+/// `OutOfMemory`, and nothing else: every answer has a line.
 pub fn reply_line(alloc: Global, answer: &Answer) -> Result<String, OutOfMemory>
     ensures { IfOk result (λ line. string_bytes line ≡ reply (answer_view answer.now)) }
 {
-    let mut line = value_of(alloc, answer)?.to_string(alloc)?;
+    let mut line = answer_value(alloc, answer)?.to_string(alloc)?;
     line.push('\n')?;
     Ok(line)
 }
 
-/// The JSON value of an answer.
-fn value_of(alloc: Global, answer: &Answer) -> Result<Value, OutOfMemory>
+// The JSON value of an answer.
+fn answer_value(alloc: Global, answer: &Answer) -> Result<Value, OutOfMemory>
     ensures { IfOk result (λ value. view value ≡ data_of (answer_view answer.now)) }
 {
     match answer {
@@ -52,9 +57,9 @@ fn value_of(alloc: Global, answer: &Answer) -> Result<Value, OutOfMemory>
     }
 }
 
-/// The JSON list of these cars.
+// The JSON list of these cars.
 fn car_values(alloc: Global, cars: &[Car]) -> Result<Value, OutOfMemory>
-    ensures { IfOk result (λ value. view value ≡ listed (map car_data (map car_view cars.now))) }
+    ensures { IfOk result (λ value. view value ≡ list_data (map car_data (map car_view cars.now))) }
 {
     let mut values = Vec::new(alloc);
     for car in cars {
@@ -63,16 +68,16 @@ fn car_values(alloc: Global, cars: &[Car]) -> Result<Value, OutOfMemory>
     Ok(Value::Array(values))
 }
 
-/// The JSON value of a car: number, cell, speed.
+// The JSON value of a car: number, cell, speed.
 fn car_value(alloc: Global, car: Car) -> Result<Value, OutOfMemory>
     ensures { IfOk result (λ value. view value ≡ car_data (car_view car)) }
 {
     json!(in alloc; [car.number, car.cell, car.speed])
 }
 
-/// The JSON list of these rows of cells.
+// The JSON list of these rows of cells.
 fn row_values(alloc: Global, rows: &[String]) -> Result<Value, OutOfMemory>
-    ensures { IfOk result (λ value. view value ≡ listed (map string (texts rows.now))) }
+    ensures { IfOk result (λ value. view value ≡ list_data (map string (texts rows.now))) }
 {
     let mut values = Vec::new(alloc);
     for row in rows {
@@ -81,16 +86,16 @@ fn row_values(alloc: Global, rows: &[String]) -> Result<Value, OutOfMemory>
     Ok(Value::Array(values))
 }
 
-/// The JSON value of a row of cells: its text.
+// The JSON value of a row of cells: its text.
 fn row_value(alloc: Global, row: &str) -> Result<Value, OutOfMemory>
     ensures { IfOk result (λ value. view value ≡ string row.now) }
 {
     json!(in alloc; row)
 }
 
-/// The JSON list of these edits.
+// The JSON list of these edits.
 fn edit_values(alloc: Global, edits: &[Edit]) -> Result<Value, OutOfMemory>
-    ensures { IfOk result (λ value. view value ≡ listed (map edit_data edits.now)) }
+    ensures { IfOk result (λ value. view value ≡ list_data (map edit_data edits.now)) }
 {
     let mut values = Vec::new(alloc);
     for edit in edits {
@@ -99,7 +104,7 @@ fn edit_values(alloc: Global, edits: &[Edit]) -> Result<Value, OutOfMemory>
     Ok(Value::Array(values))
 }
 
-/// The JSON value of an edit: kind, index, step, count, number, value.
+// The JSON value of an edit: kind, index, step, count, number, value.
 fn edit_value(alloc: Global, edit: Edit) -> Result<Value, OutOfMemory>
     ensures { IfOk result (λ value. view value ≡ edit_data edit) }
 {

@@ -3,7 +3,7 @@ use Rattle.std.proofs.Common.{◌≡◌, ◌≢◌, ◌<◌, ◌==◌, ℕ, zero
 use Rattle.std.proofs.lemmas.List.{length-take}
 use Rattle.std.proofs.lemmas.Bool.{ltb-false, le-ltb}
 use Rattle.std.proofs.Math.Dec.{eqb-suc-zero}
-use Rattle.road_format.specs.Cut.{newline, Pieces, cut, cut_at, last_piece, lines_of}
+use Rattle.road_format.specs.Cut.{newline, Pieces, pieces_of, pieces_with_byte, last_line, lines_of}
 use Rattle.road_format.specs.PlanGrammar.{PlanLine}
 use Rattle.road_format.specs.declared.refusal.Refusal.{Refusal}
 use Rattle.road_lab.specs.Answers.{written, first_of, later}
@@ -16,14 +16,14 @@ use Rattle.road_lab.proofs.Lines.{said_written, opened_over, over_of, first_over
 
 -- ---- a newline behind an input ends its last piece
 
-by_cut : (x : ℕ) (p : Pieces) (b : Bool) → (x == newline) ≡ b → cut_at x (p.0 ++ p.1 ∷ [], []) ≡ ((cut_at x p).0 ++ (cut_at x p).1 ∷ [], [])
+by_cut : (x : ℕ) (p : Pieces) (b : Bool) → (x == newline) ≡ b → pieces_with_byte x (p.0 ++ p.1 ∷ [], []) ≡ ((pieces_with_byte x p).0 ++ (pieces_with_byte x p).1 ∷ [], [])
 by_cut x p true e = rw e refl
 by_cut x ([], rest) false e = rw e refl
 by_cut x (l ∷ ls, rest) false e = rw e refl
 
-pub cut_closed : (xs : List ℕ) → cut (xs ++ newline ∷ []) ≡ ((cut xs).0 ++ (cut xs).1 ∷ [], [])
+pub cut_closed : (xs : List ℕ) → pieces_of (xs ++ newline ∷ []) ≡ ((pieces_of xs).0 ++ (pieces_of xs).1 ∷ [], [])
 cut_closed [] = refl
-cut_closed (x ∷ xs) = ap (cut_at x) (cut_closed xs) ∙ by_cut x (cut xs) (x == newline) refl
+cut_closed (x ∷ xs) = ap (pieces_with_byte x) (cut_closed xs) ∙ by_cut x (pieces_of xs) (x == newline) refl
 
 -- ---- the desk at the end of input
 
@@ -162,7 +162,7 @@ by_piece n d text (l ∷ ls) x rest m still more =
     (by_outcome n (line_done d) (text ++ line_said d) l (ls ++ (x ∷ rest) ∷ []) (more (has_room n d text l ls rest x m still)) (not_none (over_of n (l ∷ ls ++ (x ∷ rest) ∷ [])) none))
 
 by_pieces : (n : ℕ) (d : Desk) (text : List ℕ) (p : Pieces) → Meets d text (outcome None n p) p.1 → d.over ≡ None
-    → (is_spent d.serving d.left ≡ false → Meets (line_done d) (text ++ line_said d) (outcome None n (p.0 ++ p.1 ∷ [], [])) []) → Closed n (end_done d) (text ++ end_said d) (p.0 ++ last_piece true p.1)
+    → (is_spent d.serving d.left ≡ false → Meets (line_done d) (text ++ line_said d) (outcome None n (p.0 ++ p.1 ∷ [], [])) []) → Closed n (end_done d) (text ++ end_said d) (p.0 ++ last_line true p.1)
 by_pieces n d text ([], []) m still more = by_nothing n d text m
 by_pieces n d text (l ∷ ls, []) m still more =
     let Family : List (List ℕ) → Type 0 = λ xs. Closed n (end_done d) (text ++ end_said d) (l ∷ xs) in
@@ -174,9 +174,9 @@ pub closes : (n : ℕ) (xs : List ℕ) → (fed (opening n) xs).over ≡ None �
 closes n xs still =
     let d = fed (opening n) xs in
     let text = said (opening n) xs in
-    by_pieces n d text (cut xs) (runs n xs) still
+    by_pieces n d text (pieces_of xs) (runs n xs) still
     (λ open_.
     let one = newline_more d still open_ in
     let fed_on : fed (opening n) (xs ++ newline ∷ []) ≡ line_done d = fed-append (opening n) xs (newline ∷ []) ∙ one.0 in
     let said_on : said (opening n) (xs ++ newline ∷ []) ≡ text ++ line_said d = said-append (opening n) xs (newline ∷ []) ∙ ap (λ (t : List ℕ). text ++ t) one.1 in
-    meets_at n (fed (opening n) (xs ++ newline ∷ [])) (line_done d) (said (opening n) (xs ++ newline ∷ [])) (text ++ line_said d) (cut (xs ++ newline ∷ [])) ((cut xs).0 ++ (cut xs).1 ∷ [], []) fed_on said_on (cut_closed xs) (runs n (xs ++ newline ∷ [])))
+    meets_at n (fed (opening n) (xs ++ newline ∷ [])) (line_done d) (said (opening n) (xs ++ newline ∷ [])) (text ++ line_said d) (pieces_of (xs ++ newline ∷ [])) ((pieces_of xs).0 ++ (pieces_of xs).1 ∷ [], []) fed_on said_on (cut_closed xs) (runs n (xs ++ newline ∷ [])))

@@ -14,14 +14,9 @@ use Rattle.road_scenario.specs.Edits.{Edits, edit_cmp}
 use Rattle.road_scenario.specs.Settings.{settings_in}
 use Rattle.road_scenario.proofs.NoEdits.{winners-empty}
 use Rattle.road_ends.specs.Row.{row}
-use Rattle.std.specs.Str.{is_utf8, chars}
-use Rattle.std.specs.Fmt.{digits}
-use Rattle.serde_json.proofs.OnLiterals.{serde_json_on_literals}
 use Rattle.road_cells.specs.Gap.{free_before}
-use Rattle.road_format.specs.Cut.{newline, cut_at, cut}
-use Rattle.road_format.specs.Reading.{value_of}
-use Rattle.road_format.specs.CommandGrammar.{advance_in, cells_in, command_in, command_of}
-use Rattle.road_format.specs.PlanGrammar.{plan_line_in, plan_line_of}
+use Rattle.road_format.specs.Cut.{newline, pieces_with_byte, pieces_of}
+use Rattle.road_format.proofs.OnLiterals.{road_format_on_literals}
 use Rattle.road_format.specs.Replies.{Open, Refused, Horizon, Cells as CellsReply, reply}
 use Rattle.road_format.specs.declared.refusal.Refusal.TheVariants as refusals
 use Rattle.road_keeper.specs.Laboratory.{row_at}
@@ -63,11 +58,11 @@ with_rows first six two =
     ++ (reply (Refused refusals.NotACommand) ++ (reply (CellsReply two) ++ [])))))))))))
 
 as_rows : answers_within 1000000 (2 ^ 32) (free_road ++ questions) true ≡ with_rows (row_at free_plan empty 0) (row_at free_plan empty 6) (row_at free_plan empty 2)
-unfolding serde_json_on_literals value_of is_utf8 chars command_of command_in advance_in cells_in plan_line_of plan_line_in replies answers_within free_road questions
+unfolding road_format_on_literals replies answers_within free_road questions
 as_rows = refl
 
 as_text : with_rows (codes "............") (codes "0..2...2....") (codes "0..2........") ≡ codes "{\"open\":3}\n{\"cells\":\"............\"}\n{\"refused\":\"NotSimulated\"}\n{\"refused\":\"not json\"}\n{\"horizon\":6}\n{\"horizon\":6}\n{\"cells\":\"0..2...2....\"}\n{\"refused\":\"NotSimulated\"}\n{\"refused\":\"NoReplica\"}\n{\"refused\":\"Horizon\"}\n{\"refused\":\"not a command\"}\n{\"cells\":\"0..2........\"}\n"
-unfolding serde_json_on_literals digits reply
+unfolding road_format_on_literals
 as_text = refl
 
 answers_to_questions : answers_within 1000000 (2 ^ 32) (free_road ++ questions) true ≡ codes "{\"open\":3}\n{\"cells\":\"............\"}\n{\"refused\":\"NotSimulated\"}\n{\"refused\":\"not json\"}\n{\"horizon\":6}\n{\"horizon\":6}\n{\"cells\":\"0..2...2....\"}\n{\"refused\":\"NotSimulated\"}\n{\"refused\":\"NoReplica\"}\n{\"refused\":\"Horizon\"}\n{\"refused\":\"not a command\"}\n{\"cells\":\"0..2........\"}\n"
@@ -78,11 +73,11 @@ answers_to_questions =
 
 -- while the input goes on, the piece behind the last newline is no line yet
 a_piece_is_no_line_yet : answers_within 1000000 (2 ^ 32) (free_road ++ codes "{\"cells\":{\"at\":\"A\",\"step\":0}}") false ≡ codes "{\"open\":3}\n"
-unfolding serde_json_on_literals value_of is_utf8 chars command_of command_in advance_in cells_in plan_line_of plan_line_in digits reply replies answers_within free_before free_road
+unfolding road_format_on_literals replies answers_within free_before free_road
 a_piece_is_no_line_yet = refl
 
 an_empty_input : answers_within 1000000 (2 ^ 32) [] true ≡ codes "{\"refused\":\"no plan\"}\n"
-unfolding serde_json_on_literals digits reply replies answers_within
+unfolding road_format_on_literals replies answers_within
 an_empty_input = refl
 
 nothing_yet : answers_within 1000000 (2 ^ 32) [] false ≡ []
@@ -91,16 +86,16 @@ nothing_yet = refl
 
 -- a plan line that is refused ends all
 a_refused_plan : answers_within 1000000 (2 ^ 32) (codes "{}\n{\"advance\":{\"at\":\"A\",\"to\":6}}\n") true ≡ codes "{\"refused\":\"not a plan\"}\n"
-unfolding serde_json_on_literals value_of is_utf8 chars plan_line_of plan_line_in digits reply replies answers_within
+unfolding road_format_on_literals replies answers_within
 a_refused_plan = refl
 
 -- no line past the limit of lines is answered
 one_line_as_row : answers_within 1 1000 (free_road ++ questions) true ≡ reply (Open 3) ++ (reply (CellsReply (row_at free_plan empty 0)) ++ [])
-unfolding serde_json_on_literals value_of is_utf8 chars command_of command_in advance_in cells_in plan_line_of plan_line_in replies answers_within free_road questions
+unfolding road_format_on_literals replies answers_within free_road questions
 one_line_as_row = refl
 
 one_line_as_text : reply (Open 3) ++ (reply (CellsReply (codes "............")) ++ []) ≡ codes "{\"open\":3}\n{\"cells\":\"............\"}\n"
-unfolding serde_json_on_literals digits reply
+unfolding road_format_on_literals
 one_line_as_text = refl
 
 one_line_only : answers_within 1 1000 (free_road ++ questions) true ≡ codes "{\"open\":3}\n{\"cells\":\"............\"}\n"
@@ -108,18 +103,18 @@ one_line_only = one_line_as_row ∙ ap (λ (r : List ℕ). reply (Open 3) ++ (re
 
 -- each refusal of a plan line ends all
 too_short : answers_within 1000000 (2 ^ 32) (codes "{\"detectors\":[5],\"exit\":1,\"inlets\":[[0,65536]],\"length\":7,\"replicas\":[\"A\"],\"words\":7,\"zone\":12,\"zones\":[[2,0]]}") true ≡ codes "{\"refused\":\"Length\"}\n"
-unfolding serde_json_on_literals value_of is_utf8 chars plan_line_of plan_line_in digits reply replies answers_within
+unfolding road_format_on_literals replies answers_within
 too_short = refl
 
 two_names_alike : answers_within 1000000 (2 ^ 32) (codes "{\"detectors\":[5],\"exit\":1,\"inlets\":[[0,65536]],\"length\":7,\"replicas\":[\"A\",\"A\"],\"words\":7,\"zone\":12,\"zones\":[[2,0]]}\n") true ≡ codes "{\"refused\":\"Names\"}\n"
-unfolding serde_json_on_literals value_of is_utf8 chars plan_line_of plan_line_in digits reply replies answers_within
+unfolding road_format_on_literals replies answers_within
 two_names_alike = refl
 
 -- ---- a line that is too long
 
-spaces_cut : (n : ℕ) → cut (replicate n 32 ++ newline ∷ []) ≡ (replicate n 32 ∷ [], [])
+spaces_cut : (n : ℕ) → pieces_of (replicate n 32 ++ newline ∷ []) ≡ (replicate n 32 ∷ [], [])
 spaces_cut zero = refl
-spaces_cut (suc n) = ap (cut_at 32) (spaces_cut n)
+spaces_cut (suc n) = ap (pieces_with_byte 32) (spaces_cut n)
 
 spaces_are_long : (n : ℕ) → LONGEST_LINE < n → is_long (replicate n 32) ≡ true
 spaces_are_long n long = lt-ltb LONGEST_LINE (length (replicate n 32)) (omega (arith, long, length-replicate {A = ℕ} n 32))
@@ -139,7 +134,7 @@ too_many_spaces n lines limit long within =
     rw (all, ended, spaces_cut n, no_more lines, spaces_are_long n long) refl
 
 said_too_long : reply (Refused refusals.LineTooLong) ≡ codes "{\"refused\":\"line too long\"}\n"
-unfolding serde_json_on_literals digits reply
+unfolding road_format_on_literals
 said_too_long = refl
 
 a_line_that_is_too_long : answers_within 1000000 (2 ^ 32) (replicate 65537 32 ++ newline ∷ []) true ≡ codes "{\"refused\":\"line too long\"}\n"

@@ -7,7 +7,7 @@ use Rattle.std.proofs.lemmas.List.{take_all, length-take-le}
 use Rattle.std.proofs.lemmas.Bool.{le-leb, le-ltb, lt-ltb, ltb-false}
 use Rattle.std.proofs.KnownBytes.{Appends-nil, Appends-trans, Appends-kept}
 use Rattle.std.specs.Io.KnownBytes.{Appends, Keeps}
-use Rattle.road_format.specs.Cut.{Pieces, cut, last_piece, lines_of}
+use Rattle.road_format.specs.Cut.{Pieces, pieces_of, last_line, lines_of}
 use Rattle.road_lab.specs.Answers.{written, answers_within, is_refused, is_past, reply_count, later}
 use Rattle.road_lab.specs.Desk.{Desk, opening, fed, said, end_said}
 use Rattle.road_lab.specs.Ending.{TakesFront, seen, Ends, Reached, Finishes}
@@ -26,8 +26,8 @@ use Rattle.road_lab.proofs.Closing.{closes}
 pub piece_said : (lines limit : ℕ) (h z : List ℕ) → h ≡ take limit z → said (opening lines) h ≡ answers_within lines limit z false
 unfolding answers_within
 piece_said lines limit h z e =
-    (runs lines h).said ∙ said_written lines (cut h) ∙ ap (λ (x : List ℕ). written false (take (suc lines) (cut x).0)) e
-    ∙ ap (λ (ls : List (List ℕ)). written false (take (suc lines) ls)) (sym (append-nil (cut (take limit z)).0))
+    (runs lines h).said ∙ said_written lines (pieces_of h) ∙ ap (λ (x : List ℕ). written false (take (suc lines) (pieces_of x).0)) e
+    ∙ ap (λ (ls : List (List ℕ)). written false (take (suc lines) ls)) (sym (append-nil (pieces_of (take limit z)).0))
 
 appends_same : (a b : Option (List ℕ)) (xs ys : List ℕ) → xs ≡ ys → Appends a b xs → Appends a b ys
 appends_same a b xs ys e h = let P : List ℕ → Type 0 = λ s. Appends a b s in subst P e h
@@ -122,17 +122,17 @@ exit_unsaid {t1 = t1} {d = d} g2 lines limit n m h piece at_end r went l e f rea
 
 -- ---- the run is over after a piece
 
-refused_at : (n : ℕ) (ended : Bool) (p : Pieces) → (outcome None n p).over ≡ Some ends.BadPlan → is_refused_in n ended (p.0 ++ last_piece ended p.1) ≡ true
+refused_at : (n : ℕ) (ended : Bool) (p : Pieces) → (outcome None n p).over ≡ Some ends.BadPlan → is_refused_in n ended (p.0 ++ last_line ended p.1) ≡ true
 refused_at n ended ([], rest) is = let none = unopened_over n rest in absurd (cc)
-refused_at n ended (l ∷ ls, rest) is = refused n ended l (ls ++ last_piece true rest) (sym (opened_over n l ls rest) ∙ is)
+refused_at n ended (l ∷ ls, rest) is = refused n ended l (ls ++ last_line true rest) (sym (opened_over n l ls rest) ∙ is)
 
-accepted_at : (n : ℕ) (p : Pieces) → (outcome None n p).over ≢ Some ends.BadPlan → is_refused_in n false (p.0 ++ last_piece false p.1) ≡ false
+accepted_at : (n : ℕ) (p : Pieces) → (outcome None n p).over ≢ Some ends.BadPlan → is_refused_in n false (p.0 ++ last_line false p.1) ≡ false
 accepted_at n ([], rest) is = refl
-accepted_at n (l ∷ ls, rest) is = accepted n false l (ls ++ last_piece true rest) (λ bad. is (opened_over n l ls rest ∙ bad))
+accepted_at n (l ∷ ls, rest) is = accepted n false l (ls ++ last_line true rest) (λ bad. is (opened_over n l ls rest ∙ bad))
 
-more_at : (n : ℕ) (p : Pieces) → (outcome None n p).over ≡ Some ends.TooMany → is_more (suc n) (p.0 ++ last_piece true p.1) ≡ true
+more_at : (n : ℕ) (p : Pieces) → (outcome None n p).over ≡ Some ends.TooMany → is_more (suc n) (p.0 ++ last_line true p.1) ≡ true
 more_at n ([], rest) is = let none = unopened_over n rest in absurd (cc)
-more_at n (l ∷ ls, rest) is = more_lines n l (ls ++ last_piece true rest) (sym (opened_over n l ls rest) ∙ is)
+more_at n (l ∷ ls, rest) is = more_lines n l (ls ++ last_line true rest) (sym (opened_over n l ls rest) ∙ is)
 
 -- the desk after the piece is that of what was read within the limit
 pub desk_at : {g g1 t t1 : Option (List ℕ)} {d : Desk} (d2 : Desk) (lines limit n m : ℕ) (h piece part : List ℕ) → Reached g g1 t t1 (opening lines) d h → length h ≤ limit → m ≡ min (limit - length h) n → n ≤ length piece → part ≡ take m piece → d2 ≡ fed d part
@@ -140,14 +140,14 @@ pub desk_at : {g g1 t t1 : Option (List ℕ)} {d : Desk} (d2 : Desk) (lines limi
 desk_at {d = d} d2 lines limit n m h piece part r l e f is done =
     done ∙ ap (fed d) is ∙ ap (λ (x : Desk). fed x (take m piece)) r.desk ∙ sym (fed-append (opening lines) h (take m piece)) ∙ ap (fed (opening lines)) (within_is limit n m h piece l e f)
 
-over_at : (d2 : Desk) (lines limit : ℕ) (z : List ℕ) → d2 ≡ fed (opening lines) (take limit z) → d2.over ≡ (outcome None lines (cut (take limit z))).over
+over_at : (d2 : Desk) (lines limit : ℕ) (z : List ℕ) → d2 ≡ fed (opening lines) (take limit z) → d2.over ≡ (outcome None lines (pieces_of (take limit z))).over
 over_at d2 lines limit z is = ap (λ (x : Desk). x.over) is ∙ (runs lines (take limit z)).over
 
 -- the plan line is refused
 exit_bad_plan : (d2 : Desk) (lines limit : ℕ) (z : List ℕ) (at_end : Bool) → d2 ≡ fed (opening lines) (take limit z) → at_end ≡ false → d2.over ≡ Some ends.BadPlan → is_refused lines limit z at_end ≡ true
 unfolding is_refused
 exit_bad_plan d2 lines limit z at_end is went over =
-    ap (is_refused lines limit z) went ∙ refused_at lines false (cut (take limit z)) (sym (over_at d2 lines limit z is) ∙ over)
+    ap (is_refused lines limit z) went ∙ refused_at lines false (pieces_of (take limit z)) (sym (over_at d2 lines limit z is) ∙ over)
 
 past_bytes : (lines limit : ℕ) (z : List ℕ) → limit < length z → is_past lines limit z ≡ true
 unfolding is_past
@@ -164,9 +164,9 @@ by_limit lines limit z false e more =
 exit_too_many : (d2 : Desk) (lines limit : ℕ) (z : List ℕ) (at_end : Bool) → d2 ≡ fed (opening lines) (take limit z) → at_end ≡ false → d2.over ≡ Some ends.TooMany → (is_refused lines limit z at_end ≡ false) × (is_past lines limit z ≡ true)
 unfolding is_refused
 exit_too_many d2 lines limit z at_end is went over =
-    let many : (outcome None lines (cut (take limit z))).over ≡ Some ends.TooMany = sym (over_at d2 lines limit z is) ∙ over in (
-      ap (is_refused lines limit z) went ∙ accepted_at lines (cut (take limit z)) (λ bad. cc),
-      by_limit lines limit z (nat_lt limit (length z)) refl (more_at lines (cut (take limit z)) many),
+    let many : (outcome None lines (pieces_of (take limit z))).over ≡ Some ends.TooMany = sym (over_at d2 lines limit z is) ∙ over in (
+      ap (is_refused lines limit z) went ∙ accepted_at lines (pieces_of (take limit z)) (λ bad. cc),
+      by_limit lines limit z (nat_lt limit (length z)) refl (more_at lines (pieces_of (take limit z)) many),
     )
 
 -- all was written, and the run is over
@@ -183,8 +183,8 @@ pub exit_past : (d2 : Desk) (lines limit n m : ℕ) (h piece : List ℕ) (at_end
     → (is_refused lines limit (h ++ take n piece) at_end ≡ false) × (is_past lines limit (h ++ take n piece) ≡ true)
 unfolding is_refused
 exit_past d2 lines limit n m h piece at_end is went over l e f past =
-    let none : (outcome None lines (cut (take limit (h ++ take n piece)))).over ≡ None = sym (over_at d2 lines limit (h ++ take n piece) is) ∙ over in (
-      ap (is_refused lines limit (h ++ take n piece)) went ∙ accepted_at lines (cut (take limit (h ++ take n piece))) (λ bad. cc),
+    let none : (outcome None lines (pieces_of (take limit (h ++ take n piece)))).over ≡ None = sym (over_at d2 lines limit (h ++ take n piece) is) ∙ over in (
+      ap (is_refused lines limit (h ++ take n piece)) went ∙ accepted_at lines (pieces_of (take limit (h ++ take n piece))) (λ bad. cc),
       past_bytes lines limit (h ++ take n piece) (omega (arith, length-append h (take n piece), length-take-le n piece f)),
     )
 

@@ -1,5 +1,4 @@
 pub mod Pieces
-pub mod Accepted
 pub mod Machine
 pub mod Lines
 pub mod Closing

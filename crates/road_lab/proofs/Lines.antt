@@ -3,7 +3,7 @@ use Rattle.std.proofs.Common.{◌≡◌, ◌≢◌, ℕ, zero, suc, List, [], �
 use Rattle.std.specs.Prelude.{nat_lt}
 use Rattle.std.proofs.lemmas.Bool.{le-ltb, lt-ltb, ltb-false, ltb-true}
 use Rattle.std.proofs.Math.Dec.{eqb-suc-zero}
-use Rattle.road_format.specs.Cut.{Pieces, last_piece}
+use Rattle.road_format.specs.Cut.{Pieces, last_line}
 use Rattle.road_format.specs.CommandGrammar.{Command}
 use Rattle.road_format.specs.PlanGrammar.{PlanLine}
 use Rattle.road_format.specs.Replies.{Answer, reply}
@@ -67,26 +67,26 @@ by_less n m false e = let least = ltb-false n m e in le-ltb (suc n) (suc m) (ome
 one_more : (n m : ℕ) → nat_lt (suc n) (suc m) ≡ nat_lt n m
 one_more n m = by_less n m (nat_lt n m) refl
 
-over_rest : (kept : Kept) (n : ℕ) (rest : List ℕ) → rest_over (Some kept) n rest ≡ too_many (is_more n (last_piece true rest))
+over_rest : (kept : Kept) (n : ℕ) (rest : List ℕ) → rest_over (Some kept) n rest ≡ too_many (is_more n (last_line true rest))
 over_rest kept n [] = let none : nat_lt n 0 ≡ false = le-ltb n 0 (omega arith) in sym (ap too_many none)
 over_rest kept zero (x ∷ rest) = refl
 over_rest kept (suc n) (x ∷ rest) =
     let fits : nat_lt (suc n) 1 ≡ false = le-ltb (suc n) 1 (omega arith) in
     rw (eqb-suc-zero n) (sym (ap too_many fits))
 
-over_at_lines : (kept : Kept) (n : ℕ) (lines : List (List ℕ)) (rest : List ℕ) → (outcome_at kept n lines rest).over ≡ too_many (is_more n (lines ++ last_piece true rest))
+over_at_lines : (kept : Kept) (n : ℕ) (lines : List (List ℕ)) (rest : List ℕ) → (outcome_at kept n lines rest).over ≡ too_many (is_more n (lines ++ last_line true rest))
 over_at_lines kept n [] rest = over_rest kept n rest
 over_at_lines kept zero (l ∷ ls) rest =
-    let more : nat_lt 0 (suc (length (ls ++ last_piece true rest))) ≡ true = lt-ltb 0 (suc (length (ls ++ last_piece true rest))) (omega arith) in
+    let more : nat_lt 0 (suc (length (ls ++ last_line true rest))) ≡ true = lt-ltb 0 (suc (length (ls ++ last_line true rest))) (omega arith) in
     sym (ap too_many more)
-over_at_lines kept (suc n) (l ∷ ls) rest = over_at_lines (line_after kept (command_line l)) n ls rest ∙ sym (ap too_many (one_more n (length (ls ++ last_piece true rest))))
+over_at_lines kept (suc n) (l ∷ ls) rest = over_at_lines (line_after kept (command_line l)) n ls rest ∙ sym (ap too_many (one_more n (length (ls ++ last_line true rest))))
 
 -- how the run is over after a first line
 abbrev pub first_over : Result PlanLine Refusal → ℕ → List (List ℕ) → Option End
 first_over (Err refusal) n lines = Some ends.BadPlan
 first_over (Ok line) n lines = too_many (is_more n lines)
 
-over_first : (read : Result PlanLine Refusal) (n : ℕ) (lines : List (List ℕ)) (rest : List ℕ) → (outcome_first read n lines rest).over ≡ first_over read n (lines ++ last_piece true rest)
+over_first : (read : Result PlanLine Refusal) (n : ℕ) (lines : List (List ℕ)) (rest : List ℕ) → (outcome_first read n lines rest).over ≡ first_over read n (lines ++ last_line true rest)
 over_first (Err refusal) n lines rest = refl
 over_first (Ok line) n lines rest = over_at_lines (start line) n lines rest
 
@@ -100,7 +100,7 @@ pub unopened_over : (n : ℕ) (rest : List ℕ) → (outcome None n ([], rest)).
 unopened_over n [] = refl
 unopened_over n (x ∷ rest) = refl
 
-pub opened_over : (n : ℕ) (l : List ℕ) (ls : List (List ℕ)) (rest : List ℕ) → (outcome None n (l ∷ ls, rest)).over ≡ over_of n (l ∷ ls ++ last_piece true rest)
+pub opened_over : (n : ℕ) (l : List ℕ) (ls : List (List ℕ)) (rest : List ℕ) → (outcome None n (l ∷ ls, rest)).over ≡ over_of n (l ∷ ls ++ last_line true rest)
 opened_over n l ls rest = over_first (first_of l) n ls rest
 
 -- ---- how many lines may still come, where the run is not over

@@ -4,7 +4,7 @@ use Rattle.std.specs.Prelude.{nat_lt, if◌then◌else◌}
 use Rattle.std.proofs.lemmas.Bool.{ltb-true, ltb-false, lt-ltb, le-ltb, eqb-true}
 use Rattle.std.proofs.Math.Dec.{eqb-suc-zero}
 use Rattle.road_plan.specs.declared.limits.TheConstants.{LONGEST_LINE}
-use Rattle.road_format.specs.Cut.{newline, Pieces, begun, cut_at, cut}
+use Rattle.road_format.specs.Cut.{newline, Pieces, pieces_with_byte_in_line, pieces_with_byte, pieces_of}
 use Rattle.road_format.specs.CommandGrammar.{Command, command_of}
 use Rattle.road_format.specs.PlanGrammar.{PlanLine, plan_line_of}
 use Rattle.road_format.specs.Replies.{reply}
@@ -34,26 +34,26 @@ abbrev pub IsLine : List ℕ → Type 0
 IsLine [] = Unit {0}
 IsLine (x ∷ xs) = ((x == newline) ≡ false) × IsLine xs
 
-cut_begun : (x : ℕ) (p : Pieces) → (x == newline) ≡ false → cut_at x p ≡ begun x p.0 p.1
+cut_begun : (x : ℕ) (p : Pieces) → (x == newline) ≡ false → pieces_with_byte x p ≡ pieces_with_byte_in_line x p.0 p.1
 cut_begun x p h = rw h refl
 
-cut-line : (r xs : List ℕ) → IsLine r → cut (r ++ newline ∷ xs) ≡ (r ∷ (cut xs).0, (cut xs).1)
+cut-line : (r xs : List ℕ) → IsLine r → pieces_of (r ++ newline ∷ xs) ≡ (r ∷ (pieces_of xs).0, (pieces_of xs).1)
 cut-line [] xs h = refl
-cut-line (x ∷ r) xs h = ap (cut_at x) (cut-line r xs h.1) ∙ cut_begun x (r ∷ (cut xs).0, (cut xs).1) h.0
+cut-line (x ∷ r) xs h = ap (pieces_with_byte x) (cut-line r xs h.1) ∙ cut_begun x (r ∷ (pieces_of xs).0, (pieces_of xs).1) h.0
 
-cut-rest : (r : List ℕ) → IsLine r → cut r ≡ ([], r)
+cut-rest : (r : List ℕ) → IsLine r → pieces_of r ≡ ([], r)
 cut-rest [] h = refl
-cut-rest (x ∷ r) h = ap (cut_at x) (cut-rest r h.1) ∙ cut_begun x ([], r) h.0
+cut-rest (x ∷ r) h = ap (pieces_with_byte x) (cut-rest r h.1) ∙ cut_begun x ([], r) h.0
 
 line_more : (r : List ℕ) (x : ℕ) → IsLine r → (x == newline) ≡ false → IsLine (r ++ x ∷ [])
 line_more [] x l h = (h, tt)
 line_more (y ∷ r) x l h = (l.0, line_more r x l.1 h)
 
-cut_here : (r xs : List ℕ) (x : ℕ) → IsLine r → (x == newline) ≡ true → cut (r ++ x ∷ xs) ≡ (r ∷ (cut xs).0, (cut xs).1)
-cut_here r xs x l e = ap (λ (y : ℕ). cut (r ++ y ∷ xs)) (eqb-true x newline e) ∙ cut-line r xs l
+cut_here : (r xs : List ℕ) (x : ℕ) → IsLine r → (x == newline) ≡ true → pieces_of (r ++ x ∷ xs) ≡ (r ∷ (pieces_of xs).0, (pieces_of xs).1)
+cut_here r xs x l e = ap (λ (y : ℕ). pieces_of (r ++ y ∷ xs)) (eqb-true x newline e) ∙ cut-line r xs l
 
-cut_more : (r xs : List ℕ) (x : ℕ) → cut ((r ++ x ∷ []) ++ xs) ≡ cut (r ++ x ∷ xs)
-cut_more r xs x = ap cut (append_assoc r (x ∷ []) xs)
+cut_more : (r xs : List ℕ) (x : ℕ) → pieces_of ((r ++ x ∷ []) ++ xs) ≡ pieces_of (r ++ x ∷ xs)
+cut_more r xs x = ap pieces_of (append_assoc r (x ∷ []) xs)
 
 -- ---- what is held of a line: all of it, or as much as the longest line has
 
@@ -187,7 +187,7 @@ abbrev Runs : Option Kept → ℕ → Desk → List ℕ → Pieces → Type 0
 Runs serving n d xs p = Meets (fed d xs) (said d xs) (outcome serving n p) p.1
 
 abbrev Hyp : List ℕ → Type 0
-Hyp xs = (serving : Option Kept) (n : ℕ) (r held : List ℕ) (long : Bool) → IsLine r → Holds held long r → IsClearIfSpent serving n r → Runs serving n (at serving held long n) xs (cut (r ++ xs))
+Hyp xs = (serving : Option Kept) (n : ℕ) (r held : List ℕ) (long : Bool) → IsLine r → Holds held long r → IsClearIfSpent serving n r → Runs serving n (at serving held long n) xs (pieces_of (r ++ xs))
 
 rest_fits : (serving : Option Kept) (n : ℕ) (r : List ℕ) (b : Bool) → is_spent serving n ≡ b → IsClearIfSpent serving n r → rest_over serving n r ≡ None
 rest_fits serving n [] b e clear = refl
@@ -209,21 +209,21 @@ run_none None n r held long h clear = none_meets None n r held long h clear
 run_none (Some kept) n r held long h clear = none_meets (Some kept) n r held long h clear
 
 -- past the last line
-past_over : (kept : Kept) (x : ℕ) (q : Pieces) (b : Bool) → (x == newline) ≡ b → (outcome (Some kept) 0 (cut_at x q)).over ≡ Some ends.TooMany
+past_over : (kept : Kept) (x : ℕ) (q : Pieces) (b : Bool) → (x == newline) ≡ b → (outcome (Some kept) 0 (pieces_with_byte x q)).over ≡ Some ends.TooMany
 past_over kept x q true e = rw e refl
 past_over kept x ([], rest) false e = rw e refl
 past_over kept x (line ∷ lines, rest) false e = rw e refl
 
-past_said : (kept : Kept) (x : ℕ) (q : Pieces) (b : Bool) → (x == newline) ≡ b → (outcome (Some kept) 0 (cut_at x q)).said ≡ []
+past_said : (kept : Kept) (x : ℕ) (q : Pieces) (b : Bool) → (x == newline) ≡ b → (outcome (Some kept) 0 (pieces_with_byte x q)).said ≡ []
 past_said kept x q true e = rw e refl
 past_said kept x ([], rest) false e = rw e refl
 past_said kept x (line ∷ lines, rest) false e = rw e refl
 
-run_past : (kept : Kept) (x : ℕ) (xs held : List ℕ) (long : Bool) → Runs (Some kept) 0 (at (Some kept) held long 0) (x ∷ xs) (cut (x ∷ xs))
+run_past : (kept : Kept) (x : ℕ) (xs held : List ℕ) (long : Bool) → Runs (Some kept) 0 (at (Some kept) held long 0) (x ∷ xs) (pieces_of (x ∷ xs))
 run_past kept x xs held long =
-    let over = past_over kept x (cut xs) (x == newline) refl in
+    let over = past_over kept x (pieces_of xs) (x == newline) refl in
     record {
-      said = said_past kept held long x xs ∙ sym (past_said kept x (cut xs) (x == newline) refl);
+      said = said_past kept held long x xs ∙ sym (past_said kept x (pieces_of xs) (x == newline) refl);
       over = fed_past kept held long x xs ∙ sym over;
       serving = λ h. absurd (cc);
       left = λ h. absurd (cc);
@@ -231,10 +231,10 @@ run_past kept x xs held long =
     }
 
 -- a byte of a line
-run_more : (serving : Option Kept) (n x : ℕ) (xs r held : List ℕ) (long : Bool) → is_spent serving n ≡ false → (x == newline) ≡ false → IsLine r → Holds held long r → Hyp xs → Runs serving n (at serving held long n) (x ∷ xs) (cut (r ++ x ∷ xs))
+run_more : (serving : Option Kept) (n x : ℕ) (xs r held : List ℕ) (long : Bool) → is_spent serving n ≡ false → (x == newline) ≡ false → IsLine r → Holds held long r → Hyp xs → Runs serving n (at serving held long n) (x ∷ xs) (pieces_of (r ++ x ∷ xs))
 run_more serving n x xs r held long sp e l h ih =
     moved (at serving held long n) (x ∷ xs) (held_more (at serving held long n) x) xs [] (fed_more serving held long n x xs sp e) (said_more serving held long n x xs sp e)
-    (more (λ d. Runs serving n d xs (cut (r ++ x ∷ xs))) serving n held long r x (nat_lt (length held) LONGEST_LINE) refl h
+    (more (λ d. Runs serving n d xs (pieces_of (r ++ x ∷ xs))) serving n held long r x (nat_lt (length held) LONGEST_LINE) refl h
     (λ held' long' h'.
     let Family : Pieces → Type 0 = λ p. Runs serving n (at serving held' long' n) xs p in
     subst Family (cut_more r xs x) (ih serving n (r ++ x ∷ []) held' long' (line_more r x l e) h' (λ t. let bad = sp in absurd (cc)))))
@@ -243,7 +243,7 @@ no_bytes : Holds [] false []
 no_bytes = Whole refl (omega arith) refl
 
 -- the end of the plan line
-after_first : (read : Result PlanLine Refusal) (n : ℕ) (xs held : List ℕ) (long : Bool) → Hyp xs → Meets (fed (opened (at None held long n) read) xs) (open_said read ++ said (opened (at None held long n) read) xs) (outcome_first read n (cut xs).0 (cut xs).1) (cut xs).1
+after_first : (read : Result PlanLine Refusal) (n : ℕ) (xs held : List ℕ) (long : Bool) → Hyp xs → Meets (fed (opened (at None held long n) read) xs) (open_said read ++ said (opened (at None held long n) read) xs) (outcome_first read n (pieces_of xs).0 (pieces_of xs).1) (pieces_of xs).1
 after_first (Err refusal) n xs held long ih = record {
   said = ap (λ (t : List ℕ). open_said (Err refusal) ++ t) (over_said None held long n ends.BadPlan xs) ∙ append-nil (open_said (Err refusal));
   over = ap (λ (d : Desk). d.over) (over_fed None held long n ends.BadPlan xs);
@@ -261,13 +261,13 @@ after_first (Ok line) n xs held long ih =
       holds = m.holds;
     }
 
-run_first : (n x : ℕ) (xs r held : List ℕ) (long : Bool) → (x == newline) ≡ true → IsLine r → Holds held long r → Hyp xs → Runs None n (at None held long n) (x ∷ xs) (r ∷ (cut xs).0, (cut xs).1)
+run_first : (n x : ℕ) (xs r held : List ℕ) (long : Bool) → (x == newline) ≡ true → IsLine r → Holds held long r → Hyp xs → Runs None n (at None held long n) (x ∷ xs) (r ∷ (pieces_of xs).0, (pieces_of xs).1)
 run_first n x xs r held long e l h ih =
     let same = held_reads plan_line_of held long r h in
     let m = after_first (first_of r) n xs held long ih in
     let is = fed_line None held long n x xs refl e ∙ ap (λ (read : Result PlanLine Refusal). fed (opened (at None held long n) read) xs) same in
     let says = said_line None held long n x xs refl e ∙ ap (λ (read : Result PlanLine Refusal). open_said read ++ said (opened (at None held long n) read) xs) same in
-    let IsHeld : Desk → Type 0 = λ d. Holds d.held d.long (cut xs).1 in
+    let IsHeld : Desk → Type 0 = λ d. Holds d.held d.long (pieces_of xs).1 in
     record {
       said = says ∙ m.said;
       over = ap (λ (d : Desk). d.over) is ∙ m.over;
@@ -277,7 +277,7 @@ run_first n x xs r held long e l h ih =
     }
 
 -- the end of a later line
-run_line : (kept : Kept) (k x : ℕ) (xs r held : List ℕ) (long : Bool) → (x == newline) ≡ true → IsLine r → Holds held long r → Hyp xs → Runs (Some kept) (suc k) (at (Some kept) held long (suc k)) (x ∷ xs) (r ∷ (cut xs).0, (cut xs).1)
+run_line : (kept : Kept) (k x : ℕ) (xs r held : List ℕ) (long : Bool) → (x == newline) ≡ true → IsLine r → Holds held long r → Hyp xs → Runs (Some kept) (suc k) (at (Some kept) held long (suc k)) (x ∷ xs) (r ∷ (pieces_of xs).0, (pieces_of xs).1)
 run_line kept k x xs r held long e l h ih =
     let less : suc k - 1 ≡ k = omega arith in
     let same = held_reads command_of held long r h in
@@ -290,9 +290,9 @@ run_line kept k x xs r held long e l h ih =
     ∙ ap (λ (m : ℕ). reply (line_answer kept (command_line r)) ++ said (at (Some after) [] false m) xs) less in
     moved (at (Some kept) held long (suc k)) (x ∷ xs) (at (Some after) [] false k) xs (reply (line_answer kept (command_line r))) is says (ih (Some after) k [] [] false tt no_bytes (λ _. refl))
 
-by_byte : (serving : Option Kept) (n x : ℕ) (xs r held : List ℕ) (long : Bool) (b : Bool) → (x == newline) ≡ b → IsLine r → Holds held long r → IsClearIfSpent serving n r → Hyp xs → Runs serving n (at serving held long n) (x ∷ xs) (cut (r ++ x ∷ xs))
+by_byte : (serving : Option Kept) (n x : ℕ) (xs r held : List ℕ) (long : Bool) (b : Bool) → (x == newline) ≡ b → IsLine r → Holds held long r → IsClearIfSpent serving n r → Hyp xs → Runs serving n (at serving held long n) (x ∷ xs) (pieces_of (r ++ x ∷ xs))
 by_byte (Some kept) zero x xs r held long b e l h clear ih =
-    let Family : List ℕ → Type 0 = λ s. Runs (Some kept) 0 (at (Some kept) held long 0) (x ∷ xs) (cut (s ++ x ∷ xs)) in
+    let Family : List ℕ → Type 0 = λ s. Runs (Some kept) 0 (at (Some kept) held long 0) (x ∷ xs) (pieces_of (s ++ x ∷ xs)) in
     subst Family (sym (clear refl)) (run_past kept x xs held long)
 by_byte None n x xs r held long true e l h clear ih =
     let Family : Pieces → Type 0 = λ p. Runs None n (at None held long n) (x ∷ xs) p in
@@ -306,9 +306,9 @@ by_byte (Some kept) (suc k) x xs r held long false e l h clear ih = run_more (So
 run : (xs : List ℕ) → Hyp xs
 run [] serving n r held long l h clear =
     let Family : Pieces → Type 0 = λ p. Runs serving n (at serving held long n) [] p in
-    subst Family (sym (ap cut (append-nil r) ∙ cut-rest r l)) (run_none serving n r held long h clear)
+    subst Family (sym (ap pieces_of (append-nil r) ∙ cut-rest r l)) (run_none serving n r held long h clear)
 run (x ∷ xs) serving n r held long l h clear = by_byte serving n x xs r held long (x == newline) refl l h clear (run xs)
 
 -- the desk and what it says are what the lines ask
-pub runs : (lines : ℕ) (xs : List ℕ) → Meets (fed (opening lines) xs) (said (opening lines) xs) (outcome None lines (cut xs)) (cut xs).1
+pub runs : (lines : ℕ) (xs : List ℕ) → Meets (fed (opening lines) xs) (said (opening lines) xs) (outcome None lines (pieces_of xs)) (pieces_of xs).1
 runs lines xs = run xs None lines [] [] false tt no_bytes (λ bad. absurd (cc))

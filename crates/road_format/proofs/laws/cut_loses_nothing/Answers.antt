@@ -1,4 +1,4 @@
-use Rattle.road_format.proofs.Lines.{cut_loses_nothing}
+use Rattle.road_format.proofs.CutLines.{cut_loses_nothing}
 use Rattle.road_format.proofs.laws.cut_loses_nothing.Goals as goal
 
 pub returns : goal.returns

@@ -1,4 +1,4 @@
-use Rattle.road_format.proofs.Lines.{lines_go_on}
+use Rattle.road_format.proofs.CutLines.{lines_go_on}
 use Rattle.road_format.proofs.laws.lines_go_on.Goals as goal
 
 pub returns : goal.returns

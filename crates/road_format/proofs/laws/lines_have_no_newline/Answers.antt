@@ -1,4 +1,4 @@
-use Rattle.road_format.proofs.Lines.{lines_have_no_newline}
+use Rattle.road_format.proofs.CutLines.{lines_have_no_newline}
 use Rattle.road_format.proofs.laws.lines_have_no_newline.Goals as goal
 
 pub returns : goal.returns

@@ -1,4 +1,4 @@
-use Rattle.road_format.proofs.Exactly.{no_other_field}
+use Rattle.road_format.proofs.NoOtherField.{no_other_field}
 use Rattle.road_format.proofs.laws.no_other_field.Goals as goal
 
 pub returns : goal.returns

@@ -1,4 +1,4 @@
-use Rattle.road_format.proofs.OneLine.{replies_are_lines}
+use Rattle.road_format.proofs.ReplyTexts.{replies_are_lines}
 use Rattle.road_format.proofs.laws.replies_are_lines.Goals as goal
 
 pub returns : goal.returns

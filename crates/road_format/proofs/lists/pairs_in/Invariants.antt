@@ -1,9 +1,9 @@
 use Rattle.std.proofs.Common.{◌≡◌, drop}
 use Rattle.serde_json.specs.View.{items_view}
-use Rattle.road_format.specs.Fields.{each, pair_in}
-use Rattle.road_format.proofs.Values.{with_front}
+use Rattle.road_format.specs.Fields.{values_of_items, pair_in}
+use Rattle.road_format.proofs.JsonParts.{with_front}
 use Rattle.road_format.proofs.lists.pairs_in.Given as goal
 
 -- what was found, and then the pairs of the items that are left, are all the pairs
 abbrev pub invariant-loop-item : goal.invariant-loop-item
-invariant-loop-item l = with_front l.found.items (each pair_in (items_view (drop l.item-index l.items))) ≡ each pair_in (items_view l.items)
+invariant-loop-item l = with_front l.found.items (values_of_items pair_in (items_view (drop l.item-index l.items))) ≡ values_of_items pair_in (items_view l.items)
