@@ -7,7 +7,6 @@ use Rattle.std.specs.declared.option.Option.{Option}
 use Rattle.std.specs.declared.option.Option.TheVariants.{None, Some}
 use Rattle.std.proofs.Common.{sym, ap, ◌∙◌, inl, inr, arith, append_assoc, append-nil}
 use Rattle.std.proofs.Math.Nat.{div-lt_iff_lt-mul}
-use Rattle.std.proofs.Math.Seq.{take-suc}
 use Rattle.std.proofs.lemmas.Bool.{lt-ltb, cases_lt}
 use Rattle.std.proofs.lemmas.Bool.Decides.{nat_tests}
 use Rattle.std.proofs.lemmas.List.{get_or_default, get_or-map}
@@ -185,22 +184,6 @@ module _ (f : ℕ → Option Vehicle) (n : ℕ) where
   pub all_left : cars_left 0 ≡ cars_from 0 (map f (numbers 0 n))
   unfolding cars_left
   all_left = let all : n - 0 ≡ n = omega arith in ap (λ k. cars_from 0 (map f (numbers 0 k))) all
-
--- the speeds listed so far, and the next one
-pub one_speed_more : (p : Plan) (s : Settings) (t : ℕ) (a : Array) (done now : List ℕ) (k v : ℕ) → k < length (cars_of a) → done ≡ take k (speeds p s t a)
-    → v ≡ speed p s t a (nth_car (cars_of a) k).cell (vehicle_of (nth_car (cars_of a) k)) → now ≡ done ++ v ∷ [] → now ≡ take (k + 1) (speeds p s t a)
-one_speed_more p s t a done now k v below rest is new =
-    let long = (may_move_lengths p s t a) in
-    let at = get_or-map (λ car. speed p s t a car.cell (vehicle_of car)) (cars_of a) k (record { number = 0; cell = 0; speed = 0 }) 0 below in
-    let next : suc k ≡ k + 1 = omega arith in
-    new ∙ (λ i. rest i ++ (is ∙ sym at) i ∷ []) ∙ sym (take-suc (speeds p s t a) k 0 (omega arith)) ∙ ap (λ n. take n (speeds p s t a)) next
-  where
-    may_move_lengths : (p : Plan) (s : Settings) (t : ℕ) (a : Array) → length (speeds p s t a) ≡ length (cars_of a)
-    may_move_lengths p s t a = each (cars_of a)
-      where
-        each : (cars : List Car) → length (map (λ car. speed p s t a car.cell (vehicle_of car)) cars) ≡ length cars
-        each [] = refl
-        each (car ∷ cars) = ap suc (each cars)
 
 -- cars in rising cells are parted by a cell
 pub cars_parted : (cars : List Car) (end : ℕ) → Rise cars → IsPartitionedBy (λ car. nat_lt car.cell end) cars
