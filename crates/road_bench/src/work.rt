@@ -1,7 +1,7 @@
 ghost use Rattle.std.specs.Arc.{arc_value};
 
 use road_cells::Road;
-use road_ends::{Meter, OutOfMemory, StepInput, gap, step_alone};
+use road_ends::{Meter, OutOfMemory, StepInput, step_alone};
 use road_plan::limits::CERTAIN;
 use road_plan::{Plan, Settings};
 use road_words::{PlanWords, Words};
@@ -48,7 +48,8 @@ fn words_of_entries(plan: &Plan, road: &Road) -> u64 {
     words
 }
 
-// The words drawn for the cars of a step: one for each that wants to drive and whose slowing chance leaves that open.
+// The words drawn for the cars of a step: one for each that wants to drive and whose slowing chance leaves that open. The
+// plan's own settings block no cell.
 fn words_of_cars(input: &StepInput) -> u64 {
     input.known();
     let mut words = 0u64;
@@ -59,7 +60,7 @@ fn words_of_cars(input: &StepInput) -> u64 {
             Some(zone) => zone.0 > 0 && is_open(zone.1),
             None => false,
         };
-        if open && gap(input.plan(), input.settings(), input.road(), place) > 0 {
+        if open && input.road().gap(place, &[]) > 0 {
             words = words.saturating_add(1);
         }
     }

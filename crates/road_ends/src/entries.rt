@@ -16,15 +16,10 @@ use std::alloc::{AllocError, Global};
 /// The stream of the first inlet's words; the others follow it.
 const FIRST_INLET_STREAM: u64 = 1 << 63;
 
-/// The road with the cars that enter at a step: at each inlet whose cell is empty and not blocked, and whose word has
-/// its event under the inflow chance. Cars past the road's end are left out.
-///
-/// The cars between two inlets are copied as they are, in one growth for all.
-///
-/// # Errors
-///
-/// `OutOfMemory` where that growth is refused.
-pub fn entered(
+// The road with the cars that enter at a step: at each inlet whose cell is empty and not blocked, and whose word has its
+// event under the inflow chance. Cars past the road's end are left out. The cars between two inlets are copied as they
+// are, in one growth for all.
+pub(crate) fn entered(
     alloc: Global,
     plan: &Plan,
     settings: &Settings,
@@ -69,7 +64,7 @@ fn next_inlet(inlets: &[(u32, u32)], cell: u32, end: u32) -> u32
 }
 
 // The car that stands at a cell, or else the one that enters there.
-pub(crate) fn standing_or_entering(
+fn standing_or_entering(
     plan: &Plan,
     settings: &Settings,
     step: u32,

@@ -1,15 +1,13 @@
-ghost use Rattle.std.specs.Prelude.{◌≡◌, ℕ, ◌≤◌, length, IfOk};
+ghost use Rattle.std.specs.Prelude.{◌≡◌, ◌≤◌, length, IfOk};
 ghost use Rattle.std.specs.Arc.{arc_value};
 ghost use Rattle.road_plan.specs.Plan.{IsWithinLimits};
 ghost use Rattle.road_plan.specs.Settings.{Fits};
-ghost use Rattle.road_words.specs.Words.{word};
 ghost use Rattle.road_ends.specs.Input.{input_of, input_speeds};
 
 use crate::entries::entered;
 use crate::pass::speeds;
 use road_cells::Road;
 use road_plan::{Plan, Settings};
-use road_words::{PlanWords, Words};
 use std::alloc::{AllocError, Global};
 use std::marker::Model;
 use std::sync::Arc;
@@ -56,13 +54,6 @@ impl StepInput {
         ensures { result.now ≡ self.now.plan }
     {
         &self.plan
-    }
-
-    /// The plan's words.
-    pub fn words(&self) -> PlanWords
-        ensures { (stream place : ℕ) → ⟦<PlanWords as Words>⟧.word_of result stream place ≡ word self.now.plan.words stream place }
-    {
-        PlanWords::of(&self.plan)
     }
 
     /// The settings of the step.

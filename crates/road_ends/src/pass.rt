@@ -31,16 +31,10 @@ struct Zone {
     start: u32,
 }
 
-/// The new speeds of all cars, in the order of the cars.
-///
-/// It is one pass over the cars from the far end, in one growth. The next car and the next blocked cell come with the
-/// pass, so that nothing is searched; a word is drawn only where it can change a speed; and a zone is divided out only
-/// where it changes.
-///
-/// # Errors
-///
-/// `OutOfMemory` where that growth is refused.
-pub fn speeds(
+// The new speeds of all cars, in the order of the cars. It is one pass over the cars from the far end, in one growth. The
+// next car and the next blocked cell come with the pass, so that nothing is searched; a word is drawn only where it can
+// change a speed; and a zone is divided out only where it changes.
+pub(crate) fn speeds(
     alloc: Global,
     plan: &Plan,
     settings: &Settings,

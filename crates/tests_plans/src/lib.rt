@@ -1,0 +1,108 @@
+//! Plans and cars that the crates of tests share.
+#![tactic(auto)]
+
+ghost use Rattle.std.specs.Prelude.{◌≡◌};
+
+use road_cells::Car;
+use road_plan::{OutOfMemory, Plan, PlanFault, PlanParts, WordKind};
+use std::alloc::Global;
+
+/// The parts of a plan, of which most tests change one or two.
+#[derive(Clone, Copy, Debug)]
+pub struct Parts {
+    /// The cells of the road, of its deleted zone and of a zone.
+    pub road: (u32, u32, u32),
+    /// For each zone its speed limit and slowing chance.
+    pub zones: &'static [(u32, u32)],
+    /// For each inlet its cell and inflow chance.
+    pub inlets: &'static [(u32, u32)],
+    /// The site of each detector.
+    pub detectors: &'static [u32],
+    /// The words.
+    pub words: WordKind,
+}
+
+/// 12 cells, limit 2, no slowing, an inlet at the first cell that always lets in, a detector at cell 5.
+pub const FREE: Parts = Parts {
+    road: (12, 1, 12),
+    zones: &[(2, 0)],
+    inlets: &[(0, 65_536)],
+    detectors: &[5],
+    words: WordKind::Seeded(7),
+};
+
+/// The free road with slowing chance one half, by steady words.
+pub const HALF_SLOWED: Parts = Parts {
+    zones: &[(2, 32_768)],
+    words: WordKind::Steady,
+    ..FREE
+};
+
+/// Nine inlets on 32 cells that always let in, limit 2, slowing chance one half by steady words.
+pub const DENSE: Parts = Parts {
+    road: (32, 1, 32),
+    zones: &[(2, 32_768)],
+    inlets: &[
+        (0, 65_536),
+        (3, 65_536),
+        (6, 65_536),
+        (9, 65_536),
+        (12, 65_536),
+        (15, 65_536),
+        (18, 65_536),
+        (21, 65_536),
+        (24, 65_536),
+    ],
+    detectors: &[],
+    words: WordKind::Steady,
+};
+
+/// These parts, with memory of their own.
+///
+/// # Errors
+///
+/// `OutOfMemory` where the growth of a list is refused.
+pub fn parts_of(alloc: Global, parts: &Parts) -> Result<PlanParts, OutOfMemory> {
+    let (length, exit, width) = parts.road;
+    Ok(PlanParts {
+        length,
+        exit,
+        width,
+        zones: parts.zones.to_vec(alloc)?,
+        inlets: parts.inlets.to_vec(alloc)?,
+        detectors: parts.detectors.to_vec(alloc)?,
+        words: parts.words,
+    })
+}
+
+/// The plan of these parts.
+///
+/// # Errors
+///
+/// `OutOfMemory` where the growth of a list is refused, else the fault of the plan.
+pub fn plan_of(alloc: Global, parts: &Parts) -> Result<Plan, PlanFault> {
+    match parts_of(alloc, parts) {
+        Ok(parts) => Plan::new(parts),
+        Err(_) => Err(PlanFault::OutOfMemory),
+    }
+}
+
+/// Whether a plan reads as these parts.
+pub fn reads(plan: &Plan, parts: &Parts) -> bool {
+    (plan.length(), plan.exit(), plan.width()) == parts.road
+        && plan.zones() == parts.zones
+        && plan.inlets() == parts.inlets
+        && plan.detectors() == parts.detectors
+        && plan.words() == parts.words
+}
+
+/// A car.
+pub fn car(number: u64, cell: u32, speed: u8) -> Car
+    ensures { result ≡ record { number = number; cell = cell; speed = speed } }
+{
+    Car {
+        number,
+        cell,
+        speed,
+    }
+}

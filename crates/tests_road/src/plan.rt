@@ -1,0 +1,568 @@
+//! Plans worked out by hand: which are refused and by which fault, what a plan reads, and its own settings.
+
+use road_plan::{Object, Plan, PlanFault as Fault, Settings, WordKind};
+use std::alloc::{AllocError, Global};
+use std::process::Abort;
+use std::test::Fail;
+use tests_plans::{FREE, Parts, parts_of, plan_of, reads};
+
+/// Parts, and the fault that they are refused by, none where they are accepted.
+type Judged = (Parts, Option<Fault>);
+
+/// Lengths of the road, of its deleted zone and of its zones.
+const LENGTHS: &[Judged] = &[
+    (
+        Parts {
+            road: (12, 1, 12),
+            ..FREE
+        },
+        None,
+    ),
+    (
+        Parts {
+            road: (8, 1, 12),
+            ..FREE
+        },
+        None,
+    ),
+    (
+        Parts {
+            road: (7, 1, 12),
+            ..FREE
+        },
+        Some(Fault::Length),
+    ),
+    (
+        Parts {
+            road: (0, 1, 12),
+            ..FREE
+        },
+        Some(Fault::Length),
+    ),
+    (
+        Parts {
+            road: (8_192, 1, 8_193),
+            ..FREE
+        },
+        None,
+    ),
+    (
+        Parts {
+            road: (8_193, 1, 8_193),
+            ..FREE
+        },
+        Some(Fault::Length),
+    ),
+    (
+        Parts {
+            road: (4_294_967_295, 1, 12),
+            ..FREE
+        },
+        Some(Fault::Length),
+    ),
+    (
+        Parts {
+            road: (12, 3, 12),
+            ..FREE
+        },
+        None,
+    ),
+    (
+        Parts {
+            road: (12, 0, 12),
+            ..FREE
+        },
+        Some(Fault::Exit),
+    ),
+    (
+        Parts {
+            road: (12, 12, 12),
+            ..FREE
+        },
+        Some(Fault::Exit),
+    ),
+    (
+        Parts {
+            road: (100, 64, 100),
+            ..FREE
+        },
+        None,
+    ),
+    (
+        Parts {
+            road: (100, 65, 100),
+            ..FREE
+        },
+        Some(Fault::Exit),
+    ),
+    (
+        Parts {
+            road: (12, 4_294_967_295, 12),
+            ..FREE
+        },
+        Some(Fault::Exit),
+    ),
+    // the last zone may have one cell, or be wider than the road
+    (
+        Parts {
+            road: (12, 1, 11),
+            ..FREE
+        },
+        Some(Fault::Zones),
+    ),
+    (
+        Parts {
+            road: (12, 1, 11),
+            zones: &[(2, 0); 2],
+            ..FREE
+        },
+        None,
+    ),
+    (
+        Parts {
+            road: (12, 1, 6),
+            zones: &[(2, 0); 2],
+            ..FREE
+        },
+        None,
+    ),
+    (
+        Parts {
+            road: (12, 1, 6),
+            zones: &[(2, 0); 3],
+            ..FREE
+        },
+        Some(Fault::Zones),
+    ),
+    (
+        Parts {
+            road: (12, 1, 12),
+            zones: &[],
+            ..FREE
+        },
+        Some(Fault::Zones),
+    ),
+    (
+        Parts {
+            road: (12, 1, 0),
+            ..FREE
+        },
+        Some(Fault::Zones),
+    ),
+    (
+        Parts {
+            road: (12, 1, 4_294_967_295),
+            ..FREE
+        },
+        None,
+    ),
+    (
+        Parts {
+            road: (64, 1, 1),
+            zones: &[(2, 0); 64],
+            ..FREE
+        },
+        None,
+    ),
+    (
+        Parts {
+            road: (65, 1, 1),
+            zones: &[(2, 0); 65],
+            ..FREE
+        },
+        Some(Fault::Zones),
+    ),
+    (
+        Parts {
+            road: (8_192, 64, 128),
+            zones: &[(2, 0); 64],
+            ..FREE
+        },
+        None,
+    ),
+];
+
+/// Sixteen inlets at different cells.
+const INLETS: &[(u32, u32)] = &[
+    (0, 0),
+    (1, 0),
+    (2, 0),
+    (3, 0),
+    (4, 0),
+    (5, 0),
+    (6, 0),
+    (7, 0),
+    (8, 0),
+    (9, 0),
+    (10, 0),
+    (11, 0),
+    (12, 0),
+    (13, 0),
+    (14, 0),
+    (15, 0),
+];
+
+/// Inlets, detectors, limits and chances.
+const LISTS: &[Judged] = &[
+    (
+        Parts {
+            inlets: &[(10, 0)],
+            ..FREE
+        },
+        None,
+    ),
+    (
+        Parts {
+            inlets: &[(11, 0)],
+            ..FREE
+        },
+        Some(Fault::Inlets),
+    ),
+    (
+        Parts {
+            inlets: &[(4_294_967_295, 0)],
+            ..FREE
+        },
+        Some(Fault::Inlets),
+    ),
+    (
+        Parts {
+            inlets: &[],
+            ..FREE
+        },
+        Some(Fault::Inlets),
+    ),
+    (
+        Parts {
+            inlets: &[(3, 0), (0, 0)],
+            ..FREE
+        },
+        None,
+    ),
+    (
+        Parts {
+            inlets: &[(3, 1), (3, 0)],
+            ..FREE
+        },
+        Some(Fault::Inlets),
+    ),
+    (
+        Parts {
+            inlets: &[(0, 0), (1, 0), (2, 0), (1, 0)],
+            ..FREE
+        },
+        Some(Fault::Inlets),
+    ),
+    (
+        Parts {
+            road: (32, 1, 32),
+            inlets: INLETS,
+            ..FREE
+        },
+        None,
+    ),
+    (
+        Parts {
+            road: (32, 1, 32),
+            inlets: &[(0, 0); 17],
+            ..FREE
+        },
+        Some(Fault::Inlets),
+    ),
+    (
+        Parts {
+            detectors: &[],
+            ..FREE
+        },
+        None,
+    ),
+    (
+        Parts {
+            detectors: &[10, 1, 1, 10],
+            ..FREE
+        },
+        None,
+    ),
+    (
+        Parts {
+            detectors: &[0],
+            ..FREE
+        },
+        Some(Fault::Detectors),
+    ),
+    (
+        Parts {
+            detectors: &[5, 11],
+            ..FREE
+        },
+        Some(Fault::Detectors),
+    ),
+    (
+        Parts {
+            detectors: &[5; 64],
+            ..FREE
+        },
+        None,
+    ),
+    (
+        Parts {
+            detectors: &[5; 65],
+            ..FREE
+        },
+        Some(Fault::Detectors),
+    ),
+    (
+        Parts {
+            zones: &[(9, 65_536)],
+            ..FREE
+        },
+        None,
+    ),
+    (
+        Parts {
+            zones: &[(0, 0)],
+            ..FREE
+        },
+        None,
+    ),
+    (
+        Parts {
+            zones: &[(10, 0)],
+            ..FREE
+        },
+        Some(Fault::Default),
+    ),
+    (
+        Parts {
+            zones: &[(2, 65_537)],
+            ..FREE
+        },
+        Some(Fault::Default),
+    ),
+    (
+        Parts {
+            inlets: &[(0, 65_537)],
+            ..FREE
+        },
+        Some(Fault::Default),
+    ),
+];
+
+/// Of two faults the earlier is named: each row goes wrong at one place later than the row before.
+const FAULTS: &[Judged] = &[
+    (
+        Parts {
+            road: (7, 12, 0),
+            zones: &[(10, 0)],
+            inlets: &[(11, 0)],
+            detectors: &[0],
+            ..FREE
+        },
+        Some(Fault::Length),
+    ),
+    (
+        Parts {
+            road: (12, 12, 0),
+            zones: &[(10, 0)],
+            inlets: &[(11, 0)],
+            detectors: &[0],
+            ..FREE
+        },
+        Some(Fault::Exit),
+    ),
+    (
+        Parts {
+            road: (12, 1, 0),
+            zones: &[(10, 0)],
+            inlets: &[(11, 0)],
+            detectors: &[0],
+            ..FREE
+        },
+        Some(Fault::Zones),
+    ),
+    (
+        Parts {
+            road: (12, 1, 12),
+            zones: &[(10, 0)],
+            inlets: &[(11, 0)],
+            detectors: &[0],
+            ..FREE
+        },
+        Some(Fault::Inlets),
+    ),
+    (
+        Parts {
+            road: (12, 1, 12),
+            zones: &[(10, 0)],
+            inlets: &[(0, 0)],
+            detectors: &[0],
+            ..FREE
+        },
+        Some(Fault::Detectors),
+    ),
+    (
+        Parts {
+            road: (12, 1, 12),
+            zones: &[(10, 0)],
+            inlets: &[(0, 0)],
+            detectors: &[5],
+            ..FREE
+        },
+        Some(Fault::Default),
+    ),
+];
+
+// Each of these parts is refused by its fault, or accepted.
+fn are_judged(rt: &impl Abort, alloc: Global, table: &[Judged]) -> Result<(), AllocError> {
+    for (parts, fault) in table {
+        let judged = Plan::new(parts_of(alloc, parts)?).err();
+        assert_eq!(rt; judged, *fault, "{parts:?}");
+    }
+    Ok(())
+}
+
+#[test]
+fn names_the_first_fault(rt: HostRuntime) -> Result<(), Fail> {
+    are_judged(&rt, rt.alloc(), LENGTHS)?;
+    are_judged(&rt, rt.alloc(), LISTS)?;
+    are_judged(&rt, rt.alloc(), FAULTS)?;
+    Ok(())
+}
+
+/// The most of everything.
+const GREATEST: Parts = Parts {
+    road: (8_192, 64, 128),
+    zones: &[(9, 65_536); 64],
+    inlets: &[(8_127, 65_536)],
+    detectors: &[8_127; 64],
+    words: WordKind::Steady,
+};
+
+/// Plans that are read.
+const READ: &[Parts] = &[FREE, GREATEST];
+
+#[test]
+fn reads_the_parts(rt: HostRuntime) -> Result<(), Fail> {
+    for parts in READ {
+        let plan = plan_of(rt.alloc(), parts)?;
+        plan.known();
+        assert!(rt; reads(&plan, parts), "{parts:?}");
+    }
+    Ok(())
+}
+
+/// Two zones, an inlet, and two detectors.
+const TWO_ZONES: Parts = Parts {
+    road: (12, 1, 6),
+    zones: &[(2, 10), (1, 20)],
+    inlets: &[(3, 30)],
+    detectors: &[5, 6],
+    words: WordKind::Seeded(7),
+};
+
+/// Limits, chances, inflows, blocks, and how many detectors are on.
+type Numbers = (
+    &'static [u32],
+    &'static [u32],
+    &'static [u32],
+    &'static [u32],
+    usize,
+);
+
+/// The own settings of the plan of two zones.
+const OWN: Numbers = (&[2, 1], &[10, 20], &[30], &[], 2);
+
+/// Settings, and whether they fit the plan of two zones.
+const FITTING: &[(Numbers, bool)] = &[
+    (OWN, true),
+    ((&[9, 0], &[65_536, 0], &[65_536], &[0, 5, 11], 2), true),
+    ((&[2], &[10, 20], &[30], &[], 2), false),
+    ((&[2, 1], &[10, 20, 0], &[30], &[], 2), false),
+    ((&[2, 1], &[10, 20], &[], &[], 2), false),
+    ((&[2, 1], &[10, 20], &[30], &[], 1), false),
+    ((&[2, 10], &[10, 20], &[30], &[], 2), false),
+    ((&[2, 1], &[65_537, 20], &[30], &[], 2), false),
+    ((&[2, 1], &[10, 20], &[65_537], &[], 2), false),
+    ((&[2, 1], &[10, 20], &[30], &[12], 2), false),
+    ((&[2, 1], &[10, 20], &[30], &[5, 3], 2), false),
+    ((&[2, 1], &[10, 20], &[30], &[3, 3], 2), false),
+    ((&[2, 1], &[10, 20], &[30], &[3, 4], 2), true),
+];
+
+// Whether settings have these numbers, and all detectors are on.
+fn have(settings: &Settings, (limits, chances, inflows, blocks, watched): &Numbers) -> bool {
+    settings.limits() == *limits
+        && settings.chances() == *chances
+        && settings.inflows() == *inflows
+        && settings.blocks() == *blocks
+        && settings.watched().len() == *watched
+        && settings.watched().iter().all(|on| *on)
+}
+
+fn settings_of(
+    alloc: Global,
+    (limits, chances, inflows, blocks, watched): &Numbers,
+) -> Result<Settings, AllocError> {
+    Ok(Settings {
+        limits: limits.to_vec(alloc)?,
+        chances: chances.to_vec(alloc)?,
+        inflows: inflows.to_vec(alloc)?,
+        blocks: blocks.to_vec(alloc)?,
+        watched: vec![in alloc; true; *watched]?,
+    })
+}
+
+#[test]
+fn knows_the_settings_that_fit(rt: HostRuntime) -> Result<(), Fail> {
+    let plan = plan_of(rt.alloc(), &TWO_ZONES)?;
+    let own = Settings::of_plan(rt.alloc(), &plan)?;
+    assert!(rt; have(&own, &OWN));
+    for (numbers, fits) in FITTING {
+        let settings = settings_of(rt.alloc(), numbers)?;
+        assert_eq!(rt; settings.fits(&plan), *fits, "{numbers:?}");
+    }
+    Ok(())
+}
+
+/// Objects in their order, each with its own number in the free road's plan, where it is there, and the greatest that it
+/// allows.
+const OBJECTS: &[(Object, Option<u32>, u32)] = &[
+    (Object::Limit(0), Some(2), 9),
+    (Object::Limit(1), None, 9),
+    (Object::Slow(0), Some(0), 65_536),
+    (Object::Slow(4_294_967_295), None, 65_536),
+    (Object::Block(0), Some(0), 1),
+    (Object::Block(11), Some(0), 1),
+    (Object::Block(12), None, 1),
+    (Object::Inflow(0), Some(65_536), 65_536),
+    (Object::Inflow(1), None, 65_536),
+    (Object::Watch(0), Some(1), 1),
+    (Object::Watch(1), None, 1),
+];
+
+// The own number of an object, where it is in the plan.
+fn own_number(plan: &Plan, object: Object) -> Option<u32> {
+    if object.in_plan(plan) {
+        Some(object.default(plan))
+    } else {
+        None
+    }
+}
+
+#[test]
+fn knows_the_objects_of_a_plan(rt: HostRuntime) -> Result<(), Fail> {
+    let plan = plan_of(rt.alloc(), &FREE)?;
+    let mut last = None;
+    for (object, own, greatest) in OBJECTS {
+        assert_eq!(rt; own_number(&plan, *object), *own, "{object:?}");
+        assert!(rt;
+            object.allows(0)
+                && object.allows(*greatest)
+                && !object.allows(greatest.saturating_add(1)),
+            "{object:?}"
+        );
+        assert!(rt; last < Some(*object), "{object:?}");
+        last = Some(*object);
+    }
+    Ok(())
+}

@@ -1,0 +1,140 @@
+//! The rules on single cars and on small roads, worked out by hand.
+
+ghost use Rattle.std.specs.Prelude.{◌≤◌, length};
+ghost use Rattle.road_cells.specs.Cars.{AreRising, array_of};
+ghost use Rattle.road_rules.specs.Motion.{MayMove};
+
+use road_cells::{Car, Road};
+use road_rules::{moved, slowed, two_rules, wanted};
+use std::alloc::Global;
+use std::process::Abort;
+use std::test::Fail;
+use tests_plans::car;
+
+/// Speed, limit, gap, and the speed wanted.
+const WANTED: &[(u8, u32, u8, u8)] = &[
+    (0, 5, 9, 1),
+    (1, 5, 9, 2),
+    (4, 5, 9, 5),
+    (5, 5, 9, 5),
+    (5, 2, 9, 2),
+    (9, 0, 9, 0),
+    (3, 5, 3, 3),
+    (3, 5, 1, 1),
+    (3, 5, 0, 0),
+    (8, 9, 9, 9),
+    (9, 9, 9, 9),
+    (9, 9, 8, 8),
+    (255, 4_294_967_295, 255, 255),
+];
+
+#[test]
+fn wants_the_least_of_three(rt: HostRuntime) {
+    for (speed, limit, gap, want) in WANTED {
+        assert_eq!(rt;
+            wanted(*speed, *limit, *gap),
+            *want,
+            "speed {speed}, limit {limit}, gap {gap}"
+        );
+    }
+}
+
+/// Speed, greatest speed, distance to the next vehicle, and the speed after both rules.
+const TWO_RULES: &[(u8, u8, u32, u8)] = &[
+    (2, 5, 4, 3),
+    (2, 5, 3, 2),
+    (3, 5, 3, 2),
+    (3, 5, 2, 1),
+    (3, 5, 1, 0),
+    (4, 5, 6, 5),
+    (5, 5, 10, 5),
+    // A speed above the greatest stays.
+    (5, 3, 10, 5),
+];
+
+#[test]
+fn keeps_the_rules_of_1992(rt: HostRuntime) {
+    for (speed, vmax, distance, want) in TWO_RULES {
+        assert!(rt; *distance > 0);
+        assert_eq!(rt;
+            two_rules(*speed, *vmax, *distance),
+            *want,
+            "speed {speed}, vmax {vmax}, distance {distance}"
+        );
+    }
+}
+
+/// The least word whose upper bits are 30,011, and the greatest one.
+const LEAST: u32 = 1_966_800_896;
+
+const GREATEST: u32 = 1_966_866_431;
+
+/// Speed, word, chance, and the speed after rule 3.
+const SLOWED: &[(u8, u32, u32, u8)] = &[
+    (3, LEAST, 30_011, 3),
+    (3, GREATEST, 30_011, 3),
+    (3, LEAST, 30_012, 2),
+    (3, GREATEST, 30_012, 2),
+    (1, LEAST, 30_012, 0),
+    (0, LEAST, 30_012, 0),
+    (3, 0, 0, 3),
+    (3, 65_535, 1, 2),
+    (3, 4_294_967_295, 65_535, 3),
+    (3, 4_294_967_295, 65_536, 2),
+];
+
+#[test]
+fn slows_below_the_chance(rt: HostRuntime) {
+    for (speed, word, chance, want) in SLOWED {
+        assert_eq!(rt;
+            slowed(*speed, *word, *chance),
+            *want,
+            "speed {speed}, word {word}, chance {chance}"
+        );
+    }
+}
+
+// Motion takes cars at these speeds to later places.
+fn moves(
+    rt: &impl Abort,
+    alloc: Global,
+    cars: &[Car],
+    speeds: &[u8],
+    later: &[Car],
+) -> Result<(), Fail>
+    requires rise { AreRising cars.now }
+    requires low { length (array_of cars.now) ≤ 65536 }
+    requires may { MayMove (array_of cars.now) speeds.now }
+{
+    let road = Road::of(cars.to_vec(alloc)?);
+    let result = moved(alloc, &road, speeds);
+    assert!(rt; road.cars() == cars, "moved or refused");
+    let next = result?;
+    assert!(rt; next.cars() == later, "{speeds:?}");
+    Ok(())
+}
+
+/// The first four motions of a road with limit 2, where a car enters at cell 0 whenever it is empty.
+#[test]
+fn moves_each_car_by_its_speed(rt: HostRuntime) -> Result<(), Fail> {
+    let alloc = rt.alloc();
+    let one = [car(0, 0, 0)];
+    moves(&rt, alloc, &one, &[1], &[car(0, 1, 1)])?;
+    let two = [car(16, 0, 0), car(0, 1, 1)];
+    moves(&rt, alloc, &two, &[0, 2], &[car(16, 0, 0), car(0, 3, 2)])?;
+    let two = [car(16, 0, 0), car(0, 3, 2)];
+    moves(&rt, alloc, &two, &[1, 2], &[car(16, 1, 1), car(0, 5, 2)])?;
+    let three = [car(48, 0, 0), car(16, 1, 1), car(0, 5, 2)];
+    let later = [car(48, 0, 0), car(16, 3, 2), car(0, 7, 2)];
+    moves(&rt, alloc, &three, &[0, 2, 2], &later)
+}
+
+/// Nothing is lost at the greatest speed, nor behind a car that stays, nor on an empty road.
+#[test]
+fn moves_a_fast_car(rt: HostRuntime) -> Result<(), Fail> {
+    let alloc = rt.alloc();
+    let two = [car(2, 3, 4), car(1, 8, 9)];
+    moves(&rt, alloc, &two, &[4, 9], &[car(2, 7, 4), car(1, 17, 9)])?;
+    moves(&rt, alloc, &two, &[4, 0], &[car(2, 7, 4), car(1, 8, 0)])?;
+    moves(&rt, alloc, &[], &[], &[])
+}

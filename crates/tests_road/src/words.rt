@@ -1,0 +1,75 @@
+//! Words worked out by hand, published, or computed by another program.
+
+mod chacha_words;
+
+use chacha_words::{CHACHA_WORDS, ZERO_KEY};
+use road_plan::WordKind;
+use road_words::{ChaChaWords, PlanWords, SteadyWords, Words};
+use std::test::Fail;
+use tests_plans::{FREE, Parts, plan_of};
+
+/// The word that any source of words gives.
+fn word_of<W: Words>(words: &W, stream: u64, place: u64) -> u32 {
+    words.word(stream, place)
+}
+
+/// Stream, place, upper 16 bits, and the steady word.
+const STEADY_WORDS: &[(u64, u64, u32, u32)] = &[
+    (0, 0, 0, 0),
+    (1, 0, 40_503, 2_654_404_608),
+    (48, 5, 62_583, 4_101_439_488),
+    (9_223_372_036_854_775_811, 1, 20_448, 1_340_080_128),
+];
+
+#[test]
+fn steady_words_follow_the_line(rt: HostRuntime) {
+    for (stream, place, upper, want) in STEADY_WORDS {
+        let word = word_of(&SteadyWords, *stream, *place);
+        assert_eq!(rt; word, *want, "stream {stream}, place {place}");
+        assert_eq!(rt; word >> 16, *upper, "stream {stream}, place {place}");
+    }
+}
+
+#[test]
+fn seed_zero_gives_the_published_keystream(rt: HostRuntime) {
+    let words = ChaChaWords::new(0);
+    for (place, printed) in (0u64..).zip(ZERO_KEY) {
+        // a word is made of its four bytes with the last one first
+        assert_eq!(rt;
+            word_of(&words, 0, place),
+            printed.swap_bytes(),
+            "place {place}"
+        );
+    }
+}
+
+#[test]
+fn seeded_words_are_those_of_another_program(rt: HostRuntime) {
+    for (seed, stream, place, want) in CHACHA_WORDS {
+        let word = word_of(&ChaChaWords::new(*seed), *stream, *place);
+        assert_eq!(rt; word, *want, "seed {seed}, stream {stream}, place {place}");
+    }
+}
+
+/// The words that a plan names, and the word at place 1 of stream 16.
+const NAMED_WORDS: &[(WordKind, u32)] = &[
+    (WordKind::Seeded(7), 2_155_941_584),
+    (WordKind::Seeded(1_992), 1_000_473_906),
+    // 16 * 40,503 + 30,011 is 678,059, and 22,699 modulo 65,536: times 65,536
+    (WordKind::Steady, 1_487_601_664),
+];
+
+#[test]
+fn a_plan_names_its_words(rt: HostRuntime) -> Result<(), Fail> {
+    for (words, want) in NAMED_WORDS {
+        let plan = plan_of(
+            rt.alloc(),
+            &Parts {
+                words: *words,
+                ..FREE
+            },
+        )?;
+        assert_eq!(rt; word_of(&PlanWords::of(&plan), 16, 1), *want, "{words:?}");
+    }
+    Ok(())
+}

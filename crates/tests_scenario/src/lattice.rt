@@ -1,0 +1,120 @@
+//! Merges worked out by hand, of values of generic types.
+
+use lattice_core::OutOfMemory;
+use lattice_core::both::Both;
+use lattice_core::greatest::Greatest;
+use lattice_core::lattice::Lattice;
+use lattice_core::map::LatMap;
+use std::alloc::Global;
+use std::process::Abort;
+use std::test::Fail;
+
+/// A register holds the value put by the latest stamp.
+type Register = Greatest<(u32, u32)>;
+
+/// A step, and what is put there.
+type Entry = (u32, Register);
+
+/// For each step a register, and a horizon: what a replica holds.
+type Replica = Both<LatMap<u32, Register>, Greatest<u32>>;
+
+const TWO: Register = Greatest::Of((7, 2));
+
+const THREE: Register = Greatest::Of((7, 3));
+
+const EARLIER: Register = Greatest::Of((6, 9));
+
+/// Two registers, and what they join to: of two puts with one stamp the greater value wins.
+const REGISTERS: &[(Register, Register, Register)] = &[
+    (TWO, THREE, THREE),
+    (THREE, TWO, THREE),
+    (EARLIER, TWO, TWO),
+    (TWO, EARLIER, TWO),
+    (Greatest::Nothing, TWO, TWO),
+    (TWO, Greatest::Nothing, TWO),
+];
+
+// Whether two values join to a third one.
+fn joins_to<L: Lattice>(first: &L, second: &L, both: &L) -> Result<bool, OutOfMemory> {
+    let joined = first.joined(second)?.copied()?;
+    Ok(joined.at_most(both) && both.at_most(&joined) && first.at_most(both) && !both.is_bottom())
+}
+
+#[test]
+fn equal_stamps_go_by_value(rt: HostRuntime) -> Result<(), Fail> {
+    for (first, second, both) in REGISTERS {
+        assert!(rt; joins_to(first, second, both)?, "{first:?} {second:?}");
+    }
+    Ok(())
+}
+
+/// What two replicas hold, and what they hold once they are merged, by rising step.
+const MERGES: &[(&[Entry], &[Entry], &[Entry])] = &[
+    (&[], &[], &[]),
+    (&[], &[(5, TWO)], &[(5, TWO)]),
+    (&[(0, THREE), (0, TWO)], &[], &[(0, THREE)]),
+    // keys of one side alone
+    (
+        &[(5, TWO), (9, THREE)],
+        &[(5, THREE), (3, TWO)],
+        &[(3, TWO), (5, THREE), (9, THREE)],
+    ),
+    // no bottom is held
+    (&[(4, Greatest::Nothing)], &[(8, TWO)], &[(8, TWO)]),
+];
+
+// The map of these puts, in this order.
+fn map_of(alloc: Global, puts: &[Entry]) -> Result<LatMap<u32, Register>, OutOfMemory> {
+    let mut map = LatMap::empty(alloc);
+    for (step, register) in puts {
+        map = map.with(*step, register)?;
+    }
+    Ok(map)
+}
+
+// Whether a map has these entries and no other, by rising keys, each found by its key too.
+fn holds(
+    alloc: Global,
+    map: &LatMap<u32, Register>,
+    entries: &[Entry],
+) -> Result<bool, OutOfMemory> {
+    let mut all = Vec::new(alloc);
+    for (step, register) in map.iter() {
+        if map.get(*step) == Some(register) {
+            all.push((*step, *register))?;
+        }
+    }
+    Ok(all.as_slice() == entries && map.keys().count() == entries.len())
+}
+
+#[test]
+fn maps_join_key_by_key(rt: HostRuntime) -> Result<(), Fail> {
+    for (ours, theirs, entries) in MERGES {
+        let a = map_of(rt.alloc(), ours)?;
+        let b = map_of(rt.alloc(), theirs)?;
+        let both = a.joined(&b)?;
+        assert!(rt; holds(rt.alloc(), &both, entries)?, "{ours:?} {theirs:?}");
+    }
+    Ok(())
+}
+
+// A replica that holds these puts, advanced to a horizon.
+fn replica(alloc: Global, puts: &[Entry], horizon: Greatest<u32>) -> Result<Replica, OutOfMemory> {
+    Ok(Both {
+        first: map_of(alloc, puts)?,
+        second: horizon,
+    })
+}
+
+#[test]
+fn replicas_merge(rt: HostRuntime) -> Result<(), Fail> {
+    let none = replica(rt.alloc(), &[], Greatest::Nothing)?;
+    assert!(rt; none.is_bottom());
+    for (ours, theirs, entries) in MERGES {
+        let a = replica(rt.alloc(), ours, Greatest::Of(6))?;
+        let b = replica(rt.alloc(), theirs, Greatest::Nothing)?;
+        let both = replica(rt.alloc(), entries, Greatest::Of(6))?;
+        assert!(rt; joins_to(&a, &b, &both)?, "{ours:?} {theirs:?}");
+    }
+    Ok(())
+}

@@ -1,0 +1,7 @@
+//! Tests of joins and of scenarios.
+#![tactic(auto)]
+
+#[cfg(test)]
+mod lattice;
+#[cfg(test)]
+mod scenario;

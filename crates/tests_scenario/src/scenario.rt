@@ -1,0 +1,751 @@
+//! Scenarios worked out by hand, and beside the plain program.
+
+use lattice_core::lattice::Lattice;
+use road_plan::{Object, Plan, Settings};
+use road_scenario::{Edit, EditFault, OutOfMemory, Scenario, Stamp, Value};
+use std::alloc::Global;
+use std::process::Abort;
+use std::test::Fail;
+use tests_plans::{FREE, plan_of};
+
+mod plain;
+
+const LIMIT: Object = Object::Limit(0);
+
+const SLOW: Object = Object::Slow(0);
+
+const BLOCK: Object = Object::Block(8);
+
+/// The scenario that these edits make, in this order.
+fn scenario(alloc: Global, edits: &[Edit]) -> Result<Scenario, OutOfMemory> {
+    let mut scenario = Scenario::empty(alloc);
+    for edit in edits {
+        scenario = scenario.with_edit(edit)?;
+    }
+    Ok(scenario)
+}
+
+/// Edits come to a replica that holds others: what is listed then, the touched step, and the greatest count.
+#[derive(Clone, Copy, Debug)]
+struct Merge {
+    held: &'static [Edit],
+    come: &'static [Edit],
+    listed: &'static [Edit],
+    touched: Option<u32>,
+    count: u64,
+}
+
+/// Two imports with one stamp: the greater number wins at both replicas, whichever came first.
+const TWO: Edit = Edit {
+    object: LIMIT,
+    step: 0,
+    stamp: Stamp {
+        count: 7,
+        number: 64,
+    },
+    value: Value::Put(2),
+};
+
+const THREE: Edit = Edit {
+    object: LIMIT,
+    step: 0,
+    stamp: Stamp {
+        count: 7,
+        number: 64,
+    },
+    value: Value::Put(3),
+};
+
+/// An edit, and one on top of it.
+const ONE: Edit = Edit {
+    object: LIMIT,
+    step: 3,
+    stamp: Stamp {
+        count: 1,
+        number: 0,
+    },
+    value: Value::Put(1),
+};
+
+const NEXT: Edit = Edit {
+    object: LIMIT,
+    step: 3,
+    stamp: Stamp {
+        count: 2,
+        number: 1,
+    },
+    value: Value::Put(2),
+};
+
+/// A withdrawal stays, so that the edit it withdrew is not taken again.
+const BLOCKED: Edit = Edit {
+    object: BLOCK,
+    step: 4,
+    stamp: Stamp {
+        count: 1,
+        number: 0,
+    },
+    value: Value::Put(1),
+};
+
+const FREED: Edit = Edit {
+    object: BLOCK,
+    step: 4,
+    stamp: Stamp {
+        count: 2,
+        number: 0,
+    },
+    value: Value::Withdrawn,
+};
+
+/// Withdrawals where nothing was put.
+const NO_LIMIT: Edit = Edit {
+    object: LIMIT,
+    step: 3,
+    stamp: Stamp {
+        count: 2,
+        number: 0,
+    },
+    value: Value::Withdrawn,
+};
+
+const NO_SLOW: Edit = Edit {
+    object: SLOW,
+    step: 0,
+    stamp: Stamp {
+        count: 3,
+        number: 0,
+    },
+    value: Value::Withdrawn,
+};
+
+/// Edits at steps 3 and 5.
+const EARLY: Edit = Edit {
+    object: LIMIT,
+    step: 3,
+    stamp: Stamp {
+        count: 3,
+        number: 1,
+    },
+    value: Value::Put(0),
+};
+
+const LATE: Edit = Edit {
+    object: LIMIT,
+    step: 5,
+    stamp: Stamp {
+        count: 3,
+        number: 0,
+    },
+    value: Value::Put(0),
+};
+
+const MERGES: &[Merge] = &[
+    Merge {
+        held: &[],
+        come: &[],
+        listed: &[],
+        touched: None,
+        count: 0,
+    },
+    Merge {
+        held: &[],
+        come: &[TWO],
+        listed: &[TWO],
+        touched: Some(0),
+        count: 7,
+    },
+    Merge {
+        held: &[TWO],
+        come: &[THREE],
+        listed: &[THREE],
+        touched: Some(0),
+        count: 7,
+    },
+    Merge {
+        held: &[],
+        come: &[THREE],
+        listed: &[THREE],
+        touched: Some(0),
+        count: 7,
+    },
+    Merge {
+        held: &[THREE],
+        come: &[TWO],
+        listed: &[THREE],
+        touched: None,
+        count: 7,
+    },
+    Merge {
+        held: &[],
+        come: &[ONE],
+        listed: &[ONE],
+        touched: Some(3),
+        count: 1,
+    },
+    Merge {
+        held: &[ONE],
+        come: &[NEXT],
+        listed: &[NEXT],
+        touched: Some(3),
+        count: 2,
+    },
+    Merge {
+        held: &[],
+        come: &[ONE, NEXT],
+        listed: &[NEXT],
+        touched: Some(3),
+        count: 2,
+    },
+    Merge {
+        held: &[ONE, NEXT],
+        come: &[ONE],
+        listed: &[NEXT],
+        touched: None,
+        count: 2,
+    },
+    Merge {
+        held: &[BLOCKED],
+        come: &[FREED],
+        listed: &[FREED],
+        touched: Some(4),
+        count: 2,
+    },
+    Merge {
+        held: &[BLOCKED, FREED],
+        come: &[BLOCKED],
+        listed: &[FREED],
+        touched: None,
+        count: 2,
+    },
+    Merge {
+        held: &[NO_LIMIT],
+        come: &[NO_SLOW],
+        listed: &[NO_LIMIT, NO_SLOW],
+        touched: None,
+        count: 3,
+    },
+    Merge {
+        held: &[],
+        come: &[NO_SLOW, FREED],
+        listed: &[NO_SLOW, FREED],
+        touched: None,
+        count: 3,
+    },
+    Merge {
+        held: &[BLOCKED, LATE],
+        come: &[ONE],
+        listed: &[ONE, LATE, BLOCKED],
+        touched: Some(3),
+        count: 3,
+    },
+    Merge {
+        held: &[BLOCKED, LATE, ONE],
+        come: &[NO_SLOW, EARLY],
+        listed: &[EARLY, LATE, NO_SLOW, BLOCKED],
+        touched: Some(3),
+        count: 3,
+    },
+    Merge {
+        held: &[NO_SLOW, EARLY],
+        come: &[BLOCKED, LATE, ONE],
+        listed: &[EARLY, LATE, NO_SLOW, BLOCKED],
+        touched: Some(4),
+        count: 3,
+    },
+];
+
+// The edits of a row come to a replica.
+fn comes(rt: &impl Abort, alloc: Global, merge: &Merge) -> Result<(), OutOfMemory> {
+    let before = scenario(alloc, merge.held)?;
+    let other = scenario(alloc, merge.come)?;
+    let after = before.joined(&other)?;
+    let listed = after.copied()?.edits(alloc)?;
+    assert!(rt;
+        listed.as_slice() == merge.listed && before.at_most(&after) && other.at_most(&after),
+        "{merge:?}"
+    );
+    assert!(rt;
+        before.touched(&after) == merge.touched && after.greatest_count() == merge.count,
+        "{merge:?}"
+    );
+    Ok(())
+}
+
+#[test]
+fn edits_come_to_a_replica(rt: HostRuntime) -> Result<(), Fail> {
+    for merge in MERGES {
+        comes(&rt, rt.alloc(), merge)?;
+    }
+    Ok(())
+}
+
+/// Edits, and the limit of the first zone at the steps 2, 4, 5 and 65,535: where a later put is withdrawn, the earlier one
+/// is in force on.
+const LIMITS: &[(&[Edit], [u32; 4])] = &[
+    (&[], [2, 2, 2, 2]),
+    (&[ONE], [2, 1, 1, 1]),
+    (
+        &[
+            ONE,
+            Edit {
+                object: LIMIT,
+                step: 5,
+                stamp: Stamp {
+                    count: 2,
+                    number: 0,
+                },
+                value: Value::Put(0),
+            },
+        ],
+        [2, 1, 0, 0],
+    ),
+    (
+        &[
+            ONE,
+            Edit {
+                object: LIMIT,
+                step: 5,
+                stamp: Stamp {
+                    count: 2,
+                    number: 0,
+                },
+                value: Value::Put(0),
+            },
+            Edit {
+                object: LIMIT,
+                step: 5,
+                stamp: Stamp {
+                    count: 3,
+                    number: 0,
+                },
+                value: Value::Withdrawn,
+            },
+        ],
+        [2, 1, 1, 1],
+    ),
+];
+
+// The limit of the first zone at a step.
+fn limit_at(rt: &impl Abort, scenario: &Scenario, plan: &Plan, step: u32) -> u32 {
+    assert!(rt; LIMIT.in_plan(plan));
+    scenario.setting(plan, LIMIT, step)
+}
+
+#[test]
+fn an_earlier_put_acts_on(rt: HostRuntime) -> Result<(), Fail> {
+    let plan = plan_of(rt.alloc(), &FREE)?;
+    for (edits, limits) in LIMITS {
+        let made = scenario(rt.alloc(), edits)?;
+        for (step, limit) in [2, 4, 5, 65_535].iter().zip(limits) {
+            let is = limit_at(&rt, &made, &plan, *step);
+            assert_eq!(rt; is, *limit, "step {step}, {edits:?}");
+        }
+    }
+    Ok(())
+}
+
+/// One edit of each kind from step 2 on, a block that is withdrawn, and another limit from step 3 on.
+const ALL_KINDS: &[Edit] = &[
+    Edit {
+        object: Object::Watch(0),
+        step: 2,
+        stamp: Stamp {
+            count: 1,
+            number: 0,
+        },
+        value: Value::Put(0),
+    },
+    Edit {
+        object: Object::Inflow(0),
+        step: 2,
+        stamp: Stamp {
+            count: 1,
+            number: 0,
+        },
+        value: Value::Put(9),
+    },
+    Edit {
+        object: Object::Block(8),
+        step: 2,
+        stamp: Stamp {
+            count: 1,
+            number: 0,
+        },
+        value: Value::Put(1),
+    },
+    Edit {
+        object: Object::Block(3),
+        step: 2,
+        stamp: Stamp {
+            count: 1,
+            number: 0,
+        },
+        value: Value::Put(1),
+    },
+    Edit {
+        object: Object::Block(5),
+        step: 2,
+        stamp: Stamp {
+            count: 2,
+            number: 0,
+        },
+        value: Value::Withdrawn,
+    },
+    Edit {
+        object: Object::Slow(0),
+        step: 2,
+        stamp: Stamp {
+            count: 1,
+            number: 0,
+        },
+        value: Value::Put(65_536),
+    },
+    Edit {
+        object: Object::Limit(0),
+        step: 2,
+        stamp: Stamp {
+            count: 1,
+            number: 0,
+        },
+        value: Value::Put(0),
+    },
+    Edit {
+        object: Object::Limit(0),
+        step: 3,
+        stamp: Stamp {
+            count: 1,
+            number: 0,
+        },
+        value: Value::Put(9),
+    },
+];
+
+/// Limits, slowing chances, inflows and blocked cells, and whether the detector is on.
+#[derive(Clone, Copy)]
+struct Numbers {
+    limits: &'static [u32],
+    chances: &'static [u32],
+    inflows: &'static [u32],
+    blocks: &'static [u32],
+    watched: &'static [bool],
+}
+
+/// Steps, and the settings of the free road that these edits give.
+const SETTINGS: &[(u32, Numbers)] = &[
+    (
+        1,
+        Numbers {
+            limits: &[2],
+            chances: &[0],
+            inflows: &[65_536],
+            blocks: &[],
+            watched: &[true],
+        },
+    ),
+    (
+        2,
+        Numbers {
+            limits: &[0],
+            chances: &[65_536],
+            inflows: &[9],
+            blocks: &[3, 8],
+            watched: &[false],
+        },
+    ),
+    (
+        65_536,
+        Numbers {
+            limits: &[9],
+            chances: &[65_536],
+            inflows: &[9],
+            blocks: &[3, 8],
+            watched: &[false],
+        },
+    ),
+];
+
+// Whether settings have these numbers.
+fn have(settings: &Settings, numbers: &Numbers) -> bool {
+    settings.limits() == numbers.limits
+        && settings.chances() == numbers.chances
+        && settings.inflows() == numbers.inflows
+        && settings.blocks() == numbers.blocks
+        && settings.watched() == numbers.watched
+}
+
+#[test]
+fn edits_of_all_kinds_act(rt: HostRuntime) -> Result<(), Fail> {
+    let plan = plan_of(rt.alloc(), &FREE)?;
+    let made = scenario(rt.alloc(), ALL_KINDS)?;
+    assert!(rt; made.fits(&plan).is_none());
+    for (step, numbers) in SETTINGS {
+        let settings = made.settings_at(rt.alloc(), &plan, *step)?;
+        assert!(rt;
+            have(&settings, numbers) && settings.fits(&plan),
+            "step {step}"
+        );
+    }
+    Ok(())
+}
+
+/// An edit, and how the plan of the free road refuses it. A count is 1 to 2^48.
+const FAULTS: &[(Edit, Option<EditFault>)] = &[
+    (
+        Edit {
+            object: Object::Limit(1),
+            step: 0,
+            stamp: Stamp {
+                count: 1,
+                number: 0,
+            },
+            value: Value::Put(1),
+        },
+        Some(EditFault::NoObject),
+    ),
+    (
+        Edit {
+            object: Object::Block(12),
+            step: 0,
+            stamp: Stamp {
+                count: 1,
+                number: 0,
+            },
+            value: Value::Put(1),
+        },
+        Some(EditFault::NoObject),
+    ),
+    (
+        Edit {
+            object: Object::Limit(1),
+            step: 65_536,
+            stamp: Stamp {
+                count: 0,
+                number: 0,
+            },
+            value: Value::Put(10),
+        },
+        Some(EditFault::NoObject),
+    ),
+    (
+        Edit {
+            object: LIMIT,
+            step: 65_536,
+            stamp: Stamp {
+                count: 1,
+                number: 0,
+            },
+            value: Value::Put(1),
+        },
+        Some(EditFault::Step),
+    ),
+    (
+        Edit {
+            object: LIMIT,
+            step: 65_535,
+            stamp: Stamp {
+                count: 1,
+                number: 0,
+            },
+            value: Value::Put(10),
+        },
+        Some(EditFault::ValueOutOfRange),
+    ),
+    (
+        Edit {
+            object: LIMIT,
+            step: 65_535,
+            stamp: Stamp {
+                count: 0,
+                number: 0,
+            },
+            value: Value::Put(10),
+        },
+        Some(EditFault::ValueOutOfRange),
+    ),
+    (
+        Edit {
+            object: LIMIT,
+            step: 0,
+            stamp: Stamp {
+                count: 0,
+                number: 64,
+            },
+            value: Value::Put(1),
+        },
+        Some(EditFault::Count),
+    ),
+    (
+        Edit {
+            object: LIMIT,
+            step: 0,
+            stamp: Stamp {
+                count: 281_474_976_710_657,
+                number: 64,
+            },
+            value: Value::Put(1),
+        },
+        Some(EditFault::Count),
+    ),
+    (
+        Edit {
+            object: LIMIT,
+            step: 0,
+            stamp: Stamp {
+                count: 0,
+                number: 64,
+            },
+            value: Value::Withdrawn,
+        },
+        Some(EditFault::Count),
+    ),
+    (
+        Edit {
+            object: LIMIT,
+            step: 0,
+            stamp: Stamp {
+                count: 281_474_976_710_656,
+                number: 64,
+            },
+            value: Value::Put(1),
+        },
+        None,
+    ),
+    (
+        Edit {
+            object: LIMIT,
+            step: 65_535,
+            stamp: Stamp {
+                count: 1,
+                number: 0,
+            },
+            value: Value::Put(9),
+        },
+        None,
+    ),
+    (
+        Edit {
+            object: LIMIT,
+            step: 65_535,
+            stamp: Stamp {
+                count: 1,
+                number: 0,
+            },
+            value: Value::Withdrawn,
+        },
+        None,
+    ),
+];
+
+/// Edits, and the fault of the first faulty one by object and step, whichever came first.
+const FIRST_FAULTS: &[(&[Edit], Option<EditFault>)] = &[
+    (&[], None),
+    (
+        &[Edit {
+            object: LIMIT,
+            step: 8,
+            stamp: Stamp {
+                count: 3,
+                number: 0,
+            },
+            value: Value::Put(1),
+        }],
+        None,
+    ),
+    (
+        &[
+            Edit {
+                object: BLOCK,
+                step: 4,
+                stamp: Stamp {
+                    count: 1,
+                    number: 0,
+                },
+                value: Value::Put(2),
+            },
+            Edit {
+                object: LIMIT,
+                step: 65_536,
+                stamp: Stamp {
+                    count: 2,
+                    number: 0,
+                },
+                value: Value::Put(1),
+            },
+        ],
+        Some(EditFault::Step),
+    ),
+    (
+        &[
+            Edit {
+                object: BLOCK,
+                step: 4,
+                stamp: Stamp {
+                    count: 1,
+                    number: 0,
+                },
+                value: Value::Put(2),
+            },
+            Edit {
+                object: LIMIT,
+                step: 65_536,
+                stamp: Stamp {
+                    count: 2,
+                    number: 0,
+                },
+                value: Value::Put(1),
+            },
+            Edit {
+                object: LIMIT,
+                step: 9,
+                stamp: Stamp {
+                    count: 2,
+                    number: 0,
+                },
+                value: Value::Put(10),
+            },
+            Edit {
+                object: LIMIT,
+                step: 8,
+                stamp: Stamp {
+                    count: 3,
+                    number: 0,
+                },
+                value: Value::Put(1),
+            },
+        ],
+        Some(EditFault::ValueOutOfRange),
+    ),
+];
+
+#[test]
+fn faults_are_named_in_order(rt: HostRuntime) -> Result<(), Fail> {
+    let plan = plan_of(rt.alloc(), &FREE)?;
+    for (edit, fault) in FAULTS {
+        assert_eq!(rt; edit.fault(&plan), *fault, "{edit:?}");
+    }
+    Ok(())
+}
+
+#[test]
+fn the_first_faulty_edit_is_named(rt: HostRuntime) -> Result<(), Fail> {
+    let plan = plan_of(rt.alloc(), &FREE)?;
+    for (edits, fault) in FIRST_FAULTS {
+        let made = scenario(rt.alloc(), edits)?;
+        assert_eq!(rt; made.fits(&plan), *fault, "{edits:?}");
+    }
+    Ok(())
+}
+
+// Twice the same, by the calls of the trait.
+fn doubled<L: Lattice>(value: &L) -> Result<L, OutOfMemory> {
+    value.copied()?.joined(value)
+}
+
+#[test]
+fn scenarios_are_a_lattice(rt: HostRuntime) -> Result<(), Fail> {
+    let made = scenario(rt.alloc(), &[ONE])?;
+    let both = doubled(&made)?;
+    assert!(rt; both.at_most(&made) && made.at_most(&both) && !both.is_bottom());
+    Ok(())
+}

@@ -1,0 +1,101 @@
+//! The definitions of settings and of touched steps as a plain, slow program over a list of edits, beside worked scenarios.
+
+use super::{BLOCK, LIMIT, MERGES, Merge, SLOW, scenario};
+use road_plan::{Object, Plan};
+use road_scenario::{Edit, OutOfMemory, Scenario, Value};
+use std::alloc::Global;
+use std::process::Abort;
+use std::test::Fail;
+use tests_plans::{FREE, plan_of};
+
+/// The objects that are looked at.
+const OBJECTS: &[Object] = &[LIMIT, SLOW, BLOCK];
+
+/// The greatest step that is looked at.
+const LAST: u32 = 6;
+
+// Whether another edit of the same object and step exceeds an edit in stamp and value.
+fn exceeds(edit: &Edit, other: &Edit) -> bool {
+    edit.object == other.object
+        && edit.step == other.step
+        && (edit.stamp, edit.value) < (other.stamp, other.value)
+}
+
+fn is_winner(edits: &[Edit], edit: &Edit) -> bool {
+    !edits.iter().any(|other| exceeds(edit, other))
+}
+
+fn number(value: Value) -> Option<u32> {
+    match value {
+        Value::Withdrawn => None,
+        Value::Put(number) => Some(number),
+    }
+}
+
+// The number that the winner of an object and step puts, if there is one.
+fn put_at(edits: &[Edit], object: Object, step: u32) -> Option<u32> {
+    for edit in edits {
+        if edit.object == object && edit.step == step && is_winner(edits, edit) {
+            return number(edit.value);
+        }
+    }
+    None
+}
+
+// The number put at the latest step up to this one at which one is put, else the default.
+fn setting(plan: &Plan, edits: &[Edit], object: Object, step: u32) -> u32 {
+    for earlier in (0..=step).rev() {
+        if let Some(number) = put_at(edits, object, earlier) {
+            return number;
+        }
+    }
+    if object.in_plan(plan) {
+        object.default(plan)
+    } else {
+        0
+    }
+}
+
+// The least step of an object and step whose numbers put differ.
+fn touched(edits: &[Edit], others: &[Edit]) -> Option<u32> {
+    for step in 0..=LAST {
+        for object in OBJECTS {
+            if put_at(edits, *object, step) != put_at(others, *object, step) {
+                return Some(step);
+            }
+        }
+    }
+    None
+}
+
+// The settings of a scenario against those of the edits that it came of.
+fn compare(rt: &impl Abort, plan: &Plan, edits: &[Edit], made: &Scenario) {
+    for step in 0..=LAST {
+        for object in OBJECTS {
+            assert!(rt; object.in_plan(plan));
+            assert_eq!(rt;
+                made.setting(plan, *object, step),
+                setting(plan, edits, *object, step),
+                "{object:?} {step} {edits:?}"
+            );
+        }
+    }
+}
+
+// The edits of a row, as they are once they came, and which step they touch.
+fn comes(rt: &impl Abort, alloc: Global, plan: &Plan, merge: &Merge) -> Result<(), OutOfMemory> {
+    let mut after = merge.held.to_vec(alloc)?;
+    after.extend_from_slice(merge.come)?;
+    compare(rt, plan, &after, &scenario(alloc, merge.listed)?);
+    assert_eq!(rt; touched(merge.held, &after), merge.touched, "{merge:?}");
+    Ok(())
+}
+
+#[test]
+fn the_plain_program_agrees(rt: HostRuntime) -> Result<(), Fail> {
+    let plan = plan_of(rt.alloc(), &FREE)?;
+    for merge in MERGES {
+        comes(&rt, rt.alloc(), &plan, merge)?;
+    }
+    Ok(())
+}

@@ -1,0 +1,239 @@
+//! Counts and rows of worked roads.
+
+use crate::rows::row_of;
+use road_cells::{Car, Road};
+use road_detector::{Totals, passes};
+use road_ends::{StepInput, enter, finish};
+use road_plan::{Plan, Settings, WordKind};
+use std::alloc::{AllocError, Global};
+use std::process::Abort;
+use std::sync::Arc;
+use std::test::Fail;
+use tests_plans::{FREE, Parts, plan_of};
+
+// The input of a step on a road, where the first detector is on or off.
+fn input_of(
+    rt: &impl Abort,
+    alloc: Global,
+    plan: &Arc<Plan>,
+    step: u32,
+    road: &Road,
+    on: bool,
+) -> Result<Arc<StepInput>, AllocError> {
+    let mut settings = Settings::of_plan(alloc, plan)?;
+    if let Some(first) = settings.watched.first_mut() {
+        *first = on;
+    }
+    assert!(rt; settings.fits(plan));
+    enter(alloc, plan, settings, step, road)
+}
+
+// What a detector of the plan counts.
+fn counted(rt: &impl Abort, input: &StepInput, speeds: &[u8], detector: u32) -> Totals {
+    assert!(rt; speeds.len() == input.road().cars().len());
+    assert!(rt; (detector as usize) < input.plan().detectors().len());
+    passes(input, speeds, detector)
+}
+
+/// Steps of the free road, counted from the first to before the last.
+#[derive(Clone, Copy, Debug)]
+struct Count {
+    /// The steps between which the detector is off.
+    off: (u32, u32),
+    steps: (u32, u32),
+    cars: u32,
+    speeds: u32,
+}
+
+/// The first car drives from cell 3 to 5 in step 2, the second one in step 4.
+const COUNTS: &[Count] = &[
+    Count {
+        off: (9, 9),
+        steps: (0, 3),
+        cars: 1,
+        speeds: 2,
+    },
+    Count {
+        off: (9, 9),
+        steps: (0, 6),
+        cars: 2,
+        speeds: 4,
+    },
+    Count {
+        off: (9, 9),
+        steps: (2, 2),
+        cars: 0,
+        speeds: 0,
+    },
+    Count {
+        off: (9, 9),
+        steps: (3, 4),
+        cars: 0,
+        speeds: 0,
+    },
+    Count {
+        off: (2, 9),
+        steps: (0, 6),
+        cars: 0,
+        speeds: 0,
+    },
+    Count {
+        off: (2, 4),
+        steps: (0, 6),
+        cars: 1,
+        speeds: 2,
+    },
+];
+
+// What the detector of the free road counts.
+fn total(
+    rt: &impl Abort,
+    alloc: Global,
+    plan: &Arc<Plan>,
+    count: &Count,
+) -> Result<Totals, AllocError> {
+    let mut road = Road::empty(alloc);
+    let mut totals = Totals { cars: 0, speeds: 0 };
+    for step in 0..count.steps.1 {
+        let on = step < count.off.0 || count.off.1 <= step;
+        let input = input_of(rt, alloc, plan, step, &road, on)?;
+        let speeds = input.speeds(alloc)?;
+        if count.steps.0 <= step {
+            let counts = counted(rt, &input, &speeds, 0);
+            totals.cars = totals.cars.saturating_add(counts.cars);
+            totals.speeds = totals.speeds.saturating_add(counts.speeds);
+        }
+        road = finish(alloc, &input, &speeds)?;
+    }
+    Ok(totals)
+}
+
+#[test]
+fn counts_the_cars_of_the_worked_road(rt: HostRuntime) -> Result<(), Fail> {
+    let plan = Arc::new(rt.alloc(), plan_of(rt.alloc(), &FREE)?)?;
+    for count in COUNTS {
+        let totals = total(&rt, rt.alloc(), &plan, count)?;
+        assert!(rt;
+            totals.cars == count.cars && totals.speeds == count.speeds,
+            "{count:?}"
+        );
+    }
+    Ok(())
+}
+
+/// A road of 400 cells where nobody enters.
+const LONG: Parts = Parts {
+    road: (400, 1, 400),
+    zones: &[(9, 0)],
+    inlets: &[(0, 0)],
+    detectors: &[100, 300, 1, 398],
+    words: WordKind::Seeded(7),
+};
+
+/// Six cars on it.
+const CARS: [Car; 6] = [
+    Car {
+        number: 1,
+        cell: 0,
+        speed: 0,
+    },
+    Car {
+        number: 2,
+        cell: 44,
+        speed: 0,
+    },
+    Car {
+        number: 3,
+        cell: 45,
+        speed: 0,
+    },
+    Car {
+        number: 4,
+        cell: 100,
+        speed: 0,
+    },
+    Car {
+        number: 5,
+        cell: 299,
+        speed: 0,
+    },
+    Car {
+        number: 6,
+        cell: 397,
+        speed: 0,
+    },
+];
+
+/// The speeds of the six cars, and what a detector counts of them.
+const PASSES: &[(&[u8], u32, u32, u32)] = &[
+    (&[0, 0, 0, 0, 0, 0], 0, 0, 0),
+    (&[0, 55, 54, 9, 0, 0], 0, 0, 0),
+    (&[0, 56, 0, 9, 0, 0], 0, 1, 56),
+    (&[0, 0, 55, 9, 0, 0], 0, 1, 55),
+    (&[100, 56, 55, 9, 0, 0], 0, 3, 211),
+    (&[255, 255, 254, 199, 0, 9], 1, 0, 0),
+    (&[255, 255, 255, 200, 1, 9], 1, 3, 456),
+    (&[0, 0, 0, 0, 1, 0], 1, 1, 1),
+    (&[1, 0, 0, 0, 0, 0], 2, 1, 1),
+    (&[0, 0, 0, 0, 0, 1], 3, 1, 1),
+    (&[0, 0, 0, 0, 99, 9], 3, 2, 108),
+    (&[0, 0, 0, 0, 98, 0], 3, 0, 0),
+];
+
+#[test]
+fn counts_by_any_speeds(rt: HostRuntime) -> Result<(), Fail> {
+    let alloc = rt.alloc();
+    let plan = Arc::new(alloc, plan_of(alloc, &LONG)?)?;
+    let road = Road::of(CARS.to_vec(alloc)?);
+    let input = input_of(&rt, alloc, &plan, 1, &road, true)?;
+    for (speeds, detector, cars, sum) in PASSES {
+        let counts = counted(&rt, &input, speeds, *detector);
+        assert!(rt;
+            counts.cars == *cars && counts.speeds == *sum,
+            "{speeds:?} at {detector}"
+        );
+    }
+    Ok(())
+}
+
+/// Cars on and past a row of 12 cells.
+const DRAWN: [Car; 4] = [
+    Car {
+        number: 1,
+        cell: 0,
+        speed: 9,
+    },
+    Car {
+        number: 2,
+        cell: 3,
+        speed: 0,
+    },
+    Car {
+        number: 3,
+        cell: 11,
+        speed: 1,
+    },
+    Car {
+        number: 4,
+        cell: 12,
+        speed: 2,
+    },
+];
+
+/// Blocked cells, and how the cars are drawn with them.
+const ROWS: &[(&[u32], &str)] = &[
+    (&[], "9..0.......1"),
+    (&[5, 3, 1, 40], "9#.0.#.....1"),
+    (&[11, 10, 10, 0, 12], "9..0......#1"),
+    (&[4_294_967_295], "9..0.......1"),
+];
+
+#[test]
+fn draws_blocks_in_any_order(rt: HostRuntime) -> Result<(), Fail> {
+    let road = Road::of(DRAWN.to_vec(rt.alloc())?);
+    for (blocks, text) in ROWS {
+        let drawn = row_of(&rt, rt.alloc(), &road, blocks, 12)?;
+        assert_eq!(rt; drawn.as_str(), *text, "blocks {blocks:?}");
+    }
+    Ok(())
+}

@@ -1,0 +1,36 @@
+//! Roads drawn as rows of text.
+
+ghost use Rattle.std.specs.Prelude.{◌↔◌, IsTrue};
+ghost use Rattle.road_ends.specs.Row.{HasDigits};
+ghost use Rattle.road_detector.specs.Rows.{HaveDigits};
+
+use road_cells::{Car, Road};
+use road_detector::row_text;
+use std::alloc::{AllocError, Global};
+use std::process::Abort;
+
+// Whether each speed is a digit.
+fn have_digits(cars: &[Car]) -> bool
+    ensures { IsTrue result ↔ HaveDigits cars.now }
+{
+    cars.iter().all(|car| car.speed <= 9)
+}
+
+// Whether the speed of each car is a digit.
+fn has_digits(road: &Road) -> bool
+    ensures { IsTrue result → HasDigits road.now }
+{
+    have_digits(road.cars())
+}
+
+/// The row of a road with so many cells and these blocked ones.
+pub(crate) fn row_of(
+    rt: &impl Abort,
+    alloc: Global,
+    road: &Road,
+    blocks: &[u32],
+    length: u32,
+) -> Result<String, AllocError> {
+    assert!(rt; has_digits(road));
+    row_text(alloc, road, blocks, length)
+}

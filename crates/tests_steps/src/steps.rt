@@ -1,0 +1,368 @@
+//! Runs worked out by hand or by a program of another author, stepped alone and by the plain program.
+
+use crate::plain;
+use crate::rows::row_of;
+use road_cells::{Car, Road};
+use road_ends::{Meter, enter, finish, step_alone};
+use road_plan::{Plan, Settings, WordKind};
+use std::alloc::{AllocError, Global};
+use std::process::Abort;
+use std::sync::Arc;
+use std::test::Fail;
+use tests_plans::{DENSE, FREE, HALF_SLOWED, Parts, car, plan_of};
+
+/// A road and its rows at rising steps. From a step on the only zone has another limit, from a step on a cell is blocked.
+#[derive(Clone, Copy)]
+struct Example {
+    parts: Parts,
+    lowered: &'static [(u32, u32)],
+    blocked: &'static [(u32, u32)],
+    rows: &'static [(u32, &'static str)],
+}
+
+/// A limit of 2, no slowing, and an inlet at the first of 12 cells that always lets in.
+const FREE_ROAD: Example = Example {
+    parts: FREE,
+    lowered: &[],
+    blocked: &[],
+    rows: &[
+        (0, "............"),
+        (1, ".1.........."),
+        (2, "0..2........"),
+        (3, ".1...2......"),
+        (4, "0..2...2...."),
+        (5, ".1...2...2.."),
+        (6, "0..2...2...."),
+    ],
+};
+
+/// Every car is slowed by chance at every step.
+const ALWAYS_SLOWED: Example = Example {
+    parts: Parts {
+        zones: &[(2, 65_536)],
+        ..FREE
+    },
+    rows: &[
+        (1, "0..........."),
+        (2, "0..........."),
+        (3, "0..........."),
+        (4, "0..........."),
+        (5, "0..........."),
+        (6, "0..........."),
+    ],
+    ..FREE_ROAD
+};
+
+/// Slowing chance one half, by the steady words.
+const SLOWED: Example = Example {
+    parts: HALF_SLOWED,
+    rows: &[
+        (1, "0..........."),
+        (2, "0..........."),
+        (3, ".1.........."),
+        (4, "0.1........."),
+        (5, "0...2......."),
+        (6, ".1...1......"),
+    ],
+    ..FREE_ROAD
+};
+
+/// The inlet's steady word at step 1 is 30,011 above its lower bits: not below an inflow of as much, below one more.
+const NOT_LET_IN: Example = Example {
+    parts: Parts {
+        inlets: &[(0, 30_011)],
+        words: WordKind::Steady,
+        ..FREE
+    },
+    rows: &[(2, "...2........")],
+    ..FREE_ROAD
+};
+
+const LET_IN: Example = Example {
+    parts: Parts {
+        inlets: &[(0, 30_012)],
+        words: WordKind::Steady,
+        ..FREE
+    },
+    rows: &[(2, "0..2........")],
+    ..FREE_ROAD
+};
+
+/// A deleted zone of 3 cells, and a limit of 1 in the second zone.
+const TWO_ZONES: Example = Example {
+    parts: Parts {
+        road: (12, 3, 6),
+        zones: &[(2, 0), (1, 0)],
+        ..FREE
+    },
+    rows: &[(5, ".1...2..1..."), (6, "0..2...2....")],
+    ..FREE_ROAD
+};
+
+/// Random words that show: four zones, and places beyond the first blocks of the generator.
+const RANDOM: Example = Example {
+    parts: Parts {
+        road: (40, 2, 10),
+        zones: &[(5, 20_000), (3, 30_000), (9, 10_000), (5, 20_000)],
+        inlets: &[(3, 40_000)],
+        detectors: &[],
+        words: WordKind::Seeded(1992),
+    },
+    rows: &[
+        (10, "............2.....3......4.............."),
+        (20, "...0.....3............2................."),
+        (40, "...0.1......3.1..2.....3...........5...."),
+        (64, "....1.0...2...3.1......3.......5........"),
+        (65, "...00..1.....3.1.1.........4........5..."),
+        (70, "..........300....2.........4.......5...."),
+    ],
+    ..FREE_ROAD
+};
+
+/// Nine inlets that always let in, slowing chance one half.
+const DENSE_ROAD: Example = Example {
+    parts: DENSE,
+    rows: &[
+        (1, "0...1.0...1.0..0...1.0...1......"),
+        (2, "0..00..1.00..1..1.00..1.0.1....."),
+    ],
+    ..FREE_ROAD
+};
+
+/// The limit falls to 1 at step 3 and to 0 at step 5.
+const LOWERED: Example = Example {
+    lowered: &[(3, 1), (5, 0)],
+    rows: &[
+        (3, ".1...2......"),
+        (4, "0.1...1....."),
+        (5, ".1.1...1...."),
+        (6, "00.0...0...."),
+        (7, "00.0...0...."),
+    ],
+    ..FREE_ROAD
+};
+
+/// Cell 8 is blocked from step 4 on.
+const BLOCKED_AHEAD: Example = Example {
+    blocked: &[(4, 8)],
+    rows: &[
+        (4, "0..2...2#..."),
+        (5, ".1...2.0#..."),
+        (6, "0..2..10#..."),
+    ],
+    ..FREE_ROAD
+};
+
+/// Cell 7 is blocked from step 4 on, where a car stands.
+const BLOCKED_UNDER_CAR: Example = Example {
+    blocked: &[(4, 7)],
+    rows: &[
+        (4, "0..2...2...."),
+        (5, ".1...2.#.2.."),
+        (6, "0..2..1#...."),
+    ],
+    ..FREE_ROAD
+};
+
+/// The inlet's cell is blocked, to the greatest horizon.
+const BLOCKED_INLET: Example = Example {
+    blocked: &[(0, 0)],
+    rows: &[
+        (0, "#..........."),
+        (6, "#..........."),
+        (65_536, "#..........."),
+    ],
+    ..FREE_ROAD
+};
+
+// What is set at a step: the last number from a step up to it.
+fn latest(set: &[(u32, u32)], step: u32) -> Option<u32> {
+    let mut last = None;
+    for (from, number) in set {
+        if *from <= step {
+            last = Some(*number);
+        }
+    }
+    last
+}
+
+// The settings of an example at a step.
+fn settings_of(
+    alloc: Global,
+    plan: &Plan,
+    example: &Example,
+    step: u32,
+) -> Result<Settings, AllocError> {
+    let mut settings = Settings::of_plan(alloc, plan)?;
+    if let Some(limit) = latest(example.lowered, step) {
+        settings.limits = vec![in alloc; limit]?;
+    }
+    if let Some(cell) = latest(example.blocked, step) {
+        settings.blocks = vec![in alloc; cell]?;
+    }
+    Ok(settings)
+}
+
+// The road of an example after a step.
+fn stepped(
+    rt: &impl Abort,
+    alloc: Global,
+    plan: &Arc<Plan>,
+    example: &Example,
+    step: u32,
+    road: &Road,
+    meter: &mut Meter,
+) -> Result<Road, AllocError> {
+    let settings = settings_of(alloc, plan, example, step)?;
+    assert!(rt; settings.fits(plan));
+    Ok(step_alone(alloc, plan, settings, step, road, meter)?.road)
+}
+
+// The row of an example's road at a step.
+fn drawn(
+    rt: &impl Abort,
+    alloc: Global,
+    plan: &Plan,
+    example: &Example,
+    step: u32,
+    road: &Road,
+) -> Result<String, AllocError> {
+    let settings = settings_of(alloc, plan, example, step)?;
+    row_of(rt, alloc, road, settings.blocks(), plan.length())
+}
+
+// An example's rows, stepped alone, with the steps counted.
+fn steps_alone(rt: &impl Abort, alloc: Global, example: &Example) -> Result<(), Fail> {
+    let plan = Arc::new(alloc, plan_of(alloc, &example.parts)?)?;
+    let mut meter = Meter::new();
+    let mut road = Road::empty(alloc);
+    let mut step = 0;
+    for (until, text) in example.rows {
+        for now in step..*until {
+            road = stepped(rt, alloc, &plan, example, now, &road, &mut meter)?;
+        }
+        step = *until;
+        let row = drawn(rt, alloc, &plan, example, step, &road)?;
+        assert_eq!(rt; row.as_str(), *text, "step {step}");
+    }
+    assert_eq!(rt; meter.ticks(), u64::from(step));
+    Ok(())
+}
+
+/// Examples that nobody edits.
+const UNEDITED: &[Example] = &[FREE_ROAD, SLOWED, TWO_ZONES, RANDOM, DENSE_ROAD];
+
+/// Examples with edits, or as dense or sparse as a road can be.
+const EDITED: &[Example] = &[
+    ALWAYS_SLOWED,
+    NOT_LET_IN,
+    LET_IN,
+    LOWERED,
+    BLOCKED_AHEAD,
+    BLOCKED_UNDER_CAR,
+    BLOCKED_INLET,
+];
+
+#[test]
+fn steps_the_examples_alone(rt: HostRuntime) -> Result<(), Fail> {
+    for example in UNEDITED {
+        steps_alone(&rt, rt.alloc(), example)?;
+    }
+    for example in EDITED {
+        steps_alone(&rt, rt.alloc(), example)?;
+    }
+    Ok(())
+}
+
+// An example's rows, by the plain program.
+fn runs_plainly(rt: &impl Abort, alloc: Global, example: &Example) -> Result<(), Fail> {
+    let plan = plan_of(alloc, &example.parts)?;
+    for (step, text) in example.rows {
+        let row = plain::row(alloc, &plan, *step)?;
+        assert_eq!(rt; row.as_str(), *text, "step {step}");
+    }
+    Ok(())
+}
+
+#[test]
+fn runs_the_examples_plainly(rt: HostRuntime) -> Result<(), Fail> {
+    for example in UNEDITED {
+        runs_plainly(&rt, rt.alloc(), example)?;
+    }
+    Ok(())
+}
+
+#[test]
+fn numbers_cars_by_step_and_inlet(rt: HostRuntime) -> Result<(), Fail> {
+    let plan = Arc::new(rt.alloc(), plan_of(rt.alloc(), &FREE)?)?;
+    let mut road = Road::empty(rt.alloc());
+    for step in 0..6 {
+        road = stepped(
+            &rt,
+            rt.alloc(),
+            &plan,
+            &FREE_ROAD,
+            step,
+            &road,
+            &mut Meter::new(),
+        )?;
+    }
+    let cars = [car(80, 0, 0), car(48, 3, 2), car(16, 7, 2)];
+    assert!(rt; road.cars() == cars.as_slice());
+    Ok(())
+}
+
+/// A steady road of 40 cells with limit 2 and no slowing.
+const STEADY: Parts = Parts {
+    road: (40, 1, 40),
+    zones: &[(2, 0)],
+    inlets: &[(0, 0)],
+    detectors: &[],
+    words: WordKind::Steady,
+};
+
+// The cars after step 1 of a road with these cars.
+fn after_step_one(alloc: Global, parts: &Parts, cars: &[Car]) -> Result<Vec<Car>, Fail> {
+    let plan = Arc::new(alloc, plan_of(alloc, parts)?)?;
+    plan.known_own_settings();
+    let settings = Settings::of_plan(alloc, &plan)?;
+    let road = match cars {
+        [] => Road::empty(alloc),
+        [car, ..] => Road::of(vec![in alloc; *car]?),
+    };
+    let input = enter(alloc, &plan, settings, 1, &road)?;
+    let speeds = input.speeds(alloc)?;
+    Ok(finish(alloc, &input, &speeds)?.into_cars())
+}
+
+#[test]
+fn lets_in_by_the_words_of_each_inlet(rt: HostRuntime) -> Result<(), Fail> {
+    // inlet 3, at step 1: (3 * 40,503 + 30,011) mod 65,536 is 20,448, not below a chance of as much
+    let table: [(&[(u32, u32)], &[Car]); 4] = [
+        (&[(20, 0), (5, 0), (10, 0), (0, 0)], &[]),
+        (&[(20, 0), (5, 0), (10, 0), (0, 20_448)], &[]),
+        (&[(20, 0), (5, 0), (10, 0), (0, 20_449)], &[car(19, 1, 1)]),
+        (&[(20, 0), (5, 0), (10, 0), (0, 65_536)], &[car(19, 1, 1)]),
+    ];
+    for (inlets, want) in table {
+        let cars = after_step_one(rt.alloc(), &Parts { inlets, ..STEADY }, &[])?;
+        assert!(rt; cars.as_slice() == want, "{inlets:?}");
+    }
+    Ok(())
+}
+
+#[test]
+fn slows_by_the_word_of_the_car(rt: HostRuntime) -> Result<(), Fail> {
+    // car 16 at step 1: (16 * 40,503 + 30,011) mod 65,536 is 22,699; the limit 5 and a free road let it come to 4
+    let table: [(&[(u32, u32)], Car); 4] = [
+        (&[(5, 0)], car(16, 11, 4)),
+        (&[(5, 22_699)], car(16, 11, 4)),
+        (&[(5, 22_700)], car(16, 10, 3)),
+        (&[(5, 65_536)], car(16, 10, 3)),
+    ];
+    for (zones, want) in table {
+        let cars = after_step_one(rt.alloc(), &Parts { zones, ..STEADY }, &[car(16, 7, 3)])?;
+        assert!(rt; cars.as_slice() == [want].as_slice(), "{zones:?}");
+    }
+    Ok(())
+}
