@@ -42,8 +42,8 @@ impl Replica {
     // The replica with one edit more. A state that was computed without it does not stay.
     fn with_edit(&self, alloc: Global, edit: &Edit) -> Result<Replica, OutOfMemory>
         ensures scenario { IfOk result (λ replica. replica.scenario ≡ join self.now.scenario (from_list (edit.now ∷ []))) }
-        ensures fits { IfOk result (λ replica. (plan : Plan) →
-            AreInRange plan self.now.scenario → fault_of plan edit.now ≡ None → AreInRange plan replica.scenario) }
+        ensures fits { (plan : Plan) → AreInRange plan self.now.scenario → fault_of plan edit.now ≡ None →
+            IfOk result (λ replica. AreInRange plan replica.scenario) }
         ensures horizon { IfOk result (λ replica. replica.horizon ≡ self.now.horizon) }
         ensures step { IfOk result (λ replica. replica.last.step ≡ 0) }
         ensures road { IfOk result (λ replica. replica.last.road ≡ []) }

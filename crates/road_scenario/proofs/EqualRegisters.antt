@@ -23,8 +23,8 @@ use Rattle.road_scenario.specs.Winners.{has_no_edit}
 use Rattle.road_scenario.specs.Registers.{Register, RegistersByStep, RegistersByObject, edit_with, edits_from_register, object_edits, edit_list, edit_set}
 use Rattle.road_scenario.specs.Private.RegisterWalks.{registers_of_object}
 use Rattle.road_scenario.specs.Winners.{join}
-use Rattle.road_scenario.proofs.RisingEdits.{object_cmp, IsSteps, AreMaps, is_less, items-kept}
-use Rattle.road_scenario.proofs.JoinedRegisters.{object_total, steps_join, steps_laws, maps_join, proper-joined, kept-joined}
+use Rattle.road_scenario.proofs.RisingEdits.{object_cmp, AreRegistersByStep, AreRegisters, is_less, items-edit_set}
+use Rattle.road_scenario.proofs.JoinedRegisters.{object_total, steps_join, steps_laws, maps_join, proper-joined, edit_set-joined}
 use Rattle.road_scenario.proofs.LastNumbers.{is_one, itself, other_above, steps_here, steps_there}
 use Rattle.road_scenario.proofs.WalkedSettings.{same}
 
@@ -72,69 +72,69 @@ of_object (e ∷ m) s o =
 
 -- ---- back from the list
 
-abbrev unlisted : List Edit → RegistersByStep
-unlisted es = map (λ e. (e.step, Of (e.stamp, e.value))) es
+abbrev registers_of_edits : List Edit → RegistersByStep
+registers_of_edits es = map (λ e. (e.step, Of (e.stamp, e.value))) es
 
-back : (o : Object) (steps : RegistersByStep) → EachEntry (λ e. IsHeld (λ _. Unit {0}) is_nothing e.1) steps → unlisted (object_edits o steps) ≡ steps
+back : (o : Object) (steps : RegistersByStep) → EachEntry (λ e. IsHeld (λ _. Unit {0}) is_nothing e.1) steps → registers_of_edits (object_edits o steps) ≡ steps
 back o [] h = refl
 back o (s ∷ steps) h = here s.1 h.0.1 (back o steps h.1)
   where
-    here : (w : Register) → is_nothing w ≡ false → unlisted (object_edits o steps) ≡ steps → unlisted (edits_from_register o s.0 w (object_edits o steps)) ≡ (s.0, w) ∷ steps
+    here : (w : Register) → is_nothing w ≡ false → registers_of_edits (object_edits o steps) ≡ steps → registers_of_edits (edits_from_register o s.0 w (object_edits o steps)) ≡ (s.0, w) ∷ steps
     here Nothing g rest = absurd (true≢false g)
     here (Of w) g rest = ap (λ x. (s.0, Of w) ∷ x) rest
 
 -- what a map may give for an object
-abbrev IfSteps : Option RegistersByStep → Type 0
-IfSteps x = IfHeld IsSteps is_empty x
+abbrev AreRegistersIfAny : Option RegistersByStep → Type 0
+AreRegistersIfAny x = IfHeld AreRegistersByStep is_empty x
 
-found : (m : RegistersByObject) → AreMaps m → (o : Object) → IfSteps (find object_cmp o m)
-found m are o = good_at object_cmp object_total object_exact IsSteps steps_join is_empty steps_laws o m are
+found : (m : RegistersByObject) → AreRegisters m → (o : Object) → AreRegistersIfAny (find object_cmp o m)
+found m are o = good_at object_cmp object_total object_exact AreRegistersByStep steps_join is_empty steps_laws o m are
 
-found_back : (o : Object) (x : Option RegistersByStep) → IfSteps x → unlisted (object_edits o (unwrap_or x [])) ≡ unwrap_or x []
+found_back : (o : Object) (x : Option RegistersByStep) → AreRegistersIfAny x → registers_of_edits (object_edits o (unwrap_or x [])) ≡ unwrap_or x []
 found_back o None h = refl
 found_back o (Some steps) h = back o steps h.0.held
 
-same_found : (x y : Option RegistersByStep) → IfSteps x → IfSteps y → unwrap_or x [] ≡ unwrap_or y [] → x ≡ y
+same_found : (x y : Option RegistersByStep) → AreRegistersIfAny x → AreRegistersIfAny y → unwrap_or x [] ≡ unwrap_or y [] → x ≡ y
 same_found None None p q e = refl
 same_found None (Some t) p q e = absurd (true≢false (ap is_empty e ∙ q.1))
 same_found (Some s) None p q e = absurd (true≢false (ap is_empty (sym e) ∙ p.1))
 same_found (Some s) (Some t) p q e = ap Some e
 
-pub same_kept : (m n : RegistersByObject) → AreMaps m → AreMaps n → edit_set m ≡ edit_set n → m ≡ n
-same_kept m n are also e =
-    let lists : edit_list m ≡ edit_list n = sym (items-kept m are) ∙ ap items e ∙ items-kept n also in
-    same_maps object_cmp object_total object_exact IsSteps steps_join is_empty steps_laws m n are also (λ o.
+pub same_edit_set : (m n : RegistersByObject) → AreRegisters m → AreRegisters n → edit_set m ≡ edit_set n → m ≡ n
+same_edit_set m n are also e =
+    let lists : edit_list m ≡ edit_list n = sym (items-edit_set m are) ∙ ap items e ∙ items-edit_set n also in
+    same_maps object_cmp object_total object_exact AreRegistersByStep steps_join is_empty steps_laws m n are also (λ o.
     same_found (find object_cmp o m) (find object_cmp o n) (found m are o) (found n also o) (
     sym (found_back o (find object_cmp o m) (found m are o))
-    ∙ ap unlisted (sym (of_object m are.rises o) ∙ ap (filter (is_of o)) lists ∙ of_object n also.rises o)
+    ∙ ap registers_of_edits (sym (of_object m are.rises o) ∙ ap (filter (is_of o)) lists ∙ of_object n also.rises o)
     ∙ found_back o (find object_cmp o n) (found n also o)))
 
 -- ---- the order and the bottom
 
-pub up_to : (m n : RegistersByObject) → AreMaps m → AreMaps n → maps_join m n ≡ n → join (edit_set m) (edit_set n) ≡ edit_set n
-up_to m n are also e = sym (kept-joined m n are also) ∙ ap edit_set e
+pub up_to : (m n : RegistersByObject) → AreRegisters m → AreRegisters n → maps_join m n ≡ n → join (edit_set m) (edit_set n) ≡ edit_set n
+up_to m n are also e = sym (edit_set-joined m n are also) ∙ ap edit_set e
 
-pub up_to_back : (m n : RegistersByObject) → AreMaps m → AreMaps n → join (edit_set m) (edit_set n) ≡ edit_set n → maps_join m n ≡ n
-up_to_back m n are also e = same_kept (maps_join m n) n (proper-joined m n are also) also (kept-joined m n are also ∙ e)
+pub up_to_back : (m n : RegistersByObject) → AreRegisters m → AreRegisters n → join (edit_set m) (edit_set n) ≡ edit_set n → maps_join m n ≡ n
+up_to_back m n are also e = same_edit_set (maps_join m n) n (proper-joined m n are also) also (edit_set-joined m n are also ∙ e)
 
-some_listed : (o : Object) (steps : RegistersByStep) (es : List Edit) → IsHeld IsSteps is_empty steps → is_empty (object_edits o steps ++ es) ≡ false
-some_listed o [] es h = absurd (true≢false h.1)
-some_listed o (s ∷ steps) es h = here s.1 h.0.held.0.1
+not_empty-object_edits : (o : Object) (steps : RegistersByStep) (es : List Edit) → IsHeld AreRegistersByStep is_empty steps → is_empty (object_edits o steps ++ es) ≡ false
+not_empty-object_edits o [] es h = absurd (true≢false h.1)
+not_empty-object_edits o (s ∷ steps) es h = here s.1 h.0.held.0.1
   where
     here : (w : Register) → is_nothing w ≡ false → is_empty (edits_from_register o s.0 w (object_edits o steps) ++ es) ≡ false
     here Nothing g = absurd (true≢false g)
     here (Of w) g = refl
 
-empty_listed : (m : RegistersByObject) → EachEntry (λ e. IsHeld IsSteps is_empty e.1) m → is_empty m ≡ is_empty (edit_list m)
-empty_listed [] h = refl
-empty_listed (e ∷ m) h = sym (some_listed e.0 e.1 (edit_list m) h.0)
+is_empty-edit_list : (m : RegistersByObject) → EachEntry (λ e. IsHeld AreRegistersByStep is_empty e.1) m → is_empty m ≡ is_empty (edit_list m)
+is_empty-edit_list [] h = refl
+is_empty-edit_list (e ∷ m) h = sym (not_empty-object_edits e.0 e.1 (edit_list m) h.0)
 
-pub empty-kept : (m : RegistersByObject) → AreMaps m → is_empty m ≡ has_no_edit (edit_set m)
-empty-kept m are = empty_listed m are.held ∙ ap is_empty (sym (items-kept m are))
+pub is_empty-edit_set : (m : RegistersByObject) → AreRegisters m → is_empty m ≡ has_no_edit (edit_set m)
+is_empty-edit_set m are = is_empty-edit_list m are.held ∙ ap is_empty (sym (items-edit_set m are))
 
 -- where no edit is held there is no register
-pub no_registers : (m : RegistersByObject) → AreMaps m → edit_set m ≡ empty → m ≡ []
-no_registers m are none = nothing m (empty-kept m are ∙ ap has_no_edit none ∙ ap is_empty (items-empty edit_cmp))
+pub no_registers : (m : RegistersByObject) → AreRegisters m → edit_set m ≡ empty → m ≡ []
+no_registers m are none = nothing m (is_empty-edit_set m are ∙ ap has_no_edit none ∙ ap is_empty (items-empty edit_cmp))
   where
     nothing : (m : RegistersByObject) → is_empty m ≡ true → m ≡ []
     nothing [] h = refl

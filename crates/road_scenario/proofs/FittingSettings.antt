@@ -1,11 +1,10 @@
 -- The settings that edits within the plan's ranges give fit the plan.
 use Rattle.std.specs.Prelude.{◌≡◌, ℕ, zero, suc, ◌+◌, ◌<◌, ◌≤◌, ◌==◌, Bool, true, false, cond, List, [], ◌∷◌, map, length, slice_index_or, slice_index, nat_lt, nat_le, is_some, refl}
 use Rattle.std.specs.declared.option.Option.TheVariants.{None, Some}
-use Rattle.std.specs.List.{All, filter, list_any, best_of, range_with_len}
+use Rattle.std.specs.List.{All, filter, best_of, range_with_len}
 use Rattle.std.specs.List.Sorted.{IsStrictlyIncreasing}
 use Rattle.std.specs.Option.{unwrap_or, option_and_then}
-use Rattle.std.specs.Ordering.{eq_by_cmp, is_eq}
-use Rattle.std.specs.Cmp.{Equal-is, tied_itself}
+use Rattle.std.specs.Ordering.{eq_by_cmp}
 use Rattle.std.proofs.Common.{arith, sym, ap, subst, ◌∙◌, inl, inr}
 use Rattle.std.proofs.lemmas.Bool.{true≢false, or_cases, or_left, or_right, and_parts, le-leb, leb-true, ltb-true, lt-ltb}
 use Rattle.std.proofs.lemmas.List.FromFn.{length-range_with_len, get_or-range_with_len, length-map-range_with_len, get_or-map-range_with_len}
@@ -21,7 +20,6 @@ use Rattle.road_scenario.specs.declared.edit.Edit.{Edit}
 use Rattle.road_scenario.specs.declared.edit.Value.{Value}
 use Rattle.road_scenario.specs.declared.edit.Value.TheVariants.{Withdrawn, Put}
 use Rattle.road_scenario.specs.Edits.{edit_cmp, put_number}
-use Rattle.road_scenario.specs.Instances.EditOrder.{edit_total, edit_exact}
 use Rattle.road_scenario.specs.Faults.{is_value_allowed, IsInRange}
 use Rattle.road_scenario.specs.Settings.{is_put_up_to, latest_edit, setting_in, settings_in}
 use Rattle.road_scenario.proofs.WalkedSettings.{same}

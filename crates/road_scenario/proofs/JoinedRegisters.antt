@@ -34,7 +34,7 @@ use Rattle.road_scenario.specs.Edits.{Edits, Rank, edit_cmp, is_exceeded_by, edi
 use Rattle.road_scenario.specs.Instances.EditOrder.{edit_total, edit_exact, exceeds_strict, winners_laws, number_pair_total, number_triple_total, ordered_values, stamp_exact, value_exact}
 use Rattle.road_scenario.specs.Winners.{winners, join}
 use Rattle.road_scenario.specs.Registers.{Register, RegistersByStep, RegistersByObject, edit_with, edits_from_register, object_edits, edit_list, edit_set}
-use Rattle.road_scenario.proofs.RisingEdits.{object_cmp, IsSteps, AreMaps, winners-kept}
+use Rattle.road_scenario.proofs.RisingEdits.{object_cmp, AreRegistersByStep, AreRegisters, winners-edit_set}
 
 -- ---- sets of one edit
 
@@ -49,9 +49,6 @@ in_single e f h = elim (or_cases (eq_by_cmp edit_cmp f e) false (sym (contains-f
 
 single_in : (e : Edit) → list_any (eq_by_cmp edit_cmp e) (items (single e)) ≡ true
 single_in e = sym (contains-items (single e) e) ∙ contains-from_list edit_total (e ∷ []) e ∙ or_left (eq_by_cmp edit_cmp e e) false (ap is_eq (tied_itself edit_total e))
-
-no_edit : (f : Edit) → contains (empty {R = edit_cmp}) f ≡ true → ⊥
-no_edit f h = true≢false (sym h ∙ contains-empty edit_cmp f)
 
 pub same_edits : (s t : Edits) → ((e : Edit) → contains s e ≡ true → contains t e ≡ true) → ((e : Edit) → contains t e ≡ true → contains s e ≡ true) → s ≡ t
 same_edits s t f g = same_set edit_total edit_exact s t (λ e. both_ways _ _ (f e) (g e))
@@ -128,9 +125,9 @@ winners-at : (o : Object) (steps : RegistersByStep) → winners (from_list (obje
 winners-at o [] = nothing
 winners-at o (s ∷ steps) = winners-before o s.0 s.1 (object_edits o steps) ∙ ap (join (won_at o s.0 s.1)) (winners-at o steps)
 
-winners-listed : (m : RegistersByObject) → winners (edit_set m) ≡ all_joined m
-winners-listed [] = nothing
-winners-listed (x ∷ m) = winners-append (object_edits x.0 x.1) (edit_list m) ∙ (λ i. join (winners-at x.0 x.1 i) (winners-listed m i))
+winners-edit_list : (m : RegistersByObject) → winners (edit_set m) ≡ all_joined m
+winners-edit_list [] = nothing
+winners-edit_list (x ∷ m) = winners-append (object_edits x.0 x.1) (edit_list m) ∙ (λ i. join (winners-at x.0 x.1 i) (winners-edit_list m i))
 
 -- ---- joining maps joins what they hold
 
@@ -180,36 +177,36 @@ won_joins o step (Of v) (Of w) p q =
 abbrev pub steps_join : RegistersByStep → RegistersByStep → RegistersByStep
 steps_join = map_join nat_cmp won_join is_nothing
 
-pub steps_laws : LatticeLaws IsSteps steps_join is_empty
+pub steps_laws : LatticeLaws AreRegistersByStep steps_join is_empty
 steps_laws = map_laws nat_cmp nat_cmp_total exact_nat (λ _. Unit {0}) won_join is_nothing won_laws
 
-steps_joins : (o : Object) (m n : RegistersByStep) → IsSteps m → IsSteps n → joined_at o (steps_join m n) ≡ join (joined_at o m) (joined_at o n)
+steps_joins : (o : Object) (m n : RegistersByStep) → AreRegistersByStep m → AreRegistersByStep n → joined_at o (steps_join m n) ≡ join (joined_at o m) (joined_at o n)
 steps_joins o m n p q = fold-map_join nat_cmp nat_cmp_total exact_nat (λ _. Unit {0}) won_join is_nothing won_laws join empty edits_join (won_at o) (won_joins o) m n p q
 
 abbrev pub maps_join : RegistersByObject → RegistersByObject → RegistersByObject
 maps_join = map_join object_cmp steps_join is_empty
 
-pub proper-joined : (m n : RegistersByObject) → AreMaps m → AreMaps n → AreMaps (maps_join m n)
-proper-joined = proper-map_join object_cmp object_total object_exact IsSteps steps_join is_empty steps_laws
+pub proper-joined : (m n : RegistersByObject) → AreRegisters m → AreRegisters n → AreRegisters (maps_join m n)
+proper-joined = proper-map_join object_cmp object_total object_exact AreRegistersByStep steps_join is_empty steps_laws
 
-both_kept : (m n : RegistersByObject) → AreMaps m → AreMaps n → join (all_joined m) (all_joined n) ≡ join (edit_set m) (edit_set n)
-both_kept m n p q = λ i. join ((sym (winners-listed m) ∙ winners-kept m p) i) ((sym (winners-listed n) ∙ winners-kept n q) i)
+both_edit_sets : (m n : RegistersByObject) → AreRegisters m → AreRegisters n → join (all_joined m) (all_joined n) ≡ join (edit_set m) (edit_set n)
+both_edit_sets m n p q = λ i. join ((sym (winners-edit_list m) ∙ winners-edit_set m p) i) ((sym (winners-edit_list n) ∙ winners-edit_set n q) i)
 
 -- joined maps hold the join of what the two hold
-pub kept-joined : (m n : RegistersByObject) → AreMaps m → AreMaps n → edit_set (maps_join m n) ≡ join (edit_set m) (edit_set n)
-kept-joined m n p q =
-    sym (winners-kept (maps_join m n) (proper-joined m n p q)) ∙ winners-listed (maps_join m n)
-    ∙ fold-map_join object_cmp object_total object_exact IsSteps steps_join is_empty steps_laws join empty edits_join joined_at steps_joins m n p q
-    ∙ both_kept m n p q
+pub edit_set-joined : (m n : RegistersByObject) → AreRegisters m → AreRegisters n → edit_set (maps_join m n) ≡ join (edit_set m) (edit_set n)
+edit_set-joined m n p q =
+    sym (winners-edit_set (maps_join m n) (proper-joined m n p q)) ∙ winners-edit_list (maps_join m n)
+    ∙ fold-map_join object_cmp object_total object_exact AreRegistersByStep steps_join is_empty steps_laws join empty edits_join joined_at steps_joins m n p q
+    ∙ both_edit_sets m n p q
 
 -- maps with one edit joined in hold the join with it
-pub kept-with : (m : RegistersByObject) (e : Edit) (steps : RegistersByStep) → AreMaps m → steps ≡ (e.step, Of (e.stamp, e.value)) ∷ [] → edit_set (joined_in object_cmp steps_join is_empty m e.object steps) ≡ join (edit_set m) (single e)
-kept-with m e steps p is =
+pub edit_set-with : (m : RegistersByObject) (e : Edit) (steps : RegistersByStep) → AreRegisters m → steps ≡ (e.step, Of (e.stamp, e.value)) ∷ [] → edit_set (joined_in object_cmp steps_join is_empty m e.object steps) ≡ join (edit_set m) (single e)
+edit_set-with m e steps p is =
     let one : RegistersByStep = (e.step, Of (e.stamp, e.value)) ∷ [] in
-    let held : IsHeld IsSteps is_empty one = (record { rises = tt; held = ((tt, refl), tt) }, refl) in
+    let held : IsHeld AreRegistersByStep is_empty one = (record { rises = tt; held = ((tt, refl), tt) }, refl) in
     ap (λ x. edit_set (joined_in object_cmp steps_join is_empty m e.object x)) is
-    ∙ sym (winners-kept _ (proper-joined_in object_cmp object_total object_exact IsSteps steps_join is_empty steps_laws m e.object one p held.0))
-    ∙ winners-listed (joined_in object_cmp steps_join is_empty m e.object one)
-    ∙ fold-joined_in object_cmp object_total object_exact IsSteps steps_join is_empty steps_laws join empty edits_join joined_at steps_joins m e.object one p held
+    ∙ sym (winners-edit_set _ (proper-joined_in object_cmp object_total object_exact AreRegistersByStep steps_join is_empty steps_laws m e.object one p held.0))
+    ∙ winners-edit_list (joined_in object_cmp steps_join is_empty m e.object one)
+    ∙ fold-joined_in object_cmp object_total object_exact AreRegistersByStep steps_join is_empty steps_laws join empty edits_join joined_at steps_joins m e.object one p held
     ∙ winners_laws.commutative (joined_at e.object one) (all_joined m)
-    ∙ (λ i. join ((sym (winners-listed m) ∙ winners-kept m p) i) ((join-empty (single e) ∙ winners-single e) i))
+    ∙ (λ i. join ((sym (winners-edit_list m) ∙ winners-edit_set m p) i) ((join-empty (single e) ∙ winners-single e) i))

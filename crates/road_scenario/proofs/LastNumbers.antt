@@ -147,10 +147,10 @@ or_nothing None = refl
 or_nothing (Some n) = refl
 
 -- the latest of an object's edits puts the last number of its steps
-pub latest_put : (o : Object) (step : ℕ) (steps : RegistersByStep) → T (is_sorted nat_cmp steps) → option_and_then (λ e. put_number e.value) (latest_edit (chosen o step o steps)) ≡ last_number step steps
-latest_put o step [] h = refl
-latest_put o step (s ∷ steps) h =
-    let rest = latest_put o step steps (second_of_both (below_all nat_cmp s.0 steps) _ h) in
+pub latest_number : (o : Object) (step : ℕ) (steps : RegistersByStep) → T (is_sorted nat_cmp steps) → option_and_then (λ e. put_number e.value) (latest_edit (chosen o step o steps)) ≡ last_number step steps
+latest_number o step [] h = refl
+latest_number o step (s ∷ steps) h =
+    let rest = latest_number o step steps (second_of_both (below_all nat_cmp s.0 steps) _ h) in
     let later = later_chosen o step s.0 steps (first_of_both (below_all nat_cmp s.0 steps) _ h) in
     let some : is_some (last_number step steps) ≡ is_some (latest_edit (chosen o step o steps)) = any-chosen o step steps ∙ sym (any-latest (chosen o step o steps)) in
     elim s.1 as (λ w. option_and_then (λ e. put_number e.value) (latest_edit (filter (is_put_up_to o step) (edits_from_register o s.0 w (object_edits o steps)))) ≡ option_or (last_number step steps) (entry_number step (s.0, w))) [

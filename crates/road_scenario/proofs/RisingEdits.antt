@@ -1,5 +1,5 @@
 -- What a scenario's maps hold, as one list: it rises by object and step, so each edit of it is a winner.
-use Rattle.std.specs.Prelude.{◌≡◌, ℕ, Bool, true, false, not, ◌&&◌, ◌||◌, T, List, [], ◌∷◌, ◌++◌, refl}
+use Rattle.std.specs.Prelude.{◌≡◌, ℕ, Bool, true, false, not, ◌&&◌, T, List, [], ◌∷◌, ◌++◌, refl}
 use Rattle.std.specs.declared.cmp.Ordering.{Ordering}
 use Rattle.std.specs.declared.cmp.Ordering.TheVariants.{Less, Equal, Greater}
 use Rattle.std.specs.Ordering.{nat_cmp, ordering_then, ordering_reverse, eq_by_cmp, is_eq, is_lt}
@@ -29,11 +29,11 @@ use Rattle.road_scenario.specs.Registers.{RegistersByStep, RegistersByObject, ed
 abbrev pub object_cmp : Object → Object → Ordering
 object_cmp = derived.ghosts.cmp
 
-abbrev pub IsSteps : RegistersByStep → Type 0
-IsSteps = IsProperMap nat_cmp (λ _. Unit {0}) is_nothing
+abbrev pub AreRegistersByStep : RegistersByStep → Type 0
+AreRegistersByStep = IsProperMap nat_cmp (λ _. Unit {0}) is_nothing
 
-abbrev pub AreMaps : RegistersByObject → Type 0
-AreMaps = IsProperMap object_cmp IsSteps is_empty
+abbrev pub AreRegisters : RegistersByObject → Type 0
+AreRegisters = IsProperMap object_cmp AreRegistersByStep is_empty
 
 -- edits by object and step
 abbrev pub place_cmp : Edit → Edit → Ordering
@@ -92,15 +92,15 @@ below_object e p (s ∷ steps) l = elim s.1 as (λ w. T (is_below place_cmp e (e
   | Of w ↦ both _ _ (less _ (place_less e p s.0 w l)) (below_object e p steps l)
 ]
 
-below_listed : (e : Edit) (m : RegistersByObject) → T (below_all object_cmp e.object m) → T (is_below place_cmp e (edit_list m))
-below_listed e [] h = tt
-below_listed e (x ∷ m) h = below-append place_cmp e (object_edits x.0 x.1) (edit_list m) (below_object e x.0 x.1 (is_less _ (first_of_both (is_lt (object_cmp e.object x.0)) _ h))) (below_listed e m (second_of_both (is_lt (object_cmp e.object x.0)) _ h))
+below_edit_list : (e : Edit) (m : RegistersByObject) → T (below_all object_cmp e.object m) → T (is_below place_cmp e (edit_list m))
+below_edit_list e [] h = tt
+below_edit_list e (x ∷ m) h = below-append place_cmp e (object_edits x.0 x.1) (edit_list m) (below_object e x.0 x.1 (is_less _ (first_of_both (is_lt (object_cmp e.object x.0)) _ h))) (below_edit_list e m (second_of_both (is_lt (object_cmp e.object x.0)) _ h))
 
 each_below : (o : Object) (steps : RegistersByStep) (m : RegistersByObject) → T (below_all object_cmp o m) → EachBelow place_cmp (object_edits o steps) (edit_list m)
 each_below o [] m h = tt
 each_below o (s ∷ steps) m h = elim s.1 as (λ w. EachBelow place_cmp (edits_from_register o s.0 w (object_edits o steps)) (edit_list m)) [
   | Nothing ↦ each_below o steps m h
-  | Of w ↦ (below_listed (edit_with o s.0 w) m h, each_below o steps m h)
+  | Of w ↦ (below_edit_list (edit_with o s.0 w) m h, each_below o steps m h)
 ]
 
 below_steps : (o : Object) (s : ℕ) (v : Stamp × Value) (steps : RegistersByStep) → T (below_all nat_cmp s steps) → T (is_below place_cmp (edit_with o s v) (object_edits o steps))
@@ -121,10 +121,10 @@ rising_at o (s ∷ steps) h =
       | Of w ↦ both _ _ (below_steps o s.0 w steps (first_of_both (below_all nat_cmp s.0 steps) _ h)) rest
     ]
 
-pub rising_listed : (m : RegistersByObject) → T (is_sorted object_cmp m) → EachEntry (λ e. IsHeld IsSteps is_empty e.1) m → T (is_rising place_cmp (edit_list m))
-rising_listed [] h k = tt
-rising_listed (x ∷ m) h k =
-    rising-append place_cmp (object_edits x.0 x.1) (edit_list m) (rising_at x.0 x.1 k.0.0.rises) (rising_listed m (second_of_both (below_all object_cmp x.0 m) _ h) k.1) (each_below x.0 x.1 m (first_of_both (below_all object_cmp x.0 m) _ h))
+pub rising_edit_list : (m : RegistersByObject) → T (is_sorted object_cmp m) → EachEntry (λ e. IsHeld AreRegistersByStep is_empty e.1) m → T (is_rising place_cmp (edit_list m))
+rising_edit_list [] h k = tt
+rising_edit_list (x ∷ m) h k =
+    rising-append place_cmp (object_edits x.0 x.1) (edit_list m) (rising_at x.0 x.1 k.0.0.rises) (rising_edit_list m (second_of_both (below_all object_cmp x.0 m) _ h) k.1) (each_below x.0 x.1 m (first_of_both (below_all object_cmp x.0 m) _ h))
 
 by_edit : (e f : Edit) → T (is_lt (place_cmp e f)) → T (is_lt (edit_cmp e f))
 by_edit e f p = less _ (ap (λ r. ordering_then r (number_triple_cmp (edit_rank e) (edit_rank f))) (is_less (place_cmp e f) p))
@@ -169,14 +169,14 @@ winners-rising es p =
     contains-retain s (λ e. not (list_any (is_exceeded_by e) (items s))) q (λ x t. ap (λ y. not (list_any (is_exceeded_by y) (items s))) (sym (edit_exact q x t)))
     ∙ kept_test (contains s q) (list_any (is_exceeded_by q) (items s)) (λ h. ap (list_any (is_exceeded_by q)) listing ∙ none_exceeds es p q (ap (list_any (eq_by_cmp edit_cmp q)) (sym listing) ∙ sym (contains-items s q) ∙ h)))
 
-module _ (m : RegistersByObject) (are : AreMaps m) where
+module _ (m : RegistersByObject) (are : AreRegisters m) where
   rises : T (is_rising place_cmp (edit_list m))
-  rises = rising_listed m are.rises are.held
+  rises = rising_edit_list m are.rises are.held
 
   -- the items of what is kept are its list
-  pub items-kept : items (edit_set m) ≡ edit_list m
-  items-kept = items-from_list edit_total (edit_list m) (rising_edits (edit_list m) rises)
+  pub items-edit_set : items (edit_set m) ≡ edit_list m
+  items-edit_set = items-from_list edit_total (edit_list m) (rising_edits (edit_list m) rises)
 
   -- what is kept are winners
-  pub winners-kept : winners (edit_set m) ≡ edit_set m
-  winners-kept = winners-rising (edit_list m) rises
+  pub winners-edit_set : winners (edit_set m) ≡ edit_set m
+  winners-edit_set = winners-rising (edit_list m) rises

@@ -3,12 +3,11 @@ use Rattle.std.specs.Prelude.{◌≡◌, ℕ, ◌≤◌, Bool, true, false, cond
 use Rattle.std.specs.declared.option.Option.TheVariants.{None, Some}
 use Rattle.std.specs.List.{list_any, filter, best_of}
 use Rattle.std.specs.Option.{unwrap_or, option_and_then}
-use Rattle.std.specs.Ordering.{eq_by_cmp, is_eq}
-use Rattle.std.specs.Cmp.{Equal-is, tied_itself}
+use Rattle.std.specs.Ordering.{eq_by_cmp}
 use Rattle.std.proofs.Common.{arith, sym, ap, subst, ◌∙◌, inl, inr}
 use Rattle.std.proofs.lemmas.Bool.{true≢false, or_cases, or_left, or_right, and_parts, and_from}
 use Rattle.std.proofs.lemmas.Bool.Decides.{nat_tests}
-use Rattle.road_scenario.proofs.EditMembers.{IsIn, same_edit, tied_to_itself, kept_in, passing_in, any-filter}
+use Rattle.road_scenario.proofs.EditMembers.{IsIn, same_edit, tied_to_itself, kept_in, any-filter}
 use Rattle.lattice_core.specs.Sets.{contains, items, from_list}
 use Rattle.lattice_core.proofs.SetElements.{contains-from_list, contains-items}
 use Rattle.road_plan.specs.Plan.{Plan}
@@ -16,12 +15,12 @@ use Rattle.road_plan.specs.Objects.{order_key, default}
 use Rattle.road_plan.specs.declared.object.Object.{Object}
 use Rattle.road_scenario.specs.declared.edit.Edit.{Edit}
 use Rattle.road_scenario.specs.Edits.{Edits, edit_cmp, edit_place, put_number}
-use Rattle.road_scenario.specs.Instances.EditOrder.{edit_total, edit_exact}
+use Rattle.road_scenario.specs.Instances.EditOrder.{edit_total}
 use Rattle.road_scenario.specs.Settings.{is_put_up_to, latest_edit, setting_in, settings_in, settings_of, all_settings}
 use Rattle.road_scenario.specs.Winners.{winners, winners_in}
 use Rattle.road_scenario.proofs.FittingSettings.{latest_in}
 use Rattle.road_scenario.proofs.WalkedSettings.{same}
-use Rattle.road_scenario.proofs.WinnersOfLists.{alone, listed}
+use Rattle.road_scenario.proofs.WinnersOfLists.{alone, from_list-winners_in}
 
 abbrev later : Edit → Edit → Bool
 later f best = nat_lt best.step f.step
@@ -105,9 +104,9 @@ module _ (xs ys : List Edit) (alike : (e : Edit) → list_any (eq_by_cmp edit_cm
   same_setting p = ap (λ x. unwrap_or (option_and_then (λ e. put_number e.value) x) (default p o)) same_latest
 
 -- the winners of a list, in its order, give the settings of its set
-pub settings-listed : (p : Plan) (es : List Edit) (step : ℕ) → settings_in p (winners_in es) step ≡ settings_of p (from_list es) step
-settings-listed p es step =
+pub settings-winners_in : (p : Plan) (es : List Edit) (step : ℕ) → settings_in p (winners_in es) step ≡ settings_of p (from_list es) step
+settings-winners_in p es step =
     let s : Edits = winners (from_list es) in
-    let alike : (e : Edit) → list_any (eq_by_cmp edit_cmp e) (winners_in es) ≡ list_any (eq_by_cmp edit_cmp e) (items s) = λ e. sym (contains-from_list edit_total (winners_in es) e) ∙ ap (λ x. contains x e) (listed es) ∙ contains-items s e in
+    let alike : (e : Edit) → list_any (eq_by_cmp edit_cmp e) (winners_in es) ≡ list_any (eq_by_cmp edit_cmp e) (items s) = λ e. sym (contains-from_list edit_total (winners_in es) e) ∙ ap (λ x. contains x e) (from_list-winners_in es) ∙ contains-items s e in
     let once : (e f : Edit) → IsIn e (winners_in es) → IsIn f (winners_in es) → edit_place e ≡ edit_place f → e ≡ f = λ e f i j. alone (from_list es) e f (contains-items s e ∙ sym (alike e) ∙ i) (contains-items s f ∙ sym (alike f) ∙ j) in
     λ i. all_settings p (λ o. same_setting (winners_in es) (items s) alike once o step p i)

@@ -4,7 +4,7 @@ use Rattle.std.specs.declared.cmp.Ordering.{Ordering}
 use Rattle.std.specs.declared.cmp.Ordering.TheVariants.{Less, Equal, Greater}
 use Rattle.std.specs.declared.option.Option.{Option}
 use Rattle.std.specs.declared.option.Option.TheVariants.{None, Some}
-use Rattle.std.specs.List.{filter, fold, list_any, reduce}
+use Rattle.std.specs.List.{filter, fold, reduce}
 use Rattle.std.specs.Ordering.{nat_cmp, ordering_then, eq_by_cmp, is_eq, is_lt}
 use Rattle.std.specs.Cmp.{Equal-is, tied_itself}
 use Rattle.std.specs.FinMap.Entries.{find, below_all, is_sorted}
@@ -30,7 +30,7 @@ use Rattle.road_scenario.specs.Instances.EditOrder.{edit_total, edit_exact, numb
 use Rattle.road_scenario.specs.Registers.{Register, RegistersByStep, RegistersByObject, edit_with, edits_from_register, object_edits, edit_list, edit_set}
 use Rattle.road_scenario.specs.Touched.{put_number_at, has_other_number, touched, touched_in}
 use Rattle.road_scenario.specs.Private.RegisterWalks.{number_at_step, first_change_at, first_change, earlier_step, registers_of_object, register_number}
-use Rattle.road_scenario.proofs.RisingEdits.{object_cmp, place_cmp, IsSteps, AreMaps, is_less, rising_listed, below-each}
+use Rattle.road_scenario.proofs.RisingEdits.{object_cmp, place_cmp, AreRegistersByStep, AreRegisters, is_less, rising_edit_list, below-each}
 use Rattle.road_scenario.proofs.LastNumbers.{is_one, other_above, steps_here, steps_there}
 use Rattle.road_scenario.proofs.WalkedSettings.{same}
 use Rattle.road_scenario.proofs.SettingsOfRegisters.{winners-items}
@@ -85,7 +85,7 @@ put_here o step (s ∷ steps) fs h none = here s.1 h.0.1 (put_here o step steps 
         ∙ either (is_eq (nat_cmp step s.0)) w (find nat_cmp step steps)
 
 -- what is put at an object and step is found by look-ups
-put_found : (m : RegistersByObject) → T (is_sorted object_cmp m) → EachEntry (λ e. IsHeld IsSteps is_empty e.1) m → (o : Object) (step : ℕ) → put_number_at (edit_list m) (object_place o step) ≡ number_at_step (registers_of_object object_cmp m o) step
+put_found : (m : RegistersByObject) → T (is_sorted object_cmp m) → EachEntry (λ e. IsHeld AreRegistersByStep is_empty e.1) m → (o : Object) (step : ℕ) → put_number_at (edit_list m) (object_place o step) ≡ number_at_step (registers_of_object object_cmp m o) step
 put_found [] s h o step = refl
 put_found (e ∷ m) s h o step = elim (is_one e.0 o) as (λ b. is_one e.0 o ≡ b → put_number_at (edit_list (e ∷ m)) (object_place o step) ≡ number_at_step (registers_of_object object_cmp (e ∷ m) o) step) [
   | true ↦ λ t.
@@ -126,10 +126,10 @@ abbrev AllLater : ℕ → List Edit → Type 0
 AllLater step [] = Unit {0}
 AllLater step (e ∷ es) = (step < e.step) × AllLater step es
 
-later_listed : (o : Object) (a : ℕ) (steps : RegistersByStep) → T (below_all nat_cmp a steps) → AllLater a (object_edits o steps)
-later_listed o a [] h = tt
-later_listed o a (s ∷ steps) h =
-    let rest = later_listed o a steps (second_of_both (is_lt (nat_cmp a s.0)) _ h) in
+later_object_edits : (o : Object) (a : ℕ) (steps : RegistersByStep) → T (below_all nat_cmp a steps) → AllLater a (object_edits o steps)
+later_object_edits o a [] h = tt
+later_object_edits o a (s ∷ steps) h =
+    let rest = later_object_edits o a steps (second_of_both (is_lt (nat_cmp a s.0)) _ h) in
     elim s.1 as (λ w. AllLater a (edits_from_register o s.0 w (object_edits o steps))) [
       | Nothing ↦ rest
       | Of w ↦ (is_later a s.0 (is_less _ (first_of_both (is_lt (nat_cmp a s.0)) _ h)), rest)
@@ -158,7 +158,7 @@ is_new n e = not (option_eq nat_eq (put_number e.value) (number_at_step (registe
 
 least_at : (n : RegistersByObject) (o : Object) (steps : RegistersByStep) → T (is_sorted nat_cmp steps) → EachEntry (λ e. IsHeld (λ _. Unit {0}) is_nothing e.1) steps → reduce min (steps_of_edits (filter (is_new n) (object_edits o steps))) ≡ first_change_at steps (registers_of_object object_cmp n o)
 least_at n o [] s h = refl
-least_at n o (x ∷ steps) s h = here x.1 h.0.1 (least_at n o steps (second_of_both (below_all nat_cmp x.0 steps) _ s) h.1) (later_kept (is_new n) x.0 (object_edits o steps) (later_listed o x.0 steps (first_of_both (below_all nat_cmp x.0 steps) _ s)))
+least_at n o (x ∷ steps) s h = here x.1 h.0.1 (least_at n o steps (second_of_both (below_all nat_cmp x.0 steps) _ s) h.1) (later_kept (is_new n) x.0 (object_edits o steps) (later_object_edits o x.0 steps (first_of_both (below_all nat_cmp x.0 steps) _ s)))
   where
     either : (b : Bool) (w : Stamp × Value) → reduce min (steps_of_edits (filter (is_new n) (object_edits o steps))) ≡ first_change_at steps (registers_of_object object_cmp n o) → AllLater x.0 (filter (is_new n) (object_edits o steps))
         → reduce min (steps_of_edits (cond (not b) (edit_with o x.0 w ∷ filter (is_new n) (object_edits o steps)) (filter (is_new n) (object_edits o steps)))) ≡ cond b (first_change_at steps (registers_of_object object_cmp n o)) (Some x.0)
@@ -170,7 +170,7 @@ least_at n o (x ∷ steps) s h = here x.1 h.0.1 (least_at n o steps (second_of_b
     here Nothing g rest later = absurd (true≢false g)
     here (Of w) g rest later = either (option_eq nat_eq (put_number w.1) (number_at_step (registers_of_object object_cmp n o) x.0)) w rest later
 
-least_all : (n m : RegistersByObject) → EachEntry (λ e. IsHeld IsSteps is_empty e.1) m → reduce min (steps_of_edits (filter (is_new n) (edit_list m))) ≡ first_change object_cmp m n
+least_all : (n m : RegistersByObject) → EachEntry (λ e. IsHeld AreRegistersByStep is_empty e.1) m → reduce min (steps_of_edits (filter (is_new n) (edit_list m))) ≡ first_change object_cmp m n
 least_all n [] h = refl
 least_all n (e ∷ m) h =
     ap (λ es. reduce min (steps_of_edits es)) (filter-append (is_new n) (object_edits e.0 e.1) (edit_list m))
@@ -193,7 +193,7 @@ turned_number (Some n) (Some m) = turned_test n m
     turned_test : (n m : ℕ) → (n == m) ≡ (m == n)
     turned_test n m = grind (arith, nat_tests)
 
-module _ (m n : RegistersByObject) (are : AreMaps m) (also : AreMaps n) where
+module _ (m n : RegistersByObject) (are : AreRegisters m) (also : AreRegisters n) where
   abbrev es : List Edit
   es = edit_list m
 
@@ -201,11 +201,11 @@ module _ (m n : RegistersByObject) (are : AreMaps m) (also : AreMaps n) where
   fs = edit_list n
 
   ours : (e : Edit) → IsIn e es → has_other_number es fs e ≡ is_new n e
-  ours e i = λ j. not (option_eq nat_eq (put_own es (rising_listed m are.rises are.held) e i j) (put_found n also.rises also.held e.object e.step j))
+  ours e i = λ j. not (option_eq nat_eq (put_own es (rising_edit_list m are.rises are.held) e i j) (put_found n also.rises also.held e.object e.step j))
 
   theirs : (e : Edit) → IsIn e fs → has_other_number es fs e ≡ is_new m e
   theirs e i =
-      (λ j. not (option_eq nat_eq (put_found m are.rises are.held e.object e.step j) (put_own fs (rising_listed n also.rises also.held) e i j)))
+      (λ j. not (option_eq nat_eq (put_found m are.rises are.held e.object e.step j) (put_own fs (rising_edit_list n also.rises also.held) e i j)))
       ∙ ap not (turned_number (number_at_step (registers_of_object object_cmp m e.object) e.step) (put_number e.value))
 
   both_changed : touched_in es fs ≡ earlier_step (first_change object_cmp m n) (first_change object_cmp n m)
@@ -216,5 +216,5 @@ module _ (m n : RegistersByObject) (are : AreMaps m) (also : AreMaps n) where
       ∙ (λ j. earlier_step (least_all n m are.held j) (least_all m n also.held j))
 
   -- what two scenarios' maps hold differs first where the walks say
-  pub touched-kept : touched (edit_set m) (edit_set n) ≡ earlier_step (first_change object_cmp m n) (first_change object_cmp n m)
-  touched-kept = (λ j. touched_in (winners-items m are j) (winners-items n also j)) ∙ both_changed
+  pub touched-edit_set : touched (edit_set m) (edit_set n) ≡ earlier_step (first_change object_cmp m n) (first_change object_cmp n m)
+  touched-edit_set = (λ j. touched_in (winners-items m are j) (winners-items n also j)) ∙ both_changed

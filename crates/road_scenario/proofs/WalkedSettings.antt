@@ -24,8 +24,8 @@ use Rattle.road_plan.specs.declared.object.Object.TheVariants.{Limit, Slow, Bloc
 use Rattle.road_scenario.specs.Registers.{RegistersByStep, RegistersByObject, object_edits, edit_list}
 use Rattle.road_scenario.specs.Settings.{is_put_up_to, latest_edit, setting_in, settings_in, all_settings}
 use Rattle.road_scenario.specs.Private.RegisterWalks.{last_number, registers_of_object, settings_with_number, settings_with_optional, settings_with_last_numbers, has_place}
-use Rattle.road_scenario.proofs.RisingEdits.{object_cmp, IsSteps, AreMaps, is_less}
-use Rattle.road_scenario.proofs.LastNumbers.{is_one, chosen, none_of_other, none_above, latest_put, other_above, steps_here, steps_there, one_object}
+use Rattle.road_scenario.proofs.RisingEdits.{object_cmp, AreRegistersByStep, AreRegisters, is_less}
+use Rattle.road_scenario.proofs.LastNumbers.{is_one, chosen, none_of_other, none_above, latest_number, other_above, steps_here, steps_there, one_object}
 
 -- ---- the setting of an object
 
@@ -33,9 +33,9 @@ pub same : (p o : Object) → is_one p o ≡ true → p ≡ o
 same p o t = one_object p o t (λ x y e. object_exact x y (ordered x y ∙ e))
 
 -- the latest edit of an object puts the last number of its steps
-pub number-listed : (m : RegistersByObject) → T (is_sorted object_cmp m) → EachEntry (λ e. IsHeld IsSteps is_empty e.1) m → (o : Object) (step : ℕ) → option_and_then (λ e. put_number e.value) (latest_edit (filter (is_put_up_to o step) (edit_list m))) ≡ last_number step (registers_of_object object_cmp m o)
-number-listed [] s h o step = refl
-number-listed (e ∷ m) s h o step =
+pub number-edit_list : (m : RegistersByObject) → T (is_sorted object_cmp m) → EachEntry (λ e. IsHeld AreRegistersByStep is_empty e.1) m → (o : Object) (step : ℕ) → option_and_then (λ e. put_number e.value) (latest_edit (filter (is_put_up_to o step) (edit_list m))) ≡ last_number step (registers_of_object object_cmp m o)
+number-edit_list [] s h o step = refl
+number-edit_list (e ∷ m) s h o step =
     ap (λ es. option_and_then (λ e. put_number e.value) (latest_edit es)) (filter-append (is_put_up_to o step) (object_edits e.0 e.1) (edit_list m))
     ∙ elim (is_one e.0 o) as (λ b. is_one e.0 o ≡ b → option_and_then (λ e. put_number e.value) (latest_edit (chosen o step e.0 e.1 ++ filter (is_put_up_to o step) (edit_list m))) ≡ last_number step (registers_of_object object_cmp (e ∷ m) o)) [
       | true ↦ λ t.
@@ -43,17 +43,17 @@ number-listed (e ∷ m) s h o step =
           ap (λ es. option_and_then (λ e. put_number e.value) (latest_edit (chosen o step e.0 e.1 ++ es))) (none_above o step m (subst (λ x. T (below_all object_cmp x m)) is (first_of_both (below_all object_cmp e.0 m) _ s)))
           ∙ ap (λ es. option_and_then (λ e. put_number e.value) (latest_edit es)) (append-nil (chosen o step e.0 e.1))
           ∙ ap (λ x. option_and_then (λ e. put_number e.value) (latest_edit (chosen o step x e.1))) is
-          ∙ latest_put o step e.1 h.0.0.rises
+          ∙ latest_number o step e.1 h.0.0.rises
           ∙ ap (last_number step) (sym (steps_here e m o t))
       | false ↦ λ t.
           ap (λ es. option_and_then (λ e. put_number e.value) (latest_edit (es ++ filter (is_put_up_to o step) (edit_list m)))) (none_of_other o e.0 step e.1 t)
-          ∙ number-listed m (second_of_both (below_all object_cmp e.0 m) _ s) h.1 o step
+          ∙ number-edit_list m (second_of_both (below_all object_cmp e.0 m) _ s) h.1 o step
           ∙ ap (last_number step) (sym (steps_there e m o t))
     ] refl
 
 -- the setting is the last number of the object's steps
-pub setting-listed : (p : Plan) (m : RegistersByObject) → AreMaps m → (o : Object) (step : ℕ) → setting_in p (edit_list m) o step ≡ unwrap_or (last_number step (registers_of_object object_cmp m o)) (default p o)
-setting-listed p m are o step = ap (λ x. unwrap_or x (default p o)) (number-listed m are.rises are.held o step)
+pub setting-edit_list : (p : Plan) (m : RegistersByObject) → AreRegisters m → (o : Object) (step : ℕ) → setting_in p (edit_list m) o step ≡ unwrap_or (last_number step (registers_of_object object_cmp m o)) (default p o)
+setting-edit_list p m are o step = ap (λ x. unwrap_or x (default p o)) (number-edit_list m are.rises are.held o step)
 
 -- ---- the walk, object by object
 
@@ -259,11 +259,11 @@ all_ready p [] h = tt
 all_ready p (e ∷ m) h = (ready p e.0 h.0, all_ready p m h.1)
 
 -- the walk from the plan's own settings gives the settings
-pub puts-settings : (p : Plan) (m : RegistersByObject) (step : ℕ) → AreMaps m → AreInPlan p m → settings_with_last_numbers step (defaults p) m ≡ settings_in p (edit_list m) step
+pub puts-settings : (p : Plan) (m : RegistersByObject) (step : ℕ) → AreRegisters m → AreInPlan p m → settings_with_last_numbers step (defaults p) m ≡ settings_in p (edit_list m) step
 puts-settings p m step are inside =
     ap (λ s. settings_with_last_numbers step s m) (own-settings p)
     ∙ puts_all p step m (default p) are.rises (all_ready p m inside)
-    ∙ (λ i. all_settings p (λ q. (read-steps step m q (default p q) are.rises ∙ sym (setting-listed p m are q step)) i))
+    ∙ (λ i. all_settings p (λ q. (read-steps step m q (default p q) are.rises ∙ sym (setting-edit_list p m are q step)) i))
 
 -- ---- places
 

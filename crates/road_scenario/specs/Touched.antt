@@ -1,9 +1,9 @@
 -- From which step on two sets of edits put different numbers.
-use Rattle.std.specs.Prelude.{◌<◌, IfSome, nat_eq, ℕ, not, min, Bool, true, false, cond, List, [], ◌∷◌, ◌++◌, map, ◌==◌}
+use Rattle.std.specs.Prelude.{◌<◌, IfSome, nat_eq, ℕ, not, min, Bool, cond, List, [], ◌∷◌, ◌++◌, map}
 use Rattle.std.specs.Option.{option_eq}
 use Rattle.std.specs.List.{filter, reduce}
 use Rattle.std.specs.declared.option.Option.{Option}
-use Rattle.std.specs.declared.option.Option.TheVariants.{None, Some}
+use Rattle.std.specs.declared.option.Option.TheVariants.{None}
 use Rattle.lattice_core.specs.Sets.{items}
 use Rattle.road_scenario.specs.declared.edit.Edit.{Edit}
 use Rattle.road_scenario.specs.Edits.{Edits, Place, edit_place, is_at, put_number}

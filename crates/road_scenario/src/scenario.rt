@@ -70,8 +70,8 @@ impl Scenario {
     /// `OutOfMemory` where a growth was refused; the scenario is then as before.
     pub fn with_edit(&self, edit: &Edit) -> Result<Self, OutOfMemory>
         ensures winners { IfOk result (λ new. new ≡ join self.now (sets.from_list (edit.now ∷ []))) }
-        ensures fits { IfOk result (λ new. (plan : Plan) →
-            AreInRange plan self.now → fault_of plan edit.now ≡ None → AreInRange plan new) }
+        ensures fits { (plan : Plan) → AreInRange plan self.now → fault_of plan edit.now ≡ None →
+            IfOk result (λ new. AreInRange plan new) }
     {
         self.registers.known();
         let won = Greatest::Of((edit.stamp, edit.value));
@@ -90,8 +90,8 @@ impl Scenario {
     /// `OutOfMemory` where a growth was refused; both are then as before.
     pub fn joined(&self, other: &Self) -> Result<Self, OutOfMemory>
         ensures winners { IfOk result (λ joined. joined ≡ join self.now other.now) }
-        ensures fits { IfOk result (λ joined. (plan : Plan) →
-            AreInRange plan self.now → AreInRange plan other.now → AreInRange plan joined) }
+        ensures fits { (plan : Plan) → AreInRange plan self.now → AreInRange plan other.now →
+            IfOk result (λ joined. AreInRange plan joined) }
     {
         self.registers.known();
         other.registers.known();

@@ -1,6 +1,6 @@
 // Walks over a scenario's registers that read the numbers put.
 
-ghost use Rattle.std.specs.Prelude.{◌≡◌, true, OnOk};
+ghost use Rattle.std.specs.Prelude.{◌≡◌, true, OnErr, OnOk};
 ghost use Rattle.lattice_core.specs.Map.{EachEntry};
 ghost use Rattle.road_scenario.specs.Private.RegisterWalks as walks;
 
@@ -27,10 +27,11 @@ pub(crate) fn put_all(
     Ok(())
 }
 
-// Puts a number into the settings. A blocked cell comes after those that are there.
+// Puts a number into the settings. A blocked cell comes after those that are there, and grows them; nothing else does.
 fn put(settings: &mut Settings, object: Object, number: u32) -> Result<(), OutOfMemory>
     requires { walks.has_place settings.now object ≡ true }
-    ensures { OnOk result (settings.new ≡ walks.settings_with_number settings.old object number) }
+    ensures put { OnOk result (settings.new ≡ walks.settings_with_number settings.old object number) }
+    ensures memory { OnErr result (number ≡ 1) }
 {
     match object {
         Object::Limit(zone) => settings.limits[zone as usize] = number,

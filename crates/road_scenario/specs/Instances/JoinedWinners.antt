@@ -34,10 +34,12 @@ some_winner s e i =
     elim (cases_Bool (list_any (is_exceeded_by e) (items s))) as (λ _. (g : Edit) × (contains (winners s) g ≡ true)) [
       | inl h ↦
           let f = any_gives edit_total edit_exact (is_exceeded_by e) (items s) h in
-          let g = top_above edit_total edit_exact is_exceeded_by exceeds_strict s e f.0 (contains-items s f.0 ∙ f.1) f.2 in
+          let inside = contains-items s f.0 ∙ f.1 in
+          let g = top_above edit_total edit_exact is_exceeded_by exceeds_strict s e f.0 inside f.2 in
           (g.0, g.1)
       | inr h ↦
-          (e, contains-tops edit_total edit_exact is_exceeded_by exceeds_strict s e ∙ and_from _ _ i (not_from_false _ h))
+          let top = and_from _ _ i (not_from_false _ h) in
+          (e, contains-tops edit_total edit_exact is_exceeded_by exceeds_strict s e ∙ top)
     ]
 
 none_inside : (s : Edits) (e : Edit) → has_no_edit s ≡ true → contains s e ≡ true → ⊥

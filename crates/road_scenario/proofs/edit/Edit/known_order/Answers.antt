@@ -7,7 +7,7 @@ use Rattle.road_scenario.specs.contracts.edit.EditOrd.TheImpl as derived_edit
 use Rattle.road_scenario.specs.contracts.edit.StampOrd.TheImpl as derived_stamp
 use Rattle.road_scenario.specs.contracts.edit.ValueOrd.TheImpl as derived_value
 use Rattle.road_scenario.specs.declared.edit.Edit.{Edit}
-use Rattle.road_scenario.specs.Edits.{edit_cmp, edit_rank, number_triple_cmp}
+use Rattle.road_scenario.specs.Edits.{edit_rank, number_triple_cmp}
 use Rattle.road_scenario.specs.Instances.EditOrder.{ordered_stamps, ordered_values}
 use Rattle.road_scenario.proofs.GreatestCounts.{then-assoc}
 use Rattle.road_scenario.proofs.edit.Edit.known_order.Goals as goal

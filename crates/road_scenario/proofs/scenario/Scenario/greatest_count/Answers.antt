@@ -3,11 +3,11 @@ use Rattle.road_plan.specs.declared.limits.TheConstants.{GREATEST_COUNT}
 use Rattle.road_scenario.specs.Counts.{greatest_count, greatest_count_in}
 use Rattle.road_scenario.proofs.EditRanges.{in_range-count}
 use Rattle.road_scenario.proofs.GreatestCounts.{greatest_count-winners}
-use Rattle.road_scenario.proofs.RisingEdits.{items-kept}
+use Rattle.road_scenario.proofs.RisingEdits.{items-edit_set}
 use Rattle.road_scenario.proofs.scenario.Scenario.greatest_count.Goals as goal
 
 counted : (c : goal.After-greatest_count_of) → c.greatest_count_of.result ≡ greatest_count c.args.self.now
-counted c = c.greatest_count_of.ensures ∙ ap greatest_count_in (sym (items-kept c.self.inside.registers c.known.ensures)) ∙ ap greatest_count c.self.view_is
+counted c = c.greatest_count_of.ensures ∙ ap greatest_count_in (sym (items-edit_set c.self.inside.registers c.known.ensures)) ∙ ap greatest_count c.self.view_is
 
 pub returns-clause-here : goal.returns-clause-here
 returns-clause-here c = counted c

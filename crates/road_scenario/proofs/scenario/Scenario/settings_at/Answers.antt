@@ -6,7 +6,7 @@ use Rattle.road_scenario.specs.Registers.{edit_set}
 use Rattle.road_scenario.specs.Settings.{settings_of}
 use Rattle.road_scenario.specs.Private.RegisterWalks.{has_place, settings_with_last_numbers}
 use Rattle.road_scenario.proofs.WalkedSettings.{places_own}
-use Rattle.road_scenario.proofs.SettingsOfRegisters.{inside_plan, settings-kept, fits-kept}
+use Rattle.road_scenario.proofs.SettingsOfRegisters.{inside_plan, settings-edit_set, Fits-edit_set}
 use Rattle.road_scenario.proofs.scenario.Scenario.settings_at.Goals as goal
 
 pub put_all-requires : goal.put_all-requires
@@ -22,7 +22,7 @@ returns-clause-made c =
     let m = c.self.inside.registers in
     let fits : AreInRange p (edit_set m) = subst (AreInRange p) (sym c.self.view_is) c.requires in
     c.in_ok-put_all.ensures ∙ ap (λ s. settings_with_last_numbers c.args.step s m) c.in_ok-settings.ensures.made
-    ∙ settings-kept p m c.args.step c.known.ensures (inside_plan p m c.known.ensures fits)
+    ∙ settings-edit_set p m c.args.step c.known.ensures (inside_plan p m c.known.ensures fits)
     ∙ ap (λ s. settings_of p s c.args.step) c.self.view_is
 
 pub returns-clause-fits : goal.returns-clause-fits
@@ -30,5 +30,5 @@ returns-clause-fits c =
     let p = c.args.plan.now in
     let m = c.self.inside.registers in
     let fits : AreInRange p (edit_set m) = subst (AreInRange p) (sym c.self.view_is) c.requires in
-    let made = c.in_ok-put_all.ensures ∙ ap (λ s. settings_with_last_numbers c.args.step s m) c.in_ok-settings.ensures.made ∙ settings-kept p m c.args.step c.known.ensures (inside_plan p m c.known.ensures fits) in
-    subst (Fits p) (sym made) (fits-kept p c.limits.ensures m c.known.ensures fits c.args.step)
+    let made = c.in_ok-put_all.ensures ∙ ap (λ s. settings_with_last_numbers c.args.step s m) c.in_ok-settings.ensures.made ∙ settings-edit_set p m c.args.step c.known.ensures (inside_plan p m c.known.ensures fits) in
+    subst (Fits p) (sym made) (Fits-edit_set p c.limits.ensures m c.known.ensures fits c.args.step)

@@ -8,14 +8,14 @@ use Rattle.road_scenario.specs.Faults.{AreInRange}
 use Rattle.road_scenario.specs.Winners.{join}
 use Rattle.road_scenario.specs.Registers.{edit_set}
 use Rattle.road_scenario.proofs.EditRanges.{in_range-join, in_range-one}
-use Rattle.road_scenario.proofs.JoinedRegisters.{kept-with, won_join}
+use Rattle.road_scenario.proofs.JoinedRegisters.{edit_set-with, won_join}
 use Rattle.road_scenario.proofs.scenario.Scenario.with_edit.Goals as goal
 
 pub returns-clause-winners : goal.returns-clause-winners
 returns-clause-winners c =
     let e = c.args.edit.now in
     ap edit_set c.in_ok-with.ensures
-    ∙ kept-with c.self.inside.registers e c.in_ok-steps.steps c.known.ensures
+    ∙ edit_set-with c.self.inside.registers e c.in_ok-steps.steps c.known.ensures
     (c.in_ok-steps.ensures ∙ ap (λ m. joined_in nat_cmp won_join is_nothing m e.step (Of (e.stamp, e.value))) c.empty-none.ensures)
     ∙ ap (λ s. join s (from_list (e ∷ []))) c.self.view_is
 
