@@ -1,5 +1,6 @@
 -- Worked examples, as equations that the check computes.
 use Rattle.std.specs.Prelude.{◌≡◌, ℕ, false, List, [], ◌∷◌, refl}
+use Rattle.std.specs.declared.cmp.Ordering.TheVariants.{Less, Greater}
 use Rattle.std.specs.declared.option.Option.TheVariants.{None, Some}
 use Rattle.road_plan.specs.Plan.{Plan}
 use Rattle.road_plan.specs.declared.object.Object.{Object}
@@ -11,8 +12,8 @@ use Rattle.road_scenario.specs.declared.edit.Value.TheVariants.{Withdrawn, Put}
 use Rattle.road_scenario.specs.declared.faults.EditFault.TheVariants.{NoObject, Step, ValueOutOfRange, Count}
 use Rattle.road_scenario.specs.Winners.{winners_in}
 use Rattle.road_scenario.specs.Settings.{setting_in, settings_in}
-use Rattle.road_scenario.specs.Touched.{put_in, touched_in}
-use Rattle.road_scenario.specs.Edits.{place_of}
+use Rattle.road_scenario.specs.Touched.{put_number_at, touched_in}
+use Rattle.road_scenario.specs.Edits.{edit_cmp, object_place}
 use Rattle.road_scenario.specs.Faults.{fault_of, first_fault}
 use Rattle.road_scenario.specs.Counts.{greatest_count_in}
 
@@ -44,6 +45,19 @@ limit_after_withdrawal = refl
 all_at_three : settings_in small (made (Limit 0) 3 1 0 (Put 1) ∷ made (Block 8) 3 2 0 (Put 1) ∷ made (Watch 0) 1 3 0 (Put 0) ∷ []) 3 ≡ record { limits = 1 ∷ []; chances = 0 ∷ []; inflows = 65536 ∷ []; blocks = 8 ∷ []; watched = false ∷ [] }
 all_at_three = refl
 
+-- edits are in the order of their objects, then of their steps, whatever their stamps and values
+by_object_first : edit_cmp (made (Limit 1) 3 1 0 (Put 1)) (made (Slow 0) 2 1 0 (Put 1)) ≡ Less
+by_object_first = refl
+
+by_step_next : edit_cmp (made (Limit 0) 5 1 0 (Put 1)) (made (Limit 0) 3 2 0 (Put 1)) ≡ Greater
+by_step_next = refl
+
+by_stamp_then : edit_cmp (made (Limit 0) 5 1 9 (Put 1)) (made (Limit 0) 5 2 0 Withdrawn) ≡ Less
+by_stamp_then = refl
+
+by_value_last : edit_cmp (made (Limit 0) 5 2 0 Withdrawn) (made (Limit 0) 5 2 0 (Put 0)) ≡ Less
+by_value_last = refl
+
 -- the greater stamp wins, whichever came first
 later_stamp_wins : winners_in (made (Limit 0) 3 2 1 (Put 2) ∷ made (Limit 0) 3 1 0 (Put 1) ∷ []) ≡ made (Limit 0) 3 2 1 (Put 2) ∷ []
 later_stamp_wins = refl
@@ -59,7 +73,7 @@ number_beats_withdrawal = refl
 withdrawal_stays : winners_in (made (Slow 0) 0 3 0 Withdrawn ∷ made (Slow 0) 0 2 0 (Put 5) ∷ []) ≡ made (Slow 0) 0 3 0 Withdrawn ∷ []
 withdrawal_stays = refl
 
-nothing_is_put : put_in (made (Slow 0) 0 3 0 Withdrawn ∷ []) (place_of (Slow 0) 0) ≡ None
+nothing_is_put : put_number_at (made (Slow 0) 0 3 0 Withdrawn ∷ []) (object_place (Slow 0) 0) ≡ None
 nothing_is_put = refl
 
 -- a put touches its step, and so does the earliest of several

@@ -1,6 +1,7 @@
 use Rattle.road_scenario.specs.Instances.EditOrder.{winners_laws}
-use Rattle.road_scenario.proofs.Joining.{winners-empty, winners-single}
-use Rattle.road_scenario.proofs.Winning as winning
+use Rattle.road_scenario.proofs.NoEdits.{winners-empty}
+use Rattle.road_scenario.proofs.JoinedRegisters.{winners-single}
+use Rattle.road_scenario.proofs.WinnersOfLists as lists
 use Rattle.road_scenario.proofs.laws.winners_agree.Goals as goal
 
 pub returns-clause-joined : goal.returns-clause-joined
@@ -13,7 +14,7 @@ pub returns-clause-single : goal.returns-clause-single
 returns-clause-single c = winners-single
 
 pub returns-clause-alone : goal.returns-clause-alone
-returns-clause-alone c = winning.alone
+returns-clause-alone c = lists.alone
 
 pub returns-clause-listed : goal.returns-clause-listed
-returns-clause-listed c = winning.listed
+returns-clause-listed c = lists.from_list-winners_in
