@@ -2,7 +2,7 @@
 use Rattle.std.specs.Prelude.{◌≡◌, Bool, true, false, cond, T, List, [], ◌∷◌, ◌++◌, map, refl}
 use Rattle.std.specs.declared.option.Option.{Option}
 use Rattle.std.specs.declared.option.Option.TheVariants.{None, Some}
-use Rattle.std.specs.List.{filter}
+use Rattle.std.specs.List.{AllByRecursion, filter}
 use Rattle.std.specs.FinMap.Entries.{find, below_all, is_sorted}
 use Rattle.std.proofs.Common.{sym, ap, subst, ◌∙◌}
 use Rattle.std.proofs.lemmas.Bool.{true≢false}
@@ -11,8 +11,9 @@ use Rattle.std.proofs.lemmas.List.Elements.{filter-append}
 use Rattle.std.proofs.lemmas.List.{append-nil}
 use Rattle.lattice_core.specs.declared.greatest.Greatest.TheVariants.{Nothing, Of}
 use Rattle.lattice_core.specs.Greatest.{is_nothing}
-use Rattle.lattice_core.specs.Map.{EachEntry, IfHeld, IsHeld, is_empty}
-use Rattle.lattice_core.specs.Instances.JoinedMaps.{good_at, same_maps, first_of_both, second_of_both}
+use Rattle.lattice_core.specs.Map.{IfHeld, IsHeld, is_empty}
+use Rattle.lattice_core.specs.Instances.JoinedMaps.{good_at, same_maps}
+use Rattle.lattice_core.specs.Instances.TestAnswers.{first_of_both, second_of_both}
 use Rattle.lattice_core.specs.Sets.{items, empty}
 use Rattle.lattice_core.proofs.SetElements.{items-empty}
 use Rattle.road_plan.specs.Instances.ObjectOrder.{object_exact}
@@ -75,7 +76,7 @@ of_object (e ∷ m) s o =
 abbrev registers_of_edits : List Edit → RegistersByStep
 registers_of_edits es = map (λ e. (e.step, Of (e.stamp, e.value))) es
 
-back : (o : Object) (steps : RegistersByStep) → EachEntry (λ e. IsHeld (λ _. Unit {0}) is_nothing e.1) steps → registers_of_edits (object_edits o steps) ≡ steps
+back : (o : Object) (steps : RegistersByStep) → AllByRecursion (λ e. IsHeld (λ _. Unit {0}) is_nothing e.1) steps → registers_of_edits (object_edits o steps) ≡ steps
 back o [] h = refl
 back o (s ∷ steps) h = here s.1 h.0.1 (back o steps h.1)
   where
@@ -125,7 +126,7 @@ not_empty-object_edits o (s ∷ steps) es h = here s.1 h.0.held.0.1
     here Nothing g = absurd (true≢false g)
     here (Of w) g = refl
 
-is_empty-edit_list : (m : RegistersByObject) → EachEntry (λ e. IsHeld AreRegistersByStep is_empty e.1) m → is_empty m ≡ is_empty (edit_list m)
+is_empty-edit_list : (m : RegistersByObject) → AllByRecursion (λ e. IsHeld AreRegistersByStep is_empty e.1) m → is_empty m ≡ is_empty (edit_list m)
 is_empty-edit_list [] h = refl
 is_empty-edit_list (e ∷ m) h = sym (not_empty-object_edits e.0 e.1 (edit_list m) h.0)
 

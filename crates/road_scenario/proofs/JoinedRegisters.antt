@@ -12,7 +12,7 @@ use Rattle.road_scenario.proofs.NoEdits.{winners-empty}
 use Rattle.lattice_core.proofs.GreatestElements.{any_by}
 use Rattle.lattice_core.specs.declared.greatest.Greatest.TheVariants.{Nothing, Of}
 use Rattle.lattice_core.specs.Exact.{IsExact}
-use Rattle.lattice_core.specs.Instances.ExactOrders.{exact_nat, exact_pair}
+use Rattle.lattice_core.specs.Instances.ExactOrders.{exact_nat, exact_pair, total_by}
 use Rattle.lattice_core.specs.Fold.{fold_join, IsJoin}
 use Rattle.lattice_core.proofs.FoldedMaps.{fold-map_with, fold-map_join}
 use Rattle.lattice_core.specs.Greatest.{is_nothing, greatest_join}
@@ -140,14 +140,11 @@ rank_of w = (stamp_key w.0, value_key w.1)
 ordered_won : (x y : Stamp × Value) → won_cmp x y ≡ number_triple_cmp (rank_of x) (rank_of y)
 ordered_won x y = ap (ordering_then (number_pair_cmp (stamp_key x.0) (stamp_key y.0))) (ordered_values x.1 y.1)
 
-by_key : {A B : Type 0} (key : A → B) (P : A → A → Ordering) (Q : B → B → Ordering) → ((x y : A) → P x y ≡ Q (key x) (key y)) → IsTotalOrder Q → IsTotalOrder P
-by_key key P Q same o = subst IsTotalOrder (λ i x y. sym (same x y) i) (on_total key o)
-
 pub object_total : IsTotalOrder object_cmp
-object_total = by_key order_key object_cmp number_pair_cmp ordered number_pair_total
+object_total = total_by order_key object_cmp number_pair_cmp ordered number_pair_total
 
 won_total : IsTotalOrder won_cmp
-won_total = by_key rank_of won_cmp number_triple_cmp ordered_won number_triple_total
+won_total = total_by rank_of won_cmp number_triple_cmp ordered_won number_triple_total
 
 won_exact : IsExact won_cmp
 won_exact = exact_pair derived_stamp.ghosts.cmp derived_value.ghosts.cmp stamp_exact value_exact

@@ -5,13 +5,13 @@ use Rattle.std.specs.declared.cmp.Ordering.TheVariants.{Less, Equal, Greater}
 use Rattle.std.specs.Ordering.{nat_cmp, ordering_then, ordering_reverse, eq_by_cmp, is_eq, is_lt}
 use Rattle.std.specs.Cmp.{Equal-is, tied_itself}
 use Rattle.std.specs.FinMap.Entries.{below_all, is_sorted}
-use Rattle.std.specs.List.{list_any}
+use Rattle.std.specs.List.{AllByRecursion, list_any}
 use Rattle.std.proofs.Common.{sym, ap, subst, ◌∙◌, inl, inr}
 use Rattle.std.proofs.lemmas.Bool.{true≢false, or_cases, and_left, or_from}
-use Rattle.lattice_core.specs.Instances.JoinedMaps.{first_of_both, second_of_both}
+use Rattle.lattice_core.specs.Instances.TestAnswers.{first_of_both, second_of_both}
 use Rattle.lattice_core.specs.declared.greatest.Greatest.TheVariants.{Nothing, Of}
 use Rattle.lattice_core.specs.Greatest.{is_nothing}
-use Rattle.lattice_core.specs.Map.{EachEntry, IsHeld, IsProperMap, is_empty}
+use Rattle.lattice_core.specs.Map.{IsHeld, IsProperMap, is_empty}
 use Rattle.lattice_core.specs.Sets.{is_below, is_rising, items, contains, from_list}
 use Rattle.lattice_core.proofs.SetElements.{contains-items, contains-retain, same_set, items-from_list}
 use Rattle.road_plan.specs.Objects.{order_key}
@@ -121,7 +121,7 @@ rising_at o (s ∷ steps) h =
       | Of w ↦ both _ _ (below_steps o s.0 w steps (first_of_both (below_all nat_cmp s.0 steps) _ h)) rest
     ]
 
-pub rising_edit_list : (m : RegistersByObject) → T (is_sorted object_cmp m) → EachEntry (λ e. IsHeld AreRegistersByStep is_empty e.1) m → T (is_rising place_cmp (edit_list m))
+pub rising_edit_list : (m : RegistersByObject) → T (is_sorted object_cmp m) → AllByRecursion (λ e. IsHeld AreRegistersByStep is_empty e.1) m → T (is_rising place_cmp (edit_list m))
 rising_edit_list [] h k = tt
 rising_edit_list (x ∷ m) h k =
     rising-append place_cmp (object_edits x.0 x.1) (edit_list m) (rising_at x.0 x.1 k.0.0.rises) (rising_edit_list m (second_of_both (below_all object_cmp x.0 m) _ h) k.1) (each_below x.0 x.1 m (first_of_both (below_all object_cmp x.0 m) _ h))

@@ -1,12 +1,13 @@
 -- The settings of what a scenario's maps hold.
 use Rattle.std.specs.Prelude.{◌≡◌, ℕ, true, false, [], ◌∷◌}
+use Rattle.std.specs.List.{AllByRecursion}
 use Rattle.std.specs.declared.option.Option.TheVariants.{None}
 use Rattle.std.specs.Option.{unwrap_or}
 use Rattle.std.proofs.Common.{sym, ap, ◌∙◌}
 use Rattle.std.proofs.lemmas.Bool.{true≢false}
 use Rattle.lattice_core.specs.declared.greatest.Greatest.TheVariants.{Nothing, Of}
 use Rattle.lattice_core.specs.Greatest.{is_nothing}
-use Rattle.lattice_core.specs.Map.{EachEntry, IsHeld, is_empty}
+use Rattle.lattice_core.specs.Map.{IsHeld, is_empty}
 use Rattle.lattice_core.specs.Sets.{items, contains}
 use Rattle.lattice_core.proofs.SetElements.{contains-items}
 use Rattle.road_plan.specs.Plan.{Plan, IsWithinLimits}
@@ -40,7 +41,7 @@ object_inside p o (s ∷ steps) h f = here s.1 h.0.held.0.1 f
     here Nothing g f = absurd (true≢false g)
     here (Of w) g f = (in_range p (edit_with o s.0 w) (none_of_both _ (first_fault p (object_edits o steps)) f).0).has_object
 
-all_inside : (p : Plan) (m : RegistersByObject) → EachEntry (λ e. IsHeld AreRegistersByStep is_empty e.1) m → first_fault p (edit_list m) ≡ None → AreInPlan p m
+all_inside : (p : Plan) (m : RegistersByObject) → AllByRecursion (λ e. IsHeld AreRegistersByStep is_empty e.1) m → first_fault p (edit_list m) ≡ None → AreInPlan p m
 all_inside p [] h f = tt
 all_inside p (e ∷ m) h f =
     let parts = none_of_both (first_fault p (object_edits e.0 e.1)) (first_fault p (edit_list m)) (sym (first-append p (object_edits e.0 e.1) (edit_list m)) ∙ f) in

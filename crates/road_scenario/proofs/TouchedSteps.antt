@@ -4,7 +4,7 @@ use Rattle.std.specs.declared.cmp.Ordering.{Ordering}
 use Rattle.std.specs.declared.cmp.Ordering.TheVariants.{Less, Equal, Greater}
 use Rattle.std.specs.declared.option.Option.{Option}
 use Rattle.std.specs.declared.option.Option.TheVariants.{None, Some}
-use Rattle.std.specs.List.{filter, fold, reduce}
+use Rattle.std.specs.List.{AllByRecursion, filter, fold, reduce}
 use Rattle.std.specs.Ordering.{nat_cmp, ordering_then, eq_by_cmp, is_eq, is_lt}
 use Rattle.std.specs.Cmp.{Equal-is, tied_itself}
 use Rattle.std.specs.FinMap.Entries.{find, below_all, is_sorted}
@@ -14,11 +14,11 @@ use Rattle.std.proofs.lemmas.Bool.Decides.{nat_tests}
 use Rattle.std.specs.Option.{option_and_then, option_eq}
 use Rattle.std.proofs.lemmas.List.{map-append}
 use Rattle.std.proofs.lemmas.List.Elements.{filter-append}
-use Rattle.lattice_core.specs.Instances.JoinedMaps.{first_of_both, second_of_both}
+use Rattle.lattice_core.specs.Instances.TestAnswers.{first_of_both, second_of_both}
 use Rattle.road_scenario.proofs.EditMembers.{IsIn}
 use Rattle.lattice_core.specs.declared.greatest.Greatest.TheVariants.{Nothing, Of}
 use Rattle.lattice_core.specs.Greatest.{is_nothing}
-use Rattle.lattice_core.specs.Map.{EachEntry, IsHeld, is_empty}
+use Rattle.lattice_core.specs.Map.{IsHeld, is_empty}
 use Rattle.lattice_core.specs.Sets.{is_below, is_rising}
 use Rattle.road_plan.specs.Objects.{order_key}
 use Rattle.road_plan.specs.declared.object.Object.{Object}
@@ -67,7 +67,7 @@ put_above o step (e ∷ m) h =
 turned : (a b : ℕ) → is_eq (nat_cmp a b) ≡ is_eq (nat_cmp b a)
 turned a b = grind (arith, nat_tests)
 
-put_here : (o : Object) (step : ℕ) (steps : RegistersByStep) (fs : List Edit) → EachEntry (λ e. IsHeld (λ _. Unit {0}) is_nothing e.1) steps → put_number_at fs (object_place o step) ≡ None → put_number_at (object_edits o steps ++ fs) (object_place o step) ≡ number_at_step steps step
+put_here : (o : Object) (step : ℕ) (steps : RegistersByStep) (fs : List Edit) → AllByRecursion (λ e. IsHeld (λ _. Unit {0}) is_nothing e.1) steps → put_number_at fs (object_place o step) ≡ None → put_number_at (object_edits o steps ++ fs) (object_place o step) ≡ number_at_step steps step
 put_here o step [] fs h none = none
 put_here o step (s ∷ steps) fs h none = here s.1 h.0.1 (put_here o step steps fs h.1 none)
   where
@@ -85,7 +85,7 @@ put_here o step (s ∷ steps) fs h none = here s.1 h.0.1 (put_here o step steps 
         ∙ either (is_eq (nat_cmp step s.0)) w (find nat_cmp step steps)
 
 -- what is put at an object and step is found by look-ups
-put_found : (m : RegistersByObject) → T (is_sorted object_cmp m) → EachEntry (λ e. IsHeld AreRegistersByStep is_empty e.1) m → (o : Object) (step : ℕ) → put_number_at (edit_list m) (object_place o step) ≡ number_at_step (registers_of_object object_cmp m o) step
+put_found : (m : RegistersByObject) → T (is_sorted object_cmp m) → AllByRecursion (λ e. IsHeld AreRegistersByStep is_empty e.1) m → (o : Object) (step : ℕ) → put_number_at (edit_list m) (object_place o step) ≡ number_at_step (registers_of_object object_cmp m o) step
 put_found [] s h o step = refl
 put_found (e ∷ m) s h o step = elim (is_one e.0 o) as (λ b. is_one e.0 o ≡ b → put_number_at (edit_list (e ∷ m)) (object_place o step) ≡ number_at_step (registers_of_object object_cmp (e ∷ m) o) step) [
   | true ↦ λ t.
@@ -156,7 +156,7 @@ first_least a (e ∷ es) h = ap (λ x. fold min x (steps_of_edits es)) (lesser a
 abbrev is_new : RegistersByObject → Edit → Bool
 is_new n e = not (option_eq nat_eq (put_number e.value) (number_at_step (registers_of_object object_cmp n e.object) e.step))
 
-least_at : (n : RegistersByObject) (o : Object) (steps : RegistersByStep) → T (is_sorted nat_cmp steps) → EachEntry (λ e. IsHeld (λ _. Unit {0}) is_nothing e.1) steps → reduce min (steps_of_edits (filter (is_new n) (object_edits o steps))) ≡ first_change_at steps (registers_of_object object_cmp n o)
+least_at : (n : RegistersByObject) (o : Object) (steps : RegistersByStep) → T (is_sorted nat_cmp steps) → AllByRecursion (λ e. IsHeld (λ _. Unit {0}) is_nothing e.1) steps → reduce min (steps_of_edits (filter (is_new n) (object_edits o steps))) ≡ first_change_at steps (registers_of_object object_cmp n o)
 least_at n o [] s h = refl
 least_at n o (x ∷ steps) s h = here x.1 h.0.1 (least_at n o steps (second_of_both (below_all nat_cmp x.0 steps) _ s) h.1) (later_kept (is_new n) x.0 (object_edits o steps) (later_object_edits o x.0 steps (first_of_both (below_all nat_cmp x.0 steps) _ s)))
   where
@@ -170,7 +170,7 @@ least_at n o (x ∷ steps) s h = here x.1 h.0.1 (least_at n o steps (second_of_b
     here Nothing g rest later = absurd (true≢false g)
     here (Of w) g rest later = either (option_eq nat_eq (put_number w.1) (number_at_step (registers_of_object object_cmp n o) x.0)) w rest later
 
-least_all : (n m : RegistersByObject) → EachEntry (λ e. IsHeld AreRegistersByStep is_empty e.1) m → reduce min (steps_of_edits (filter (is_new n) (edit_list m))) ≡ first_change object_cmp m n
+least_all : (n m : RegistersByObject) → AllByRecursion (λ e. IsHeld AreRegistersByStep is_empty e.1) m → reduce min (steps_of_edits (filter (is_new n) (edit_list m))) ≡ first_change object_cmp m n
 least_all n [] h = refl
 least_all n (e ∷ m) h =
     ap (λ es. reduce min (steps_of_edits es)) (filter-append (is_new n) (object_edits e.0 e.1) (edit_list m))

@@ -2,7 +2,7 @@
 use Rattle.std.specs.Prelude.{◌≡◌, ℕ, zero, suc, ◌+◌, ◌<◌, ◌≤◌, ◌==◌, Bool, true, false, cond, T, List, [], ◌∷◌, ◌++◌, map, length, slice_index_or, slice_set, nat_lt, ◌⊎◌, refl}
 use Rattle.std.specs.declared.option.Option.{Option}
 use Rattle.std.specs.declared.option.Option.TheVariants.{None, Some}
-use Rattle.std.specs.List.{filter, range_with_len}
+use Rattle.std.specs.List.{AllByRecursion, filter, range_with_len}
 use Rattle.std.specs.Option.{unwrap_or, option_and_then}
 use Rattle.std.specs.Ordering.{nat_cmp, is_eq, is_lt}
 use Rattle.std.specs.FinMap.Entries.{below_all, is_sorted}
@@ -12,9 +12,9 @@ use Rattle.std.proofs.lemmas.Bool.Decides.{nat_tests}
 use Rattle.std.proofs.lemmas.List.{length-map, append-nil, length-set, get_or-map}
 use Rattle.std.proofs.lemmas.List.FromFn.{fill_by_all}
 use Rattle.std.proofs.lemmas.List.Elements.{filter-append}
-use Rattle.lattice_core.specs.Instances.JoinedMaps.{first_of_both, second_of_both}
+use Rattle.lattice_core.specs.Instances.TestAnswers.{first_of_both, second_of_both}
 use Rattle.road_scenario.specs.Edits.{put_number}
-use Rattle.lattice_core.specs.Map.{EachEntry, IsHeld, is_empty}
+use Rattle.lattice_core.specs.Map.{IsHeld, is_empty}
 use Rattle.road_plan.specs.Plan.{Plan}
 use Rattle.road_plan.specs.Settings.{Settings, defaults}
 use Rattle.road_plan.specs.Objects.{in_plan, default, object_order}
@@ -33,7 +33,7 @@ pub same : (p o : Object) → is_one p o ≡ true → p ≡ o
 same p o t = one_object p o t (λ x y e. object_exact x y (ordered x y ∙ e))
 
 -- the latest edit of an object puts the last number of its steps
-pub number-edit_list : (m : RegistersByObject) → T (is_sorted object_cmp m) → EachEntry (λ e. IsHeld AreRegistersByStep is_empty e.1) m → (o : Object) (step : ℕ) → option_and_then (λ e. put_number e.value) (latest_edit (filter (is_put_up_to o step) (edit_list m))) ≡ last_number step (registers_of_object object_cmp m o)
+pub number-edit_list : (m : RegistersByObject) → T (is_sorted object_cmp m) → AllByRecursion (λ e. IsHeld AreRegistersByStep is_empty e.1) m → (o : Object) (step : ℕ) → option_and_then (λ e. put_number e.value) (latest_edit (filter (is_put_up_to o step) (edit_list m))) ≡ last_number step (registers_of_object object_cmp m o)
 number-edit_list [] s h o step = refl
 number-edit_list (e ∷ m) s h o step =
     ap (λ es. option_and_then (λ e. put_number e.value) (latest_edit es)) (filter-append (is_put_up_to o step) (object_edits e.0 e.1) (edit_list m))
@@ -200,7 +200,7 @@ put-one p f o (Some n) r = put-number p f o n r
 -- ---- all numbers put
 
 abbrev AreReady : Plan → (Object → ℕ) → RegistersByObject → Type 0
-AreReady p f m = EachEntry (λ e. IsReady p f e.0) m
+AreReady p f m = AllByRecursion (λ e. IsReady p f e.0) m
 
 -- an object stays ready where a lower one has a number put
 still_ready : (p : Plan) (f : Object → ℕ) (o : Object) (x : Option ℕ) (q : Object) → is_lt (object_order o q) ≡ true → IsReady p f q → IsReady p (update f o x) q
@@ -245,7 +245,7 @@ own-settings p = λ i. record {
 }
 
 abbrev pub AreInPlan : Plan → RegistersByObject → Type 0
-AreInPlan p m = EachEntry (λ e. in_plan p e.0 ≡ true) m
+AreInPlan p m = AllByRecursion (λ e. in_plan p e.0 ≡ true) m
 
 ready : (p : Plan) (o : Object) → in_plan p o ≡ true → IsReady p (default p) o
 ready p (Limit zone) h = tt
@@ -274,7 +274,7 @@ place_own p (Block cell) h = refl
 place_own p (Inflow inlet) h = ap (nat_lt inlet) (length-map p.inlets (λ z. z.1)) ∙ h
 place_own p (Watch detector) h = ap (nat_lt detector) (length-map p.detectors (λ z. true)) ∙ h
 
-pub places_own : (p : Plan) (m : RegistersByObject) → AreInPlan p m → EachEntry (λ e. has_place (defaults p) e.0 ≡ true) m
+pub places_own : (p : Plan) (m : RegistersByObject) → AreInPlan p m → AllByRecursion (λ e. has_place (defaults p) e.0 ≡ true) m
 places_own p [] h = tt
 places_own p (e ∷ m) h = (place_own p e.0 h.0, places_own p m h.1)
 
@@ -305,7 +305,7 @@ place_stays s (Watch detector) n (Block z) = refl
 place_stays s (Watch detector) n (Inflow z) = refl
 place_stays s (Watch detector) n (Watch z) = ap (nat_lt z) (length-set s.watched detector (n == 1))
 
-pub places_stay : (s : Settings) (o : Object) (n : ℕ) (m : RegistersByObject) → EachEntry (λ e. has_place s e.0 ≡ true) m → EachEntry (λ e. has_place (settings_with_number s o n) e.0 ≡ true) m
+pub places_stay : (s : Settings) (o : Object) (n : ℕ) (m : RegistersByObject) → AllByRecursion (λ e. has_place s e.0 ≡ true) m → AllByRecursion (λ e. has_place (settings_with_number s o n) e.0 ≡ true) m
 places_stay s o n [] h = tt
 places_stay s o n (e ∷ m) h = (place_stays s o n e.0 ∙ h.0, places_stay s o n m h.1)
 
@@ -317,6 +317,6 @@ put_turn step s new whole m rest o steps number x is made found some h =
     ap (λ y. settings_with_last_numbers step y rest) (made ∙ ap (settings_with_optional s o) (sym some ∙ found)) ∙ sym (ap (settings_with_last_numbers step s) is) ∙ h
 
 pub place_turn : (s new : Settings) (m rest : RegistersByObject) (o : Object) (steps : RegistersByStep) (number : ℕ) → m ≡ (o, steps) ∷ rest → new ≡ settings_with_number s o number
-    → EachEntry (λ e. has_place s e.0 ≡ true) m → EachEntry (λ e. has_place new e.0 ≡ true) rest
+    → AllByRecursion (λ e. has_place s e.0 ≡ true) m → AllByRecursion (λ e. has_place new e.0 ≡ true) rest
 place_turn s new m rest o steps number is made h =
-    subst (λ y. EachEntry (λ e. has_place y e.0 ≡ true) rest) (sym made) (places_stay s o number rest (subst (EachEntry (λ e. has_place s e.0 ≡ true)) is h).1)
+    subst (λ y. AllByRecursion (λ e. has_place y e.0 ≡ true) rest) (sym made) (places_stay s o number rest (subst (AllByRecursion (λ e. has_place s e.0 ≡ true)) is h).1)

@@ -1,7 +1,7 @@
 // Walks over a scenario's registers that read the numbers put.
 
 ghost use Rattle.std.specs.Prelude.{◌≡◌, true, OnErr, OnOk};
-ghost use Rattle.lattice_core.specs.Map.{EachEntry};
+ghost use Rattle.std.specs.List.{AllByRecursion};
 ghost use Rattle.road_scenario.specs.Private.RegisterWalks as walks;
 
 use crate::edit::Value;
@@ -15,7 +15,7 @@ pub(crate) fn put_all(
     registers: &RegistersByObject,
     step: u32,
 ) -> Result<(), OutOfMemory>
-    requires { EachEntry (λ e. walks.has_place settings.now e.0 ≡ true) registers.now }
+    requires { AllByRecursion (λ e. walks.has_place settings.now e.0 ≡ true) registers.now }
     ensures { OnOk result (settings.new ≡ walks.settings_with_last_numbers step settings.old registers.now) }
 {
     for (object, steps) in registers.iter() {

@@ -1,5 +1,5 @@
 use Rattle.std.proofs.Common.{◌≡◌, true}
-use Rattle.lattice_core.specs.Map.{EachEntry}
+use Rattle.std.specs.List.{AllByRecursion}
 use Rattle.road_scenario.specs.Private.RegisterWalks.{has_place, settings_with_last_numbers}
 use Rattle.road_scenario.proofs.settings.put_all.Given as goal
 
@@ -7,5 +7,5 @@ use Rattle.road_scenario.proofs.settings.put_all.Given as goal
 abbrev pub invariant-loop-object : goal.invariant-loop-object
 invariant-loop-object l = record {
   whole : settings_with_last_numbers l.step l.settings l.object-iterator ≡ settings_with_last_numbers l.step l.fn.settings l.registers;
-  places : EachEntry (λ e. has_place l.settings e.0 ≡ true) l.object-iterator;
+  places : AllByRecursion (λ e. has_place l.settings e.0 ≡ true) l.object-iterator;
 }

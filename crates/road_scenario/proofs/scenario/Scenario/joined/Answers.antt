@@ -8,7 +8,7 @@ use Rattle.road_scenario.proofs.scenario.Scenario.joined.Goals as goal
 
 pub returns-clause-winners : goal.returns-clause-winners
 returns-clause-winners c =
-    ap edit_set c.in_ok-joined.ensures ∙ edit_set-joined c.self.inside.registers c.other.inside.registers c.known.ensures c.known-2.ensures
+    ap edit_set c.in_ok-joined.ensures.made ∙ edit_set-joined c.self.inside.registers c.other.inside.registers c.known.ensures c.known-2.ensures
     ∙ (λ i. join (c.self.view_is i) (c.other.view_is i))
 
 pub returns-clause-fits : goal.returns-clause-fits

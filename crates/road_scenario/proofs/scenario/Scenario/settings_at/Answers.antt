@@ -1,5 +1,5 @@
 use Rattle.std.proofs.Common.{◌≡◌, true, sym, ap, subst, ◌∙◌}
-use Rattle.lattice_core.specs.Map.{EachEntry}
+use Rattle.std.specs.List.{AllByRecursion}
 use Rattle.road_plan.specs.Settings.{Fits}
 use Rattle.road_scenario.specs.Faults.{AreInRange}
 use Rattle.road_scenario.specs.Registers.{edit_set}
@@ -14,7 +14,7 @@ put_all-requires c =
     let p = c.args.plan.now in
     let m = c.self.inside.registers in
     let fits : AreInRange p (edit_set m) = subst (AreInRange p) (sym c.self.view_is) c.requires in
-    subst (λ s. EachEntry (λ e. has_place s e.0 ≡ true) m) (sym c.in_ok-settings.ensures.made) (places_own p m (inside_plan p m c.known.ensures fits))
+    subst (λ s. AllByRecursion (λ e. has_place s e.0 ≡ true) m) (sym c.in_ok-settings.ensures.made) (places_own p m (inside_plan p m c.known.ensures fits))
 
 pub returns-clause-made : goal.returns-clause-made
 returns-clause-made c =
@@ -31,4 +31,4 @@ returns-clause-fits c =
     let m = c.self.inside.registers in
     let fits : AreInRange p (edit_set m) = subst (AreInRange p) (sym c.self.view_is) c.requires in
     let made = c.in_ok-put_all.ensures ∙ ap (λ s. settings_with_last_numbers c.args.step s m) c.in_ok-settings.ensures.made ∙ settings-edit_set p m c.args.step c.known.ensures (inside_plan p m c.known.ensures fits) in
-    subst (Fits p) (sym made) (Fits-edit_set p c.limits.ensures m c.known.ensures fits c.args.step)
+    subst (Fits p) (sym made) (Fits-edit_set p c.known-2.ensures m c.known.ensures fits c.args.step)
