@@ -15,15 +15,15 @@ use Rattle.road_plan.specs.Settings.{Settings, Fits}
 use Rattle.road_cells.specs.Array.{Array, Vehicle, vehicle_at, array}
 use Rattle.road_cells.proofs.ArrayPlaces.{past_end, vehicle_at-array, past_array, array-same, array-agree}
 use Rattle.road_cells.specs.Cars.{cars_of, cars_from, car_of, vehicle_of, cell_at, AreRising, AreRisingFrom, array_of, vehicle_among, end_of}
-use Rattle.road_cells.proofs.CarLists.{rise-cars_from, standing-cars_from, standing-below, vehicle_at-array_of, standing-past}
-use Rattle.road_cells.proofs.CarPlaces.{rise-at, standing-at}
+use Rattle.road_cells.proofs.CarLists.{rise-cars_from, vehicle_among-cars_from, vehicle_among-below, vehicle_at-array_of, vehicle_among-past}
+use Rattle.road_cells.proofs.CarPlaces.{rise-at, vehicle_among-at}
 use Rattle.road_cells.specs.Gap as cells
 use Rattle.road_cells.specs.Gap.{is_blocked, free_before, free_cells}
 use Rattle.road_cells.proofs.FreeCells.{free_before-same}
 use Rattle.road_cells.specs.declared.car.Car.{Car}
 use Rattle.road_cells.specs.declared.car.TheConstants.{GREATEST_SPEED}
 use Rattle.road_rules.specs.Motion.{arrival_at, array_after_motion, array_after_motion_at, MayMove}
-use Rattle.road_rules.proofs.MotionOfCars.{moved_at-listed, cell_at-end, vehicle_at-moved}
+use Rattle.road_rules.proofs.MotionOfCars.{array_after_motion_at-listed, cell_at-end, vehicle_at-array_after_motion}
 use Rattle.road_ends.specs.Speed.{is_taken_on_road, gap, speed, speeds, nth_car}
 use Rattle.road_ends.specs.Run.{road_after_motion, road_before_exit}
 use Rattle.road_ends.proofs.NoCollision.{blocked-below, cars-apart, speed-most}
@@ -90,8 +90,8 @@ may_move p s t a long = record {
   apart = λ k below.
       let same = one_each (cars_of a) in
       let is = get_or-map new (cars_of a) k nobody 0 (omega arith) in
-      let there = standing-at 0 (cars_of a) (k + 1) nobody (rise-cars_from 0 a) (omega arith) in
-      let stands = sym (standing-cars_from 0 (cell_at (cars_of a) (k + 1)) a) in
+      let there = vehicle_among-at 0 (cars_of a) (k + 1) nobody (rise-cars_from 0 a) (omega arith) in
+      let stands = sym (vehicle_among-cars_from 0 (cell_at (cars_of a) (k + 1)) a) in
       let zero_on : 0 + cell_at (cars_of a) (k + 1) ≡ cell_at (cars_of a) (k + 1) = omega arith in
       let on = cell_at-end 0 a (k + 1) (omega arith) in
       let order = rise-at 0 (cars_of a) k (k + 1) (rise-cars_from 0 a) (omega arith) (omega arith) in
@@ -113,8 +113,8 @@ may_move p s t a long = record {
 -- motion at the speeds of the definition, then deletion, is the next array
 pub left-array_after_motion_at : (p : Plan) (s : Settings) (t : ℕ) (a : Array) → road_before_exit p (array_after_motion_at (speeds p s t a) a) ≡ road_after_motion p s t a
 left-array_after_motion_at p s t a =
-    ap (road_before_exit p) (moved_at-listed (speed p s t a) a)
-    ∙ array-agree (road_end p) (vehicle_at (array_after_motion (speed p s t a) a)) (arrival_at (speed p s t a) a) (λ j below. vehicle_at-moved (speed p s t a) a j (speed-most p s t a))
+    ap (road_before_exit p) (array_after_motion_at-listed (speed p s t a) a)
+    ∙ array-agree (road_end p) (vehicle_at (array_after_motion (speed p s t a) a)) (arrival_at (speed p s t a) a) (λ j below. vehicle_at-array_after_motion (speed p s t a) a j (speed-most p s t a))
 
 -- the cars in front of the deleted zone
 first_cars : (m n : ℕ) (cars : List Car) → AreRisingFrom m cars → AreRisingFrom m (take n cars)
@@ -131,7 +131,7 @@ module _ (end : ℕ) where
   kept m (suc n) [] j rise before past = refl
   kept m zero (car ∷ cars) j rise before past =
       let far : end ≤ car.cell = past 0 (omega arith) (omega arith) in
-      sym (standing-below car.cell j (car ∷ cars) ((omega arith), rise.1) (omega arith))
+      sym (vehicle_among-below car.cell j (car ∷ cars) ((omega arith), rise.1) (omega arith))
   kept m (suc n) (car ∷ cars) j rise before past = ap (λ o. cond (nat_eq car.cell j) (Some (vehicle_of car)) o) (kept (car.cell + 1) n cars j rise.1 before (λ k le below. past (suc k) (omega arith) (omega arith)))
 
   ends : (n : ℕ) (cars : List Car) → ((k : ℕ) → k < n → k < length cars → cell_at cars k < end) → end_of (take n cars) ≤ end
@@ -146,7 +146,7 @@ module _ (end : ℕ) where
       → array_of (take n cars) ≡ array end (vehicle_at (array_of cars))
   array_of-take n cars rise low past = array-same (end_of (take n cars)) end (λ c. vehicle_among c (take n cars)) (vehicle_at (array_of cars)) (λ j. vehicle_at-array_of (take n cars) j ∙ (elim (cases_lt j end) as (λ _. vehicle_among j (take n cars) ≡ vehicle_at (array end (vehicle_at (array_of cars))) j) [
     | inl before ↦ kept 0 n cars j rise before past ∙ sym (vehicle_at-array_of cars j) ∙ sym (vehicle_at-array end (vehicle_at (array_of cars)) j before)
-    | inr behind ↦ standing-past (take n cars) j (let last = ends n cars low in omega arith) ∙ sym (past_array end (vehicle_at (array_of cars)) j behind)
+    | inr behind ↦ vehicle_among-past (take n cars) j (let last = ends n cars low in omega arith) ∙ sym (past_array end (vehicle_at (array_of cars)) j behind)
   ]))
 
 -- going over the cells of a tabulated array, car by car
@@ -205,4 +205,4 @@ left-take p a cars n all rise point =
     (λ k le below. let test : nat_lt (cell_at cars k) (road_end p) ≡ false = point.1 k (car_of 0 (record { number = 0; speed = 0 })) le below in grind (arith, nat_tests))
     ∙ array-agree (road_end p) (vehicle_at (array_of cars)) (vehicle_at a) (λ j below.
     let here : j ≡ 0 + j = omega arith in
-    vehicle_at-array_of cars j ∙ ap (vehicle_among j) all ∙ ap (λ c. vehicle_among c (cars_of a)) here ∙ standing-cars_from 0 j a)
+    vehicle_at-array_of cars j ∙ ap (vehicle_among j) all ∙ ap (λ c. vehicle_among c (cars_of a)) here ∙ vehicle_among-cars_from 0 j a)
