@@ -63,10 +63,6 @@ module _ {K V : Type 0} (cmp : K → K → Ordering) (total : IsTotalOrder cmp) 
     | false ↦ λ t. find-joined_entries q fs es
   ] refl
 
-  or_cond : (x : Option V) (v : V) (y : Option V) → option_or x (Some v) ≡ option_or (cond (is_some x) x (Some v)) y
-  or_cond None v y = refl
-  or_cond (Some w) v y = refl
-
   find-left_union : (q : K) (es fs : List (K × V)) → find cmp q (left_union cmp es fs) ≡ option_or (find cmp q es) (find cmp q fs)
   find-left_union q es [] = or_none (find cmp q es)
     where

@@ -1,5 +1,5 @@
 -- The turns of the loops that build a map.
-use Rattle.std.proofs.Common.{◌≡◌, true, false, not, cond, ◌&&◌, T, List, [], ◌∷◌, ◌++◌, refl, sym, ap, subst, ◌∙◌, append_assoc, is_some}
+use Rattle.std.proofs.Common.{◌≡◌, true, false, not, cond, ◌&&◌, T, List, [], ◌∷◌, ◌++◌, refl, sym, ap, subst, ◌∙◌, append_assoc}
 use Rattle.std.specs.declared.cmp.Ordering.{Ordering}
 use Rattle.std.specs.declared.cmp.Ordering.TheVariants.{Less, Equal, Greater}
 use Rattle.std.specs.declared.option.Option.TheVariants.{Some}
@@ -9,7 +9,7 @@ use Rattle.std.specs.Map.{lookup}
 use Rattle.std.specs.Ordering.{is_eq, is_ne, is_lt, eq_by_cmp, match_ordering, ordering_reverse}
 use Rattle.std.specs.Cmp.{IsTotalOrder}
 use Rattle.lattice_core.specs.Instances.TestAnswers.{first_of_both, second_of_both}
-use Rattle.lattice_core.specs.Private.EntryLists.{other_entries, left_union, join_with_option, joined_entries}
+use Rattle.lattice_core.specs.Private.EntryLists.{other_entries, join_with_option, joined_entries}
 
 -- a look-up in a BTreeMap
 pub lookup-find : {K V : Type 0} (cmp : K → K → Ordering) (q : K) (es : List (K × V)) → lookup (is_at (cmp q)) es ≡ find cmp q es
@@ -76,17 +76,3 @@ module _ {K V : Type 0} (cmp : K → K → Ordering) (total : IsTotalOrder cmp) 
   pub other_entries_turn : (key : K) (old new it rest all : List (K × V)) (k : K) (v w : V) → it ≡ (k, v) ∷ rest → old ++ other_entries cmp key it ≡ other_entries cmp key all → T (is_sorted cmp all) → eq_by_cmp cmp k key ≡ false → new ≡ put cmp k w old → w ≡ v → new ++ other_entries cmp key rest ≡ other_entries cmp key all
   other_entries_turn key old new it rest all k v w steps inv sorted apart made same =
       next_put old new (other_entries cmp key rest) _ k v (ap (λ b. old ++ cond (not b) ((k, v) ∷ other_entries cmp key rest) (other_entries cmp key rest)) (sym apart) ∙ ap (λ x. old ++ other_entries cmp key x) (sym steps) ∙ inv) (is_sorted-where_key cmp (λ x. not (eq_by_cmp cmp x key)) all sorted) (made ∙ ap (λ x. put cmp k x old) same)
-
-  pub other_entries_skip : (key : K) (old it rest all : List (K × V)) (k : K) (v : V) → it ≡ (k, v) ∷ rest → old ++ other_entries cmp key it ≡ other_entries cmp key all → eq_by_cmp cmp k key ≡ true → old ++ other_entries cmp key rest ≡ other_entries cmp key all
-  other_entries_skip key old it rest all k v steps inv tie =
-      ap (λ b. old ++ cond (not b) ((k, v) ∷ other_entries cmp key rest) (other_entries cmp key rest)) (sym tie) ∙ ap (λ x. old ++ other_entries cmp key x) (sym steps) ∙ inv
-
-  pub left_union_turn : (old new it rest all : List (K × V)) (k : K) (v w : V) → it ≡ (k, v) ∷ rest → left_union cmp old it ≡ all → is_some (find cmp k old) ≡ false → new ≡ put cmp k w old → w ≡ v → left_union cmp new rest ≡ all
-  left_union_turn old new it rest all k v w steps inv lacks made same =
-      ap (λ x. left_union cmp x rest) (made ∙ ap (λ x. put cmp k x old) same)
-      ∙ ap (λ b. left_union cmp (cond b old (put cmp k v old)) rest) (sym lacks)
-      ∙ ap (left_union cmp old) (sym steps) ∙ inv
-
-  pub left_union_skip : (old it rest all : List (K × V)) (k : K) (v : V) → it ≡ (k, v) ∷ rest → left_union cmp old it ≡ all → is_some (find cmp k old) ≡ true → left_union cmp old rest ≡ all
-  left_union_skip old it rest all k v steps inv has =
-      ap (λ b. left_union cmp (cond b old (put cmp k v old)) rest) (sym has) ∙ ap (left_union cmp old) (sym steps) ∙ inv

@@ -6,25 +6,25 @@ use Rattle.road_format.specs.Cut.{Pieces, newline, pieces_with_byte, pieces_of, 
 use Rattle.road_format.specs.CutLaws.{LinesGoOn, lines_and_newlines, CutLosesNothing, HasNoNewline, LinesHaveNoNewline}
 
 -- pieces, and then the pieces of what goes on from their last one
-abbrev pub joined : Pieces → Pieces → Pieces
-joined p q = (p.0 ++ q.0, q.1)
+abbrev pub joined_pieces : Pieces → Pieces → Pieces
+joined_pieces p q = (p.0 ++ q.0, q.1)
 
-cut_at-joined : (x : ℕ) (lines : List (List ℕ)) (rest ys : List ℕ) (b : Bool) → (x == newline) ≡ b
-    → pieces_with_byte x (joined (lines, rest) (pieces_of (rest ++ ys))) ≡ joined (pieces_with_byte x (lines, rest)) (pieces_of ((pieces_with_byte x (lines, rest)).1 ++ ys))
-cut_at-joined x lines rest ys true e = rw e refl
-cut_at-joined x [] rest ys false e = rw e (rw e refl)
-cut_at-joined x (line ∷ lines) rest ys false e = rw e refl
+pieces_with_byte-joined : (x : ℕ) (lines : List (List ℕ)) (rest ys : List ℕ) (b : Bool) → (x == newline) ≡ b
+    → pieces_with_byte x (joined_pieces (lines, rest) (pieces_of (rest ++ ys))) ≡ joined_pieces (pieces_with_byte x (lines, rest)) (pieces_of ((pieces_with_byte x (lines, rest)).1 ++ ys))
+pieces_with_byte-joined x lines rest ys true e = rw e refl
+pieces_with_byte-joined x [] rest ys false e = rw e (rw e refl)
+pieces_with_byte-joined x (line ∷ lines) rest ys false e = rw e refl
 
-pub cut-append : (xs ys : List ℕ) → pieces_of (xs ++ ys) ≡ joined (pieces_of xs) (pieces_of ((pieces_of xs).1 ++ ys))
-cut-append [] ys = refl
-cut-append (x ∷ xs) ys = ap (pieces_with_byte x) (cut-append xs ys) ∙ cut_at-joined x (pieces_of xs).0 (pieces_of xs).1 ys (x == newline) refl
+pub pieces_of-append : (xs ys : List ℕ) → pieces_of (xs ++ ys) ≡ joined_pieces (pieces_of xs) (pieces_of ((pieces_of xs).1 ++ ys))
+pieces_of-append [] ys = refl
+pieces_of-append (x ∷ xs) ys = ap (pieces_with_byte x) (pieces_of-append xs ys) ∙ pieces_with_byte-joined x (pieces_of xs).0 (pieces_of xs).1 ys (x == newline) refl
 
 pub lines_go_on : LinesGoOn
 lines_go_on first more ended =
     let after : Pieces = pieces_of ((pieces_of first).1 ++ more) in
     let rest : List (List ℕ) = after.0 ++ last_line ended after.1 in (
       rest,
-      ap (λ (p : Pieces). p.0 ++ last_line ended p.1) (cut-append first more)
+      ap (λ (p : Pieces). p.0 ++ last_line ended p.1) (pieces_of-append first more)
           ∙ append_assoc (pieces_of first).0 after.0 (last_line ended after.1)
           ∙ ap (λ (ls : List (List ℕ)). ls ++ rest) (sym (append-nil (pieces_of first).0)),
     )
@@ -34,29 +34,29 @@ lines_go_on first more ended =
 abbrev together : Pieces → List ℕ
 together p = lines_and_newlines p.0 ++ p.1
 
-together-cut_at : (x : ℕ) (lines : List (List ℕ)) (rest : List ℕ) (b : Bool) → (x == newline) ≡ b → together (pieces_with_byte x (lines, rest)) ≡ x ∷ together (lines, rest)
-together-cut_at x lines rest true e = rw e (ap (λ (b : ℕ). b ∷ lines_and_newlines lines ++ rest) (sym (eqb-true x newline e)))
-together-cut_at x [] rest false e = rw e refl
-together-cut_at x (line ∷ lines) rest false e = rw e refl
+together-pieces_with_byte : (x : ℕ) (lines : List (List ℕ)) (rest : List ℕ) (b : Bool) → (x == newline) ≡ b → together (pieces_with_byte x (lines, rest)) ≡ x ∷ together (lines, rest)
+together-pieces_with_byte x lines rest true e = rw e (ap (λ (b : ℕ). b ∷ lines_and_newlines lines ++ rest) (sym (eqb-true x newline e)))
+together-pieces_with_byte x [] rest false e = rw e refl
+together-pieces_with_byte x (line ∷ lines) rest false e = rw e refl
 
 pub cut_loses_nothing : CutLosesNothing
 cut_loses_nothing [] = refl
-cut_loses_nothing (x ∷ xs) = together-cut_at x (pieces_of xs).0 (pieces_of xs).1 (x == newline) refl ∙ ap (λ (l : List ℕ). x ∷ l) (cut_loses_nothing xs)
+cut_loses_nothing (x ∷ xs) = together-pieces_with_byte x (pieces_of xs).0 (pieces_of xs).1 (x == newline) refl ∙ ap (λ (l : List ℕ). x ∷ l) (cut_loses_nothing xs)
 
 -- ---- no newline in a line
 
 abbrev ArePlain : Pieces → Type 0
 ArePlain p = All HasNoNewline p.0 × HasNoNewline p.1
 
-plain-cons : (x : ℕ) (line : List ℕ) → (x == newline) ≡ false → HasNoNewline line → HasNoNewline (x ∷ line)
-plain-cons x line other plain = All-cons (λ byte. byte ≢ newline) x line (eqb-false x newline other) plain
+HasNoNewline-cons : (x : ℕ) (line : List ℕ) → (x == newline) ≡ false → HasNoNewline line → HasNoNewline (x ∷ line)
+HasNoNewline-cons x line other plain = All-cons (λ byte. byte ≢ newline) x line (eqb-false x newline other) plain
 
-plain-cut_at : (x : ℕ) (lines : List (List ℕ)) (rest : List ℕ) (b : Bool) → (x == newline) ≡ b → ArePlain (lines, rest) → ArePlain (pieces_with_byte x (lines, rest))
-plain-cut_at x lines rest true e plain = rw e (All-cons HasNoNewline [] lines (All-nil (λ byte. byte ≢ newline)) plain.0, plain.1)
-plain-cut_at x [] rest false e plain = rw e (All-nil HasNoNewline, plain-cons x rest e plain.1)
-plain-cut_at x (line ∷ lines) rest false e plain =
-    rw e (All-cons HasNoNewline (x ∷ line) lines (plain-cons x line e (All-head HasNoNewline line lines plain.0)) (All-tail HasNoNewline line lines plain.0), plain.1)
+plain-pieces_with_byte : (x : ℕ) (lines : List (List ℕ)) (rest : List ℕ) (b : Bool) → (x == newline) ≡ b → ArePlain (lines, rest) → ArePlain (pieces_with_byte x (lines, rest))
+plain-pieces_with_byte x lines rest true e plain = rw e (All-cons HasNoNewline [] lines (All-nil (λ byte. byte ≢ newline)) plain.0, plain.1)
+plain-pieces_with_byte x [] rest false e plain = rw e (All-nil HasNoNewline, HasNoNewline-cons x rest e plain.1)
+plain-pieces_with_byte x (line ∷ lines) rest false e plain =
+    rw e (All-cons HasNoNewline (x ∷ line) lines (HasNoNewline-cons x line e (All-head HasNoNewline line lines plain.0)) (All-tail HasNoNewline line lines plain.0), plain.1)
 
 pub lines_have_no_newline : LinesHaveNoNewline
 lines_have_no_newline [] = (All-nil HasNoNewline, All-nil (λ byte. byte ≢ newline))
-lines_have_no_newline (x ∷ xs) = plain-cut_at x (pieces_of xs).0 (pieces_of xs).1 (x == newline) refl (lines_have_no_newline xs)
+lines_have_no_newline (x ∷ xs) = plain-pieces_with_byte x (pieces_of xs).0 (pieces_of xs).1 (x == newline) refl (lines_have_no_newline xs)

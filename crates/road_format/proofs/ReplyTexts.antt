@@ -1,5 +1,5 @@
 -- No text of a JSON value has a newline, so a reply has none before its end.
-use Rattle.std.proofs.Common.{◌≡◌, ◌≢◌, ◌==◌, ◌||◌, ◌/◌, ◌%◌, ◌+◌, ℕ, zero, suc, List, [], ◌∷◌, ◌++◌, Bool, true, false, cond, refl, ap, sym, ◌∙◌, arith, All, nat_lt, decimal, pos, negsuc}
+use Rattle.std.proofs.Common.{◌≡◌, ◌≢◌, ◌==◌, ◌||◌, ◌/◌, ◌%◌, ◌+◌, ℕ, zero, suc, List, [], ◌∷◌, ◌++◌, Bool, true, false, cond, refl, ap, sym, ◌∙◌, arith, nat_lt, decimal, pos, negsuc}
 use Rattle.std.proofs.lemmas.Bool.{eqb-true, ne_eqb, true≢false}
 use Rattle.std.proofs.lemmas.List.Elements.{All-nil, All-cons, All-append, All-head, All-tail}
 use Rattle.std.specs.Char.{digit_char}
@@ -29,13 +29,13 @@ unfolding IsPlain
 plain_nil = All-nil (λ byte. byte ≢ newline)
 
 -- a newline cuts off just what stands before it
-cut_at-plain : (x : ℕ) (xs : List ℕ) → x ≢ newline → pieces_with_byte x (xs ∷ [], []) ≡ ((x ∷ xs) ∷ [], [])
-cut_at-plain x xs other = rw (ne_eqb x newline other) refl
+pieces_with_byte-plain : (x : ℕ) (xs : List ℕ) → x ≢ newline → pieces_with_byte x (xs ∷ [], []) ≡ ((x ∷ xs) ∷ [], [])
+pieces_with_byte-plain x xs other = rw (ne_eqb x newline other) refl
 
-cut-plain : (xs : List ℕ) → IsPlain xs → pieces_of (xs ++ newline ∷ []) ≡ (xs ∷ [], [])
+pieces_of-plain : (xs : List ℕ) → IsPlain xs → pieces_of (xs ++ newline ∷ []) ≡ (xs ∷ [], [])
 unfolding IsPlain
-cut-plain [] plain = refl
-cut-plain (x ∷ xs) plain = ap (pieces_with_byte x) (cut-plain xs (All-tail (λ byte. byte ≢ newline) x xs plain)) ∙ cut_at-plain x xs (All-head (λ byte. byte ≢ newline) x xs plain)
+pieces_of-plain [] plain = refl
+pieces_of-plain (x ∷ xs) plain = ap (pieces_with_byte x) (pieces_of-plain xs (All-tail (λ byte. byte ≢ newline) x xs plain)) ∙ pieces_with_byte-plain x xs (All-head (λ byte. byte ≢ newline) x xs plain)
 
 either : (xs ys : List ℕ) (b : Bool) → IsPlain xs → IsPlain ys → IsPlain (cond b xs ys)
 either xs ys true one other = one
@@ -142,4 +142,4 @@ mutual
 
 pub replies_are_lines : RepliesAreLines
 unfolding reply
-replies_are_lines answer = cut-plain (compact_text (data_of answer)) (text_plain (data_of answer))
+replies_are_lines answer = pieces_of-plain (compact_text (data_of answer)) (text_plain (data_of answer))

@@ -1,7 +1,8 @@
 -- Which lines are plan lines: the first line of an input, with the names of the replicas and the plan of the road.
-use Rattle.std.specs.Prelude.{ℕ, List, [], ◌∷◌, ◌&&◌, not, Bool, true, length, nat_lt, nat_le, codes}
+use Rattle.std.specs.Prelude.{ℕ, List, ◌&&◌, ◌==◌, Bool, length, nat_lt, nat_le, codes}
 use Rattle.std.specs.Prelude.{if◌then◌else◌, Option, Some, None, Result, Ok, Err, option_and_then}
-use Rattle.std.specs.List.{list_any, list_all}
+use Rattle.std.specs.List.{list_all}
+use Rattle.std.specs.Set.{distinct_count}
 use Rattle.std.specs.Str.{bytes_eq}
 use Rattle.serde_json.specs.Data.{Data}
 use Rattle.serde_json.specs.Find.{get, as_str}
@@ -80,17 +81,12 @@ plan_line_in d = do
 
 -- ---- the refusals, in their order
 
--- whether no text stands twice
-abbrev pub all_differ : List (List ℕ) → Bool
-all_differ [] = true
-all_differ (text ∷ texts) = not (list_any (bytes_eq text) texts) && all_differ texts
-
--- whether these are 1 to 64 names of 1 to 64 bytes, no two alike
+-- whether these are 1 to 64 names of 1 to 64 bytes, and as many different ones
 abbrev pub are_names : List (List ℕ) → Bool
 are_names texts =
     nat_lt 0 (length texts) && nat_le (length texts) MOST_REPLICAS
     && list_all is_name texts
-    && all_differ texts
+    && distinct_count bytes_eq texts == length texts
 
 -- the first refusal of a plan line: of its names, then of its plan
 abbrev pub refusal_of : PlanLine → Option Refusal

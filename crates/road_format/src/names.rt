@@ -1,7 +1,8 @@
 //! Names of replicas.
 
-ghost use Rattle.std.specs.Prelude.{◌≡◌};
+ghost use Rattle.std.specs.Prelude.{◌≡◌, ◌==◌, length};
 ghost use Rattle.std.specs.List.{list_all, list_any};
+ghost use Rattle.std.specs.Set.{distinct_count};
 ghost use Rattle.std.specs.Str.{bytes_eq};
 ghost use Rattle.road_format.specs.Fields as fields;
 ghost use Rattle.road_format.specs.PlanGrammar as grammar;
@@ -26,7 +27,7 @@ pub(crate) fn are_names(names: &[String]) -> bool
     0 < names.len()
         && names.len() <= MOST_REPLICAS as usize
         && are_all_names(names)
-        && all_differ(names)
+        && are_different(names)
 }
 
 // Whether each of these is a name.
@@ -42,12 +43,13 @@ fn are_all_names(names: &[String]) -> bool
 }
 
 // Whether no two of these are alike.
-fn all_differ(names: &[String]) -> bool
-    ensures { result ≡ grammar.all_differ (texts names.now) }
+#[tactic(auto, using(crate::proofs::AcceptedNames::first_and_others))]
+fn are_different(names: &[String]) -> bool
+    ensures { result ≡ (distinct_count bytes_eq (texts names.now) == length (texts names.now)) }
 {
     match names.split_first() {
         None => true,
-        Some((first, others)) => !is_among(first, others) && all_differ(others),
+        Some((first, others)) => !is_among(first, others) && are_different(others),
     }
 }
 

@@ -1,12 +1,13 @@
 //! The first line of an input.
 
 ghost use Rattle.std.specs.Prelude.{◌≡◌, ◌<◌, ◌≤◌, length, true, None, IfOk, IfErr, OnErr, IsSome, option_map};
+ghost use Rattle.std.specs.List.{IsDistinct};
+ghost use Rattle.std.specs.Str.{bytes_eq};
 ghost use Rattle.serde_json.specs.View.{view};
 ghost use Rattle.road_plan.specs.Plan.{plan_of};
 ghost use Rattle.road_plan.specs.declared.limits.TheConstants.{MOST_REPLICAS};
 ghost use Rattle.road_format.specs.Fields as fields;
 ghost use Rattle.road_format.specs.PlanGrammar as grammar;
-ghost use Rattle.road_format.specs.PlanGrammar.{all_differ};
 ghost use Rattle.road_format.specs.Refusals.{plan_line_refusal};
 ghost use Rattle.road_format.specs.Views.{Gives, texts, plan_line_view, parts_view};
 ghost use Rattle.road_format.specs.declared.faults.PlanLineFault.TheVariants as plan_line_faults;
@@ -64,7 +65,7 @@ pub fn read_plan(alloc: Global, line: &[u8]) -> Result<PlanLine, PlanLineFault>
 
     // The names of an accepted line are few, and no two are alike.
     ensures few { IfOk result (λ line. length line.names.items ≤ MOST_REPLICAS) }
-    ensures apart { IfOk result (λ line. all_differ (texts line.names.items) ≡ true) }
+    ensures apart { IfOk result (λ line. IsDistinct bytes_eq (texts line.names.items)) }
 
     // Want of memory is said in one way, and a line without a byte grows nothing.
     ensures memory { IfErr result (λ fault. plan_line_refusal fault ≡ None
@@ -80,11 +81,11 @@ pub fn read_plan(alloc: Global, line: &[u8]) -> Result<PlanLine, PlanLineFault>
 }
 
 // The plan line of these parts. It takes no memory.
-#[tactic(auto, using(crate::proofs::AcceptedNames::names_are_few, crate::proofs::AcceptedNames::names_differ))]
+#[tactic(auto, using(crate::proofs::AcceptedNames::names_are_few, crate::proofs::AcceptedNames::names_are_different))]
 fn checked_line(line: PlanLineParts) -> Result<PlanLine, PlanLineFault>
     ensures plan_line { Gives plan_line_view plan_line_refusal result (grammar.checked_line (parts_view line)) }
     ensures few { IfOk result (λ line. length line.names.items ≤ MOST_REPLICAS) }
-    ensures apart { IfOk result (λ line. all_differ (texts line.names.items) ≡ true) }
+    ensures apart { IfOk result (λ line. IsDistinct bytes_eq (texts line.names.items)) }
     ensures memory { IfErr result (λ fault. IsSome (plan_line_refusal fault)) }
 {
     if !are_names(&line.names) {

@@ -8,7 +8,7 @@ use Rattle.road_plan.specs.Settings.{Settings}
 use Rattle.road_cells.specs.Array.{Array}
 use Rattle.road_ends.specs.Input.{StepInput, input_of, input_speeds}
 use Rattle.road_ends.specs.Run.{Course, road_after_step}
-use Rattle.road_detector.specs.Passes.{passes_at, passes, plus, sum_of_totals, total, no_totals}
+use Rattle.road_detector.specs.Passes.{passes_at, passes, plus, sum_of_totals, total}
 use Rattle.road_detector.specs.Laws.{PassOneByOne, BoundTotals}
 use Rattle.road_detector.specs.declared.counts.Totals.{Totals}
 use Rattle.road_scenario.specs.Edits.{Edits}
@@ -37,9 +37,6 @@ numbers_to a b before =
 
 -- ---- rows
 
-pub first_row : (p : Plan) (edits : Edits) (a : ℕ) → row_at p edits a ∷ [] ≡ rows_at p edits a a
-first_row p edits a = let one : suc a - a ≡ 1 = omega arith in sym (ap (λ (n : ℕ). map (row_at p edits) (range_with_len a n)) one)
-
 rows_more : (p : Plan) (edits : Edits) (a b : ℕ) → a ≤ b → rows_at p edits a b ++ row_at p edits (b + 1) ∷ [] ≡ rows_at p edits a (b + 1)
 rows_more p edits a b before =
     let rest = numbers_to a (b + 1) (omega arith) in
@@ -63,9 +60,6 @@ add_last (y ∷ ys) x =
     let cars : y.cars + ((sum_of_totals ys).cars + x.cars) ≡ y.cars + (sum_of_totals ys).cars + x.cars = omega arith in
     let speeds : y.speeds + ((sum_of_totals ys).speeds + x.speeds) ≡ y.speeds + (sum_of_totals ys).speeds + x.speeds = omega arith in
     ap (plus y) rest ∙ (λ i. record { cars = cars i; speeds = speeds i })
-
-pub none_yet : (p : Plan) (course : Course) (d a : ℕ) → no_totals ≡ total p course d a a
-none_yet p course d a = let none : a - a ≡ 0 = omega arith in sym (ap (λ (n : ℕ). sum_of_totals (map (passes p course d) (range_with_len a n))) none)
 
 total_more : (p : Plan) (course : Course) (d a b : ℕ) → a ≤ b → plus (total p course d a b) (passes p course d b) ≡ total p course d a (b + 1)
 total_more p course d a b before =

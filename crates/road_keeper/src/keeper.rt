@@ -1,8 +1,8 @@
 //! The replicas, and what they answer.
 
 ghost use Rattle.std.specs.Prelude.{◌≡◌, ◌<◌, ◌≤◌, ◌∷◌, [], IfOk, OnOk, OnErr, nat_lt, length, map, replicate, true, Some, None, string_bytes};
-ghost use Rattle.std.specs.List.{All};
-ghost use Rattle.road_format.specs.PlanGrammar.{all_differ};
+ghost use Rattle.std.specs.List.{All, IsDistinct};
+ghost use Rattle.std.specs.Str.{bytes_eq};
 ghost use Rattle.road_format.specs.Views.{texts, car_view, plan_line_view, command_view, answer_view};
 ghost use Rattle.road_plan.specs.declared.limits.TheConstants.{MOST_REPLICAS};
 ghost use Rattle.lattice_core.specs.Sets.{from_list};
@@ -115,7 +115,7 @@ impl Keeper {
     /// The replicas of a plan line, before any command.
     pub fn start(alloc: Global, line: PlanLine) -> Result<Keeper, OutOfMemory>
         requires few { length line.names.items ≤ MOST_REPLICAS }
-        requires apart { all_differ (texts line.names.items) ≡ true }
+        requires apart { IsDistinct bytes_eq (texts line.names.items) }
         ensures { IfOk result (λ keeper. keeper ≡ start (plan_line_view line)) }
     {
         let names = Names::of(alloc, line.names)?;

@@ -1,9 +1,8 @@
 //! The names of the replicas.
 
 ghost use Rattle.std.specs.Prelude.{◌≡◌, IfOk, IfSome, ◌<◌, length, true};
-ghost use Rattle.std.specs.List.{position};
+ghost use Rattle.std.specs.List.{position, IsDistinct};
 ghost use Rattle.std.specs.Str.{bytes_eq};
-ghost use Rattle.road_format.specs.PlanGrammar.{all_differ};
 ghost use Rattle.road_format.specs.Views.{texts};
 
 use indexmap::IndexSet;
@@ -29,7 +28,7 @@ impl Model for Names {
 impl Names {
     /// These names, no two of which are alike.
     pub fn of(alloc: Global, names: Vec<String>) -> Result<Names, OutOfMemory>
-        requires { all_differ (texts names.items) ≡ true }
+        requires { IsDistinct bytes_eq (texts names.items) }
         ensures { IfOk result (λ made. made ≡ texts names.items) }
     {
         let mut set = IndexSet::new(alloc);

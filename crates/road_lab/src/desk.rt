@@ -1,8 +1,10 @@
 //! Bytes become lines, and lines replies.
 
 ghost use Rattle.std.specs.Prelude.{◌≡◌, ◌++◌, ◌≤◌, IfOk, OnOk, length, vec_len, true, None};
+ghost use Rattle.std.specs.List.{IsDistinct};
+ghost use Rattle.std.specs.Str.{bytes_eq};
 ghost use Rattle.road_format.specs.CommandGrammar.{command_of};
-ghost use Rattle.road_format.specs.PlanGrammar.{plan_line_of, all_differ};
+ghost use Rattle.road_format.specs.PlanGrammar.{plan_line_of};
 ghost use Rattle.road_format.specs.Replies.{reply};
 ghost use Rattle.road_format.specs.Views.{texts, plan_line_view, command_view, answer_view};
 ghost use Rattle.road_lab.specs.Answers.{unless_long};
@@ -39,7 +41,7 @@ fn first_line(
 ) -> Result<Result<PlanLine, Refusal>, OutOfMemory>
     ensures read { IfOk result (λ line. IsRead plan_line_view line (unless_long long (plan_line_of held.now))) }
     ensures few { IfOk result (λ line. IfOk line (λ line. vec_len line.names ≤ 64)) }
-    ensures apart { IfOk result (λ line. IfOk line (λ line. all_differ (texts line.names.items) ≡ true)) }
+    ensures apart { IfOk result (λ line. IfOk line (λ line. IsDistinct bytes_eq (texts line.names.items))) }
 {
     if long {
         return Ok(Err(Refusal::LineTooLong));
