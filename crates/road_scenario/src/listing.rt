@@ -19,7 +19,7 @@ pub(crate) fn all_edits(
     registers: &RegistersByObject,
 ) -> Result<Vec<Edit>, OutOfMemory>
     ensures all { IfOk result (λ edits. edits.items ≡ edit_list registers.now) }
-    ensures memory { registers.now ≡ [] → IsOk result }
+    ensures grows_nothing { registers.now ≡ [] → IsOk result }
 {
     let mut edits = Vec::new(alloc);
     for (object, steps) in registers.iter() {

@@ -171,7 +171,7 @@ impl Scenario {
     pub fn edits(&self, alloc: Global) -> Result<Vec<Edit>, OutOfMemory>
         ensures all { IfOk result (λ edits. edits.items ≡ sets.items self.now) }
         ensures rising { IfOk result (λ edits. T (sets.is_rising edit_cmp edits.items)) }
-        ensures memory { self.now ≡ sets.empty → IsOk result }
+        ensures grows_nothing { self.now ≡ sets.empty → IsOk result }
     {
         self.registers.known();
         Ok(all_edits(alloc, &self.registers)?)

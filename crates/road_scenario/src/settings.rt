@@ -31,7 +31,7 @@ pub(crate) fn put_all(
 fn put(settings: &mut Settings, object: Object, number: u32) -> Result<(), OutOfMemory>
     requires { walks.has_place settings.now object ≡ true }
     ensures put { OnOk result (settings.new ≡ walks.settings_with_number settings.old object number) }
-    ensures memory { OnErr result (number ≡ 1) }
+    ensures grows_blocks { OnErr result (number ≡ 1) }
 {
     match object {
         Object::Limit(zone) => settings.limits[zone as usize] = number,

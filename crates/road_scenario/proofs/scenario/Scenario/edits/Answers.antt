@@ -14,7 +14,7 @@ pub returns-clause-rising : goal.returns-clause-rising
 returns-clause-rising c =
     subst (λ es. T (is_rising edit_cmp es)) (sym (c.in_ok-all_edits.ensures.all ∙ sym (items-edit_set c.self.inside.registers c.known.ensures) ∙ ap items c.self.view_is)) (items_rise c.args.self.now)
 
-pub returns-in_err-all_edits-clause-memory : goal.returns-in_err-all_edits-clause-memory
-returns-in_err-all_edits-clause-memory c = λ none.
+pub returns-in_err-all_edits-clause-grows_nothing : goal.returns-in_err-all_edits-clause-grows_nothing
+returns-in_err-all_edits-clause-grows_nothing c = λ none.
     let registers_none : c.self.inside.registers ≡ [] = no_registers c.self.inside.registers c.known.ensures (c.self.view_is ∙ none) in
-    absurd (true≢false (sym (c.in_err-all_edits.ensures.memory registers_none)))
+    absurd (true≢false (sym (c.in_err-all_edits.ensures.grows_nothing registers_none)))
