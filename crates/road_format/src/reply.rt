@@ -3,14 +3,16 @@
 ghost use Rattle.std.specs.Prelude.{◌≡◌, IfOk, string_bytes, map};
 ghost use Rattle.serde_json.specs.Data.{string};
 ghost use Rattle.serde_json.specs.View.{view};
+ghost use Rattle.road_format.specs.Replies as replies;
 ghost use Rattle.road_format.specs.Replies.{list_data, car_data, edit_data, data_of, reply};
 ghost use Rattle.road_format.specs.Views.{texts, car_view, answer_view};
 
 use crate::answer::Answer;
 use crate::object::{index_of, kind_of};
+use crate::refusal::Refusal;
 use road_cells::Car;
 use road_plan::OutOfMemory;
-use road_scenario::{Edit, Value as Put};
+use road_scenario::{Edit, Stamp, Value as Put};
 use serde_json::{Value, json};
 use std::alloc::Global;
 
@@ -33,28 +35,83 @@ fn answer_value(alloc: Global, answer: &Answer) -> Result<Value, OutOfMemory>
     ensures { IfOk result (λ value. view value ≡ data_of (answer_view answer.now)) }
 {
     match answer {
-        Answer::Open { replicas } => json!(in alloc; {"open": *replicas}),
-        Answer::Refused(refusal) => json!(in alloc; {"refused": refusal.text()}),
-        Answer::Horizon(horizon) => json!(in alloc; {"horizon": *horizon}),
-        Answer::Cells(row) => {
-            let row = row_value(alloc, row.as_str())?;
-            json!(in alloc; {"cells": row})
-        }
-        Answer::Cars(cars) => {
-            let cars = car_values(alloc, cars.as_slice())?;
-            json!(in alloc; {"cars": cars})
-        }
-        Answer::Counted { cars, speeds } => json!(in alloc; {"cars": *cars, "speeds": *speeds}),
-        Answer::Rows(rows) => {
-            let rows = row_values(alloc, rows.as_slice())?;
-            json!(in alloc; {"rows": rows})
-        }
-        Answer::Stamped(stamp) => json!(in alloc; {"stamp": [stamp.count, stamp.number]}),
-        Answer::Edits(edits) => {
-            let edits = edit_values(alloc, edits.as_slice())?;
-            json!(in alloc; {"edits": edits, "form": 1u32})
-        }
+        Answer::Open { replicas } => open_value(alloc, *replicas),
+        Answer::Refused(refusal) => refused_value(alloc, *refusal),
+        Answer::Horizon(horizon) => horizon_value(alloc, *horizon),
+        Answer::Cells(row) => cells_value(alloc, row.as_str()),
+        Answer::Cars(cars) => cars_value(alloc, cars.as_slice()),
+        Answer::Counted { cars, speeds } => counted_value(alloc, *cars, *speeds),
+        Answer::Rows(rows) => rows_value(alloc, rows.as_slice()),
+        Answer::Stamped(stamp) => stamped_value(alloc, *stamp),
+        Answer::Edits(edits) => edits_value(alloc, edits.as_slice()),
     }
+}
+
+// That the plan is open, with so many replicas.
+fn open_value(alloc: Global, replicas: u32) -> Result<Value, OutOfMemory>
+    ensures { IfOk result (λ value. view value ≡ data_of (replies.Open replicas)) }
+{
+    json!(in alloc; {"open": replicas})
+}
+
+// That a line is refused.
+fn refused_value(alloc: Global, refusal: Refusal) -> Result<Value, OutOfMemory>
+    ensures { IfOk result (λ value. view value ≡ data_of (replies.Refused refusal)) }
+{
+    json!(in alloc; {"refused": refusal.text()})
+}
+
+// A replica's horizon.
+fn horizon_value(alloc: Global, horizon: u32) -> Result<Value, OutOfMemory>
+    ensures { IfOk result (λ value. view value ≡ data_of (replies.Horizon horizon)) }
+{
+    json!(in alloc; {"horizon": horizon})
+}
+
+// One row of cells.
+fn cells_value(alloc: Global, row: &str) -> Result<Value, OutOfMemory>
+    ensures { IfOk result (λ value. view value ≡ data_of (replies.Cells row.now)) }
+{
+    let row = row_value(alloc, row)?;
+    json!(in alloc; {"cells": row})
+}
+
+// The cars of a road.
+fn cars_value(alloc: Global, cars: &[Car]) -> Result<Value, OutOfMemory>
+    ensures { IfOk result (λ value. view value ≡ data_of (replies.Cars (map car_view cars.now))) }
+{
+    let cars = car_values(alloc, cars)?;
+    json!(in alloc; {"cars": cars})
+}
+
+// What a detector counted.
+fn counted_value(alloc: Global, cars: u32, speeds: u32) -> Result<Value, OutOfMemory>
+    ensures { IfOk result (λ value. view value ≡ data_of (replies.Counted cars speeds)) }
+{
+    json!(in alloc; {"cars": cars, "speeds": speeds})
+}
+
+// Rows of cells.
+fn rows_value(alloc: Global, rows: &[String]) -> Result<Value, OutOfMemory>
+    ensures { IfOk result (λ value. view value ≡ data_of (replies.Rows (texts rows.now))) }
+{
+    let rows = row_values(alloc, rows)?;
+    json!(in alloc; {"rows": rows})
+}
+
+// The stamp of an edit.
+fn stamped_value(alloc: Global, stamp: Stamp) -> Result<Value, OutOfMemory>
+    ensures { IfOk result (λ value. view value ≡ data_of (replies.Stamped stamp)) }
+{
+    json!(in alloc; {"stamp": [stamp.count, stamp.number]})
+}
+
+// The edits that a replica holds.
+fn edits_value(alloc: Global, edits: &[Edit]) -> Result<Value, OutOfMemory>
+    ensures { IfOk result (λ value. view value ≡ data_of (replies.Edits edits.now)) }
+{
+    let edits = edit_values(alloc, edits)?;
+    json!(in alloc; {"edits": edits, "form": 1u32})
 }
 
 // The JSON list of these cars.
