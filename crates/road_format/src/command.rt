@@ -94,8 +94,8 @@ pub enum Command {
 ///
 /// # Errors
 ///
-/// `NotJson` where the line is no JSON value, then `NotACommand` where the value is no command. The length of the
-/// line is not asked here.
+/// `NotJson` where the line is no JSON value, then `NotACommand` where the value is no command. `OutOfMemory` may come
+/// in the place of either where the line has a byte. The length of the line is not asked here.
 #[tactic(auto, using(crate::proofs::LineValues::length_of_value), unfolding(crate::specs::CommandGrammar::command_of))]
 pub fn read_command(alloc: Global, line: &[u8]) -> Result<Command, LineFault>
     // The grammar's command, or its refusal; want of memory is none.

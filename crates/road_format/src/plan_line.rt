@@ -57,7 +57,8 @@ struct PlanLineParts {
 ///
 /// `NotJson` where the line is no JSON value, then `NotAPlan` where the value has another shape, then `Names` where
 /// the replicas are not 1 to 64 or their names not all different and of 1 to 64 bytes, then `Plan` with the first
-/// fault of the plan. The length of the line is not asked here.
+/// fault of the plan, which is never its `OutOfMemory`. `OutOfMemory` may come in the place of any of them where the line
+/// has a byte. The length of the line is not asked here.
 #[tactic(auto, using(crate::proofs::LineValues::length_of_value), unfolding(crate::specs::PlanGrammar::plan_line_of))]
 pub fn read_plan(alloc: Global, line: &[u8]) -> Result<PlanLine, PlanLineFault>
     // The grammar's plan line, or its refusal; want of memory is none.

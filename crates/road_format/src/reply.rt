@@ -4,7 +4,7 @@ ghost use Rattle.std.specs.Prelude.{◌≡◌, IfOk, string_bytes, map};
 ghost use Rattle.serde_json.specs.Data.{string};
 ghost use Rattle.serde_json.specs.View.{view};
 ghost use Rattle.road_format.specs.Replies as replies;
-ghost use Rattle.road_format.specs.Replies.{list_data, car_data, edit_data, data_of, reply};
+ghost use Rattle.road_format.specs.Replies.{list_data, car_data, value_data, edit_data, data_of, reply};
 ghost use Rattle.road_format.specs.Views.{texts, car_view, answer_view};
 
 use crate::answer::Answer;
@@ -168,9 +168,16 @@ fn edit_value(alloc: Global, edit: Edit) -> Result<Value, OutOfMemory>
     let kind = kind_of(edit.object);
     let index = index_of(edit.object);
     let stamp = edit.stamp;
-    match edit.value {
-        Put::Put(n) => json!(in alloc; [kind, index, edit.step, stamp.count, stamp.number, n]),
-        Put::Withdrawn =>
-            json!(in alloc; [kind, index, edit.step, stamp.count, stamp.number, null]),
+    let value = put_value(alloc, edit.value)?;
+    json!(in alloc; [kind, index, edit.step, stamp.count, stamp.number, value])
+}
+
+// The number that an edit puts, or null for a withdrawal.
+fn put_value(alloc: Global, value: Put) -> Result<Value, OutOfMemory>
+    ensures { IfOk result (λ made. view made ≡ value_data value) }
+{
+    match value {
+        Put::Put(n) => json!(in alloc; n),
+        Put::Withdrawn => Ok(Value::Null),
     }
 }
