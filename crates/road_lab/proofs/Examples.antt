@@ -24,7 +24,7 @@ use Rattle.road_format.specs.CommandGrammar.{advance_in, cells_in, command_in, c
 use Rattle.road_format.specs.PlanGrammar.{plan_line_in, plan_line_of}
 use Rattle.road_format.specs.Replies.{Open, Refused, Horizon, Cells as CellsReply, reply}
 use Rattle.road_format.specs.declared.refusal.Refusal.TheVariants as refusals
-use Rattle.road_keeper.specs.Laboratory.{row_at}
+use Rattle.road_sheet.specs.Shown.{row_at}
 use Rattle.road_lab.specs.Answers.{is_long, replies, answers_within}
 
 -- a road of 12 cells whose cars are never slowed by chance, and three replicas

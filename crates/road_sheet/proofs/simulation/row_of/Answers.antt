@@ -3,7 +3,7 @@ use Rattle.std.specs.Arc.{arc_value}
 use Rattle.road_plan.specs.Plan.{Plan}
 use Rattle.road_scenario.specs.Faults.{fault_in}
 use Rattle.road_scenario.proofs.EditRanges.{in_range-faultless}
-use Rattle.road_keeper.proofs.simulation.row_of.Goals as goal
+use Rattle.road_sheet.proofs.simulation.row_of.Goals as goal
 
 pub settings_at-requires : goal.settings_at-requires
 settings_at-requires c =

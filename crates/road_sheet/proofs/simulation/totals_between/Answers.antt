@@ -2,8 +2,8 @@ use Rattle.std.proofs.Common.{subst, arith}
 use Rattle.std.specs.Arc.{arc_value}
 use Rattle.road_scenario.specs.Settings.{settings_of}
 use Rattle.road_detector.specs.Laws.{PassOneByOne, BoundTotals}
-use Rattle.road_keeper.proofs.Stepping.{passed_is, cars_fit, speeds_fit, counted_more}
-use Rattle.road_keeper.proofs.simulation.totals_between.Goals as goal
+use Rattle.road_sheet.proofs.RunTotals.{passed_is, cars_fit, speeds_fit, counted_more}
+use Rattle.road_sheet.proofs.simulation.totals_between.Goals as goal
 
 pub overflow_add-totals : goal.overflow_add-totals
 overflow_add-totals c =

@@ -7,8 +7,8 @@ ghost use Rattle.road_scenario.specs.Faults.{AreInRange};
 ghost use Rattle.road_scenario.specs.Settings.{settings_of};
 ghost use Rattle.road_ends.specs.Input.{input_of, input_speeds};
 ghost use Rattle.road_detector.specs.Passes.{total};
-ghost use Rattle.road_keeper.specs.Laboratory.{row_at, rows_at};
-ghost use Rattle.road_keeper.specs.Simulation.{run_at};
+ghost use Rattle.road_sheet.specs.Shown.{row_at, rows_at};
+ghost use Rattle.road_sheet.specs.Shown.{run_at};
 
 use road_cells::Road;
 use road_detector::laws::{cars_have_digits, cars_pass_one_by_one, totals_are_bounded};
@@ -63,7 +63,7 @@ pub fn state_at(
 }
 
 // The state at a step, from the road of a step that is not later.
-fn run_on(
+pub(crate) fn run_on(
     alloc: Global,
     plan: &Arc<Plan>,
     scenario: &Scenario,
@@ -104,7 +104,7 @@ fn next(
 }
 
 /// The row of a state, with the blocks of its step.
-#[tactic(auto, unfolding(crate::specs::Laboratory::row_at))]
+#[tactic(auto, unfolding(crate::specs::Shown::row_at))]
 pub fn row_of(
     alloc: Global,
     plan: &Arc<Plan>,

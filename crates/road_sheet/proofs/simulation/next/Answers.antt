@@ -4,8 +4,8 @@ use Rattle.road_plan.specs.Plan.{Plan}
 use Rattle.road_scenario.specs.Faults.{fault_in}
 use Rattle.road_scenario.proofs.EditRanges.{in_range-faultless}
 use Rattle.road_scenario.specs.Settings.{settings_of}
-use Rattle.road_keeper.proofs.Stepping.{step_more}
-use Rattle.road_keeper.proofs.simulation.next.Goals as goal
+use Rattle.road_sheet.proofs.RunStates.{step_more}
+use Rattle.road_sheet.proofs.simulation.next.Goals as goal
 
 pub settings_at-requires : goal.settings_at-requires
 settings_at-requires c =

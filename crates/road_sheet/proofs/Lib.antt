@@ -1,0 +1,6 @@
+pub mod Ranges
+pub mod RunStates
+pub mod RunRows
+pub mod RunTotals
+pub mod BlockSteps
+pub mod SheetBlocks

@@ -1,0 +1,15 @@
+-- The states of a run, one after another.
+use Rattle.std.proofs.Common.{◌≡◌, ◌+◌, ◌∙◌, ℕ, ap, sym}
+use Rattle.std.proofs.Math.Numerals.{add-one}
+use Rattle.road_plan.specs.Plan.{Plan}
+use Rattle.road_plan.specs.Settings.{Settings}
+use Rattle.road_cells.specs.Array.{Array}
+use Rattle.road_ends.specs.Run.{road_after_step}
+use Rattle.road_scenario.specs.Edits.{Edits}
+use Rattle.road_scenario.specs.Settings.{settings_of}
+use Rattle.road_sheet.specs.Shown.{run_at}
+
+-- one step on from the road of a step is the road of the next
+pub step_more : (p : Plan) (edits : Edits) (settings : Settings) (t : ℕ) (road later : Array) → settings ≡ settings_of p edits t → road ≡ run_at p edits t → later ≡ road_after_step p settings t road → later ≡ run_at p edits (t + 1)
+step_more p edits settings t road later set is step =
+    step ∙ ap (λ (s : Settings). road_after_step p s t road) set ∙ ap (λ (a : Array). road_after_step p (settings_of p edits t) t a) is ∙ sym (ap (run_at p edits) (add-one t))
