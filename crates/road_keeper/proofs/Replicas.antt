@@ -13,7 +13,6 @@ use Rattle.road_plan.specs.declared.limits.TheConstants.{GREATEST_HORIZON, MOST_
 use Rattle.road_scenario.specs.Instances.EditOrder.{winners_laws}
 use Rattle.road_scenario.specs.Edits.{Edits}
 use Rattle.road_scenario.specs.Faults.{fault_of, AreInRange}
-use Rattle.road_scenario.proofs.EditRanges.{in_range-empty, in_range-one, in_range-join}
 use Rattle.road_scenario.specs.Winners.{winners, join}
 use Rattle.road_scenario.proofs.NoEdits.{winners-empty}
 use Rattle.road_scenario.specs.declared.edit.Edit.{Edit}
@@ -69,10 +68,8 @@ still_kept plan names xs r y kept of_run = record {
 
 -- ---- an edit more
 
-pub held : (plan : Plan) (edit : Edit) (later : Edits) (x : Replica) → fault_of plan edit ≡ None → IsOfRun plan x → later ≡ join x.scenario (from_list (edit ∷ [])) → (winners later ≡ later) × AreInRange plan later
-held plan edit later x none of_run is =
-    let fits : AreInRange plan (join x.scenario (from_list (edit ∷ []))) = in_range-join plan x.scenario (from_list (edit ∷ [])) of_run.fits (in_range-one plan edit none) in
-    rw is (winners_laws.of_tops _, fits)
+pub held : (edit : Edit) (later : Edits) (x : Replica) → later ≡ join x.scenario (from_list (edit ∷ [])) → winners later ≡ later
+held edit later x is = rw is (winners_laws.of_tops _)
 
 -- ---- an advance
 
@@ -82,10 +79,10 @@ advanced k r to o found few = rw (found, few) refl
 
 -- ---- before any command
 
-pub opening_of_run : (plan : Plan) (x : Replica) → x.horizon ≡ 0 → x.scenario ≡ empty → x.last.step ≡ 0 → x.last.road ≡ [] → IsOfRun plan x
-opening_of_run plan x zero none first bare = record {
+pub opening_of_run : (plan : Plan) (x : Replica) → x.horizon ≡ 0 → x.scenario ≡ empty → AreInRange plan x.scenario → x.last.step ≡ 0 → x.last.road ≡ [] → IsOfRun plan x
+opening_of_run plan x zero none fits first bare = record {
   won = ap winners none ∙ winners-empty ∙ sym none;
-  fits = subst (AreInRange plan) (sym none) (in_range-empty plan);
+  fits = fits;
   early = omega (arith, zero);
   state = bare ∙ sym (ap (run_at plan x.scenario) first);
 }
@@ -163,12 +160,12 @@ hold_after plan names xs k r edit s x y v kept is below joins holds still =
     changed plan names xs k r y _ v same
 
 pub hold_of_run : (plan : Plan) (names : List (List ℕ)) (xs : List Replica) (k : Kept) (r : ℕ) (edit : Edit) (x y : Replica) → viewed plan names xs ≡ k → IsKept plan names xs → x ≡ slice_index_or xs r x
-    → r < length k.line.names → fault_of k.line.plan edit ≡ None → y.scenario ≡ join x.scenario (from_list (edit ∷ [])) → y.horizon ≡ x.horizon → y.last.step ≡ 0 → y.last.road ≡ [] → IsOfRun plan y
-hold_of_run plan names xs k r edit x y v kept is below none joins still first bare =
+    → r < length k.line.names → fault_of k.line.plan edit ≡ None → y.scenario ≡ join x.scenario (from_list (edit ∷ [])) → (AreInRange plan x.scenario → fault_of plan edit ≡ None → AreInRange plan y.scenario)
+    → y.horizon ≡ x.horizon → y.last.step ≡ 0 → y.last.road ≡ [] → IsOfRun plan y
+hold_of_run plan names xs k r edit x y v kept is below none joins fits still first bare =
     let none_here : fault_of plan edit ≡ None = ap (λ (q : Kept). fault_of q.line.plan edit) v ∙ none in
     let before = of_run_at plan names xs r x kept is (kept_below plan names xs k r v kept below) in
-    let both = held plan edit y.scenario x none_here before joins in
-    record { won = both.0; fits = both.1; early = omega (arith, still, before.early); state = bare ∙ sym (ap (run_at plan y.scenario) first) }
+    record { won = held edit y.scenario x joins; fits = fits before.fits none_here; early = omega (arith, still, before.early); state = bare ∙ sym (ap (run_at plan y.scenario) first) }
 
 pub scenario_after : (plan : Plan) (names : List (List ℕ)) (xs : List Replica) (k : Kept) (r : ℕ) (x : Replica) (name : List ℕ) (edits : List Edit) → viewed plan names xs ≡ k → IsKept plan names xs → x ≡ slice_index_or xs r x
     → Some r ≡ position (bytes_eq name) names → r < length names → edits ≡ items x.scenario → replies.Edits edits ≡ scenario_answer (kept_replica k) (replica_of k.line name)

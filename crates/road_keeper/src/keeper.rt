@@ -6,7 +6,8 @@ ghost use Rattle.road_format.specs.PlanGrammar.{all_differ};
 ghost use Rattle.road_format.specs.Views.{texts, car_view, plan_line_view, command_view, answer_view};
 ghost use Rattle.road_plan.specs.declared.limits.TheConstants.{MOST_REPLICAS};
 ghost use Rattle.lattice_core.specs.Sets.{from_list};
-ghost use Rattle.road_scenario.specs.Faults.{fault_of};
+ghost use Rattle.road_plan.specs.Plan.{Plan};
+ghost use Rattle.road_scenario.specs.Faults.{AreInRange, fault_of};
 ghost use Rattle.road_scenario.specs.Winners.{join};
 ghost use Rattle.road_keeper.specs.Keeping.{seen, IsOfRun};
 ghost use Rattle.road_keeper.specs.Laboratory as laboratory;
@@ -42,6 +43,8 @@ impl Replica {
     // The replica with one edit more. A state that was computed without it does not stay.
     fn with_edit(&self, alloc: Global, edit: &Edit) -> Result<Replica, OutOfMemory>
         ensures scenario { IfOk result (λ replica. replica.scenario ≡ join self.now.scenario (from_list (edit.now ∷ []))) }
+        ensures fits { IfOk result (λ replica. (plan : Plan) →
+            AreInRange plan self.now.scenario → fault_of plan edit.now ≡ None → AreInRange plan replica.scenario) }
         ensures horizon { IfOk result (λ replica. replica.horizon ≡ self.now.horizon) }
         ensures step { IfOk result (λ replica. replica.last.step ≡ 0) }
         ensures road { IfOk result (λ replica. replica.last.road ≡ []) }

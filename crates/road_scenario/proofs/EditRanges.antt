@@ -16,7 +16,7 @@ use Rattle.road_scenario.proofs.GreatestCounts.{reached}
 use Rattle.road_scenario.specs.Instances.EditOrder.{edit_total, edit_exact, winners_laws}
 use Rattle.road_scenario.specs.Edits.{Edits, edit_cmp}
 use Rattle.road_scenario.specs.Faults.{fault_of, fault_in, IsInRange, AreInRange}
-use Rattle.road_scenario.proofs.FirstFaults.{in_range, no_fault}
+use Rattle.road_scenario.proofs.FirstFaults.{in_range, no_fault, is_nothing}
 use Rattle.road_scenario.specs.Winners.{join}
 
 pub in_range-empty : (p : Plan) → AreInRange p empty
@@ -43,7 +43,7 @@ in_range-join p s t one other e i =
 pub in_range-count : (p : Plan) (s : Edits) → AreInRange p s → greatest_count s ≤ GREATEST_COUNT
 in_range-count p s fits = elim (reached (items s) 0) as (λ _. greatest_count s ≤ GREATEST_COUNT) [
   | inl h ↦ at_zero _ h
-  | inr r ↦ by_same _ _ r.2 (fits r.0 (contains-items s r.0 ∙ r.1)).not_spent
+  | inr r ↦ by_same _ _ r.2 (fits r.0 (contains-items s r.0 ∙ r.1)).count_up_to_greatest
 ]
   where
     at_zero : (a : ℕ) → a ≡ 0 → a ≤ GREATEST_COUNT
@@ -51,10 +51,6 @@ in_range-count p s fits = elim (reached (items s) 0) as (λ _. greatest_count s 
 
     by_same : (a b : ℕ) → a ≡ b → b ≤ GREATEST_COUNT → a ≤ GREATEST_COUNT
     by_same a b e h = omega arith
-
-is_nothing : {A : Type 0} (x : Option A) → IsNone x → x ≡ None
-is_nothing None h = refl
-is_nothing (Some f) h = absurd (true≢false h)
 
 -- there is no fault
 pub in_range-faultless : (p : Plan) (s : Edits) → AreInRange p s → fault_in p s ≡ None

@@ -11,8 +11,8 @@ use Rattle.road_scenario.specs.declared.edit.Value.TheVariants.{Withdrawn, Put}
 use Rattle.road_scenario.specs.declared.faults.EditFault.TheVariants.{NoObject, Step, ValueOutOfRange, Count}
 use Rattle.road_scenario.specs.Winners.{winners_in}
 use Rattle.road_scenario.specs.Settings.{setting_in, settings_in}
-use Rattle.road_scenario.specs.Touched.{put_in, touched_in}
-use Rattle.road_scenario.specs.Edits.{place_of}
+use Rattle.road_scenario.specs.Touched.{put_number_at, touched_in}
+use Rattle.road_scenario.specs.Edits.{object_place}
 use Rattle.road_scenario.specs.Faults.{fault_of, first_fault}
 use Rattle.road_scenario.specs.Counts.{greatest_count_in}
 
@@ -59,7 +59,7 @@ number_beats_withdrawal = refl
 withdrawal_stays : winners_in (made (Slow 0) 0 3 0 Withdrawn ∷ made (Slow 0) 0 2 0 (Put 5) ∷ []) ≡ made (Slow 0) 0 3 0 Withdrawn ∷ []
 withdrawal_stays = refl
 
-nothing_is_put : put_in (made (Slow 0) 0 3 0 Withdrawn ∷ []) (place_of (Slow 0) 0) ≡ None
+nothing_is_put : put_number_at (made (Slow 0) 0 3 0 Withdrawn ∷ []) (object_place (Slow 0) 0) ≡ None
 nothing_is_put = refl
 
 -- a put touches its step, and so does the earliest of several

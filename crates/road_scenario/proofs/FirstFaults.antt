@@ -19,8 +19,8 @@ use Rattle.road_scenario.specs.declared.faults.EditFault.{EditFault}
 use Rattle.road_scenario.specs.declared.faults.EditFault.TheVariants.{NoObject, Step, ValueOutOfRange, Count}
 use Rattle.road_scenario.specs.Edits.{Edits, edit_cmp}
 use Rattle.road_scenario.specs.Instances.EditOrder.{edit_total, edit_exact}
-use Rattle.road_scenario.specs.Faults.{fault_of, first_fault, fault_in, takes, IsInRange, AreInRange}
-use Rattle.road_scenario.specs.Private.Registers.{Won, Steps, Maps, edit_with, before, listed_at, listed}
+use Rattle.road_scenario.specs.Faults.{fault_of, first_fault, fault_in, is_value_allowed, IsInRange, AreInRange}
+use Rattle.road_scenario.specs.Registers.{Register, RegistersByStep, RegistersByObject, edit_with, edits_from_register, object_edits, edit_list}
 use Rattle.lattice_core.specs.declared.greatest.Greatest.TheVariants.{Nothing, Of}
 
 or-assoc : (x y z : Option EditFault) → option_or (option_or x y) z ≡ option_or x (option_or y z)
@@ -31,14 +31,14 @@ pub first-append : (p : Plan) (es fs : List Edit) → first_fault p (es ++ fs) �
 first-append p [] fs = refl
 first-append p (e ∷ es) fs = ap (option_or (fault_of p e)) (first-append p es fs) ∙ sym (or-assoc (fault_of p e) (first_fault p es) (first_fault p fs))
 
-turn : (p : Plan) (m rest : Maps) (o : Object) (steps : Steps) → m ≡ (o, steps) ∷ rest → first_fault p (listed m) ≡ option_or (first_fault p (listed_at o steps)) (first_fault p (listed rest))
-turn p m rest o steps is = ap (λ x. first_fault p (listed x)) is ∙ first-append p (listed_at o steps) (listed rest)
+turn : (p : Plan) (m rest : RegistersByObject) (o : Object) (steps : RegistersByStep) → m ≡ (o, steps) ∷ rest → first_fault p (edit_list m) ≡ option_or (first_fault p (object_edits o steps)) (first_fault p (edit_list rest))
+turn p m rest o steps is = ap (λ x. first_fault p (edit_list x)) is ∙ first-append p (object_edits o steps) (edit_list rest)
 
-pub found_here : (p : Plan) (m rest : Maps) (o : Object) (steps : Steps) (f : EditFault) → m ≡ (o, steps) ∷ rest → Some f ≡ first_fault p (listed_at o steps) → Some f ≡ first_fault p (listed m)
-found_here p m rest o steps f is h = ap (λ x. option_or x (first_fault p (listed rest))) h ∙ sym (turn p m rest o steps is)
+pub found_here : (p : Plan) (m rest : RegistersByObject) (o : Object) (steps : RegistersByStep) (f : EditFault) → m ≡ (o, steps) ∷ rest → Some f ≡ first_fault p (object_edits o steps) → Some f ≡ first_fault p (edit_list m)
+found_here p m rest o steps f is h = ap (λ x. option_or x (first_fault p (edit_list rest))) h ∙ sym (turn p m rest o steps is)
 
-pub not_here : (p : Plan) (m rest : Maps) (o : Object) (steps : Steps) → m ≡ (o, steps) ∷ rest → None ≡ first_fault p (listed_at o steps) → first_fault p (listed rest) ≡ first_fault p (listed m)
-not_here p m rest o steps is h = ap (λ x. option_or x (first_fault p (listed rest))) h ∙ sym (turn p m rest o steps is)
+pub not_here : (p : Plan) (m rest : RegistersByObject) (o : Object) (steps : RegistersByStep) → m ≡ (o, steps) ∷ rest → None ≡ first_fault p (object_edits o steps) → first_fault p (edit_list rest) ≡ first_fault p (edit_list m)
+not_here p m rest o steps is h = ap (λ x. option_or x (first_fault p (edit_list rest))) h ∙ sym (turn p m rest o steps is)
 
 -- ---- no fault
 
@@ -54,17 +54,23 @@ pub in_range : (p : Plan) (e : Edit) → fault_of p e ≡ None → IsInRange p e
 in_range p e h =
     let object = unless_some (in_plan p e.object) NoObject _ h in
     let step = unless_some (nat_le e.step LAST_EDIT_STEP) Step _ object.1 in
-    let value = unless_some (takes e.object e.value) ValueOutOfRange _ step.1 in
+    let value = unless_some (is_value_allowed e.object e.value) ValueOutOfRange _ step.1 in
     let count = unless_some (nat_le 1 e.stamp.count && nat_le e.stamp.count GREATEST_COUNT) Count _ value.1 in
     let counts = and_parts (nat_le 1 e.stamp.count) _ count.0 in
-    record { has_object = object.0; early_enough = leb-true _ _ step.0; taken = value.0; counted = leb-true _ _ counts.0; not_spent = leb-true _ _ counts.1 }
+    record {
+      has_object = object.0;
+      step_up_to_last = leb-true _ _ step.0;
+      value_allowed = value.0;
+      count_above_zero = leb-true _ _ counts.0;
+      count_up_to_greatest = leb-true _ _ counts.1;
+    }
 
 faultless : (p : Plan) (e : Edit) → IsInRange p e → fault_of p e ≡ None
 faultless p e h =
     passed (in_plan p e.object) NoObject _ h.has_object (
-    passed (nat_le e.step LAST_EDIT_STEP) Step _ (le-leb _ _ h.early_enough) (
-    passed (takes e.object e.value) ValueOutOfRange _ h.taken (
-    passed (nat_le 1 e.stamp.count && nat_le e.stamp.count GREATEST_COUNT) Count None (and_from _ _ (le-leb _ _ h.counted) (le-leb _ _ h.not_spent)) refl)))
+    passed (nat_le e.step LAST_EDIT_STEP) Step _ (le-leb _ _ h.step_up_to_last) (
+    passed (is_value_allowed e.object e.value) ValueOutOfRange _ h.value_allowed (
+    passed (nat_le 1 e.stamp.count && nat_le e.stamp.count GREATEST_COUNT) Count None (and_from _ _ (le-leb _ _ h.count_above_zero) (le-leb _ _ h.count_up_to_greatest)) refl)))
 
 pub none_of_both : (x y : Option EditFault) → option_or x y ≡ None → (x ≡ None) × (y ≡ None)
 none_of_both None y h = (refl, h)
@@ -88,7 +94,7 @@ none_faulty p (f ∷ es) h =
     ap (λ x. option_or x (first_fault p es)) (h f (or_left _ _ (ap is_eq (tied_itself edit_total f))))
     ∙ none_faulty p es (λ e i. h e (or_right (eq_by_cmp edit_cmp e f) _ i))
 
-is_nothing : (x : Option EditFault) → IsNone x → x ≡ None
+pub is_nothing : (x : Option EditFault) → IsNone x → x ≡ None
 is_nothing None h = refl
 is_nothing (Some f) h = absurd (true≢false h)
 
@@ -101,7 +107,7 @@ no_fault p s x is h = ap is_some (is ∙ none_faulty p (items s) (λ e i. faultl
 
 -- ---- the walk over an object's steps
 
-first-before : (p : Plan) (o : Object) (step : ℕ) (won : Won) (es : List Edit) → first_fault p (before o step won es) ≡ option_or (first_fault p (before o step won [])) (first_fault p es)
+first-before : (p : Plan) (o : Object) (step : ℕ) (won : Register) (es : List Edit) → first_fault p (edits_from_register o step won es) ≡ option_or (first_fault p (edits_from_register o step won [])) (first_fault p es)
 first-before p o step Nothing es = refl
 first-before p o step (Of w) es = ap (λ x. option_or x (first_fault p es)) (or_nothing (fault_of p (edit_with o step w)))
   where
@@ -110,10 +116,10 @@ first-before p o step (Of w) es = ap (λ x. option_or x (first_fault p es)) (or_
     or_nothing (Some f) = refl
 
 -- the first so far, and what is left, give the first of all
-pub first_turn : (p : Plan) (o : Object) (steps rest : Steps) (step : ℕ) (won : Won) (first found next whole : Option EditFault) → steps ≡ (step, won) ∷ rest → found ≡ first_fault p (before o step won []) → next ≡ option_or first found
-    → option_or first (first_fault p (listed_at o steps)) ≡ whole → option_or next (first_fault p (listed_at o rest)) ≡ whole
+pub first_turn : (p : Plan) (o : Object) (steps rest : RegistersByStep) (step : ℕ) (won : Register) (first found next whole : Option EditFault) → steps ≡ (step, won) ∷ rest → found ≡ first_fault p (edits_from_register o step won []) → next ≡ option_or first found
+    → option_or first (first_fault p (object_edits o steps)) ≡ whole → option_or next (first_fault p (object_edits o rest)) ≡ whole
 first_turn p o steps rest step won first found next whole is here or h =
-    ap (λ x. option_or x (first_fault p (listed_at o rest))) (or ∙ ap (option_or first) here)
-    ∙ or-assoc first (first_fault p (before o step won [])) (first_fault p (listed_at o rest))
-    ∙ ap (option_or first) (sym (ap (λ x. first_fault p (listed_at o x)) is ∙ first-before p o step won (listed_at o rest)))
+    ap (λ x. option_or x (first_fault p (object_edits o rest))) (or ∙ ap (option_or first) here)
+    ∙ or-assoc first (first_fault p (edits_from_register o step won [])) (first_fault p (object_edits o rest))
+    ∙ ap (option_or first) (sym (ap (λ x. first_fault p (object_edits o x)) is ∙ first-before p o step won (object_edits o rest)))
     ∙ h

@@ -13,7 +13,7 @@ use Rattle.lattice_core.proofs.SetElements.{contains-items}
 use Rattle.lattice_core.proofs.GreatestElements.{any_gives, contains-tops, top_above}
 use Rattle.road_scenario.specs.declared.edit.Edit.{Edit}
 use Rattle.road_scenario.specs.Counts.{greatest_count}
-use Rattle.road_scenario.specs.Edits.{Edits, edit_cmp, exceeds, place, rank, three_cmp, value_key}
+use Rattle.road_scenario.specs.Edits.{Edits, edit_cmp, is_exceeded_by, edit_place, edit_rank, number_triple_cmp, value_key}
 use Rattle.road_scenario.specs.Instances.EditOrder.{edit_total, edit_exact, exceeds_strict, winners_laws}
 use Rattle.road_scenario.specs.Winners.{winners}
 
@@ -60,25 +60,25 @@ not_more n m r h = elim (nat_cmp n m) as (λ x. nat_cmp n m ≡ x → is_lt (ord
   | Greater ↦ λ e i. absurd (true≢false (sym i))
 ] refl h
 
-then-assoc : (a b c : Ordering) → ordering_then (ordering_then a b) c ≡ ordering_then a (ordering_then b c)
+pub then-assoc : (a b c : Ordering) → ordering_then (ordering_then a b) c ≡ ordering_then a (ordering_then b c)
 then-assoc Less b c = refl
 then-assoc Equal b c = refl
 then-assoc Greater b c = refl
 
 -- what exceeds an edit has no smaller count
-count_grows : (e f : Edit) → exceeds e f ≡ true → e.stamp.count ≤ f.stamp.count
+count_grows : (e f : Edit) → is_exceeded_by e f ≡ true → e.stamp.count ≤ f.stamp.count
 count_grows e f h =
-    let above : is_lt (three_cmp (rank e) (rank f)) ≡ true = (and_parts (is_eq (three_cmp (place e) (place f))) _ h).1 in
+    let above : is_lt (number_triple_cmp (edit_rank e) (edit_rank f)) ≡ true = (and_parts (is_eq (number_triple_cmp (edit_place e) (edit_place f))) _ h).1 in
     not_more e.stamp.count f.stamp.count _ (ap is_lt (sym (then-assoc (nat_cmp e.stamp.count f.stamp.count) (nat_cmp e.stamp.number f.stamp.number) (nat_cmp (value_key e.value) (value_key f.value)))) ∙ above)
 
 -- each edit's count is at most that of the winners
 below_winner : (s : Edits) (e : Edit) → contains s e ≡ true → e.stamp.count ≤ greatest_count (winners s)
-below_winner s e i = elim (cases_Bool (list_any (exceeds e) (items s))) as (λ _. e.stamp.count ≤ greatest_count (winners s)) [
+below_winner s e i = elim (cases_Bool (list_any (is_exceeded_by e) (items s))) as (λ _. e.stamp.count ≤ greatest_count (winners s)) [
   | inl h ↦
-      let f = any_gives edit_total edit_exact (exceeds e) (items s) h in
-      let g = top_above edit_total edit_exact exceeds exceeds_strict s e f.0 (contains-items s f.0 ∙ f.1) f.2 in
+      let f = any_gives edit_total edit_exact (is_exceeded_by e) (items s) h in
+      let g = top_above edit_total edit_exact is_exceeded_by exceeds_strict s e f.0 (contains-items s f.0 ∙ f.1) f.2 in
       two_steps _ _ _ (count_grows e g.0 g.2) (upper (items (winners s)) 0 g.0 (sym (contains-items (winners s) g.0) ∙ g.1))
-  | inr h ↦ upper (items (winners s)) 0 e (sym (contains-items (winners s) e) ∙ contains-tops edit_total edit_exact exceeds exceeds_strict s e ∙ and_from _ _ i (not_from_false _ h))
+  | inr h ↦ upper (items (winners s)) 0 e (sym (contains-items (winners s) e) ∙ contains-tops edit_total edit_exact is_exceeded_by exceeds_strict s e ∙ and_from _ _ i (not_from_false _ h))
 ]
   where
     two_steps : (a b c : ℕ) → a ≤ b → b ≤ c → a ≤ c

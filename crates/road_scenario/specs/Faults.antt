@@ -16,16 +16,16 @@ use Rattle.road_scenario.specs.declared.faults.EditFault.TheVariants.{NoObject, 
 use Rattle.road_scenario.specs.Edits.{Edits}
 
 -- whether an object takes a value: a withdrawal always
-abbrev pub takes : Object → Value → Bool
-takes o Withdrawn = true
-takes o (Put n) = allows o n
+abbrev pub is_value_allowed : Object → Value → Bool
+is_value_allowed o Withdrawn = true
+is_value_allowed o (Put n) = allows o n
 
 -- the first fault of an edit, in the order in which they are named
 abbrev pub fault_of : Plan → Edit → Option EditFault
 fault_of p e =
     if not (in_plan p e.object) then Some NoObject
     else (if not (nat_le e.step LAST_EDIT_STEP) then Some Step
-    else (if not (takes e.object e.value) then Some ValueOutOfRange
+    else (if not (is_value_allowed e.object e.value) then Some ValueOutOfRange
     else (if not (nat_le 1 e.stamp.count && nat_le e.stamp.count GREATEST_COUNT) then Some Count else None)))
 
 -- the fault of the first faulty edit of a list
@@ -40,11 +40,11 @@ fault_in p edits = first_fault p (items edits)
 -- an edit is in the plan and its ranges
 pub record IsInRange (p : Plan) (e : Edit) : Type 0 where
   pub has_object : in_plan p e.object ≡ true
-  pub early_enough : e.step ≤ LAST_EDIT_STEP
-  pub taken : takes e.object e.value ≡ true
-  pub counted : 1 ≤ e.stamp.count
-  pub not_spent : e.stamp.count ≤ GREATEST_COUNT
+  pub step_up_to_last : e.step ≤ LAST_EDIT_STEP
+  pub value_allowed : is_value_allowed e.object e.value ≡ true
+  pub count_above_zero : 1 ≤ e.stamp.count
+  pub count_up_to_greatest : e.stamp.count ≤ GREATEST_COUNT
 
--- so is each edit of a set
+-- each edit of a set is in the plan and its ranges
 abbrev pub AreInRange : Plan → Edits → Type 0
 AreInRange p edits = (e : Edit) → contains edits e ≡ true → IsInRange p e

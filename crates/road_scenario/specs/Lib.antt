@@ -4,5 +4,6 @@ pub mod Settings
 pub mod Touched
 pub mod Faults
 pub mod Counts
+pub mod Registers
 pub mod Instances
 pub mod Private

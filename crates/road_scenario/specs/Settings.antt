@@ -1,7 +1,7 @@
 -- The settings that edits give.
 use Rattle.std.specs.Prelude.{ℕ, ◌==◌, ◌&&◌, Bool, List, [], ◌∷◌, map, length, nat_le, nat_lt, is_some}
 use Rattle.std.specs.List.{filter, best_of, range_with_len}
-use Rattle.std.specs.Option.{unwrap_or}
+use Rattle.std.specs.Option.{unwrap_or, option_and_then}
 use Rattle.std.specs.Ordering.{is_eq}
 use Rattle.std.specs.declared.option.Option.{Option}
 use Rattle.std.specs.declared.option.Option.TheVariants.{None, Some}
@@ -12,27 +12,24 @@ use Rattle.road_plan.specs.Objects.{by_kind_and_index, default}
 use Rattle.road_plan.specs.declared.object.Object.{Object}
 use Rattle.road_plan.specs.declared.object.Object.TheVariants.{Limit, Slow, Block, Inflow, Watch}
 use Rattle.road_scenario.specs.declared.edit.Edit.{Edit}
-use Rattle.road_scenario.specs.Edits.{Edits, number_put}
+use Rattle.road_scenario.specs.Edits.{Edits, put_number}
 use Rattle.road_scenario.specs.Winners.{winners}
 
--- whether an edit puts a number to an object, dated at most at a step
-abbrev pub puts : Object → ℕ → Edit → Bool
-puts o step e = is_eq (by_kind_and_index e.object o) && (nat_le e.step step && is_some (number_put e.value))
+-- whether an edit puts a number to an object, from a step on that is at most this one
+abbrev pub is_put_up_to : Object → ℕ → Edit → Bool
+is_put_up_to o step e = is_eq (by_kind_and_index e.object o) && (nat_le e.step step && is_some (put_number e.value))
 
 -- the latest-dated of these edits
-abbrev pub latest : List Edit → Option Edit
-latest [] = None
-latest (e ∷ es) = Some (best_of (λ f best. nat_lt best.step f.step) e es)
+abbrev pub latest_edit : List Edit → Option Edit
+latest_edit [] = None
+latest_edit (e ∷ es) = Some (best_of (λ f best. nat_lt best.step f.step) e es)
 
--- the number that an edit puts, if there is an edit
-abbrev pub number_of : Option Edit → Option ℕ
-number_of None = None
-number_of (Some e) = number_put e.value
-
--- the number of the latest-dated of these edits for an object that is dated at most at a step and isn't a withdrawal;
--- the default where there is none
+-- the setting of an object at a step, by the edits of a list as they stand: the number of the latest-dated one for it
+-- up to the step that is no withdrawal, the default where there is none
 abbrev pub setting_in : Plan → List Edit → Object → ℕ → ℕ
-setting_in p edits o step = unwrap_or (number_of (latest (filter (puts o step) edits))) (default p o)
+setting_in p edits o step =
+    let last = latest_edit (filter (is_put_up_to o step) edits) in
+    unwrap_or (option_and_then (λ e. put_number e.value) last) (default p o)
 
 -- the setting of an object at a step, by the winners of the edits
 abbrev pub setting : Plan → Edits → Object → ℕ → ℕ

@@ -1,4 +1,6 @@
 ghost use Rattle.std.specs.Prelude.{◌≡◌};
+ghost use Rattle.std.specs.Ordering.{nat_cmp};
+ghost use Rattle.road_scenario.specs.Edits as edits;
 ghost use Rattle.road_scenario.specs.Faults as faults;
 
 use crate::faults::EditFault;
@@ -36,8 +38,31 @@ pub struct Edit {
     pub value: Value,
 }
 
+impl Stamp {
+    /// That stamps are ordered by count, then by number. It is a fact for proofs: the call does nothing.
+    pub fn known_order(self, other: Stamp)
+        ensures { ⟦<Stamp as Ord>⟧.cmp self other
+            ≡ edits.number_pair_cmp (edits.stamp_key self) (edits.stamp_key other) }
+    {}
+}
+
+impl Value {
+    /// That a withdrawal is below every number, and numbers are in their order. It is a fact for proofs: the call does
+    /// nothing.
+    pub fn known_order(self, other: Value)
+        ensures { ⟦<Value as Ord>⟧.cmp self other ≡ nat_cmp (edits.value_key self) (edits.value_key other) }
+    {}
+}
+
 impl Edit {
-    /// Its first fault in the order of `EditFault`, where it does not fit the plan.
+    /// That edits are ordered by object and step, then by stamp and value. It is a fact for proofs: the call does
+    /// nothing.
+    pub fn known_order(self, other: Edit)
+        ensures { ⟦<Edit as Ord>⟧.cmp self other ≡ edits.edit_cmp self other }
+    {}
+
+    /// Its first fault in the order of `EditFault`, where it does not fit the plan; none where it does. It takes no
+    /// memory.
     pub fn fault(&self, plan: &Plan) -> Option<EditFault>
         ensures { result ≡ faults.fault_of plan.now self.now }
     {
@@ -57,7 +82,7 @@ impl Edit {
 
 // Whether an object takes a value: a withdrawal always.
 fn takes(object: Object, value: Value) -> bool
-    ensures { result ≡ faults.takes object value }
+    ensures { result ≡ faults.is_value_allowed object value }
 {
     match value {
         Value::Withdrawn => true,

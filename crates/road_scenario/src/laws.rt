@@ -7,30 +7,40 @@ ghost use Rattle.lattice_core.specs.Tops.{TopsLaws};
 ghost use Rattle.road_plan.specs.Plan.{Plan};
 ghost use Rattle.road_scenario.specs.declared.edit.Edit.{Edit};
 ghost use Rattle.road_scenario.specs.Counts.{greatest_count};
-ghost use Rattle.road_scenario.specs.Edits.{Edits, edit_cmp, exceeds, place};
+ghost use Rattle.road_scenario.specs.Edits.{Edits, edit_cmp, is_exceeded_by, edit_place};
 ghost use Rattle.road_scenario.specs.Settings.{settings_in, settings_of};
-ghost use Rattle.road_scenario.specs.Touched.{touched};
+ghost use Rattle.road_scenario.specs.Touched.{IsBefore, touched};
 ghost use Rattle.road_scenario.specs.Winners.{winners, winners_in};
 
 /// Who wins.
 pub fn winners_agree()
-    // A winner is an edit that none exceeds. The winners of a union are the join of the winners of its parts, winners of
-    // winners are the same, and joins are commutative, associative and idempotent.
-    ensures joined { TopsLaws edit_cmp exceeds }
+    // A winner is an edit that none exceeds. The winners of a union are the join of the winners of its parts, winners
+    // of winners are the same, and joins are commutative, associative and idempotent.
+    ensures joined { TopsLaws edit_cmp is_exceeded_by }
     // No edit, and one edit alone, are their own winners.
     ensures none { winners empty ≡ empty }
     ensures single { (edit : Edit) → winners (from_list (edit ∷ [])) ≡ from_list (edit ∷ []) }
     // Each object and step has one winner.
-    ensures alone { (edits : Edits) (e f : Edit) → contains (winners edits) e ≡ true → contains (winners edits) f ≡ true → place e ≡ place f → e ≡ f }
+    ensures alone { (edits : Edits) (e f : Edit) → contains (winners edits) e ≡ true → contains (winners edits) f ≡ true
+        → edit_place e ≡ edit_place f → e ≡ f }
     // The winners of a list are those of its set.
     ensures listed { (edits : List Edit) → from_list {R = edit_cmp} (winners_in edits) ≡ winners (from_list edits) }
 {}
 
 /// Settings, what is touched and the greatest count are the same by all edits and by their winners.
 pub fn winners_decide()
-    ensures settings { (plan : Plan) (edits : Edits) (step : ℕ) → settings_of plan (winners edits) step ≡ settings_of plan edits step }
+    ensures settings { (plan : Plan) (edits : Edits) (step : ℕ) →
+        settings_of plan (winners edits) step ≡ settings_of plan edits step }
     // The winners of a list give the same settings in whatever order they stand.
-    ensures listed { (plan : Plan) (edits : List Edit) (step : ℕ) → settings_in plan (winners_in edits) step ≡ settings_of plan (from_list edits) step }
+    ensures listed { (plan : Plan) (edits : List Edit) (step : ℕ) →
+        settings_in plan (winners_in edits) step ≡ settings_of plan (from_list edits) step }
     ensures touched { (edits others : Edits) → touched (winners edits) (winners others) ≡ touched edits others }
     ensures count { (edits : Edits) → greatest_count (winners edits) ≡ greatest_count edits }
+{}
+
+/// Two sets of edits give the same settings at each step before the first that is touched: a run by the one can go on
+/// from there by the other.
+pub fn settings_stay_before_touched()
+    ensures { (plan : Plan) (edits others : Edits) (step : ℕ) → IsBefore step (touched edits others) →
+        settings_of plan edits step ≡ settings_of plan others step }
 {}

@@ -1,32 +1,40 @@
-//! Walks over a scenario's maps that list its edits, count and check them.
+// Walks over a scenario's registers that list its edits, count and check them.
 
-ghost use Rattle.std.specs.Prelude.{◌≡◌, [], ◌++◌, OnOk, IfOk, map, max};
+ghost use Rattle.std.specs.Prelude.{◌≡◌, [], ◌++◌, OnOk, IfOk, IsOk, map, max};
 ghost use Rattle.std.specs.List.{fold};
 ghost use Rattle.road_plan.specs.declared.object.Object.{Object};
 ghost use Rattle.road_scenario.specs.Faults.{first_fault};
-ghost use Rattle.road_scenario.specs.Private.Registers.{before, listed, listed_at};
+ghost use Rattle.road_scenario.specs.Registers.{edits_from_register, edit_list, object_edits};
 
 use crate::edit::Edit;
 use crate::faults::EditFault;
-use crate::scenario::{Maps, Steps, Won};
+use crate::scenario::{RegistersByObject, RegistersByStep, Won};
 use lattice_core::greatest::Greatest;
 use road_plan::{Object, OutOfMemory, Plan};
 use std::alloc::Global;
 
-// All edits, by object and step.
-pub(crate) fn all_edits(alloc: Global, maps: &Maps) -> Result<Vec<Edit>, OutOfMemory>
-    ensures { IfOk result (λ edits. edits.items ≡ listed maps.now) }
+// All edits, by object and step. Where there is none, nothing grows.
+pub(crate) fn all_edits(
+    alloc: Global,
+    registers: &RegistersByObject,
+) -> Result<Vec<Edit>, OutOfMemory>
+    ensures all { IfOk result (λ edits. edits.items ≡ edit_list registers.now) }
+    ensures memory { registers.now ≡ [] → IsOk result }
 {
     let mut edits = Vec::new(alloc);
-    for (object, steps) in maps.iter() {
+    for (object, steps) in registers.iter() {
         push_edits(&mut edits, *object, steps)?;
     }
     Ok(edits)
 }
 
 // Adds the edits of an object, by step.
-fn push_edits(edits: &mut Vec<Edit>, object: Object, steps: &Steps) -> Result<(), OutOfMemory>
-    ensures { OnOk result (edits.new.items ≡ edits.old.items ++ listed_at object steps.now) }
+fn push_edits(
+    edits: &mut Vec<Edit>,
+    object: Object,
+    steps: &RegistersByStep,
+) -> Result<(), OutOfMemory>
+    ensures { OnOk result (edits.new.items ≡ edits.old.items ++ object_edits object steps.now) }
 {
     for (step, won) in steps.iter() {
         match *won {
@@ -43,19 +51,19 @@ fn push_edits(edits: &mut Vec<Edit>, object: Object, steps: &Steps) -> Result<()
 }
 
 // The greatest count of all edits, 0 where there is none.
-pub(crate) fn greatest_count_of(maps: &Maps) -> u64
-    ensures { result ≡ fold max 0 (map (λ e. e.stamp.count) (listed maps.now)) }
+pub(crate) fn greatest_count_of(registers: &RegistersByObject) -> u64
+    ensures { result ≡ fold max 0 (map (λ e. e.stamp.count) (edit_list registers.now)) }
 {
     let mut greatest = 0;
-    for (_, steps) in maps.iter() {
+    for (_, steps) in registers.iter() {
         greatest = greatest_count_at(steps, greatest);
     }
     greatest
 }
 
 // The greatest of a count and those of an object's edits.
-fn greatest_count_at(steps: &Steps, count: u64) -> u64
-    ensures { (object : Object) → result ≡ fold max count (map (λ e. e.stamp.count) (listed_at object steps.now)) }
+fn greatest_count_at(steps: &RegistersByStep, count: u64) -> u64
+    ensures { (object : Object) → result ≡ fold max count (map (λ e. e.stamp.count) (object_edits object steps.now)) }
 {
     let mut greatest = count;
     for (_, won) in steps.iter() {
@@ -68,10 +76,10 @@ fn greatest_count_at(steps: &Steps, count: u64) -> u64
 }
 
 // The fault of the first faulty edit, by object and step.
-pub(crate) fn fault_of_first(maps: &Maps, plan: &Plan) -> Option<EditFault>
-    ensures { result ≡ first_fault plan.now (listed maps.now) }
+pub(crate) fn fault_of_first(registers: &RegistersByObject, plan: &Plan) -> Option<EditFault>
+    ensures { result ≡ first_fault plan.now (edit_list registers.now) }
 {
-    for (object, steps) in maps.iter() {
+    for (object, steps) in registers.iter() {
         match fault_at(*object, steps, plan) {
             Some(fault) => return Some(fault),
             None => {}
@@ -81,8 +89,8 @@ pub(crate) fn fault_of_first(maps: &Maps, plan: &Plan) -> Option<EditFault>
 }
 
 // The fault of an object's first faulty edit, by step.
-fn fault_at(object: Object, steps: &Steps, plan: &Plan) -> Option<EditFault>
-    ensures { result ≡ first_fault plan.now (listed_at object steps.now) }
+fn fault_at(object: Object, steps: &RegistersByStep, plan: &Plan) -> Option<EditFault>
+    ensures { result ≡ first_fault plan.now (object_edits object steps.now) }
 {
     let mut first = None;
     for (step, won) in steps.iter() {
@@ -93,7 +101,7 @@ fn fault_at(object: Object, steps: &Steps, plan: &Plan) -> Option<EditFault>
 
 // The fault of the edit that won at an object and step.
 fn fault_of_won(object: Object, step: u32, won: &Won, plan: &Plan) -> Option<EditFault>
-    ensures { result ≡ first_fault plan.now (before object step won.now []) }
+    ensures { result ≡ first_fault plan.now (edits_from_register object step won.now []) }
 {
     match *won {
         Greatest::Nothing => None,

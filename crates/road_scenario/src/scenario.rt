@@ -1,14 +1,15 @@
-ghost use Rattle.std.specs.Prelude.{◌≡◌, ◌↔◌, [], ◌∷◌, IfOk, IsNone, IsTrue, None, T, true};
+ghost use Rattle.std.specs.Prelude.{◌≡◌, ◌↔◌, ◌≤◌, [], ◌∷◌, IfOk, IsNone, IsOk, None, T, true};
 ghost use Rattle.lattice_core.specs.Sets as sets;
 ghost use Rattle.road_plan.specs.Objects.{in_plan};
+ghost use Rattle.road_plan.specs.Plan.{Plan};
 ghost use Rattle.road_plan.specs.Settings.{Fits};
+ghost use Rattle.road_plan.specs.declared.limits.TheConstants.{GREATEST_COUNT};
 ghost use Rattle.road_scenario.specs.Counts.{greatest_count};
 ghost use Rattle.road_scenario.specs.Edits.{Edits, edit_cmp};
-ghost use Rattle.road_scenario.specs.Faults.{fault_in, AreInRange};
-ghost use Rattle.road_scenario.specs.Winners.{AreWinners, has_none};
+ghost use Rattle.road_scenario.specs.Faults.{AreInRange, fault_in, fault_of};
 ghost use Rattle.road_scenario.specs.Settings.{setting, settings_of};
 ghost use Rattle.road_scenario.specs.Touched.{touched};
-ghost use Rattle.road_scenario.specs.Winners.{winners, join};
+ghost use Rattle.road_scenario.specs.Winners.{join, winners};
 
 use crate::edit::{Edit, Stamp, Value};
 use crate::faults::EditFault;
@@ -25,171 +26,212 @@ use std::marker::Model;
 /// What won at an object and step: the value put by the greatest stamp, and of equal stamps the greatest value.
 pub type Won = Greatest<(Stamp, Value)>;
 
-// For each step what won there.
-pub(crate) type Steps = LatMap<u32, Won>;
+// The registers of one object, each with its step.
+pub(crate) type RegistersByStep = LatMap<u32, Won>;
 
-// For each object its steps.
-pub(crate) type Maps = LatMap<Object, Steps>;
+// All registers, each object with its own.
+pub(crate) type RegistersByObject = LatMap<Object, RegistersByStep>;
 
 /// The winners of the edits that came. Contracts see the set of them.
 #[derive(Drop)]
 pub struct Scenario {
-    maps: Maps,
+    registers: RegistersByObject,
     alloc: Global,
 }
 
 impl Model for Scenario {
     ghost use Rattle.road_scenario.specs.Edits.{Edits};
     ghost use Rattle.road_scenario.specs.Instances.EditOrder.{edits_code};
-    ghost use Rattle.road_scenario.specs.Private.Registers.{kept};
+    ghost use Rattle.road_scenario.specs.Registers.{edit_set};
 
     ghost Value = { Edits };
 
     ghost coded = { edits_code };
 
-    ghost view = { λ s. kept s.maps };
+    ghost view = { λ s. edit_set s.registers };
 }
 
 impl Scenario {
-    /// The scenario without edits. Its joins and copies take their memory from `alloc` too.
+    /// The scenario without edits, which fits every plan. Its joins and copies take their memory from `alloc` too.
     pub fn empty(alloc: Global) -> Self
-        ensures { result ≡ sets.empty }
+        ensures none { result ≡ sets.empty }
+        ensures fits { (plan : Plan) → AreInRange plan result }
     {
         Scenario {
-            maps: LatMap::empty(alloc),
+            registers: LatMap::empty(alloc),
             alloc,
         }
     }
 
-    /// The winners of this scenario's edits and one more. `OutOfMemory` comes where a growth was refused, and the
-    /// scenario is then as before.
+    /// The winners of this scenario's edits and one more. It fits a plan where both do.
+    ///
+    /// # Errors
+    ///
+    /// `OutOfMemory` where a growth was refused; the scenario is then as before.
     pub fn with_edit(&self, edit: &Edit) -> Result<Self, OutOfMemory>
-        ensures { IfOk result (λ new. new ≡ join self.now (sets.from_list (edit.now ∷ []))) }
+        ensures winners { IfOk result (λ new. new ≡ join self.now (sets.from_list (edit.now ∷ []))) }
+        ensures fits { IfOk result (λ new. (plan : Plan) →
+            AreInRange plan self.now → fault_of plan edit.now ≡ None → AreInRange plan new) }
     {
-        self.maps.known();
+        self.registers.known();
         let won = Greatest::Of((edit.stamp, edit.value));
-        let none: Steps = LatMap::empty(self.alloc);
+        let none: RegistersByStep = LatMap::empty(self.alloc);
         let steps = none.with(edit.step, &won)?;
         Ok(Scenario {
-            maps: self.maps.with(edit.object, &steps)?,
+            registers: self.registers.with(edit.object, &steps)?,
             alloc: self.alloc,
         })
     }
 
-    /// The winners of both scenarios' edits. `OutOfMemory` comes where a growth was refused, and both are then as
-    /// before.
+    /// The winners of both scenarios' edits. It fits a plan where both do.
+    ///
+    /// # Errors
+    ///
+    /// `OutOfMemory` where a growth was refused; both are then as before.
     pub fn joined(&self, other: &Self) -> Result<Self, OutOfMemory>
-        ensures { IfOk result (λ joined. joined ≡ join self.now other.now) }
+        ensures winners { IfOk result (λ joined. joined ≡ join self.now other.now) }
+        ensures fits { IfOk result (λ joined. (plan : Plan) →
+            AreInRange plan self.now → AreInRange plan other.now → AreInRange plan joined) }
     {
-        self.maps.known();
-        other.maps.known();
+        self.registers.known();
+        other.registers.known();
         Ok(Scenario {
-            maps: self.maps.joined(&other.maps)?,
+            registers: self.registers.joined(&other.registers)?,
             alloc: self.alloc,
         })
     }
 
-    /// An equal scenario with memory of its own. `OutOfMemory` comes where a growth was refused.
+    /// An equal scenario with memory of its own.
+    ///
+    /// # Errors
+    ///
+    /// `OutOfMemory` where a growth was refused.
     pub fn copied(&self) -> Result<Self, OutOfMemory>
         ensures { IfOk result (λ copy. copy ≡ self.now) }
     {
         Ok(Scenario {
-            maps: self.maps.copied()?,
+            registers: self.registers.copied()?,
             alloc: self.alloc,
         })
     }
 
-    /// The number in force for an object at a step: the one put by the latest-dated edit up to that step which isn't a
-    /// withdrawal, the default where there is none.
+    /// The number in force for an object at a step, in the object's units: the one put by the latest-dated edit up to
+    /// that step which isn't a withdrawal, the default where there is none. The plan must have the object
+    /// (`Object::in_plan`).
     pub fn setting(&self, plan: &Plan, object: Object, step: u32) -> u32
         requires { in_plan plan.now object ≡ true }
         ensures { result ≡ setting plan.now self.now object step }
     {
-        self.maps.known();
-        match number_of(&self.maps, object, step) {
+        self.registers.known();
+        match number_of(&self.registers, object, step) {
             Some(number) => number,
             None => object.default(plan),
         }
     }
 
-    /// All settings of the plan at a step, by one walk over the edits up to it. `OutOfMemory` comes where a growth was
-    /// refused.
+    /// All settings of the plan at a step, by one walk over the edits up to it. The scenario must fit the plan (`fits`
+    /// gives none), and so do the settings.
+    ///
+    /// # Errors
+    ///
+    /// `OutOfMemory` where a growth was refused.
     pub fn settings_at(
         &self,
         alloc: Global,
         plan: &Plan,
         step: u32,
     ) -> Result<Settings, OutOfMemory>
-        requires { fault_in plan.now self.now ≡ None }
+        requires { AreInRange plan.now self.now }
         ensures made { IfOk result (λ settings. settings ≡ settings_of plan.now self.now step) }
         ensures fits { IfOk result (λ settings. Fits plan.now settings) }
     {
-        self.maps.known();
+        self.registers.known();
         plan.limits();
         let mut settings = Settings::of_plan(alloc, plan)?;
-        put_all(&mut settings, &self.maps, step)?;
+        put_all(&mut settings, &self.registers, step)?;
         Ok(settings)
     }
 
     /// The least step of an object and step at which the numbers put here and in `other` differ: nothing is put where
-    /// there is no edit or a withdrawal.
+    /// there is no edit or a withdrawal. Settings at earlier steps are the same
+    /// (`laws::settings_stay_before_touched`). It takes no memory.
     pub fn touched(&self, other: &Scenario) -> Option<u32>
         ensures { result ≡ touched self.now other.now }
     {
-        self.maps.known();
-        other.maps.known();
-        first_change(&self.maps, &other.maps)
+        self.registers.known();
+        other.registers.known();
+        first_change(&self.registers, &other.registers)
     }
 
-    /// The edits by object and step, each once. `OutOfMemory` comes where a growth was refused.
+    /// The edits by object and step, each once.
+    ///
+    /// # Errors
+    ///
+    /// `OutOfMemory` where a growth was refused; without edits nothing grows.
     pub fn edits(&self, alloc: Global) -> Result<Vec<Edit>, OutOfMemory>
         ensures all { IfOk result (λ edits. edits.items ≡ sets.items self.now) }
         ensures rising { IfOk result (λ edits. T (sets.is_rising edit_cmp edits.items)) }
+        ensures memory { self.now ≡ sets.empty → IsOk result }
     {
-        self.maps.known();
-        Ok(all_edits(alloc, &self.maps)?)
+        self.registers.known();
+        Ok(all_edits(alloc, &self.registers)?)
     }
 
     /// The greatest count of the edits' stamps, 0 where there is none. It is the greatest count of every set of edits
-    /// whose winners these are.
+    /// whose winners these are, and at most 2^48 where the scenario fits a plan. It takes no memory.
     pub fn greatest_count(&self) -> u64
         ensures here { result ≡ greatest_count self.now }
         ensures every { (edits : Edits) → winners edits ≡ self.now → result ≡ greatest_count edits }
+        ensures most { (plan : Plan) → AreInRange plan self.now → result ≤ GREATEST_COUNT }
     {
-        self.maps.known();
-        greatest_count_of(&self.maps)
+        self.registers.known();
+        greatest_count_of(&self.registers)
     }
 
-    /// The fault of the first faulty edit, in the order of `edits`.
+    /// The fault of the first faulty edit, in the order of `edits`; none where all edits are in the plan and its
+    /// ranges. It takes no memory.
     pub fn fits(&self, plan: &Plan) -> Option<EditFault>
         ensures fault { result ≡ fault_in plan.now self.now }
         ensures none { IsNone result ↔ AreInRange plan.now self.now }
     {
-        self.maps.known();
-        fault_of_first(&self.maps, plan)
+        self.registers.known();
+        fault_of_first(&self.registers, plan)
+    }
+}
+
+/// Scenarios under `joined`, from the one without edits up: merges agree in any order, grouping and repetition.
+impl Lattice for Scenario {
+    ghost use Rattle.road_scenario.specs.Winners.{AreWinners, has_no_edit, join};
+    ghost use Rattle.road_scenario.specs.Instances.JoinedWinners.{join_laws};
+
+    ghost is_proper = { AreWinners };
+
+    ghost join = { join };
+
+    ghost is_least = { has_no_edit };
+
+    ghost laws = { join_laws };
+
+    fn joined(&self, other: &Self) -> Result<Self, OutOfMemory> {
+        Scenario::joined(self, other)
     }
 
-    // Whether there is no edit.
-    pub(crate) fn is_empty(&self) -> bool
-        ensures { result ≡ has_none self.now }
-    {
-        self.maps.known();
-        self.maps.is_bottom()
+    fn copied(&self) -> Result<Self, OutOfMemory> {
+        Scenario::copied(self)
     }
 
-    // Whether the join with `other` is `other`.
-    pub(crate) fn is_up_to(&self, other: &Scenario) -> bool
-        ensures { IsTrue result ↔ (join self.now other.now ≡ other.now) }
-    {
-        self.maps.known();
-        other.maps.known();
-        self.maps.at_most(&other.maps)
+    fn is_bottom(&self) -> bool {
+        self.registers.known();
+        self.registers.is_bottom()
     }
 
-    /// That no edit of the scenario exceeds another. It is a fact for proofs: the call does nothing.
-    pub fn are_winners(&self)
-        ensures { AreWinners self.now }
-    {
-        self.maps.known();
+    fn at_most(&self, other: &Self) -> bool {
+        self.registers.known();
+        other.registers.known();
+        self.registers.at_most(&other.registers)
+    }
+
+    fn known(&self) {
+        self.registers.known();
     }
 }

@@ -1,20 +1,24 @@
-//! Walks over a scenario's maps that read the numbers put.
+// Walks over a scenario's registers that read the numbers put.
 
 ghost use Rattle.std.specs.Prelude.{◌≡◌, true, OnOk};
 ghost use Rattle.lattice_core.specs.Map.{EachEntry};
-ghost use Rattle.road_scenario.specs.Private.ScenarioWalks as walks;
+ghost use Rattle.road_scenario.specs.Private.RegisterWalks as walks;
 
 use crate::edit::Value;
-use crate::scenario::{Maps, Steps, Won};
+use crate::scenario::{RegistersByObject, RegistersByStep, Won};
 use lattice_core::greatest::Greatest;
 use road_plan::{Object, OutOfMemory, Settings};
 
 // Puts the last number of each object up to a step into the settings.
-pub(crate) fn put_all(settings: &mut Settings, maps: &Maps, step: u32) -> Result<(), OutOfMemory>
-    requires { EachEntry (λ e. walks.has_place settings.now e.0 ≡ true) maps.now }
-    ensures { OnOk result (settings.new ≡ walks.with_puts step settings.old maps.now) }
+pub(crate) fn put_all(
+    settings: &mut Settings,
+    registers: &RegistersByObject,
+    step: u32,
+) -> Result<(), OutOfMemory>
+    requires { EachEntry (λ e. walks.has_place settings.now e.0 ≡ true) registers.now }
+    ensures { OnOk result (settings.new ≡ walks.settings_with_last_numbers step settings.old registers.now) }
 {
-    for (object, steps) in maps.iter() {
+    for (object, steps) in registers.iter() {
         match last_put(steps, step) {
             Some(number) => put(settings, *object, number)?,
             None => {}
@@ -26,7 +30,7 @@ pub(crate) fn put_all(settings: &mut Settings, maps: &Maps, step: u32) -> Result
 // Puts a number into the settings. A blocked cell comes after those that are there.
 fn put(settings: &mut Settings, object: Object, number: u32) -> Result<(), OutOfMemory>
     requires { walks.has_place settings.now object ≡ true }
-    ensures { OnOk result (settings.new ≡ walks.with_number settings.old object number) }
+    ensures { OnOk result (settings.new ≡ walks.settings_with_number settings.old object number) }
 {
     match object {
         Object::Limit(zone) => settings.limits[zone as usize] = number,
@@ -43,18 +47,18 @@ fn put(settings: &mut Settings, object: Object, number: u32) -> Result<(), OutOf
 }
 
 // The last number that an object's steps put up to a step.
-pub(crate) fn number_of(maps: &Maps, object: Object, step: u32) -> Option<u32>
-    ensures { result ≡ walks.last_put step (walks.steps_of (⟦<Object as Ord>⟧.cmp) maps.now object) }
+pub(crate) fn number_of(registers: &RegistersByObject, object: Object, step: u32) -> Option<u32>
+    ensures { result ≡ walks.last_number step (walks.registers_of_object (⟦<Object as Ord>⟧.cmp) registers.now object) }
 {
-    match maps.get(object) {
+    match registers.get(object) {
         Some(steps) => last_put(steps, step),
         None => None,
     }
 }
 
 // The last number put up to a step. The walk ends at the first later step.
-fn last_put(steps: &Steps, step: u32) -> Option<u32>
-    ensures { result ≡ walks.last_put step steps.now }
+fn last_put(steps: &RegistersByStep, step: u32) -> Option<u32>
+    ensures { result ≡ walks.last_number step steps.now }
 {
     let mut number = None;
     for (at, won) in steps.iter() {
@@ -68,7 +72,7 @@ fn last_put(steps: &Steps, step: u32) -> Option<u32>
 
 // The number that won: nothing where a withdrawal did.
 pub(crate) fn number_put(won: &Won) -> Option<u32>
-    ensures { result ≡ walks.won_number won.now }
+    ensures { result ≡ walks.register_number won.now }
 {
     match *won {
         Greatest::Of((_, Value::Put(number))) => Some(number),

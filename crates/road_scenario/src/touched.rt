@@ -1,23 +1,24 @@
-//! The first step at which two scenarios put different numbers.
+// The first step at which two scenarios put different numbers.
 
-ghost use Rattle.std.specs.Prelude.{◌≡◌};
-ghost use Rattle.std.specs.Option.{option_copied};
-ghost use Rattle.road_scenario.specs.Private.ScenarioWalks as walks;
+ghost use Rattle.std.specs.Prelude.{◌≡◌, []};
+ghost use Rattle.std.specs.Option.{option_copied, unwrap_or};
+ghost use Rattle.road_scenario.specs.Private.RegisterWalks as walks;
 
-use crate::scenario::{Maps, Steps};
+use crate::scenario::{RegistersByObject, RegistersByStep};
 use crate::settings::number_put;
 use road_plan::Object;
 
-// The first step at which one of the maps puts a number and the other none or another.
-pub(crate) fn first_change(ours: &Maps, theirs: &Maps) -> Option<u32>
-    ensures { result ≡ walks.earlier (walks.changed (⟦<Object as Ord>⟧.cmp) ours.now theirs.now) (walks.changed (⟦<Object as Ord>⟧.cmp) theirs.now ours.now) }
+// The first step at which one of the registers puts a number and the other none or another.
+pub(crate) fn first_change(ours: &RegistersByObject, theirs: &RegistersByObject) -> Option<u32>
+    ensures { let first_change = walks.first_change (⟦<Object as Ord>⟧.cmp) in
+        result ≡ walks.earlier_step (first_change ours.now theirs.now) (first_change theirs.now ours.now) }
 {
     earlier(changed(ours, theirs), changed(theirs, ours))
 }
 
 // The first step of ours at which the numbers put differ: one look-up for each object and step.
-fn changed(ours: &Maps, theirs: &Maps) -> Option<u32>
-    ensures { result ≡ walks.changed (⟦<Object as Ord>⟧.cmp) ours.now theirs.now }
+fn changed(ours: &RegistersByObject, theirs: &RegistersByObject) -> Option<u32>
+    ensures { result ≡ walks.first_change (⟦<Object as Ord>⟧.cmp) ours.now theirs.now }
 {
     let mut first = None;
     for (object, steps) in ours.iter() {
@@ -27,8 +28,8 @@ fn changed(ours: &Maps, theirs: &Maps) -> Option<u32>
 }
 
 // The first step of an object at which the numbers put differ. The others may have no entry of the object.
-fn changed_at(steps: &Steps, others: Option<&Steps>) -> Option<u32>
-    ensures { result ≡ walks.changed_at steps.now (walks.or_none (option_copied others.entry)) }
+fn changed_at(steps: &RegistersByStep, others: Option<&RegistersByStep>) -> Option<u32>
+    ensures { result ≡ walks.first_change_at steps.now (unwrap_or (option_copied others.entry) []) }
 {
     for (step, won) in steps.iter() {
         if number_put(won) != number_at(others, *step) {
@@ -39,8 +40,8 @@ fn changed_at(steps: &Steps, others: Option<&Steps>) -> Option<u32>
 }
 
 // The number put at a step, if there are steps.
-fn number_at(steps: Option<&Steps>, step: u32) -> Option<u32>
-    ensures { result ≡ walks.number_found (walks.or_none (option_copied steps.entry)) step }
+fn number_at(steps: Option<&RegistersByStep>, step: u32) -> Option<u32>
+    ensures { result ≡ walks.number_at_step (unwrap_or (option_copied steps.entry) []) step }
 {
     match steps {
         Some(steps) => number_in(steps, step),
@@ -49,8 +50,8 @@ fn number_at(steps: Option<&Steps>, step: u32) -> Option<u32>
 }
 
 // The number put at a step.
-fn number_in(steps: &Steps, step: u32) -> Option<u32>
-    ensures { result ≡ walks.number_found steps.now step }
+fn number_in(steps: &RegistersByStep, step: u32) -> Option<u32>
+    ensures { result ≡ walks.number_at_step steps.now step }
 {
     match steps.get(step) {
         Some(won) => number_put(won),
@@ -60,7 +61,7 @@ fn number_in(steps: &Steps, step: u32) -> Option<u32>
 
 // The earlier of two steps, if there are any.
 fn earlier(first: Option<u32>, second: Option<u32>) -> Option<u32>
-    ensures { result ≡ walks.earlier first second }
+    ensures { result ≡ walks.earlier_step first second }
 {
     match (first, second) {
         (None, second) => second,

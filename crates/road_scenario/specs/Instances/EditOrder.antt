@@ -1,5 +1,5 @@
--- The orders of stamps, values and edits: they are total and tell edits apart, the derived ones are those of the keys, and
--- an edit is stored as its key.
+-- The orders of stamps, values and edits: they are total and tell edits apart, the derived ones are those of the keys,
+-- and an edit is stored as its key.
 use Rattle.std.specs.Prelude.{◌≡◌, ℕ, zero, suc, true, false, refl}
 use Rattle.std.specs.declared.cmp.Ordering.{Ordering}
 use Rattle.std.specs.declared.cmp.Ordering.TheVariants.{Less, Equal, Greater}
@@ -21,7 +21,8 @@ use Rattle.road_scenario.specs.declared.edit.Value.TheVariants.{Withdrawn, Put}
 use Rattle.road_scenario.specs.declared.edit.Edit.{Edit}
 use Rattle.road_scenario.specs.contracts.edit.ValueOrd.TheImpl as derived_value
 use Rattle.road_scenario.specs.contracts.edit.StampOrd.TheImpl as derived_stamp
-use Rattle.road_scenario.specs.Edits.{Edits, Place, Rank, place, rank, value_key, stamp_key, two_cmp, three_cmp, edit_key, edit_cmp, exceeds}
+use Rattle.road_scenario.specs.Edits.{Edits, Place, Rank, edit_place, edit_rank, value_key, stamp_key}
+use Rattle.road_scenario.specs.Edits.{number_pair_cmp, number_triple_cmp, edit_key, edit_cmp, is_exceeded_by}
 
 -- ---- stamps and values
 
@@ -39,14 +40,14 @@ same_value v w e = sym (value_back v) ∙ ap value_of e ∙ value_back w
 same_stamp : (s t : Stamp) → stamp_key s ≡ stamp_key t → s ≡ t
 same_stamp s t e = ap (λ (p : ℕ × ℕ). let u : Stamp = record { count = p.0; number = p.1 } in u) e
 
-two_exact : IsExact two_cmp
-two_exact = exact_pair nat_cmp nat_cmp exact_nat exact_nat
+number_pair_exact : IsExact number_pair_cmp
+number_pair_exact = exact_pair nat_cmp nat_cmp exact_nat exact_nat
 
-pub two_total : IsTotalOrder two_cmp
-two_total = total_pair nat_cmp nat_cmp nat_cmp_total nat_cmp_total
+pub number_pair_total : IsTotalOrder number_pair_cmp
+number_pair_total = total_pair nat_cmp nat_cmp nat_cmp_total nat_cmp_total
 
 -- the derived orders are those of the keys
-pub ordered_stamps : (s t : Stamp) → derived_stamp.ghosts.cmp s t ≡ two_cmp (stamp_key s) (stamp_key t)
+pub ordered_stamps : (s t : Stamp) → derived_stamp.ghosts.cmp s t ≡ number_pair_cmp (stamp_key s) (stamp_key t)
 ordered_stamps s t = refl
 
 pub ordered_values : (v w : Value) → derived_value.ghosts.cmp v w ≡ nat_cmp (value_key v) (value_key w)
@@ -65,33 +66,47 @@ ordered_values (Put n) (Put m) = both_suc n m
     both_suc n m = grind (arith, nat_tests)
 
 pub stamp_exact : IsExact derived_stamp.ghosts.cmp
-stamp_exact = exact_by stamp_key derived_stamp.ghosts.cmp two_cmp ordered_stamps same_stamp two_exact
+stamp_exact = exact_by stamp_key derived_stamp.ghosts.cmp number_pair_cmp ordered_stamps same_stamp number_pair_exact
 
 pub value_exact : IsExact derived_value.ghosts.cmp
 value_exact = exact_by value_key derived_value.ghosts.cmp nat_cmp ordered_values same_value exact_nat
 
 -- ---- edits
 
-pub three_exact : IsExact three_cmp
-three_exact = exact_pair two_cmp nat_cmp two_exact exact_nat
+pub number_triple_exact : IsExact number_triple_cmp
+number_triple_exact = exact_pair number_pair_cmp nat_cmp number_pair_exact exact_nat
 
-pub three_total : IsTotalOrder three_cmp
-three_total = total_pair two_cmp nat_cmp two_total nat_cmp_total
+pub number_triple_total : IsTotalOrder number_triple_cmp
+number_triple_total = total_pair number_pair_cmp nat_cmp number_pair_total nat_cmp_total
 
 abbrev edit_of : Place × Rank → Edit
-edit_of k = record { object = object_of k.0.0; step = k.0.1; stamp = record { count = k.1.0.0; number = k.1.0.1 }; value = value_of k.1.1 }
+edit_of k = record {
+  object = object_of k.0.0;
+  step = k.0.1;
+  stamp = record { count = k.1.0.0; number = k.1.0.1 };
+  value = value_of k.1.1;
+}
 
 pub edit_back : (e : Edit) → edit_of (edit_key e) ≡ e
-edit_back e = λ i. record { object = object_back e.object i; step = e.step; stamp = e.stamp; value = value_back e.value i }
+edit_back e = λ i. record {
+  object = object_back e.object i;
+  step = e.step;
+  stamp = e.stamp;
+  value = value_back e.value i;
+}
 
 pub edit_total : IsTotalOrder edit_cmp
-edit_total = on_total edit_key (total_pair three_cmp three_cmp three_total three_total)
+edit_total = on_total edit_key (total_pair number_triple_cmp number_triple_cmp number_triple_total number_triple_total)
 
 pub edit_exact : IsExact edit_cmp
-edit_exact e f h = sym (edit_back e) ∙ ap edit_of (exact_pair three_cmp three_cmp three_exact three_exact (edit_key e) (edit_key f) h) ∙ edit_back f
+edit_exact e f h =
+    let keys = exact_pair number_triple_cmp number_triple_cmp number_triple_exact number_triple_exact in
+    sym (edit_back e) ∙ ap edit_of (keys (edit_key e) (edit_key f) h) ∙ edit_back f
 
 abbrev edit_code : Coded Edit
-edit_code = code_by (Place × Rank) (coded× (coded× (coded× coded_ℕ coded_ℕ) coded_ℕ) (coded× (coded× coded_ℕ coded_ℕ) coded_ℕ)) edit_key edit_of edit_back
+edit_code =
+    let triple : Coded Place = coded× (coded× coded_ℕ coded_ℕ) coded_ℕ in
+    code_by (Place × Rank) (coded× triple triple) edit_key edit_of edit_back
 
 abbrev pub edits_code : Coded Edits
 edits_code = sets.code edit_code
@@ -103,19 +118,23 @@ less_is Less e = refl
 less_is Equal e = absurd (true≢false (sym e))
 less_is Greater e = absurd (true≢false (sym e))
 
-never_itself : (e : Edit) → exceeds e e ≡ false
-never_itself e = false_from_ne_true _ (λ t. true≢false (sym (and_parts (is_eq (three_cmp (place e) (place e))) _ t).1 ∙ ap is_lt (tied_itself three_total (rank e))))
+never_itself : (e : Edit) → is_exceeded_by e e ≡ false
+never_itself e = false_from_ne_true _ (λ t.
+    let above = and_parts (is_eq (number_triple_cmp (edit_place e) (edit_place e))) _ t in
+    true≢false (sym above.1 ∙ ap is_lt (tied_itself number_triple_total (edit_rank e))))
 
-on_and_on : (x y z : Edit) → exceeds x y ≡ true → exceeds y z ≡ true → exceeds x z ≡ true
+on_and_on : (x y z : Edit) → is_exceeded_by x y ≡ true → is_exceeded_by y z ≡ true → is_exceeded_by x z ≡ true
 on_and_on x y z p q =
-    let first = and_parts (is_eq (three_cmp (place x) (place y))) _ p in
-    let second = and_parts (is_eq (three_cmp (place y) (place z))) _ q in
-    let less : three_cmp (rank x) (rank z) ≡ Less = three_total.trans (rank x) (rank y) (rank z) (less_is _ first.1) (less_is _ second.1) in
-    and_from _ _ (ap is_eq (three_total.congr (place x) (place y) (place z) ((Equal-is _).0 first.0)) ∙ second.0) (ap is_lt less)
+    let first = and_parts (is_eq (number_triple_cmp (edit_place x) (edit_place y))) _ p in
+    let second = and_parts (is_eq (number_triple_cmp (edit_place y) (edit_place z))) _ q in
+    let less : number_triple_cmp (edit_rank x) (edit_rank z) ≡ Less =
+    number_triple_total.trans (edit_rank x) (edit_rank y) (edit_rank z) (less_is _ first.1) (less_is _ second.1) in
+    let one = number_triple_total.congr (edit_place x) (edit_place y) (edit_place z) ((Equal-is _).0 first.0) in
+    and_from _ _ (ap is_eq one ∙ second.0) (ap is_lt less)
 
-pub exceeds_strict : IsStrict exceeds
+pub exceeds_strict : IsStrict is_exceeded_by
 exceeds_strict = record { irreflexive = never_itself; transitive = on_and_on }
 
 -- what holds of winners and of their joins
-pub winners_laws : TopsLaws edit_cmp exceeds
-winners_laws = tops_laws edit_cmp edit_total edit_exact exceeds exceeds_strict
+pub winners_laws : TopsLaws edit_cmp is_exceeded_by
+winners_laws = tops_laws edit_cmp edit_total edit_exact is_exceeded_by exceeds_strict

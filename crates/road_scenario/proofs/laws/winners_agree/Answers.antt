@@ -1,6 +1,7 @@
 use Rattle.road_scenario.specs.Instances.EditOrder.{winners_laws}
-use Rattle.road_scenario.proofs.Joining.{winners-empty, winners-single}
-use Rattle.road_scenario.proofs.Winning as winning
+use Rattle.road_scenario.proofs.NoEdits.{winners-empty}
+use Rattle.road_scenario.proofs.JoinedRegisters.{winners-single}
+use Rattle.road_scenario.proofs.WinnersOfLists as winning
 use Rattle.road_scenario.proofs.laws.winners_agree.Goals as goal
 
 pub returns-clause-joined : goal.returns-clause-joined

@@ -4,7 +4,7 @@ use Rattle.road_scenario.specs.Instances.EditOrder.{winners_laws}
 use Rattle.road_scenario.specs.Settings.{settings_in}
 use Rattle.road_scenario.specs.Touched.{touched_in}
 use Rattle.road_scenario.proofs.GreatestCounts.{greatest_count-winners}
-use Rattle.road_scenario.proofs.Orderless.{settings-listed}
+use Rattle.road_scenario.proofs.SettingsOfLists.{settings-listed}
 use Rattle.road_scenario.proofs.laws.winners_decide.Goals as goal
 
 pub returns-clause-settings : goal.returns-clause-settings

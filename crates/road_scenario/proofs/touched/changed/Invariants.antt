@@ -1,8 +1,8 @@
 use Rattle.std.proofs.Common.{◌≡◌}
-use Rattle.road_scenario.specs.Private.ScenarioWalks.{earlier, changed}
-use Rattle.road_scenario.proofs.Rising.{object_cmp}
+use Rattle.road_scenario.specs.Private.RegisterWalks.{earlier_step, first_change}
+use Rattle.road_scenario.proofs.RisingEdits.{object_cmp}
 use Rattle.road_scenario.proofs.touched.changed.Given as goal
 
 -- the first so far, or the first of what is left
 abbrev pub invariant-loop-object : goal.invariant-loop-object
-invariant-loop-object l = earlier l.first (changed object_cmp l.object-iterator l.theirs) ≡ changed object_cmp l.ours l.theirs
+invariant-loop-object l = earlier_step l.first (first_change object_cmp l.object-iterator l.theirs) ≡ first_change object_cmp l.ours l.theirs

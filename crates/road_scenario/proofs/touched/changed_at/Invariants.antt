@@ -1,8 +1,8 @@
-use Rattle.std.proofs.Common.{◌≡◌}
-use Rattle.std.specs.Option.{option_copied}
-use Rattle.road_scenario.specs.Private.ScenarioWalks.{changed_at, or_none}
+use Rattle.std.proofs.Common.{◌≡◌, []}
+use Rattle.std.specs.Option.{option_copied, unwrap_or}
+use Rattle.road_scenario.specs.Private.RegisterWalks.{first_change_at}
 use Rattle.road_scenario.proofs.touched.changed_at.Given as goal
 
 -- the first is that of what is left
 abbrev pub invariant-loop-step : goal.invariant-loop-step
-invariant-loop-step l = changed_at l.step-iterator (or_none (option_copied l.others)) ≡ changed_at l.steps (or_none (option_copied l.others))
+invariant-loop-step l = first_change_at l.step-iterator (unwrap_or (option_copied l.others) []) ≡ first_change_at l.steps (unwrap_or (option_copied l.others) [])

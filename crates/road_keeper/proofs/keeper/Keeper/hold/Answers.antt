@@ -11,7 +11,7 @@ invariant_of-self c =
     let x = c.index.result.now in
     let e = c.in_ok-held.ensures in
     still_kept plan names xs c.args.replica _ c.self.invariant
-    (hold_of_run plan names xs c.args.self.now c.args.replica c.args.edit.now x _ c.self.view_is c.self.invariant c.index.ensures c.requires.within c.requires.fits e.scenario e.horizon e.step e.road)
+    (hold_of_run plan names xs c.args.self.now c.args.replica c.args.edit.now x _ c.self.view_is c.self.invariant c.index.ensures c.requires.within c.requires.fits e.scenario (e.fits plan) e.horizon e.step e.road)
 
 pub returns-clause-after : goal.returns-clause-after
 returns-clause-after c =

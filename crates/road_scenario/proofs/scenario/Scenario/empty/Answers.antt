@@ -1,7 +1,12 @@
-use Rattle.std.proofs.Common.{ap, ◌∙◌}
+use Rattle.std.proofs.Common.{sym, ap, subst, ◌∙◌}
 use Rattle.lattice_core.proofs.SetElements.{from_list-empty}
-use Rattle.road_scenario.specs.Private.Registers.{kept}
+use Rattle.road_scenario.specs.Faults.{AreInRange}
+use Rattle.road_scenario.specs.Registers.{edit_set}
+use Rattle.road_scenario.proofs.EditRanges.{in_range-empty}
 use Rattle.road_scenario.proofs.scenario.Scenario.empty.Goals as goal
 
-pub returns : goal.returns
-returns c = ap kept c.empty.ensures ∙ from_list-empty
+pub returns-clause-none : goal.returns-clause-none
+returns-clause-none c = ap edit_set c.empty.ensures ∙ from_list-empty
+
+pub returns-clause-fits : goal.returns-clause-fits
+returns-clause-fits c = λ plan. subst (AreInRange plan) (sym (returns-clause-none c)) (in_range-empty plan)

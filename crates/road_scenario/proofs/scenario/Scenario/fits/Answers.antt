@@ -1,11 +1,11 @@
 use Rattle.std.proofs.Common.{◌≡◌, sym, ap, ◌∙◌}
 use Rattle.road_scenario.specs.Faults.{first_fault, fault_in}
 use Rattle.road_scenario.proofs.FirstFaults.{all_in_range, no_fault}
-use Rattle.road_scenario.proofs.Rising.{items-kept}
+use Rattle.road_scenario.proofs.RisingEdits.{items-kept}
 use Rattle.road_scenario.proofs.scenario.Scenario.fits.Goals as goal
 
 found : (c : goal.After-fault_of_first) → c.fault_of_first.result ≡ fault_in c.args.plan.now c.args.self.now
-found c = c.fault_of_first.ensures ∙ ap (first_fault c.args.plan.now) (sym (items-kept c.self.inside.maps c.known.ensures)) ∙ ap (fault_in c.args.plan.now) c.self.view_is
+found c = c.fault_of_first.ensures ∙ ap (first_fault c.args.plan.now) (sym (items-kept c.self.inside.registers c.known.ensures)) ∙ ap (fault_in c.args.plan.now) c.self.view_is
 
 pub returns-clause-fault : goal.returns-clause-fault
 returns-clause-fault c = found c

@@ -1,18 +1,25 @@
-use Rattle.std.proofs.Common.{ap, ◌∙◌, [], ◌∷◌}
+use Rattle.std.proofs.Common.{sym, ap, subst, ◌∙◌, [], ◌∷◌}
 use Rattle.std.specs.Ordering.{nat_cmp}
 use Rattle.lattice_core.specs.Greatest.{is_nothing}
 use Rattle.lattice_core.specs.Map.{joined_in}
 use Rattle.lattice_core.specs.Sets.{from_list}
 use Rattle.lattice_core.specs.declared.greatest.Greatest.TheVariants.{Of}
+use Rattle.road_scenario.specs.Faults.{AreInRange}
 use Rattle.road_scenario.specs.Winners.{join}
-use Rattle.road_scenario.specs.Private.Registers.{kept}
-use Rattle.road_scenario.proofs.Joining.{kept-with, won_join}
+use Rattle.road_scenario.specs.Registers.{edit_set}
+use Rattle.road_scenario.proofs.EditRanges.{in_range-join, in_range-one}
+use Rattle.road_scenario.proofs.JoinedRegisters.{kept-with, won_join}
 use Rattle.road_scenario.proofs.scenario.Scenario.with_edit.Goals as goal
 
-pub returns : goal.returns
-returns c =
+pub returns-clause-winners : goal.returns-clause-winners
+returns-clause-winners c =
     let e = c.args.edit.now in
-    ap kept c.in_ok-with.ensures
-    ∙ kept-with c.self.inside.maps e c.in_ok-steps.steps c.known.ensures
+    ap edit_set c.in_ok-with.ensures
+    ∙ kept-with c.self.inside.registers e c.in_ok-steps.steps c.known.ensures
     (c.in_ok-steps.ensures ∙ ap (λ m. joined_in nat_cmp won_join is_nothing m e.step (Of (e.stamp, e.value))) c.empty-none.ensures)
     ∙ ap (λ s. join s (from_list (e ∷ []))) c.self.view_is
+
+pub returns-clause-fits : goal.returns-clause-fits
+returns-clause-fits c = λ plan fits none.
+    let e = c.args.edit.now in
+    subst (AreInRange plan) (sym (returns-clause-winners c)) (in_range-join plan c.args.self.now (from_list (e ∷ [])) fits (in_range-one plan e none))

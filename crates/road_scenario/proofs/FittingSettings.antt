@@ -3,13 +3,14 @@ use Rattle.std.specs.Prelude.{◌≡◌, ℕ, zero, suc, ◌+◌, ◌<◌, ◌�
 use Rattle.std.specs.declared.option.Option.TheVariants.{None, Some}
 use Rattle.std.specs.List.{All, filter, list_any, best_of, range_with_len}
 use Rattle.std.specs.List.Sorted.{IsStrictlyIncreasing}
-use Rattle.std.specs.Option.{unwrap_or}
+use Rattle.std.specs.Option.{unwrap_or, option_and_then}
 use Rattle.std.specs.Ordering.{eq_by_cmp, is_eq}
 use Rattle.std.specs.Cmp.{Equal-is, tied_itself}
 use Rattle.std.proofs.Common.{arith, sym, ap, subst, ◌∙◌, inl, inr}
 use Rattle.std.proofs.lemmas.Bool.{true≢false, or_cases, or_left, or_right, and_parts, le-leb, leb-true, ltb-true, lt-ltb}
 use Rattle.std.proofs.lemmas.List.FromFn.{length-range_with_len, get_or-range_with_len, length-map-range_with_len, get_or-map-range_with_len}
 use Rattle.std.proofs.lemmas.List.Kept.{IsStrictlyIncreasing-filter}
+use Rattle.road_scenario.proofs.EditMembers.{IsIn, tied_to_itself, kept_in}
 use Rattle.road_plan.specs.Plan.{Plan, IsWithinLimits}
 use Rattle.road_plan.specs.Settings.{Fits}
 use Rattle.road_plan.specs.Objects.{in_plan, allows, default}
@@ -19,31 +20,15 @@ use Rattle.road_plan.specs.declared.object.Object.TheVariants.{Limit, Slow, Bloc
 use Rattle.road_scenario.specs.declared.edit.Edit.{Edit}
 use Rattle.road_scenario.specs.declared.edit.Value.{Value}
 use Rattle.road_scenario.specs.declared.edit.Value.TheVariants.{Withdrawn, Put}
-use Rattle.road_scenario.specs.Edits.{edit_cmp, number_put}
+use Rattle.road_scenario.specs.Edits.{edit_cmp, put_number}
 use Rattle.road_scenario.specs.Instances.EditOrder.{edit_total, edit_exact}
-use Rattle.road_scenario.specs.Faults.{takes, IsInRange}
-use Rattle.road_scenario.specs.Settings.{puts, latest, number_of, setting_in, settings_in}
-use Rattle.road_scenario.proofs.Puts.{same}
-
-abbrev IsIn : Edit → List Edit → Type 0
-IsIn e es = list_any (eq_by_cmp edit_cmp e) es ≡ true
-
-itself : (e : Edit) → eq_by_cmp edit_cmp e e ≡ true
-itself e = ap is_eq (tied_itself edit_total e)
-
-pub kept_in : (q : Edit → Bool) (es : List Edit) (e : Edit) → IsIn e (filter q es) → IsIn e es × (q e ≡ true)
-kept_in q [] e h = absurd (true≢false (sym h))
-kept_in q (f ∷ es) e h = elim (q f) as (λ b. q f ≡ b → IsIn e (cond b (f ∷ filter q es) (filter q es)) → IsIn e (f ∷ es) × (q e ≡ true)) [
-  | true ↦ λ t i. elim (or_cases (eq_by_cmp edit_cmp e f) _ i) as (λ _. IsIn e (f ∷ es) × (q e ≡ true)) [
-    | inl same ↦ (or_left _ _ same, ap q (edit_exact e f ((Equal-is (edit_cmp e f)).0 same)) ∙ t)
-    | inr j ↦ let r = kept_in q es e j in (or_right (eq_by_cmp edit_cmp e f) _ r.0, r.1)
-  ]
-  | false ↦ λ t i. let r = kept_in q es e i in (or_right (eq_by_cmp edit_cmp e f) _ r.0, r.1)
-] refl h
+use Rattle.road_scenario.specs.Faults.{is_value_allowed, IsInRange}
+use Rattle.road_scenario.specs.Settings.{is_put_up_to, latest_edit, setting_in, settings_in}
+use Rattle.road_scenario.proofs.WalkedSettings.{same}
 
 -- the best of a list is in it
 best_in : (beats : Edit → Edit → Bool) (es : List Edit) (a : Edit) → IsIn (best_of beats a es) (a ∷ es)
-best_in beats [] a = or_left _ _ (itself a)
+best_in beats [] a = or_left _ _ (tied_to_itself a)
 best_in beats (x ∷ es) a =
     let best : Edit = best_of beats (cond (beats x a) x a) es in
     elim (or_cases (eq_by_cmp edit_cmp best (cond (beats x a) x a)) _ (best_in beats es (cond (beats x a) x a))) as (λ _. IsIn best (a ∷ x ∷ es)) [
@@ -55,7 +40,7 @@ best_in beats (x ∷ es) a =
     either true best h = or_right (eq_by_cmp edit_cmp best a) _ (or_left _ _ h)
     either false best h = or_left _ _ h
 
-pub latest_in : (es : List Edit) (e : Edit) → latest es ≡ Some e → IsIn e es
+pub latest_in : (es : List Edit) (e : Edit) → latest_edit es ≡ Some e → IsIn e es
 latest_in [] e h = cc
 latest_in (f ∷ es) e h = subst (λ x. IsIn x (f ∷ es)) (the_one h) (best_in (λ x best. nat_lt best.step x.step) es f)
   where
@@ -70,18 +55,18 @@ module _ (p : Plan) (limits : IsWithinLimits p) (es : List Edit) (each : (e : Ed
   default_allowed (Inflow inlet) h = le-leb _ _ (limits.inflows_allowed inlet (0, 0) (ltb-true _ _ h))
   default_allowed (Watch detector) h = refl
 
-  taken_allowed : (o : Object) (v : Value) (d : ℕ) → is_some (number_put v) ≡ true → takes o v ≡ true → allows o (unwrap_or (number_put v) d) ≡ true
+  taken_allowed : (o : Object) (v : Value) (d : ℕ) → is_some (put_number v) ≡ true → is_value_allowed o v ≡ true → allows o (unwrap_or (put_number v) d) ≡ true
   taken_allowed o Withdrawn d s t = absurd (true≢false (sym s))
   taken_allowed o (Put n) d s t = t
 
   allowed : (step : ℕ) (o : Object) → in_plan p o ≡ true → allows o (setting_in p es o step) ≡ true
-  allowed step o h = elim (latest (filter (puts o step) es)) as (λ x. latest (filter (puts o step) es) ≡ x → allows o (unwrap_or (number_of x) (default p o)) ≡ true) [
+  allowed step o h = elim (latest_edit (filter (is_put_up_to o step) es)) as (λ x. latest_edit (filter (is_put_up_to o step) es) ≡ x → allows o (unwrap_or (option_and_then (λ e. put_number e.value) x) (default p o)) ≡ true) [
     | None ↦ λ _. default_allowed o h
     | Some e ↦ λ is.
-        let inside = kept_in (puts o step) es e (latest_in (filter (puts o step) es) e is) in
+        let inside = kept_in (is_put_up_to o step) es e (latest_in (filter (is_put_up_to o step) es) e is) in
         let passes = and_parts _ _ inside.1 in
         let number = and_parts (nat_le e.step step) _ passes.1 in
-        taken_allowed o e.value (default p o) number.1 (ap (λ x. takes x e.value) (sym (same e.object o passes.0)) ∙ (each e inside.0).taken)
+        taken_allowed o e.value (default p o) number.1 (ap (λ x. is_value_allowed x e.value) (sym (same e.object o passes.0)) ∙ (each e inside.0).value_allowed)
   ] refl
 
   at_most : (step : ℕ) (o : Object) (most : ℕ) → in_plan p o ≡ true → ((n : ℕ) → allows o n ≡ nat_le n most) → setting_in p es o step ≤ most

@@ -3,10 +3,13 @@ use Rattle.std.specs.Prelude.{◌≡◌, ℕ, Bool, true, false, cond, ◌&&◌,
 use Rattle.std.specs.declared.cmp.Ordering.{Ordering}
 use Rattle.std.specs.declared.cmp.Ordering.TheVariants.{Less, Equal, Greater}
 use Rattle.std.specs.Ordering.{nat_cmp, ordering_then, ordering_reverse, eq_by_cmp, is_eq, is_lt}
-use Rattle.std.specs.Cmp.{IsTotalOrder, Equal-is, tied_itself, on_total, nat_cmp_total}
+use Rattle.std.specs.Cmp.{IsTotalOrder, Equal-is, tied_itself, on_total, nat_cmp_total, both_ways}
 use Rattle.std.specs.List.{list_any}
 use Rattle.std.proofs.Common.{sym, ap, subst, ◌∙◌, inl, inr}
 use Rattle.std.proofs.lemmas.Bool.{true≢false, or_cases, or_left, and_from}
+use Rattle.std.proofs.lemmas.List.Folds.{list_any-append}
+use Rattle.road_scenario.proofs.NoEdits.{winners-empty}
+use Rattle.lattice_core.proofs.GreatestElements.{any_by}
 use Rattle.lattice_core.specs.declared.greatest.Greatest.TheVariants.{Nothing, Of}
 use Rattle.lattice_core.specs.Exact.{IsExact}
 use Rattle.lattice_core.specs.Instances.ExactOrders.{exact_nat, exact_pair}
@@ -27,11 +30,11 @@ use Rattle.road_scenario.specs.declared.edit.Value.{Value}
 use Rattle.road_scenario.specs.declared.edit.Edit.{Edit}
 use Rattle.road_scenario.specs.contracts.edit.ValueOrd.TheImpl as derived_value
 use Rattle.road_scenario.specs.contracts.edit.StampOrd.TheImpl as derived_stamp
-use Rattle.road_scenario.specs.Edits.{Edits, Rank, edit_cmp, exceeds, place, two_cmp, three_cmp, stamp_key, value_key}
-use Rattle.road_scenario.specs.Instances.EditOrder.{edit_total, edit_exact, exceeds_strict, winners_laws, two_total, three_total, ordered_values, stamp_exact, value_exact}
+use Rattle.road_scenario.specs.Edits.{Edits, Rank, edit_cmp, is_exceeded_by, edit_place, number_pair_cmp, number_triple_cmp, stamp_key, value_key}
+use Rattle.road_scenario.specs.Instances.EditOrder.{edit_total, edit_exact, exceeds_strict, winners_laws, number_pair_total, number_triple_total, ordered_values, stamp_exact, value_exact}
 use Rattle.road_scenario.specs.Winners.{winners, join}
-use Rattle.road_scenario.specs.Private.Registers.{Won, Steps, Maps, edit_with, before, listed_at, listed, kept}
-use Rattle.road_scenario.proofs.Rising.{object_cmp, IsSteps, AreMaps, winners-kept}
+use Rattle.road_scenario.specs.Registers.{Register, RegistersByStep, RegistersByObject, edit_with, edits_from_register, object_edits, edit_list, edit_set}
+use Rattle.road_scenario.proofs.RisingEdits.{object_cmp, IsSteps, AreMaps, winners-kept}
 
 -- ---- sets of one edit
 
@@ -50,13 +53,8 @@ single_in e = sym (contains-items (single e) e) ∙ contains-from_list edit_tota
 no_edit : (f : Edit) → contains (empty {R = edit_cmp}) f ≡ true → ⊥
 no_edit f h = true≢false (sym h ∙ contains-empty edit_cmp f)
 
-same_test : (s t : Bool) → (s ≡ true → t ≡ true) → (t ≡ true → s ≡ true) → s ≡ t
-same_test true t f g = sym (f refl)
-same_test false true f g = g refl
-same_test false false f g = refl
-
 pub same_edits : (s t : Edits) → ((e : Edit) → contains s e ≡ true → contains t e ≡ true) → ((e : Edit) → contains t e ≡ true → contains s e ≡ true) → s ≡ t
-same_edits s t f g = same_set edit_total edit_exact s t (λ e. same_test _ _ (f e) (g e))
+same_edits s t f g = same_set edit_total edit_exact s t (λ e. both_ways _ _ (f e) (g e))
 
 union-empty : (s : Edits) → union s empty ≡ s
 union-empty s = same_set edit_total edit_exact _ _ (λ e. contains-union edit_total s empty e ∙ ap (λ b. contains s e || b) (contains-empty edit_cmp e) ∙ or_false (contains s e))
@@ -68,15 +66,12 @@ union-empty s = same_set edit_total edit_exact _ _ (λ e. contains-union edit_to
 join-empty : (s : Edits) → join s empty ≡ winners s
 join-empty s = ap winners (union-empty s)
 
-pub winners-empty : winners empty ≡ empty
-winners-empty = same_edits _ _ (λ e h. ((winners_laws.members empty e).0 h).inside) (λ e h. absurd (no_edit e h))
-
 pub winners-single : (e : Edit) → winners (single e) ≡ single e
 winners-single e = same_edits _ _
     (λ f h. ((winners_laws.members (single e) f).0 h).inside)
     (λ f h. (winners_laws.members (single e) f).1 (record {
       inside = h;
-      none = λ g i. ap (λ x. exceeds x g) (in_single e f h) ∙ ap (exceeds e) (in_single e g i) ∙ exceeds_strict.irreflexive e;
+      none = λ g i. ap (λ x. is_exceeded_by x g) (in_single e f h) ∙ ap (is_exceeded_by e) (in_single e g i) ∙ exceeds_strict.irreflexive e;
     }))
 
 nothing_left : (t : Edits) → retain t (λ _. false) ≡ empty
@@ -86,21 +81,10 @@ nothing_left t = same_set edit_total edit_exact _ _ (λ e. contains-retain t (λ
     and_false true = refl
     and_false false = refl
 
-any_by : (p : Edit → Bool) (es : List Edit) (e : Edit) → list_any (eq_by_cmp edit_cmp e) es ≡ true → p e ≡ true → list_any p es ≡ true
-any_by p [] e h q = h
-any_by p (f ∷ es) e h q = elim (or_cases (eq_by_cmp edit_cmp e f) _ h) as (λ _. (p f || list_any p es) ≡ true) [
-  | inl t ↦ or_left _ _ (sym (ap p (edit_exact e f ((Equal-is (edit_cmp e f)).0 t))) ∙ q)
-  | inr t ↦ or_last (p f) (any_by p es e t q)
-]
-  where
-    or_last : (a : Bool) {b : Bool} → b ≡ true → (a || b) ≡ true
-    or_last true h = refl
-    or_last false h = h
-
-join-over : (a b : Edit) → exceeds b a ≡ true → join (single a) (single b) ≡ single a
+join-over : (a b : Edit) → is_exceeded_by b a ≡ true → join (single a) (single b) ≡ single a
 join-over a b h =
     sym (winners_laws.without (single a) (single b) (λ _. false)
-    (λ e i _. any_by (exceeds e) (items (single a)) a (single_in a) (ap (λ x. exceeds x a) (in_single b e i) ∙ h)))
+    (λ e i _. any_by edit_total edit_exact (is_exceeded_by e) (items (single a)) a (single_in a) (ap (λ x. is_exceeded_by x a) (in_single b e i) ∙ h)))
     ∙ ap (join (single a)) (nothing_left (single b)) ∙ join-empty (single a) ∙ winners-single a
 
 join-of-one : (a : Edit) → join (single a) (single a) ≡ single a
@@ -112,27 +96,19 @@ edits_join = record { commutative = winners_laws.commutative; associative = winn
 -- ---- what maps hold, as a join
 
 -- the edit that won at an object and step, as a set
-abbrev won_at : Object → ℕ → Won → Edits
+abbrev won_at : Object → ℕ → Register → Edits
 won_at o step Nothing = empty
 won_at o step (Of w) = single (edit_with o step w)
 
-abbrev joined_at : Object → Steps → Edits
+abbrev joined_at : Object → RegistersByStep → Edits
 joined_at o = fold_join join empty (won_at o)
 
-abbrev all_joined : Maps → Edits
+abbrev all_joined : RegistersByObject → Edits
 all_joined = fold_join join empty joined_at
-
-any-append : (p : Edit → Bool) (es fs : List Edit) → list_any p (es ++ fs) ≡ (list_any p es || list_any p fs)
-any-append p [] fs = refl
-any-append p (e ∷ es) fs = ap (λ b. p e || b) (any-append p es fs) ∙ sym (or_assoc (p e) (list_any p es) (list_any p fs))
-  where
-    or_assoc : (a b c : Bool) → ((a || b) || c) ≡ (a || (b || c))
-    or_assoc true b c = refl
-    or_assoc false b c = refl
 
 from_list-append : (es fs : List Edit) → from_list {R = edit_cmp} (es ++ fs) ≡ union (from_list es) (from_list fs)
 from_list-append es fs = same_set edit_total edit_exact _ _ (λ q.
-    contains-from_list edit_total (es ++ fs) q ∙ any-append (eq_by_cmp edit_cmp q) es fs
+    contains-from_list edit_total (es ++ fs) q ∙ list_any-append (eq_by_cmp edit_cmp q) es fs
     ∙ sym (contains-union edit_total (from_list es) (from_list fs) q ∙ (λ i. contains-from_list edit_total es q i || contains-from_list edit_total fs q i)))
 
 winners-append : (es fs : List Edit) → winners (from_list (es ++ fs)) ≡ join (winners (from_list es)) (winners (from_list fs))
@@ -144,17 +120,17 @@ nothing = ap winners from_list-empty ∙ winners-empty
 join_first : (s : Edits) → winners s ≡ join empty (winners s)
 join_first s = sym (winners_laws.commutative empty (winners s) ∙ join-empty (winners s) ∙ winners_laws.of_tops s)
 
-winners-before : (o : Object) (step : ℕ) (w : Won) (es : List Edit) → winners (from_list (before o step w es)) ≡ join (won_at o step w) (winners (from_list es))
+winners-before : (o : Object) (step : ℕ) (w : Register) (es : List Edit) → winners (from_list (edits_from_register o step w es)) ≡ join (won_at o step w) (winners (from_list es))
 winners-before o step Nothing es = join_first (from_list es)
 winners-before o step (Of w) es = winners-append (edit_with o step w ∷ []) es ∙ ap (λ s. join s (winners (from_list es))) (winners-single (edit_with o step w))
 
-winners-at : (o : Object) (steps : Steps) → winners (from_list (listed_at o steps)) ≡ joined_at o steps
+winners-at : (o : Object) (steps : RegistersByStep) → winners (from_list (object_edits o steps)) ≡ joined_at o steps
 winners-at o [] = nothing
-winners-at o (s ∷ steps) = winners-before o s.0 s.1 (listed_at o steps) ∙ ap (join (won_at o s.0 s.1)) (winners-at o steps)
+winners-at o (s ∷ steps) = winners-before o s.0 s.1 (object_edits o steps) ∙ ap (join (won_at o s.0 s.1)) (winners-at o steps)
 
-winners-listed : (m : Maps) → winners (kept m) ≡ all_joined m
+winners-listed : (m : RegistersByObject) → winners (edit_set m) ≡ all_joined m
 winners-listed [] = nothing
-winners-listed (x ∷ m) = winners-append (listed_at x.0 x.1) (listed m) ∙ (λ i. join (winners-at x.0 x.1 i) (winners-listed m i))
+winners-listed (x ∷ m) = winners-append (object_edits x.0 x.1) (edit_list m) ∙ (λ i. join (winners-at x.0 x.1 i) (winners-listed m i))
 
 -- ---- joining maps joins what they hold
 
@@ -164,31 +140,31 @@ won_cmp x y = ordering_then (derived_stamp.ghosts.cmp x.0 y.0) (derived_value.gh
 abbrev rank_of : Stamp × Value → Rank
 rank_of w = (stamp_key w.0, value_key w.1)
 
-ordered_won : (x y : Stamp × Value) → won_cmp x y ≡ three_cmp (rank_of x) (rank_of y)
-ordered_won x y = ap (ordering_then (two_cmp (stamp_key x.0) (stamp_key y.0))) (ordered_values x.1 y.1)
+ordered_won : (x y : Stamp × Value) → won_cmp x y ≡ number_triple_cmp (rank_of x) (rank_of y)
+ordered_won x y = ap (ordering_then (number_pair_cmp (stamp_key x.0) (stamp_key y.0))) (ordered_values x.1 y.1)
 
 by_key : {A B : Type 0} (key : A → B) (P : A → A → Ordering) (Q : B → B → Ordering) → ((x y : A) → P x y ≡ Q (key x) (key y)) → IsTotalOrder Q → IsTotalOrder P
 by_key key P Q same o = subst IsTotalOrder (λ i x y. sym (same x y) i) (on_total key o)
 
 pub object_total : IsTotalOrder object_cmp
-object_total = by_key order_key object_cmp two_cmp ordered two_total
+object_total = by_key order_key object_cmp number_pair_cmp ordered number_pair_total
 
 won_total : IsTotalOrder won_cmp
-won_total = by_key rank_of won_cmp three_cmp ordered_won three_total
+won_total = by_key rank_of won_cmp number_triple_cmp ordered_won number_triple_total
 
 won_exact : IsExact won_cmp
 won_exact = exact_pair derived_stamp.ghosts.cmp derived_value.ghosts.cmp stamp_exact value_exact
 
-abbrev pub won_join : Won → Won → Won
+abbrev pub won_join : Register → Register → Register
 won_join = greatest_join won_cmp
 
-pub won_laws : LatticeLaws (λ (_ : Won). Unit {0}) won_join is_nothing
+pub won_laws : LatticeLaws (λ (_ : Register). Unit {0}) won_join is_nothing
 won_laws = greatest_laws won_cmp won_total won_exact
 
-greater : (o : Object) (step : ℕ) (v w : Stamp × Value) → won_cmp v w ≡ Less → exceeds (edit_with o step v) (edit_with o step w) ≡ true
-greater o step v w l = and_from _ _ (ap is_eq (tied_itself three_total (place (edit_with o step v)))) (ap is_lt (sym (ordered_won v w) ∙ l))
+greater : (o : Object) (step : ℕ) (v w : Stamp × Value) → won_cmp v w ≡ Less → is_exceeded_by (edit_with o step v) (edit_with o step w) ≡ true
+greater o step v w l = and_from _ _ (ap is_eq (tied_itself number_triple_total (edit_place (edit_with o step v)))) (ap is_lt (sym (ordered_won v w) ∙ l))
 
-won_joins : (o : Object) (step : ℕ) (v w : Won) → Unit {0} → Unit {0} → won_at o step (won_join v w) ≡ join (won_at o step v) (won_at o step w)
+won_joins : (o : Object) (step : ℕ) (v w : Register) → Unit {0} → Unit {0} → won_at o step (won_join v w) ≡ join (won_at o step v) (won_at o step w)
 won_joins o step Nothing Nothing p q = sym (join-empty empty ∙ winners-empty)
 won_joins o step Nothing (Of w) p q = sym (winners_laws.commutative empty (single (edit_with o step w)) ∙ join-empty (single (edit_with o step w)) ∙ winners-single (edit_with o step w))
 won_joins o step (Of v) Nothing p q = sym (join-empty (single (edit_with o step v)) ∙ winners-single (edit_with o step v))
@@ -201,37 +177,37 @@ won_joins o step (Of v) (Of w) p q =
       | Greater ↦ λ l. sym (join-over a b (greater o step w v (won_total.antisymm w v ∙ ap ordering_reverse l)))
     ] refl
 
-abbrev pub steps_join : Steps → Steps → Steps
+abbrev pub steps_join : RegistersByStep → RegistersByStep → RegistersByStep
 steps_join = map_join nat_cmp won_join is_nothing
 
 pub steps_laws : LatticeLaws IsSteps steps_join is_empty
 steps_laws = map_laws nat_cmp nat_cmp_total exact_nat (λ _. Unit {0}) won_join is_nothing won_laws
 
-steps_joins : (o : Object) (m n : Steps) → IsSteps m → IsSteps n → joined_at o (steps_join m n) ≡ join (joined_at o m) (joined_at o n)
+steps_joins : (o : Object) (m n : RegistersByStep) → IsSteps m → IsSteps n → joined_at o (steps_join m n) ≡ join (joined_at o m) (joined_at o n)
 steps_joins o m n p q = fold-map_join nat_cmp nat_cmp_total exact_nat (λ _. Unit {0}) won_join is_nothing won_laws join empty edits_join (won_at o) (won_joins o) m n p q
 
-abbrev pub maps_join : Maps → Maps → Maps
+abbrev pub maps_join : RegistersByObject → RegistersByObject → RegistersByObject
 maps_join = map_join object_cmp steps_join is_empty
 
-pub proper-joined : (m n : Maps) → AreMaps m → AreMaps n → AreMaps (maps_join m n)
+pub proper-joined : (m n : RegistersByObject) → AreMaps m → AreMaps n → AreMaps (maps_join m n)
 proper-joined = proper-map_join object_cmp object_total object_exact IsSteps steps_join is_empty steps_laws
 
-both_kept : (m n : Maps) → AreMaps m → AreMaps n → join (all_joined m) (all_joined n) ≡ join (kept m) (kept n)
+both_kept : (m n : RegistersByObject) → AreMaps m → AreMaps n → join (all_joined m) (all_joined n) ≡ join (edit_set m) (edit_set n)
 both_kept m n p q = λ i. join ((sym (winners-listed m) ∙ winners-kept m p) i) ((sym (winners-listed n) ∙ winners-kept n q) i)
 
 -- joined maps hold the join of what the two hold
-pub kept-joined : (m n : Maps) → AreMaps m → AreMaps n → kept (maps_join m n) ≡ join (kept m) (kept n)
+pub kept-joined : (m n : RegistersByObject) → AreMaps m → AreMaps n → edit_set (maps_join m n) ≡ join (edit_set m) (edit_set n)
 kept-joined m n p q =
     sym (winners-kept (maps_join m n) (proper-joined m n p q)) ∙ winners-listed (maps_join m n)
     ∙ fold-map_join object_cmp object_total object_exact IsSteps steps_join is_empty steps_laws join empty edits_join joined_at steps_joins m n p q
     ∙ both_kept m n p q
 
 -- maps with one edit joined in hold the join with it
-pub kept-with : (m : Maps) (e : Edit) (steps : Steps) → AreMaps m → steps ≡ (e.step, Of (e.stamp, e.value)) ∷ [] → kept (joined_in object_cmp steps_join is_empty m e.object steps) ≡ join (kept m) (single e)
+pub kept-with : (m : RegistersByObject) (e : Edit) (steps : RegistersByStep) → AreMaps m → steps ≡ (e.step, Of (e.stamp, e.value)) ∷ [] → edit_set (joined_in object_cmp steps_join is_empty m e.object steps) ≡ join (edit_set m) (single e)
 kept-with m e steps p is =
-    let one : Steps = (e.step, Of (e.stamp, e.value)) ∷ [] in
+    let one : RegistersByStep = (e.step, Of (e.stamp, e.value)) ∷ [] in
     let held : IsHeld IsSteps is_empty one = (record { rises = tt; held = ((tt, refl), tt) }, refl) in
-    ap (λ x. kept (joined_in object_cmp steps_join is_empty m e.object x)) is
+    ap (λ x. edit_set (joined_in object_cmp steps_join is_empty m e.object x)) is
     ∙ sym (winners-kept _ (proper-joined_in object_cmp object_total object_exact IsSteps steps_join is_empty steps_laws m e.object one p held.0))
     ∙ winners-listed (joined_in object_cmp steps_join is_empty m e.object one)
     ∙ fold-joined_in object_cmp object_total object_exact IsSteps steps_join is_empty steps_laws join empty edits_join joined_at steps_joins m e.object one p held

@@ -3,14 +3,17 @@ use Rattle.std.specs.Prelude.{◌≡◌, ℕ, zero, suc, ◌+◌, ◌<◌, ◌�
 use Rattle.std.specs.declared.option.Option.{Option}
 use Rattle.std.specs.declared.option.Option.TheVariants.{None, Some}
 use Rattle.std.specs.List.{filter, range_with_len}
-use Rattle.std.specs.Option.{unwrap_or}
+use Rattle.std.specs.Option.{unwrap_or, option_and_then}
 use Rattle.std.specs.Ordering.{nat_cmp, is_eq, is_lt}
 use Rattle.std.specs.FinMap.Entries.{below_all, is_sorted}
 use Rattle.std.proofs.Common.{arith, sym, ap, subst, ◌∙◌, inl, inr}
 use Rattle.std.proofs.lemmas.Bool.{true≢false, ltb-true}
 use Rattle.std.proofs.lemmas.Bool.Decides.{nat_tests}
-use Rattle.std.proofs.lemmas.List.{length-map}
+use Rattle.std.proofs.lemmas.List.{length-map, append-nil, length-set, get_or-map}
 use Rattle.std.proofs.lemmas.List.FromFn.{fill_by_all}
+use Rattle.std.proofs.lemmas.List.Elements.{filter-append}
+use Rattle.lattice_core.specs.Instances.JoinedMaps.{first_of_both, second_of_both}
+use Rattle.road_scenario.specs.Edits.{put_number}
 use Rattle.lattice_core.specs.Map.{EachEntry, IsHeld, is_empty}
 use Rattle.road_plan.specs.Plan.{Plan}
 use Rattle.road_plan.specs.Settings.{Settings, defaults}
@@ -18,11 +21,11 @@ use Rattle.road_plan.specs.Objects.{in_plan, default, by_kind_and_index}
 use Rattle.road_plan.specs.Instances.ObjectOrder.{ordered, object_exact}
 use Rattle.road_plan.specs.declared.object.Object.{Object}
 use Rattle.road_plan.specs.declared.object.Object.TheVariants.{Limit, Slow, Block, Inflow, Watch}
-use Rattle.road_scenario.specs.Private.Registers.{Steps, Maps, listed_at, listed}
-use Rattle.road_scenario.specs.Settings.{puts, latest, number_of, setting_in, settings_in, all_settings}
-use Rattle.road_scenario.specs.Private.ScenarioWalks.{last_put, steps_of, with_number, with_put, with_puts, has_place}
-use Rattle.road_scenario.proofs.Rising.{object_cmp, IsSteps, AreMaps, left, right, is_less}
-use Rattle.road_scenario.proofs.LastPuts.{is_one, chosen, none_of_other, none_above, latest_put, filter-append, append_none, other_above, steps_here, steps_there, one_object}
+use Rattle.road_scenario.specs.Registers.{RegistersByStep, RegistersByObject, object_edits, edit_list}
+use Rattle.road_scenario.specs.Settings.{is_put_up_to, latest_edit, setting_in, settings_in, all_settings}
+use Rattle.road_scenario.specs.Private.RegisterWalks.{last_number, registers_of_object, settings_with_number, settings_with_optional, settings_with_last_numbers, has_place}
+use Rattle.road_scenario.proofs.RisingEdits.{object_cmp, IsSteps, AreMaps, is_less}
+use Rattle.road_scenario.proofs.LastNumbers.{is_one, chosen, none_of_other, none_above, latest_put, other_above, steps_here, steps_there, one_object}
 
 -- ---- the setting of an object
 
@@ -30,50 +33,50 @@ pub same : (p o : Object) → is_one p o ≡ true → p ≡ o
 same p o t = one_object p o t (λ x y e. object_exact x y (ordered x y ∙ e))
 
 -- the latest edit of an object puts the last number of its steps
-pub number-listed : (m : Maps) → T (is_sorted object_cmp m) → EachEntry (λ e. IsHeld IsSteps is_empty e.1) m → (o : Object) (step : ℕ) → number_of (latest (filter (puts o step) (listed m))) ≡ last_put step (steps_of object_cmp m o)
+pub number-listed : (m : RegistersByObject) → T (is_sorted object_cmp m) → EachEntry (λ e. IsHeld IsSteps is_empty e.1) m → (o : Object) (step : ℕ) → option_and_then (λ e. put_number e.value) (latest_edit (filter (is_put_up_to o step) (edit_list m))) ≡ last_number step (registers_of_object object_cmp m o)
 number-listed [] s h o step = refl
 number-listed (e ∷ m) s h o step =
-    ap (λ es. number_of (latest es)) (filter-append (puts o step) (listed_at e.0 e.1) (listed m))
-    ∙ elim (is_one e.0 o) as (λ b. is_one e.0 o ≡ b → number_of (latest (chosen o step e.0 e.1 ++ filter (puts o step) (listed m))) ≡ last_put step (steps_of object_cmp (e ∷ m) o)) [
+    ap (λ es. option_and_then (λ e. put_number e.value) (latest_edit es)) (filter-append (is_put_up_to o step) (object_edits e.0 e.1) (edit_list m))
+    ∙ elim (is_one e.0 o) as (λ b. is_one e.0 o ≡ b → option_and_then (λ e. put_number e.value) (latest_edit (chosen o step e.0 e.1 ++ filter (is_put_up_to o step) (edit_list m))) ≡ last_number step (registers_of_object object_cmp (e ∷ m) o)) [
       | true ↦ λ t.
           let is : e.0 ≡ o = same e.0 o t in
-          ap (λ es. number_of (latest (chosen o step e.0 e.1 ++ es))) (none_above o step m (subst (λ x. T (below_all object_cmp x m)) is (left (below_all object_cmp e.0 m) _ s)))
-          ∙ ap (λ es. number_of (latest es)) (append_none (chosen o step e.0 e.1))
-          ∙ ap (λ x. number_of (latest (chosen o step x e.1))) is
+          ap (λ es. option_and_then (λ e. put_number e.value) (latest_edit (chosen o step e.0 e.1 ++ es))) (none_above o step m (subst (λ x. T (below_all object_cmp x m)) is (first_of_both (below_all object_cmp e.0 m) _ s)))
+          ∙ ap (λ es. option_and_then (λ e. put_number e.value) (latest_edit es)) (append-nil (chosen o step e.0 e.1))
+          ∙ ap (λ x. option_and_then (λ e. put_number e.value) (latest_edit (chosen o step x e.1))) is
           ∙ latest_put o step e.1 h.0.0.rises
-          ∙ ap (last_put step) (sym (steps_here e m o t))
+          ∙ ap (last_number step) (sym (steps_here e m o t))
       | false ↦ λ t.
-          ap (λ es. number_of (latest (es ++ filter (puts o step) (listed m)))) (none_of_other o e.0 step e.1 t)
-          ∙ number-listed m (right (below_all object_cmp e.0 m) _ s) h.1 o step
-          ∙ ap (last_put step) (sym (steps_there e m o t))
+          ap (λ es. option_and_then (λ e. put_number e.value) (latest_edit (es ++ filter (is_put_up_to o step) (edit_list m)))) (none_of_other o e.0 step e.1 t)
+          ∙ number-listed m (second_of_both (below_all object_cmp e.0 m) _ s) h.1 o step
+          ∙ ap (last_number step) (sym (steps_there e m o t))
     ] refl
 
 -- the setting is the last number of the object's steps
-pub setting-listed : (p : Plan) (m : Maps) → AreMaps m → (o : Object) (step : ℕ) → setting_in p (listed m) o step ≡ unwrap_or (last_put step (steps_of object_cmp m o)) (default p o)
+pub setting-listed : (p : Plan) (m : RegistersByObject) → AreMaps m → (o : Object) (step : ℕ) → setting_in p (edit_list m) o step ≡ unwrap_or (last_number step (registers_of_object object_cmp m o)) (default p o)
 setting-listed p m are o step = ap (λ x. unwrap_or x (default p o)) (number-listed m are.rises are.held o step)
 
 -- ---- the walk, object by object
 
 -- what an object has after a walk, from what it had
-abbrev read : ℕ → Maps → Object → ℕ → ℕ
+abbrev read : ℕ → RegistersByObject → Object → ℕ → ℕ
 read step [] o n = n
-read step (e ∷ m) o n = read step m o (cond (is_one e.0 o) (unwrap_or (last_put step e.1) n) n)
+read step (e ∷ m) o n = read step m o (cond (is_one e.0 o) (unwrap_or (last_number step e.1) n) n)
 
-read_above : (step : ℕ) (m : Maps) (o : Object) (n : ℕ) → T (below_all object_cmp o m) → read step m o n ≡ n
+read_above : (step : ℕ) (m : RegistersByObject) (o : Object) (n : ℕ) → T (below_all object_cmp o m) → read step m o n ≡ n
 read_above step [] o n h = refl
 read_above step (e ∷ m) o n h =
-    ap (λ b. read step m o (cond b (unwrap_or (last_put step e.1) n) n)) (other_above o e.0 (is_less _ (left (is_lt (object_cmp o e.0)) _ h)))
-    ∙ read_above step m o n (right (is_lt (object_cmp o e.0)) _ h)
+    ap (λ b. read step m o (cond b (unwrap_or (last_number step e.1) n) n)) (other_above o e.0 (is_less _ (first_of_both (is_lt (object_cmp o e.0)) _ h)))
+    ∙ read_above step m o n (second_of_both (is_lt (object_cmp o e.0)) _ h)
 
-read-steps : (step : ℕ) (m : Maps) (o : Object) (n : ℕ) → T (is_sorted object_cmp m) → read step m o n ≡ unwrap_or (last_put step (steps_of object_cmp m o)) n
+read-steps : (step : ℕ) (m : RegistersByObject) (o : Object) (n : ℕ) → T (is_sorted object_cmp m) → read step m o n ≡ unwrap_or (last_number step (registers_of_object object_cmp m o)) n
 read-steps step [] o n s = refl
-read-steps step (e ∷ m) o n s = elim (is_one e.0 o) as (λ b. is_one e.0 o ≡ b → read step m o (cond b (unwrap_or (last_put step e.1) n) n) ≡ unwrap_or (last_put step (steps_of object_cmp (e ∷ m) o)) n) [
+read-steps step (e ∷ m) o n s = elim (is_one e.0 o) as (λ b. is_one e.0 o ≡ b → read step m o (cond b (unwrap_or (last_number step e.1) n) n) ≡ unwrap_or (last_number step (registers_of_object object_cmp (e ∷ m) o)) n) [
   | true ↦ λ t.
-      read_above step m o _ (subst (λ x. T (below_all object_cmp x m)) (same e.0 o t) (left (below_all object_cmp e.0 m) _ s))
-      ∙ ap (λ x. unwrap_or (last_put step x) n) (sym (steps_here e m o t))
+      read_above step m o _ (subst (λ x. T (below_all object_cmp x m)) (same e.0 o t) (first_of_both (below_all object_cmp e.0 m) _ s))
+      ∙ ap (λ x. unwrap_or (last_number step x) n) (sym (steps_here e m o t))
   | false ↦ λ t.
-      read-steps step m o n (right (below_all object_cmp e.0 m) _ s)
-      ∙ ap (λ x. unwrap_or (last_put step x) n) (sym (steps_there e m o t))
+      read-steps step m o n (second_of_both (below_all object_cmp e.0 m) _ s)
+      ∙ ap (λ x. unwrap_or (last_number step x) n) (sym (steps_there e m o t))
 ] refl
 
 -- ---- one number put
@@ -175,7 +178,7 @@ is_one_of : (b : Bool) (n m : ℕ) → (cond b n m == 1) ≡ cond b (n == 1) (m 
 is_one_of true n m = refl
 is_one_of false n m = refl
 
-put-number : (p : Plan) (f : Object → ℕ) (o : Object) (n : ℕ) → IsReady p f o → with_number (all_settings p f) o n ≡ all_settings p (update f o (Some n))
+put-number : (p : Plan) (f : Object → ℕ) (o : Object) (n : ℕ) → IsReady p f o → settings_with_number (all_settings p f) o n ≡ all_settings p (update f o (Some n))
 put-number p f (Limit zone) n r = λ i. record (all_settings p f) { limits = set_at (λ z. f (Limit z)) n (length p.zones) zone i }
 put-number p f (Slow zone) n r = λ i. record (all_settings p f) { chances = set_at (λ z. f (Slow z)) n (length p.zones) zone i }
 put-number p f (Block cell) n r = λ i. record (all_settings p f) {
@@ -186,7 +189,7 @@ put-number p f (Watch detector) n r = λ i. record (all_settings p f) {
   watched = (set_at (λ d. f (Watch d) == 1) (n == 1) (length p.detectors) detector ∙ (λ j. map (λ d. sym (is_one_of (is_eq (nat_cmp detector d)) n (f (Watch d))) j) (range_with_len 0 (length p.detectors)))) i;
 }
 
-put-one : (p : Plan) (f : Object → ℕ) (o : Object) (x : Option ℕ) → IsReady p f o → with_put (all_settings p f) o x ≡ all_settings p (update f o x)
+put-one : (p : Plan) (f : Object → ℕ) (o : Object) (x : Option ℕ) → IsReady p f o → settings_with_optional (all_settings p f) o x ≡ all_settings p (update f o x)
 put-one p f o None r = λ i. all_settings p (λ q. stays (is_one o q) (f q) i)
   where
     stays : (b : Bool) (n : ℕ) → n ≡ cond b n n
@@ -196,7 +199,7 @@ put-one p f o (Some n) r = put-number p f o n r
 
 -- ---- all numbers put
 
-abbrev AreReady : Plan → (Object → ℕ) → Maps → Type 0
+abbrev AreReady : Plan → (Object → ℕ) → RegistersByObject → Type 0
 AreReady p f m = EachEntry (λ e. IsReady p f e.0) m
 
 -- an object stays ready where a lower one has a number put
@@ -214,28 +217,23 @@ still_ready p f (Watch detector) x (Block cell) l r = absurd (true≢false (sym 
 still_ready p f o x (Inflow inlet) l r = tt
 still_ready p f o x (Watch detector) l r = tt
 
-all_still_ready : (p : Plan) (f : Object → ℕ) (o : Object) (x : Option ℕ) (m : Maps) → T (below_all object_cmp o m) → AreReady p f m → AreReady p (update f o x) m
+all_still_ready : (p : Plan) (f : Object → ℕ) (o : Object) (x : Option ℕ) (m : RegistersByObject) → T (below_all object_cmp o m) → AreReady p f m → AreReady p (update f o x) m
 all_still_ready p f o x [] h r = tt
 all_still_ready p f o x (e ∷ m) h r = (
-  still_ready p f o x e.0 (ap is_lt (sym (ordered o e.0) ∙ is_less _ (left (is_lt (object_cmp o e.0)) _ h))) r.0,
-  all_still_ready p f o x m (right (is_lt (object_cmp o e.0)) _ h) r.1,
+  still_ready p f o x e.0 (ap is_lt (sym (ordered o e.0) ∙ is_less _ (first_of_both (is_lt (object_cmp o e.0)) _ h))) r.0,
+  all_still_ready p f o x m (second_of_both (is_lt (object_cmp o e.0)) _ h) r.1,
 )
 
-puts_all : (p : Plan) (step : ℕ) (m : Maps) (f : Object → ℕ) → T (is_sorted object_cmp m) → AreReady p f m → with_puts step (all_settings p f) m ≡ all_settings p (λ q. read step m q (f q))
+puts_all : (p : Plan) (step : ℕ) (m : RegistersByObject) (f : Object → ℕ) → T (is_sorted object_cmp m) → AreReady p f m → settings_with_last_numbers step (all_settings p f) m ≡ all_settings p (λ q. read step m q (f q))
 puts_all p step [] f s r = refl
 puts_all p step (e ∷ m) f s r =
-    ap (λ x. with_puts step x m) (put-one p f e.0 (last_put step e.1) r.0)
-    ∙ puts_all p step m (update f e.0 (last_put step e.1)) (right (below_all object_cmp e.0 m) _ s) (all_still_ready p f e.0 (last_put step e.1) m (left (below_all object_cmp e.0 m) _ s) r.1)
+    ap (λ x. settings_with_last_numbers step x m) (put-one p f e.0 (last_number step e.1) r.0)
+    ∙ puts_all p step m (update f e.0 (last_number step e.1)) (second_of_both (below_all object_cmp e.0 m) _ s) (all_still_ready p f e.0 (last_number step e.1) m (first_of_both (below_all object_cmp e.0 m) _ s) r.1)
 
 -- ---- from the plan's own settings
 
-map-at : {X Y : Type 0} (f : X → Y) (xs : List X) (k : ℕ) (d : X) (e : Y) → k < length xs → slice_index_or (map f xs) k e ≡ f (slice_index_or xs k d)
-map-at f [] k d e l = absurd (omega arith)
-map-at f (x ∷ xs) zero d e l = refl
-map-at f (x ∷ xs) (suc k) d e l = map-at f xs k d e (omega arith)
-
 each_of : {X Y : Type 0} (f : X → Y) (xs : List X) (d : X) → map f xs ≡ map (λ k. f (slice_index_or xs k d)) (range_with_len 0 (length xs))
-each_of f xs d = fill_by_all (λ k. f (slice_index_or xs k d)) (map f xs) (length xs) (f d) (length-map xs f) (λ k l. map-at f xs k d (f d) l)
+each_of f xs d = fill_by_all (λ k. f (slice_index_or xs k d)) (map f xs) (length xs) (f d) (length-map xs f) (λ k l. get_or-map f xs k d (f d) l)
 
 own-settings : (p : Plan) → defaults p ≡ all_settings p (default p)
 own-settings p = λ i. record {
@@ -246,7 +244,7 @@ own-settings p = λ i. record {
   watched = each_of (λ site. true) p.detectors 0 i;
 }
 
-abbrev pub AreInPlan : Plan → Maps → Type 0
+abbrev pub AreInPlan : Plan → RegistersByObject → Type 0
 AreInPlan p m = EachEntry (λ e. in_plan p e.0 ≡ true) m
 
 ready : (p : Plan) (o : Object) → in_plan p o ≡ true → IsReady p (default p) o
@@ -256,14 +254,14 @@ ready p (Block cell) h = (ltb-true _ _ h, λ k le. refl)
 ready p (Inflow inlet) h = tt
 ready p (Watch detector) h = tt
 
-all_ready : (p : Plan) (m : Maps) → AreInPlan p m → AreReady p (default p) m
+all_ready : (p : Plan) (m : RegistersByObject) → AreInPlan p m → AreReady p (default p) m
 all_ready p [] h = tt
 all_ready p (e ∷ m) h = (ready p e.0 h.0, all_ready p m h.1)
 
 -- the walk from the plan's own settings gives the settings
-pub puts-settings : (p : Plan) (m : Maps) (step : ℕ) → AreMaps m → AreInPlan p m → with_puts step (defaults p) m ≡ settings_in p (listed m) step
+pub puts-settings : (p : Plan) (m : RegistersByObject) (step : ℕ) → AreMaps m → AreInPlan p m → settings_with_last_numbers step (defaults p) m ≡ settings_in p (edit_list m) step
 puts-settings p m step are inside =
-    ap (λ s. with_puts step s m) (own-settings p)
+    ap (λ s. settings_with_last_numbers step s m) (own-settings p)
     ∙ puts_all p step m (default p) are.rises (all_ready p m inside)
     ∙ (λ i. all_settings p (λ q. (read-steps step m q (default p q) are.rises ∙ sym (setting-listed p m are q step)) i))
 
@@ -276,24 +274,18 @@ place_own p (Block cell) h = refl
 place_own p (Inflow inlet) h = ap (nat_lt inlet) (length-map p.inlets (λ z. z.1)) ∙ h
 place_own p (Watch detector) h = ap (nat_lt detector) (length-map p.detectors (λ z. true)) ∙ h
 
-pub places_own : (p : Plan) (m : Maps) → AreInPlan p m → EachEntry (λ e. has_place (defaults p) e.0 ≡ true) m
+pub places_own : (p : Plan) (m : RegistersByObject) → AreInPlan p m → EachEntry (λ e. has_place (defaults p) e.0 ≡ true) m
 places_own p [] h = tt
 places_own p (e ∷ m) h = (place_own p e.0 h.0, places_own p m h.1)
 
-set-length : {X : Type 0} (xs : List X) (z : ℕ) (v : X) → length (slice_set xs z v) ≡ length xs
-set-length [] zero v = refl
-set-length [] (suc z) v = refl
-set-length (x ∷ xs) zero v = refl
-set-length (x ∷ xs) (suc z) v = ap suc (set-length xs z v)
-
-place_stays : (s : Settings) (o : Object) (n : ℕ) (q : Object) → has_place (with_number s o n) q ≡ has_place s q
-place_stays s (Limit zone) n (Limit z) = ap (nat_lt z) (set-length s.limits zone n)
+place_stays : (s : Settings) (o : Object) (n : ℕ) (q : Object) → has_place (settings_with_number s o n) q ≡ has_place s q
+place_stays s (Limit zone) n (Limit z) = ap (nat_lt z) (length-set s.limits zone n)
 place_stays s (Limit zone) n (Slow z) = refl
 place_stays s (Limit zone) n (Block z) = refl
 place_stays s (Limit zone) n (Inflow z) = refl
 place_stays s (Limit zone) n (Watch z) = refl
 place_stays s (Slow zone) n (Limit z) = refl
-place_stays s (Slow zone) n (Slow z) = ap (nat_lt z) (set-length s.chances zone n)
+place_stays s (Slow zone) n (Slow z) = ap (nat_lt z) (length-set s.chances zone n)
 place_stays s (Slow zone) n (Block z) = refl
 place_stays s (Slow zone) n (Inflow z) = refl
 place_stays s (Slow zone) n (Watch z) = refl
@@ -305,26 +297,26 @@ place_stays s (Block cell) n (Watch z) = refl
 place_stays s (Inflow inlet) n (Limit z) = refl
 place_stays s (Inflow inlet) n (Slow z) = refl
 place_stays s (Inflow inlet) n (Block z) = refl
-place_stays s (Inflow inlet) n (Inflow z) = ap (nat_lt z) (set-length s.inflows inlet n)
+place_stays s (Inflow inlet) n (Inflow z) = ap (nat_lt z) (length-set s.inflows inlet n)
 place_stays s (Inflow inlet) n (Watch z) = refl
 place_stays s (Watch detector) n (Limit z) = refl
 place_stays s (Watch detector) n (Slow z) = refl
 place_stays s (Watch detector) n (Block z) = refl
 place_stays s (Watch detector) n (Inflow z) = refl
-place_stays s (Watch detector) n (Watch z) = ap (nat_lt z) (set-length s.watched detector (n == 1))
+place_stays s (Watch detector) n (Watch z) = ap (nat_lt z) (length-set s.watched detector (n == 1))
 
-pub places_stay : (s : Settings) (o : Object) (n : ℕ) (m : Maps) → EachEntry (λ e. has_place s e.0 ≡ true) m → EachEntry (λ e. has_place (with_number s o n) e.0 ≡ true) m
+pub places_stay : (s : Settings) (o : Object) (n : ℕ) (m : RegistersByObject) → EachEntry (λ e. has_place s e.0 ≡ true) m → EachEntry (λ e. has_place (settings_with_number s o n) e.0 ≡ true) m
 places_stay s o n [] h = tt
 places_stay s o n (e ∷ m) h = (place_stays s o n e.0 ∙ h.0, places_stay s o n m h.1)
 
 -- ---- one turn of the walk
 
-pub put_turn : (step : ℕ) (s new whole : Settings) (m rest : Maps) (o : Object) (steps : Steps) (number : ℕ) (x : Option ℕ)
-    → m ≡ (o, steps) ∷ rest → new ≡ with_number s o number → x ≡ last_put step steps → x ≡ Some number → with_puts step s m ≡ whole → with_puts step new rest ≡ whole
+pub put_turn : (step : ℕ) (s new whole : Settings) (m rest : RegistersByObject) (o : Object) (steps : RegistersByStep) (number : ℕ) (x : Option ℕ)
+    → m ≡ (o, steps) ∷ rest → new ≡ settings_with_number s o number → x ≡ last_number step steps → x ≡ Some number → settings_with_last_numbers step s m ≡ whole → settings_with_last_numbers step new rest ≡ whole
 put_turn step s new whole m rest o steps number x is made found some h =
-    ap (λ y. with_puts step y rest) (made ∙ ap (with_put s o) (sym some ∙ found)) ∙ sym (ap (with_puts step s) is) ∙ h
+    ap (λ y. settings_with_last_numbers step y rest) (made ∙ ap (settings_with_optional s o) (sym some ∙ found)) ∙ sym (ap (settings_with_last_numbers step s) is) ∙ h
 
-pub place_turn : (s new : Settings) (m rest : Maps) (o : Object) (steps : Steps) (number : ℕ) → m ≡ (o, steps) ∷ rest → new ≡ with_number s o number
+pub place_turn : (s new : Settings) (m rest : RegistersByObject) (o : Object) (steps : RegistersByStep) (number : ℕ) → m ≡ (o, steps) ∷ rest → new ≡ settings_with_number s o number
     → EachEntry (λ e. has_place s e.0 ≡ true) m → EachEntry (λ e. has_place new e.0 ≡ true) rest
 place_turn s new m rest o steps number is made h =
     subst (λ y. EachEntry (λ e. has_place y e.0 ≡ true) rest) (sym made) (places_stay s o number rest (subst (EachEntry (λ e. has_place s e.0 ≡ true)) is h).1)

@@ -1,0 +1,7 @@
+use Rattle.std.proofs.Common.{ap, ◌∙◌}
+use Rattle.road_scenario.specs.Winners.{has_no_edit}
+use Rattle.road_scenario.proofs.EqualRegisters.{empty-kept}
+use Rattle.road_scenario.proofs.scenario.ScenarioLattice.is_bottom.Goals as goal
+
+pub returns : goal.returns
+returns c = c.is_bottom.ensures ∙ empty-kept c.self.inside.registers c.known.ensures ∙ ap has_no_edit c.self.view_is

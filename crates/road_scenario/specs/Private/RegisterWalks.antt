@@ -1,0 +1,82 @@
+-- What the walks over a scenario's registers find.
+use Rattle.std.specs.Prelude.{ℕ, ◌==◌, Bool, true, cond, min, [], ◌∷◌, ◌++◌, slice_set, nat_le, nat_lt, length, nat_eq}
+use Rattle.std.specs.Option.{option_or, unwrap_or, option_and_then, option_eq}
+use Rattle.std.specs.Ordering.{nat_cmp}
+use Rattle.std.specs.FinMap.Entries.{find}
+use Rattle.std.specs.declared.cmp.Ordering.{Ordering}
+use Rattle.std.specs.declared.option.Option.{Option}
+use Rattle.std.specs.declared.option.Option.TheVariants.{None, Some}
+use Rattle.lattice_core.specs.declared.greatest.Greatest.TheVariants.{Nothing, Of}
+use Rattle.road_plan.specs.Settings.{Settings}
+use Rattle.road_plan.specs.declared.object.Object.{Object}
+use Rattle.road_plan.specs.declared.object.Object.TheVariants.{Limit, Slow, Block, Inflow, Watch}
+use Rattle.road_scenario.specs.Edits.{put_number}
+use Rattle.road_scenario.specs.Registers.{Register, RegistersByStep, RegistersByObject}
+
+-- the number that a register puts: nothing where a withdrawal won
+abbrev pub register_number : Register → Option ℕ
+register_number Nothing = None
+register_number (Of w) = put_number w.1
+
+-- the number that an entry puts, where it is dated at most at a step
+abbrev pub entry_number : ℕ → ℕ × Register → Option ℕ
+entry_number step e = cond (nat_le e.0 step) (register_number e.1) None
+
+-- the last number that the registers of an object put up to a step
+abbrev pub last_number : ℕ → RegistersByStep → Option ℕ
+last_number step [] = None
+last_number step (e ∷ es) = option_or (last_number step es) (entry_number step e)
+
+-- all settings with one number put
+abbrev pub settings_with_number : Settings → Object → ℕ → Settings
+settings_with_number s (Limit zone) n = record s { limits = slice_set s.limits zone n }
+settings_with_number s (Slow zone) n = record s { chances = slice_set s.chances zone n }
+settings_with_number s (Block cell) n = record s { blocks = cond (n == 1) (s.blocks ++ cell ∷ []) s.blocks }
+settings_with_number s (Inflow inlet) n = record s { inflows = slice_set s.inflows inlet n }
+settings_with_number s (Watch detector) n = record s { watched = slice_set s.watched detector (n == 1) }
+
+-- whether the settings have a place for an object: a blocked cell always has
+abbrev pub has_place : Settings → Object → Bool
+has_place s (Limit zone) = nat_lt zone (length s.limits)
+has_place s (Slow zone) = nat_lt zone (length s.chances)
+has_place s (Block cell) = true
+has_place s (Inflow inlet) = nat_lt inlet (length s.inflows)
+has_place s (Watch detector) = nat_lt detector (length s.watched)
+
+-- all settings with the number put, if there is one
+abbrev pub settings_with_optional : Settings → Object → Option ℕ → Settings
+settings_with_optional s o None = s
+settings_with_optional s o (Some n) = settings_with_number s o n
+
+-- all settings with the last numbers that each entry puts up to a step
+abbrev pub settings_with_last_numbers : ℕ → Settings → RegistersByObject → Settings
+settings_with_last_numbers step s [] = s
+settings_with_last_numbers step s (e ∷ es) =
+    settings_with_last_numbers step (settings_with_optional s e.0 (last_number step e.1)) es
+
+-- the earlier of two steps, if there are any
+abbrev pub earlier_step : Option ℕ → Option ℕ → Option ℕ
+earlier_step None y = y
+earlier_step (Some a) None = Some a
+earlier_step (Some a) (Some b) = Some (min a b)
+
+-- the number that the registers of an object put at a step
+abbrev pub number_at_step : RegistersByStep → ℕ → Option ℕ
+number_at_step steps step = option_and_then register_number (find nat_cmp step steps)
+
+-- the first step at which the registers of an object put another number than others
+abbrev pub first_change_at : RegistersByStep → RegistersByStep → Option ℕ
+first_change_at [] others = None
+first_change_at (e ∷ es) others =
+    cond (option_eq nat_eq (register_number e.1) (number_at_step others e.0)) (first_change_at es others) (Some e.0)
+
+module _ (cmp : Object → Object → Ordering) where
+  -- the registers of an object, none where it has no entry
+  abbrev pub registers_of_object : RegistersByObject → Object → RegistersByStep
+  registers_of_object m o = unwrap_or (find cmp o m) []
+
+  -- the first step at which registers put another number than others
+  abbrev pub first_change : RegistersByObject → RegistersByObject → Option ℕ
+  first_change [] others = None
+  first_change (e ∷ es) others =
+      earlier_step (first_change_at e.1 (registers_of_object others e.0)) (first_change es others)
