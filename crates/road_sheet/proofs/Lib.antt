@@ -3,4 +3,5 @@ pub mod RunStates
 pub mod RunRows
 pub mod RunTotals
 pub mod BlockSteps
+pub mod SameRuns
 pub mod SheetBlocks

@@ -12,6 +12,7 @@ use Rattle.road_detector.specs.Laws.{PassOneByOne, BoundTotals}
 use Rattle.road_detector.specs.declared.counts.Totals.{Totals}
 use Rattle.road_scenario.specs.Edits.{Edits}
 use Rattle.road_scenario.specs.Settings.{settings_of}
+use Rattle.road_sheet.specs.Sheets.{Sheet, next_input}
 use Rattle.road_sheet.specs.Shown.{run_at}
 use Rattle.road_sheet.proofs.Ranges.{range-to, range-append}
 
@@ -119,3 +120,7 @@ total_same p f g d h a b e r l = within (leq a b)
 
     leq : (n m : ℕ) → (n ≤ m) ⊎ (m ≤ n)
     leq n m = grind (arith)
+
+-- what is counted in the next step
+pub passed_next : (s : Sheet) (input : StepInput) (speeds : List ℕ) (d : ℕ) → input ≡ next_input s → speeds ≡ input_speeds input → passes_at input speeds d ≡ passes s.plan (settings_of s.plan s.edits) d s.horizon
+passed_next s input speeds d is are = ap (λ (vs : List ℕ). passes_at input vs d) are ∙ ap (λ (x : StepInput). passes_at x (input_speeds x) d) is

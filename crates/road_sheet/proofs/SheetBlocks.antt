@@ -1,6 +1,5 @@
 -- The blocks of a sheet: one step more, cut back, and the same run by other edits.
-use Rattle.std.proofs.Common.{◌≡◌, ◌≢◌, ◌≤◌, ◌<◌, ◌+◌, ◌*◌, ◌%◌, ◌∙◌, ◌⊎◌, inl, inr, ℕ, zero, suc, List, [], ◌∷◌, ◌++◌, length, map, take, replicate, min, Option, Some, None, ap, sym, subst, arith, refl}
-use Rattle.std.proofs.Math.Numerals.{add-one}
+use Rattle.std.proofs.Common.{◌≡◌, ◌≢◌, ◌≤◌, ◌<◌, ◌+◌, ◌*◌, ◌/◌, ◌%◌, ◌∙◌, ◌⊎◌, inl, inr, ℕ, zero, suc, List, [], ◌∷◌, ◌++◌, length, map, take, replicate, min, Option, Some, None, ap, sym, subst, arith, refl}
 use Rattle.std.proofs.lemmas.List.{get_or-replicate, length-replicate, length-take-le, length_push}
 use Rattle.std.proofs.lemmas.Option.{slice_get_within, slice_get_read, slice_get-map}
 use Rattle.std.specs.Option.{option_map}
@@ -8,44 +7,43 @@ use Rattle.std.specs.List.{slice_get, slice_index_or}
 use Rattle.road_plan.specs.Plan.{Plan}
 use Rattle.road_plan.specs.declared.limits.TheConstants.{GREATEST_HORIZON}
 use Rattle.road_cells.specs.Array.{Array}
-use Rattle.road_ends.specs.Input.{input_next, input_speeds}
 use Rattle.road_scenario.specs.Edits.{Edits}
 use Rattle.road_scenario.specs.Faults.{AreInRange}
 use Rattle.road_scenario.specs.Settings.{settings_of}
 use Rattle.road_scenario.specs.Winners.{AreWinners}
-use Rattle.road_detector.specs.Passes.{no_totals, passes, passes_at, plus}
+use Rattle.road_detector.specs.Passes.{no_totals, passes, plus}
 use Rattle.road_detector.specs.declared.counts.Totals.{Totals}
-use Rattle.road_sheet.specs.Private.Blocks.{IsBlock, IsRunOf, GiveSameRun}
-use Rattle.road_sheet.specs.Sheets.{Sheet, IsSheet, next_input, sheet_after_step}
+use Rattle.road_sheet.specs.Private.Blocks.{AreTotals, IsBlock, IsRunOf, GiveSameRun}
+use Rattle.road_sheet.specs.Sheets.{Sheet, IsSheet, sheet_after_step}
 use Rattle.road_sheet.specs.Shown.{run_at, total_at}
 use Rattle.road_sheet.specs.declared.block.Block.{Block}
 use Rattle.road_sheet.proofs.RunTotals.{none_yet, total_more}
 
 -- ---- blocks
 
--- a block in which no_totals is counted yet
+-- a block of which no step is simulated
 pub fresh : (p : Plan) (e : Edits) (a : ℕ) (b : Block) → b.start ≡ run_at p e a → b.totals.items ≡ replicate (length p.detectors) no_totals → IsBlock p e a a b
 fresh p e a b start is = record {
   start = start;
-  each = ap (λ (xs : List Totals). length xs) is ∙ length-replicate (length p.detectors) no_totals;
-  totals = λ d l. ap (λ (xs : List Totals). slice_index_or xs d no_totals) is ∙ get_or-replicate (length p.detectors) d no_totals no_totals l ∙ none_yet p (settings_of p e) d a;
+  totals = record {
+    each = ap (λ (xs : List Totals). length xs) is ∙ length-replicate (length p.detectors) no_totals;
+    counted = λ d l. ap (λ (xs : List Totals). slice_index_or xs d no_totals) is ∙ get_or-replicate (length p.detectors) d no_totals no_totals l ∙ none_yet p (settings_of p e) d a;
+  };
 }
 
--- a step more is counted
-pub counted : (p : Plan) (e : Edits) (a h : ℕ) (b c : Block) → a ≤ h → IsBlock p e a h b → c.start ≡ b.start → length c.totals.items ≡ length b.totals.items
-    → ((d : ℕ) → d < length b.totals.items → slice_index_or c.totals.items d no_totals ≡ plus (slice_index_or b.totals.items d no_totals) (passes p (settings_of p e) d h)) → IsBlock p e a (h + 1) c
-counted p e a h b c before is start many more = record {
-  start = start ∙ is.start;
-  each = many ∙ is.each;
-  totals = λ d l. more d (omega (arith, l, is.each)) ∙ ap (λ (x : Totals). plus x (passes p (settings_of p e) d h)) (is.totals d l) ∙ total_more p (settings_of p e) d a h before;
+-- totals with a step more
+pub counted_more : (p : Plan) (e : Edits) (a h : ℕ) (xs ys : List Totals) → a ≤ h → AreTotals p e a h xs → length ys ≡ length xs
+    → ((d : ℕ) → d < length xs → slice_index_or ys d no_totals ≡ plus (slice_index_or xs d no_totals) (passes p (settings_of p e) d h)) → AreTotals p e a (h + 1) ys
+counted_more p e a h xs ys before are many more = record {
+  each = many ∙ are.each;
+  counted = λ d l. more d (omega (arith, l, are.each)) ∙ ap (λ (x : Totals). plus x (passes p (settings_of p e) d h)) (are.counted d l) ∙ total_more p (settings_of p e) d a h before;
 }
 
 -- edits with the same run have the same blocks
 pub moved : (p : Plan) (s t : Edits) (h a b : ℕ) (block : Block) → GiveSameRun p s t h → a ≤ b → b ≤ h → IsBlock p s a b block → IsBlock p t a b block
 moved p s t h a b block same before early is = record {
   start = is.start ∙ same.state a (omega (arith, before, early));
-  each = is.each;
-  totals = λ d l. is.totals d l ∙ same.total d a b early;
+  totals = record { each = is.totals.each; counted = λ d l. is.totals.counted d l ∙ same.total d a b early };
 }
 
 -- ---- lists of blocks
@@ -70,57 +68,69 @@ get_take (suc n) (y ∷ xs) x (suc k) h = let r = get_take n xs x k h in (r.0, o
 
 -- ---- a step more
 
--- the road after the next input's step is that of the next step
-next_road : (s : Sheet) (road : Array) → road ≡ input_next (next_input s) → road ≡ run_at s.plan s.edits (s.horizon + 1)
-next_road s road e = e ∙ sym (ap (run_at s.plan s.edits) (add-one s.horizon))
-
 later : (s : Sheet) → IsSheet s → s.horizon < GREATEST_HORIZON → IsSheet (sheet_after_step s)
 later s is early = record { winners = is.winners; in_range = is.in_range; within_limit = omega (arith, early) }
 
+-- the first step of the block that the horizon cuts
+cut_start : (n h : ℕ) → 64 * n ≤ h → h < 64 * n + 64 → 64 * (h / 64) ≡ 64 * n
+cut_start n h begun going = omega arith
+
 -- within the block
-pub within : (s : Sheet) (whole : List Block) (cut new : Block) (last road : Array) → IsRunOf s whole cut last → s.horizon < GREATEST_HORIZON → road ≡ input_next (next_input s)
-    → new.start ≡ cut.start → length new.totals.items ≡ length cut.totals.items
-    → ((d : ℕ) → d < length cut.totals.items → slice_index_or new.totals.items d no_totals ≡ plus (slice_index_or cut.totals.items d no_totals) (passes_at (next_input s) (input_speeds (next_input s)) d))
-    → (s.horizon + 1) % 64 ≢ 0 → IsRunOf (sheet_after_step s) whole new road
-within s whole cut new last road is early next start many more off = record {
+pub step_within : (s : Sheet) (whole : List Block) (cut new : Block) (last road : Array) → IsRunOf s whole cut last → s.horizon < GREATEST_HORIZON → road ≡ run_at s.plan s.edits (s.horizon + 1) → new.start ≡ cut.start
+    → AreTotals s.plan s.edits (64 * (s.horizon / 64)) (s.horizon + 1) new.totals.items → (s.horizon + 1) % 64 ≢ 0 → IsRunOf (sheet_after_step s) whole new road
+step_within s whole cut new last road is early next start totals off = record {
   sheet = later s is.sheet early;
   begun = let b = is.begun in omega (arith, b);
   not_ended = going (length whole) s.horizon is.begun is.not_ended off;
   whole = is.whole;
-  cut = counted s.plan s.edits (64 * length whole) s.horizon cut new is.begun is.cut start many more;
-  last = next_road s road next;
+  cut = record { start = start ∙ is.cut.start; totals = subst (λ n. AreTotals s.plan s.edits n (s.horizon + 1) new.totals.items) (cut_start (length whole) s.horizon is.begun is.not_ended) totals };
+  last = next;
 }
   where
     going : (n h : ℕ) → 64 * n ≤ h → h < 64 * n + 64 → (h + 1) % 64 ≢ 0 → h + 1 < 64 * n + 64
     going n h a b c = omega (arith, a, b, c)
 
--- at the end of the block
-pub ended : (s : Sheet) (whole : List Block) (cut new begun : Block) (last road : Array) → IsRunOf s whole cut last → s.horizon < GREATEST_HORIZON → road ≡ input_next (next_input s)
-    → new.start ≡ cut.start → length new.totals.items ≡ length cut.totals.items
-    → ((d : ℕ) → d < length cut.totals.items → slice_index_or new.totals.items d no_totals ≡ plus (slice_index_or cut.totals.items d no_totals) (passes_at (next_input s) (input_speeds (next_input s)) d))
-    → begun.start ≡ road → begun.totals.items ≡ replicate (length s.plan.detectors) no_totals
-    → (s.horizon + 1) % 64 ≡ 0 → IsRunOf (sheet_after_step s) (whole ++ new ∷ []) begun road
-ended s whole cut new begun last road is early next start many more first zeros on =
+-- to the end of the block
+pub step_to_end : (s : Sheet) (whole more : List Block) (cut new begun : Block) (last road : Array) → IsRunOf s whole cut last → s.horizon < GREATEST_HORIZON → road ≡ run_at s.plan s.edits (s.horizon + 1) → new.start ≡ cut.start
+    → AreTotals s.plan s.edits (64 * (s.horizon / 64)) (s.horizon + 1) new.totals.items
+    → begun.start ≡ road → begun.totals.items ≡ replicate (length s.plan.detectors) no_totals → more ≡ whole ++ new ∷ []
+    → (s.horizon + 1) % 64 ≡ 0 → IsRunOf (sheet_after_step s) more begun road
+step_to_end s whole more cut new begun last road is early next start totals first zeros all on =
     let many_more = length_push whole new in
     let end : s.horizon + 1 ≡ 64 * length whole + 64 = at_end (length whole) s.horizon is.begun is.not_ended on in
     let next_block : 64 * length (whole ++ new ∷ []) ≡ s.horizon + 1 = omega (arith, many_more, end) in
-    let full = counted s.plan s.edits (64 * length whole) s.horizon cut new is.begun is.cut start many more in
-    record {
+    let counted = subst (λ n. AreTotals s.plan s.edits n (s.horizon + 1) new.totals.items) (cut_start (length whole) s.horizon is.begun is.not_ended) totals in
+    let here : IsBlock s.plan s.edits (64 * length whole) (64 * length whole + 64) new = record { start = start ∙ is.cut.start; totals = subst (λ n. AreTotals s.plan s.edits (64 * length whole) n new.totals.items) end counted } in
+    rw all (record {
       sheet = later s is.sheet early;
       begun = omega (arith, next_block);
       not_ended = omega (arith, next_block);
       whole = λ k b g. elim (get_push whole new b k g) as (λ _. IsBlock s.plan s.edits (64 * k) (64 * k + 64) b) [
         | inl i ↦ is.whole k b i
-        | inr i ↦
-            let here : IsBlock s.plan s.edits (64 * length whole) (64 * length whole + 64) new = subst (λ n. IsBlock s.plan s.edits (64 * length whole) n new) end full in
-            subst (λ c. IsBlock s.plan s.edits (64 * k) (64 * k + 64) c) i.1 (subst (λ n. IsBlock s.plan s.edits (64 * n) (64 * n + 64) new) (sym i.0) here)
+        | inr i ↦ subst (λ c. IsBlock s.plan s.edits (64 * k) (64 * k + 64) c) i.1 (subst (λ n. IsBlock s.plan s.edits (64 * n) (64 * n + 64) new) (sym i.0) here)
       ];
-      cut = subst (λ n. IsBlock s.plan s.edits n (s.horizon + 1) begun) (sym next_block) (fresh s.plan s.edits (s.horizon + 1) begun (first ∙ next_road s road next) zeros);
-      last = next_road s road next;
-    }
+      cut = subst (λ n. IsBlock s.plan s.edits n (s.horizon + 1) begun) (sym next_block) (fresh s.plan s.edits (s.horizon + 1) begun (first ∙ next) zeros);
+      last = next;
+    })
   where
     at_end : (n h : ℕ) → 64 * n ≤ h → h < 64 * n + 64 → (h + 1) % 64 ≡ 0 → h + 1 ≡ 64 * n + 64
     at_end n h a b c = omega (arith, a, b, c)
+
+-- the same, by the sheet that contracts see
+pub ends_block : (s now : Sheet) (h : ℕ) (whole more : List Block) (cut new begun : Block) (last road : Array) → IsRunOf s whole cut last → s ≡ now → now.horizon < GREATEST_HORIZON → road ≡ run_at now.plan now.edits (now.horizon + 1)
+    → AreTotals now.plan now.edits (64 * (now.horizon / 64)) (now.horizon + 1) new.totals.items → (now.horizon + 1) % 64 ≡ 0 → h ≡ now.horizon → begun.totals.items ≡ replicate (length now.plan.detectors) no_totals
+    → new.start ≡ cut.start → begun.start ≡ road → more ≡ whole ++ new ∷ [] → IsRunOf (record { plan = s.plan; edits = s.edits; horizon = h + 1 }) more begun road
+ends_block s now h whole more cut new begun last road is view early next totals on same zeros start first all =
+    subst
+    (λ (x : Sheet). x.horizon < GREATEST_HORIZON → road ≡ run_at x.plan x.edits (x.horizon + 1) → AreTotals x.plan x.edits (64 * (x.horizon / 64)) (x.horizon + 1) new.totals.items → (x.horizon + 1) % 64 ≡ 0 → h ≡ x.horizon
+        → begun.totals.items ≡ replicate (length x.plan.detectors) no_totals → IsRunOf (record { plan = s.plan; edits = s.edits; horizon = h + 1 }) more begun road) view
+    (λ e n t o k z. subst (λ (u : ℕ). IsRunOf (record { plan = s.plan; edits = s.edits; horizon = u + 1 }) more begun road) (sym k) (step_to_end s whole more cut new begun last road is e n start t first z all o)) early next totals on same zeros
+
+-- the totals of the cut block
+pub cut_totals : (s t : Sheet) (whole : List Block) (cut : Block) (last : Array) → IsRunOf s whole cut last → s ≡ t → AreTotals t.plan t.edits (64 * (t.horizon / 64)) t.horizon cut.totals.items
+cut_totals s t whole cut last is same =
+    subst (λ (x : Sheet). AreTotals x.plan x.edits (64 * (x.horizon / 64)) x.horizon cut.totals.items) same
+    (subst (λ n. AreTotals s.plan s.edits n s.horizon cut.totals.items) (sym (cut_start (length whole) s.horizon is.begun is.not_ended)) is.cut.totals)
 
 -- ---- other edits with the same run
 
@@ -130,17 +140,13 @@ same_less p s t h k l same = record {
   total = λ d a b m. same.total d a b (omega (arith, l, m));
 }
 
-pub copied : (p : Plan) (e : Edits) (a h : ℕ) (b c : Block) → c.start ≡ b.start → c.totals.items ≡ b.totals.items → IsBlock p e a h b → IsBlock p e a h c
-copied p e a h b c start totals is = record {
-  start = start ∙ is.start;
-  each = ap (λ (xs : List Totals). length xs) totals ∙ is.each;
-  totals = λ d l. ap (λ (xs : List Totals). slice_index_or xs d no_totals) totals ∙ is.totals d l;
-}
+copied : (p : Plan) (e : Edits) (a h : ℕ) (b c : Block) → c.start ≡ b.start → c.totals.items ≡ b.totals.items → IsBlock p e a h b → IsBlock p e a h c
+copied p e a h b c start totals is = record { start = start ∙ is.start; totals = subst (AreTotals p e a h) (sym totals) is.totals }
 
 abbrev with_edits : Sheet → Edits → ℕ → Sheet
 with_edits s t h = record { plan = s.plan; edits = t; horizon = h }
 
-pub went_on : (s : Sheet) (t : Edits) (whole shared : List Block) (cut new : Block) (last road : Array) → IsRunOf s whole cut last → AreWinners t → AreInRange s.plan t → GiveSameRun s.plan s.edits t s.horizon
+went_on : (s : Sheet) (t : Edits) (whole shared : List Block) (cut new : Block) (last road : Array) → IsRunOf s whole cut last → AreWinners t → AreInRange s.plan t → GiveSameRun s.plan s.edits t s.horizon
     → shared ≡ whole → new.start ≡ cut.start → new.totals.items ≡ cut.totals.items → road ≡ last → IsRunOf (with_edits s t s.horizon) shared new road
 went_on s t whole shared cut new last road is won fits same all start totals at = rw all (record {
   sheet = record { winners = won; in_range = fits; within_limit = is.sheet.within_limit };
@@ -151,7 +157,7 @@ went_on s t whole shared cut new last road is won fits same all start totals at 
   last = at ∙ is.last ∙ same.state s.horizon (omega arith);
 })
 
-pub went_back : (s : Sheet) (t : Edits) (m : ℕ) (whole shared : List Block) (cut new : Block) (last road : Array) → IsRunOf s whole cut last → AreWinners t → AreInRange s.plan t → 64 * m ≤ s.horizon → GiveSameRun s.plan s.edits t (64 * m)
+went_back : (s : Sheet) (t : Edits) (m : ℕ) (whole shared : List Block) (cut new : Block) (last road : Array) → IsRunOf s whole cut last → AreWinners t → AreInRange s.plan t → 64 * m ≤ s.horizon → GiveSameRun s.plan s.edits t (64 * m)
     → shared ≡ take m whole → road ≡ run_at s.plan s.edits (64 * m) → new.start ≡ road → new.totals.items ≡ replicate (length s.plan.detectors) no_totals → IsRunOf (with_edits s t (64 * m)) shared new road
 went_back s t m whole shared cut new last road is won fits below same some at start zeros =
     let n = is.not_ended in
@@ -166,6 +172,27 @@ went_back s t m whole shared cut new last road is won fits below same some at st
       cut = subst (λ x. IsBlock s.plan t (64 * x) (64 * m) new) (sym many) (fresh s.plan t (64 * m) new (start ∙ here) zeros);
       last = here;
     })
+
+-- a sheet by its parts
+sheet_of : (now : Sheet) (t : Edits) (p : Plan) (h k : ℕ) → p ≡ now.plan → h ≡ k → record { plan = p; edits = t; horizon = h } ≡ with_edits now t k
+sheet_of now t p h k plan same = λ i. record { plan = plan i; edits = t; horizon = same i }
+
+-- other edits that give the same run up to the horizon: all blocks stay
+pub stays_whole : (s now : Sheet) (t : Edits) (p : Plan) (h : ℕ) (whole shared : List Block) (cut new : Block) (last road : Array) → IsRunOf s whole cut last → s ≡ now → AreWinners t → AreInRange now.plan t
+    → GiveSameRun now.plan now.edits t now.horizon → p ≡ now.plan → h ≡ now.horizon → shared ≡ whole → new.start ≡ cut.start → new.totals.items ≡ cut.totals.items → road ≡ last
+    → IsRunOf (record { plan = p; edits = t; horizon = h }) shared new road
+stays_whole s now t p h whole shared cut new last road is view win fit same plan horizon all start totals at =
+    subst (λ (x : Sheet). IsRunOf x shared new road) (sym (sheet_of now t p h now.horizon plan horizon))
+    (went_on now t whole shared cut new last road (subst (λ (x : Sheet). IsRunOf x whole cut last) view is) win fit same all start totals at)
+
+-- other edits that give the same run up to the first step of a block: the blocks before it stay
+pub stays_below : (s now : Sheet) (t : Edits) (p : Plan) (h m : ℕ) (whole shared : List Block) (cut new : Block) (last road : Array) → IsRunOf s whole cut last → s ≡ now → AreWinners t → AreInRange now.plan t
+    → 64 * m ≤ now.horizon → GiveSameRun now.plan now.edits t (64 * m) → p ≡ now.plan → h ≡ 64 * m → shared ≡ take m whole → road ≡ run_at now.plan now.edits (64 * m) → new.start ≡ road
+    → new.totals.items ≡ replicate (length p.detectors) no_totals → IsRunOf (record { plan = p; edits = t; horizon = h }) shared new road
+stays_below s now t p h m whole shared cut new last road is view win fit below same plan horizon some at start zeros =
+    subst (λ (x : Sheet). IsRunOf x shared new road) (sym (sheet_of now t p h (64 * m) plan horizon))
+    (went_back now t m whole shared cut new last road (subst (λ (x : Sheet). IsRunOf x whole cut last) view is) win fit below same some at start
+    (zeros ∙ ap (λ (x : Plan). replicate (length x.detectors) no_totals) plan))
 
 -- ---- the opening sheet
 

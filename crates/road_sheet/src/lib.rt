@@ -2,11 +2,13 @@
 #![tactic(auto)]
 
 mod block;
+mod draft;
 mod faults;
 mod sheet;
 pub mod simulation;
 
 pub use block::{BLOCK_STEPS, Block};
+pub use draft::Draft;
 pub use faults::SheetFault;
 pub use sheet::Sheet;
 /// Want of memory, answered only where a growth was refused.

@@ -1,4 +1,4 @@
-ghost use Rattle.std.specs.Prelude.{◌≡◌, ◌<◌, ◌≤◌, ◌+◌, ◌*◌, IfOk, IfErr, OnErr, OnOk, None, length, map, min, take};
+ghost use Rattle.std.specs.Prelude.{◌≡◌, ◌≢◌, ◌<◌, ◌≤◌, ◌+◌, ◌*◌, ◌/◌, ◌%◌, IfOk, IfErr, OnErr, OnOk, None, length, map, min, take};
 ghost use Rattle.std.specs.Arc.{arc_value};
 ghost use Rattle.road_plan.specs.declared.limits.TheConstants.{GREATEST_HORIZON};
 ghost use Rattle.road_ends.specs.Input.{input_speeds};
@@ -6,14 +6,16 @@ ghost use Rattle.road_scenario.specs.Faults.{AreInRange};
 ghost use Rattle.road_scenario.specs.Touched.{touched};
 ghost use Rattle.road_scenario.specs.Winners.{AreWinners, join};
 ghost use Rattle.road_sheet.specs.Drafts.{IsUpTo, draft_start};
-ghost use Rattle.road_sheet.specs.Private.Blocks.{IsBlock, GiveSameRun};
+ghost use Rattle.road_sheet.specs.Private.Blocks.{AreTotals, IsBlock, GiveSameRun};
 ghost use Rattle.road_sheet.specs.Sheets.{IsSheet, IsRefusalBy, opening_sheet, state_of, state_fault, total_of, totals_fault, next_input, sheet_after_step};
 
 use crate::block::{BLOCK_STEPS, Block};
+use crate::draft::Draft;
 use crate::faults::SheetFault;
 use crate::simulation::{State, run_on, totals_between};
 use lattice_core::both::Both;
 use lattice_core::greatest::Greatest;
+use lattice_core::lattice::Lattice;
 use road_cells::Road;
 use road_detector::Totals;
 use road_detector::laws::{cars_pass_one_by_one, totals_are_bounded};
@@ -21,6 +23,7 @@ use road_ends::laws::runs_depend_on_earlier_settings;
 use road_ends::{StepInput, enter, finish};
 use road_plan::{OutOfMemory, Plan};
 use road_scenario::Scenario;
+use road_scenario::laws::settings_stay_before_touched;
 use std::alloc::Global;
 use std::marker::Model;
 use std::sync::Arc;
@@ -247,6 +250,189 @@ impl Sheet {
         let (totals, _) =
             totals_between(alloc, &self.plan, &self.known.first, state, detector, to)?;
         Ok(totals)
+    }
+
+    /// The run of this sheet's edits with a scenario joined in, as far as it is there already: a draft that goes on from
+    /// the horizon where that is `keep`, and else from the first step of the block of `keep`.
+    ///
+    /// The scenario must fit the plan; `keep` must not be above the horizon, nor above the first step at which the joined
+    /// scenario puts other numbers.
+    ///
+    /// # Errors
+    ///
+    /// `OutOfMemory` where a growth was refused, or a block can have no more owners.
+    pub fn draft(&self, alloc: Global, scenario: &Scenario, keep: u32) -> Result<Draft, OutOfMemory>
+        requires fits { AreInRange self.now.plan scenario.now }
+        requires simulated { keep ≤ self.now.horizon }
+        requires untouched { IsUpTo (touched self.now.edits (join self.now.edits scenario.now)) keep }
+        ensures { IfOk result (λ draft. draft ≡ record {
+            plan = self.now.plan; edits = join self.now.edits scenario.now; horizon = draft_start self.now.horizon keep }) }
+    {
+        self.known();
+        let joined = self.known.first.joined(scenario)?;
+        self.draft_of(alloc, joined, keep)
+    }
+
+    /// As [`Sheet::draft`], for a scenario that is joined already.
+    ///
+    /// # Errors
+    ///
+    /// `OutOfMemory` where a growth was refused, or a block can have no more owners.
+    pub fn draft_of(&self, alloc: Global, joined: Scenario, keep: u32) -> Result<Draft, OutOfMemory>
+        requires fits { AreInRange self.now.plan joined }
+        requires simulated { keep ≤ self.now.horizon }
+        requires untouched { IsUpTo (touched self.now.edits joined) keep }
+        ensures { IfOk result (λ draft. draft ≡ record {
+            plan = self.now.plan; edits = joined; horizon = draft_start self.now.horizon keep }) }
+    {
+        joined.known();
+        settings_stay_before_touched();
+        runs_depend_on_earlier_settings(&self.plan);
+        let sheet = if keep == self.horizon() {
+            self.going_on(alloc, joined)?
+        } else {
+            self.cut_back(alloc, joined, keep / BLOCK_STEPS)?
+        };
+        Ok(Draft { sheet })
+    }
+
+    // The sheet with other edits, which give the same run up to the horizon.
+    fn going_on(&self, alloc: Global, scenario: Scenario) -> Result<Sheet, OutOfMemory>
+        requires winners { AreWinners scenario }
+        requires fits { AreInRange self.now.plan scenario }
+        requires same { GiveSameRun self.now.plan self.now.edits scenario self.now.horizon }
+        ensures { IfOk result (λ sheet. sheet ≡ record {
+            plan = self.now.plan; edits = scenario; horizon = self.now.horizon }) }
+    {
+        let whole = shared(alloc, &self.whole, self.whole.len())?;
+        let cut = self.cut.copied()?;
+        let last = self.last.copied()?;
+        let plan = Arc::try_clone(&self.plan)?;
+        let known = Both {
+            first: scenario,
+            second: Greatest::Of(self.horizon()),
+        };
+        Ok(Sheet {
+            plan,
+            known,
+            whole,
+            cut,
+            last,
+        })
+    }
+
+    // The sheet with other edits, which give the same run up to the first step of a block; that step is its horizon.
+    fn cut_back(&self, alloc: Global, scenario: Scenario, block: u32) -> Result<Sheet, OutOfMemory>
+        requires winners { AreWinners scenario }
+        requires fits { AreInRange self.now.plan scenario }
+        requires simulated { BLOCK_STEPS * block ≤ self.now.horizon }
+        requires same { GiveSameRun self.now.plan self.now.edits scenario (BLOCK_STEPS * block) }
+        ensures { IfOk result (λ sheet. sheet ≡ record {
+            plan = self.now.plan; edits = scenario; horizon = BLOCK_STEPS * block }) }
+    {
+        let start = &self.block(block as usize).start;
+        let last = start.copied()?;
+        let cut = Block::begin(alloc, start.copied()?, self.plan.detectors().len())?;
+        let whole = shared(alloc, &self.whole, block as usize)?;
+        let plan = Arc::try_clone(&self.plan)?;
+        let known = Both {
+            first: scenario,
+            second: Greatest::Of(block * BLOCK_STEPS),
+        };
+        Ok(Sheet {
+            plan,
+            known,
+            whole,
+            cut,
+            last,
+        })
+    }
+
+    // The input of the next step.
+    pub(crate) fn next_input(&self, alloc: Global) -> Result<Arc<StepInput>, OutOfMemory>
+        ensures { IfOk result (λ input. arc_value input ≡ next_input self.now) }
+    {
+        self.known();
+        let step = self.horizon();
+        let settings = self.known.first.settings_at(alloc, &self.plan, step)?;
+        enter(alloc, &self.plan, settings, step, &self.last)
+    }
+
+    // A step more. What can fail for memory is done before the sheet is changed.
+    pub(crate) fn grow(
+        &mut self,
+        alloc: Global,
+        input: &StepInput,
+        speeds: &[u8],
+    ) -> Result<(), OutOfMemory>
+        requires input { input.now ≡ next_input self.old }
+        requires speeds { speeds.now ≡ input_speeds input.now }
+        requires within_limit { self.old.horizon < GREATEST_HORIZON }
+        ensures grown { OnOk result (self.new ≡ sheet_after_step self.old) }
+        ensures unchanged { OnErr result (self.new ≡ self.old) }
+    {
+        let road = finish(alloc, input, speeds)?;
+        let totals = self.totals_after(alloc, input, speeds)?;
+        if (self.horizon() + 1) % BLOCK_STEPS == 0 {
+            return self.step_to_end(alloc, road, totals);
+        }
+        self.step_within(road, totals);
+        Ok(())
+    }
+
+    // What each detector counts in the block that the horizon cuts, with a step more.
+    fn totals_after(
+        &self,
+        alloc: Global,
+        input: &StepInput,
+        speeds: &[u8],
+    ) -> Result<Vec<Totals>, OutOfMemory>
+        requires input { input.now ≡ next_input self.now }
+        requires speeds { speeds.now ≡ input_speeds input.now }
+        requires within_limit { self.now.horizon < GREATEST_HORIZON }
+        ensures { IfOk result (λ totals. AreTotals self.now.plan self.now.edits
+            (BLOCK_STEPS * (self.now.horizon / BLOCK_STEPS)) (self.now.horizon + 1) totals.items) }
+    {
+        cars_pass_one_by_one(&self.plan);
+        totals_are_bounded(&self.plan);
+        let totals = self.cut.totals_after(alloc, input, speeds)?;
+        Ok(totals)
+    }
+
+    // A step more that does not end the block.
+    fn step_within(&mut self, road: Road, totals: Vec<Totals>)
+        requires within_limit { self.old.horizon < GREATEST_HORIZON }
+        requires within_block { (self.old.horizon + 1) % BLOCK_STEPS ≢ 0 }
+        requires road { road ≡ state_of self.old (self.old.horizon + 1) }
+        requires totals { AreTotals self.old.plan self.old.edits
+            (BLOCK_STEPS * (self.old.horizon / BLOCK_STEPS)) (self.old.horizon + 1) totals.items }
+        ensures { self.new ≡ sheet_after_step self.old }
+    {
+        let horizon = self.horizon() + 1;
+        self.cut.totals = totals;
+        self.last = road;
+        self.known.second = Greatest::Of(horizon);
+    }
+
+    // A step more that ends the block.
+    fn step_to_end(&mut self, alloc: Global, road: Road, totals: Vec<Totals>) -> Result<(), OutOfMemory>
+        requires within_limit { self.old.horizon < GREATEST_HORIZON }
+        requires at_end { (self.old.horizon + 1) % BLOCK_STEPS ≡ 0 }
+        requires road { road ≡ state_of self.old (self.old.horizon + 1) }
+        requires totals { AreTotals self.old.plan self.old.edits
+            (BLOCK_STEPS * (self.old.horizon / BLOCK_STEPS)) (self.old.horizon + 1) totals.items }
+        ensures grown { OnOk result (self.new ≡ sheet_after_step self.old) }
+        ensures unchanged { OnErr result (self.new ≡ self.old) }
+    {
+        let horizon = self.horizon() + 1;
+        let next = Block::begin(alloc, road.copied()?, self.plan.detectors().len())?;
+        let start = self.cut.start.copied()?;
+        let block = Arc::new(alloc, Block { start, totals })?;
+        self.whole.push(block)?;
+        self.cut = next;
+        self.last = road;
+        self.known.second = Greatest::Of(horizon);
+        Ok(())
     }
 }
 

@@ -6,16 +6,21 @@ use Rattle.road_plan.specs.Plan.{Plan}
 use Rattle.road_cells.specs.Array.{Array}
 use Rattle.road_scenario.specs.Edits.{Edits}
 use Rattle.road_detector.specs.Passes.{no_totals}
+use Rattle.road_detector.specs.declared.counts.Totals.{Totals}
 use Rattle.road_sheet.specs.Sheets.{Sheet, IsSheet}
 use Rattle.road_sheet.specs.Shown.{run_at, total_at}
 use Rattle.road_sheet.specs.declared.block.Block.{Block}
 use Rattle.road_sheet.specs.declared.block.TheConstants.{BLOCK_STEPS}
 
+-- what each detector counts in the steps from a up to b
+pub record AreTotals (plan : Plan) (edits : Edits) (a b : ℕ) (totals : List Totals) : Type 0 where
+  pub each : length totals ≡ length plan.detectors
+  pub counted : (d : ℕ) → d < length plan.detectors → slice_index_or totals d no_totals ≡ total_at plan edits d a b
+
 -- a block of the steps from a up to b: the road at a, and what each detector counts in these steps
 pub record IsBlock (plan : Plan) (edits : Edits) (a b : ℕ) (block : Block) : Type 0 where
   pub start : block.start ≡ run_at plan edits a
-  pub each : length block.totals.items ≡ length plan.detectors
-  pub totals : (d : ℕ) → d < length plan.detectors → slice_index_or block.totals.items d no_totals ≡ total_at plan edits d a b
+  pub totals : AreTotals plan edits a b block.totals.items
 
 -- a sheet's run: a block for each BLOCK_STEPS steps up to the horizon, the block that the horizon cuts, and the road at the
 -- horizon
