@@ -1,7 +1,7 @@
-ghost use Rattle.std.specs.Prelude.{◌≡◌, ◌<◌, ◌≤◌, length};
+ghost use Rattle.std.specs.Prelude.{◌≡◌, ◌<◌, ◌≤◌, ◌+◌, ◌^◌, length};
 ghost use Rattle.road_plan.specs.declared.limits.TheConstants.{GREATEST_LENGTH};
 ghost use Rattle.road_cells.specs.Cars.{cars_of};
-ghost use Rattle.road_detector.specs.Passes.{totals_of, drives, passes_at};
+ghost use Rattle.road_detector.specs.Passes.{totals_of, drives, passes_at, plus};
 
 use road_cells::Road;
 use road_ends::StepInput;
@@ -13,6 +13,21 @@ pub struct Totals {
     pub cars: u32,
     /// The sum of their speeds, in cells per step.
     pub speeds: u32,
+}
+
+impl Totals {
+    /// These totals and those of further steps, in one. No sum of a run overflows up to step 65,536
+    /// ([`crate::laws::totals_are_bounded`]). It takes no memory.
+    pub fn plus(self, later: Totals) -> Totals
+        requires cars { self.cars + later.cars < 2 ^ 32 }
+        requires speeds { self.speeds + later.speeds < 2 ^ 32 }
+        ensures { result ≡ plus self later }
+    {
+        Totals {
+            cars: self.cars + later.cars,
+            speeds: self.speeds + later.speeds,
+        }
+    }
 }
 
 /// What a detector counts in a step: the cars that stand before its site and come to it or past it, those that are then

@@ -31,7 +31,8 @@ use Rattle.road_format.specs.PlanGrammar.{PlanLine}
 use Rattle.road_format.specs.Replies as replies
 use Rattle.road_format.specs.Replies.{Answer, Refused}
 use Rattle.road_format.specs.declared.refusal.Refusal.TheVariants as refusals
-use Rattle.road_keeper.specs.Laboratory.{Deed, Made, Advanced, Event, Replica, opening, after_deed, replica_after, replica_of, local_edit, unless_faulty, fault_or_stamp, row_at, rows_at, cars_at, cars_answer, counted_as, total_at, count_answer, is_out_of_range, diagram_answer, edit_event, advance_event, event_of, edit_answer, advance_answer, cells_answer, scenario_answer, answer_by, answer_to, with_event, events_after}
+use Rattle.road_sheet.specs.Shown.{row_at, rows_at, total_at}
+use Rattle.road_keeper.specs.Laboratory.{Deed, Made, Advanced, Event, Replica, opening, after_deed, replica_after, replica_of, local_edit, unless_faulty, fault_or_stamp, cars_at, cars_answer, counted_as, count_answer, is_out_of_range, diagram_answer, edit_event, advance_event, event_of, edit_answer, advance_answer, cells_answer, scenario_answer, answer_by, answer_to, with_event, events_after}
 use Rattle.road_keeper.specs.Kept.{Kept, start, kept_replica, kept_answer, kept_deed, kept_event, kept_after}
 
 -- ---- one replica

@@ -1,4 +1,3 @@
 pub mod Numbered
-pub mod Stepping
 pub mod Replicas
 pub mod KeptAnswers

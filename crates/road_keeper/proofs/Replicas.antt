@@ -22,8 +22,8 @@ use Rattle.road_detector.specs.declared.counts.Totals.{Totals}
 use Rattle.road_keeper.specs.Keeping.{seen, IsOfRun, IsKept}
 use Rattle.road_keeper.specs.Kept.{Kept, kept_replica, kept_event}
 use Rattle.road_keeper.specs.Laboratory as laboratory
-use Rattle.road_keeper.specs.Laboratory.{Made, Advanced, opening, replica_of, advance_event, row_at, counted_as, total_at, count_answer, scenario_answer}
-use Rattle.road_keeper.specs.Simulation.{run_at}
+use Rattle.road_keeper.specs.Laboratory.{Made, Advanced, opening, replica_of, advance_event, counted_as, count_answer, scenario_answer}
+use Rattle.road_sheet.specs.Shown.{run_at, row_at, total_at}
 use Rattle.road_keeper.specs.declared.keeper.Replica.{Replica}
 
 -- what is kept, as it is seen

@@ -6,7 +6,7 @@ use Rattle.road_plan.specs.declared.limits.TheConstants.{MOST_REPLICAS, GREATEST
 use Rattle.road_scenario.specs.Faults.{AreInRange}
 use Rattle.road_scenario.specs.Winners.{winners}
 use Rattle.road_keeper.specs.Laboratory as laboratory
-use Rattle.road_keeper.specs.Simulation.{run_at}
+use Rattle.road_sheet.specs.Shown.{run_at}
 use Rattle.road_keeper.specs.declared.keeper.Replica.{Replica}
 
 -- the edits and the horizon of a replica

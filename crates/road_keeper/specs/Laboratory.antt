@@ -1,6 +1,6 @@
 -- The replicas of a laboratory: what happens at them, and what is answered.
 use Rattle.std.specs.Prelude.{ℕ, suc, ◌-◌, ◌==◌, ◌||◌, ◌∷◌, Bool, not, List, [], length, map, max, nat_lt, if◌then◌else◌, Option, Some, None}
-use Rattle.std.specs.List.{position, range_with_len}
+use Rattle.std.specs.List.{position}
 use Rattle.std.specs.Str.{bytes_eq}
 use Rattle.lattice_core.specs.Sets.{empty, union, items, from_list}
 use Rattle.road_plan.specs.Plan.{Plan}
@@ -9,7 +9,6 @@ use Rattle.road_plan.specs.declared.limits.TheConstants.{GREATEST_HORIZON, MOST_
 use Rattle.road_scenario.specs.Counts.{greatest_count}
 use Rattle.road_scenario.specs.Edits.{Edits}
 use Rattle.road_scenario.specs.Faults.{fault_of}
-use Rattle.road_scenario.specs.Settings.{settings_of}
 use Rattle.road_scenario.specs.Winners.{winners}
 use Rattle.road_scenario.specs.declared.edit.Edit.{Edit}
 use Rattle.road_scenario.specs.declared.edit.Value.{Value}
@@ -17,10 +16,8 @@ use Rattle.road_scenario.specs.declared.edit.Value.TheVariants.{Withdrawn, Put}
 use Rattle.road_scenario.specs.declared.faults.EditFault.{EditFault}
 use Rattle.road_scenario.specs.declared.faults.EditFault.TheVariants as edit_faults
 use Rattle.road_cells.specs.Cars.{cars_of}
-use Rattle.road_ends.specs.Row.{row}
-use Rattle.road_ends.specs.Run.{run}
-use Rattle.road_detector.specs.Passes.{total}
 use Rattle.road_detector.specs.declared.counts.Totals.{Totals}
+use Rattle.road_sheet.specs.Shown.{run_at, row_at, rows_at, total_at}
 use Rattle.road_format.specs.CommandGrammar as commands
 use Rattle.road_format.specs.CommandGrammar.{Command}
 use Rattle.road_format.specs.PlanGrammar.{PlanLine}
@@ -115,14 +112,6 @@ event_of replica line (commands.Scenario name) = None
 
 -- ---- answers, by the replicas before the command; refusals in their order
 
--- the row of a step of the run from step zero, by the settings that these edits give
-unfoldable pub row_at : Plan → Edits → ℕ → List ℕ
-row_at plan edits step = row plan (settings_of plan edits) step
-
--- the rows of the steps from one to another, both of them
-abbrev pub rows_at : Plan → Edits → ℕ → ℕ → List (List ℕ)
-rows_at plan edits from to = map (row_at plan edits) (range_with_len from (suc to - from))
-
 -- an edit is answered its stamp, a faulty one its refusal
 abbrev pub fault_or_stamp : Option EditFault → Edit → Answer
 fault_or_stamp (Some fault) edit = Refused (refusal_of fault)
@@ -148,7 +137,7 @@ cells_answer replica plan step (Some r) =
 
 -- the cars of a step of the run: number, cell, speed, in rising cells
 abbrev pub cars_at : Plan → Edits → ℕ → List (ℕ × ℕ × ℕ)
-cars_at plan edits step = map (λ car. (car.number, car.cell, car.speed)) (cars_of (run plan (settings_of plan edits) step))
+cars_at plan edits step = map (λ car. (car.number, car.cell, car.speed)) (cars_of (run_at plan edits step))
 
 -- `cars` answers the cars of a step up to the horizon
 abbrev pub cars_answer : (ℕ → Replica) → Plan → ℕ → Option ℕ → Answer
@@ -160,11 +149,7 @@ cars_answer replica plan step (Some r) =
 abbrev pub counted_as : Totals → Answer
 counted_as totals = replies.Counted totals.cars totals.speeds
 
--- what a detector counts in the steps from one up to another
-abbrev pub total_at : Plan → Edits → ℕ → ℕ → ℕ → Totals
-total_at plan edits detector from to = total plan (settings_of plan edits) detector from to
-
--- `count` answers it, for steps up to the horizon
+-- `count` answers what a detector counts in the steps from one up to another, for steps up to the horizon
 abbrev pub count_answer : (ℕ → Replica) → Plan → ℕ → ℕ → ℕ → Option ℕ → Answer
 count_answer replica plan detector from to None = Refused refusals.NoReplica
 count_answer replica plan detector from to (Some r) =

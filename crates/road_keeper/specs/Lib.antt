@@ -1,4 +1,3 @@
 pub mod Laboratory
-pub mod Simulation
 pub mod Keeping
 pub mod Kept

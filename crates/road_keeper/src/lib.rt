@@ -4,6 +4,5 @@
 
 mod keeper;
 mod names;
-mod simulation;
 
 pub use keeper::Keeper;

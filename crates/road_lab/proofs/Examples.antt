@@ -19,7 +19,7 @@ use Rattle.road_format.specs.Cut.{newline, pieces_with_byte, pieces_of}
 use Rattle.road_format.proofs.OnLiterals.{road_format_on_literals}
 use Rattle.road_format.specs.Replies.{Open, Refused, Horizon, Cells as CellsReply, reply}
 use Rattle.road_format.specs.declared.refusal.Refusal.TheVariants as refusals
-use Rattle.road_keeper.specs.Laboratory.{row_at}
+use Rattle.road_sheet.specs.Shown.{row_at}
 use Rattle.road_lab.specs.Answers.{is_long, replies, answers_within}
 
 -- a road of 12 cells whose cars are never slowed by chance, and three replicas

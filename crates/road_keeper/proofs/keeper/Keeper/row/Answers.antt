@@ -1,7 +1,7 @@
 use Rattle.std.specs.Arc.{arc_value}
 use Rattle.std.proofs.Common.{◌≡◌, ◌∙◌, ℕ, List, ap, refl, subst, string_bytes}
 use Rattle.std.specs.Prelude.{IfOk}
-use Rattle.road_keeper.specs.Laboratory.{row_at}
+use Rattle.road_sheet.specs.Shown.{row_at}
 use Rattle.road_keeper.proofs.Replicas.{kept_below, row_same, unchanged}
 use Rattle.road_keeper.proofs.keeper.Keeper.row.Goals as goal
 

@@ -1,6 +1,6 @@
 use Rattle.std.proofs.Common.{◌∙◌, ℕ, ap, sym, refl}
 use Rattle.std.specs.Arc.{arc_value}
-use Rattle.road_keeper.specs.Laboratory.{total_at}
+use Rattle.road_sheet.specs.Shown.{total_at}
 use Rattle.road_keeper.proofs.Replicas.{kept_below, read_same, state_of_run, unchanged, both_read}
 use Rattle.road_keeper.proofs.keeper.Keeper.totals.Goals as goal
 

@@ -1,8 +1,0 @@
-use Rattle.std.proofs.Common.{◌≡◌}
-use Rattle.std.specs.Arc.{arc_value}
-use Rattle.road_keeper.specs.Simulation.{run_at}
-use Rattle.road_keeper.proofs.simulation.run_on.Given as goal
-
--- the road is that of the step that is to come
-abbrev pub invariant-loop-now : goal.invariant-loop-now
-invariant-loop-now l = l.road ≡ run_at (arc_value l.plan) l.scenario l.now

@@ -1,0 +1,53 @@
+-- A sheet that takes edits and goes on, and how many steps that costs.
+use Rattle.std.specs.Prelude.{◌≡◌, ◌≤◌, ◌+◌, ◌-◌, ◌^◌, ℕ, zero, suc, min, max, nat_lt, if◌then◌else◌}
+use Rattle.std.specs.declared.option.Option.{Option}
+use Rattle.std.specs.declared.option.Option.TheVariants.{None, Some}
+use Rattle.road_scenario.specs.Edits.{Edits}
+use Rattle.road_scenario.specs.Touched.{touched}
+use Rattle.road_scenario.specs.Winners.{join}
+use Rattle.road_workers.specs.declared.faults.CrewFault.{CrewFault}
+use Rattle.road_workers.specs.declared.faults.CrewFault.TheVariants as crew
+use Rattle.road_sheet.specs.Commands.{Take, Advance, sheet_after}
+use Rattle.road_sheet.specs.Sheets.{Sheet}
+use Rattle.road_rewind.specs.declared.faults.GrownFault.{GrownFault}
+use Rattle.road_rewind.specs.declared.faults.GrownFault.TheVariants.{WorkersGone, OutOfMemory}
+
+-- the sheet with edits joined in, simulated at least up to a step
+abbrev pub grown : Sheet → Edits → ℕ → Sheet
+grown s edits to = sheet_after (Advance to) (sheet_after (Take edits) s)
+
+-- the first step at which edits, joined into a sheet's, put other numbers
+abbrev pub touched_step : Sheet → Edits → Option ℕ
+touched_step s edits = touched s.edits (join s.edits edits)
+
+-- up to which step a run stays right: up to the horizon or the touched step, whichever is earlier
+abbrev pub kept_step : ℕ → Option ℕ → ℕ
+kept_step horizon None = horizon
+kept_step horizon (Some touched) = min horizon touched
+
+-- how many steps may be computed up to a step: those after the horizon where no simulated step is touched; else those from
+-- the touched step on, and at most 63 before it
+abbrev pub most_steps : ℕ → ℕ → Option ℕ → ℕ
+most_steps horizon to None = to - horizon
+most_steps horizon to (Some touched) = if nat_lt touched horizon then to - touched + 63 else to - horizon
+
+-- the count of a meter after some ticks: each adds one, and one at the greatest u64 stays there
+abbrev pub meter_after : ℕ → ℕ → ℕ
+meter_after meter zero = meter
+meter_after meter (suc ticks) = min (meter_after meter ticks + 1) (2 ^ 64 - 1)
+
+-- a meter has ticked so often at most
+pub record TicksAtMost (most meter later : ℕ) : Type 0 where
+  pub ticks : ℕ
+  pub few : ticks ≤ most
+  pub counted : later ≡ meter_after meter ticks
+
+-- how often a crew has answered `WorkersGone`, after such a refusal of a growth
+abbrev pub gone_after_fault : GrownFault → ℕ → ℕ
+gone_after_fault WorkersGone n = min (n + 1) (2 ^ 64 - 1)
+gone_after_fault OutOfMemory n = n
+
+-- the refusal of a growth, where a crew refuses
+abbrev pub growth_fault : CrewFault → GrownFault
+growth_fault crew.WorkersGone = WorkersGone
+growth_fault crew.OutOfMemory = OutOfMemory

@@ -1,0 +1,36 @@
+ghost use Rattle.std.specs.Prelude.{◌≡◌};
+ghost use Rattle.road_rewind.specs.Growth.{growth_fault};
+ghost use Rattle.road_rewind.specs.declared.faults.GrownFault.TheVariants.{OutOfMemory};
+
+use road_workers::CrewFault;
+use std::alloc::AllocError;
+use thiserror::Error;
+
+/// Why a sheet has not grown.
+#[derive(Clone, Copy, Debug, PartialEq, Eq, Error)]
+pub enum GrownFault {
+    /// A worker's thread could not be started, or has gone.
+    #[error("a worker could not be started or has gone")]
+    WorkersGone,
+    /// There was no memory.
+    #[error("no memory")]
+    OutOfMemory,
+}
+
+impl From<AllocError> for GrownFault {
+    ghost from_gives = { λ _ fault. fault ≡ OutOfMemory };
+
+    fn from(_failed: AllocError) -> GrownFault {
+        GrownFault::OutOfMemory
+    }
+}
+
+// The refusal of a growth, where a crew refuses.
+pub(crate) fn growth_fault(fault: CrewFault) -> GrownFault
+    ensures { result ≡ growth_fault fault }
+{
+    match fault {
+        CrewFault::WorkersGone => GrownFault::WorkersGone,
+        CrewFault::OutOfMemory => GrownFault::OutOfMemory,
+    }
+}

@@ -1,0 +1,106 @@
+ghost use Rattle.std.specs.Prelude.{◌≡◌, ◌≤◌, ◌<◌, ◌-◌, max, IfOk, OnOk, OnErr, MatchResult};
+ghost use Rattle.road_plan.specs.declared.limits.TheConstants.{GREATEST_HORIZON};
+ghost use Rattle.road_scenario.specs.Faults.{AreInRange};
+ghost use Rattle.road_sheet.specs.Sheets.{IsAtMost, sheet_after_step};
+ghost use Rattle.road_rewind.specs.Growth.{grown, touched_step, kept_step, most_steps, meter_after, TicksAtMost, gone_after_fault};
+
+use crate::faults::{GrownFault, growth_fault};
+use crate::growth::Grown;
+use road_ends::Meter;
+use road_scenario::Scenario;
+use road_scenario::laws::winners_agree;
+use road_sheet::{Draft, Sheet};
+use road_workers::Crew;
+use std::alloc::Global;
+
+/// The sheet with a scenario joined in, simulated at least up to the step `to`: that of the joined scenario, at the greater
+/// of the old horizon and `to`. The old sheet stays as it is, and the new one shares with it each block that is right in
+/// both.
+///
+/// The scenario must fit the sheet's plan, and `to` must be at most 65,536. The meter counts each step that is computed:
+/// exactly those after the old horizon where no step below it is touched, and else at most those from the touched step on
+/// and 63 more.
+///
+/// # Errors
+///
+/// `WorkersGone` where the crew answers so, else `OutOfMemory` where a growth was refused. The meter has then counted no
+/// more than it would have.
+pub fn grown<C: Crew>(
+    alloc: Global,
+    sheet: &Sheet,
+    scenario: &Scenario,
+    to: u32,
+    crew: &mut C,
+    meter: &mut Meter,
+) -> Result<Grown, GrownFault>
+    requires fits { AreInRange sheet.now.plan scenario.now }
+    requires within_limit { to ≤ GREATEST_HORIZON }
+    ensures sheet { IfOk result (λ done. done.sheet ≡ grown sheet.now scenario.now to) }
+    ensures above { IfOk result (λ done. IsAtMost sheet.now done.sheet) }
+    ensures touched { IfOk result (λ done. done.touched ≡ touched_step sheet.now scenario.now) }
+    // Where no simulated step is touched, just the new steps are computed.
+    ensures new_steps { IfOk result (λ _. kept_step sheet.now.horizon (touched_step sheet.now scenario.now) ≡ sheet.now.horizon
+        → meter.new ≡ meter_after meter.old (max sheet.now.horizon to - sheet.now.horizon)) }
+    // Else, and where it is refused, at most so many.
+    ensures few_steps { TicksAtMost
+        (most_steps sheet.now.horizon (max sheet.now.horizon to) (touched_step sheet.now scenario.now)) meter.old meter.new }
+    ensures gone { MatchResult result (λ _. C.gone crew.new ≡ C.gone crew.old)
+        (λ fault. C.gone crew.new ≡ gone_after_fault fault (C.gone crew.old)) }
+{
+    sheet.known();
+    winners_agree();
+    let joined = sheet.scenario().joined(scenario)?;
+    let touched = sheet.scenario().touched(&joined);
+    let keep = kept_step(sheet.horizon(), touched);
+    let draft = sheet.draft_of(alloc, joined, keep)?;
+    let sheet = simulated(alloc, draft, sheet.horizon().max(to), crew, meter)?;
+    Ok(Grown { sheet, touched })
+}
+
+// Up to which step a run stays right.
+fn kept_step(horizon: u32, touched: Option<u32>) -> u32
+    ensures { result ≡ kept_step horizon touched }
+{
+    match touched {
+        None => horizon,
+        Some(step) => horizon.min(step),
+    }
+}
+
+// The sheet of a draft, simulated up to a step. The meter counts each step.
+fn simulated<C: Crew>(
+    alloc: Global,
+    mut draft: Draft,
+    to: u32,
+    crew: &mut C,
+    meter: &mut Meter,
+) -> Result<Sheet, GrownFault>
+    requires before { draft.horizon ≤ to }
+    requires within_limit { to ≤ GREATEST_HORIZON }
+    ensures sheet { IfOk result (λ sheet. sheet ≡ record draft { horizon = to }) }
+    ensures steps { IfOk result (λ _. meter.new ≡ meter_after meter.old (to - draft.horizon)) }
+    ensures few { TicksAtMost (to - draft.horizon) meter.old meter.new }
+    ensures gone { MatchResult result (λ _. C.gone crew.new ≡ C.gone crew.old)
+        (λ fault. C.gone crew.new ≡ gone_after_fault fault (C.gone crew.old)) }
+{
+    for step in draft.horizon()..to {
+        one_step(alloc, &mut draft, crew)?;
+        meter.tick();
+    }
+    Ok(draft.sheet())
+}
+
+// One step more.
+fn one_step<C: Crew>(alloc: Global, draft: &mut Draft, crew: &mut C) -> Result<(), GrownFault>
+    requires within_limit { draft.old.horizon < GREATEST_HORIZON }
+    ensures grown { OnOk result (draft.new ≡ sheet_after_step draft.old) }
+    ensures unchanged { OnErr result (draft.new ≡ draft.old) }
+    ensures gone { MatchResult result (λ _. C.gone crew.new ≡ C.gone crew.old)
+        (λ fault. C.gone crew.new ≡ gone_after_fault fault (C.gone crew.old)) }
+{
+    let input = draft.input(alloc)?;
+    match crew.speeds(alloc, &input) {
+        Ok(speeds) => Ok(draft.push(alloc, &input, &speeds)?),
+        Err(fault) => Err(growth_fault(fault)),
+    }
+}

@@ -1,0 +1,12 @@
+//! Late edits: a sheet takes edits and is simulated anew from where they act, and no earlier than 63 steps before.
+#![tactic(auto)]
+
+mod faults;
+mod growth;
+mod growing;
+
+pub use faults::GrownFault;
+pub use growth::Grown;
+pub use growing::grown;
+/// Want of memory, answered only where a growth was refused.
+pub use std::alloc::AllocError as OutOfMemory;

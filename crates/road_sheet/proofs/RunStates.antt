@@ -1,0 +1,28 @@
+-- The states of a run, one after another.
+use Rattle.std.proofs.Common.{◌≡◌, ◌+◌, ◌∙◌, ℕ, ap, sym}
+use Rattle.std.proofs.Math.Numerals.{add-one}
+use Rattle.road_plan.specs.Plan.{Plan}
+use Rattle.road_plan.specs.Settings.{Settings}
+use Rattle.road_cells.specs.Array.{Array}
+use Rattle.road_ends.specs.Input.{StepInput, input_of, input_next}
+use Rattle.road_ends.specs.Run.{road_after_step}
+use Rattle.road_scenario.specs.Edits.{Edits}
+use Rattle.road_scenario.specs.Settings.{settings_of}
+use Rattle.road_sheet.specs.Sheets.{Sheet, state_of, next_input}
+use Rattle.road_sheet.specs.Shown.{run_at}
+
+-- one step on from the road of a step is the road of the next
+pub step_more : (p : Plan) (edits : Edits) (settings : Settings) (t : ℕ) (road later : Array) → settings ≡ settings_of p edits t → road ≡ run_at p edits t → later ≡ road_after_step p settings t road → later ≡ run_at p edits (t + 1)
+step_more p edits settings t road later set is step =
+    step ∙ ap (λ (s : Settings). road_after_step p s t road) set ∙ ap (λ (a : Array). road_after_step p (settings_of p edits t) t a) is ∙ sym (ap (run_at p edits) (add-one t))
+
+-- the input of the next step, by its parts
+pub next_is : (s : Sheet) (plan : Plan) (settings : Settings) (step : ℕ) (last : Array) → plan ≡ s.plan → settings ≡ settings_of s.plan s.edits s.horizon → step ≡ s.horizon → last ≡ state_of s s.horizon
+    → input_of plan settings step last ≡ next_input s
+next_is s plan settings step last p u h l =
+    ap (λ (x : Plan). input_of x settings step last) p ∙ ap (λ (x : Settings). input_of s.plan x step last) u
+    ∙ ap (λ (x : ℕ). input_of s.plan (settings_of s.plan s.edits s.horizon) x last) h ∙ ap (λ (x : Array). input_of s.plan (settings_of s.plan s.edits s.horizon) s.horizon x) l
+
+-- the road after the next input's step is that of the next step
+pub next_road : (s : Sheet) (input : StepInput) (road : Array) → input ≡ next_input s → road ≡ input_next input → road ≡ state_of s (s.horizon + 1)
+next_road s input road is e = e ∙ ap (λ (x : StepInput). input_next x) is ∙ sym (ap (run_at s.plan s.edits) (add-one s.horizon))

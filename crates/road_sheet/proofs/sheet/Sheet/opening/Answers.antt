@@ -1,0 +1,20 @@
+use Rattle.std.proofs.Common.{◌∙◌, ap, sym, subst, map, length, replicate}
+use Rattle.road_detector.specs.Passes.{no_totals}
+use Rattle.std.specs.Arc.{arc_value}
+use Rattle.road_plan.specs.Plan.{Plan}
+use Rattle.road_scenario.specs.Edits.{Edits}
+use Rattle.road_scenario.specs.Winners.{AreWinners}
+use Rattle.road_scenario.proofs.NoEdits.{winners-empty}
+use Rattle.road_sheet.proofs.SheetBlocks.{opened}
+use Rattle.road_sheet.proofs.sheet.Sheet.opening.Goals as goal
+
+pub invariant_of-result : goal.invariant_of-result
+invariant_of-result c =
+    let p = arc_value c.args.plan in
+    opened p c.empty-2.result _ c.in_ok-cut.cut c.empty-3.result
+    (subst AreWinners (sym c.empty-2.ensures.none) winners-empty)
+    (c.empty-2.ensures.fits p)
+    (ap (map arc_value) c.new.ensures.items)
+    (c.in_ok-cut.ensures.start ∙ c.empty.ensures)
+    (c.in_ok-cut.ensures.totals ∙ ap (λ n. replicate n no_totals) (ap length c.detectors.ensures ∙ ap (λ (q : Plan). length q.detectors) c.deref.ensures))
+    c.empty-3.ensures

@@ -1,0 +1,12 @@
+use Rattle.std.proofs.Common.{◌∙◌, List, map, ap, refl, String, Global, string_bytes}
+use Rattle.std.specs.Arc.{arc_value}
+use Rattle.road_sheet.proofs.RunRows.{one_row_more}
+use Rattle.road_sheet.proofs.simulation.rows_between.Goals as goal
+
+pub loop-step-preserved : goal.loop-step-preserved
+loop-step-preserved c = (
+  refl,
+  c.in_ok-stepped.ensures.road,
+  ap (λ (rows : List (String Global)). map string_bytes rows) c.in_ok-push-2.ensures.items
+      ∙ one_row_more (arc_value c.args.plan.now) c.args.scenario.now c.args.first.step c.loop-step.step c.loop-step.rows.items c.in_ok-row_of-2.field-0 c.loop-step.auto.step c.loop-step.invariant.2 c.in_ok-row_of-2.ensures,
+)

@@ -1,0 +1,86 @@
+-- Sheets: a set of edits, and how far its run is simulated.
+use Rattle.std.specs.Prelude.{◌≡◌, ◌≤◌, ◌+◌, ℕ, not, nat_lt, List, length, if◌then◌else◌}
+use Rattle.std.specs.declared.option.Option.{Option}
+use Rattle.std.specs.declared.option.Option.TheVariants.{None, Some}
+use Rattle.lattice_core.specs.declared.greatest.Greatest.{Greatest}
+use Rattle.lattice_core.specs.declared.greatest.Greatest.TheVariants.{Nothing, Of}
+use Rattle.lattice_core.specs.Sets.{empty}
+use Rattle.road_plan.specs.Plan.{Plan}
+use Rattle.road_plan.specs.declared.limits.TheConstants.{GREATEST_HORIZON}
+use Rattle.road_cells.specs.Array.{Array}
+use Rattle.road_ends.specs.Input.{StepInput, input_of}
+use Rattle.road_scenario.specs.Edits.{Edits}
+use Rattle.road_scenario.specs.Faults.{AreInRange}
+use Rattle.road_scenario.specs.Settings.{settings_of}
+use Rattle.road_scenario.specs.Winners.{AreWinners, join}
+use Rattle.road_detector.specs.declared.counts.Totals.{Totals}
+use Rattle.road_sheet.specs.Shown.{run_at, row_at, rows_at, total_at}
+use Rattle.road_sheet.specs.declared.faults.SheetFault.{SheetFault}
+use Rattle.road_sheet.specs.declared.faults.SheetFault.TheVariants.{NoDetector, Range, NotSimulated, OutOfMemory}
+
+-- a plan, edits, and the horizon: the last step that is simulated
+pub record Sheet : Type 0 where
+  pub plan : Plan
+  pub edits : Edits
+  pub horizon : ℕ
+
+-- what every sheet meets: no edit exceeds another, all are in the plan and its ranges, the horizon is within the limit
+pub record IsSheet (s : Sheet) : Type 0 where
+  pub winners : AreWinners s.edits
+  pub in_range : AreInRange s.plan s.edits
+  pub within_limit : s.horizon ≤ GREATEST_HORIZON
+
+-- without edits, and nothing is simulated
+abbrev pub opening_sheet : Plan → Sheet
+opening_sheet plan = record { plan = plan; edits = empty; horizon = 0 }
+
+-- the horizon that the greatest step is: 0 where there is none
+abbrev pub horizon_of : Greatest ℕ → ℕ
+horizon_of Nothing = 0
+horizon_of (Of step) = step
+
+-- the road that a sheet shows at a step
+abbrev pub state_of : Sheet → ℕ → Array
+state_of s step = run_at s.plan s.edits step
+
+-- the row that it shows at a step
+abbrev pub row_of : Sheet → ℕ → List ℕ
+row_of s step = row_at s.plan s.edits step
+
+-- the rows that it shows from a step to another, both of them
+abbrev pub rows_of : Sheet → ℕ → ℕ → List (List ℕ)
+rows_of s from to = rows_at s.plan s.edits from to
+
+-- what it shows that a detector counts in the steps from one up to another
+abbrev pub total_of : Sheet → ℕ → ℕ → ℕ → Totals
+total_of s detector from to = total_at s.plan s.edits detector from to
+
+-- a sheet is at most another of its plan: the other has its edits joined in, and is simulated at least as far
+pub record IsAtMost (s t : Sheet) : Type 0 where
+  pub plan : s.plan ≡ t.plan
+  pub edits : join s.edits t.edits ≡ t.edits
+  pub horizon : s.horizon ≤ t.horizon
+
+-- the named cause for which a state is refused
+abbrev pub state_fault : Sheet → ℕ → Option SheetFault
+state_fault s step = if nat_lt s.horizon step then Some NotSimulated else None
+
+-- the first named cause for which totals are refused
+abbrev pub totals_fault : Sheet → ℕ → ℕ → ℕ → Option SheetFault
+totals_fault s detector from to =
+    if not (nat_lt detector (length s.plan.detectors)) then Some NoDetector
+    else (if nat_lt to from then Some Range
+    else (if nat_lt s.horizon to then Some NotSimulated else None))
+
+-- a refusal is for the named cause where there is one, and else for want of memory
+abbrev pub IsRefusalBy : Option SheetFault → SheetFault → Type 0
+IsRefusalBy (Some cause) fault = fault ≡ cause
+IsRefusalBy None fault = fault ≡ OutOfMemory
+
+-- the input of the step after the horizon
+abbrev pub next_input : Sheet → StepInput
+next_input s = input_of s.plan (settings_of s.plan s.edits s.horizon) s.horizon (state_of s s.horizon)
+
+-- a step more is simulated
+abbrev pub sheet_after_step : Sheet → Sheet
+sheet_after_step s = record s { horizon = s.horizon + 1 }

@@ -1,0 +1,69 @@
+//! Blocks of steps.
+
+ghost use Rattle.std.specs.Prelude.{◌≡◌, ◌<◌, ◌+◌, ◌^◌, ℕ, length, replicate, IfOk};
+ghost use Rattle.std.specs.List.{slice_index_or};
+ghost use Rattle.road_cells.specs.Cars.{cars_of};
+ghost use Rattle.road_detector.specs.Passes.{no_totals, passes_at, plus};
+
+use road_cells::Road;
+use road_detector::{OutOfMemory, Totals, passes};
+use road_ends::StepInput;
+use std::alloc::Global;
+
+/// How many steps a block has.
+pub const BLOCK_STEPS: u32 = 64;
+
+/// The road at the first step of a block, and what each detector counts in the steps of the block that are simulated.
+#[derive(Drop)]
+pub struct Block {
+    pub(crate) start: Road,
+    pub(crate) totals: Vec<Totals>,
+}
+
+impl Block {
+    // A block of which no step is simulated.
+    pub(crate) fn begin(alloc: Global, start: Road, detectors: usize) -> Result<Block, OutOfMemory>
+        ensures start { IfOk result (λ block. block.start ≡ start) }
+        ensures totals { IfOk result (λ block. block.totals.items ≡ replicate detectors no_totals) }
+    {
+        let totals = vec![in alloc; Totals { cars: 0, speeds: 0 }; detectors]?;
+        Ok(Block { start, totals })
+    }
+
+    // An equal block with memory of its own.
+    pub(crate) fn copied(&self) -> Result<Block, OutOfMemory>
+        ensures start { IfOk result (λ block. block.start ≡ self.now.start) }
+        ensures totals { IfOk result (λ block. block.totals.items ≡ self.now.totals.items) }
+    {
+        let start = self.start.copied()?;
+        let totals = self.totals.clone()?;
+        Ok(Block { start, totals })
+    }
+
+    // What each detector has counted after a step more.
+    pub(crate) fn totals_after(
+        &self,
+        alloc: Global,
+        input: &StepInput,
+        speeds: &[u8],
+    ) -> Result<Vec<Totals>, OutOfMemory>
+        requires one_each { length speeds.now ≡ length (cars_of input.now.road) }
+        requires each { length self.now.totals.items ≡ length input.now.plan.detectors }
+        requires cars { (d : ℕ) → d < length self.now.totals.items →
+            (slice_index_or self.now.totals.items d no_totals).cars + (passes_at input.now speeds.now d).cars < 2 ^ 32 }
+        requires speeds { (d : ℕ) → d < length self.now.totals.items →
+            (slice_index_or self.now.totals.items d no_totals).speeds + (passes_at input.now speeds.now d).speeds < 2 ^ 32 }
+        ensures each { IfOk result (λ totals. length totals.items ≡ length self.now.totals.items) }
+        ensures totals { IfOk result (λ totals. (d : ℕ) → d < length self.now.totals.items →
+            slice_index_or totals.items d no_totals
+            ≡ plus (slice_index_or self.now.totals.items d no_totals) (passes_at input.now speeds.now d)) }
+    {
+        input.known();
+        let mut totals = Vec::with_capacity(alloc, self.totals.len())?;
+        for detector in 0..self.totals.len() {
+            let passed = passes(input, speeds, detector as u32);
+            totals.push(self.totals[detector].plus(passed))?;
+        }
+        Ok(totals)
+    }
+}

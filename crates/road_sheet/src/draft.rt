@@ -1,0 +1,78 @@
+ghost use Rattle.std.specs.Prelude.{◌≡◌, ◌<◌, IfOk, OnErr, OnOk};
+ghost use Rattle.std.specs.Arc.{arc_value};
+ghost use Rattle.road_plan.specs.declared.limits.TheConstants.{GREATEST_HORIZON};
+ghost use Rattle.road_ends.specs.Input.{input_speeds};
+ghost use Rattle.road_sheet.specs.Sheets.{next_input, sheet_after_step};
+
+use crate::sheet::Sheet;
+use road_ends::StepInput;
+use road_plan::OutOfMemory;
+use std::alloc::Global;
+use std::marker::Model;
+use std::sync::Arc;
+
+/// A sheet that is being made, step by step: contracts see the sheet that it is so far.
+#[derive(Drop)]
+pub struct Draft {
+    pub(crate) sheet: Sheet,
+}
+
+impl Model for Draft {
+    ghost use Rattle.std.specs.Coded.{codes};
+    ghost use Rattle.road_scenario.specs.Instances.EditOrder.{edits_code};
+    ghost use Rattle.road_sheet.specs.Sheets.{Sheet};
+
+    ghost Value = { Sheet };
+
+    ghost coded = { Prim.hlevel (codes, edits_code) };
+
+    ghost view = { λ d. d.sheet };
+}
+
+impl Draft {
+    /// The last step that is simulated so far.
+    pub fn horizon(&self) -> u32
+        ensures { result ≡ self.now.horizon }
+    {
+        self.sheet.horizon()
+    }
+
+    /// The input of the next step.
+    ///
+    /// # Errors
+    ///
+    /// `OutOfMemory` where a growth was refused. The draft is then as it was.
+    pub fn input(&mut self, alloc: Global) -> Result<Arc<StepInput>, OutOfMemory>
+        ensures input { IfOk result (λ input. arc_value input ≡ next_input self.old) }
+        ensures unchanged { self.new ≡ self.old }
+    {
+        self.sheet.next_input(alloc)
+    }
+
+    /// One step more, from its input and the new speeds of its cars.
+    ///
+    /// # Errors
+    ///
+    /// `OutOfMemory` where a growth was refused. The draft is then as it was.
+    pub fn push(
+        &mut self,
+        alloc: Global,
+        input: &StepInput,
+        speeds: &[u8],
+    ) -> Result<(), OutOfMemory>
+        requires input { input.now ≡ next_input self.old }
+        requires speeds { speeds.now ≡ input_speeds input.now }
+        requires within_limit { self.old.horizon < GREATEST_HORIZON }
+        ensures grown { OnOk result (self.new ≡ sheet_after_step self.old) }
+        ensures unchanged { OnErr result (self.new ≡ self.old) }
+    {
+        self.sheet.grow(alloc, input, speeds)
+    }
+
+    /// The sheet.
+    pub fn sheet(self) -> Sheet
+        ensures { result ≡ self }
+    {
+        self.sheet
+    }
+}

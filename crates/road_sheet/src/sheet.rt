@@ -1,0 +1,453 @@
+ghost use Rattle.std.specs.Prelude.{◌≡◌, ◌≢◌, ◌<◌, ◌≤◌, ◌+◌, ◌*◌, ◌/◌, ◌%◌, IfOk, IfErr, OnErr, OnOk, None, length, map, min, take};
+ghost use Rattle.std.specs.Arc.{arc_value};
+ghost use Rattle.road_plan.specs.declared.limits.TheConstants.{GREATEST_HORIZON};
+ghost use Rattle.road_ends.specs.Input.{input_speeds};
+ghost use Rattle.road_scenario.specs.Faults.{AreInRange};
+ghost use Rattle.road_scenario.specs.Touched.{touched};
+ghost use Rattle.road_scenario.specs.Winners.{AreWinners, join};
+ghost use Rattle.road_sheet.specs.Drafts.{IsUpTo, draft_start};
+ghost use Rattle.road_sheet.specs.Private.Blocks.{AreTotals, IsBlock, GiveSameRun};
+ghost use Rattle.road_sheet.specs.Sheets.{IsSheet, IsRefusalBy, opening_sheet, state_of, state_fault, total_of, totals_fault, next_input, sheet_after_step};
+
+use crate::block::{BLOCK_STEPS, Block};
+use crate::draft::Draft;
+use crate::faults::SheetFault;
+use crate::simulation::{State, run_on, totals_between};
+use lattice_core::both::Both;
+use lattice_core::greatest::Greatest;
+use lattice_core::lattice::Lattice;
+use road_cells::Road;
+use road_detector::Totals;
+use road_detector::laws::{cars_pass_one_by_one, totals_are_bounded};
+use road_ends::laws::runs_depend_on_earlier_settings;
+use road_ends::{StepInput, enter, finish};
+use road_plan::{OutOfMemory, Plan};
+use road_scenario::Scenario;
+use road_scenario::laws::settings_stay_before_touched;
+use std::alloc::Global;
+use std::marker::Model;
+use std::sync::Arc;
+
+/// A scenario, a horizon, and the run so far: it shows the road at each step up to the horizon, and what the detectors count
+/// up to there. It never changes; [`Sheet::draft`] goes on from it.
+///
+/// The run is kept as blocks of 64 steps, which sheets share: of each the road at its first step and what each detector
+/// counts in it; then the block that the horizon cuts, and the road at the horizon.
+#[derive(Drop)]
+pub struct Sheet {
+    plan: Arc<Plan>,
+    known: Both<Scenario, Greatest<u32>>,
+    whole: Vec<Arc<Block>>,
+    cut: Block,
+    last: Road,
+}
+
+impl Model for Sheet {
+    ghost use Rattle.std.specs.Prelude.{map};
+    ghost use Rattle.std.specs.Arc.{arc_value};
+    ghost use Rattle.std.specs.Coded.{codes};
+    ghost use Rattle.road_scenario.specs.Instances.EditOrder.{edits_code};
+    ghost use Rattle.road_sheet.specs.Private.Blocks.{IsRunOf};
+    ghost use Rattle.road_sheet.specs.Sheets.{Sheet, horizon_of};
+
+    ghost Value = { Sheet };
+
+    ghost coded = { Prim.hlevel (codes, edits_code) };
+
+    ghost view = { λ s. record { plan = arc_value s.plan; edits = s.known.first; horizon = horizon_of s.known.second } };
+
+    ghost invariant = { λ s. IsRunOf (record { plan = arc_value s.plan; edits = s.known.first; horizon = horizon_of s.known.second })
+        (map arc_value s.whole.items) s.cut s.last };
+}
+
+impl Sheet {
+    /// The sheet without edits, of which no step is simulated.
+    ///
+    /// # Errors
+    ///
+    /// `OutOfMemory` where a growth was refused.
+    pub fn opening(alloc: Global, plan: Arc<Plan>) -> Result<Sheet, OutOfMemory>
+        ensures { IfOk result (λ sheet. sheet ≡ opening_sheet (arc_value plan)) }
+    {
+        let cut = Block::begin(alloc, Road::empty(alloc), plan.detectors().len())?;
+        Ok(Sheet {
+            plan,
+            known: Both {
+                first: Scenario::empty(alloc),
+                second: Greatest::Nothing,
+            },
+            whole: Vec::new(alloc),
+            cut,
+            last: Road::empty(alloc),
+        })
+    }
+
+    /// The plan.
+    pub fn plan(&self) -> &Arc<Plan>
+        ensures { arc_value result.now ≡ self.now.plan }
+    {
+        &self.plan
+    }
+
+    /// The scenario.
+    pub fn scenario(&self) -> &Scenario
+        ensures { result.now ≡ self.now.edits }
+    {
+        &self.known.first
+    }
+
+    /// The last step that is simulated.
+    pub fn horizon(&self) -> u32
+        ensures { result ≡ self.now.horizon }
+    {
+        match self.known.second {
+            Greatest::Nothing => 0,
+            Greatest::Of(step) => step,
+        }
+    }
+
+    /// That its edits win and fit the plan, and that its horizon is at most 65,536. It is a fact for proofs: the call does
+    /// nothing.
+    pub fn known(&self)
+        ensures { IsSheet self.now }
+    {
+        let _ = &self.last;
+    }
+
+    /// The road at a step. At most 63 steps are computed for it.
+    ///
+    /// # Errors
+    ///
+    /// `NotSimulated` where the step is above the horizon, else `OutOfMemory` where a growth was refused.
+    pub fn state(&self, alloc: Global, step: u32) -> Result<Road, SheetFault>
+        ensures state { IfOk result (λ road. road ≡ state_of self.now step) }
+        ensures accepted { IfOk result (λ _. state_fault self.now step ≡ None) }
+        ensures refused { IfErr result (λ fault. IsRefusalBy (state_fault self.now step) fault) }
+    {
+        if self.horizon() < step {
+            return Err(SheetFault::NotSimulated);
+        }
+        Ok(self.road_at(alloc, step)?)
+    }
+
+    /// What a detector counts in the steps from one up to another, that one not among them. The steps of the blocks that
+    /// `from` and `to` cut are computed for it; of the others the counts are kept.
+    ///
+    /// # Errors
+    ///
+    /// `NoDetector` where the plan has no such detector, else `Range` where `from` is above `to`, else `NotSimulated` where
+    /// `to` is above the horizon, else `OutOfMemory` where a growth was refused.
+    pub fn totals(
+        &self,
+        alloc: Global,
+        detector: u32,
+        from: u32,
+        to: u32,
+    ) -> Result<Totals, SheetFault>
+        ensures totals { IfOk result (λ totals. totals ≡ total_of self.now detector from to) }
+        ensures accepted { IfOk result (λ _. totals_fault self.now detector from to ≡ None) }
+        ensures refused { IfErr result (λ fault. IsRefusalBy (totals_fault self.now detector from to) fault) }
+    {
+        if detector as usize >= self.plan.detectors().len() {
+            return Err(SheetFault::NoDetector);
+        }
+        if from > to {
+            return Err(SheetFault::Range);
+        }
+        if self.horizon() < to {
+            return Err(SheetFault::NotSimulated);
+        }
+        Ok(self.totals_between(alloc, detector, from, to)?)
+    }
+
+    // The road at a step.
+    fn road_at(&self, alloc: Global, step: u32) -> Result<Road, OutOfMemory>
+        requires simulated { step ≤ self.now.horizon }
+        ensures { IfOk result (λ road. road ≡ state_of self.now step) }
+    {
+        if step == self.horizon() {
+            return self.last.copied();
+        }
+        let block = step / BLOCK_STEPS;
+        let state = self.state_in(alloc, block, step)?;
+        Ok(state.road)
+    }
+
+    // The state at a step of a block, from the road at the block's first step.
+    fn state_in(&self, alloc: Global, block: u32, step: u32) -> Result<State, OutOfMemory>
+        requires begun { BLOCK_STEPS * block ≤ step }
+        requires simulated { step ≤ self.now.horizon }
+        ensures step { IfOk result (λ state. state.step ≡ step) }
+        ensures road { IfOk result (λ state. state.road ≡ state_of self.now step) }
+    {
+        let start = self.block(block as usize).start.copied()?;
+        let first = block * BLOCK_STEPS;
+        run_on(alloc, &self.plan, &self.known.first, first, start, step)
+    }
+
+    // A block.
+    fn block(&self, block: usize) -> &Block
+        requires { BLOCK_STEPS * block ≤ self.now.horizon }
+        ensures { IsBlock self.now.plan self.now.edits (BLOCK_STEPS * block)
+            (min (BLOCK_STEPS * block + BLOCK_STEPS) self.now.horizon) result.now }
+    {
+        if block < self.whole.len() {
+            &self.whole[block]
+        } else {
+            &self.cut
+        }
+    }
+
+    // What a detector counts in some steps, block by block.
+    fn totals_between(
+        &self,
+        alloc: Global,
+        detector: u32,
+        from: u32,
+        to: u32,
+    ) -> Result<Totals, OutOfMemory>
+        requires in_plan { detector < length self.now.plan.detectors }
+        requires order { from ≤ to }
+        requires simulated { to ≤ self.now.horizon }
+        ensures { IfOk result (λ totals. totals ≡ total_of self.now detector from to) }
+    {
+        self.known();
+        totals_are_bounded(&self.plan);
+        let mut totals = Totals { cars: 0, speeds: 0 };
+        for block in from / BLOCK_STEPS..to.div_ceil(BLOCK_STEPS) {
+            let first = block * BLOCK_STEPS;
+            let begin = first.max(from);
+            let end = (first + BLOCK_STEPS).min(to);
+            let counted = self.totals_in(alloc, detector, block, begin, end)?;
+            totals = totals.plus(counted);
+        }
+        Ok(totals)
+    }
+
+    // What a detector counts in some steps of a block: it is kept where these are all that are simulated.
+    fn totals_in(
+        &self,
+        alloc: Global,
+        detector: u32,
+        block: u32,
+        from: u32,
+        to: u32,
+    ) -> Result<Totals, OutOfMemory>
+        requires in_plan { detector < length self.now.plan.detectors }
+        requires begun { BLOCK_STEPS * block ≤ from }
+        requires order { from ≤ to }
+        requires ended { to ≤ BLOCK_STEPS * block + BLOCK_STEPS }
+        requires simulated { to ≤ self.now.horizon }
+        ensures { IfOk result (λ totals. totals ≡ total_of self.now detector from to) }
+    {
+        self.known();
+        let first = block * BLOCK_STEPS;
+        let end = (first + BLOCK_STEPS).min(self.horizon());
+        if from == first && to == end {
+            return Ok(self.block(block as usize).totals[detector as usize]);
+        }
+        let state = self.state_in(alloc, block, from)?;
+        let (totals, _) =
+            totals_between(alloc, &self.plan, &self.known.first, state, detector, to)?;
+        Ok(totals)
+    }
+
+    /// The run of this sheet's edits with a scenario joined in, as far as it is there already: a draft that goes on from
+    /// the horizon where that is `keep`, and else from the first step of the block of `keep`.
+    ///
+    /// The scenario must fit the plan; `keep` must not be above the horizon, nor above the first step at which the joined
+    /// scenario puts other numbers.
+    ///
+    /// # Errors
+    ///
+    /// `OutOfMemory` where a growth was refused, or a block can have no more owners.
+    pub fn draft(&self, alloc: Global, scenario: &Scenario, keep: u32) -> Result<Draft, OutOfMemory>
+        requires fits { AreInRange self.now.plan scenario.now }
+        requires simulated { keep ≤ self.now.horizon }
+        requires untouched { IsUpTo (touched self.now.edits (join self.now.edits scenario.now)) keep }
+        ensures { IfOk result (λ draft. draft ≡ record {
+            plan = self.now.plan; edits = join self.now.edits scenario.now; horizon = draft_start self.now.horizon keep }) }
+    {
+        self.known();
+        let joined = self.known.first.joined(scenario)?;
+        self.draft_of(alloc, joined, keep)
+    }
+
+    /// As [`Sheet::draft`], for a scenario that is joined already.
+    ///
+    /// # Errors
+    ///
+    /// `OutOfMemory` where a growth was refused, or a block can have no more owners.
+    pub fn draft_of(&self, alloc: Global, joined: Scenario, keep: u32) -> Result<Draft, OutOfMemory>
+        requires fits { AreInRange self.now.plan joined }
+        requires simulated { keep ≤ self.now.horizon }
+        requires untouched { IsUpTo (touched self.now.edits joined) keep }
+        ensures { IfOk result (λ draft. draft ≡ record {
+            plan = self.now.plan; edits = joined; horizon = draft_start self.now.horizon keep }) }
+    {
+        joined.known();
+        settings_stay_before_touched();
+        runs_depend_on_earlier_settings(&self.plan);
+        let sheet = if keep == self.horizon() {
+            self.going_on(alloc, joined)?
+        } else {
+            self.cut_back(alloc, joined, keep / BLOCK_STEPS)?
+        };
+        Ok(Draft { sheet })
+    }
+
+    // The sheet with other edits, which give the same run up to the horizon.
+    fn going_on(&self, alloc: Global, scenario: Scenario) -> Result<Sheet, OutOfMemory>
+        requires winners { AreWinners scenario }
+        requires fits { AreInRange self.now.plan scenario }
+        requires same { GiveSameRun self.now.plan self.now.edits scenario self.now.horizon }
+        ensures { IfOk result (λ sheet. sheet ≡ record {
+            plan = self.now.plan; edits = scenario; horizon = self.now.horizon }) }
+    {
+        let whole = shared(alloc, &self.whole, self.whole.len())?;
+        let cut = self.cut.copied()?;
+        let last = self.last.copied()?;
+        let plan = Arc::try_clone(&self.plan)?;
+        let known = Both {
+            first: scenario,
+            second: Greatest::Of(self.horizon()),
+        };
+        Ok(Sheet {
+            plan,
+            known,
+            whole,
+            cut,
+            last,
+        })
+    }
+
+    // The sheet with other edits, which give the same run up to the first step of a block; that step is its horizon.
+    fn cut_back(&self, alloc: Global, scenario: Scenario, block: u32) -> Result<Sheet, OutOfMemory>
+        requires winners { AreWinners scenario }
+        requires fits { AreInRange self.now.plan scenario }
+        requires simulated { BLOCK_STEPS * block ≤ self.now.horizon }
+        requires same { GiveSameRun self.now.plan self.now.edits scenario (BLOCK_STEPS * block) }
+        ensures { IfOk result (λ sheet. sheet ≡ record {
+            plan = self.now.plan; edits = scenario; horizon = BLOCK_STEPS * block }) }
+    {
+        let start = &self.block(block as usize).start;
+        let last = start.copied()?;
+        let cut = Block::begin(alloc, start.copied()?, self.plan.detectors().len())?;
+        let whole = shared(alloc, &self.whole, block as usize)?;
+        let plan = Arc::try_clone(&self.plan)?;
+        let known = Both {
+            first: scenario,
+            second: Greatest::Of(block * BLOCK_STEPS),
+        };
+        Ok(Sheet {
+            plan,
+            known,
+            whole,
+            cut,
+            last,
+        })
+    }
+
+    // The input of the next step.
+    pub(crate) fn next_input(&self, alloc: Global) -> Result<Arc<StepInput>, OutOfMemory>
+        ensures { IfOk result (λ input. arc_value input ≡ next_input self.now) }
+    {
+        self.known();
+        let step = self.horizon();
+        let settings = self.known.first.settings_at(alloc, &self.plan, step)?;
+        enter(alloc, &self.plan, settings, step, &self.last)
+    }
+
+    // A step more. What can fail for memory is done before the sheet is changed.
+    pub(crate) fn grow(
+        &mut self,
+        alloc: Global,
+        input: &StepInput,
+        speeds: &[u8],
+    ) -> Result<(), OutOfMemory>
+        requires input { input.now ≡ next_input self.old }
+        requires speeds { speeds.now ≡ input_speeds input.now }
+        requires within_limit { self.old.horizon < GREATEST_HORIZON }
+        ensures grown { OnOk result (self.new ≡ sheet_after_step self.old) }
+        ensures unchanged { OnErr result (self.new ≡ self.old) }
+    {
+        let road = finish(alloc, input, speeds)?;
+        let totals = self.totals_after(alloc, input, speeds)?;
+        if (self.horizon() + 1) % BLOCK_STEPS == 0 {
+            return self.step_to_end(alloc, road, totals);
+        }
+        self.step_within(road, totals);
+        Ok(())
+    }
+
+    // What each detector counts in the block that the horizon cuts, with a step more.
+    fn totals_after(
+        &self,
+        alloc: Global,
+        input: &StepInput,
+        speeds: &[u8],
+    ) -> Result<Vec<Totals>, OutOfMemory>
+        requires input { input.now ≡ next_input self.now }
+        requires speeds { speeds.now ≡ input_speeds input.now }
+        requires within_limit { self.now.horizon < GREATEST_HORIZON }
+        ensures { IfOk result (λ totals. AreTotals self.now.plan self.now.edits
+            (BLOCK_STEPS * (self.now.horizon / BLOCK_STEPS)) (self.now.horizon + 1) totals.items) }
+    {
+        cars_pass_one_by_one(&self.plan);
+        totals_are_bounded(&self.plan);
+        let totals = self.cut.totals_after(alloc, input, speeds)?;
+        Ok(totals)
+    }
+
+    // A step more that does not end the block.
+    fn step_within(&mut self, road: Road, totals: Vec<Totals>)
+        requires within_limit { self.old.horizon < GREATEST_HORIZON }
+        requires within_block { (self.old.horizon + 1) % BLOCK_STEPS ≢ 0 }
+        requires road { road ≡ state_of self.old (self.old.horizon + 1) }
+        requires totals { AreTotals self.old.plan self.old.edits
+            (BLOCK_STEPS * (self.old.horizon / BLOCK_STEPS)) (self.old.horizon + 1) totals.items }
+        ensures { self.new ≡ sheet_after_step self.old }
+    {
+        let horizon = self.horizon() + 1;
+        self.cut.totals = totals;
+        self.last = road;
+        self.known.second = Greatest::Of(horizon);
+    }
+
+    // A step more that ends the block.
+    fn step_to_end(&mut self, alloc: Global, road: Road, totals: Vec<Totals>) -> Result<(), OutOfMemory>
+        requires within_limit { self.old.horizon < GREATEST_HORIZON }
+        requires at_end { (self.old.horizon + 1) % BLOCK_STEPS ≡ 0 }
+        requires road { road ≡ state_of self.old (self.old.horizon + 1) }
+        requires totals { AreTotals self.old.plan self.old.edits
+            (BLOCK_STEPS * (self.old.horizon / BLOCK_STEPS)) (self.old.horizon + 1) totals.items }
+        ensures grown { OnOk result (self.new ≡ sheet_after_step self.old) }
+        ensures unchanged { OnErr result (self.new ≡ self.old) }
+    {
+        let horizon = self.horizon() + 1;
+        let next = Block::begin(alloc, road.copied()?, self.plan.detectors().len())?;
+        let start = self.cut.start.copied()?;
+        let block = Arc::new(alloc, Block { start, totals })?;
+        self.whole.push(block)?;
+        self.cut = next;
+        self.last = road;
+        self.known.second = Greatest::Of(horizon);
+        Ok(())
+    }
+}
+
+// The first of these blocks, shared.
+fn shared(
+    alloc: Global,
+    blocks: &[Arc<Block>],
+    count: usize,
+) -> Result<Vec<Arc<Block>>, OutOfMemory>
+    requires { count ≤ length blocks.now }
+    ensures { IfOk result (λ shared. map arc_value shared.items ≡ map arc_value (take count blocks.now)) }
+{
+    let mut shared = Vec::with_capacity(alloc, count)?;
+    for block in &blocks[..count] {
+        shared.push(Arc::try_clone(block)?)?;
+    }
+    Ok(shared)
+}

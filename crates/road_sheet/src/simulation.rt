@@ -1,0 +1,184 @@
+//! What is seen of a road's run by the settings that edits give: states, rows and counts, computed step by step.
+
+ghost use Rattle.std.specs.Prelude.{◌≡◌, IfOk, ◌≤◌, ◌<◌, ◌+◌, [], length, map, string_bytes};
+ghost use Rattle.std.specs.Arc.{arc_value};
+ghost use Rattle.road_plan.specs.declared.limits.TheConstants.{GREATEST_HORIZON};
+ghost use Rattle.road_scenario.specs.Faults.{AreInRange};
+ghost use Rattle.road_scenario.specs.Settings.{settings_of};
+ghost use Rattle.road_ends.specs.Input.{input_of, input_speeds};
+ghost use Rattle.road_detector.specs.Passes.{total};
+ghost use Rattle.road_sheet.specs.Shown.{row_at, rows_at};
+ghost use Rattle.road_sheet.specs.Shown.{run_at};
+
+use road_cells::Road;
+use road_detector::laws::{cars_have_digits, cars_pass_one_by_one, totals_are_bounded};
+use road_detector::{Totals, passes, row_text};
+use road_ends::{Meter, Stepped, step_alone};
+use road_plan::{OutOfMemory, Plan};
+use road_scenario::Scenario;
+use std::alloc::Global;
+use std::sync::Arc;
+
+/// A road at a step.
+#[derive(Drop)]
+pub struct State {
+    /// The step.
+    pub step: u32,
+    /// The road.
+    pub road: Road,
+}
+
+impl State {
+    /// The empty road of step 0.
+    pub fn opening(alloc: Global) -> State
+        ensures step { result.step ≡ 0 }
+        ensures road { result.road ≡ [] }
+    {
+        State {
+            step: 0,
+            road: Road::empty(alloc),
+        }
+    }
+}
+
+/// The state at a step of the run by these edits. It goes on from the last state, where that is before the step, and
+/// else begins at step 0.
+pub fn state_at(
+    alloc: Global,
+    plan: &Arc<Plan>,
+    scenario: &Scenario,
+    last: &State,
+    step: u32,
+) -> Result<State, OutOfMemory>
+    requires fits { AreInRange (arc_value plan.now) scenario.now }
+    requires run { last.now.road ≡ run_at (arc_value plan.now) scenario.now last.now.step }
+    ensures step { IfOk result (λ state. state.step ≡ step) }
+    ensures road { IfOk result (λ state. state.road ≡ run_at (arc_value plan.now) scenario.now step) }
+{
+    if last.step <= step {
+        let road = last.road.copied()?;
+        return run_on(alloc, plan, scenario, last.step, road, step);
+    }
+    run_on(alloc, plan, scenario, 0, Road::empty(alloc), step)
+}
+
+// The state at a step, from the road of a step that is not later.
+pub(crate) fn run_on(
+    alloc: Global,
+    plan: &Arc<Plan>,
+    scenario: &Scenario,
+    from: u32,
+    mut road: Road,
+    step: u32,
+) -> Result<State, OutOfMemory>
+    requires fits { AreInRange (arc_value plan.now) scenario.now }
+    requires before { from ≤ step }
+    requires run { road ≡ run_at (arc_value plan.now) scenario.now from }
+    ensures step { IfOk result (λ state. state.step ≡ step) }
+    ensures road { IfOk result (λ state. state.road ≡ run_at (arc_value plan.now) scenario.now step) }
+{
+    for now in from..step {
+        let stepped = next(alloc, plan, scenario, now, &road)?;
+        road = stepped.road;
+    }
+    Ok(State { step, road })
+}
+
+// The step that turns the road of a step into that of the next.
+fn next(
+    alloc: Global,
+    plan: &Arc<Plan>,
+    scenario: &Scenario,
+    step: u32,
+    road: &Road,
+) -> Result<Stepped, OutOfMemory>
+    requires fits { AreInRange (arc_value plan.now) scenario.now }
+    requires run { road.now ≡ run_at (arc_value plan.now) scenario.now step }
+    ensures input { IfOk result (λ done. arc_value done.input ≡ input_of (arc_value plan.now) (settings_of (arc_value plan.now) scenario.now step) step road.now) }
+    ensures speeds { IfOk result (λ done. done.speeds.items ≡ input_speeds (arc_value done.input)) }
+    ensures road { IfOk result (λ done. done.road ≡ run_at (arc_value plan.now) scenario.now (step + 1)) }
+{
+    let settings = scenario.settings_at(alloc, plan, step)?;
+    let stepped = step_alone(alloc, plan, settings, step, road, &mut Meter::new())?;
+    Ok(stepped)
+}
+
+/// The row of a state, with the blocks of its step.
+#[tactic(auto, unfolding(crate::specs::Shown::row_at))]
+pub fn row_of(
+    alloc: Global,
+    plan: &Arc<Plan>,
+    scenario: &Scenario,
+    state: &State,
+) -> Result<String, OutOfMemory>
+    requires fits { AreInRange (arc_value plan.now) scenario.now }
+    requires run { state.now.road ≡ run_at (arc_value plan.now) scenario.now state.now.step }
+    ensures { IfOk result (λ text. string_bytes text ≡ row_at (arc_value plan.now) scenario.now state.now.step) }
+{
+    cars_have_digits(plan);
+    let settings = scenario.settings_at(alloc, plan, state.step)?;
+    row_text(alloc, &state.road, settings.blocks(), plan.length())
+}
+
+/// The rows of the states from a step to another, both of them, and the last of these states. It goes on from a state at
+/// the first step.
+pub fn rows_between(
+    alloc: Global,
+    plan: &Arc<Plan>,
+    scenario: &Scenario,
+    first: State,
+    to: u32,
+) -> Result<(Vec<String>, State), OutOfMemory>
+    requires fits { AreInRange (arc_value plan.now) scenario.now }
+    requires before { first.step ≤ to }
+    requires horizon { to ≤ GREATEST_HORIZON }
+    requires run { first.road ≡ run_at (arc_value plan.now) scenario.now first.step }
+    ensures rows { IfOk result (λ seen. map string_bytes seen.0.items ≡ rows_at (arc_value plan.now) scenario.now first.step to) }
+    ensures road { IfOk result (λ seen. seen.1.road ≡ run_at (arc_value plan.now) scenario.now seen.1.step) }
+{
+    let from = first.step;
+    let mut state = first;
+    let mut rows = Vec::new(alloc);
+    rows.push(row_of(alloc, plan, scenario, &state)?)?;
+    for step in from..to {
+        let stepped = next(alloc, plan, scenario, step, &state.road)?;
+        state = State {
+            step: step + 1,
+            road: stepped.road,
+        };
+        rows.push(row_of(alloc, plan, scenario, &state)?)?;
+    }
+    Ok((rows, state))
+}
+
+/// What a detector counts in the steps from that of a state up to another, and the state after them.
+pub fn totals_between(
+    alloc: Global,
+    plan: &Arc<Plan>,
+    scenario: &Scenario,
+    first: State,
+    detector: u32,
+    to: u32,
+) -> Result<(Totals, State), OutOfMemory>
+    requires fits { AreInRange (arc_value plan.now) scenario.now }
+    requires in_plan { detector < length (arc_value plan.now).detectors }
+    requires before { first.step ≤ to }
+    requires horizon { to ≤ GREATEST_HORIZON }
+    requires run { first.road ≡ run_at (arc_value plan.now) scenario.now first.step }
+    ensures totals { IfOk result (λ seen. seen.0 ≡ total (arc_value plan.now) (settings_of (arc_value plan.now) scenario.now) detector first.step to) }
+    ensures road { IfOk result (λ seen. seen.1.road ≡ run_at (arc_value plan.now) scenario.now seen.1.step) }
+{
+    let from = first.step;
+    let mut road = first.road;
+    let mut totals = Totals { cars: 0, speeds: 0 };
+    cars_pass_one_by_one(plan);
+    totals_are_bounded(plan);
+    for step in from..to {
+        let stepped = next(alloc, plan, scenario, step, &road)?;
+        let passed = passes(&stepped.input, &stepped.speeds, detector);
+        totals.cars += passed.cars;
+        totals.speeds += passed.speeds;
+        road = stepped.road;
+    }
+    Ok((totals, State { step: to, road }))
+}
