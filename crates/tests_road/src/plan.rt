@@ -524,8 +524,8 @@ fn knows_the_settings_that_fit(rt: HostRuntime) -> Result<(), Fail> {
     Ok(())
 }
 
-/// Objects in their order, each with its own number in the free road's plan, where it is there, and the greatest that it
-/// allows.
+/// Objects in their order, each with its own number in the free road's plan, where it is there, and the greatest that
+/// it allows.
 const OBJECTS: &[(Object, Option<u32>, u32)] = &[
     (Object::Limit(0), Some(2), 9),
     (Object::Limit(1), None, 9),

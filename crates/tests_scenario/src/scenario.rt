@@ -255,20 +255,27 @@ const MERGES: &[Merge] = &[
     },
 ];
 
-// The edits of a row come to a replica.
-fn comes(rt: &impl Abort, alloc: Global, merge: &Merge) -> Result<(), OutOfMemory> {
+// The scenario of a replica before and after the edits come.
+fn merged(alloc: Global, merge: &Merge) -> Result<(Scenario, Scenario), OutOfMemory> {
     let before = scenario(alloc, merge.held)?;
     let other = scenario(alloc, merge.come)?;
     let after = before.joined(&other)?;
-    let listed = after.copied()?.edits(alloc)?;
-    assert!(rt;
-        listed.as_slice() == merge.listed && before.at_most(&after) && other.at_most(&after),
-        "{merge:?}"
-    );
-    assert!(rt;
-        before.touched(&after) == merge.touched && after.greatest_count() == merge.count,
-        "{merge:?}"
-    );
+    Ok((before, after))
+}
+
+// Whether a copy of a scenario lists just these edits, in this order.
+fn lists(alloc: Global, scenario: &Scenario, edits: &[Edit]) -> Result<bool, OutOfMemory> {
+    let listed = scenario.copied()?.edits(alloc)?;
+    Ok(listed.as_slice() == edits)
+}
+
+// The edits of a row come to a replica.
+fn comes(rt: &impl Abort, alloc: Global, merge: &Merge) -> Result<(), OutOfMemory> {
+    let (before, after) = merged(alloc, merge)?;
+    let are_listed = lists(alloc, &after, merge.listed)?;
+    let is_bound = before.at_most(&after) && after.greatest_count() == merge.count;
+    let is_touched = before.touched(&after) == merge.touched;
+    assert!(rt; are_listed && is_bound && is_touched, "{merge:?}");
     Ok(())
 }
 
@@ -280,8 +287,8 @@ fn edits_come_to_a_replica(rt: HostRuntime) -> Result<(), Fail> {
     Ok(())
 }
 
-/// Edits, and the limit of the first zone at the steps 2, 4, 5 and 65,535: where a later put is withdrawn, the earlier one
-/// is in force on.
+/// Edits, and the limit of the first zone at the steps 2, 4, 5 and 65,535: where a later put is withdrawn, the earlier
+/// one is in force on.
 const LIMITS: &[(&[Edit], [u32; 4])] = &[
     (&[], [2, 2, 2, 2]),
     (&[ONE], [2, 1, 1, 1]),

@@ -1,5 +1,5 @@
-//! The plain program of the definitions: it goes over the road cell by cell, looks for what is in front of each car, and
-//! draws every word. It is slow; worked runs are compared with it.
+//! The plain program of the definitions: it goes over the road cell by cell, looks for what is in front of each car,
+//! and draws every word. It is slow; worked runs are compared with it.
 
 ghost use Rattle.std.specs.Prelude.{◌≡◌, ◌≤◌, ◌<◌, length, nat_eq, IfOk};
 ghost use Rattle.std.specs.List.{position};
@@ -65,7 +65,8 @@ fn standing_or_entering(
     cell: u32,
 ) -> Option<Car>
     requires { Fits plan.now settings.now }
-    ensures { result ≡ option_map (car_of cell) (option_or (vehicle_at road.now cell) (entry_at plan.now settings.now step cell)) }
+    ensures { result ≡ option_map (car_of cell)
+        (option_or (vehicle_at road.now cell) (entry_at plan.now settings.now step cell)) }
 {
     match road.car_at(cell) {
         Some(car) => Some(car),
@@ -110,7 +111,8 @@ fn speed(plan: &Plan, settings: &Settings, step: u32, road: &Road, place: usize)
     requires fits { Fits plan.now settings.now }
     requires on_road { length road.now ≤ plan.now.cells }
     requires car { place < length (cars_of road.now) }
-    ensures { let car = nth_car (cars_of road.now) place in result ≡ speed plan.now settings.now step road.now car.cell (vehicle_of car) }
+    ensures { let car = nth_car (cars_of road.now) place in
+        result ≡ speed plan.now settings.now step road.now car.cell (vehicle_of car) }
 {
     plan.known();
     let car = road.cars()[place];

@@ -11,7 +11,8 @@ use std::sync::Arc;
 use std::test::Fail;
 use tests_plans::{DENSE, FREE, HALF_SLOWED, Parts, car, plan_of};
 
-/// A road and its rows at rising steps. From a step on the only zone has another limit, from a step on a cell is blocked.
+/// A road and its rows at rising steps. From a step on the only zone has another limit, from a step on a cell is
+/// blocked.
 #[derive(Clone, Copy)]
 struct Example {
     parts: Parts,

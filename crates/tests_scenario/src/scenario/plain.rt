@@ -1,4 +1,5 @@
-//! The definitions of settings and of touched steps as a plain, slow program over a list of edits, beside worked scenarios.
+//! The definitions of settings and of touched steps as a plain, slow program over a list of edits, beside worked
+//! scenarios.
 
 use super::{BLOCK, LIMIT, MERGES, Merge, SLOW, scenario};
 use road_plan::{Object, Plan};
