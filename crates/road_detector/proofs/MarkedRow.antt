@@ -13,10 +13,14 @@ use Rattle.road_cells.proofs.CarPlaces.{vehicle_among-at}
 use Rattle.road_cells.specs.Gap.{is_blocked}
 use Rattle.road_cells.specs.declared.car.Car.{Car}
 use Rattle.road_cells.specs.declared.car.TheConstants.{GREATEST_SPEED}
-use Rattle.road_ends.specs.Row.{letter, row_of, HasDigits}
+use Rattle.road_ends.specs.Row.{letter, row_of}
 use Rattle.road_ends.specs.declared.letters.TheConstants.{STANDING, BLOCKED, EMPTY}
 use Rattle.road_detector.specs.Rows.{HaveDigits}
 use Rattle.road_detector.specs.Private.MarkedRows.{with_block, with_car}
+
+-- each car of an array has a speed that is a digit
+abbrev pub HasDigits : Array → Type 0
+HasDigits a = (c : ℕ) (car : Vehicle) → vehicle_at a c ≡ Some car → car.speed ≤ GREATEST_SPEED
 
 -- a car more that is drawn is one less to draw
 car_drawn : (row : List ℕ) (car : Car) (cars : List Car) (c : ℕ) → AreRisingFrom (car.cell + 1) cars → car.cell < length row → c < length row

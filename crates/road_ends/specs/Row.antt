@@ -1,12 +1,11 @@
 -- The road at a step as a row of text.
-use Rattle.std.specs.Prelude.{◌≡◌, ℕ, ◌+◌, ◌≤◌, Bool, true, false, List, map}
+use Rattle.std.specs.Prelude.{ℕ, ◌+◌, Bool, true, false, List, map}
 use Rattle.std.specs.List.{range_with_len}
 use Rattle.std.specs.declared.option.Option.{Option}
 use Rattle.std.specs.declared.option.Option.TheVariants.{None, Some}
 use Rattle.road_plan.specs.Plan.{Plan}
 use Rattle.road_cells.specs.Array.{Array, Vehicle, vehicle_at}
 use Rattle.road_cells.specs.Gap.{is_blocked}
-use Rattle.road_cells.specs.declared.car.TheConstants.{GREATEST_SPEED}
 use Rattle.road_ends.specs.Run.{Course, run}
 use Rattle.road_ends.specs.declared.letters.TheConstants.{STANDING, BLOCKED, EMPTY}
 
@@ -15,10 +14,6 @@ abbrev pub letter : Bool → Option Vehicle → ℕ
 letter blocked (Some car) = STANDING + car.speed
 letter true None = BLOCKED
 letter false None = EMPTY
-
--- each car's speed is a digit
-abbrev pub HasDigits : Array → Type 0
-HasDigits a = (c : ℕ) (car : Vehicle) → vehicle_at a c ≡ Some car → car.speed ≤ GREATEST_SPEED
 
 -- one letter for each cell
 abbrev pub row_of : ℕ → List ℕ → Array → List ℕ

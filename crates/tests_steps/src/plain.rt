@@ -13,7 +13,8 @@ ghost use Rattle.road_cells.specs.Gap.{is_blocked};
 ghost use Rattle.road_ends.specs.Entries.{entry_at, road_with_entries};
 ghost use Rattle.road_ends.specs.Speed.{gap, speed, speeds, nth_car};
 ghost use Rattle.road_ends.specs.Run.{road_after_motion, road_after_step, run};
-ghost use Rattle.road_ends.specs.Row.{letter, row_of, row, HasDigits};
+ghost use Rattle.road_ends.specs.Row.{letter, row_of, row};
+ghost use Rattle.road_detector.proofs.MarkedRow.{HasDigits};
 
 use road_cells::{Car, Road, is_blocked};
 use road_ends::laws::cars_stay_on_road;

@@ -1,7 +1,6 @@
 //! Roads drawn as rows of text.
 
 ghost use Rattle.std.specs.Prelude.{◌↔◌, IsTrue};
-ghost use Rattle.road_ends.specs.Row.{HasDigits};
 ghost use Rattle.road_detector.specs.Rows.{HaveDigits};
 
 use road_cells::{Car, Road};
@@ -16,13 +15,6 @@ fn have_digits(cars: &[Car]) -> bool
     cars.iter().all(|car| car.speed <= 9)
 }
 
-// Whether the speed of each car is a digit.
-fn has_digits(road: &Road) -> bool
-    ensures { IsTrue result → HasDigits road.now }
-{
-    have_digits(road.cars())
-}
-
 /// The row of a road with so many cells and these blocked ones.
 pub(crate) fn row_of(
     rt: &impl Abort,
@@ -31,6 +23,6 @@ pub(crate) fn row_of(
     blocks: &[u32],
     length: u32,
 ) -> Result<String, AllocError> {
-    assert!(rt; has_digits(road));
+    assert!(rt; have_digits(road.cars()));
     row_text(alloc, road, blocks, length)
 }

@@ -1,7 +1,7 @@
 use Rattle.std.proofs.Common.{ℕ, ◌∙◌, ap, sym, subst}
 use Rattle.std.specs.List.Sorted.{IsNonDecreasing}
 use Rattle.road_plan.specs.Settings.{Settings, defaults}
-use Rattle.road_ends.specs.Row.{HasDigits}
+use Rattle.road_detector.proofs.MarkedRow.{HasDigits}
 use Rattle.road_ends.proofs.StepByCars.{not_falling}
 use Rattle.tests_steps.proofs.plain.row.Goals as goal
 

@@ -5,8 +5,8 @@ use Rattle.tests_steps.proofs.plain.speed.Goals as goal
 pub bounds-limits-zone : goal.bounds-limits-zone
 bounds-limits-zone c =
     let within = zone_in_plan c.args.plan.now c.args.road.now c.cars.result.now c.args.place c.width.result c.known.ensures c.requires.on_road c.requires.car c.cars.ensures.all c.width.ensures in
-    let each = c.requires.fits.limit_each in
-    rw c.limits-2.ensures (omega arith)
+    let each = c.requires.fits.speed_limit_each in
+    rw c.limits.ensures (omega arith)
 
 pub bounds-chances-zone : goal.bounds-chances-zone
 bounds-chances-zone c =
