@@ -1,5 +1,5 @@
 -- How many steps a growth computes.
-use Rattle.std.proofs.Common.{◌≡◌, ◌≤◌, ◌<◌, ◌+◌, ◌-◌, ◌*◌, ◌/◌, ◌^◌, ◌∙◌, inl, inr, ℕ, suc, min, max, Option, Some, None, Bool, true, false, eqb, ltb, cond, ap, sym, arith, refl}
+use Rattle.std.proofs.Common.{◌≡◌, ◌≤◌, ◌+◌, ◌-◌, ◌^◌, ◌∙◌, inl, inr, ℕ, suc, min, Option, Some, None, eqb, ltb, ap, arith, refl}
 use Rattle.std.proofs.lemmas.Bool.{cases_Bool}
 use Rattle.std.proofs.lemmas.Bool.Decides.{nat_tests}
 use Rattle.road_sheet.specs.Drafts.{draft_start, IsUpTo}

@@ -1,5 +1,5 @@
 -- A sheet that takes edits and goes on, and how many steps that costs.
-use Rattle.std.specs.Prelude.{◌≡◌, ◌≤◌, ◌+◌, ◌-◌, ◌^◌, ℕ, zero, suc, min, max, nat_lt, if◌then◌else◌}
+use Rattle.std.specs.Prelude.{◌≡◌, ◌≤◌, ◌+◌, ◌-◌, ◌^◌, ℕ, zero, suc, min, nat_lt, if◌then◌else◌}
 use Rattle.std.specs.declared.option.Option.{Option}
 use Rattle.std.specs.declared.option.Option.TheVariants.{None, Some}
 use Rattle.road_scenario.specs.Edits.{Edits}
@@ -25,8 +25,8 @@ abbrev pub kept_step : ℕ → Option ℕ → ℕ
 kept_step horizon None = horizon
 kept_step horizon (Some touched) = min horizon touched
 
--- how many steps may be computed up to a step: those after the horizon where no simulated step is touched; else those from
--- the touched step on, and at most 63 before it
+-- how many steps may be computed up to a step: those after the horizon where no simulated step is touched; else those
+-- from the touched step on, and at most 63 before it
 abbrev pub most_steps : ℕ → ℕ → Option ℕ → ℕ
 most_steps horizon to None = to - horizon
 most_steps horizon to (Some touched) = if nat_lt touched horizon then to - touched + 63 else to - horizon

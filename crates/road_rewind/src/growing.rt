@@ -13,18 +13,18 @@ use road_sheet::{Draft, Sheet};
 use road_workers::Crew;
 use std::alloc::Global;
 
-/// The sheet with a scenario joined in, simulated at least up to the step `to`: that of the joined scenario, at the greater
-/// of the old horizon and `to`. The old sheet stays as it is, and the new one shares with it each block that is right in
-/// both.
+/// The sheet with a scenario joined in, simulated at least up to the step `to`: that of the joined scenario, at the
+/// greater of the old horizon and `to`. The old sheet stays as it is, and the new one shares with it each block that
+/// is right in both.
 ///
-/// The scenario must fit the sheet's plan, and `to` must be at most 65,536. The meter counts each step that is computed:
-/// exactly those after the old horizon where no step below it is touched, and else at most those from the touched step on
-/// and 63 more.
+/// The scenario must fit the sheet's plan, and `to` must be at most 65,536. The meter counts each step that is
+/// computed: exactly those after the old horizon where no step below it is touched, and else at most those from the
+/// touched step on and 63 more.
 ///
 /// # Errors
 ///
-/// `WorkersGone` where the crew answers so, else `OutOfMemory` where a growth was refused. The meter has then counted no
-/// more than it would have.
+/// `WorkersGone` where the crew answers so, else `OutOfMemory` where a growth was refused. The meter has then counted
+/// no more than it would have.
 pub fn grown<C: Crew>(
     alloc: Global,
     sheet: &Sheet,
@@ -39,11 +39,13 @@ pub fn grown<C: Crew>(
     ensures above { IfOk result (λ done. IsAtMost sheet.now done.sheet) }
     ensures touched { IfOk result (λ done. done.touched ≡ touched_step sheet.now scenario.now) }
     // Where no simulated step is touched, just the new steps are computed.
-    ensures new_steps { IfOk result (λ _. kept_step sheet.now.horizon (touched_step sheet.now scenario.now) ≡ sheet.now.horizon
+    ensures new_steps { IfOk result (λ _.
+        kept_step sheet.now.horizon (touched_step sheet.now scenario.now) ≡ sheet.now.horizon
         → meter.new ≡ meter_after meter.old (max sheet.now.horizon to - sheet.now.horizon)) }
     // Else, and where it is refused, at most so many.
     ensures few_steps { TicksAtMost
-        (most_steps sheet.now.horizon (max sheet.now.horizon to) (touched_step sheet.now scenario.now)) meter.old meter.new }
+        (most_steps sheet.now.horizon (max sheet.now.horizon to) (touched_step sheet.now scenario.now))
+        meter.old meter.new }
     ensures gone { MatchResult result (λ _. C.gone crew.new ≡ C.gone crew.old)
         (λ fault. C.gone crew.new ≡ gone_after_fault fault (C.gone crew.old)) }
 {

@@ -2,11 +2,11 @@
 #![tactic(auto)]
 
 mod faults;
-mod growth;
 mod growing;
+mod growth;
 
 pub use faults::GrownFault;
-pub use growth::Grown;
 pub use growing::grown;
+pub use growth::Grown;
 /// Want of memory, answered only where a growth was refused.
 pub use std::alloc::AllocError as OutOfMemory;

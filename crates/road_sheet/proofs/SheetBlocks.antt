@@ -1,5 +1,5 @@
 -- The blocks of a sheet: one step more, cut back, and the same run by other edits.
-use Rattle.std.proofs.Common.{◌≡◌, ◌≢◌, ◌≤◌, ◌<◌, ◌+◌, ◌*◌, ◌/◌, ◌%◌, ◌∙◌, ◌⊎◌, inl, inr, ℕ, zero, suc, List, [], ◌∷◌, ◌++◌, length, map, take, replicate, min, Option, Some, None, ap, sym, subst, arith, refl}
+use Rattle.std.proofs.Common.{◌≡◌, ◌≢◌, ◌≤◌, ◌<◌, ◌+◌, ◌*◌, ◌/◌, ◌%◌, ◌∙◌, ◌⊎◌, inl, inr, ℕ, zero, suc, List, [], ◌∷◌, ◌++◌, length, map, take, replicate, min, Some, ap, sym, subst, arith, refl}
 use Rattle.std.proofs.lemmas.List.{get_or-replicate, length-replicate, length-take-le, length_push}
 use Rattle.std.proofs.lemmas.Option.{slice_get_within, slice_get_read, slice_get-map}
 use Rattle.std.specs.Option.{option_map}
@@ -15,7 +15,7 @@ use Rattle.road_detector.specs.Passes.{no_totals, passes, plus}
 use Rattle.road_detector.specs.declared.counts.Totals.{Totals}
 use Rattle.road_sheet.specs.Private.Blocks.{AreTotals, IsBlock, IsRunOf, GiveSameRun}
 use Rattle.road_sheet.specs.Sheets.{Sheet, IsSheet, sheet_after_step}
-use Rattle.road_sheet.specs.Shown.{run_at, total_at}
+use Rattle.road_sheet.specs.Shown.{run_at}
 use Rattle.road_sheet.specs.declared.block.Block.{Block}
 use Rattle.road_sheet.proofs.RunTotals.{none_yet, total_more}
 
@@ -123,7 +123,7 @@ pub ends_block : (s now : Sheet) (h : ℕ) (whole more : List Block) (cut new be
 ends_block s now h whole more cut new begun last road is view early next totals on same zeros start first all =
     subst
     (λ (x : Sheet). x.horizon < GREATEST_HORIZON → road ≡ run_at x.plan x.edits (x.horizon + 1) → AreTotals x.plan x.edits (64 * (x.horizon / 64)) (x.horizon + 1) new.totals.items → (x.horizon + 1) % 64 ≡ 0 → h ≡ x.horizon
-        → begun.totals.items ≡ replicate (length x.plan.detectors) no_totals → IsRunOf (record { plan = s.plan; edits = s.edits; horizon = h + 1 }) more begun road) view
+    → begun.totals.items ≡ replicate (length x.plan.detectors) no_totals → IsRunOf (record { plan = s.plan; edits = s.edits; horizon = h + 1 }) more begun road) view
     (λ e n t o k z. subst (λ (u : ℕ). IsRunOf (record { plan = s.plan; edits = s.edits; horizon = u + 1 }) more begun road) (sym k) (step_to_end s whole more cut new begun last road is e n start t first z all o)) early next totals on same zeros
 
 -- the totals of the cut block

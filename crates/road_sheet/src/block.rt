@@ -52,7 +52,8 @@ impl Block {
         requires cars { (d : ℕ) → d < length self.now.totals.items →
             (slice_index_or self.now.totals.items d no_totals).cars + (passes_at input.now speeds.now d).cars < 2 ^ 32 }
         requires speeds { (d : ℕ) → d < length self.now.totals.items →
-            (slice_index_or self.now.totals.items d no_totals).speeds + (passes_at input.now speeds.now d).speeds < 2 ^ 32 }
+            (slice_index_or self.now.totals.items d no_totals).speeds
+            + (passes_at input.now speeds.now d).speeds < 2 ^ 32 }
         ensures each { IfOk result (λ totals. length totals.items ≡ length self.now.totals.items) }
         ensures totals { IfOk result (λ totals. (d : ℕ) → d < length self.now.totals.items →
             slice_index_or totals.items d no_totals

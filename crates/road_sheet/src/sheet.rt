@@ -7,7 +7,8 @@ ghost use Rattle.road_scenario.specs.Touched.{touched};
 ghost use Rattle.road_scenario.specs.Winners.{AreWinners, join};
 ghost use Rattle.road_sheet.specs.Drafts.{IsUpTo, draft_start};
 ghost use Rattle.road_sheet.specs.Private.Blocks.{AreTotals, IsBlock, GiveSameRun};
-ghost use Rattle.road_sheet.specs.Sheets.{IsSheet, IsRefusalBy, opening_sheet, state_of, state_fault, total_of, totals_fault, next_input, sheet_after_step};
+ghost use Rattle.road_sheet.specs.Sheets.{IsSheet, opening_sheet, state_of, total_of, next_input, sheet_after_step};
+ghost use Rattle.road_sheet.specs.Sheets.{IsRefusalBy, state_fault, totals_fault};
 
 use crate::block::{BLOCK_STEPS, Block};
 use crate::draft::Draft;
@@ -28,11 +29,11 @@ use std::alloc::Global;
 use std::marker::Model;
 use std::sync::Arc;
 
-/// A scenario, a horizon, and the run so far: it shows the road at each step up to the horizon, and what the detectors count
-/// up to there. It never changes; [`Sheet::draft`] goes on from it.
+/// A scenario, a horizon, and the run so far: it shows the road at each step up to the horizon, and what the
+/// detectors count up to there. It never changes; [`Sheet::draft`] goes on from it.
 ///
-/// The run is kept as blocks of 64 steps, which sheets share: of each the road at its first step and what each detector
-/// counts in it; then the block that the horizon cuts, and the road at the horizon.
+/// The run is kept as blocks of 64 steps, which sheets share: of each the road at its first step and what each
+/// detector counts in it; then the block that the horizon cuts, and the road at the horizon.
 #[derive(Drop)]
 pub struct Sheet {
     plan: Arc<Plan>,
@@ -54,9 +55,14 @@ impl Model for Sheet {
 
     ghost coded = { Prim.hlevel (codes, edits_code) };
 
-    ghost view = { λ s. record { plan = arc_value s.plan; edits = s.known.first; horizon = horizon_of s.known.second } };
+    ghost view = { λ s. record {
+      plan = arc_value s.plan;
+      edits = s.known.first;
+      horizon = horizon_of s.known.second;
+    } };
 
-    ghost invariant = { λ s. IsRunOf (record { plan = arc_value s.plan; edits = s.known.first; horizon = horizon_of s.known.second })
+    ghost invariant = { λ s. IsRunOf
+        (record { plan = arc_value s.plan; edits = s.known.first; horizon = horizon_of s.known.second })
         (map arc_value s.whole.items) s.cut s.last };
 }
 
@@ -106,8 +112,8 @@ impl Sheet {
         }
     }
 
-    /// That its edits win and fit the plan, and that its horizon is at most 65,536. It is a fact for proofs: the call does
-    /// nothing.
+    /// That its edits win and fit the plan, and that its horizon is at most 65,536. It is a fact for proofs: the call
+    /// does nothing.
     pub fn known(&self)
         ensures { IsSheet self.now }
     {
@@ -130,13 +136,13 @@ impl Sheet {
         Ok(self.road_at(alloc, step)?)
     }
 
-    /// What a detector counts in the steps from one up to another, that one not among them. The steps of the blocks that
-    /// `from` and `to` cut are computed for it; of the others the counts are kept.
+    /// What a detector counts in the steps from one up to another, that one not among them. The steps of the blocks
+    /// that `from` and `to` cut are computed for it; of the others the counts are kept.
     ///
     /// # Errors
     ///
-    /// `NoDetector` where the plan has no such detector, else `Range` where `from` is above `to`, else `NotSimulated` where
-    /// `to` is above the horizon, else `OutOfMemory` where a growth was refused.
+    /// `NoDetector` where the plan has no such detector, else `Range` where `from` is above `to`, else `NotSimulated`
+    /// where `to` is above the horizon, else `OutOfMemory` where a growth was refused.
     pub fn totals(
         &self,
         alloc: Global,
@@ -247,16 +253,22 @@ impl Sheet {
             return Ok(self.block(block as usize).totals[detector as usize]);
         }
         let state = self.state_in(alloc, block, from)?;
-        let (totals, _) =
-            totals_between(alloc, &self.plan, &self.known.first, state, detector, to)?;
+        let (totals, _) = totals_between(
+            alloc,
+            &self.plan,
+            &self.known.first,
+            state,
+            detector,
+            to,
+        )?;
         Ok(totals)
     }
 
-    /// The run of this sheet's edits with a scenario joined in, as far as it is there already: a draft that goes on from
-    /// the horizon where that is `keep`, and else from the first step of the block of `keep`.
+    /// The run of this sheet's edits with a scenario joined in, as far as it is there already: a draft that goes on
+    /// from the horizon where that is `keep`, and else from the first step of the block of `keep`.
     ///
-    /// The scenario must fit the plan; `keep` must not be above the horizon, nor above the first step at which the joined
-    /// scenario puts other numbers.
+    /// The scenario must fit the plan; `keep` must not be above the horizon, nor above the first step at which the
+    /// joined scenario puts other numbers.
     ///
     /// # Errors
     ///
@@ -266,7 +278,10 @@ impl Sheet {
         requires simulated { keep ≤ self.now.horizon }
         requires untouched { IsUpTo (touched self.now.edits (join self.now.edits scenario.now)) keep }
         ensures { IfOk result (λ draft. draft ≡ record {
-            plan = self.now.plan; edits = join self.now.edits scenario.now; horizon = draft_start self.now.horizon keep }) }
+          plan = self.now.plan;
+          edits = join self.now.edits scenario.now;
+          horizon = draft_start self.now.horizon keep;
+        }) }
     {
         self.known();
         let joined = self.known.first.joined(scenario)?;
@@ -283,7 +298,10 @@ impl Sheet {
         requires simulated { keep ≤ self.now.horizon }
         requires untouched { IsUpTo (touched self.now.edits joined) keep }
         ensures { IfOk result (λ draft. draft ≡ record {
-            plan = self.now.plan; edits = joined; horizon = draft_start self.now.horizon keep }) }
+          plan = self.now.plan;
+          edits = joined;
+          horizon = draft_start self.now.horizon keep;
+        }) }
     {
         joined.known();
         settings_stay_before_touched();
@@ -302,7 +320,10 @@ impl Sheet {
         requires fits { AreInRange self.now.plan scenario }
         requires same { GiveSameRun self.now.plan self.now.edits scenario self.now.horizon }
         ensures { IfOk result (λ sheet. sheet ≡ record {
-            plan = self.now.plan; edits = scenario; horizon = self.now.horizon }) }
+          plan = self.now.plan;
+          edits = scenario;
+          horizon = self.now.horizon;
+        }) }
     {
         let whole = shared(alloc, &self.whole, self.whole.len())?;
         let cut = self.cut.copied()?;
@@ -328,7 +349,10 @@ impl Sheet {
         requires simulated { BLOCK_STEPS * block ≤ self.now.horizon }
         requires same { GiveSameRun self.now.plan self.now.edits scenario (BLOCK_STEPS * block) }
         ensures { IfOk result (λ sheet. sheet ≡ record {
-            plan = self.now.plan; edits = scenario; horizon = BLOCK_STEPS * block }) }
+          plan = self.now.plan;
+          edits = scenario;
+          horizon = BLOCK_STEPS * block;
+        }) }
     {
         let start = &self.block(block as usize).start;
         let last = start.copied()?;
@@ -415,7 +439,12 @@ impl Sheet {
     }
 
     // A step more that ends the block.
-    fn step_to_end(&mut self, alloc: Global, road: Road, totals: Vec<Totals>) -> Result<(), OutOfMemory>
+    fn step_to_end(
+        &mut self,
+        alloc: Global,
+        road: Road,
+        totals: Vec<Totals>,
+    ) -> Result<(), OutOfMemory>
         requires within_limit { self.old.horizon < GREATEST_HORIZON }
         requires at_end { (self.old.horizon + 1) % BLOCK_STEPS ≡ 0 }
         requires road { road ≡ state_of self.old (self.old.horizon + 1) }

@@ -6,9 +6,7 @@ ghost use Rattle.road_plan.specs.declared.limits.TheConstants.{GREATEST_HORIZON}
 ghost use Rattle.road_scenario.specs.Faults.{AreInRange};
 ghost use Rattle.road_scenario.specs.Settings.{settings_of};
 ghost use Rattle.road_ends.specs.Input.{input_of, input_speeds};
-ghost use Rattle.road_detector.specs.Passes.{total};
-ghost use Rattle.road_sheet.specs.Shown.{row_at, rows_at};
-ghost use Rattle.road_sheet.specs.Shown.{run_at};
+ghost use Rattle.road_sheet.specs.Shown.{run_at, row_at, rows_at, total_at};
 
 use road_cells::Road;
 use road_detector::laws::{cars_have_digits, cars_pass_one_by_one, totals_are_bounded};
@@ -94,7 +92,8 @@ fn next(
 ) -> Result<Stepped, OutOfMemory>
     requires fits { AreInRange (arc_value plan.now) scenario.now }
     requires run { road.now ≡ run_at (arc_value plan.now) scenario.now step }
-    ensures input { IfOk result (λ done. arc_value done.input ≡ input_of (arc_value plan.now) (settings_of (arc_value plan.now) scenario.now step) step road.now) }
+    ensures input { IfOk result (λ done. arc_value done.input
+        ≡ input_of (arc_value plan.now) (settings_of (arc_value plan.now) scenario.now step) step road.now) }
     ensures speeds { IfOk result (λ done. done.speeds.items ≡ input_speeds (arc_value done.input)) }
     ensures road { IfOk result (λ done. done.road ≡ run_at (arc_value plan.now) scenario.now (step + 1)) }
 {
@@ -120,8 +119,8 @@ pub fn row_of(
     row_text(alloc, &state.road, settings.blocks(), plan.length())
 }
 
-/// The rows of the states from a step to another, both of them, and the last of these states. It goes on from a state at
-/// the first step.
+/// The rows of the states from a step to another, both of them, and the last of these states. It goes on from a state
+/// at the first step.
 pub fn rows_between(
     alloc: Global,
     plan: &Arc<Plan>,
@@ -133,7 +132,8 @@ pub fn rows_between(
     requires before { first.step ≤ to }
     requires horizon { to ≤ GREATEST_HORIZON }
     requires run { first.road ≡ run_at (arc_value plan.now) scenario.now first.step }
-    ensures rows { IfOk result (λ seen. map string_bytes seen.0.items ≡ rows_at (arc_value plan.now) scenario.now first.step to) }
+    ensures rows { IfOk result (λ seen. map string_bytes seen.0.items
+        ≡ rows_at (arc_value plan.now) scenario.now first.step to) }
     ensures road { IfOk result (λ seen. seen.1.road ≡ run_at (arc_value plan.now) scenario.now seen.1.step) }
 {
     let from = first.step;
@@ -165,7 +165,7 @@ pub fn totals_between(
     requires before { first.step ≤ to }
     requires horizon { to ≤ GREATEST_HORIZON }
     requires run { first.road ≡ run_at (arc_value plan.now) scenario.now first.step }
-    ensures totals { IfOk result (λ seen. seen.0 ≡ total (arc_value plan.now) (settings_of (arc_value plan.now) scenario.now) detector first.step to) }
+    ensures totals { IfOk result (λ seen. seen.0 ≡ total_at (arc_value plan.now) scenario.now detector first.step to) }
     ensures road { IfOk result (λ seen. seen.1.road ≡ run_at (arc_value plan.now) scenario.now seen.1.step) }
 {
     let from = first.step;
@@ -176,8 +176,7 @@ pub fn totals_between(
     for step in from..to {
         let stepped = next(alloc, plan, scenario, step, &road)?;
         let passed = passes(&stepped.input, &stepped.speeds, detector);
-        totals.cars += passed.cars;
-        totals.speeds += passed.speeds;
+        totals = totals.plus(passed);
         road = stepped.road;
     }
     Ok((totals, State { step: to, road }))

@@ -3,9 +3,7 @@
 ghost use Rattle.std.specs.Prelude.{◌≡◌, IfOk};
 ghost use Rattle.road_sheet.specs.Sheets.{state_of};
 
-use crate::crews::Counting;
-use crate::sheets::{Parts, grow, opening, put, state, totals};
-use road_ends::Meter;
+use crate::sheets::{Parts, opening, put, state, totals, with_edits};
 use road_plan::{Object, WordKind};
 use road_scenario::{Edit, Value};
 use road_sheet::Sheet;
@@ -69,26 +67,33 @@ fn edit(dice: &mut Dice, count: u64) -> Edit {
     }
 }
 
-// A sheet's states, and a total of each detector.
-fn agrees(rt: &impl Abort, alloc: Global, sheet: &Sheet, dice: &mut Dice) -> Result<(), Fail> {
-    let horizon = sheet.horizon();
+// A sheet's states.
+fn states_agree(rt: &impl Abort, alloc: Global, sheet: &Sheet) -> Result<(), Fail> {
     let mut computed = from_zero(alloc, sheet, 0)?;
     for step in STEPS {
-        let step = step.min(horizon);
-        let shown = state(alloc, sheet, step)?;
+        let step = step.min(sheet.horizon());
         computed = go_on(alloc, sheet, &computed, step)?;
-        assert!(rt; shown.road.cars() == computed.road.cars(), "the state at {step} of {horizon}");
+        let shown = state(alloc, sheet, step)?;
+        assert!(rt; shown.road.cars() == computed.road.cars());
     }
-    for detector in 0..2 {
-        let to = dice.step().min(horizon);
-        let from = dice.step().min(to);
-        let shown = totals(alloc, sheet, detector, from, to)?;
-        let first = from_zero(alloc, sheet, from)?;
-        assert!(rt; from == first.step);
-        assert!(rt; (detector as usize) < sheet.plan().detectors().len());
-        let (computed, _) = totals_between(alloc, sheet.plan(), sheet.scenario(), first, detector, to)?;
-        assert_eq!(rt; shown, computed, "{detector}, {from} to {to} of {horizon}");
-    }
+    Ok(())
+}
+
+// What a detector counts in some steps.
+fn totals_agree(
+    rt: &impl Abort,
+    alloc: Global,
+    sheet: &Sheet,
+    (detector, from, to): (u32, u32, u32),
+) -> Result<(), Fail> {
+    let first = from_zero(alloc, sheet, from)?;
+    let shown = totals(alloc, sheet, (detector, from, to))?;
+    sheet.known();
+    assert!(rt; first.step <= to);
+    assert!(rt; to <= 65_536);
+    assert!(rt; (detector as usize) < sheet.plan().detectors().len());
+    let (computed, _) = totals_between(alloc, sheet.plan(), sheet.scenario(), first, detector, to)?;
+    assert!(rt; shown == (computed.cars, computed.speeds));
     Ok(())
 }
 
@@ -108,24 +113,36 @@ fn from_zero(alloc: Global, sheet: &Sheet, step: u32) -> Result<State, Fail>
     go_on(alloc, sheet, &State::opening(alloc), step)
 }
 
+// One edit, none or two, and a step to go to.
+fn grown_at_random(
+    rt: &impl Abort,
+    alloc: Global,
+    sheet: &Sheet,
+    dice: &mut Dice,
+    count: u64,
+) -> Result<Sheet, Fail> {
+    let both = [edit(dice, count), edit(dice, count)];
+    let edits = match dice.below(3) {
+        0 => both.get(..0),
+        1 => both.get(..1),
+        _ => both.get(..2),
+    };
+    with_edits(rt, alloc, sheet, edits.unwrap_or(&[]), dice.step())
+}
+
 // A script of some edits and advances.
 fn run_script(rt: &impl Abort, alloc: Global, seed: u64) -> Result<(), Fail> {
     let mut dice = Dice { seed };
-    let mut crew = Counting { calls: 0 };
-    let mut meter = Meter::new();
     let mut sheet = opening(alloc, &MIXED)?;
     for count in 1..6 {
-        let edits = [edit(&mut dice, count), edit(&mut dice, count)];
-        let edits = match dice.below(3) {
-            0 => edits.get(..0),
-            1 => edits.get(..1),
-            _ => edits.get(..2),
-        };
-        let to = dice.step();
-        sheet = grow(rt, alloc, &sheet, edits.unwrap_or(&[]), to, &mut crew, &mut meter)?.sheet;
-        agrees(rt, alloc, &sheet, &mut dice)?;
+        sheet = grown_at_random(rt, alloc, &sheet, &mut dice, count)?;
+        states_agree(rt, alloc, &sheet)?;
+        for detector in 0..2 {
+            let to = dice.step().min(sheet.horizon());
+            let from = dice.step().min(to);
+            totals_agree(rt, alloc, &sheet, (detector, from, to))?;
+        }
     }
-    assert_eq!(rt; crew.calls, meter.ticks());
     Ok(())
 }
 

@@ -1,17 +1,16 @@
 //! Plans, edits and growths that the tests share. Each call that may be refused memory is repeated once where it was
-//! refused, and the sheet is then seen to be as before: so these tests also pass where any one growth is refused.
+//! refused: so the tests of worked rows also pass where any one growth is refused.
 
 ghost use Rattle.std.specs.Prelude.{◌≡◌, IfOk};
 ghost use Rattle.road_sheet.specs.Sheets.{state_of};
 
-use road_detector::Totals;
 use road_ends::Meter;
 use road_plan::{Object, OutOfMemory, Plan, PlanParts, WordKind};
-use road_rewind::{Grown, GrownFault, grown};
+use road_rewind::{Grown, grown};
 use road_scenario::{Edit, Scenario, Stamp, Value};
 use road_sheet::simulation::{State, row_of};
 use road_sheet::{Sheet, SheetFault};
-use road_workers::Crew;
+use road_workers::{Alone, Crew};
 use std::alloc::Global;
 use std::process::Abort;
 use std::sync::Arc;
@@ -98,22 +97,7 @@ fn scenario_of(alloc: Global, edits: &[Edit]) -> Result<Scenario, OutOfMemory> {
     Ok(scenario)
 }
 
-// The sheet with a scenario, simulated up to a step.
-fn grown_by<C: Crew>(
-    rt: &impl Abort,
-    alloc: Global,
-    sheet: &Sheet,
-    scenario: &Scenario,
-    to: u32,
-    crew: &mut C,
-    meter: &mut Meter,
-) -> Result<Grown, GrownFault> {
-    assert!(rt; scenario.fits(sheet.plan()).is_none());
-    assert!(rt; to <= 65_536);
-    grown(alloc, sheet, scenario, to, crew, meter)
-}
-
-/// The sheet with some edits, simulated up to a step. Where it is refused the old sheet is as before.
+/// The sheet with some edits, simulated up to a step.
 pub(crate) fn grow<C: Crew>(
     rt: &impl Abort,
     alloc: Global,
@@ -124,23 +108,35 @@ pub(crate) fn grow<C: Crew>(
     meter: &mut Meter,
 ) -> Result<Grown, Fail> {
     let scenario = scenario_of(alloc, edits)?;
-    let horizon = sheet.horizon();
-    let count = sheet.scenario().greatest_count();
-    let row = row(alloc, sheet, horizon)?;
-    match grown_by(rt, alloc, sheet, &scenario, to, crew, meter) {
+    assert!(rt; scenario.fits(sheet.plan()).is_none());
+    assert!(rt; to <= 65_536);
+    match grown(alloc, sheet, &scenario, to, crew, meter) {
         Ok(done) => Ok(done),
-        Err(_) => {
-            assert_eq!(rt; sheet.horizon(), horizon, "after a refused growth");
-            assert_eq!(rt; sheet.scenario().greatest_count(), count, "after a refused growth");
-            shows(rt, alloc, sheet, horizon, &row)?;
-            Ok(grown_by(rt, alloc, sheet, &scenario, to, crew, meter)?)
-        }
+        Err(_) => Ok(grown(alloc, sheet, &scenario, to, crew, meter)?),
     }
+}
+
+/// The sheet with some edits, simulated up to a step by one caller.
+pub(crate) fn with_edits(
+    rt: &impl Abort,
+    alloc: Global,
+    sheet: &Sheet,
+    edits: &[Edit],
+    to: u32,
+) -> Result<Sheet, Fail> {
+    let done = grow(rt, alloc, sheet, edits, to, &mut Alone, &mut Meter::new())?;
+    Ok(done.sheet)
+}
+
+/// The sheet of the free road at step 6.
+pub(crate) fn free_road(rt: &impl Abort, alloc: Global) -> Result<Sheet, Fail> {
+    let first = opening(alloc, &FREE)?;
+    with_edits(rt, alloc, &first, &[], 6)
 }
 
 /// The state of a sheet at a step.
 pub(crate) fn state(alloc: Global, sheet: &Sheet, step: u32) -> Result<State, SheetFault>
-    ensures state { IfOk result (λ state. state.road ≡ state_of sheet.now state.step) }
+    ensures { IfOk result (λ state. state.road ≡ state_of sheet.now state.step) }
 {
     let road = match sheet.state(alloc, step) {
         Err(SheetFault::OutOfMemory) => sheet.state(alloc, step)?,
@@ -149,22 +145,21 @@ pub(crate) fn state(alloc: Global, sheet: &Sheet, step: u32) -> Result<State, Sh
     Ok(State { step, road })
 }
 
-/// What a detector of a sheet counts.
+/// What a detector of a sheet counts: cars and speeds.
 pub(crate) fn totals(
     alloc: Global,
     sheet: &Sheet,
-    detector: u32,
-    from: u32,
-    to: u32,
-) -> Result<Totals, SheetFault> {
-    match sheet.totals(alloc, detector, from, to) {
-        Err(SheetFault::OutOfMemory) => sheet.totals(alloc, detector, from, to),
-        first => first,
-    }
+    (detector, from, to): (u32, u32, u32),
+) -> Result<(u32, u32), SheetFault> {
+    let totals = match sheet.totals(alloc, detector, from, to) {
+        Err(SheetFault::OutOfMemory) => sheet.totals(alloc, detector, from, to)?,
+        first => first?,
+    };
+    Ok((totals.cars, totals.speeds))
 }
 
-/// The row of a sheet at a step.
-pub(crate) fn row(alloc: Global, sheet: &Sheet, step: u32) -> Result<String, Fail> {
+// The row of a sheet at a step.
+fn row(alloc: Global, sheet: &Sheet, step: u32) -> Result<String, Fail> {
     let state = state(alloc, sheet, step)?;
     sheet.known();
     match row_of(alloc, sheet.plan(), sheet.scenario(), &state) {
@@ -173,15 +168,16 @@ pub(crate) fn row(alloc: Global, sheet: &Sheet, step: u32) -> Result<String, Fai
     }
 }
 
-/// That a sheet shows a row at a step.
+/// That a sheet shows these rows at these steps.
 pub(crate) fn shows(
     rt: &impl Abort,
     alloc: Global,
     sheet: &Sheet,
-    step: u32,
-    text: &str,
+    rows: &[(u32, &str)],
 ) -> Result<(), Fail> {
-    let row = row(alloc, sheet, step)?;
-    assert_eq!(rt; row.as_str(), text, "at step {step}");
+    for (step, text) in rows {
+        let row = row(alloc, sheet, *step)?;
+        assert_eq!(rt; row.as_str(), *text);
+    }
     Ok(())
 }

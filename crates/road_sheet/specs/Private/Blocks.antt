@@ -22,8 +22,8 @@ pub record IsBlock (plan : Plan) (edits : Edits) (a b : ℕ) (block : Block) : T
   pub start : block.start ≡ run_at plan edits a
   pub totals : AreTotals plan edits a b block.totals.items
 
--- a sheet's run: a block for each BLOCK_STEPS steps up to the horizon, the block that the horizon cuts, and the road at the
--- horizon
+-- a sheet's run: a block for each BLOCK_STEPS steps up to the horizon, the block that the horizon cuts, and the road
+-- at the horizon
 pub record IsRunOf (s : Sheet) (blocks : List Block) (part : Block) (road : Array) : Type 0 where
   pub sheet : IsSheet s
   pub begun : BLOCK_STEPS * length blocks ≤ s.horizon

@@ -5,7 +5,7 @@ use Rattle.road_scenario.specs.Touched.{touched}
 use Rattle.road_scenario.specs.Winners.{join}
 use Rattle.road_sheet.specs.Sheets.{Sheet}
 use Rattle.road_sheet.specs.Drafts.{draft_start}
-use Rattle.road_rewind.specs.Growth.{kept_step, most_steps, touched_step, meter_after}
+use Rattle.road_rewind.specs.Growth.{kept_step, touched_step, meter_after}
 use Rattle.road_rewind.proofs.StepCounts.{more_ticks, few_steps, start_at_horizon}
 use Rattle.road_rewind.proofs.growing.grown.Goals as goal
 

@@ -1,12 +1,12 @@
-use Rattle.std.proofs.Common.{subst, arith}
+use Rattle.std.proofs.Common.{◌∙◌, subst, arith}
 use Rattle.std.specs.Arc.{arc_value}
 use Rattle.road_scenario.specs.Settings.{settings_of}
 use Rattle.road_detector.specs.Laws.{PassOneByOne, BoundTotals}
 use Rattle.road_sheet.proofs.RunTotals.{passed_is, cars_fit, speeds_fit, counted_more}
 use Rattle.road_sheet.proofs.simulation.totals_between.Goals as goal
 
-pub overflow_add-totals : goal.overflow_add-totals
-overflow_add-totals c =
+pub plus-totals-requires-clause-cars : goal.plus-totals-requires-clause-cars
+plus-totals-requires-clause-cars c =
     let p = arc_value c.args.plan.now in
     let edits = c.args.scenario.now in
     let passed = passed_is p edits c.args.detector c.loop-step.step c.loop-step.road (arc_value c.in_ok-stepped.stepped.input) _ c.in_ok-stepped.stepped.speeds.items _ c.passes-passed.result
@@ -17,8 +17,8 @@ overflow_add-totals c =
           (subst PassOneByOne c.deref.ensures c.cars_pass_one_by_one.ensures) (omega (arith, c.requires.horizon, c.loop-step.auto.step-end)) c.loop-step.invariant.1 passed,
     )
 
-pub overflow_add-totals-in-loop-step : goal.overflow_add-totals-in-loop-step
-overflow_add-totals-in-loop-step c =
+pub plus-totals-requires-clause-speeds : goal.plus-totals-requires-clause-speeds
+plus-totals-requires-clause-speeds c =
     let p = arc_value c.args.plan.now in
     let edits = c.args.scenario.now in
     let passed = passed_is p edits c.args.detector c.loop-step.step c.loop-step.road (arc_value c.in_ok-stepped.stepped.input) _ c.in_ok-stepped.stepped.speeds.items _ c.passes-passed.result
@@ -36,5 +36,5 @@ loop-step-preserved c =
     let passed = passed_is p edits c.args.detector c.loop-step.step c.loop-step.road (arc_value c.in_ok-stepped.stepped.input) _ c.in_ok-stepped.stepped.speeds.items _ c.passes-passed.result
     c.in_ok-stepped.ensures.input c.loop-step.invariant.0 c.in_ok-stepped.ensures.speeds c.deref-in-loop-step.ensures c.deref-in-loop-step-2.ensures.value c.passes-passed.ensures in (
       c.in_ok-stepped.ensures.road,
-      counted_more p (settings_of p edits) c.args.detector c.args.first.step c.loop-step.step c.loop-step.totals c.passes-passed.result c.loop-step.auto.step c.loop-step.invariant.1 passed,
+      c.plus-totals.ensures ∙ counted_more p (settings_of p edits) c.args.detector c.args.first.step c.loop-step.step c.loop-step.totals c.passes-passed.result c.loop-step.auto.step c.loop-step.invariant.1 passed,
     )

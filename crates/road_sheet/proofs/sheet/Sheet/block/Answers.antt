@@ -1,4 +1,4 @@
-use Rattle.std.proofs.Common.{◌∙◌, map, length, arith}
+use Rattle.std.proofs.Common.{arith}
 use Rattle.std.proofs.lemmas.List.{length-map}
 use Rattle.std.specs.Arc.{arc_value}
 use Rattle.road_sheet.specs.declared.block.Block.{Block}

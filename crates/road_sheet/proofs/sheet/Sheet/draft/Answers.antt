@@ -1,5 +1,4 @@
-use Rattle.std.proofs.Common.{◌∙◌, ap, sym, subst}
-use Rattle.road_scenario.specs.Edits.{Edits}
+use Rattle.std.proofs.Common.{ap, sym, subst}
 use Rattle.road_scenario.specs.Faults.{AreInRange}
 use Rattle.road_sheet.specs.Sheets.{Sheet}
 use Rattle.road_sheet.proofs.sheet.Sheet.draft.Goals as goal

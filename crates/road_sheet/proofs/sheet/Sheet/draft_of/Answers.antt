@@ -1,7 +1,5 @@
-use Rattle.std.proofs.Common.{◌∙◌, ap, sym, subst, arith, ℕ, ◌/◌, ◌*◌, ◌≤◌}
-use Rattle.road_plan.specs.Plan.{Plan}
+use Rattle.std.proofs.Common.{◌∙◌, ap, subst, arith, ◌/◌, ◌*◌}
 use Rattle.road_ends.specs.Laws.{DependOnEarlierSettings}
-use Rattle.road_sheet.specs.Private.Blocks.{GiveSameRun}
 use Rattle.road_sheet.specs.Sheets.{Sheet}
 use Rattle.road_sheet.proofs.SameRuns.{same_run}
 use Rattle.road_sheet.proofs.SheetBlocks.{same_less}
@@ -11,12 +9,12 @@ pub going_on-requires-clause-same : goal.going_on-requires-clause-same
 going_on-requires-clause-same c =
     let s = c.args.self.now in
     let same = same_run s.plan s.edits c.args.joined c.args.keep (subst DependOnEarlierSettings (c.deref.ensures ∙ ap (λ (x : Sheet). x.plan) c.self.view_is) c.runs_depend_on_earlier_settings.ensures)
-        (c.settings_stay_before_touched.ensures s.plan s.edits c.args.joined) c.requires.untouched in
+    (c.settings_stay_before_touched.ensures s.plan s.edits c.args.joined) c.requires.untouched in
     same_less s.plan s.edits c.args.joined c.args.keep s.horizon (omega arith) same
 
 pub cut_back-requires-clause-same : goal.cut_back-requires-clause-same
 cut_back-requires-clause-same c =
     let s = c.args.self.now in
     let same = same_run s.plan s.edits c.args.joined c.args.keep (subst DependOnEarlierSettings (c.deref.ensures ∙ ap (λ (x : Sheet). x.plan) c.self.view_is) c.runs_depend_on_earlier_settings.ensures)
-        (c.settings_stay_before_touched.ensures s.plan s.edits c.args.joined) c.requires.untouched in
+    (c.settings_stay_before_touched.ensures s.plan s.edits c.args.joined) c.requires.untouched in
     same_less s.plan s.edits c.args.joined c.args.keep (64 * (c.args.keep / 64)) (omega arith) same

@@ -1,4 +1,4 @@
-use Rattle.std.proofs.Common.{◌≡◌, ◌∙◌, ap, sym}
+use Rattle.std.proofs.Common.{◌≡◌, ◌∙◌, ap}
 use Rattle.std.specs.Arc.{arc_value}
 use Rattle.std.proofs.lemmas.Result.{IfOk-weaker}
 use Rattle.road_plan.specs.Plan.{Plan}
@@ -15,7 +15,7 @@ returns c =
     let plan = ap (λ (x : Sheet). x.plan) c.self.view_is in
     let edits = ap (λ (x : Sheet). x.edits) c.self.view_is in
     let settings = c.in_ok-settings.ensures.made ∙ ap (λ (x : Plan). settings_of x c.self.inside.known.first c.horizon-step.result) (c.deref.ensures ∙ plan)
-        ∙ ap (λ (x : Edits). settings_of s.plan x c.horizon-step.result) edits ∙ ap (settings_of s.plan s.edits) c.horizon-step.ensures in
+    ∙ ap (λ (x : Edits). settings_of s.plan x c.horizon-step.result) edits ∙ ap (settings_of s.plan s.edits) c.horizon-step.ensures in
     let last = c.self.invariant.last ∙ ap (λ (x : Sheet). state_of x x.horizon) c.self.view_is in
     IfOk-weaker c.enter.result (λ input. arc_value input ≡ input_of (arc_value c.self.inside.plan) c.in_ok-settings.settings c.horizon-step.result c.self.inside.last) (λ input. arc_value input ≡ next_input s)
     (λ input is. is ∙ next_is s (arc_value c.self.inside.plan) c.in_ok-settings.settings c.horizon-step.result c.self.inside.last plan settings c.horizon-step.ensures last) c.enter.ensures

@@ -2,7 +2,6 @@ use Rattle.std.proofs.Common.{◌∙◌, ap, sym, subst, map, length, replicate}
 use Rattle.road_detector.specs.Passes.{no_totals}
 use Rattle.std.specs.Arc.{arc_value}
 use Rattle.road_plan.specs.Plan.{Plan}
-use Rattle.road_scenario.specs.Edits.{Edits}
 use Rattle.road_scenario.specs.Winners.{AreWinners}
 use Rattle.road_scenario.proofs.NoEdits.{winners-empty}
 use Rattle.road_sheet.proofs.SheetBlocks.{opened}

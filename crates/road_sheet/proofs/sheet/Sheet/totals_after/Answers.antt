@@ -1,4 +1,4 @@
-use Rattle.std.proofs.Common.{◌∙◌, ◌+◌, ◌*◌, ◌/◌, ap, subst, arith}
+use Rattle.std.proofs.Common.{◌∙◌, ◌*◌, ◌/◌, ap, subst, arith}
 use Rattle.road_scenario.specs.Settings.{settings_of}
 use Rattle.road_detector.specs.Laws.{PassOneByOne, BoundTotals}
 use Rattle.std.specs.List.{slice_index_or}

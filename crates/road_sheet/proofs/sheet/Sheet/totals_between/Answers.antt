@@ -1,5 +1,4 @@
-use Rattle.std.proofs.Common.{◌≡◌, ◌∙◌, ◌+◌, ap, subst, sym, arith}
-use Rattle.road_plan.specs.Plan.{Plan}
+use Rattle.std.proofs.Common.{◌∙◌, ◌+◌, ap, subst, arith}
 use Rattle.road_scenario.specs.Settings.{settings_of}
 use Rattle.road_detector.specs.Laws.{BoundTotals}
 use Rattle.road_sheet.specs.Sheets.{Sheet, total_of}
