@@ -6,7 +6,7 @@ use Rattle.road_format.specs.Cut.{Pieces, newline, cut_at, cut, last_piece}
 use Rattle.road_format.specs.CutLaws.{LinesGoOn, laid_out, CutLosesNothing, LinesHaveNoNewline}
 
 -- pieces, and then the pieces of what goes on from their last one
-abbrev joined : Pieces → Pieces → Pieces
+abbrev pub joined : Pieces → Pieces → Pieces
 joined p q = (p.0 ++ q.0, q.1)
 
 cut_at-joined : (x : ℕ) (lines : List (List ℕ)) (rest ys : List ℕ) (b : Bool) → (x == newline) ≡ b
@@ -15,7 +15,7 @@ cut_at-joined x lines rest ys true e = rw e refl
 cut_at-joined x [] rest ys false e = rw e (rw e refl)
 cut_at-joined x (line ∷ lines) rest ys false e = rw e refl
 
-cut-append : (xs ys : List ℕ) → cut (xs ++ ys) ≡ joined (cut xs) (cut ((cut xs).1 ++ ys))
+pub cut-append : (xs ys : List ℕ) → cut (xs ++ ys) ≡ joined (cut xs) (cut ((cut xs).1 ++ ys))
 cut-append [] ys = refl
 cut-append (x ∷ xs) ys = ap (cut_at x) (cut-append xs ys) ∙ cut_at-joined x (cut xs).0 (cut xs).1 ys (x == newline) refl
 

@@ -1,9 +1,9 @@
+pub mod Options
 pub mod Pieces
 pub mod Accepted
-pub mod Machine
-pub mod Lines
-pub mod Closing
-pub mod Exits
-pub mod Fronts
-mod Examples
-mod PlanFaults
+pub mod CutBytes
+pub mod LineReplies
+pub mod SinkTexts
+pub mod AnswersGrow
+pub mod DialogueSteps
+pub mod DialogueCalls

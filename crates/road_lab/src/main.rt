@@ -1,7 +1,7 @@
 //! The program `road_lab`: it reads a plan line and then commands, one JSON object a line, and writes a reply for each.
 #![tactic(auto)]
 
-mod desk;
+mod dialogue;
 mod faults;
 mod laws;
 mod memory;
@@ -9,6 +9,7 @@ mod run;
 mod serve;
 mod std_streams;
 mod streams;
+mod waiting;
 #[cfg(test)]
 mod tests;
 

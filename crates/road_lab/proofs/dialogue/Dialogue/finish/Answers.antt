@@ -1,0 +1,1 @@
+use Rattle.road_lab.proofs.dialogue.Dialogue.finish.Goals as goal

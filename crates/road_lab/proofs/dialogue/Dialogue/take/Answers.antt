@@ -1,0 +1,1 @@
+use Rattle.road_lab.proofs.dialogue.Dialogue.take.Goals as goal

@@ -1,0 +1,1 @@
+use Rattle.road_lab.proofs.dialogue.Dialogue.take_line.Goals as goal
