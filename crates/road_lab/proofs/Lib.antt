@@ -7,3 +7,7 @@ pub mod SinkTexts
 pub mod AnswersGrow
 pub mod DialogueSteps
 pub mod DialogueCalls
+pub mod DialogueEnds
+pub mod RunEnds
+mod Examples
+mod PlanFaults

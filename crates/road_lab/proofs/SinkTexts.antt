@@ -56,7 +56,7 @@ stops_longer a b text more text' faults.BadPlan e s = absurd s
 stops_longer a b text more text' faults.Read e s = absurd s
 stops_longer a b text more text' faults.TooMany e s = absurd s
 
-rises_after : (a b c : ℕ) → b ≡ a → c ≡ min (b + 1) (2 ^ 64 - 1) → c ≡ min (a + 1) (2 ^ 64 - 1)
+pub rises_after : (a b c : ℕ) → b ≡ a → c ≡ min (b + 1) (2 ^ 64 - 1) → c ≡ min (a + 1) (2 ^ 64 - 1)
 rises_after a b c e r = r ∙ ap (λ (k : ℕ). min (k + 1) (2 ^ 64 - 1)) e
 
 pub stops_after : (a b c : SinkView) (text rest more : List ℕ) (fault : ServeFault) → TakesAllBut a b text rest → b.failures ≡ a.failures → Stops b c (rest ++ more) fault → Stops a c (text ++ more) fault

@@ -1,7 +1,6 @@
 -- What serves lines, after the bytes that came to it.
 use Rattle.std.specs.Prelude.{◌≡◌, ℕ, ◌+◌, ◌<◌, ◌≤◌, List, [], ◌∷◌, Bool, true, false, length, Option, Some, None, Result, Ok, Err}
 use Rattle.road_plan.specs.declared.limits.TheConstants.{LONGEST_LINE}
-use Rattle.std.specs.Io.KnownBytes.{Appends}
 use Rattle.road_format.specs.Cut.{cut, lines_of}
 use Rattle.road_format.specs.CommandGrammar.{Command}
 use Rattle.road_format.specs.PlanGrammar.{PlanLine}
@@ -84,9 +83,9 @@ StandsAtEnd lines bytes d None =
 StandsAtEnd lines bytes d (Some ends.BadPlan) = is_plan_refused bytes true ≡ true
 StandsAtEnd lines bytes d (Some ends.TooMany) = ⊥
 
--- The input has ended with these bytes, and all its lines are answered: in the sink, which is flushed.
+-- The input has ended with these bytes, and all its lines are answered: in the sink, or in what waits to be written. No call
+-- of the sink failed.
 pub record HasFinished (lines : ℕ) (bytes : List ℕ) (first sink : SinkView) (d : Dialogue) : Type 0 where
-  pub answered : Appends first.contents sink.contents (answers lines bytes true)
-  pub flushed : sink.flushed ≡ true
+  pub answered : TakesAllBut first sink (answers lines bytes true) d.waiting.items
   pub well : sink.failures ≡ first.failures
   pub stands : StandsAtEnd lines bytes d d.over

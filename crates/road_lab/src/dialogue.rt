@@ -135,7 +135,9 @@ pub struct Dialogue {
 impl Dialogue {
     /// The dialogue to which nothing has come. So many lines may come after the plan line.
     pub fn new(alloc: Global, lines: u32) -> Dialogue
-        ensures { (first : SinkView) → HasAnswered lines [] first first result }
+        ensures none_came { (first : SinkView) → HasAnswered lines [] first first result }
+        ensures going { result.over ≡ None }
+        ensures none_wait { result.waiting.items ≡ [] }
     {
         Dialogue {
             keeper: None,
@@ -168,6 +170,13 @@ impl Dialogue {
         ensures { IsTrue result ↔ (IsSome self.now.keeper × (self.now.left ≡ 0)) }
     {
         self.keeper.is_some() && self.left == 0
+    }
+
+    // Whether nothing of the next line has come.
+    fn is_clear(&self) -> bool
+        ensures { IsTrue result ↔ ((self.now.held.items ≡ []) × (self.now.long ≡ false)) }
+    {
+        self.held.is_empty() && !self.long
     }
 
     // The line that is held has ended: the reply to it.
@@ -269,8 +278,8 @@ impl Dialogue {
         Ok(())
     }
 
-    /// The input has ended: writes the reply to a last line without a newline, or to an input without a line, and flushes.
-    pub fn finish<W: Sink>(&mut self, alloc: Global, writer: &mut W) -> Result<(), ServeFault>
+    // The input has ended: answers a last line without a newline, or an input without a line.
+    fn answer_last<W: Sink>(&mut self, alloc: Global, writer: &mut W) -> Result<(), ServeFault>
         requires { self.old.over ≡ None }
         ensures { (lines : ℕ) (bytes : List ℕ) (first : SinkView)
             → HasAnswered lines bytes first (sink_view W.Sink writer.old) self.old
@@ -278,13 +287,29 @@ impl Dialogue {
                 (λ _. HasFinished lines bytes first (sink_view W.Sink writer.new) self.new)
                 (λ fault. Stops first (sink_view W.Sink writer.new) (answers lines bytes true) fault) }
     {
-        if !self.held.is_empty() || self.long {
-            self.answer(alloc, writer)?;
-        } else if self.keeper.is_none() {
-            let reply = reply_line(alloc, &Answer::Refused(Refusal::NoPlan))?;
-            put(&mut self.waiting, writer, reply.as_bytes())?;
-            self.over = Some(EarlyEnd::BadPlan);
+        if !self.is_clear() {
+            return self.answer(alloc, writer);
         }
+        if self.keeper.is_some() {
+            return Ok(());
+        }
+        let reply = reply_line(alloc, &Answer::Refused(Refusal::NoPlan))?;
+        self.over = Some(EarlyEnd::BadPlan);
+        put(&mut self.waiting, writer, reply.as_bytes())
+    }
+
+    /// The input has ended: writes the reply to a last line without a newline, or to an input without a line, and flushes.
+    pub fn finish<W: Sink>(&mut self, alloc: Global, writer: &mut W) -> Result<(), ServeFault>
+        requires { self.old.over ≡ None }
+        ensures answered { (lines : ℕ) (bytes : List ℕ) (first : SinkView)
+            → HasAnswered lines bytes first (sink_view W.Sink writer.old) self.old
+            → MatchResult result
+                (λ _. HasFinished lines bytes first (sink_view W.Sink writer.new) self.new)
+                (λ fault. Stops first (sink_view W.Sink writer.new) (answers lines bytes true) fault) }
+        ensures none_wait { OnOk result (self.new.waiting.items ≡ []) }
+        ensures flushed { OnOk result (W.flushed writer.new ≡ true) }
+    {
+        self.answer_last(alloc, writer)?;
         flush(&mut self.waiting, writer)?;
         Ok(())
     }

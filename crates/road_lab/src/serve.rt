@@ -67,12 +67,12 @@ pub fn serve_within<R: Source, W: Sink>(
         let count = reader.read(&mut buffer)?;
         if count == 0 {
             dialogue.finish(alloc, writer)?;
-            return match dialogue.over {
-                Some(end) => Err(end.fault()),
-                None => Ok(Served {
-                    lines: lines.saturating_sub(dialogue.left),
-                }),
-            };
+            if let Some(end) = dialogue.over {
+                return Err(end.fault());
+            }
+            return Ok(Served {
+                lines: lines.saturating_sub(dialogue.left),
+            });
         }
         let within = fitting(room, count);
         dialogue.take(alloc, writer, &buffer[..within])?;
