@@ -1,12 +1,12 @@
 -- What was answered stays, as more bytes come.
-use Rattle.std.proofs.Common.{◌≡◌, ◌≤◌, ◌<◌, ◌==◌, ◌+◌, ℕ, zero, suc, List, [], ◌∷◌, ◌++◌, length, take, Bool, true, false, Option, Some, None, Result, Ok, Err, refl, ap, sym, subst, ◌∙◌, append_assoc, append-nil, length-append, arith}
+use Rattle.std.proofs.Common.{◌≡◌, ◌≤◌, ◌<◌, ◌==◌, ℕ, zero, suc, List, [], ◌∷◌, ◌++◌, length, take, Bool, true, false, Some, Result, Ok, Err, refl, ap, sym, ◌∙◌, append_assoc, append-nil, length-append, arith}
 use Rattle.std.proofs.lemmas.Bool.{ltb-true, ltb-false, lt-ltb, le-ltb}
 use Rattle.std.proofs.lemmas.List.{take_all}
 use Rattle.road_format.specs.Cut.{newline, Pieces, cut_at, cut, last_piece, lines_of}
 use Rattle.road_format.specs.PlanGrammar.{PlanLine}
 use Rattle.road_format.specs.Replies.{reply}
 use Rattle.road_format.specs.declared.refusal.Refusal.{Refusal}
-use Rattle.road_format.proofs.Lines.{lines_go_on, joined, cut-append}
+use Rattle.road_format.proofs.Lines.{lines_go_on, cut-append}
 use Rattle.road_keeper.specs.Laboratory.{Event}
 use Rattle.road_lab.specs.Answers.{plan_reading, command_reading, opening_answer, line_answer, line_events, later_replies, session_replies, first_reading, line_replies, answers, ends_within, answers_within, is_refusal, is_plan_refused, has_more_lines}
 use Rattle.road_lab.specs.Laws.{AnswersGoOn}

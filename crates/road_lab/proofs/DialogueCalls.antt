@@ -1,9 +1,8 @@
 -- What the calls of a dialogue promise, from what their parts do.
-use Rattle.std.proofs.Common.{◌≡◌, ◌≢◌, ◌≤◌, ◌<◌, ◌+◌, ◌-◌, ℕ, zero, suc, List, [], ◌∷◌, ◌++◌, length, take, drop, Bool, true, false, IsSome, Option, Some, None, Result, Ok, Err, refl, ap, sym, subst, ◌∙◌, append_assoc, append-nil, length-append, take-append-drop, arith}
+use Rattle.std.proofs.Common.{◌≡◌, ◌+◌, ℕ, suc, List, [], ◌∷◌, ◌++◌, length, take, drop, Bool, false, IsSome, Option, Some, None, Result, Ok, Err, refl, ap, sym, subst, ◌∙◌, append_assoc, append-nil, take-append-drop, arith}
 use Rattle.std.specs.Prelude.{OnOk, IfErr, MatchResult}
 use Rattle.std.proofs.lemmas.List.{take_all}
 use Rattle.std.proofs.Math.Seq.{take-add}
-use Rattle.std.proofs.KnownBytes.{Appends-kept, Appends-trans}
 use Rattle.std.specs.Io.KnownBytes.{Appends}
 use Rattle.road_format.specs.Cut.{newline, cut}
 use Rattle.road_lab.specs.Answers.{answers, has_more_lines}
@@ -17,8 +16,8 @@ use Rattle.road_lab.specs.declared.faults.ServeFault.{ServeFault}
 use Rattle.road_lab.specs.declared.faults.ServeFault.TheVariants as faults
 use Rattle.road_lab.proofs.AnswersGrow.{answers_more}
 use Rattle.road_lab.proofs.CutBytes.{IsLine, EndsAt}
-use Rattle.road_lab.proofs.DialogueSteps.{over_more, goes_on, full_more, room_line, room_newline, held_more}
-use Rattle.road_lab.proofs.SinkTexts.{takes_same, takes_all, takes_more, taken_all, front_longer, stops_longer, stops_after}
+use Rattle.road_lab.proofs.DialogueSteps.{goes_on, room_line, room_newline, held_more}
+use Rattle.road_lab.proofs.SinkTexts.{takes_same, takes_all, takes_more, front_longer, stops_longer, stops_after}
 
 pub answered_same : (n : ℕ) (a a' : List ℕ) (first sink : SinkView) (d : Dialogue) → a ≡ a' → HasAnswered n a first sink d → HasAnswered n a' first sink d
 answered_same n a a' first sink d e h = let Family : List ℕ → Type 0 = λ x. HasAnswered n x first sink d in subst Family e h

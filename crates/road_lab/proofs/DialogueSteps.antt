@@ -1,13 +1,13 @@
 -- What holds of a dialogue as bytes come.
-use Rattle.std.proofs.Common.{◌≡◌, ◌≢◌, ◌≤◌, ◌<◌, ◌+◌, ◌-◌, ℕ, zero, suc, List, [], ◌∷◌, ◌++◌, length, take, Bool, true, false, IsSome, Option, Some, None, Result, Ok, Err, refl, ap, sym, subst, ◌∙◌, append_assoc, append-nil, length-append, arith}
+use Rattle.std.proofs.Common.{◌≡◌, ◌≢◌, ◌≤◌, ◌<◌, ◌-◌, ℕ, zero, suc, List, [], ◌∷◌, ◌++◌, length, Bool, true, false, IsSome, Option, Some, None, refl, ap, sym, subst, ◌∙◌, length-append, arith}
 use Rattle.road_format.specs.Cut.{newline, Pieces, cut, last_piece, lines_of}
 use Rattle.road_format.specs.CommandGrammar.{command_of}
 use Rattle.road_format.specs.PlanGrammar.{plan_line_of}
 use Rattle.road_format.specs.Replies.{reply}
-use Rattle.road_keeper.specs.Kept.{Kept, start}
+use Rattle.road_keeper.specs.Kept.{Kept}
 use Rattle.road_lab.specs.Answers.{reading_unless, opening_answer, first_reading, line_replies, answers, is_refusal, is_plan_refused, has_more_lines}
 use Rattle.road_lab.specs.Dialogue.{opening_kept, reading_answer, kept_after_reading, IsAfterLines, Holds, GoesOn, Stands, HasAnswered}
-use Rattle.road_lab.specs.StreamViews.{SinkView, TakesAllBut}
+use Rattle.road_lab.specs.StreamViews.{SinkView}
 use Rattle.road_lab.specs.declared.dialogue.Dialogue.{Dialogue}
 use Rattle.road_lab.specs.declared.faults.EarlyEnd.{EarlyEnd}
 use Rattle.road_lab.specs.declared.faults.EarlyEnd.TheVariants as ends

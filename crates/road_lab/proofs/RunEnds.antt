@@ -1,18 +1,18 @@
 -- Each way out of a run ends it as it promises.
-use Rattle.std.proofs.Common.{◌≡◌, ◌≤◌, ◌<◌, ◌==◌, ◌+◌, ◌-◌, ◌^◌, min, ℕ, zero, suc, List, [], ◌∷◌, ◌++◌, length, take, Bool, true, false, Option, Some, None, Result, Ok, Err, refl, ap, sym, subst, ◌∙◌, append-nil, length-append, arith}
+use Rattle.std.proofs.Common.{◌≡◌, ◌≤◌, ◌<◌, ◌==◌, ◌+◌, ◌-◌, min, ℕ, zero, suc, List, [], ◌∷◌, ◌++◌, length, take, Bool, true, false, Option, Some, None, Result, Ok, Err, refl, ap, sym, subst, ◌∙◌, append-nil, length-append, arith}
 use Rattle.std.specs.Prelude.{nat_lt, nat_le}
 use Rattle.std.proofs.lemmas.Bool.{le-leb, le-ltb, lt-ltb, ltb-false}
 use Rattle.std.proofs.lemmas.List.{take_all, length-take-le}
 use Rattle.std.proofs.Math.Seq.{take-append-add}
 use Rattle.std.proofs.Math.Dec.{eqb-suc-zero}
 use Rattle.std.proofs.KnownBytes.{Consumes-nil, Consumes-trans, Consumes-kept}
-use Rattle.std.specs.Io.KnownBytes.{Appends, Consumes, IsAtEnd, Keeps, ReadConsumes}
+use Rattle.std.specs.Io.KnownBytes.{Consumes, IsAtEnd, Keeps}
 use Rattle.road_format.specs.Cut.{lines_of}
 use Rattle.road_lab.specs.Answers.{later_lines, answers, answers_within, is_plan_refused, is_plan_refused_within, has_more_lines, has_byte_past_limits, reply_count}
 use Rattle.road_lab.specs.Dialogue.{HasAnswered, HasFinished, Stands, StandsAtEnd}
 use Rattle.road_lab.specs.Failures.{RisesByOne}
 use Rattle.road_lab.specs.Faults.{early_fault}
-use Rattle.road_lab.specs.Run.{Run, run_answers, WritesAll, EndsWell, Ends, Answers}
+use Rattle.road_lab.specs.Run.{Run, run_answers, WritesAll, Ends, Answers}
 use Rattle.road_lab.specs.StreamViews.{SourceView, SinkView, Stops}
 use Rattle.road_lab.specs.declared.dialogue.Dialogue.{Dialogue}
 use Rattle.road_lab.specs.declared.faults.EarlyEnd.{EarlyEnd}

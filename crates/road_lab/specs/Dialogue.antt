@@ -37,13 +37,15 @@ unfoldable pub kept_after_lines : Kept → List (List ℕ) → Kept
 kept_after_lines kept [] = kept
 kept_after_lines kept (line ∷ lines) = kept_after_lines (kept_after_reading kept (command_reading line)) lines
 
--- after these lines: nothing before the first; then its plan, and what is kept after the later ones. So many more may come
+-- after these lines: nothing before the first; then its plan, and what is kept after the later ones. So many more may
+-- come
 abbrev pub IsAfterLines : ℕ → List (List ℕ) → Option Kept → ℕ → Type 0
 IsAfterLines lines [] None left = left ≡ lines
 IsAfterLines lines [] (Some kept) left = ⊥
 IsAfterLines lines (first ∷ later) None left = ⊥
 IsAfterLines lines (first ∷ later) (Some kept) left =
-    (plan : PlanLine) × (plan_reading first ≡ Ok plan) × (kept ≡ kept_after_lines (start plan) later) × (left + length later ≡ lines)
+    (plan : PlanLine) × (plan_reading first ≡ Ok plan) × (kept ≡ kept_after_lines (start plan) later)
+    × (left + length later ≡ lines)
 
 -- ---- the line that has not ended
 
@@ -83,8 +85,8 @@ StandsAtEnd lines bytes d None =
 StandsAtEnd lines bytes d (Some ends.BadPlan) = is_plan_refused bytes true ≡ true
 StandsAtEnd lines bytes d (Some ends.TooMany) = ⊥
 
--- The input has ended with these bytes, and all its lines are answered: in the sink, or in what waits to be written. No call
--- of the sink failed.
+-- The input has ended with these bytes, and all its lines are answered: in the sink, or in what waits to be written. No
+-- call of the sink failed.
 pub record HasFinished (lines : ℕ) (bytes : List ℕ) (first sink : SinkView) (d : Dialogue) : Type 0 where
   pub answered : TakesAllBut first sink (answers lines bytes true) d.waiting.items
   pub well : sink.failures ≡ first.failures

@@ -8,8 +8,8 @@ use Rattle.road_lab.specs.declared.faults.ServeFault.{ServeFault}
 use Rattle.road_lab.specs.declared.faults.ServeFault.TheVariants as faults
 use Rattle.road_lab.specs.declared.serve.Served.{Served}
 
--- A run: how many lines may come after the plan line, and how many bytes in all; its source and its sink before and after
--- it; and its result.
+-- A run: how many lines may come after the plan line, and how many bytes in all; its source and its sink before and
+-- after it; and its result.
 pub record Run : Type 0 where
   pub lines : ℕ
   pub bytes : ℕ
@@ -38,7 +38,8 @@ RefusesPlan run input answer = is_plan_refused_within run.bytes input run.source
 abbrev pub PassesLimits : Run → List ℕ → Bool → Type 0
 PassesLimits run input answer = has_byte_past_limits run.lines run.bytes input ≡ answer
 
--- A run that ends well: at the end of input, with nothing left. The plan line is accepted, and no byte is past the limits.
+-- A run that ends well: at the end of input, with nothing left. The plan line is accepted, and no byte is past the
+-- limits.
 pub record EndsWell (run : Run) (input : List ℕ) (served : Served) : Type 0 where
   pub writes : WritesAll run input
   pub at_end : run.source_after.at_end ≡ true
@@ -49,7 +50,8 @@ pub record EndsWell (run : Run) (input : List ℕ) (served : Served) : Type 0 wh
 
 -- A run that a failed read ends: the answers to the lines that were read whole were written.
 pub record EndsUnread (run : Run) (input : List ℕ) : Type 0 where
-  pub written : Appends run.sink_before.contents run.sink_after.contents (answers_within run.lines run.bytes input false)
+  pub written : Appends run.sink_before.contents run.sink_after.contents
+      (answers_within run.lines run.bytes input false)
   pub reads_failed : RisesByOne run.source_before.failures run.source_after.failures
   pub writes_well : run.sink_after.failures ≡ run.sink_before.failures
 

@@ -7,8 +7,8 @@ use Rattle.road_lab.specs.declared.faults.ServeFault.TheVariants as faults
 use Rattle.road_lab.specs.declared.streams.Source.{Ghosts as Source}
 use Rattle.road_lab.specs.declared.streams.Sink.{Ghosts as Sink}
 
--- of a source: the bytes that are left, where that is known; whether the last read gave the end of input; how many reads
--- failed
+-- of a source: the bytes that are left, where that is known; whether the last read gave the end of input; how many
+-- reads failed
 pub record SourceView : Type 0 where
   pub remaining : Option (List ℕ)
   pub at_end : Bool

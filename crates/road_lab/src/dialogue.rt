@@ -64,11 +64,7 @@ fn later_line(
 }
 
 // The reply to the plan line, and the replicas where it is accepted.
-fn opening(
-    alloc: Global,
-    held: &[u8],
-    long: bool,
-) -> Result<(String, Option<Keeper>), OutOfMemory>
+fn opening(alloc: Global, held: &[u8], long: bool) -> Result<(String, Option<Keeper>), OutOfMemory>
     ensures text { IfOk result (λ opened. string_bytes opened.0
         ≡ reply (opening_answer (reading_unless long (plan_line_of held.now)))) }
     ensures keeper { IfOk result (λ opened. opened.1 ≡ opening_kept (reading_unless long (plan_line_of held.now))) }
@@ -96,7 +92,8 @@ fn later_reply(
 ) -> Result<String, OutOfMemory>
     ensures text { IfOk result (λ text. string_bytes text
         ≡ reply (reading_answer keeper.old (reading_unless long (command_of held.now)))) }
-    ensures after { OnOk result (keeper.new ≡ kept_after_reading keeper.old (reading_unless long (command_of held.now))) }
+    ensures after { OnOk result (keeper.new
+        ≡ kept_after_reading keeper.old (reading_unless long (command_of held.now))) }
 {
     match later_line(alloc, held, long)? {
         Ok(command) => {
@@ -184,8 +181,9 @@ impl Dialogue {
         requires { self.old.over ≡ None }
         ensures answered { (lines : ℕ) (bytes : List ℕ) → GoesOn lines bytes self.old
             → has_more_lines lines (bytes ++ newline ∷ []) ≡ false
-            → IfOk result (λ text. (answers lines (bytes ++ newline ∷ []) false ≡ answers lines bytes false ++ string_bytes text)
-                × Stands lines (bytes ++ newline ∷ []) self.new self.new.over) }
+            → IfOk result (λ text.
+            (answers lines (bytes ++ newline ∷ []) false ≡ answers lines bytes false ++ string_bytes text)
+            × Stands lines (bytes ++ newline ∷ []) self.new self.new.over) }
         ensures waiting { self.new.waiting ≡ self.old.waiting }
     {
         if let Some(keeper) = &mut self.keeper {
@@ -213,8 +211,8 @@ impl Dialogue {
             → HasAnswered lines bytes first (sink_view W.Sink writer.old) self.old
             → has_more_lines lines (bytes ++ newline ∷ []) ≡ false
             → MatchResult result
-                (λ _. HasAnswered lines (bytes ++ newline ∷ []) first (sink_view W.Sink writer.new) self.new)
-                (λ fault. Stops first (sink_view W.Sink writer.new) (answers lines (bytes ++ newline ∷ []) false) fault) }
+            (λ _. HasAnswered lines (bytes ++ newline ∷ []) first (sink_view W.Sink writer.new) self.new)
+            (λ fault. Stops first (sink_view W.Sink writer.new) (answers lines (bytes ++ newline ∷ []) false) fault) }
     {
         let reply = self.reply(alloc)?;
         put(&mut self.waiting, writer, reply.as_bytes())
@@ -232,8 +230,8 @@ impl Dialogue {
         ensures answered { (lines : ℕ) (before : List ℕ) (first : SinkView)
             → HasAnswered lines before first (sink_view W.Sink writer.old) self.old
             → MatchResult result
-                (λ n. HasAnswered lines (before ++ take n bytes.now) first (sink_view W.Sink writer.new) self.new)
-                (λ fault. Stops first (sink_view W.Sink writer.new) (answers lines (before ++ bytes.now) false) fault) }
+            (λ n. HasAnswered lines (before ++ take n bytes.now) first (sink_view W.Sink writer.new) self.new)
+            (λ fault. Stops first (sink_view W.Sink writer.new) (answers lines (before ++ bytes.now) false) fault) }
     {
         if self.over.is_some() {
             return Ok(bytes.len());
@@ -265,8 +263,8 @@ impl Dialogue {
         ensures answered { (lines : ℕ) (before : List ℕ) (first : SinkView)
             → HasAnswered lines before first (sink_view W.Sink writer.old) self.old
             → MatchResult result
-                (λ _. HasAnswered lines (before ++ bytes.now) first (sink_view W.Sink writer.new) self.new)
-                (λ fault. Stops first (sink_view W.Sink writer.new) (answers lines (before ++ bytes.now) false) fault) }
+            (λ _. HasAnswered lines (before ++ bytes.now) first (sink_view W.Sink writer.new) self.new)
+            (λ fault. Stops first (sink_view W.Sink writer.new) (answers lines (before ++ bytes.now) false) fault) }
         ensures none_wait { OnOk result (self.new.waiting.items ≡ []) }
         ensures flushed { OnOk result (W.flushed writer.new ≡ true) }
     {
@@ -284,8 +282,8 @@ impl Dialogue {
         ensures { (lines : ℕ) (bytes : List ℕ) (first : SinkView)
             → HasAnswered lines bytes first (sink_view W.Sink writer.old) self.old
             → MatchResult result
-                (λ _. HasFinished lines bytes first (sink_view W.Sink writer.new) self.new)
-                (λ fault. Stops first (sink_view W.Sink writer.new) (answers lines bytes true) fault) }
+            (λ _. HasFinished lines bytes first (sink_view W.Sink writer.new) self.new)
+            (λ fault. Stops first (sink_view W.Sink writer.new) (answers lines bytes true) fault) }
     {
         if !self.is_clear() {
             return self.answer(alloc, writer);
@@ -298,14 +296,15 @@ impl Dialogue {
         put(&mut self.waiting, writer, reply.as_bytes())
     }
 
-    /// The input has ended: writes the reply to a last line without a newline, or to an input without a line, and flushes.
+    /// The input has ended: writes the reply to a last line without a newline, or to an input without a line, and
+    /// flushes.
     pub fn finish<W: Sink>(&mut self, alloc: Global, writer: &mut W) -> Result<(), ServeFault>
         requires { self.old.over ≡ None }
         ensures answered { (lines : ℕ) (bytes : List ℕ) (first : SinkView)
             → HasAnswered lines bytes first (sink_view W.Sink writer.old) self.old
             → MatchResult result
-                (λ _. HasFinished lines bytes first (sink_view W.Sink writer.new) self.new)
-                (λ fault. Stops first (sink_view W.Sink writer.new) (answers lines bytes true) fault) }
+            (λ _. HasFinished lines bytes first (sink_view W.Sink writer.new) self.new)
+            (λ fault. Stops first (sink_view W.Sink writer.new) (answers lines bytes true) fault) }
         ensures none_wait { OnOk result (self.new.waiting.items ≡ []) }
         ensures flushed { OnOk result (W.flushed writer.new ≡ true) }
     {

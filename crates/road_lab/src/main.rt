@@ -9,9 +9,9 @@ mod run;
 mod serve;
 mod std_streams;
 mod streams;
-mod waiting;
 #[cfg(test)]
 mod tests;
+mod waiting;
 
 use crate::run::{Ended, run};
 use crate::std_streams::{StdSink, StdSource};

@@ -53,15 +53,16 @@ pub fn run<R: Source, W: Sink>(
 ) -> Ended
     ensures refused { words.now ≢ [] → HasStatus result 2 (Some (codes "bad arguments"))
         × (reader.new ≡ reader.old) × (writer.new ≡ writer.old) }
-    ensures served { words.now ≡ [] → (served : Result Served ServeFault) × HasStatus result (status_of served) (line_of served)
+    ensures served { words.now ≡ [] → (served : Result Served ServeFault)
+        × HasStatus result (status_of served) (line_of served)
         × Answers (record {
-            lines = MOST_LINES;
-            bytes = MOST_BYTES;
-            source_before = source_view R.Source reader.old;
-            source_after = source_view R.Source reader.new;
-            sink_before = sink_view W.Sink writer.old;
-            sink_after = sink_view W.Sink writer.new;
-            result = served;
+          lines = MOST_LINES;
+          bytes = MOST_BYTES;
+          source_before = source_view R.Source reader.old;
+          source_after = source_view R.Source reader.new;
+          sink_before = sink_view W.Sink writer.old;
+          sink_after = sink_view W.Sink writer.new;
+          result = served;
         }) }
 {
     if !are_accepted(words) {

@@ -22,21 +22,21 @@ pub struct Served {
     pub lines: u32,
 }
 
-/// Reads an input to its end, and writes the reply to each of its lines. At most 1,000,000 lines after the plan line are
-/// read, and at most 2^32 bytes.
+/// Reads an input to its end, and writes the reply to each of its lines. At most 1,000,000 lines after the plan line
+/// are read, and at most 2^32 bytes.
 pub fn serve<R: Source, W: Sink>(
     alloc: Global,
     reader: &mut R,
     writer: &mut W,
 ) -> Result<Served, ServeFault>
     ensures { Answers (record {
-        lines = MOST_LINES;
-        bytes = MOST_BYTES;
-        source_before = source_view R.Source reader.old;
-        source_after = source_view R.Source reader.new;
-        sink_before = sink_view W.Sink writer.old;
-        sink_after = sink_view W.Sink writer.new;
-        result = result;
+      lines = MOST_LINES;
+      bytes = MOST_BYTES;
+      source_before = source_view R.Source reader.old;
+      source_after = source_view R.Source reader.new;
+      sink_before = sink_view W.Sink writer.old;
+      sink_after = sink_view W.Sink writer.new;
+      result = result;
     }) }
 {
     serve_within(alloc, reader, writer, MOST_LINES, MOST_BYTES)
@@ -51,13 +51,13 @@ pub fn serve_within<R: Source, W: Sink>(
     bytes: u64,
 ) -> Result<Served, ServeFault>
     ensures { Answers (record {
-        lines = lines;
-        bytes = bytes;
-        source_before = source_view R.Source reader.old;
-        source_after = source_view R.Source reader.new;
-        sink_before = sink_view W.Sink writer.old;
-        sink_after = sink_view W.Sink writer.new;
-        result = result;
+      lines = lines;
+      bytes = bytes;
+      source_before = source_view R.Source reader.old;
+      source_after = source_view R.Source reader.new;
+      sink_before = sink_view W.Sink writer.old;
+      sink_after = sink_view W.Sink writer.new;
+      result = result;
     }) }
 {
     let mut dialogue = Dialogue::new(alloc, lines);

@@ -28,11 +28,7 @@ fn write_all<W: Sink>(writer: &mut W, bytes: &[u8]) -> Result<(), WriteFailed>
 }
 
 /// Puts a reply behind those that wait. Where it would be too much for them, they are written, and then the reply is.
-pub fn put<W: Sink>(
-    waiting: &mut Vec<u8>,
-    writer: &mut W,
-    reply: &[u8],
-) -> Result<(), ServeFault>
+pub fn put<W: Sink>(waiting: &mut Vec<u8>, writer: &mut W, reply: &[u8]) -> Result<(), ServeFault>
     ensures ok { OnOk result (TakesAllBut (sink_view W.Sink writer.old) (sink_view W.Sink writer.new)
         (waiting.old.items ++ reply.now) waiting.new.items) }
     ensures well { OnOk result (W.failures writer.new ≡ W.failures writer.old) }
@@ -56,7 +52,8 @@ pub fn flush<W: Sink>(waiting: &mut Vec<u8>, writer: &mut W) -> Result<(), Write
     ensures none_wait { OnOk result (waiting.new.items ≡ []) }
     ensures well { OnOk result (W.failures writer.new ≡ W.failures writer.old) }
 
-    ensures front { OnErr result (TakesFront (sink_view W.Sink writer.old) (sink_view W.Sink writer.new) waiting.old.items) }
+    ensures front { OnErr result (TakesFront (sink_view W.Sink writer.old) (sink_view W.Sink writer.new)
+        waiting.old.items) }
     ensures failed { OnErr result (RisesByOne (W.failures writer.old) (W.failures writer.new)) }
 {
     write_all(writer, waiting.as_slice())?;

@@ -1,4 +1,4 @@
-use Rattle.std.proofs.Common.{◌≡◌, ◌≤◌, ◌<◌, ◌∙◌, ◌++◌, ◌-◌, ℕ, List, Some, None, is_some, min, take, length, refl, sym, ap, arith}
+use Rattle.std.proofs.Common.{◌<◌, length, refl, arith}
 use Rattle.std.proofs.lemmas.Result.{err_from_is_err_and}
 use Rattle.road_lab.specs.StreamViews.{source_view, sink_view}
 use Rattle.road_lab.proofs.RunEnds.{at_first, ReadMore, read_on, unread, stopped, over, past, stopped_at_end, refused_at_end, ended_well}

@@ -1,4 +1,3 @@
-use Rattle.std.proofs.Common.{ℕ}
 use Rattle.road_lab.specs.StreamViews.{source_view, sink_view}
 use Rattle.road_lab.proofs.RunEnds.{SoFar}
 use Rattle.road_lab.proofs.serve.serve_within.Given as goal

@@ -20,9 +20,10 @@ returns-in_err-write_all-2-clause-err g c =
     let first = sink_view g.W.Sink c.args.writer.now in
     let between = sink_view g.W.Sink c.write_all.new.writer in
     let waited = takes_same first between _ c.args.waiting.now.items [] [] c.as_slice.ensures.value refl (takes_all first between c.as_slice.result.now c.in_ok-write_all.ensures.all) in
-    rw (p.1, p.2)
-    (front_after first between _ c.args.waiting.now.items [] c.args.reply.now waited c.in_err-write_all-2.ensures.front,
-    c.in_err-write_all-2.ensures.failed ∙ ap (λ (k : ℕ). min (k + 1) (2 ^ 64 - 1)) c.in_ok-write_all.ensures.well)
+    rw (p.1, p.2) (
+      front_after first between _ c.args.waiting.now.items [] c.args.reply.now waited c.in_err-write_all-2.ensures.front,
+      c.in_err-write_all-2.ensures.failed ∙ ap (λ (k : ℕ). min (k + 1) (2 ^ 64 - 1)) c.in_ok-write_all.ensures.well,
+    )
 
 pub returns-clause-ok : goal.returns-clause-ok
 returns-clause-ok g c =

@@ -1,7 +1,6 @@
-use Rattle.std.proofs.Common.{◌≡◌, ◌∙◌, ◌++◌, ◌∷◌, [], ℕ, List, refl, sym, ap, string_bytes}
+use Rattle.std.proofs.Common.{◌∙◌, ◌++◌, ◌∷◌, [], ℕ, List, refl, ap, string_bytes}
 use Rattle.std.proofs.lemmas.Result.{err_from_is_err_and}
 use Rattle.road_format.specs.Cut.{newline}
-use Rattle.road_lab.specs.Answers.{answers}
 use Rattle.road_lab.specs.StreamViews.{sink_view}
 use Rattle.road_lab.proofs.DialogueSteps.{goes_on}
 use Rattle.road_lab.proofs.DialogueCalls.{stops_memory, answer_ends}

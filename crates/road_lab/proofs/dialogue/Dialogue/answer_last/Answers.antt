@@ -1,4 +1,4 @@
-use Rattle.std.proofs.Common.{◌≡◌, ◌∙◌, ◌++◌, [], ℕ, List, Bool, true, false, Some, IsSome, is_some, refl, sym, ap, string_bytes}
+use Rattle.std.proofs.Common.{◌≡◌, ◌++◌, ℕ, List, true, false, Some, IsSome, is_some, refl, ap, string_bytes}
 use Rattle.std.proofs.lemmas.Result.{err_from_is_err_and}
 use Rattle.road_lab.specs.StreamViews.{sink_view}
 use Rattle.road_lab.specs.declared.faults.EarlyEnd.TheVariants.{BadPlan}

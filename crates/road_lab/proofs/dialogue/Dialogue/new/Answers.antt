@@ -1,4 +1,4 @@
-use Rattle.std.proofs.Common.{refl, sym, [], ◌∙◌}
+use Rattle.std.proofs.Common.{refl}
 use Rattle.road_lab.proofs.DialogueSteps.{nothing_came}
 use Rattle.road_lab.proofs.dialogue.Dialogue.new.Goals as goal
 

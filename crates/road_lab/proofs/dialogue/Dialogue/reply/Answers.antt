@@ -1,4 +1,4 @@
-use Rattle.std.proofs.Common.{◌≡◌, ◌∙◌, ℕ, List, false, Some, Option, refl, sym, ap, subst, string_bytes}
+use Rattle.std.proofs.Common.{◌∙◌, ℕ, List, false, Some, refl, ap, string_bytes}
 use Rattle.road_format.specs.CommandGrammar.{command_of}
 use Rattle.road_format.specs.PlanGrammar.{plan_line_of}
 use Rattle.road_format.specs.Replies.{reply}

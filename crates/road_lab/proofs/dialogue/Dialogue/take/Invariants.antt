@@ -8,7 +8,7 @@ abbrev pub invariant-loop-done : goal.invariant-loop-done
 invariant-loop-done g l =
     (l.done ≤ length l.bytes)
     × ((lines : ℕ) (before : List ℕ) (first : SinkView) → HasAnswered lines before first (sink_view g.W.Sink l.initial.writer) l.initial.self
-        → HasAnswered lines (before ++ take l.done l.bytes) first (sink_view g.W.Sink l.writer) l.self)
+    → HasAnswered lines (before ++ take l.done l.bytes) first (sink_view g.W.Sink l.writer) l.self)
 
 abbrev pub decreases-loop-done : goal.decreases-loop-done
 decreases-loop-done g l = length l.bytes - l.done

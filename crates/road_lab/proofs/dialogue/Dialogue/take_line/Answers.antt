@@ -1,4 +1,4 @@
-use Rattle.std.proofs.Common.{◌≡◌, ◌∙◌, ◌++◌, ◌∷◌, [], ℕ, List, true, false, None, IsSome, is_some, take, length, refl, sym, ap}
+use Rattle.std.proofs.Common.{◌≡◌, ◌++◌, true, false, IsSome, is_some, take, refl, sym}
 use Rattle.std.proofs.lemmas.Result.{err_from_is_err_and}
 use Rattle.road_lab.specs.StreamViews.{sink_view}
 use Rattle.road_lab.proofs.CutBytes.{newline_found, no_newline}

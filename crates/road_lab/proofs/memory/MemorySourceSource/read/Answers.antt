@@ -1,4 +1,4 @@
-use Rattle.std.proofs.Common.{arith, ap, length, length-append, length-drop, ℕ, List, ◌≡◌, ◌-◌, ◌+◌, drop, zero, [], refl}
+use Rattle.std.proofs.Common.{arith, ap, length, length-append, length-drop, ℕ, List, ◌+◌, drop}
 use Rattle.road_lab.proofs.Pieces.{read_next, nothing_left}
 use Rattle.road_lab.proofs.memory.MemorySourceSource.read.Goals as goal
 
