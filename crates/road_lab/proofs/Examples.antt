@@ -6,8 +6,9 @@ use Rattle.std.proofs.lemmas.Bool.{lt-ltb, le-leb}
 use Rattle.std.proofs.lemmas.List.{take_all, length-replicate}
 use Rattle.lattice_core.specs.Sets.{empty, items}
 use Rattle.lattice_core.proofs.SetElements.{items-empty}
+use Rattle.road_format.proofs.OnLiterals.{road_format_on_literals}
 use Rattle.road_plan.specs.Plan.{Plan}
-use Rattle.road_plan.specs.declared.limits.TheConstants.{LONGEST_LINE}
+use Rattle.road_plan.specs.declared.limits.TheConstants.{LONGEST_LINE, MOST_LINES, MOST_BYTES}
 use Rattle.road_plan.specs.declared.parts.WordKind.TheVariants.{Steady}
 use Rattle.road_scenario.specs.declared.edit.Edit.{Edit}
 use Rattle.road_scenario.specs.Edits.{Edits, edit_cmp}
@@ -16,11 +17,20 @@ use Rattle.road_scenario.proofs.NoEdits.{winners-empty}
 use Rattle.road_ends.specs.Row.{row}
 use Rattle.road_cells.specs.Gap.{free_before}
 use Rattle.road_format.specs.Cut.{newline, pieces_with_byte, pieces_of}
-use Rattle.road_format.proofs.OnLiterals.{road_format_on_literals}
 use Rattle.road_format.specs.Replies.{Open, Refused, Horizon, Cells as CellsReply, reply}
 use Rattle.road_format.specs.declared.refusal.Refusal.TheVariants as refusals
-use Rattle.road_sheet.specs.Shown.{row_at}
-use Rattle.road_lab.specs.Answers.{is_long, replies, answers_within}
+use Rattle.road_keeper.specs.Laboratory.{row_at}
+use Rattle.road_lab.specs.Answers.{is_long, later_replies, answers, answers_within}
+
+-- ---- the limits of `serve`
+
+most_lines : MOST_LINES ≡ 1000000
+most_lines = refl
+
+most_bytes : MOST_BYTES ≡ 2 ^ 32
+most_bytes = refl
+
+-- ---- answers
 
 -- a road of 12 cells whose cars are never slowed by chance, and three replicas
 unfoldable free_road : List ℕ
@@ -58,7 +68,7 @@ with_rows first six two =
     ++ (reply (Refused refusals.NotACommand) ++ (reply (CellsReply two) ++ [])))))))))))
 
 as_rows : answers_within 1000000 (2 ^ 32) (free_road ++ questions) true ≡ with_rows (row_at free_plan empty 0) (row_at free_plan empty 6) (row_at free_plan empty 2)
-unfolding road_format_on_literals replies answers_within free_road questions
+unfolding road_format_on_literals later_replies answers answers_within free_road questions
 as_rows = refl
 
 as_text : with_rows (codes "............") (codes "0..2...2....") (codes "0..2........") ≡ codes "{\"open\":3}\n{\"cells\":\"............\"}\n{\"refused\":\"NotSimulated\"}\n{\"refused\":\"not json\"}\n{\"horizon\":6}\n{\"horizon\":6}\n{\"cells\":\"0..2...2....\"}\n{\"refused\":\"NotSimulated\"}\n{\"refused\":\"NoReplica\"}\n{\"refused\":\"Horizon\"}\n{\"refused\":\"not a command\"}\n{\"cells\":\"0..2........\"}\n"
@@ -73,25 +83,25 @@ answers_to_questions =
 
 -- while the input goes on, the piece behind the last newline is no line yet
 a_piece_is_no_line_yet : answers_within 1000000 (2 ^ 32) (free_road ++ codes "{\"cells\":{\"at\":\"A\",\"step\":0}}") false ≡ codes "{\"open\":3}\n"
-unfolding road_format_on_literals replies answers_within free_before free_road
+unfolding road_format_on_literals later_replies answers answers_within free_before free_road
 a_piece_is_no_line_yet = refl
 
 an_empty_input : answers_within 1000000 (2 ^ 32) [] true ≡ codes "{\"refused\":\"no plan\"}\n"
-unfolding road_format_on_literals replies answers_within
+unfolding road_format_on_literals later_replies answers answers_within
 an_empty_input = refl
 
 nothing_yet : answers_within 1000000 (2 ^ 32) [] false ≡ []
-unfolding answers_within
+unfolding answers answers_within
 nothing_yet = refl
 
 -- a plan line that is refused ends all
 a_refused_plan : answers_within 1000000 (2 ^ 32) (codes "{}\n{\"advance\":{\"at\":\"A\",\"to\":6}}\n") true ≡ codes "{\"refused\":\"not a plan\"}\n"
-unfolding road_format_on_literals replies answers_within
+unfolding road_format_on_literals later_replies answers answers_within
 a_refused_plan = refl
 
 -- no line past the limit of lines is answered
 one_line_as_row : answers_within 1 1000 (free_road ++ questions) true ≡ reply (Open 3) ++ (reply (CellsReply (row_at free_plan empty 0)) ++ [])
-unfolding road_format_on_literals replies answers_within free_road questions
+unfolding road_format_on_literals later_replies answers answers_within free_road questions
 one_line_as_row = refl
 
 one_line_as_text : reply (Open 3) ++ (reply (CellsReply (codes "............")) ++ []) ≡ codes "{\"open\":3}\n{\"cells\":\"............\"}\n"
@@ -103,11 +113,11 @@ one_line_only = one_line_as_row ∙ ap (λ (r : List ℕ). reply (Open 3) ++ (re
 
 -- each refusal of a plan line ends all
 too_short : answers_within 1000000 (2 ^ 32) (codes "{\"detectors\":[5],\"exit\":1,\"inlets\":[[0,65536]],\"length\":7,\"replicas\":[\"A\"],\"words\":7,\"zone\":12,\"zones\":[[2,0]]}") true ≡ codes "{\"refused\":\"Length\"}\n"
-unfolding road_format_on_literals replies answers_within
+unfolding road_format_on_literals later_replies answers answers_within
 too_short = refl
 
 two_names_alike : answers_within 1000000 (2 ^ 32) (codes "{\"detectors\":[5],\"exit\":1,\"inlets\":[[0,65536]],\"length\":7,\"replicas\":[\"A\",\"A\"],\"words\":7,\"zone\":12,\"zones\":[[2,0]]}\n") true ≡ codes "{\"refused\":\"Names\"}\n"
-unfolding road_format_on_literals replies answers_within
+unfolding road_format_on_literals later_replies answers answers_within
 two_names_alike = refl
 
 -- ---- a line that is too long
@@ -125,7 +135,7 @@ no_more (suc lines) = refl
 
 -- a plan line of too many spaces, with a newline behind it
 too_many_spaces : (n lines limit : ℕ) → LONGEST_LINE < n → n + 1 ≤ limit → answers_within lines limit (replicate n 32 ++ newline ∷ []) true ≡ reply (Refused refusals.LineTooLong)
-unfolding answers_within
+unfolding road_format_on_literals answers answers_within
 too_many_spaces n lines limit long within =
     let input : List ℕ = replicate n 32 ++ newline ∷ [] in
     let size : length input ≡ n + 1 = length-append (replicate n 32) (newline ∷ []) ∙ ap (λ (k : ℕ). k + 1) (length-replicate {A = ℕ} n 32) in

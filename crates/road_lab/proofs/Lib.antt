@@ -1,8 +1,12 @@
+pub mod Options
 pub mod Pieces
-pub mod Machine
-pub mod Lines
-pub mod Closing
-pub mod Exits
-pub mod Fronts
+pub mod CutBytes
+pub mod LineReplies
+pub mod SinkTexts
+pub mod AnswersGrow
+pub mod DialogueSteps
+pub mod DialogueCalls
+pub mod DialogueEnds
+pub mod RunEnds
 mod Examples
 mod PlanFaults

@@ -11,76 +11,77 @@ use Rattle.road_keeper.specs.Laboratory.{Event, answer_to, events_after}
 
 -- ---- one line
 
--- a line that is too long is not read
-abbrev pub unless_long : {A : Type 0} → Bool → Result A Refusal → Result A Refusal
-unless_long true read = Err refusals.LineTooLong
-unless_long false read = read
-
+-- whether a line has more bytes than the longest one may have
 abbrev pub is_long : List ℕ → Bool
 is_long line = nat_lt LONGEST_LINE (length line)
 
+-- what a line is read as: one that is too long is refused unread
+abbrev pub reading_unless : {A : Type 0} → Bool → Result A Refusal → Result A Refusal
+reading_unless true reading = Err refusals.LineTooLong
+reading_unless false reading = reading
+
 -- the plan of the first line, or why it is refused
-abbrev pub first_of : List ℕ → Result PlanLine Refusal
-first_of line = unless_long (is_long line) (plan_line_of line)
+abbrev pub plan_reading : List ℕ → Result PlanLine Refusal
+plan_reading line = reading_unless (is_long line) (plan_line_of line)
 
 -- the command of a later line, or why it is refused
-abbrev pub command_line : List ℕ → Result Command Refusal
-command_line line = unless_long (is_long line) (command_of line)
+abbrev pub command_reading : List ℕ → Result Command Refusal
+command_reading line = reading_unless (is_long line) (command_of line)
 
--- what a line is answered after these events
-abbrev pub answer_of : PlanLine → List Event → Result Command Refusal → Answer
-answer_of plan events (Err refusal) = Refused refusal
-answer_of plan events (Ok command) = answer_to plan events command
+-- what the first line is answered
+abbrev pub opening_answer : Result PlanLine Refusal → Answer
+opening_answer (Err refusal) = Refused refusal
+opening_answer (Ok plan) = Open (length plan.names)
 
--- the events after a line: a refused one adds nothing
-abbrev pub after_line : PlanLine → List Event → Result Command Refusal → List Event
-after_line plan events (Err refusal) = events
-after_line plan events (Ok command) = events_after plan events command
+-- what a later line is answered after these events
+abbrev pub line_answer : PlanLine → List Event → Result Command Refusal → Answer
+line_answer plan events (Err refusal) = Refused refusal
+line_answer plan events (Ok command) = answer_to plan events command
+
+-- the events after a later line: a refused one adds nothing
+abbrev pub line_events : PlanLine → List Event → Result Command Refusal → List Event
+line_events plan events (Err refusal) = events
+line_events plan events (Ok command) = events_after plan events command
 
 -- ---- all lines
 
 -- the replies to the lines after the plan line, each after the events of those before it
-unfoldable pub replies : PlanLine → List Event → List (List ℕ) → List ℕ
-replies plan events [] = []
-replies plan events (line ∷ lines) =
-    reply (answer_of plan events (command_line line)) ++ replies plan (after_line plan events (command_line line)) lines
+unfoldable pub later_replies : PlanLine → List Event → List (List ℕ) → List ℕ
+later_replies plan events [] = []
+later_replies plan events (line ∷ lines) =
+    reply (line_answer plan events (command_reading line))
+    ++ later_replies plan (line_events plan events (command_reading line)) lines
 
--- the reply to the plan line, and where it was accepted the replies to the lines after it
-abbrev pub session : Result PlanLine Refusal → List (List ℕ) → List ℕ
-session (Err refusal) lines = reply (Refused refusal)
-session (Ok plan) lines = reply (Open (length plan.names)) ++ replies plan [] lines
+-- the reply to the plan line, and where it is accepted the replies to the lines after it
+abbrev pub session_replies : Result PlanLine Refusal → List (List ℕ) → List ℕ
+session_replies (Err refusal) lines = reply (opening_answer (Err refusal))
+session_replies (Ok plan) lines = reply (opening_answer (Ok plan)) ++ later_replies plan [] lines
 
 -- how the plan line is read: not yet, where there is none and the input goes on
-abbrev pub first_read : Bool → List (List ℕ) → Option (Result PlanLine Refusal)
-first_read ended (first ∷ lines) = Some (first_of first)
-first_read true [] = Some (Err refusals.NoPlan)
-first_read false [] = None
+abbrev pub first_reading : Bool → List (List ℕ) → Option (Result PlanLine Refusal)
+first_reading ended (first ∷ lines) = Some (plan_reading first)
+first_reading true [] = Some (Err refusals.NoPlan)
+first_reading false [] = None
 
 -- the lines after the plan line
-abbrev pub later : List (List ℕ) → List (List ℕ)
-later [] = []
-later (first ∷ lines) = lines
+abbrev pub later_lines : List (List ℕ) → List (List ℕ)
+later_lines [] = []
+later_lines (first ∷ lines) = lines
 
-abbrev pub session_if : Option (Result PlanLine Refusal) → List (List ℕ) → List ℕ
-session_if None lines = []
-session_if (Some read) lines = session read lines
+-- the replies by how the plan line is read: none before that
+abbrev pub replies_by : Option (Result PlanLine Refusal) → List (List ℕ) → List ℕ
+replies_by None lines = []
+replies_by (Some reading) lines = session_replies reading lines
 
-abbrev pub written : Bool → List (List ℕ) → List ℕ
-written ended lines = session_if (first_read ended lines) (later lines)
+-- the replies to these lines, of an input that has ended or goes on
+abbrev pub line_replies : Bool → List (List ℕ) → List ℕ
+line_replies ended lines = replies_by (first_reading ended lines) (later_lines lines)
 
--- ---- the limits: of lines after the plan line, and of bytes in all
+-- ---- the answers to bytes, with at most so many lines after the plan line
 
--- whether the input has ended within the limit of bytes
-abbrev pub ends_within : ℕ → List ℕ → Bool → Bool
-ends_within limit bytes ended = ended && nat_le (length bytes) limit
-
--- the lines within the limits, the plan line too
-abbrev pub lines_within : ℕ → ℕ → List ℕ → Bool → List (List ℕ)
-lines_within lines limit bytes ended = take (suc lines) (lines_of (take limit bytes) (ends_within limit bytes ended))
-
--- what is answered to the bytes of an input, which has ended or goes on
-unfoldable pub answers_within : ℕ → ℕ → List ℕ → Bool → List ℕ
-answers_within lines limit bytes ended = written (ends_within limit bytes ended) (lines_within lines limit bytes ended)
+-- what is answered to these bytes, of an input that has ended or goes on
+unfoldable pub answers : ℕ → List ℕ → Bool → List ℕ
+answers lines bytes ended = line_replies ended (take (suc lines) (lines_of bytes ended))
 
 -- whether the plan line is refused
 abbrev pub is_refusal : Option (Result PlanLine Refusal) → Bool
@@ -88,13 +89,33 @@ is_refusal (Some (Err refusal)) = true
 is_refusal (Some (Ok plan)) = false
 is_refusal None = false
 
-unfoldable pub is_refused : ℕ → ℕ → List ℕ → Bool → Bool
-is_refused lines limit bytes ended = is_refusal (first_read (ends_within limit bytes ended) (lines_within lines limit bytes ended))
+-- whether the plan line of these bytes is refused
+unfoldable pub is_plan_refused : List ℕ → Bool → Bool
+is_plan_refused bytes ended = is_refusal (first_reading ended (lines_of bytes ended))
+
+-- whether a byte stands past the last line that may come
+unfoldable pub has_more_lines : ℕ → List ℕ → Bool
+has_more_lines lines bytes = nat_lt (suc lines) (length (lines_of bytes true))
+
+-- ---- and at most so many bytes in all
+
+-- whether the input has ended within the limit of bytes
+abbrev pub ends_within : ℕ → List ℕ → Bool → Bool
+ends_within limit bytes ended = ended && nat_le (length bytes) limit
+
+-- what is answered to the bytes of an input, which has ended or goes on
+unfoldable pub answers_within : ℕ → ℕ → List ℕ → Bool → List ℕ
+answers_within lines limit bytes ended = answers lines (take limit bytes) (ends_within limit bytes ended)
+
+-- whether the plan line is refused
+unfoldable pub is_plan_refused_within : ℕ → List ℕ → Bool → Bool
+is_plan_refused_within limit bytes ended = is_plan_refused (take limit bytes) (ends_within limit bytes ended)
 
 -- whether a byte stands past the limits
-unfoldable pub is_past : ℕ → ℕ → List ℕ → Bool
-is_past lines limit bytes = nat_lt limit (length bytes) || nat_lt (suc lines) (length (lines_of bytes true))
+unfoldable pub has_byte_past_limits : ℕ → ℕ → List ℕ → Bool
+has_byte_past_limits lines limit bytes = nat_lt limit (length bytes) || has_more_lines lines bytes
 
--- how many replies there are after the plan line's, where the plan is accepted
+-- how many replies there are after the plan line's, to an input that has ended and whose plan line is accepted
 unfoldable pub reply_count : ℕ → ℕ → List ℕ → ℕ
-reply_count lines limit bytes = length (later (lines_within lines limit bytes true))
+reply_count lines limit bytes =
+    length (later_lines (take (suc lines) (lines_of (take limit bytes) (ends_within limit bytes true))))

@@ -6,4 +6,5 @@ use Rattle.road_lab.specs.Answers.{answers_within}
 abbrev pub AnswersGoOn : Type 0
 AnswersGoOn =
     (lines limit : ℕ) (first more : List ℕ) (ended : Bool)
-    → (rest : List ℕ) × (answers_within lines limit (first ++ more) ended ≡ answers_within lines limit first false ++ rest)
+    → (rest : List ℕ)
+    × (answers_within lines limit (first ++ more) ended ≡ answers_within lines limit first false ++ rest)

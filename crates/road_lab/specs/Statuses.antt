@@ -33,5 +33,5 @@ line_of (Ok served) = None
 line_of (Err fault) = Some (fault_line fault)
 
 -- the program ends with this status and this line
-abbrev pub EndsWith : Ended → ℕ → Option (List ℕ) → Type 0
-EndsWith ended status line = (ended.status ≡ status) × (option_map (λ text. text.now) ended.line ≡ line)
+abbrev pub HasStatus : Ended → ℕ → Option (List ℕ) → Type 0
+HasStatus ended status line = (ended.status ≡ status) × (option_map (λ text. text.now) ended.line ≡ line)

@@ -1,7 +1,7 @@
 //! How a run ends other than well.
 
 ghost use Rattle.std.specs.Prelude.{◌≡◌};
-ghost use Rattle.road_lab.specs.Faults.{fault_of};
+ghost use Rattle.road_lab.specs.Faults.{early_fault};
 ghost use Rattle.road_lab.specs.declared.faults.ServeFault.TheVariants.{OutOfMemory, Read, Write};
 
 use std::alloc::{AllocError, AllocFailed};
@@ -29,21 +29,21 @@ pub enum ServeFault {
 
 /// How a run is over before the end of its input.
 #[derive(Clone, Copy, Debug, PartialEq, Eq)]
-pub enum End {
+pub enum EarlyEnd {
     /// The plan line was refused, or there was none.
     BadPlan,
     /// A byte stood behind the last line that may come.
     TooMany,
 }
 
-impl End {
+impl EarlyEnd {
     /// The fault of a run that ends so.
     pub fn fault(self) -> ServeFault
-        ensures { result ≡ fault_of self }
+        ensures { result ≡ early_fault self }
     {
         match self {
-            End::BadPlan => ServeFault::BadPlan,
-            End::TooMany => ServeFault::TooMany,
+            EarlyEnd::BadPlan => ServeFault::BadPlan,
+            EarlyEnd::TooMany => ServeFault::TooMany,
         }
     }
 }

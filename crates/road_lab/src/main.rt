@@ -1,7 +1,7 @@
 //! The program `road_lab`: it reads a plan line and then commands, one JSON object a line, and writes a reply for each.
 #![tactic(auto)]
 
-mod desk;
+mod dialogue;
 mod faults;
 mod laws;
 mod memory;
@@ -11,6 +11,7 @@ mod std_streams;
 mod streams;
 #[cfg(test)]
 mod tests;
+mod waiting;
 
 use crate::run::{Ended, run};
 use crate::std_streams::{StdSink, StdSource};

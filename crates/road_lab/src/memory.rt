@@ -1,17 +1,60 @@
 //! A source and a sink over memory, which know their bytes and can be made to fail.
 
-ghost use Rattle.std.specs.Prelude.{◌≡◌, ◌≤◌, ◌<◌, Some, [], take, length};
+ghost use Rattle.std.specs.Prelude.{◌≡◌, ◌≤◌, ◌<◌, Some, drop, length};
+ghost use Rattle.road_lab.specs.Failing.{is_failing};
 
 use crate::faults::{ReadFailed, WriteFailed};
 use crate::streams::{Sink, Source};
 
-/// Gives these bytes, at most `step` of them at a call. The first `reads` calls succeed, and all later ones fail.
+/// Which calls fail. They are counted from 0.
+#[derive(Clone, Copy, Debug)]
+pub enum Failing {
+    /// None.
+    Never,
+    /// That call alone: those after it succeed.
+    Once(u64),
+    /// That call and all after it.
+    From(u64),
+}
+
+impl Failing {
+    // Whether this call fails.
+    fn fails(self, call: u64) -> bool
+        ensures { result ≡ is_failing self call }
+    {
+        match self {
+            Failing::Never => false,
+            Failing::Once(failed) => call == failed,
+            Failing::From(first) => call >= first,
+        }
+    }
+}
+
+// Calls of one kind: how many there were, and which fail.
+#[derive(Drop)]
+struct Calls {
+    made: u64,
+    failing: Failing,
+}
+
+impl Calls {
+    // Whether the next call fails. It is counted.
+    fn next_fails(&mut self) -> bool
+        ensures { result ≡ is_failing self.old.failing self.old.made }
+    {
+        let fails = self.failing.fails(self.made);
+        self.made = self.made.saturating_add(1);
+        fails
+    }
+}
+
+/// Gives these bytes, at most `step` of them at a call.
 #[derive(Drop)]
 pub struct MemorySource<'a> {
     bytes: &'a [u8],
     place: usize,
     step: usize,
-    reads: u64,
+    reads: Calls,
     at_end: bool,
     failures: u64,
     ghost inside: { place ≤ length bytes.now },
@@ -20,19 +63,18 @@ pub struct MemorySource<'a> {
 
 impl<'a> MemorySource<'a> {
     /// The source of these bytes.
-    pub fn new(bytes: &'a [u8], step: usize, reads: u64) -> MemorySource<'a>
+    pub fn new(bytes: &'a [u8], step: usize, failing: Failing) -> MemorySource<'a>
         requires { 0 < step }
-        ensures given { ⟦<MemorySource<'a> as Source>⟧.given result ≡ Some [] }
+        ensures remaining { ⟦<MemorySource<'a> as Source>⟧.remaining result ≡ Some bytes.now }
         ensures failures { ⟦<MemorySource<'a> as Source>⟧.failures result ≡ 0 }
-        ensures bytes { result.bytes.now ≡ bytes.now }
         ensures step { result.step ≡ step }
-        ensures reads { result.reads ≡ reads }
+        ensures failing { result.reads.failing ≡ failing }
     {
         MemorySource {
             bytes,
             place: 0,
             step,
-            reads,
+            reads: Calls { made: 0, failing },
             at_end: false,
             failures: 0,
         }
@@ -40,19 +82,18 @@ impl<'a> MemorySource<'a> {
 }
 
 impl<'a> Source for MemorySource<'a> {
-    ghost given = { λ source. Some (take source.place source.bytes.now) };
+    ghost remaining = { λ source. Some (drop source.place source.bytes.now) };
 
     ghost at_end = { λ source. source.at_end };
 
     ghost failures = { λ source. source.failures };
 
     fn read(&mut self, piece: &mut [u8]) -> Result<usize, ReadFailed> {
-        if self.reads == 0 {
+        if self.reads.next_fails() {
             self.at_end = false;
             self.failures = self.failures.saturating_add(1);
             return Err(ReadFailed);
         }
-        self.reads -= 1;
         let left = self.bytes.len() - self.place;
         let count = left.min(self.step).min(piece.len());
         let next = &self.bytes[self.place..self.place + count];
@@ -63,29 +104,37 @@ impl<'a> Source for MemorySource<'a> {
     }
 }
 
-/// Keeps what it takes, at most `room` bytes in all: a write past them fails. The first `flushes` flushes succeed, and
-/// all later ones fail.
+/// Keeps what it takes, at most `room` bytes in all: a write past them fails.
 #[derive(Drop)]
 pub struct MemorySink {
     bytes: Vec<u8>,
     room: usize,
-    flushes: u64,
+    writes: Calls,
+    flushes: Calls,
     flushed: bool,
     failures: u64,
 }
 
 impl MemorySink {
-    /// The sink that goes on from these bytes.
-    pub fn new(bytes: Vec<u8>, room: usize, flushes: u64) -> MemorySink
-        ensures taken { ⟦<MemorySink as Sink>⟧.taken result ≡ Some bytes.items }
+    /// The sink that goes on from these bytes. Its writes and its flushes are counted apart.
+    pub fn new(bytes: Vec<u8>, room: usize, writes: Failing, flushes: Failing) -> MemorySink
+        ensures contents { ⟦<MemorySink as Sink>⟧.contents result ≡ Some bytes.items }
         ensures failures { ⟦<MemorySink as Sink>⟧.failures result ≡ 0 }
         ensures room { result.room ≡ room }
-        ensures flushes { result.flushes ≡ flushes }
+        ensures writes { result.writes.failing ≡ writes }
+        ensures flushes { result.flushes.failing ≡ flushes }
     {
         MemorySink {
             bytes,
             room,
-            flushes,
+            writes: Calls {
+                made: 0,
+                failing: writes,
+            },
+            flushes: Calls {
+                made: 0,
+                failing: flushes,
+            },
             flushed: false,
             failures: 0,
         }
@@ -93,14 +142,14 @@ impl MemorySink {
 
     /// The bytes that were taken, and those from which the sink went on.
     pub fn bytes(&self) -> &[u8]
-        ensures { ⟦<MemorySink as Sink>⟧.taken self.now ≡ Some result.now }
+        ensures { ⟦<MemorySink as Sink>⟧.contents self.now ≡ Some result.now }
     {
         self.bytes.as_slice()
     }
 }
 
 impl Sink for MemorySink {
-    ghost taken = { λ sink. Some sink.bytes.items };
+    ghost contents = { λ sink. Some sink.bytes.items };
 
     ghost flushed = { λ sink. sink.flushed };
 
@@ -109,7 +158,10 @@ impl Sink for MemorySink {
     fn write(&mut self, piece: &[u8]) -> Result<usize, WriteFailed> {
         self.flushed = false;
         let count = piece.len().min(self.room);
-        if count == 0 || self.bytes.extend_from_slice(&piece[..count]).is_err() {
+        if self.writes.next_fails()
+            || count == 0
+            || self.bytes.extend_from_slice(&piece[..count]).is_err()
+        {
             self.failures = self.failures.saturating_add(1);
             return Err(WriteFailed);
         }
@@ -118,13 +170,11 @@ impl Sink for MemorySink {
     }
 
     fn flush(&mut self) -> Result<(), WriteFailed> {
-        if self.flushes == 0 {
-            self.flushed = false;
+        self.flushed = !self.flushes.next_fails();
+        if !self.flushed {
             self.failures = self.failures.saturating_add(1);
             return Err(WriteFailed);
         }
-        self.flushes -= 1;
-        self.flushed = true;
         Ok(())
     }
 }

@@ -1,10 +1,10 @@
 //! The program without its process.
 
-ghost use Rattle.std.specs.Prelude.{◌≡◌, ◌≢◌, ◌↔◌, IsTrue, ℕ, List, [], codes, Some, Result};
-ghost use Rattle.std.specs.Io.KnownBytes.{Appends};
+ghost use Rattle.std.specs.Prelude.{◌≡◌, ◌≢◌, ◌↔◌, IsTrue, [], codes, Some, Result};
 ghost use Rattle.road_plan.specs.declared.limits.TheConstants.{MOST_LINES, MOST_BYTES};
-ghost use Rattle.road_lab.specs.Ending.{Ends, seen};
-ghost use Rattle.road_lab.specs.Statuses.{status_of, line_of, fault_status, fault_line, EndsWith};
+ghost use Rattle.road_lab.specs.Run.{Answers};
+ghost use Rattle.road_lab.specs.Statuses.{status_of, line_of, fault_status, fault_line, HasStatus};
+ghost use Rattle.road_lab.specs.StreamViews.{source_view, sink_view};
 ghost use Rattle.road_lab.specs.declared.serve.Served.{Served};
 ghost use Rattle.road_lab.specs.declared.faults.ServeFault.{ServeFault};
 
@@ -25,7 +25,7 @@ pub struct Ended {
 impl Ended {
     /// The end where the words after the program's name are refused.
     pub fn bad_arguments() -> Ended
-        ensures { EndsWith result 2 (Some (codes "bad arguments")) }
+        ensures { HasStatus result 2 (Some (codes "bad arguments")) }
     {
         Ended {
             status: 2,
@@ -35,7 +35,7 @@ impl Ended {
 
     /// The end where there is no memory for the words after the program's name.
     pub fn no_memory() -> Ended
-        ensures { EndsWith result 3 (Some (codes "no memory")) }
+        ensures { HasStatus result 3 (Some (codes "no memory")) }
     {
         Ended {
             status: 3,
@@ -51,11 +51,19 @@ pub fn run<R: Source, W: Sink>(
     reader: &mut R,
     writer: &mut W,
 ) -> Ended
-    ensures refused { words.now ≢ [] → EndsWith result 2 (Some (codes "bad arguments")) × (reader.new ≡ reader.old) × (writer.new ≡ writer.old) }
-    ensures served { words.now ≡ [] → (served : Result Served ServeFault) × EndsWith result (status_of served) (line_of served)
-        × (input : List ℕ) × Appends (R.given reader.old) (R.given reader.new) input
-        × Ends MOST_LINES MOST_BYTES input (seen (W.taken writer.old) (W.taken writer.new) (R.at_end reader.new) (W.flushed writer.new)
-        (R.failures reader.old) (R.failures reader.new) (W.failures writer.old) (W.failures writer.new)) served }
+    ensures refused { words.now ≢ [] → HasStatus result 2 (Some (codes "bad arguments"))
+        × (reader.new ≡ reader.old) × (writer.new ≡ writer.old) }
+    ensures served { words.now ≡ [] → (served : Result Served ServeFault)
+        × HasStatus result (status_of served) (line_of served)
+        × Answers (record {
+          lines = MOST_LINES;
+          bytes = MOST_BYTES;
+          source_before = source_view R.Source reader.old;
+          source_after = source_view R.Source reader.new;
+          sink_before = sink_view W.Sink writer.old;
+          sink_after = sink_view W.Sink writer.new;
+          result = served;
+        }) }
 {
     if !are_accepted(words) {
         return Ended::bad_arguments();
@@ -72,7 +80,7 @@ fn are_accepted(words: &[String]) -> bool
 
 // How the program ends after a run.
 fn after_run(served: &Result<Served, ServeFault>) -> Ended
-    ensures { EndsWith result (status_of served.now) (line_of served.now) }
+    ensures { HasStatus result (status_of served.now) (line_of served.now) }
 {
     match served {
         Ok(_) => Ended {
@@ -85,7 +93,7 @@ fn after_run(served: &Result<Served, ServeFault>) -> Ended
 
 // How the program ends after a run that failed.
 fn after_fault(fault: &ServeFault) -> Ended
-    ensures { EndsWith result (fault_status fault.now) (Some (fault_line fault.now)) }
+    ensures { HasStatus result (fault_status fault.now) (Some (fault_line fault.now)) }
 {
     let (status, line) = match fault {
         ServeFault::BadPlan => (2, "bad plan"),

@@ -1,14 +1,13 @@
 //! Reads an input, and writes its replies.
 
-ghost use Rattle.std.specs.Prelude.{◌≡◌, ℕ, List, [], length, min, true, OnOk, OnErr, None};
-ghost use Rattle.std.specs.Io.KnownBytes.{Appends};
+ghost use Rattle.std.specs.Prelude.{◌≡◌, ◌++◌, ℕ, List, length, min, take, true, None};
 ghost use Rattle.road_plan.specs.declared.limits.TheConstants.{MOST_LINES, MOST_BYTES};
-ghost use Rattle.road_lab.specs.Streams.{RisesByOne};
-ghost use Rattle.road_lab.specs.Ending.{Ends, Finishes, TakesFront, seen};
-ghost use Rattle.road_lab.specs.Views.{desk_view};
+ghost use Rattle.road_lab.specs.Dialogue.{HasAnswered};
+ghost use Rattle.road_lab.specs.Run.{Answers};
+ghost use Rattle.road_lab.specs.StreamViews.{SinkView, source_view, sink_view};
 
-use crate::desk::Desk;
-use crate::faults::{ServeFault, WriteFailed};
+use crate::dialogue::Dialogue;
+use crate::faults::ServeFault;
 use crate::streams::{Sink, Source};
 use road_plan::limits::{MOST_BYTES, MOST_LINES};
 use std::alloc::Global;
@@ -23,16 +22,22 @@ pub struct Served {
     pub lines: u32,
 }
 
-/// Reads an input to its end, and writes the reply to each of its lines. At most 1,000,000 lines after the plan line are
-/// read, and at most 2^32 bytes.
+/// Reads an input to its end, and writes the reply to each of its lines. At most 1,000,000 lines after the plan line
+/// are read, and at most 2^32 bytes.
 pub fn serve<R: Source, W: Sink>(
     alloc: Global,
     reader: &mut R,
     writer: &mut W,
 ) -> Result<Served, ServeFault>
-    ensures { (input : List ℕ) × Appends (R.given reader.old) (R.given reader.new) input
-        × Ends MOST_LINES MOST_BYTES input (seen (W.taken writer.old) (W.taken writer.new) (R.at_end reader.new) (W.flushed writer.new)
-        (R.failures reader.old) (R.failures reader.new) (W.failures writer.old) (W.failures writer.new)) result }
+    ensures { Answers (record {
+      lines = MOST_LINES;
+      bytes = MOST_BYTES;
+      source_before = source_view R.Source reader.old;
+      source_after = source_view R.Source reader.new;
+      sink_before = sink_view W.Sink writer.old;
+      sink_after = sink_view W.Sink writer.new;
+      result = result;
+    }) }
 {
     serve_within(alloc, reader, writer, MOST_LINES, MOST_BYTES)
 }
@@ -45,32 +50,39 @@ pub fn serve_within<R: Source, W: Sink>(
     lines: u32,
     bytes: u64,
 ) -> Result<Served, ServeFault>
-    ensures { (input : List ℕ) × Appends (R.given reader.old) (R.given reader.new) input
-        × Ends lines bytes input (seen (W.taken writer.old) (W.taken writer.new) (R.at_end reader.new) (W.flushed writer.new)
-        (R.failures reader.old) (R.failures reader.new) (W.failures writer.old) (W.failures writer.new)) result }
+    ensures { Answers (record {
+      lines = lines;
+      bytes = bytes;
+      source_before = source_view R.Source reader.old;
+      source_after = source_view R.Source reader.new;
+      sink_before = sink_view W.Sink writer.old;
+      sink_after = sink_view W.Sink writer.new;
+      result = result;
+    }) }
 {
-    let mut desk = Desk::new(alloc, lines);
-    let mut out = Vec::new(alloc);
+    let mut dialogue = Dialogue::new(alloc, lines);
     let mut buffer = [0u8; PIECE];
-    let mut count: u64 = 0;
+    let mut room = bytes;
     loop {
-        let n = reader.read(&mut buffer)?;
-        if n == 0 {
-            return finish(alloc, writer, &mut desk, &mut out, lines);
+        let count = reader.read(&mut buffer)?;
+        if count == 0 {
+            dialogue.finish(alloc, writer)?;
+            if let Some(end) = dialogue.over {
+                return Err(end.fault());
+            }
+            return Ok(Served {
+                lines: lines.saturating_sub(dialogue.left),
+            });
         }
-        let room = bytes - count;
-        let within = fitting(room, n);
-        desk.piece(alloc, &buffer[..within], &mut out)?;
-        send(writer, out.as_slice())?;
-        out.clear();
-        match desk.over {
-            Some(end) => return Err(end.fault()),
-            None => {}
+        let within = fitting(room, count);
+        dialogue.take(alloc, writer, &buffer[..within])?;
+        if let Some(end) = dialogue.over {
+            return Err(end.fault());
         }
-        if within < n {
+        if within < count {
             return Err(ServeFault::TooMany);
         }
-        count += n as u64;
+        room -= count as u64;
     }
 }
 
@@ -79,44 +91,4 @@ fn fitting(room: u64, bytes: usize) -> usize
     ensures { result ≡ min room bytes }
 {
     room.min(bytes as u64) as usize
-}
-
-// The input has ended: the last reply is written.
-fn finish<W: Sink>(
-    alloc: Global,
-    writer: &mut W,
-    desk: &mut Desk,
-    out: &mut Vec<u8>,
-    lines: u32,
-) -> Result<Served, ServeFault>
-    requires open { desk.old.over ≡ None }
-    requires empty { out.old.items ≡ [] }
-    ensures { Finishes lines (desk_view desk.old) (W.taken writer.old) (W.taken writer.new) (W.flushed writer.new)
-        (W.failures writer.old) (W.failures writer.new) result }
-{
-    desk.end(alloc, out)?;
-    send(writer, out.as_slice())?;
-    match desk.over {
-        Some(_) => Err(ServeFault::BadPlan),
-        None => Ok(Served {
-            lines: lines.saturating_sub(desk.left),
-        }),
-    }
-}
-
-// Writes these bytes, and flushes them.
-fn send<W: Sink>(writer: &mut W, bytes: &[u8]) -> Result<(), WriteFailed>
-    ensures all { OnOk result (Appends (W.taken writer.old) (W.taken writer.new) bytes.now) }
-    ensures flushed { OnOk result (W.flushed writer.new ≡ true) }
-    ensures well { OnOk result (W.failures writer.new ≡ W.failures writer.old) }
-
-    ensures front { OnErr result (TakesFront (W.taken writer.old) (W.taken writer.new) bytes.now) }
-    ensures failed { OnErr result (RisesByOne (W.failures writer.old) (W.failures writer.new)) }
-{
-    let mut done = 0;
-    while done < bytes.len() {
-        let count = writer.write(&bytes[done..])?;
-        done += count;
-    }
-    writer.flush()
 }

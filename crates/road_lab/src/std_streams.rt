@@ -1,12 +1,13 @@
 //! Readers and writers of std as a source and a sink.
 
-ghost use Rattle.std.specs.Prelude.{◌≡◌, None};
+ghost use Rattle.std.specs.Prelude.{◌≡◌};
 
 use crate::faults::{ReadFailed, WriteFailed};
 use crate::streams::{Sink, Source};
 use std::io;
 
-/// A reader of std as a source. It keeps none of the bytes that it gave, so it says nothing of them.
+/// A reader of std as a source. It keeps no bytes: what is left of it is what the reader has left, where the reader
+/// knows that.
 #[derive(Drop)]
 pub struct StdSource<R: io::Read + Drop> {
     reader: R,
@@ -17,7 +18,8 @@ pub struct StdSource<R: io::Read + Drop> {
 impl<R: io::Read + Drop> StdSource<R> {
     /// The source that reads from this reader.
     pub fn new(reader: R) -> StdSource<R>
-        ensures { ⟦<StdSource<R> as Source>⟧.failures result ≡ 0 }
+        ensures remaining { ⟦<StdSource<R> as Source>⟧.remaining result ≡ R.remaining reader }
+        ensures failures { ⟦<StdSource<R> as Source>⟧.failures result ≡ 0 }
     {
         StdSource {
             reader,
@@ -28,7 +30,7 @@ impl<R: io::Read + Drop> StdSource<R> {
 }
 
 impl<R: io::Read + Drop> Source for StdSource<R> {
-    ghost given = { λ source. None };
+    ghost remaining = { λ source. R.remaining source.reader };
 
     ghost at_end = { λ source. source.at_end };
 
@@ -49,7 +51,7 @@ impl<R: io::Read + Drop> Source for StdSource<R> {
     }
 }
 
-/// A writer of std as a sink. What it has taken is what the writer holds, where the writer knows that.
+/// A writer of std as a sink. Its contents are what the writer holds, where the writer knows that.
 #[derive(Drop)]
 pub struct StdSink<W: io::Write + Drop> {
     writer: W,
@@ -60,7 +62,7 @@ pub struct StdSink<W: io::Write + Drop> {
 impl<W: io::Write + Drop> StdSink<W> {
     /// The sink that writes to this writer.
     pub fn new(writer: W) -> StdSink<W>
-        ensures taken { ⟦<StdSink<W> as Sink>⟧.taken result ≡ W.contents writer }
+        ensures contents { ⟦<StdSink<W> as Sink>⟧.contents result ≡ W.contents writer }
         ensures failures { ⟦<StdSink<W> as Sink>⟧.failures result ≡ 0 }
     {
         StdSink {
@@ -72,7 +74,7 @@ impl<W: io::Write + Drop> StdSink<W> {
 }
 
 impl<W: io::Write + Drop> Sink for StdSink<W> {
-    ghost taken = { λ sink. W.contents sink.writer };
+    ghost contents = { λ sink. W.contents sink.writer };
 
     ghost flushed = { λ sink. sink.flushed };
 

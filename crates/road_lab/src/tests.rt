@@ -1,11 +1,14 @@
 //! Scripts, limits and faults worked out by hand.
 
 use crate::faults::ServeFault;
-use crate::memory::{MemorySink, MemorySource};
+use crate::memory::{Failing, MemorySink, MemorySource};
 use crate::run::run;
-use crate::serve::{serve, serve_within};
-use std::alloc::Global;
-use std::process::Abort;
+use crate::serve::{Served, serve, serve_within};
+use crate::std_streams::{StdSink, StdSource};
+use crate::streams::{Sink, Source};
+use road_plan::OutOfMemory;
+use std::alloc::{AllocError, Global};
+use std::io;
 use std::test::Fail;
 
 /// A road of 12 cells without slowing, and three replicas.
@@ -14,11 +17,21 @@ const FREE_ROAD: &str =
 "#;
 
 fn source(text: &str) -> MemorySource<'_> {
-    MemorySource::new(text.as_bytes(), 7, u64::MAX)
+    MemorySource::new(text.as_bytes(), 7, Failing::Never)
 }
 
-fn sink(alloc: Global) -> MemorySink {
-    MemorySink::new(Vec::new(alloc), usize::MAX, u64::MAX)
+/// A sink with room for 256 KiB, so that none of its writes wants memory.
+fn sink(alloc: Global) -> Result<MemorySink, OutOfMemory> {
+    let bytes = Vec::with_capacity(alloc, 262_144)?;
+    Ok(MemorySink::new(bytes, 262_144, Failing::Never, Failing::Never))
+}
+
+/// How a run ended. Want of memory ends the test in its place.
+fn end_of(ended: Result<Served, ServeFault>) -> Result<Result<Served, ServeFault>, OutOfMemory> {
+    match ended {
+        Err(ServeFault::OutOfMemory) => Err(AllocError),
+        end => Ok(end),
+    }
 }
 
 /// A plan line, commands, and what is answered to all. Edits act at their steps, simulated already or not; refused ones
@@ -233,7 +246,7 @@ const SCRIPTS: &[(&str, &str, &str)] = &[
 fn answers_scripts(rt: HostRuntime) -> Result<(), Fail> {
     for (plan, commands, answers) in SCRIPTS {
         let input = format!(in rt.alloc(); "{plan}{commands}")?;
-        let mut writer = sink(rt.alloc());
+        let mut writer = sink(rt.alloc())?;
         serve(rt.alloc(), &mut source(&input), &mut writer)?;
         assert!(rt; writer.bytes() == answers.as_bytes(), "{commands}");
     }
@@ -248,61 +261,114 @@ const COMMANDS: &str = r#"{"advance":{"at":"A","to":1}}
 
 const REPLIES: &str = "{\"open\":3}\n{\"horizon\":1}\n{\"horizon\":1}\n{\"horizon\":1}\n";
 
-/// So many lines and bytes at most; how many bytes a read gives and how many reads succeed; how many bytes the writer takes
-/// and how many flushes succeed; how the run ends, and how many bytes of the replies it has written, where that is said.
+/// So many lines and bytes at most; how many bytes a read gives, and which reads fail; how many bytes the writer takes,
+/// and which of its writes and flushes fail; how the run ends, and how many bytes of the replies it has written, where
+/// that is said.
 type Run = (
     (u32, u64),
-    (usize, u64),
-    (usize, u64),
+    (usize, Failing),
+    (usize, Failing, Failing),
     &'static str,
     Option<usize>,
 );
 
-const ALL: u64 = u64::MAX;
+const ALL: Failing = Failing::Never;
+
+const WHOLE: &str = "Ok(Served { lines: 3 })";
+
+/// The plan line has 121 bytes, and the input 211.
+const RUNS: [Run; 13] = [
+    ((3, 1000), (7, ALL), (1000, ALL, ALL), WHOLE, Some(53)),
+    ((3, 211), (7, ALL), (1000, ALL, ALL), WHOLE, Some(53)),
+    (
+        (2, 1000),
+        (7, ALL),
+        (1000, ALL, ALL),
+        "Err(TooMany)",
+        Some(39),
+    ),
+    (
+        (3, 210),
+        (7, ALL),
+        (1000, ALL, ALL),
+        "Err(TooMany)",
+        Some(39),
+    ),
+    ((3, 1000), (7, ALL), (14, ALL, ALL), "Err(Write)", Some(14)),
+    (
+        (3, 1000),
+        (7, ALL),
+        (1000, Failing::Once(1), ALL),
+        "Err(Write)",
+        Some(11),
+    ),
+    (
+        (3, 1000),
+        (7, ALL),
+        (1000, Failing::From(1), ALL),
+        "Err(Write)",
+        Some(11),
+    ),
+    (
+        (3, 1000),
+        (7, ALL),
+        (1000, ALL, Failing::Once(0)),
+        "Err(Write)",
+        None,
+    ),
+    (
+        (3, 1000),
+        (7, ALL),
+        (1000, ALL, Failing::From(0)),
+        "Err(Write)",
+        None,
+    ),
+    (
+        (3, 1000),
+        (121, Failing::Once(1)),
+        (1000, ALL, ALL),
+        "Err(Read)",
+        Some(11),
+    ),
+    (
+        (3, 1000),
+        (121, Failing::From(1)),
+        (1000, ALL, ALL),
+        "Err(Read)",
+        Some(11),
+    ),
+    (
+        (3, 1000),
+        (7, Failing::Once(0)),
+        (1000, ALL, ALL),
+        "Err(Read)",
+        Some(0),
+    ),
+    // The read that would give the end of the input.
+    (
+        (3, 1000),
+        (1000, Failing::Once(1)),
+        (1000, ALL, ALL),
+        "Err(Read)",
+        Some(53),
+    ),
+];
 
 #[test]
 fn limits_and_faults(rt: HostRuntime) -> Result<(), Fail> {
     let input = format!(in rt.alloc(); "{FREE_ROAD}{COMMANDS}")?;
-    let bytes = input.len() as u64;
-    let first = FREE_ROAD.len();
-    let table: [Run; 7] = [
-        (
-            (3, 1000),
-            (7, ALL),
-            (1000, ALL),
-            "Ok(Served { lines: 3 })",
-            Some(53),
-        ),
-        (
-            (3, bytes),
-            (7, ALL),
-            (1000, ALL),
-            "Ok(Served { lines: 3 })",
-            Some(53),
-        ),
-        ((2, 1000), (7, ALL), (1000, ALL), "Err(TooMany)", Some(39)),
-        (
-            (3, bytes - 1),
-            (7, ALL),
-            (1000, ALL),
-            "Err(TooMany)",
-            Some(39),
-        ),
-        ((3, 1000), (7, ALL), (14, ALL), "Err(Write)", Some(14)),
-        ((3, 1000), (7, ALL), (1000, 0), "Err(Write)", None),
-        ((3, 1000), (first, 1), (1000, ALL), "Err(Read)", Some(11)),
-    ];
-    for ((lines, bytes), (piece, reads), (room, flushes), end, written) in table {
+    for ((lines, bytes), (piece, reads), (room, writes, flushes), end, written) in RUNS {
         assert!(rt; piece > 0);
         let mut reader = MemorySource::new(input.as_bytes(), piece, reads);
-        let mut writer = MemorySink::new(Vec::new(rt.alloc()), room, flushes);
-        let result = serve_within(rt.alloc(), &mut reader, &mut writer, lines, bytes);
+        let taken = Vec::with_capacity(rt.alloc(), 1000)?;
+        let mut writer = MemorySink::new(taken, room, writes, flushes);
+        let result = end_of(serve_within(rt.alloc(), &mut reader, &mut writer, lines, bytes))?;
         let said = format!(in rt.alloc(); "{result:?}")?;
         assert!(rt;
             said.as_str() == end
                 && REPLIES.as_bytes().starts_with(writer.bytes())
                 && (written.is_none() || written == Some(writer.bytes().len())),
-            "{lines} lines, {bytes} bytes, {room} bytes of room"
+            "{lines} lines, {bytes} bytes, {room} bytes of room: {said}"
         );
     }
     Ok(())
@@ -320,8 +386,8 @@ fn the_longest_line(rt: HostRuntime) -> Result<(), Fail> {
         }
         input.push('\n')?;
     }
-    let mut reader = MemorySource::new(input.as_bytes(), usize::MAX, u64::MAX);
-    let mut writer = sink(alloc);
+    let mut reader = MemorySource::new(input.as_bytes(), usize::MAX, ALL);
+    let mut writer = sink(alloc)?;
     serve(alloc, &mut reader, &mut writer)?;
     let answers =
         "{\"open\":3}\n{\"horizon\":1}\n{\"refused\":\"line too long\"}\n{\"horizon\":1}\n";
@@ -329,36 +395,167 @@ fn the_longest_line(rt: HostRuntime) -> Result<(), Fail> {
     Ok(())
 }
 
-// A run ends with a status and a line on standard error.
-fn ends_with(
-    rt: &impl Abort,
-    words: &[String],
-    mut reader: MemorySource<'_>,
-    (writer, alloc): (&mut MemorySink, Global),
-    (status, line): (u8, Option<&str>),
-) {
-    let ended = run(alloc, words, &mut reader, writer);
-    assert!(rt; ended.status == status && ended.line == line, "{status}");
+/// A road of 8 cells where no car enters.
+const EMPTY_ROAD: &str =
+    r#"{"detectors":[],"exit":1,"inlets":[[0,0]],"length":8,"replicas":["A"],"words":7,"zone":8,"zones":[[2,0]]}
+"#;
+
+const FIRST_ROWS: &str = r#"{"diagram":{"at":"A","from":0,"to":1023}}"#;
+
+/// The greatest horizon, the longest diagram, and what is past both; the diagrams, asked for in one piece of input, are
+/// more bytes than wait to be written.
+#[test]
+fn the_greatest_horizon(rt: HostRuntime) -> Result<(), Fail> {
+    let alloc = rt.alloc();
+    let mut input = format!(in alloc;
+        "{EMPTY_ROAD}{}{}{}",
+        r#"{"advance":{"at":"A","to":65537}}
+{"advance":{"at":"A","to":65536}}
+"#,
+        r#"{"cells":{"at":"A","step":65536}}
+"#,
+        r#"{"diagram":{"at":"A","from":64512,"to":65536}}
+"#
+    )?;
+    let mut answers = String::from_str(
+        alloc,
+        r#"{"open":1}
+{"refused":"Horizon"}
+{"horizon":65536}
+{"cells":"........"}
+{"refused":"Range"}
+"#,
+    )?;
+    for question in [
+        r#"{"diagram":{"at":"A","from":64513,"to":65536}}"#,
+        FIRST_ROWS,
+        FIRST_ROWS,
+        FIRST_ROWS,
+        FIRST_ROWS,
+        FIRST_ROWS,
+    ] {
+        input.push_str(question)?;
+        input.push('\n')?;
+        answers.push_str("{\"rows\":[\"........\"")?;
+        for _ in 0..1023 {
+            answers.push_str(",\"........\"")?;
+        }
+        answers.push_str("]}\n")?;
+    }
+    let mut reader = MemorySource::new(input.as_bytes(), usize::MAX, ALL);
+    let mut writer = sink(alloc)?;
+    serve(alloc, &mut reader, &mut writer)?;
+    assert!(rt; writer.bytes() == answers.as_bytes());
+    Ok(())
 }
 
 #[test]
 fn statuses(rt: HostRuntime) -> Result<(), Fail> {
     let alloc = rt.alloc();
-    let failing = MemorySource::new(FREE_ROAD.as_bytes(), 1, 0);
+    let failing = MemorySource::new(FREE_ROAD.as_bytes(), 1, Failing::Once(0));
     let table: [(MemorySource<'_>, usize, u8, Option<&str>); 4] = [
         (source(FREE_ROAD), 1000, 0, None),
         (source(""), 1000, 2, Some("bad plan")),
         (source(FREE_ROAD), 0, 4, Some("write fault")),
         (failing, 1000, 5, Some("read fault")),
     ];
-    for (reader, room, status, line) in table {
-        let mut writer = MemorySink::new(Vec::new(alloc), room, u64::MAX);
-        ends_with(&rt, &[], reader, (&mut writer, alloc), (status, line));
+    for (mut reader, room, status, line) in table {
+        let mut writer = MemorySink::new(Vec::with_capacity(alloc, 1000)?, room, ALL, ALL);
+        let ended = run(alloc, &[], &mut reader, &mut writer);
+        if ended.status == 3 {
+            return Err(AllocError.into());
+        }
+        assert!(rt; ended.status == status && ended.line == line, "{status}");
     }
     let words = [String::from_str(alloc, "--help")?];
-    let mut writer = sink(alloc);
-    let said = (2, Some("bad arguments"));
-    ends_with(&rt, &words, source(FREE_ROAD), (&mut writer, alloc), said);
+    let mut writer = sink(alloc)?;
+    let ended = run(alloc, &words, &mut source(FREE_ROAD), &mut writer);
+    assert!(rt; ended.status == 2 && ended.line == Some("bad arguments"));
     assert!(rt; writer.bytes().is_empty());
     Ok(())
+}
+
+/// A writer that holds what it took until it is flushed, counts its flushes and fails one of them.
+#[derive(Drop)]
+struct Holding {
+    held: usize,
+    passed_on: usize,
+    flushes: u32,
+    fails_at: u32,
+}
+
+impl io::Write for Holding {
+    fn write(&mut self, bytes: &[u8]) -> io::Result<usize> {
+        self.held = self.held.saturating_add(bytes.len());
+        Ok(bytes.len())
+    }
+
+    fn flush(&mut self) -> io::Result<()> {
+        let flush = self.flushes;
+        self.flushes = flush.saturating_add(1);
+        if flush == self.fails_at {
+            return Err(io::Error::from(io::ErrorKind::BrokenPipe));
+        }
+        self.passed_on = self.passed_on.saturating_add(self.held);
+        self.held = 0;
+        Ok(())
+    }
+}
+
+/// A reader of three bytes whose second call fails.
+#[derive(Drop)]
+struct Faltering {
+    calls: u32,
+}
+
+impl io::Read for Faltering {
+    fn read(&mut self, buffer: &mut [u8]) -> io::Result<usize> {
+        let call = self.calls;
+        self.calls = call.saturating_add(1);
+        if call == 1 {
+            return Err(io::Error::from(io::ErrorKind::Interrupted));
+        }
+        if call > 2 {
+            return Ok(0);
+        }
+        buffer.fill(b'x');
+        Ok(buffer.len())
+    }
+}
+
+// A run over a writer of std: all its replies are passed on, or the flush that fails ends it, and no flush is tried again.
+#[test]
+fn writers_of_std(rt: HostRuntime) -> Result<(), Fail> {
+    for (fails_at, whole) in [(u32::MAX, true), (0, false), (1, false)] {
+        let mut holding = Holding {
+            held: 0,
+            passed_on: 0,
+            flushes: 0,
+            fails_at,
+        };
+        let mut writer = StdSink::new(&mut holding);
+        let mut reader = MemorySource::new(FREE_ROAD.as_bytes(), usize::MAX, ALL);
+        let result = end_of(serve(rt.alloc(), &mut reader, &mut writer))?;
+        drop(writer);
+        if whole {
+            assert!(rt; result.is_ok() && holding.passed_on == 11 && holding.held == 0);
+        } else {
+            assert!(rt;
+                matches!(result, Err(ServeFault::Write))
+                    && holding.flushes == fails_at.saturating_add(1)
+            );
+        }
+    }
+    Ok(())
+}
+
+// A reader of std: its error is a fault and no end of input, and its next bytes come with the next call.
+#[test]
+fn readers_of_std(rt: HostRuntime) {
+    let mut reader = StdSource::new(Faltering { calls: 0 });
+    let mut piece = [0u8; 2];
+    assert!(rt; matches!(reader.read(&mut piece), Ok(2)) && piece == *b"xx");
+    assert!(rt; reader.read(&mut piece).is_err());
+    assert!(rt; matches!(reader.read(&mut piece), Ok(2)));
+    assert!(rt; matches!(reader.read(&mut piece), Ok(0)));
 }

@@ -1,100 +1,97 @@
-use Rattle.std.proofs.Common.{◌≡◌, ◌≤◌, ◌∙◌, ◌+◌, ◌-◌, ◌^◌, ◌++◌, ◌==◌, ℕ, List, [], true, min, take, length, ap, sym, arith, refl, length-append}
+use Rattle.std.proofs.Common.{◌<◌, length, refl, arith}
 use Rattle.std.proofs.lemmas.Result.{err_from_is_err_and}
-use Rattle.std.proofs.lemmas.List.{length-take-le}
-use Rattle.std.proofs.lemmas.Bool.{eq-eqb}
-use Rattle.road_lab.specs.Desk.{said}
-use Rattle.road_lab.specs.Views.{desk_view}
-use Rattle.road_lab.proofs.Exits.{exit_read, exit_all, exit_front, exit_unsaid, exit_over, exit_past, desk_at, finish_ends, reached_none, reached_whole, not_zero, nothing_read}
+use Rattle.road_lab.specs.StreamViews.{source_view, sink_view}
+use Rattle.road_lab.proofs.RunEnds.{at_first, ReadMore, read_on, unread, stopped, over, past, stopped_at_end, refused_at_end, ended_well}
 use Rattle.road_lab.proofs.serve.serve_within.Goals as goal
 
-pub returns-in_err-n : goal.returns-in_err-n
-returns-in_err-n g c =
-    let i = c.loop-out.invariant in
+pub loop-dialogue-init : goal.loop-dialogue-init
+loop-dialogue-init g c = let new = c.new-dialogue.ensures in at_first c.args.lines c.args.bytes _ _ c.new-dialogue.result (new.none_came _) new.going new.none_wait
+
+pub returns-in_err-count : goal.returns-in_err-count
+returns-in_err-count g c =
     let p = err_from_is_err_and c.from_residual.result c.from_residual.ensures.1 in
-    let x = exit_read _ c.args.lines c.args.bytes i.0 i.1 (omega (arith, i.2, i.3)) c.in_err-n.ensures.keeps in
-    rw (p.1, p.2) (i.0, x.0, (x.1, c.in_err-n.ensures.failed ∙ ap (λ (k : ℕ). min (k + 1) (2 ^ 64 - 1)) i.6))
+    let l = c.loop-dialogue in
+    rw (p.1, p.2) (unread c.args.lines c.args.bytes l.room _ (source_view g.R.Source l.reader) (source_view g.R.Source c.read.new.self) _ _ l.dialogue l.invariant c.in_err-count.ensures.bytes c.in_err-count.ensures.failed)
 
-pub loop-out-init : goal.loop-out-init
-loop-out-init g c = ([], reached_none _ _ _ _ c.new-desk.ensures, refl, omega arith, c.new-out.ensures.items, ap (λ d. d.over) c.new-desk.ensures, refl, refl)
+pub returns-in_err-finish : goal.returns-in_err-finish
+returns-in_err-finish g c =
+    let p = err_from_is_err_and c.from_residual-in_err-finish.result c.from_residual-in_err-finish.ensures.1 in
+    let l = c.loop-dialogue in
+    let e = c.in_ok-count.ensures in
+    let s1 = source_view g.R.Source l.reader in
+    let s2 = source_view g.R.Source c.read.new.self in
+    let more : ReadMore s1 s2 c.in_ok-count.count c.read.new.piece = record { bytes = e.bytes.0; fits = e.within; ended = e.ended; well = e.well } in
+    rw (p.1, p.2)
+    (stopped_at_end c.args.lines c.args.bytes l.room c.in_ok-count.count _ s1 s2 _ _ _ l.dialogue c.read.new.piece _ l.invariant more c.if-count-eq0.true (c.in_err-finish.ensures.answered c.args.lines l.invariant.input _ l.invariant.answered))
 
-pub loop-out-preserved : goal.loop-out-preserved
-loop-out-preserved g c =
-    let i = c.loop-out.invariant in
-    let n = c.in_ok-n.n in
-    let buf = c.read.new.piece in
-    let out = c.in_ok-piece.ensures.said ∙ ap (λ (x : List ℕ). x ++ said (desk_view c.loop-out.desk) (take c.fitting-within.result buf)) i.4 in
-    let says = c.as_slice.ensures.value ∙ out in
-    let all : c.fitting-within.result ≡ n = omega (arith, c.fitting-within.ensures) in
-    let len : length (take n buf) ≡ n = length-take-le n buf c.in_ok-n.ensures.within in (
-      i.0 ++ take n buf,
-      reached_whole _ _ _ n c.fitting-within.result buf _ c.as_slice.result.now i.1 all c.in_ok-n.ensures.gives refl says c.in_ok-send.ensures.all c.in_ok-piece.ensures.done,
-      length-append i.0 (take n buf) ∙ omega (arith, len, i.2),
-      omega (arith, all, c.fitting-within.ensures, i.3),
-      c.clear.ensures.items,
-      c.in-None.is,
-      c.in_ok-n.ensures.well ∙ i.6,
-      c.in_ok-send.ensures.well ∙ i.7,
-    )
+pub returns-in_err-take : goal.returns-in_err-take
+returns-in_err-take g c =
+    let p = err_from_is_err_and c.from_residual-in_err-take.result c.from_residual-in_err-take.ensures.1 in
+    let l = c.loop-dialogue in
+    let e = c.in_ok-count.ensures in
+    let s1 = source_view g.R.Source l.reader in
+    let s2 = source_view g.R.Source c.read.new.self in
+    let more : ReadMore s1 s2 c.in_ok-count.count c.read.new.piece = record { bytes = e.bytes.0; fits = e.within; ended = e.ended; well = e.well } in
+    rw (p.1, p.2)
+    (stopped c.args.lines c.args.bytes l.room c.in_ok-count.count c.fitting-within.result _ s1 s2 _ _ _ l.dialogue c.read.new.piece _ l.invariant more c.if-count-eq0.false c.fitting-within.ensures
+    (c.in_err-take.ensures.answered c.args.lines l.invariant.input _ l.invariant.answered))
 
-pub returns-then-n-eq0 : goal.returns-then-n-eq0
-returns-then-n-eq0 g c =
-    let i = c.loop-out.invariant in
-    let n = c.in_ok-n.n in
-    let ends : (n == 0) ≡ true = eq-eqb n 0 c.if-n-eq0.true in (
-      i.0,
-      nothing_read _ _ _ n i.0 c.read.new.piece i.1.reads c.in_ok-n.ensures.gives c.if-n-eq0.true,
-      finish_ends _ c.args.lines c.args.bytes i.0 _ _ _ _ _ _ _ c.finish.result i.1 (omega (arith, i.2, i.3)) i.5 (c.in_ok-n.ensures.ended ∙ ends) i.7 c.finish.ensures,
-    )
+pub returns-in-Some-over : goal.returns-in-Some-over
+returns-in-Some-over g c =
+    let l = c.loop-dialogue in
+    let e = c.in_ok-count.ensures in
+    let s1 = source_view g.R.Source l.reader in
+    let s2 = source_view g.R.Source c.read.new.self in
+    let k2 = sink_view g.W.Sink c.take.new.writer in
+    let more : ReadMore s1 s2 c.in_ok-count.count c.read.new.piece = record { bytes = e.bytes.0; fits = e.within; ended = e.ended; well = e.well } in
+    rw (c.fault-in-Some-over.ensures)
+    (over c.args.lines c.args.bytes l.room c.in_ok-count.count c.fitting-within.result _ s1 s2 _ _ k2 l.dialogue c.take.new.self c.read.new.piece c.in-Some-over.end l.invariant more c.if-count-eq0.false c.fitting-within.ensures
+    (c.in_ok-take.ensures.answered c.args.lines l.invariant.input _ l.invariant.answered) c.in_ok-take.ensures.none_wait c.in_ok-take.ensures.flushed c.in-Some-over.is)
 
-pub returns-in_err-piece : goal.returns-in_err-piece
-returns-in_err-piece g c =
-    let i = c.loop-out.invariant in
-    let n = c.in_ok-n.n in
-    let buf = c.read.new.piece in
-    let went = c.in_ok-n.ensures.ended ∙ not_zero n c.if-n-eq0.false in
-    let p = err_from_is_err_and c.from_residual-in_err-piece.result c.from_residual-in_err-piece.ensures.1 in
-    let x = exit_unsaid _ c.args.lines c.args.bytes n c.fitting-within.result i.0 buf _ i.1 went (omega (arith, i.2, i.3)) (c.fitting-within.ensures ∙ ap (λ (k : ℕ). min (c.args.bytes - k) n) (sym i.2)) c.in_ok-n.ensures.within c.in_ok-n.ensures.gives in
-    rw (p.1, p.2) (i.0 ++ take n buf, x.0, x.1)
+pub returns-then-within-count : goal.returns-then-within-count
+returns-then-within-count g c =
+    let l = c.loop-dialogue in
+    let e = c.in_ok-count.ensures in
+    let s1 = source_view g.R.Source l.reader in
+    let s2 = source_view g.R.Source c.read.new.self in
+    let k2 = sink_view g.W.Sink c.take.new.writer in
+    let more : ReadMore s1 s2 c.in_ok-count.count c.read.new.piece = record { bytes = e.bytes.0; fits = e.within; ended = e.ended; well = e.well } in
+    past c.args.lines c.args.bytes l.room c.in_ok-count.count c.fitting-within.result _ s1 s2 _ _ k2 l.dialogue c.take.new.self c.read.new.piece l.invariant more c.if-count-eq0.false c.fitting-within.ensures c.if-within-count.true
+    (c.in_ok-take.ensures.answered c.args.lines l.invariant.input _ l.invariant.answered) c.in_ok-take.ensures.none_wait c.in_ok-take.ensures.flushed c.in_default-over.is
 
-pub returns-in_err-send : goal.returns-in_err-send
-returns-in_err-send g c =
-    let i = c.loop-out.invariant in
-    let n = c.in_ok-n.n in
-    let buf = c.read.new.piece in
-    let went = c.in_ok-n.ensures.ended ∙ not_zero n c.if-n-eq0.false in
-    let out = c.in_ok-piece.ensures.said ∙ ap (λ (x : List ℕ). x ++ said (desk_view c.loop-out.desk) (take c.fitting-within.result buf)) i.4 in
-    let says = c.as_slice.ensures.value ∙ out in
-    let p = err_from_is_err_and c.from_residual-in_err-send.result c.from_residual-in_err-send.ensures.1 in
-    let k = c.in_err-send.ensures.front in
-    let x = exit_front _ _ c.args.lines c.args.bytes n c.fitting-within.result k.0 i.0 buf _ c.as_slice.result.now _ i.1 went (omega (arith, i.2, i.3)) (c.fitting-within.ensures ∙ ap (λ (k : ℕ). min (c.args.bytes - k) n) (sym i.2)) c.in_ok-n.ensures.within c.in_ok-n.ensures.gives refl says k.1 in
-    rw (p.1, p.2) (i.0 ++ take n buf, x.0, (x.1, c.in_err-send.ensures.failed ∙ ap (λ (k : ℕ). min (k + 1) (2 ^ 64 - 1)) i.7))
+pub loop-dialogue-preserved : goal.loop-dialogue-preserved
+loop-dialogue-preserved g c =
+    let l = c.loop-dialogue in
+    let e = c.in_ok-count.ensures in
+    let s1 = source_view g.R.Source l.reader in
+    let s2 = source_view g.R.Source c.read.new.self in
+    let k2 = sink_view g.W.Sink c.take.new.writer in
+    let more : ReadMore s1 s2 c.in_ok-count.count c.read.new.piece = record { bytes = e.bytes.0; fits = e.within; ended = e.ended; well = e.well } in
+    read_on c.args.lines c.args.bytes l.room _ c.in_ok-count.count c.fitting-within.result _ s1 s2 _ _ k2 l.dialogue c.take.new.self c.read.new.piece l.invariant more c.fitting-within.ensures c.if-within-count.false refl
+    (c.in_ok-take.ensures.answered c.args.lines l.invariant.input _ l.invariant.answered) c.in_default-over.is c.in_ok-take.ensures.none_wait
 
+-- the end of the input: the plan line was refused
 pub returns-in-Some : goal.returns-in-Some
 returns-in-Some g c =
-    let i = c.loop-out.invariant in
-    let n = c.in_ok-n.n in
-    let buf = c.read.new.piece in
-    let went = c.in_ok-n.ensures.ended ∙ not_zero n c.if-n-eq0.false in
-    let out = c.in_ok-piece.ensures.said ∙ ap (λ (x : List ℕ). x ++ said (desk_view c.loop-out.desk) (take c.fitting-within.result buf)) i.4 in
-    let says = c.as_slice.ensures.value ∙ out in
-    let short : length i.0 ≤ c.args.bytes = omega (arith, i.2, i.3) in
-    let least = c.fitting-within.ensures ∙ ap (λ (k : ℕ). min (c.args.bytes - k) n) (sym i.2) in
-    let x = exit_all _ _ c.args.lines c.args.bytes n c.fitting-within.result i.0 buf _ c.as_slice.result.now _ i.1 went short least c.in_ok-n.ensures.within c.in_ok-n.ensures.gives refl says c.in_ok-send.ensures.all in
-    let desk = desk_at _ c.args.lines c.args.bytes n c.fitting-within.result i.0 buf _ i.1 short least c.in_ok-n.ensures.within refl c.in_ok-piece.ensures.done in
-    let fault = c.fault.ensures in
-    rw fault (i.0 ++ take n buf, x.0, exit_over _ c.args.lines c.args.bytes (i.0 ++ take n buf) _ _ _ _ _ _ _ _ c.in-Some.end desk went c.in-Some.is x.1 c.in_ok-send.ensures.flushed)
+    let l = c.loop-dialogue in
+    let e = c.in_ok-count.ensures in
+    let s1 = source_view g.R.Source l.reader in
+    let s2 = source_view g.R.Source c.read.new.self in
+    let k2 = sink_view g.W.Sink c.finish.new.writer in
+    let more : ReadMore s1 s2 c.in_ok-count.count c.read.new.piece = record { bytes = e.bytes.0; fits = e.within; ended = e.ended; well = e.well } in
+    rw (c.fault.ensures)
+    (refused_at_end c.args.lines c.args.bytes l.room c.in_ok-count.count _ s1 s2 _ _ k2 l.dialogue c.finish.new.self c.read.new.piece c.in-Some.end l.invariant more c.if-count-eq0.true
+    (c.in_ok-finish.ensures.answered c.args.lines l.invariant.input _ l.invariant.answered) c.in_ok-finish.ensures.none_wait c.in_ok-finish.ensures.flushed c.in-Some.is)
 
-pub returns-then-within-n : goal.returns-then-within-n
-returns-then-within-n g c =
-    let i = c.loop-out.invariant in
-    let n = c.in_ok-n.n in
-    let buf = c.read.new.piece in
-    let went = c.in_ok-n.ensures.ended ∙ not_zero n c.if-n-eq0.false in
-    let out = c.in_ok-piece.ensures.said ∙ ap (λ (x : List ℕ). x ++ said (desk_view c.loop-out.desk) (take c.fitting-within.result buf)) i.4 in
-    let says = c.as_slice.ensures.value ∙ out in
-    let short : length i.0 ≤ c.args.bytes = omega (arith, i.2, i.3) in
-    let least = c.fitting-within.ensures ∙ ap (λ (k : ℕ). min (c.args.bytes - k) n) (sym i.2) in
-    let x = exit_all _ _ c.args.lines c.args.bytes n c.fitting-within.result i.0 buf _ c.as_slice.result.now _ i.1 went short least c.in_ok-n.ensures.within c.in_ok-n.ensures.gives refl says c.in_ok-send.ensures.all in
-    let desk = desk_at _ c.args.lines c.args.bytes n c.fitting-within.result i.0 buf _ i.1 short least c.in_ok-n.ensures.within refl c.in_ok-piece.ensures.done in
-    let y = exit_past _ c.args.lines c.args.bytes n c.fitting-within.result i.0 buf _ desk went c.in-None.is short least c.in_ok-n.ensures.within c.if-within-n.true in
-    (i.0 ++ take n buf, x.0, (record { written = x.1; flushed = c.in_ok-send.ensures.flushed }, y.0, y.1))
+-- it was accepted
+pub returns-then-count-eq0 : goal.returns-then-count-eq0
+returns-then-count-eq0 g c =
+    let l = c.loop-dialogue in
+    let e = c.in_ok-count.ensures in
+    let s1 = source_view g.R.Source l.reader in
+    let s2 = source_view g.R.Source c.read.new.self in
+    let k2 = sink_view g.W.Sink c.finish.new.writer in
+    let more : ReadMore s1 s2 c.in_ok-count.count c.read.new.piece = record { bytes = e.bytes.0; fits = e.within; ended = e.ended; well = e.well } in
+    let some : 0 < length c.read.new.piece = omega arith in
+    ended_well c.args.lines c.args.bytes l.room c.in_ok-count.count _ s1 s2 _ _ k2 l.dialogue c.finish.new.self c.read.new.piece _ l.invariant more c.if-count-eq0.true (e.bytes.1 c.if-count-eq0.true some)
+    (c.in_ok-finish.ensures.answered c.args.lines l.invariant.input _ l.invariant.answered) c.in_ok-finish.ensures.none_wait c.in_ok-finish.ensures.flushed c.in_default.is c.saturating_sub.ensures

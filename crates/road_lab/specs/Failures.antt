@@ -1,4 +1,4 @@
--- The counts of sources and sinks.
+-- The counts of failed calls.
 use Rattle.std.specs.Prelude.{◌≡◌, ℕ, ◌+◌, ◌-◌, ◌^◌, min}
 
 -- a count of failed calls is one more; one at the greatest u64 stays there

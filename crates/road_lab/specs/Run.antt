@@ -1,0 +1,76 @@
+-- A run, and what it promises.
+use Rattle.std.specs.Prelude.{◌≡◌, ℕ, List, Bool, true, false, Result, Ok, Err}
+use Rattle.std.specs.Io.KnownBytes.{Appends, Consumes, IsAtEnd}
+use Rattle.road_lab.specs.Answers.{answers_within, is_plan_refused_within, has_byte_past_limits, reply_count}
+use Rattle.road_lab.specs.Failures.{RisesByOne}
+use Rattle.road_lab.specs.StreamViews.{SourceView, SinkView, Stops}
+use Rattle.road_lab.specs.declared.faults.ServeFault.{ServeFault}
+use Rattle.road_lab.specs.declared.faults.ServeFault.TheVariants as faults
+use Rattle.road_lab.specs.declared.serve.Served.{Served}
+
+-- A run: how many lines may come after the plan line, and how many bytes in all; its source and its sink before and
+-- after it; and its result.
+pub record Run : Type 0 where
+  pub lines : ℕ
+  pub bytes : ℕ
+  pub source_before : SourceView
+  pub source_after : SourceView
+  pub sink_before : SinkView
+  pub sink_after : SinkView
+  pub result : Result Served ServeFault
+
+-- what is answered to this input
+abbrev pub run_answers : Run → List ℕ → List ℕ
+run_answers run input = answers_within run.lines run.bytes input run.source_after.at_end
+
+-- the answers to the input were written, all of them and nothing else, and flushed; no call failed
+pub record WritesAll (run : Run) (input : List ℕ) : Type 0 where
+  pub written : Appends run.sink_before.contents run.sink_after.contents (run_answers run input)
+  pub flushed : run.sink_after.flushed ≡ true
+  pub reads_well : run.source_after.failures ≡ run.source_before.failures
+  pub writes_well : run.sink_after.failures ≡ run.sink_before.failures
+
+-- whether the plan line of this input is refused
+abbrev pub RefusesPlan : Run → List ℕ → Bool → Type 0
+RefusesPlan run input answer = is_plan_refused_within run.bytes input run.source_after.at_end ≡ answer
+
+-- whether a byte of this input stands past the limits
+abbrev pub PassesLimits : Run → List ℕ → Bool → Type 0
+PassesLimits run input answer = has_byte_past_limits run.lines run.bytes input ≡ answer
+
+-- A run that ends well: at the end of input, with nothing left. The plan line is accepted, and no byte is past the
+-- limits.
+pub record EndsWell (run : Run) (input : List ℕ) (served : Served) : Type 0 where
+  pub writes : WritesAll run input
+  pub at_end : run.source_after.at_end ≡ true
+  pub nothing_left : IsAtEnd run.source_after.remaining
+  pub accepted : RefusesPlan run input false
+  pub within : PassesLimits run input false
+  pub counted : served.lines ≡ reply_count run.lines run.bytes input
+
+-- A run that a failed read ends: the answers to the lines that were read whole were written.
+pub record EndsUnread (run : Run) (input : List ℕ) : Type 0 where
+  pub written : Appends run.sink_before.contents run.sink_after.contents
+      (answers_within run.lines run.bytes input false)
+  pub reads_failed : RisesByOne run.source_before.failures run.source_after.failures
+  pub writes_well : run.sink_after.failures ≡ run.sink_before.failures
+
+-- A run that a failed write or want of memory ends: some of the answers were written, from the first on.
+pub record EndsUnwritten (run : Run) (input : List ℕ) (fault : ServeFault) : Type 0 where
+  pub stops : Stops run.sink_before run.sink_after (run_answers run input) fault
+  pub reads_well : run.source_after.failures ≡ run.source_before.failures
+
+-- how a run ends that read this input, by its result
+abbrev pub Ends : Run → List ℕ → Result Served ServeFault → Type 0
+Ends run input (Ok served) = EndsWell run input served
+Ends run input (Err faults.BadPlan) = WritesAll run input × RefusesPlan run input true
+Ends run input (Err faults.TooMany) = WritesAll run input × RefusesPlan run input false × PassesLimits run input true
+Ends run input (Err faults.Read) = EndsUnread run input
+Ends run input (Err faults.Write) = EndsUnwritten run input faults.Write
+Ends run input (Err faults.OutOfMemory) = EndsUnwritten run input faults.OutOfMemory
+
+-- The run read some input, the front of what the source had left, and answered it.
+pub record Answers (run : Run) : Type 0 where
+  pub input : List ℕ
+  pub read : Consumes run.source_before.remaining run.source_after.remaining input
+  pub ends : Ends run input run.result
