@@ -19,7 +19,7 @@ use Rattle.road_cells.specs.Gap.{free_before}
 use Rattle.road_format.specs.Cut.{newline, pieces_with_byte, pieces_of}
 use Rattle.road_format.specs.Replies.{Open, Refused, Horizon, Cells as CellsReply, reply}
 use Rattle.road_format.specs.declared.refusal.Refusal.TheVariants as refusals
-use Rattle.road_keeper.specs.Laboratory.{row_at}
+use Rattle.road_sheet.specs.Shown.{row_at}
 use Rattle.road_lab.specs.Answers.{is_long, later_replies, answers, answers_within}
 
 -- ---- the limits of `serve`
@@ -135,7 +135,7 @@ no_more (suc lines) = refl
 
 -- a plan line of too many spaces, with a newline behind it
 too_many_spaces : (n lines limit : ℕ) → LONGEST_LINE < n → n + 1 ≤ limit → answers_within lines limit (replicate n 32 ++ newline ∷ []) true ≡ reply (Refused refusals.LineTooLong)
-unfolding road_format_on_literals answers answers_within
+unfolding answers answers_within reply
 too_many_spaces n lines limit long within =
     let input : List ℕ = replicate n 32 ++ newline ∷ [] in
     let size : length input ≡ n + 1 = length-append (replicate n 32) (newline ∷ []) ∙ ap (λ (k : ℕ). k + 1) (length-replicate {A = ℕ} n 32) in
