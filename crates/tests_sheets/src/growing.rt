@@ -64,7 +64,10 @@ fn refused_by(
 ) -> Result<Option<GrownFault>, Fail> {
     let scenario = Scenario::empty(alloc).with_edit(edit)?;
     assert!(rt; scenario.fits(sheet.plan()).is_none());
-    let mut crew = Failing { calls_left: calls, gone: 0 };
+    let mut crew = Failing {
+        calls_left: calls,
+        gone: 0,
+    };
     let mut meter = Meter::new();
     let refused = grown(alloc, sheet, &scenario, 0, &mut crew, &mut meter).err();
     assert_eq!(rt; meter.ticks(), calls);

@@ -6,9 +6,21 @@ use road_sheet::SheetFault;
 use std::test::Fail;
 
 const CARS: [Car; 3] = [
-    Car { number: 80, cell: 0, speed: 0 },
-    Car { number: 48, cell: 3, speed: 2 },
-    Car { number: 16, cell: 7, speed: 2 },
+    Car {
+        number: 80,
+        cell: 0,
+        speed: 0,
+    },
+    Car {
+        number: 48,
+        cell: 3,
+        speed: 2,
+    },
+    Car {
+        number: 16,
+        cell: 7,
+        speed: 2,
+    },
 ];
 
 #[test]
@@ -54,7 +66,10 @@ fn counts_the_worked_cars(rt: HostRuntime) -> Result<(), Fail> {
         ((1, 9, 8), Err(SheetFault::NoDetector)),
     ];
     for (question, answer) in table {
-        assert!(&rt; totals(rt.alloc(), &sheet, question) == answer, "{question:?}");
+        assert!(&rt;
+            totals(rt.alloc(), &sheet, question) == answer,
+            "{question:?}"
+        );
     }
     Ok(())
 }

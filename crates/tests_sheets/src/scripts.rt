@@ -53,9 +53,19 @@ fn edit(dice: &mut Dice, count: u64) -> Edit {
     let kind = dice.below(6);
     let edit = match kind {
         0 => put(Object::Limit(0), step, count, dice.below(4)),
-        1 => put(Object::Slow(1), step, count, dice.below(3).saturating_mul(30_000)),
+        1 => put(
+            Object::Slow(1),
+            step,
+            count,
+            dice.below(3).saturating_mul(30_000),
+        ),
         2 => put(Object::Block(dice.below(24)), step, count, dice.below(2)),
-        3 => put(Object::Inflow(1), step, count, dice.below(3).saturating_mul(30_000)),
+        3 => put(
+            Object::Inflow(1),
+            step,
+            count,
+            dice.below(3).saturating_mul(30_000),
+        ),
         _ => put(Object::Watch(0), step, count, dice.below(2)),
     };
     if dice.below(7) > 0 {
