@@ -23,12 +23,13 @@ pub struct Stepped {
     pub road: Road,
 }
 
-/// One step of the road, computed by this one caller: entries, speeds, motion, deletion. The meter counts it once it is
-/// computed.
+/// One step of the road, computed by this one caller: entries, speeds, motion, deletion. The meter counts it once it
+/// is computed.
 ///
 /// # Errors
 ///
-/// `OutOfMemory` where a growth is refused: those of [`enter`], of the speeds, of the new road. The meter is then as it was.
+/// `OutOfMemory` where a growth is refused: those of [`enter`], of the speeds, of the new road. The meter is then as
+/// it was.
 pub fn step_alone(
     alloc: Global,
     plan: &Arc<Plan>,
@@ -39,7 +40,8 @@ pub fn step_alone(
 ) -> Result<Stepped, AllocError>
     requires { Fits (arc_value plan.now) settings }
     ensures input { IfOk result (λ done. arc_value done.input ≡ input_of (arc_value plan.now) settings step road.now) }
-    ensures speeds { IfOk result (λ done. done.speeds.items ≡ input_speeds (input_of (arc_value plan.now) settings step road.now)) }
+    ensures speeds { IfOk result (λ done. done.speeds.items
+        ≡ input_speeds (input_of (arc_value plan.now) settings step road.now)) }
     ensures road { IfOk result (λ done. done.road ≡ road_after_step (arc_value plan.now) settings step road.now) }
     ensures counted { OnOk result (meter.new ≡ min (meter.old + 1) u64.MAX) }
     ensures kept { OnErr result (meter.new ≡ meter.old) }

@@ -16,9 +16,9 @@ use std::alloc::{AllocError, Global};
 /// The stream of the first inlet's words; the others follow it.
 const FIRST_INLET_STREAM: u64 = 1 << 63;
 
-// The road with the cars that enter at a step: at each inlet whose cell is empty and not blocked, and whose word has its
-// event under the inflow chance. Cars past the road's end are left out. The cars between two inlets are copied as they
-// are, in one growth for all.
+// The road with the cars that enter at a step: at each inlet whose cell is empty and not blocked, and whose word has
+// its event under the inflow chance. Cars past the road's end are left out. The cars between two inlets are copied as
+// they are, in one growth for all.
 pub(crate) fn entered(
     alloc: Global,
     plan: &Plan,
@@ -72,7 +72,8 @@ fn standing_or_entering(
     cell: u32,
 ) -> Option<Car>
     requires { Fits plan.now settings.now }
-    ensures { result ≡ option_map (car_of cell) (option_or (vehicle_at road.now cell) (entry_at plan.now settings.now step cell)) }
+    ensures { result ≡ option_map (car_of cell)
+        (option_or (vehicle_at road.now cell) (entry_at plan.now settings.now step cell)) }
 {
     match road.car_at(cell) {
         Some(car) => Some(car),

@@ -29,9 +29,11 @@ impl Model for StepInput {
 
     ghost Value = { StepInput };
 
-    ghost view = { λ input. record { plan = arc_value input.plan; settings = input.settings; step = input.step; road = input.road } };
+    ghost view = { λ input. record
+        { plan = arc_value input.plan; settings = input.settings; step = input.step; road = input.road } };
 
-    ghost invariant = { λ input. Fits (arc_value input.plan) input.settings × (length input.road ≤ (arc_value input.plan).cells) };
+    ghost invariant = { λ input. Fits (arc_value input.plan) input.settings
+        × (length input.road ≤ (arc_value input.plan).cells) };
 }
 
 impl StepInput {

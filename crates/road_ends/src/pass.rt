@@ -31,9 +31,9 @@ struct Zone {
     start: u32,
 }
 
-// The new speeds of all cars, in the order of the cars. It is one pass over the cars from the far end, in one growth. The
-// next car and the next blocked cell come with the pass, so that nothing is searched; a word is drawn only where it can
-// change a speed; and a zone is divided out only where it changes.
+// The new speeds of all cars, in the order of the cars. It is one pass over the cars from the far end, in one growth.
+// The next car and the next blocked cell come with the pass, so that nothing is searched; a word is drawn only where
+// it can change a speed; and a zone is divided out only where it changes.
 pub(crate) fn speeds(
     alloc: Global,
     plan: &Plan,
@@ -62,7 +62,8 @@ pub(crate) fn speeds(
 fn moved_back(plan: &Plan, settings: &Settings, cell: u32, cursor: Cursor) -> Cursor
     requires fits { Fits plan.now settings.now }
     requires bound { cursor.reached ≤ length settings.now.blocks }
-    requires ahead { (i : ℕ) → cursor.reached ≤ i → i < length settings.now.blocks → cell < slice_index settings.now.blocks i }
+    requires ahead { (i : ℕ) → cursor.reached ≤ i → i < length settings.now.blocks
+        → cell < slice_index settings.now.blocks i }
     requires start { cursor.zone.start ≡ cursor.zone.index * plan.now.width }
     ensures at { IsPassAt plan.now settings.now cell result.reached result.zone.index }
     ensures bound { result.reached ≤ length settings.now.blocks }
@@ -104,10 +105,12 @@ fn new_speed(
 ) -> u8
     requires fits { Fits plan.now settings.now }
     requires on_road { length road.now ≤ plan.now.cells }
-    requires words { (stream step : ℕ) → ⟦<PlanWords as Words>⟧.word_of words.now stream step ≡ word plan.now.words stream step }
+    requires words { (stream step : ℕ)
+        → ⟦<PlanWords as Words>⟧.word_of words.now stream step ≡ word plan.now.words stream step }
     requires car { place < length (cars_of road.now) }
     requires at { IsPassAt plan.now settings.now (cell_at (cars_of road.now) place) cursor.reached cursor.zone.index }
-    ensures { let car = nth_car (cars_of road.now) place in result ≡ speed plan.now settings.now step road.now car.cell (vehicle_of car) }
+    ensures { let car = nth_car (cars_of road.now) place in
+        result ≡ speed plan.now settings.now step road.now car.cell (vehicle_of car) }
 {
     plan.known();
     let car = road.cars()[place];

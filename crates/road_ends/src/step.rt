@@ -29,7 +29,8 @@ pub fn leave(plan: &Plan, road: Road) -> Road
 pub fn finish(alloc: Global, input: &StepInput, speeds: &[u8]) -> Result<Road, AllocError>
     requires { speeds.now ≡ input_speeds input.now }
     ensures step { IfOk result (λ later. later ≡ input_next input.now) }
-    ensures parts { IfOk result (λ later. later ≡ road_before_exit input.now.plan (array_after_motion_at speeds.now input.now.road)) }
+    ensures parts { IfOk result (λ later. later
+        ≡ road_before_exit input.now.plan (array_after_motion_at speeds.now input.now.road)) }
 {
     input.known();
     let moved = moved(alloc, input.road(), speeds)?;

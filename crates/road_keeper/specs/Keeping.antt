@@ -13,8 +13,8 @@ use Rattle.road_keeper.specs.declared.keeper.Replica.{Replica}
 abbrev pub seen : Replica → laboratory.Replica
 seen replica = record { edits = replica.scenario; horizon = replica.horizon }
 
--- a replica's edits have all won and fit the plan, its horizon is within the limit, and its last state is one of the run by
--- these edits
+-- a replica's edits have all won and fit the plan, its horizon is within the limit, and its last state is one of the
+-- run by these edits
 pub record IsOfRun (plan : Plan) (replica : Replica) : Type 0 where
   pub won : winners replica.scenario ≡ replica.scenario
   pub fits : AreInRange plan replica.scenario

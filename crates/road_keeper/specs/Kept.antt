@@ -1,4 +1,5 @@
--- What suffices to answer: the plan line, and for each replica its horizon and the winners of the edits that it holds.
+-- What suffices to answer: the plan line, and for each replica its horizon and the winners of the edits that it
+-- holds.
 use Rattle.std.specs.Prelude.{ℕ, List, [], ◌∷◌, max, length, replicate, slice_set, Option, Some, None}
 use Rattle.std.specs.List.{slice_index_or}
 use Rattle.lattice_core.specs.Sets.{from_list}
@@ -33,7 +34,8 @@ kept_deed (Advanced to) replica = record replica { horizon = max replica.horizon
 -- what is kept after an event, if there is one
 abbrev pub kept_event : Kept → Option Event → Kept
 kept_event kept None = kept
-kept_event kept (Some event) = record kept { replicas = slice_set kept.replicas event.replica (kept_deed event.deed (kept_replica kept event.replica)) }
+kept_event kept (Some event) = record kept
+    { replicas = slice_set kept.replicas event.replica (kept_deed event.deed (kept_replica kept event.replica)) }
 
 -- what is kept after a command
 abbrev pub kept_after : Kept → Command → Kept

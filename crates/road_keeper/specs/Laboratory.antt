@@ -1,5 +1,6 @@
 -- The replicas of a laboratory: what happens at them, and what is answered.
-use Rattle.std.specs.Prelude.{ℕ, suc, ◌-◌, ◌==◌, ◌||◌, ◌∷◌, Bool, not, List, [], length, map, max, nat_lt, if◌then◌else◌, Option, Some, None}
+use Rattle.std.specs.Prelude.{ℕ, suc, ◌-◌, ◌==◌, ◌||◌, ◌∷◌, Bool, not, List, [], length, map, max, nat_lt}
+use Rattle.std.specs.Prelude.{if◌then◌else◌, Option, Some, None}
 use Rattle.std.specs.List.{position}
 use Rattle.std.specs.Str.{bytes_eq}
 use Rattle.lattice_core.specs.Sets.{empty, union, items, from_list}
@@ -55,7 +56,8 @@ after_deed (Advanced to) replica = record replica { horizon = max replica.horizo
 -- replica r after these events, the latest first
 abbrev pub replica_after : List Event → ℕ → Replica
 replica_after [] r = opening
-replica_after (event ∷ events) r = if event.replica == r then after_deed event.deed (replica_after events r) else replica_after events r
+replica_after (event ∷ events) r = if event.replica == r then after_deed event.deed (replica_after events r)
+    else replica_after events r
 
 -- the number of the replica of this name
 abbrev pub replica_of : PlanLine → List ℕ → Option ℕ
@@ -63,8 +65,8 @@ replica_of line name = position (bytes_eq name) line.names
 
 -- ---- edits
 
--- the edit that replica r makes: its stamp has the replica's number, and a count that is one more than the greatest of
--- the edits that it holds
+-- the edit that replica r makes: its stamp has the replica's number, and a count that is one more than the greatest
+-- of the edits that it holds
 abbrev pub local_edit : ℕ → Edits → Object → ℕ → Value → Edit
 local_edit r edits object step value = record {
   object = object;
@@ -97,12 +99,15 @@ edit_event replica plan object step value (Some r) =
 -- an advance of the replica of a name, if there is one, where the step is no greater than the greatest horizon
 abbrev pub advance_event : ℕ → Option ℕ → Option Event
 advance_event to None = None
-advance_event to (Some r) = if nat_lt GREATEST_HORIZON to then None else Some (record { replica = r; deed = Advanced to })
+advance_event to (Some r) = if nat_lt GREATEST_HORIZON to then None
+    else Some (record { replica = r; deed = Advanced to })
 
 -- the event that a command adds, by the replicas before it
 abbrev pub event_of : (ℕ → Replica) → PlanLine → Command → Option Event
-event_of replica line (commands.Edit name object step value) = edit_event replica line.plan object step (Put value) (replica_of line name)
-event_of replica line (commands.Withdraw name object step) = edit_event replica line.plan object step Withdrawn (replica_of line name)
+event_of replica line (commands.Edit name object step value) = edit_event replica line.plan object step (Put value)
+    (replica_of line name)
+event_of replica line (commands.Withdraw name object step) = edit_event replica line.plan object step Withdrawn
+    (replica_of line name)
 event_of replica line (commands.Advance name to) = advance_event to (replica_of line name)
 event_of replica line (commands.Cells name step) = None
 event_of replica line (commands.Cars name step) = None
@@ -127,13 +132,15 @@ edit_answer replica plan object step value (Some r) =
 -- `advance` answers the new horizon
 abbrev pub advance_answer : (ℕ → Replica) → ℕ → Option ℕ → Answer
 advance_answer replica to None = Refused refusals.NoReplica
-advance_answer replica to (Some r) = if nat_lt GREATEST_HORIZON to then Refused refusals.Horizon else Horizon (max (replica r).horizon to)
+advance_answer replica to (Some r) = if nat_lt GREATEST_HORIZON to then Refused refusals.Horizon
+    else Horizon (max (replica r).horizon to)
 
 -- `cells` answers the row of a step up to the horizon
 abbrev pub cells_answer : (ℕ → Replica) → Plan → ℕ → Option ℕ → Answer
 cells_answer replica plan step None = Refused refusals.NoReplica
 cells_answer replica plan step (Some r) =
-    if nat_lt (replica r).horizon step then Refused refusals.NotSimulated else replies.Cells (row_at plan (replica r).edits step)
+    if nat_lt (replica r).horizon step then Refused refusals.NotSimulated
+    else replies.Cells (row_at plan (replica r).edits step)
 
 -- the cars of a step of the run: number, cell, speed, in rising cells
 abbrev pub cars_at : Plan → Edits → ℕ → List (ℕ × ℕ × ℕ)
@@ -143,7 +150,8 @@ cars_at plan edits step = map (λ car. (car.number, car.cell, car.speed)) (cars_
 abbrev pub cars_answer : (ℕ → Replica) → Plan → ℕ → Option ℕ → Answer
 cars_answer replica plan step None = Refused refusals.NoReplica
 cars_answer replica plan step (Some r) =
-    if nat_lt (replica r).horizon step then Refused refusals.NotSimulated else replies.Cars (cars_at plan (replica r).edits step)
+    if nat_lt (replica r).horizon step then Refused refusals.NotSimulated
+    else replies.Cars (cars_at plan (replica r).edits step)
 
 -- what was counted, as an answer
 abbrev pub counted_as : Totals → Answer
@@ -167,7 +175,8 @@ abbrev pub diagram_answer : (ℕ → Replica) → Plan → ℕ → ℕ → Optio
 diagram_answer replica plan from to None = Refused refusals.NoReplica
 diagram_answer replica plan from to (Some r) =
     if is_out_of_range from to then Refused refusals.Range
-    else (if nat_lt (replica r).horizon to then Refused refusals.NotSimulated else replies.Rows (rows_at plan (replica r).edits from to))
+    else (if nat_lt (replica r).horizon to then Refused refusals.NotSimulated
+    else replies.Rows (rows_at plan (replica r).edits from to))
 
 -- `scenario` answers the winners of the edits, by object and step
 abbrev pub scenario_answer : (ℕ → Replica) → Option ℕ → Answer
@@ -176,12 +185,15 @@ scenario_answer replica (Some r) = replies.Edits (items (winners (replica r).edi
 
 -- what a command answers
 abbrev pub answer_by : (ℕ → Replica) → PlanLine → Command → Answer
-answer_by replica line (commands.Edit name object step value) = edit_answer replica line.plan object step (Put value) (replica_of line name)
-answer_by replica line (commands.Withdraw name object step) = edit_answer replica line.plan object step Withdrawn (replica_of line name)
+answer_by replica line (commands.Edit name object step value) = edit_answer replica line.plan object step (Put value)
+    (replica_of line name)
+answer_by replica line (commands.Withdraw name object step) = edit_answer replica line.plan object step Withdrawn
+    (replica_of line name)
 answer_by replica line (commands.Advance name to) = advance_answer replica to (replica_of line name)
 answer_by replica line (commands.Cells name step) = cells_answer replica line.plan step (replica_of line name)
 answer_by replica line (commands.Cars name step) = cars_answer replica line.plan step (replica_of line name)
-answer_by replica line (commands.Count name detector from to) = count_answer replica line.plan detector from to (replica_of line name)
+answer_by replica line (commands.Count name detector from to) = count_answer replica line.plan detector from to
+    (replica_of line name)
 answer_by replica line (commands.Diagram name from to) = diagram_answer replica line.plan from to (replica_of line name)
 answer_by replica line (commands.Scenario name) = scenario_answer replica (replica_of line name)
 

@@ -1,6 +1,7 @@
 //! The replicas, and what they answer.
 
-ghost use Rattle.std.specs.Prelude.{◌≡◌, ◌<◌, ◌≤◌, ◌∷◌, [], IfOk, OnOk, OnErr, nat_lt, length, map, replicate, true, Some, None, string_bytes};
+ghost use Rattle.std.specs.Prelude.{◌≡◌, ◌<◌, ◌≤◌, ◌∷◌, [], IfOk, OnOk, OnErr, nat_lt, length, map, replicate, true};
+ghost use Rattle.std.specs.Prelude.{Some, None, string_bytes};
 ghost use Rattle.std.specs.List.{All, IsDistinct};
 ghost use Rattle.std.specs.Str.{bytes_eq};
 ghost use Rattle.road_format.specs.Views.{texts, car_view, plan_line_view, command_view, answer_view};
@@ -11,7 +12,9 @@ ghost use Rattle.road_scenario.specs.Faults.{AreInRange, fault_of};
 ghost use Rattle.road_scenario.specs.Winners.{join};
 ghost use Rattle.road_keeper.specs.Keeping.{seen, IsOfRun};
 ghost use Rattle.road_keeper.specs.Laboratory as laboratory;
-ghost use Rattle.road_keeper.specs.Laboratory.{replica_of, local_edit, edit_event, edit_answer, advance_event, advance_answer, cells_answer, cars_answer, cars_at, count_answer, diagram_answer, scenario_answer};
+ghost use Rattle.road_keeper.specs.Laboratory.{replica_of, local_edit, edit_event, edit_answer, advance_event};
+ghost use Rattle.road_keeper.specs.Laboratory.{advance_answer, cells_answer, cars_answer, cars_at, count_answer};
+ghost use Rattle.road_keeper.specs.Laboratory.{diagram_answer, scenario_answer};
 ghost use Rattle.road_sheet.specs.Shown.{row_at, rows_at, total_at};
 ghost use Rattle.road_keeper.specs.Kept.{start, kept_replica, kept_answer, kept_after, kept_event};
 
@@ -27,8 +30,8 @@ use std::alloc::Global;
 use std::marker::Model;
 use std::sync::Arc;
 
-/// A replica: what it holds, and the last state of its road that was computed, so that questions at rising steps cost no
-/// step twice.
+/// A replica: what it holds, and the last state of its road that was computed, so that questions at rising steps cost
+/// no step twice.
 #[derive(Drop)]
 pub struct Replica {
     /// The edits that were made at it, as far as they win.
@@ -42,7 +45,8 @@ pub struct Replica {
 impl Replica {
     // The replica with one edit more. A state that was computed without it does not stay.
     fn with_edit(&self, alloc: Global, edit: &Edit) -> Result<Replica, OutOfMemory>
-        ensures scenario { IfOk result (λ replica. replica.scenario ≡ join self.now.scenario (from_list (edit.now ∷ []))) }
+        ensures scenario { IfOk result (λ replica. replica.scenario
+            ≡ join self.now.scenario (from_list (edit.now ∷ []))) }
         ensures fits { (plan : Plan) → AreInRange plan self.now.scenario → fault_of plan edit.now ≡ None →
             IfOk result (λ replica. AreInRange plan replica.scenario) }
         ensures horizon { IfOk result (λ replica. replica.horizon ≡ self.now.horizon) }
@@ -79,7 +83,11 @@ impl Model for Keeper {
 
     ghost coded = { Prim.hlevel (codes, edits_code) };
 
-    ghost view = { λ keeper. record { line = record { names = keeper.names; plan = arc_value keeper.plan }; replicas = map seen keeper.replicas.items } };
+    ghost view = { λ keeper. record {
+      line = record { names = keeper.names; plan = arc_value keeper.plan };
+      replicas =
+          map seen keeper.replicas.items;
+    } };
 
     ghost invariant = { λ keeper. IsKept (arc_value keeper.plan) keeper.names keeper.replicas.items };
 }
@@ -168,8 +176,12 @@ impl Keeper {
         step: u32,
         value: Value,
     ) -> Result<Answer, OutOfMemory>
-        ensures answer { IfOk result (λ answer. answer_view answer ≡ edit_answer (kept_replica self.old) self.old.line.plan object step value (replica_of self.old.line at.now)) }
-        ensures after { OnOk result (self.new ≡ kept_event self.old (edit_event (kept_replica self.old) self.old.line.plan object step value (replica_of self.old.line at.now))) }
+        ensures answer { IfOk result (λ answer. answer_view answer
+            ≡ edit_answer (kept_replica self.old) self.old.line.plan object step value
+            (replica_of self.old.line at.now)) }
+        ensures after { OnOk result (self.new
+            ≡ kept_event self.old (edit_event (kept_replica self.old) self.old.line.plan object step value
+            (replica_of self.old.line at.now))) }
         ensures unchanged { OnErr result (self.new ≡ self.old) }
     {
         let Some(replica) = self.names.number_of(at) else {
@@ -204,7 +216,8 @@ impl Keeper {
     fn hold(&mut self, alloc: Global, replica: usize, edit: &Edit) -> Result<(), OutOfMemory>
         requires within { replica < length self.old.line.names }
         requires fits { fault_of self.old.line.plan edit.now ≡ None }
-        ensures after { OnOk result (self.new ≡ kept_event self.old (Some (record { replica = replica; deed = laboratory.Made edit.now }))) }
+        ensures after { OnOk result (self.new
+            ≡ kept_event self.old (Some (record { replica = replica; deed = laboratory.Made edit.now }))) }
         ensures unchanged { OnErr result (self.new ≡ self.old) }
     {
         let held = self.replicas[replica].with_edit(alloc, edit)?;
@@ -214,7 +227,8 @@ impl Keeper {
 
     // The horizon of a replica becomes a step, where it is less.
     fn advance(&mut self, at: &str, to: u32) -> Answer
-        ensures answer { answer_view result ≡ advance_answer (kept_replica self.old) to (replica_of self.old.line at.now) }
+        ensures answer { answer_view result
+            ≡ advance_answer (kept_replica self.old) to (replica_of self.old.line at.now) }
         ensures after { self.new ≡ kept_event self.old (advance_event to (replica_of self.old.line at.now)) }
     {
         let Some(replica) = self.names.number_of(at) else {
@@ -230,7 +244,8 @@ impl Keeper {
 
     // The row of a replica's road at a step.
     fn cells(&mut self, alloc: Global, at: &str, step: u32) -> Result<Answer, OutOfMemory>
-        ensures answer { IfOk result (λ answer. answer_view answer ≡ cells_answer (kept_replica self.old) self.old.line.plan step (replica_of self.old.line at.now)) }
+        ensures answer { IfOk result (λ answer. answer_view answer
+            ≡ cells_answer (kept_replica self.old) self.old.line.plan step (replica_of self.old.line at.now)) }
         ensures unchanged { self.new ≡ self.old }
     {
         let Some(replica) = self.names.number_of(at) else {
@@ -245,7 +260,8 @@ impl Keeper {
     // The row of a replica's road at a step, whose state is kept.
     fn row(&mut self, alloc: Global, replica: usize, step: u32) -> Result<String, OutOfMemory>
         requires { replica < length self.old.line.names }
-        ensures row { IfOk result (λ text. string_bytes text ≡ row_at self.old.line.plan (kept_replica self.old replica).edits step) }
+        ensures row { IfOk result (λ text. string_bytes text
+            ≡ row_at self.old.line.plan (kept_replica self.old replica).edits step) }
         ensures unchanged { self.new ≡ self.old }
     {
         let held = &self.replicas[replica];
@@ -260,7 +276,8 @@ impl Keeper {
 
     // The cars of a replica's road at a step.
     fn cars(&mut self, alloc: Global, at: &str, step: u32) -> Result<Answer, OutOfMemory>
-        ensures answer { IfOk result (λ answer. answer_view answer ≡ cars_answer (kept_replica self.old) self.old.line.plan step (replica_of self.old.line at.now)) }
+        ensures answer { IfOk result (λ answer. answer_view answer
+            ≡ cars_answer (kept_replica self.old) self.old.line.plan step (replica_of self.old.line at.now)) }
         ensures unchanged { self.new ≡ self.old }
     {
         let Some(replica) = self.names.number_of(at) else {
@@ -275,7 +292,8 @@ impl Keeper {
     // The cars of a replica's road at a step, whose state is kept.
     fn cars_at(&mut self, alloc: Global, replica: usize, step: u32) -> Result<Vec<Car>, OutOfMemory>
         requires { replica < length self.old.line.names }
-        ensures cars { IfOk result (λ cars. map car_view cars.items ≡ cars_at self.old.line.plan (kept_replica self.old replica).edits step) }
+        ensures cars { IfOk result (λ cars. map car_view cars.items
+            ≡ cars_at self.old.line.plan (kept_replica self.old replica).edits step) }
         ensures unchanged { self.new ≡ self.old }
     {
         let held = &self.replicas[replica];
@@ -294,7 +312,9 @@ impl Keeper {
         from: u32,
         to: u32,
     ) -> Result<Answer, OutOfMemory>
-        ensures answer { IfOk result (λ answer. answer_view answer ≡ count_answer (kept_replica self.old) self.old.line.plan detector from to (replica_of self.old.line at.now)) }
+        ensures answer { IfOk result (λ answer. answer_view answer
+            ≡ count_answer (kept_replica self.old) self.old.line.plan detector from to
+            (replica_of self.old.line at.now)) }
         ensures unchanged { self.new ≡ self.old }
     {
         let Some(replica) = self.names.number_of(at) else {
@@ -336,7 +356,8 @@ impl Keeper {
         requires in_plan { detector < length self.old.line.plan.detectors }
         requires order { from ≤ to }
         requires simulated { to ≤ (kept_replica self.old replica).horizon }
-        ensures totals { IfOk result (λ totals. totals ≡ total_at self.old.line.plan (kept_replica self.old replica).edits detector from to) }
+        ensures totals { IfOk result (λ totals. totals
+            ≡ total_at self.old.line.plan (kept_replica self.old replica).edits detector from to) }
         ensures unchanged { self.new ≡ self.old }
     {
         let held = &self.replicas[replica];
@@ -361,7 +382,8 @@ impl Keeper {
         from: u32,
         to: u32,
     ) -> Result<Answer, OutOfMemory>
-        ensures answer { IfOk result (λ answer. answer_view answer ≡ diagram_answer (kept_replica self.old) self.old.line.plan from to (replica_of self.old.line at.now)) }
+        ensures answer { IfOk result (λ answer. answer_view answer
+            ≡ diagram_answer (kept_replica self.old) self.old.line.plan from to (replica_of self.old.line at.now)) }
         ensures unchanged { self.new ≡ self.old }
     {
         let Some(replica) = self.names.number_of(at) else {
@@ -387,7 +409,8 @@ impl Keeper {
         requires within { replica < length self.old.line.names }
         requires order { from ≤ to }
         requires simulated { to ≤ (kept_replica self.old replica).horizon }
-        ensures rows { IfOk result (λ rows. texts rows.items ≡ rows_at self.old.line.plan (kept_replica self.old replica).edits from to) }
+        ensures rows { IfOk result (λ rows. texts rows.items
+            ≡ rows_at self.old.line.plan (kept_replica self.old replica).edits from to) }
         ensures unchanged { self.new ≡ self.old }
     {
         let held = &self.replicas[replica];
@@ -399,7 +422,8 @@ impl Keeper {
 
     // The edits that a replica holds.
     fn scenario(&self, alloc: Global, at: &str) -> Result<Answer, OutOfMemory>
-        ensures { IfOk result (λ answer. answer_view answer ≡ scenario_answer (kept_replica self.now) (replica_of self.now.line at.now)) }
+        ensures { IfOk result (λ answer. answer_view answer
+            ≡ scenario_answer (kept_replica self.now) (replica_of self.now.line at.now)) }
     {
         match self.names.number_of(at) {
             Some(replica) => Ok(Answer::Edits(self.replicas[replica].scenario.edits(alloc)?)),

@@ -1,5 +1,5 @@
-//! The replicas of a laboratory: edits and advances are made at them, and questions about their roads are answered. The
-//! program `road_lab` alone uses this crate.
+//! The replicas of a laboratory: edits and advances are made at them, and questions about their roads are answered.
+//! The program `road_lab` alone uses this crate.
 #![tactic(auto)]
 
 mod keeper;

@@ -1,5 +1,6 @@
 -- What serves lines, after the bytes that came to it.
-use Rattle.std.specs.Prelude.{◌≡◌, ℕ, ◌+◌, ◌<◌, ◌≤◌, List, [], ◌∷◌, Bool, true, false, length, Option, Some, None, Result, Ok, Err}
+use Rattle.std.specs.Prelude.{◌≡◌, ℕ, ◌+◌, ◌<◌, ◌≤◌, List, [], ◌∷◌, Bool, true, false, length, Option, Some, None}
+use Rattle.std.specs.Prelude.{Result, Ok, Err}
 use Rattle.road_plan.specs.declared.limits.TheConstants.{LONGEST_LINE}
 use Rattle.road_format.specs.Cut.{pieces_of, lines_of}
 use Rattle.road_format.specs.CommandGrammar.{Command}
@@ -68,8 +69,8 @@ Stands lines bytes d None = GoesOn lines bytes d
 Stands lines bytes d (Some ends.BadPlan) = is_plan_refused bytes false ≡ true
 Stands lines bytes d (Some ends.TooMany) = (is_plan_refused bytes false ≡ false) × (has_more_lines lines bytes ≡ true)
 
--- These bytes came since the sink was as it was first, and each whole line of them is answered: in the sink, or in what
--- waits to be written. No call of the sink failed.
+-- These bytes came since the sink was as it was first, and each whole line of them is answered: in the sink, or in
+-- what waits to be written. No call of the sink failed.
 pub record HasAnswered (lines : ℕ) (bytes : List ℕ) (first sink : SinkView) (d : Dialogue) : Type 0 where
   pub answered : TakesAllBut first sink (answers lines bytes false) d.waiting.items
   pub well : sink.failures ≡ first.failures
@@ -85,8 +86,8 @@ StandsAtEnd lines bytes d None =
 StandsAtEnd lines bytes d (Some ends.BadPlan) = is_plan_refused bytes true ≡ true
 StandsAtEnd lines bytes d (Some ends.TooMany) = ⊥
 
--- The input has ended with these bytes, and all its lines are answered: in the sink, or in what waits to be written. No
--- call of the sink failed.
+-- The input has ended with these bytes, and all its lines are answered: in the sink, or in what waits to be written.
+-- No call of the sink failed.
 pub record HasFinished (lines : ℕ) (bytes : List ℕ) (first sink : SinkView) (d : Dialogue) : Type 0 where
   pub answered : TakesAllBut first sink (answers lines bytes true) d.waiting.items
   pub well : sink.failures ≡ first.failures
