@@ -1,5 +1,5 @@
 -- The road as an array: each place is empty or holds a vehicle.
-use Rattle.std.specs.Prelude.{ℕ, zero, suc, ◌+◌, List, [], ◌∷◌, map, slice_get}
+use Rattle.std.specs.Prelude.{ℕ, List, [], ◌∷◌, map, slice_get}
 use Rattle.std.specs.List.{range_with_len}
 use Rattle.std.specs.declared.option.Option.{Option}
 use Rattle.std.specs.declared.option.Option.TheVariants.{None, Some}
