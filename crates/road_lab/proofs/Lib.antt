@@ -1,5 +1,5 @@
 pub mod Options
-pub mod Pieces
+pub mod ByteParts
 pub mod Accepted
 pub mod CutBytes
 pub mod LineReplies
