@@ -1,5 +1,5 @@
 pub mod Options
-pub mod Pieces
+pub mod ByteParts
 pub mod CutBytes
 pub mod LineReplies
 pub mod SinkTexts

@@ -12,7 +12,7 @@ use Rattle.road_lab.specs.Answers.{later_lines, answers, answers_within, is_plan
 use Rattle.road_lab.specs.Dialogue.{HasAnswered, HasFinished, Stands, StandsAtEnd}
 use Rattle.road_lab.specs.Failures.{RisesByOne}
 use Rattle.road_lab.specs.Faults.{early_fault}
-use Rattle.road_lab.specs.Run.{Run, run_answers, WritesAll, Ends, Answers}
+use Rattle.road_lab.specs.Run.{Run, run_answers, WritesAll, Ends, AnswersInput}
 use Rattle.road_lab.specs.StreamViews.{SourceView, SinkView, Stops}
 use Rattle.road_lab.specs.declared.dialogue.Dialogue.{Dialogue}
 use Rattle.road_lab.specs.declared.faults.EarlyEnd.{EarlyEnd}
@@ -158,7 +158,7 @@ run_of lines limit source source' sink sink' result = record {
 -- ---- a read failed
 
 pub unread : (lines limit room : ℕ) (source s1 s2 : SourceView) (sink k1 : SinkView) (d : Dialogue) → SoFar lines limit room source s1 sink k1 d → Keeps s1.remaining s2.remaining → RisesByOne s1.failures s2.failures
-    → Answers (run_of lines limit source s2 sink k1 (Err faults.Read))
+    → AnswersInput (run_of lines limit source s2 sink k1 (Err faults.Read))
 unread lines limit room source s1 s2 sink k1 d so keeps rises =
     let short : length so.input ≤ limit = omega (arith, so.room_left) in
     let same : answers lines so.input false ≡ answers_within lines limit so.input false = ap (λ (x : List ℕ). answers lines x false) (sym (whole limit so.input short)) ∙ sym (answers_going lines limit so.input) in
@@ -186,7 +186,7 @@ not_zero zero h = absurd (h refl)
 not_zero (suc m) h = eqb-suc-zero m
 
 pub stopped : (lines limit room n m : ℕ) (source s1 s2 : SourceView) (sink k1 k2 : SinkView) (d : Dialogue) (piece : List ℕ) (fault : ServeFault) (so : SoFar lines limit room source s1 sink k1 d) → ReadMore s1 s2 n piece → (n ≡ 0 → ⊥)
-    → m ≡ min room n → Stops sink k2 (answers lines (so.input ++ take m piece) false) fault → Answers (run_of lines limit source s2 sink k2 (Err fault))
+    → m ≡ min room n → Stops sink k2 (answers lines (so.input ++ take m piece) false) fault → AnswersInput (run_of lines limit source s2 sink k2 (Err fault))
 stopped lines limit room n m source s1 s2 sink k1 k2 d piece fault so more some least s =
     let input = so.input ++ take n piece in
     let part = within limit room n m so.input piece (record { all = so.room_left; least = least; fits = more.fits }) in
@@ -229,7 +229,7 @@ writes_going lines limit room n m source s1 s2 sink k1 k2 d d' piece result so m
     }
 
 pub over : (lines limit room n m : ℕ) (source s1 s2 : SourceView) (sink k1 k2 : SinkView) (d d' : Dialogue) (piece : List ℕ) (end : EarlyEnd) (so : SoFar lines limit room source s1 sink k1 d) → ReadMore s1 s2 n piece → (n ≡ 0 → ⊥)
-    → m ≡ min room n → HasAnswered lines (so.input ++ take m piece) sink k2 d' → d'.waiting.items ≡ [] → k2.flushed ≡ true → d'.over ≡ Some end → Answers (run_of lines limit source s2 sink k2 (Err (early_fault end)))
+    → m ≡ min room n → HasAnswered lines (so.input ++ take m piece) sink k2 d' → d'.waiting.items ≡ [] → k2.flushed ≡ true → d'.over ≡ Some end → AnswersInput (run_of lines limit source s2 sink k2 (Err (early_fault end)))
 over lines limit room n m source s1 s2 sink k1 k2 d d' piece end so more some least h none flushed is =
     let run = run_of lines limit source s2 sink k2 (Err (early_fault end)) in
     let input = so.input ++ take n piece in
@@ -243,7 +243,7 @@ over lines limit room n m source s1 s2 sink k1 k2 d d' piece end so more some le
 -- ---- more bytes than may come
 
 pub past : (lines limit room n m : ℕ) (source s1 s2 : SourceView) (sink k1 k2 : SinkView) (d d' : Dialogue) (piece : List ℕ) (so : SoFar lines limit room source s1 sink k1 d) → ReadMore s1 s2 n piece → (n ≡ 0 → ⊥)
-    → m ≡ min room n → m < n → HasAnswered lines (so.input ++ take m piece) sink k2 d' → d'.waiting.items ≡ [] → k2.flushed ≡ true → d'.over ≡ None → Answers (run_of lines limit source s2 sink k2 (Err faults.TooMany))
+    → m ≡ min room n → m < n → HasAnswered lines (so.input ++ take m piece) sink k2 d' → d'.waiting.items ≡ [] → k2.flushed ≡ true → d'.over ≡ None → AnswersInput (run_of lines limit source s2 sink k2 (Err faults.TooMany))
 past lines limit room n m source s1 s2 sink k1 k2 d d' piece so more some least less h none flushed is =
     let input = so.input ++ take n piece in
     let part = within limit room n m so.input piece (record { all = so.room_left; least = least; fits = more.fits }) in
@@ -271,7 +271,7 @@ at_zero zero e = refl
 at_zero (suc n) e = absurd (omega arith)
 
 pub stopped_at_end : (lines limit room n : ℕ) (source s1 s2 : SourceView) (sink k1 k2 : SinkView) (d : Dialogue) (piece : List ℕ) (fault : ServeFault) (so : SoFar lines limit room source s1 sink k1 d) → ReadMore s1 s2 n piece → n ≡ 0
-    → Stops sink k2 (answers lines so.input true) fault → Answers (run_of lines limit source s2 sink k2 (Err fault))
+    → Stops sink k2 (answers lines so.input true) fault → AnswersInput (run_of lines limit source s2 sink k2 (Err fault))
 stopped_at_end lines limit room n source s1 s2 sink k1 k2 d piece fault so more none s =
     let ended : s2.at_end ≡ true = more.ended ∙ at_zero n none in
     let short : length so.input ≤ limit = omega (arith, so.room_left) in
@@ -303,7 +303,7 @@ refused_ends run input d ends.BadPlan ended short writes s = (writes, ap (is_pla
 refused_ends run input d ends.TooMany ended short writes s = absurd s
 
 pub refused_at_end : (lines limit room n : ℕ) (source s1 s2 : SourceView) (sink k1 k2 : SinkView) (d d' : Dialogue) (piece : List ℕ) (end : EarlyEnd) (so : SoFar lines limit room source s1 sink k1 d) → ReadMore s1 s2 n piece → n ≡ 0
-    → HasFinished lines so.input sink k2 d' → d'.waiting.items ≡ [] → k2.flushed ≡ true → d'.over ≡ Some end → Answers (run_of lines limit source s2 sink k2 (Err (early_fault end)))
+    → HasFinished lines so.input sink k2 d' → d'.waiting.items ≡ [] → k2.flushed ≡ true → d'.over ≡ Some end → AnswersInput (run_of lines limit source s2 sink k2 (Err (early_fault end)))
 refused_at_end lines limit room n source s1 s2 sink k1 k2 d d' piece end so more none h waits flushed is = record {
   input = so.input;
   read = nothing_more source.remaining s1.remaining s2.remaining so.input piece n so.read more.bytes none;
@@ -312,7 +312,7 @@ refused_at_end lines limit room n source s1 s2 sink k1 k2 d d' piece end so more
 }
 
 pub ended_well : (lines limit room n : ℕ) (source s1 s2 : SourceView) (sink k1 k2 : SinkView) (d d' : Dialogue) (piece : List ℕ) (served : Served) (so : SoFar lines limit room source s1 sink k1 d) → ReadMore s1 s2 n piece → n ≡ 0
-    → IsAtEnd s2.remaining → HasFinished lines so.input sink k2 d' → d'.waiting.items ≡ [] → k2.flushed ≡ true → d'.over ≡ None → served.lines ≡ lines - d'.left → Answers (run_of lines limit source s2 sink k2 (Ok served))
+    → IsAtEnd s2.remaining → HasFinished lines so.input sink k2 d' → d'.waiting.items ≡ [] → k2.flushed ≡ true → d'.over ≡ None → served.lines ≡ lines - d'.left → AnswersInput (run_of lines limit source s2 sink k2 (Ok served))
 ended_well lines limit room n source s1 s2 sink k1 k2 d d' piece served so more none nothing h waits flushed is count =
     let ended : s2.at_end ≡ true = more.ended ∙ at_zero n none in
     let short : length so.input ≤ limit = omega (arith, so.room_left) in

@@ -70,7 +70,7 @@ Ends run input (Err faults.Write) = EndsUnwritten run input faults.Write
 Ends run input (Err faults.OutOfMemory) = EndsUnwritten run input faults.OutOfMemory
 
 -- The run read some input, the front of what the source had left, and answered it.
-pub record Answers (run : Run) : Type 0 where
+pub record AnswersInput (run : Run) : Type 0 where
   pub input : List ℕ
   pub read : Consumes run.source_before.remaining run.source_after.remaining input
   pub ends : Ends run input run.result

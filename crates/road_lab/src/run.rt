@@ -2,7 +2,7 @@
 
 ghost use Rattle.std.specs.Prelude.{◌≡◌, ◌≢◌, ◌↔◌, IsTrue, [], codes, Some, Result};
 ghost use Rattle.road_plan.specs.declared.limits.TheConstants.{MOST_LINES, MOST_BYTES};
-ghost use Rattle.road_lab.specs.Run.{Answers};
+ghost use Rattle.road_lab.specs.Run.{AnswersInput};
 ghost use Rattle.road_lab.specs.Statuses.{status_of, line_of, fault_status, fault_line, HasStatus};
 ghost use Rattle.road_lab.specs.StreamViews.{source_view, sink_view};
 ghost use Rattle.road_lab.specs.declared.serve.Served.{Served};
@@ -55,7 +55,7 @@ pub fn run<R: Source, W: Sink>(
         × (reader.new ≡ reader.old) × (writer.new ≡ writer.old) }
     ensures served { words.now ≡ [] → (served : Result Served ServeFault)
         × HasStatus result (status_of served) (line_of served)
-        × Answers (record {
+        × AnswersInput (record {
           lines = MOST_LINES;
           bytes = MOST_BYTES;
           source_before = source_view R.Source reader.old;

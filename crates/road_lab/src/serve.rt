@@ -3,7 +3,7 @@
 ghost use Rattle.std.specs.Prelude.{◌≡◌, ◌++◌, ℕ, List, length, min, take, true, None};
 ghost use Rattle.road_plan.specs.declared.limits.TheConstants.{MOST_LINES, MOST_BYTES};
 ghost use Rattle.road_lab.specs.Dialogue.{HasAnswered};
-ghost use Rattle.road_lab.specs.Run.{Answers};
+ghost use Rattle.road_lab.specs.Run.{AnswersInput};
 ghost use Rattle.road_lab.specs.StreamViews.{SinkView, source_view, sink_view};
 
 use crate::dialogue::Dialogue;
@@ -29,7 +29,7 @@ pub fn serve<R: Source, W: Sink>(
     reader: &mut R,
     writer: &mut W,
 ) -> Result<Served, ServeFault>
-    ensures { Answers (record {
+    ensures { AnswersInput (record {
       lines = MOST_LINES;
       bytes = MOST_BYTES;
       source_before = source_view R.Source reader.old;
@@ -50,7 +50,7 @@ pub fn serve_within<R: Source, W: Sink>(
     lines: u32,
     bytes: u64,
 ) -> Result<Served, ServeFault>
-    ensures { Answers (record {
+    ensures { AnswersInput (record {
       lines = lines;
       bytes = bytes;
       source_before = source_view R.Source reader.old;

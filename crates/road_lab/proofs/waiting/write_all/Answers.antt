@@ -4,7 +4,7 @@ use Rattle.std.proofs.KnownBytes.{Appends-kept, Appends-trans}
 use Rattle.std.proofs.lemmas.Result.{err_from_is_err_and}
 use Rattle.road_lab.specs.StreamViews.{sink_view}
 use Rattle.road_lab.proofs.SinkTexts.{front_taken}
-use Rattle.road_lab.proofs.Pieces.{from_place}
+use Rattle.road_lab.proofs.ByteParts.{from_place}
 use Rattle.road_lab.proofs.waiting.write_all.Goals as goal
 
 pub loop-done-preserved : goal.loop-done-preserved

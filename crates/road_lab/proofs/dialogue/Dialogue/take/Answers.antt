@@ -3,7 +3,7 @@ use Rattle.std.proofs.lemmas.List.{take_all}
 use Rattle.std.proofs.lemmas.Result.{err_from_is_err_and}
 use Rattle.road_lab.specs.Answers.{answers}
 use Rattle.road_lab.specs.StreamViews.{sink_view}
-use Rattle.road_lab.proofs.Pieces.{from_place}
+use Rattle.road_lab.proofs.ByteParts.{from_place}
 use Rattle.road_lab.proofs.DialogueCalls.{answered_same, stops_same, part_then_part, both_parts, flush_stops, flushed}
 use Rattle.road_lab.proofs.dialogue.Dialogue.take.Goals as goal
 

@@ -1,5 +1,5 @@
 use Rattle.std.proofs.Common.{arith, ap, length, length-append, length-drop, ℕ, List, ◌+◌, drop}
-use Rattle.road_lab.proofs.Pieces.{read_next, nothing_left}
+use Rattle.road_lab.proofs.ByteParts.{read_next, nothing_left}
 use Rattle.road_lab.proofs.memory.MemorySourceSource.read.Goals as goal
 
 pub returns-clause-bytes : goal.returns-clause-bytes
