@@ -4,12 +4,13 @@ ghost use Rattle.road_plan.specs.Settings.{Fits};
 ghost use Rattle.road_ends.specs.Input.{input_of, input_speeds};
 ghost use Rattle.road_ends.specs.Run.{road_after_step};
 
+use crate::OutOfMemory;
 use crate::input::{StepInput, enter};
 use crate::meter::Meter;
 use crate::step::finish;
 use road_cells::Road;
 use road_plan::{Plan, Settings};
-use std::alloc::{AllocError, Global};
+use std::alloc::Global;
 use std::sync::Arc;
 
 /// A computed step.
@@ -37,7 +38,7 @@ pub fn step_alone(
     step: u32,
     road: &Road,
     meter: &mut Meter,
-) -> Result<Stepped, AllocError>
+) -> Result<Stepped, OutOfMemory>
     requires { Fits (arc_value plan.now) settings }
     ensures input { IfOk result (λ done. arc_value done.input ≡ input_of (arc_value plan.now) settings step road.now) }
     ensures speeds { IfOk result (λ done. done.speeds.items

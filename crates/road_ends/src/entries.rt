@@ -6,12 +6,13 @@ ghost use Rattle.road_cells.specs.Array.{vehicle_at};
 ghost use Rattle.road_cells.specs.Cars.{car_of};
 ghost use Rattle.road_ends.specs.Entries.{entry_at, road_with_entries};
 
+use crate::OutOfMemory;
 use crate::chance::has_event;
 use road_cells::{Car, Road, is_blocked};
 use road_plan::limits::MOST_INLETS;
 use road_plan::{Plan, Settings};
 use road_words::PlanWords;
-use std::alloc::{AllocError, Global};
+use std::alloc::Global;
 
 /// The stream of the first inlet's words; the others follow it.
 const FIRST_INLET_STREAM: u64 = 1 << 63;
@@ -25,7 +26,7 @@ pub(crate) fn entered(
     settings: &Settings,
     step: u32,
     road: &Road,
-) -> Result<Road, AllocError>
+) -> Result<Road, OutOfMemory>
     requires { Fits plan.now settings.now }
     ensures moving { IfOk result (λ moving. moving ≡ road_with_entries plan.now settings.now step road.now) }
     ensures on_road { IfOk result (λ moving. length moving ≤ plan.now.cells) }

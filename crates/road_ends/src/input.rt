@@ -4,11 +4,12 @@ ghost use Rattle.road_plan.specs.Plan.{IsWithinLimits};
 ghost use Rattle.road_plan.specs.Settings.{Fits};
 ghost use Rattle.road_ends.specs.Input.{input_of, input_speeds};
 
+use crate::OutOfMemory;
 use crate::entries::entered;
 use crate::pass::speeds;
 use road_cells::Road;
 use road_plan::{Plan, Settings};
-use std::alloc::{AllocError, Global};
+use std::alloc::Global;
 use std::marker::Model;
 use std::sync::Arc;
 
@@ -70,7 +71,7 @@ impl StepInput {
     /// # Errors
     ///
     /// `OutOfMemory` where their growth is refused.
-    pub fn speeds(&self, alloc: Global) -> Result<Vec<u8>, AllocError>
+    pub fn speeds(&self, alloc: Global) -> Result<Vec<u8>, OutOfMemory>
         ensures { IfOk result (λ new. new.items ≡ input_speeds self.now) }
     {
         self.known();
@@ -98,7 +99,7 @@ pub fn enter(
     settings: Settings,
     step: u32,
     road: &Road,
-) -> Result<Arc<StepInput>, AllocError>
+) -> Result<Arc<StepInput>, OutOfMemory>
     requires fits { Fits (arc_value plan.now) settings }
     ensures { IfOk result (λ input. arc_value input ≡ input_of (arc_value plan.now) settings step road.now) }
 {

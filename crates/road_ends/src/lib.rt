@@ -1,6 +1,18 @@
 //! The ends of the road: entries, the whole step with its deletions, the laws of runs, and the letters of rows.
 //!
 //! A step goes from inlet to inlet and from car to car.
+//!
+//! ```
+//! // Ten steps of a plan by its own settings, from the empty road.
+//! let mut road = Road::empty(alloc);
+//! let mut meter = Meter::new();
+//! for step in 0..10 {
+//!     let settings = Settings::of_plan(alloc, &plan)?;
+//!     let done = step_alone(alloc, &plan, settings, step, &road, &mut meter)?;
+//!     road = done.road;
+//! }
+//! println!(rt; "{} steps, {} cars", meter.ticks(), road.cars().len())?;
+//! ```
 #![tactic(auto)]
 
 mod alone;
@@ -17,5 +29,6 @@ pub use alone::{Stepped, step_alone};
 pub use input::{StepInput, enter};
 pub use letters::{BLOCKED, EMPTY, STANDING};
 pub use meter::Meter;
+/// Want of memory, answered only where a growth was refused.
 pub use std::alloc::AllocError as OutOfMemory;
 pub use step::{finish, leave};

@@ -8,12 +8,13 @@ ghost use Rattle.road_words.specs.Words.{word};
 ghost use Rattle.road_ends.specs.Speed.{speed, speeds, nth_car};
 ghost use Rattle.road_ends.specs.Private.PassPlaces.{IsPassAt};
 
+use crate::OutOfMemory;
 use crate::chance::slowed_by_chance;
 use road_cells::{Road, reached_blocks_below};
 use road_plan::{Plan, Settings};
 use road_rules::wanted;
 use road_words::{PlanWords, Words};
-use std::alloc::{AllocError, Global};
+use std::alloc::Global;
 
 /// What the pass keeps from a car to the next one behind it.
 #[derive(Clone, Copy)]
@@ -40,7 +41,7 @@ pub(crate) fn speeds(
     settings: &Settings,
     step: u32,
     road: &Road,
-) -> Result<Vec<u8>, AllocError>
+) -> Result<Vec<u8>, OutOfMemory>
     requires fits { Fits plan.now settings.now }
     requires on_road { length road.now ≤ plan.now.cells }
     ensures { IfOk result (λ new. new.items ≡ speeds plan.now settings.now step road.now) }

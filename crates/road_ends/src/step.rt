@@ -3,11 +3,12 @@ ghost use Rattle.road_rules.specs.Motion.{array_after_motion_at};
 ghost use Rattle.road_ends.specs.Input.{input_next, input_speeds};
 ghost use Rattle.road_ends.specs.Run.{road_before_exit};
 
+use crate::OutOfMemory;
 use crate::input::StepInput;
 use road_cells::Road;
 use road_plan::Plan;
 use road_rules::moved;
-use std::alloc::{AllocError, Global};
+use std::alloc::Global;
 
 /// The road without the cars in its deleted zone or past it. It takes no memory.
 pub fn leave(plan: &Plan, road: Road) -> Road
@@ -26,7 +27,7 @@ pub fn leave(plan: &Plan, road: Road) -> Road
 /// # Errors
 ///
 /// `OutOfMemory` where the growth of the new road is refused.
-pub fn finish(alloc: Global, input: &StepInput, speeds: &[u8]) -> Result<Road, AllocError>
+pub fn finish(alloc: Global, input: &StepInput, speeds: &[u8]) -> Result<Road, OutOfMemory>
     requires { speeds.now ≡ input_speeds input.now }
     ensures step { IfOk result (λ later. later ≡ input_next input.now) }
     ensures parts { IfOk result (λ later. later

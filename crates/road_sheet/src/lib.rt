@@ -1,4 +1,17 @@
 //! Sheets: a scenario, a horizon, and the run up to it, which shows any state and any count again.
+//!
+//! ```
+//! // A sheet simulated for one step.
+//! let opening = Sheet::opening(alloc, plan)?;
+//! let mut draft = opening.draft(alloc, &Scenario::empty(alloc), 0)?;
+//! let input = draft.input(alloc)?;
+//! let speeds = input.speeds(alloc)?;
+//! draft.push(alloc, &input, &speeds)?;
+//! let sheet = draft.sheet();
+//! // The road at its horizon, and what its first detector counted in its only step.
+//! let road = sheet.state(alloc, 1)?;
+//! let counted = sheet.totals(alloc, 0, 0, 1)?;
+//! ```
 #![tactic(auto)]
 
 mod block;
