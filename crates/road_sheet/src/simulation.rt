@@ -39,7 +39,7 @@ impl State {
     }
 }
 
-/// The state at a step of the run by these edits. It goes on from the last state, where that is before the step, and
+/// The state at a step of the run by these edits. It goes on from the last state, where that is not after the step, and
 /// else begins at step 0.
 pub fn state_at(
     alloc: Global,
