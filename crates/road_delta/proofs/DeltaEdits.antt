@@ -78,8 +78,8 @@ pub winners-beyond : (t : Edits) (hs : List Head) → winners t ≡ t → winner
 winners-beyond t hs won = same_elements edit_total edit_exact _ _
     (λ e top. ((winners_laws.members (beyond t hs) e).0 top).inside)
     (λ e inside.
-      let top : IsTop is_exceeded_by t e = (winners_laws.members t e).0 (ap (λ (s : Edits). contains s e) won ∙ from_set t hs e inside) in
-      (winners_laws.members (beyond t hs) e).1 (record { inside = inside; none = λ f i. top.none f (from_set t hs f i) }))
+    let top : IsTop is_exceeded_by t e = (winners_laws.members t e).0 (ap (λ (s : Edits). contains s e) won ∙ from_set t hs e inside) in
+    (winners_laws.members (beyond t hs) e).1 (record { inside = inside; none = λ f i. top.none f (from_set t hs f i) }))
 
 -- what is beyond heads of a list is the delta of its set
 pub from_list-beyond : (es : List Edit) (hs : List Head) → from_list (filter (is_beyond hs) es) ≡ beyond (from_list es) hs
