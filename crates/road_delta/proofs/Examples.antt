@@ -1,13 +1,12 @@
 -- Worked examples, as equations that the check computes.
 use Rattle.std.specs.Prelude.{◌≡◌, ℕ, true, false, List, [], ◌∷◌, map, refl}
-use Rattle.std.proofs.Common.{sym, ap, ◌∙◌}
+use Rattle.std.proofs.Common.{sym, ap}
 use Rattle.lattice_core.specs.Sets.{from_list}
 use Rattle.lattice_core.proofs.SetElements.{items-from_list}
 use Rattle.road_plan.specs.declared.object.Object.{Object}
 use Rattle.road_plan.specs.declared.object.Object.TheVariants.{Limit, Block}
 use Rattle.road_scenario.specs.declared.edit.Edit.{Edit}
 use Rattle.road_scenario.specs.declared.edit.Value.TheVariants.{Put}
-use Rattle.road_scenario.specs.Edits.{Edits}
 use Rattle.road_scenario.specs.Instances.EditOrder.{edit_total}
 use Rattle.road_delta.specs.declared.heads.Head.{Head}
 use Rattle.road_delta.specs.Deltas.{head_of, heads, is_beyond, beyond}

@@ -4,7 +4,8 @@ use Rattle.std.specs.List.{list_any}
 use Rattle.std.specs.Ordering.{is_eq, is_lt}
 use Rattle.lattice_core.specs.Sets.{contains, is_rising, items, retain}
 use Rattle.road_scenario.specs.declared.edit.Edit.{Edit}
-use Rattle.road_scenario.specs.Edits.{Edits, Place, edit_place, object_place, number_triple_cmp, number_pair_cmp, stamp_key}
+use Rattle.road_scenario.specs.Edits.{Edits, Place, edit_place, object_place}
+use Rattle.road_scenario.specs.Edits.{number_triple_cmp, number_pair_cmp, stamp_key}
 use Rattle.road_delta.specs.declared.heads.Head.{Head}
 
 -- the head of an edit: its object, its step and its stamp
