@@ -287,6 +287,32 @@ fn edits_come_to_a_replica(rt: HostRuntime) -> Result<(), Fail> {
     Ok(())
 }
 
+/// Lists of edits in some order, and what is listed of the scenario that they make.
+const LISTS: &[(&[Edit], &[Edit])] = &[
+    (&[], &[]),
+    (&[TWO], &[TWO]),
+    (&[TWO, THREE], &[THREE]),
+    (&[THREE, TWO], &[THREE]),
+    (&[ONE, LATE, ONE], &[ONE, LATE]),
+    (
+        &[BLOCKED, LATE, ONE, NO_SLOW, EARLY],
+        &[EARLY, LATE, NO_SLOW, BLOCKED],
+    ),
+    (
+        &[FREED, NEXT, BLOCKED, NO_SLOW, ONE, LATE],
+        &[NEXT, LATE, NO_SLOW, FREED],
+    ),
+];
+
+#[test]
+fn lists_make_scenarios(rt: HostRuntime) -> Result<(), Fail> {
+    for (edits, listed) in LISTS {
+        let made = Scenario::of_edits(rt.alloc(), edits)?;
+        assert!(rt; lists(rt.alloc(), &made, listed)?, "{edits:?}");
+    }
+    Ok(())
+}
+
 /// Edits, and the limit of the first zone at the steps 2, 4, 5 and 65,535: where a later put is withdrawn, the earlier
 /// one is in force on.
 const LIMITS: &[(&[Edit], [u32; 4])] = &[

@@ -1,0 +1,75 @@
+ghost use Rattle.std.specs.Prelude.{◌≡◌, IfOk};
+ghost use Rattle.road_delta.specs.Deltas.{AreRising, head_of, heads};
+
+use lattice_core::lattice::Lattice;
+use road_plan::{Object, OutOfMemory};
+use road_scenario::{Edit, Scenario, Stamp};
+use std::alloc::Global;
+use std::marker::Model;
+
+/// An object and a step, and the stamp of the edit held there.
+#[derive(Clone, Copy, Debug, PartialEq, Eq)]
+pub struct Head {
+    /// The edit's object.
+    pub object: Object,
+    /// The first step at which it acts.
+    pub step: u32,
+    /// When and by whom it was made.
+    pub stamp: Stamp,
+}
+
+/// The heads of a scenario, in the order of its edits: they rise by object and step. Contracts see the list.
+#[derive(Drop)]
+pub struct Heads {
+    list: Vec<Head>,
+}
+
+impl Model for Heads {
+    ghost use Rattle.std.specs.Prelude.{List};
+    ghost use Rattle.road_delta.specs.Deltas.{AreRising};
+    ghost use Rattle.road_delta.specs.declared.heads.Head.{Head};
+
+    ghost Value = { List Head };
+
+    ghost view = { λ heads. heads.list.items };
+
+    ghost invariant = { λ heads. AreRising heads.list.items };
+}
+
+impl Heads {
+    /// The heads, rising by object and step. It takes no memory.
+    pub fn list(&self) -> &[Head]
+        ensures all { result.now ≡ self.now }
+        ensures rise { AreRising result.now }
+    {
+        &self.list
+    }
+}
+
+/// The heads of a scenario: of each edit that won its object, step and stamp.
+///
+/// # Errors
+///
+/// `OutOfMemory` where a growth was refused.
+pub fn heads_of(alloc: Global, scenario: &Scenario) -> Result<Heads, OutOfMemory>
+    ensures { IfOk result (λ made. made ≡ heads scenario.now) }
+{
+    scenario.known();
+    let edits = scenario.edits(alloc)?;
+    let mut list = Vec::with_capacity(alloc, edits.len())?;
+    for edit in &edits {
+        list.push(head_of(*edit))?;
+    }
+    Ok(Heads { list })
+}
+
+// The head of an edit.
+fn head_of(edit: Edit) -> Head
+    ensures { result ≡ head_of edit }
+{
+    Head {
+        object: edit.object,
+        step: edit.step,
+        stamp: edit.stamp,
+    }
+}

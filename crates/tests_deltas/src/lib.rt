@@ -1,0 +1,5 @@
+//! Tests of deltas.
+#![tactic(auto)]
+
+#[cfg(test)]
+mod deltas;
