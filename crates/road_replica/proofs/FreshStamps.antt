@@ -1,0 +1,18 @@
+-- A stamp whose count is above all counts that are held is greater than each stamp that is held.
+use Rattle.std.proofs.Common.{◌≡◌, ◌≤◌, ℕ, suc, arith, true, refl}
+use Rattle.std.specs.declared.cmp.Ordering.{Ordering}
+use Rattle.std.specs.declared.cmp.Ordering.TheVariants.{Less, Equal, Greater}
+use Rattle.std.specs.Ordering.{nat_cmp, ordering_then}
+use Rattle.std.proofs.lemmas.Bool.Decides.{nat_tests}
+use Rattle.lattice_core.specs.Sets.{contains}
+use Rattle.road_scenario.specs.Counts.{greatest_count}
+use Rattle.road_scenario.specs.Edits.{Edits, number_pair_cmp, stamp_key}
+use Rattle.road_scenario.specs.declared.edit.Edit.{Edit}
+use Rattle.road_scenario.proofs.GreatestCounts.{below_greatest}
+
+-- the smaller count decides, whatever the numbers
+less_by_count : (n m : ℕ) (numbers : Ordering) → n ≤ m → ordering_then (nat_cmp n (suc m)) numbers ≡ Less
+less_by_count n m numbers below = grind (arith, nat_tests)
+
+pub next_count_is_fresh : (edits : Edits) (number : ℕ) (e : Edit) → contains edits e ≡ true → number_pair_cmp (stamp_key e.stamp) (suc (greatest_count edits), number) ≡ Less
+next_count_is_fresh edits number e held = less_by_count e.stamp.count (greatest_count edits) (nat_cmp e.stamp.number number) (below_greatest edits e held)
