@@ -1,0 +1,111 @@
+-- What a replica refuses, and for which cause.
+use Rattle.std.specs.Prelude.{◌≡◌, ◌⊎◌, ◌||◌, ◌+◌, ◌-◌, ◌^◌, ℕ, suc, min, nat_lt, Bool, List, [], ◌∷◌, if◌then◌else◌}
+use Rattle.std.specs.Option.{option_or, option_map}
+use Rattle.std.specs.declared.option.Option.{Option}
+use Rattle.std.specs.declared.option.Option.TheVariants.{None, Some}
+use Rattle.road_plan.specs.Plan.{Plan}
+use Rattle.road_plan.specs.declared.object.Object.{Object}
+use Rattle.road_plan.specs.declared.limits.TheConstants.{GREATEST_HORIZON, FIRST_IMPORT_NUMBER, MOST_ROWS}
+use Rattle.road_scenario.specs.Edits.{Edits}
+use Rattle.road_scenario.specs.Faults.{fault_of, fault_in}
+use Rattle.road_scenario.specs.declared.edit.Edit.{Edit}
+use Rattle.road_scenario.specs.declared.edit.Value.{Value}
+use Rattle.road_scenario.specs.declared.faults.EditFault.{EditFault}
+use Rattle.road_scenario.specs.declared.faults.EditFault.TheVariants as edits
+use Rattle.road_sheet.specs.Sheets.{Sheet}
+use Rattle.road_sheet.specs.Sheets as sheets
+use Rattle.road_sheet.specs.declared.faults.SheetFault.{SheetFault}
+use Rattle.road_sheet.specs.declared.faults.SheetFault.TheVariants as sheet_faults
+use Rattle.road_rewind.specs.declared.faults.GrownFault.{GrownFault}
+use Rattle.road_rewind.specs.declared.faults.GrownFault.TheVariants as growth
+use Rattle.road_replica.specs.Replicas.{Replica, edit_made}
+use Rattle.road_replica.specs.declared.faults.ReplicaFault.{ReplicaFault}
+use Rattle.road_replica.specs.declared.faults.ReplicaFault.TheVariants.{NoObject, Step, ValueOutOfRange, Count, Insider}
+use Rattle.road_replica.specs.declared.faults.ReplicaFault.TheVariants.{CountsSpent, Horizon, NoDetector, Range}
+use Rattle.road_replica.specs.declared.faults.ReplicaFault.TheVariants.{NotSimulated, WorkersGone, OutOfMemory}
+
+-- ---- causes by other names
+
+-- the refusal of an edit that comes from elsewhere
+abbrev pub arrived_fault : EditFault → ReplicaFault
+arrived_fault edits.NoObject = NoObject
+arrived_fault edits.Step = Step
+arrived_fault edits.ValueOutOfRange = ValueOutOfRange
+arrived_fault edits.Count = Count
+
+-- the refusal of an edit that the replica would make: its count is faulty only where the greatest count is held
+abbrev pub made_fault : EditFault → ReplicaFault
+made_fault edits.NoObject = NoObject
+made_fault edits.Step = Step
+made_fault edits.ValueOutOfRange = ValueOutOfRange
+made_fault edits.Count = CountsSpent
+
+-- the refusal of a question, where the sheet refuses it
+abbrev pub question_fault : SheetFault → ReplicaFault
+question_fault sheet_faults.NoDetector = NoDetector
+question_fault sheet_faults.Range = Range
+question_fault sheet_faults.NotSimulated = NotSimulated
+question_fault sheet_faults.OutOfMemory = OutOfMemory
+
+-- the refusal of a write, where the sheet does not grow
+abbrev pub write_fault : GrownFault → ReplicaFault
+write_fault growth.WorkersGone = WorkersGone
+write_fault growth.OutOfMemory = OutOfMemory
+
+-- ---- the first named cause for which a call is refused
+
+-- of an edit that the replica would make
+abbrev pub edit_fault : Replica → Object → ℕ → Value → Option ReplicaFault
+edit_fault r object step value = option_map made_fault (fault_of r.sheet.plan (edit_made r object step value))
+
+-- of one imported edit: it must not bear a replica's number
+abbrev pub imported_fault : Plan → Edit → Option ReplicaFault
+imported_fault plan edit = option_or (option_map arrived_fault (fault_of plan edit))
+    (if nat_lt edit.stamp.number FIRST_IMPORT_NUMBER then Some Insider else None)
+
+-- of an import: that of its first faulty edit
+abbrev pub import_fault : Plan → List Edit → Option ReplicaFault
+import_fault plan [] = None
+import_fault plan (edit ∷ edits) = option_or (imported_fault plan edit) (import_fault plan edits)
+
+-- of a scenario to be taken: that of its first faulty edit, by object and step
+abbrev pub take_fault : Plan → Edits → Option ReplicaFault
+take_fault plan edits = option_map arrived_fault (fault_in plan edits)
+
+-- of an advance to a step
+abbrev pub advance_fault : ℕ → Option ReplicaFault
+advance_fault to = if nat_lt GREATEST_HORIZON to then Some Horizon else None
+
+-- of a question for a state
+abbrev pub state_fault : Sheet → ℕ → Option ReplicaFault
+state_fault s step = option_map question_fault (sheets.state_fault s step)
+
+-- of a question for totals
+abbrev pub totals_fault : Sheet → ℕ → ℕ → ℕ → Option ReplicaFault
+totals_fault s detector from to = option_map question_fault (sheets.totals_fault s detector from to)
+
+-- whether these steps are none, or more than one diagram shows
+abbrev pub is_out_of_range : ℕ → ℕ → Bool
+is_out_of_range from to = nat_lt to from || nat_lt MOST_ROWS (suc to - from)
+
+-- of a question for rows
+abbrev pub rows_fault : Sheet → ℕ → ℕ → Option ReplicaFault
+rows_fault s from to = if is_out_of_range from to then Some Range
+    else (if nat_lt s.horizon to then Some NotSimulated else None)
+
+-- ---- refusals
+
+-- a write is refused for the named cause where there is one, and else for lost workers or want of memory
+abbrev pub IsWriteRefusal : Option ReplicaFault → ReplicaFault → Type 0
+IsWriteRefusal (Some cause) fault = fault ≡ cause
+IsWriteRefusal None fault = (fault ≡ WorkersGone) ⊎ (fault ≡ OutOfMemory)
+
+-- any other call is refused for the named cause where there is one, and else for want of memory
+abbrev pub IsRefusal : Option ReplicaFault → ReplicaFault → Type 0
+IsRefusal (Some cause) fault = fault ≡ cause
+IsRefusal None fault = fault ≡ OutOfMemory
+
+-- how often a crew has answered `WorkersGone`, after such a refusal of a write
+abbrev pub gone_after_fault : ReplicaFault → ℕ → ℕ
+gone_after_fault WorkersGone n = min (n + 1) (2 ^ 64 - 1)
+gone_after_fault fault n = n

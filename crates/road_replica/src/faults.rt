@@ -1,0 +1,107 @@
+ghost use Rattle.std.specs.Prelude.{◌≡◌};
+ghost use Rattle.road_replica.specs.Refusals as refusals;
+ghost use Rattle.road_replica.specs.declared.faults.ReplicaFault.TheVariants.{OutOfMemory};
+
+use road_plan::limits::{
+    FIRST_IMPORT_NUMBER, GREATEST_COUNT, GREATEST_HORIZON, LAST_EDIT_STEP, MOST_ROWS,
+};
+use road_rewind::GrownFault;
+use road_scenario::EditFault;
+use road_sheet::SheetFault;
+use std::alloc::AllocError;
+use thiserror::Error;
+
+/// Why a replica refuses a call. The causes are asked in this order, and the first that stands is named.
+#[derive(Clone, Copy, Debug, PartialEq, Eq, Error)]
+pub enum ReplicaFault {
+    /// The plan has no such zone, cell, inlet or detector.
+    #[error("the plan has no such object")]
+    NoObject,
+    /// An edit's step is too late.
+    #[error("the step is above {last}", last = LAST_EDIT_STEP)]
+    Step,
+    /// The object doesn't take the number put.
+    #[error("the number is out of the object's range")]
+    ValueOutOfRange,
+    /// The count of an edit from elsewhere is 0 or too great.
+    #[error("the count is not 1 to {most}", most = GREATEST_COUNT)]
+    Count,
+    /// An imported edit bears a replica's number.
+    #[error("the number of an imported edit is below {least}", least = FIRST_IMPORT_NUMBER)]
+    Insider,
+    /// The replica holds an edit with the greatest count, so it can make none with a greater one.
+    #[error("an edit with the greatest count is held")]
+    CountsSpent,
+    /// A horizon is too late.
+    #[error("the horizon is above {greatest}", greatest = GREATEST_HORIZON)]
+    Horizon,
+    /// The plan has no such detector.
+    #[error("the plan has no such detector")]
+    NoDetector,
+    /// The first step is after the last, or there are too many rows.
+    #[error("the first step is after the last, or there are more than {most} rows", most = MOST_ROWS)]
+    Range,
+    /// A step is above the horizon.
+    #[error("a step is not simulated")]
+    NotSimulated,
+    /// A worker's thread could not be started, or has gone.
+    #[error("a worker could not be started or has gone")]
+    WorkersGone,
+    /// There was no memory.
+    #[error("no memory")]
+    OutOfMemory,
+}
+
+impl From<AllocError> for ReplicaFault {
+    ghost from_gives = { λ _ fault. fault ≡ OutOfMemory };
+
+    fn from(_failed: AllocError) -> ReplicaFault {
+        ReplicaFault::OutOfMemory
+    }
+}
+
+// The refusal of an edit that comes from elsewhere.
+pub(crate) fn arrived_fault(fault: EditFault) -> ReplicaFault
+    ensures { result ≡ refusals.arrived_fault fault }
+{
+    match fault {
+        EditFault::NoObject => ReplicaFault::NoObject,
+        EditFault::Step => ReplicaFault::Step,
+        EditFault::ValueOutOfRange => ReplicaFault::ValueOutOfRange,
+        EditFault::Count => ReplicaFault::Count,
+    }
+}
+
+// The refusal of an edit that the replica would make.
+pub(crate) fn made_fault(fault: EditFault) -> ReplicaFault
+    ensures { result ≡ refusals.made_fault fault }
+{
+    match fault {
+        EditFault::NoObject => ReplicaFault::NoObject,
+        EditFault::Step => ReplicaFault::Step,
+        EditFault::ValueOutOfRange => ReplicaFault::ValueOutOfRange,
+        EditFault::Count => ReplicaFault::CountsSpent,
+    }
+}
+
+// The refusal of a question, where the sheet refuses it.
+pub(crate) fn question_fault(fault: SheetFault) -> ReplicaFault
+    ensures { result ≡ refusals.question_fault fault }
+{
+    match fault {
+        SheetFault::NoDetector => ReplicaFault::NoDetector,
+        SheetFault::Range => ReplicaFault::Range,
+        SheetFault::NotSimulated => ReplicaFault::NotSimulated,
+        SheetFault::OutOfMemory => ReplicaFault::OutOfMemory,
+    }
+}
+
+// The refusal of a write, where the sheet does not grow.
+pub(crate) fn write_fault(fault: GrownFault) -> ReplicaFault
+    ensures { result ≡ refusals.write_fault fault }
+{
+    match fault {
+        GrownFault::WorkersGone => ReplicaFault::WorkersGone,
+        GrownFault::OutOfMemory => ReplicaFault::OutOfMemory,
+    }
+}

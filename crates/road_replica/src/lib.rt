@@ -1,0 +1,24 @@
+//! Replicas: each makes edits, takes those of others, and shows the run of all that it holds.
+//!
+//! ```
+//! // A run to step 100; then an engineer closes the first zone from step 70 on.
+//! let (mut crew, mut meter) = (Alone, Meter::new());
+//! let mut here = Replica::open(alloc, Arc::try_clone(&plan)?, 0)?;
+//! let horizon = here.advance(alloc, 100, &mut crew, &mut meter)?;
+//! let stamp = here.edit(alloc, Object::Limit(0), 70, 0, &mut crew, &mut meter)?;
+//! // Another replica takes what the first one holds; it is touched from step 70 on.
+//! let mut there = Replica::open(alloc, plan, 1)?;
+//! let touched = there.take(alloc, &here.message()?, &mut crew, &mut meter)?;
+//! println!(rt; "{horizon} {} {}", stamp.count, touched == Some(70))?;
+//! ```
+#![tactic(auto)]
+
+mod faults;
+mod replica;
+mod reply;
+
+pub use faults::ReplicaFault;
+pub use replica::Replica;
+pub use reply::Reply;
+/// Want of memory, answered only where a growth was refused.
+pub use std::alloc::AllocError as OutOfMemory;

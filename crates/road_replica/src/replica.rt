@@ -1,0 +1,481 @@
+ghost use Rattle.std.specs.Prelude.{◌≡◌, ◌<◌, ◌≤◌, ◌-◌, max, IfErr, IfOk, MatchResult, None, OnErr, OnOk, map, string_bytes, true};
+ghost use Rattle.std.specs.Arc.{arc_value};
+ghost use Rattle.std.specs.declared.cmp.Ordering.TheVariants.{Less};
+ghost use Rattle.lattice_core.specs.Sets.{contains, from_list};
+ghost use Rattle.road_plan.specs.declared.limits.TheConstants.{GREATEST_HORIZON, MOST_REPLICAS};
+ghost use Rattle.road_scenario.specs.declared.edit.Edit as edit;
+ghost use Rattle.road_scenario.specs.declared.edit.Value.{Value};
+ghost use Rattle.road_scenario.specs.declared.edit.Value.TheVariants.{Put, Withdrawn};
+ghost use Rattle.road_scenario.specs.Edits.{number_pair_cmp, stamp_key};
+ghost use Rattle.road_scenario.specs.Faults.{AreInRange};
+ghost use Rattle.road_delta.specs.Deltas as deltas;
+ghost use Rattle.road_sheet.specs.Commands.{Advance, Take};
+ghost use Rattle.road_sheet.specs.Sheets.{IsSheet, opening_sheet, rows_of, state_of, total_of};
+ghost use Rattle.road_rewind.specs.Growth.{TicksAtMost, grown, kept_step, meter_after, most_steps, touched_step};
+ghost use Rattle.road_replica.specs.Refusals as refusals;
+ghost use Rattle.road_replica.specs.Refusals.{IsRefusal, IsWriteRefusal, gone_after_fault};
+ghost use Rattle.road_replica.specs.Replicas.{edit_made, most_steps_taking, replica_after, single_edit};
+
+use crate::faults::{ReplicaFault, arrived_fault, made_fault, question_fault, write_fault};
+use road_cells::Road;
+use road_delta::{Heads, beyond, heads_of};
+use road_detector::Totals;
+use road_ends::Meter;
+use road_plan::limits::{FIRST_IMPORT_NUMBER, GREATEST_HORIZON, MOST_ROWS};
+use road_plan::{Object, OutOfMemory, Plan};
+use road_rewind::{Grown, grown};
+use road_scenario::laws::winners_agree;
+use road_scenario::{Edit, Scenario, Stamp, Value};
+use road_sheet::Sheet;
+use road_sheet::simulation::{State, rows_between};
+use road_workers::Crew;
+use std::alloc::Global;
+use std::marker::Model;
+use std::sync::Arc;
+
+/// A replica: its number, and its sheet. Each write computes anew every simulated step that it touches before it
+/// answers, by the crew that it is given, and the meter counts the steps. A refused write leaves the replica as it was.
+#[derive(Drop)]
+pub struct Replica {
+    number: u32,
+    sheet: Arc<Sheet>,
+}
+
+impl Model for Replica {
+    ghost use Rattle.std.specs.Prelude.{◌<◌};
+    ghost use Rattle.std.specs.Arc.{arc_value};
+    ghost use Rattle.std.specs.Coded.{codes};
+    ghost use Rattle.road_plan.specs.declared.limits.TheConstants.{MOST_REPLICAS};
+    ghost use Rattle.road_scenario.specs.Instances.EditOrder.{edits_code};
+    ghost use Rattle.road_replica.specs.Replicas.{Replica};
+
+    ghost Value = { Replica };
+
+    ghost coded = { Prim.hlevel (codes, edits_code) };
+
+    ghost view = { λ r. record { number = r.number; sheet = arc_value r.sheet } };
+
+    ghost invariant = { λ r. r.number < MOST_REPLICAS };
+}
+
+impl Replica {
+    /// A replica without edits, of which no step is simulated. Its number must be below 64.
+    ///
+    /// # Errors
+    ///
+    /// `OutOfMemory` where a growth was refused.
+    pub fn open(alloc: Global, plan: Arc<Plan>, number: u32) -> Result<Replica, OutOfMemory>
+        requires { number < MOST_REPLICAS }
+        ensures { IfOk result (λ replica. replica
+            ≡ record { number = number; sheet = opening_sheet (arc_value plan) }) }
+    {
+        let sheet = shared(alloc, Sheet::opening(alloc, plan)?)?;
+        Ok(Replica { number, sheet })
+    }
+
+    /// The sheet. Whoever keeps it sees the replica as it is now, whatever comes later.
+    pub fn sheet(&self) -> &Arc<Sheet>
+        ensures { arc_value result.now ≡ self.now.sheet }
+    {
+        &self.sheet
+    }
+
+    /// The winners of all edits that the replica made and took.
+    pub fn scenario(&self) -> &Scenario
+        ensures { result.now ≡ self.now.sheet.edits }
+    {
+        self.sheet.scenario()
+    }
+
+    /// That its number is below 64, its edits win and fit the plan, and its horizon is at most 65,536. It is a fact for
+    /// proofs: the call does nothing.
+    pub fn known(&self)
+        ensures number { self.now.number < MOST_REPLICAS }
+        ensures sheet { IsSheet self.now.sheet }
+    {
+        self.sheet.known();
+    }
+
+    // ---- writes
+
+    /// The replica puts a number for an object from a step on, in the object's units. The stamp has the replica's
+    /// number, and a count that is one more than the greatest that the replica holds.
+    ///
+    /// # Errors
+    ///
+    /// `NoObject`, `Step`, `ValueOutOfRange`, `CountsSpent`, in this order; else `WorkersGone` where the crew answers so,
+    /// or `OutOfMemory` where a growth was refused.
+    pub fn edit<C: Crew>(
+        &mut self,
+        alloc: Global,
+        object: Object,
+        step: u32,
+        value: u32,
+        crew: &mut C,
+        meter: &mut Meter,
+    ) -> Result<Stamp, ReplicaFault>
+        ensures stamp { IfOk result (λ stamp. stamp ≡ (edit_made self.old object step (Put value)).stamp) }
+        // It is greater than each stamp that the replica held.
+        ensures fresh { IfOk result (λ stamp. (e : edit.Edit) → contains self.old.sheet.edits e ≡ true →
+            number_pair_cmp (stamp_key e.stamp) (stamp_key stamp) ≡ Less) }
+        ensures taken { OnOk result (self.new
+            ≡ replica_after (Take (single_edit (edit_made self.old object step (Put value)))) self.old) }
+        ensures accepted { IfOk result (λ _. refusals.edit_fault self.old object step (Put value) ≡ None) }
+        ensures refused { IfErr result (IsWriteRefusal (refusals.edit_fault self.old object step (Put value))) }
+        ensures unchanged { OnErr result (self.new ≡ self.old) }
+        ensures few_steps { TicksAtMost
+            (most_steps_taking self.old.sheet (single_edit (edit_made self.old object step (Put value))))
+            meter.old meter.new }
+        ensures gone { MatchResult result (λ _. C.gone crew.new ≡ C.gone crew.old)
+            (λ fault. C.gone crew.new ≡ gone_after_fault fault (C.gone crew.old)) }
+    {
+        self.make(alloc, object, step, Value::Put(value), crew, meter)
+    }
+
+    /// The replica withdraws what is put for an object at a step: from there on the latest earlier number is in force,
+    /// or the default. What was never put can be withdrawn too. The stamp is as for [`Replica::edit`].
+    ///
+    /// # Errors
+    ///
+    /// As for [`Replica::edit`], but for `ValueOutOfRange`.
+    pub fn withdraw<C: Crew>(
+        &mut self,
+        alloc: Global,
+        object: Object,
+        step: u32,
+        crew: &mut C,
+        meter: &mut Meter,
+    ) -> Result<Stamp, ReplicaFault>
+        ensures stamp { IfOk result (λ stamp. stamp ≡ (edit_made self.old object step Withdrawn).stamp) }
+        // It is greater than each stamp that the replica held.
+        ensures fresh { IfOk result (λ stamp. (e : edit.Edit) → contains self.old.sheet.edits e ≡ true →
+            number_pair_cmp (stamp_key e.stamp) (stamp_key stamp) ≡ Less) }
+        ensures taken { OnOk result (self.new
+            ≡ replica_after (Take (single_edit (edit_made self.old object step Withdrawn))) self.old) }
+        ensures accepted { IfOk result (λ _. refusals.edit_fault self.old object step Withdrawn ≡ None) }
+        ensures refused { IfErr result (IsWriteRefusal (refusals.edit_fault self.old object step Withdrawn)) }
+        ensures unchanged { OnErr result (self.new ≡ self.old) }
+        ensures few_steps { TicksAtMost
+            (most_steps_taking self.old.sheet (single_edit (edit_made self.old object step Withdrawn)))
+            meter.old meter.new }
+        ensures gone { MatchResult result (λ _. C.gone crew.new ≡ C.gone crew.old)
+            (λ fault. C.gone crew.new ≡ gone_after_fault fault (C.gone crew.old)) }
+    {
+        self.make(alloc, object, step, Value::Withdrawn, crew, meter)
+    }
+
+    /// Edits from outside this world, in any order, whose stamps have numbers from 64 on. All are taken, or none. The
+    /// answer is the first step at which other numbers are put than before.
+    ///
+    /// # Errors
+    ///
+    /// That of the first faulty edit: `NoObject`, `Step`, `ValueOutOfRange`, `Count`, `Insider`, in this order; else
+    /// `WorkersGone` where the crew answers so, or `OutOfMemory` where a growth was refused.
+    pub fn import<C: Crew>(
+        &mut self,
+        alloc: Global,
+        edits: &[Edit],
+        crew: &mut C,
+        meter: &mut Meter,
+    ) -> Result<Option<u32>, ReplicaFault>
+        ensures touched { IfOk result (λ touched. touched ≡ touched_step self.old.sheet (from_list edits.now)) }
+        ensures taken { OnOk result (self.new ≡ replica_after (Take (from_list edits.now)) self.old) }
+        ensures accepted { IfOk result (λ _. refusals.import_fault self.old.sheet.plan edits.now ≡ None) }
+        ensures refused { IfErr result (IsWriteRefusal (refusals.import_fault self.old.sheet.plan edits.now)) }
+        ensures unchanged { OnErr result (self.new ≡ self.old) }
+        ensures few_steps { TicksAtMost (most_steps_taking self.old.sheet (from_list edits.now))
+            meter.old meter.new }
+        ensures gone { MatchResult result (λ _. C.gone crew.new ≡ C.gone crew.old)
+            (λ fault. C.gone crew.new ≡ gone_after_fault fault (C.gone crew.old)) }
+    {
+        if let Some(fault) = import_fault(self.sheet.plan(), edits) {
+            return Err(fault);
+        }
+        self.known();
+        winners_agree();
+        let scenario = Scenario::of_edits(alloc, edits)?;
+        self.grow(alloc, &scenario, 0, crew, meter)
+    }
+
+    /// The replica takes a scenario: what another replica holds, or a part of it. The answer is the first step at which
+    /// other numbers are put than before.
+    ///
+    /// # Errors
+    ///
+    /// That of the first faulty edit by object and step: `NoObject`, `Step`, `ValueOutOfRange`, `Count`; else
+    /// `WorkersGone` where the crew answers so, or `OutOfMemory` where a growth was refused.
+    pub fn take<C: Crew>(
+        &mut self,
+        alloc: Global,
+        scenario: &Scenario,
+        crew: &mut C,
+        meter: &mut Meter,
+    ) -> Result<Option<u32>, ReplicaFault>
+        ensures touched { IfOk result (λ touched. touched ≡ touched_step self.old.sheet scenario.now) }
+        ensures taken { OnOk result (self.new ≡ replica_after (Take scenario.now) self.old) }
+        ensures accepted { IfOk result (λ _. refusals.take_fault self.old.sheet.plan scenario.now ≡ None) }
+        ensures refused { IfErr result (IsWriteRefusal (refusals.take_fault self.old.sheet.plan scenario.now)) }
+        ensures unchanged { OnErr result (self.new ≡ self.old) }
+        ensures few_steps { TicksAtMost (most_steps_taking self.old.sheet scenario.now)
+            meter.old meter.new }
+        ensures gone { MatchResult result (λ _. C.gone crew.new ≡ C.gone crew.old)
+            (λ fault. C.gone crew.new ≡ gone_after_fault fault (C.gone crew.old)) }
+    {
+        match scenario.fits(self.sheet.plan()) {
+            Some(fault) => Err(arrived_fault(fault)),
+            None => self.grow(alloc, scenario, 0, crew, meter),
+        }
+    }
+
+    /// The replica simulates up to a step, where it has not yet. The answer is its horizon: the greater of that before
+    /// and `to`.
+    ///
+    /// # Errors
+    ///
+    /// `Horizon` where `to` is above 65,536; else `WorkersGone` where the crew answers so, or `OutOfMemory` where a
+    /// growth was refused.
+    pub fn advance<C: Crew>(
+        &mut self,
+        alloc: Global,
+        to: u32,
+        crew: &mut C,
+        meter: &mut Meter,
+    ) -> Result<u32, ReplicaFault>
+        ensures horizon { IfOk result (λ horizon. horizon ≡ max self.old.sheet.horizon to) }
+        ensures advanced { OnOk result (self.new ≡ replica_after (Advance to) self.old) }
+        ensures accepted { IfOk result (λ _. refusals.advance_fault to ≡ None) }
+        ensures refused { IfErr result (IsWriteRefusal (refusals.advance_fault to)) }
+        ensures unchanged { OnErr result (self.new ≡ self.old) }
+        // Just the steps after the old horizon are computed.
+        ensures new_steps { IfOk result (λ _. meter.new
+            ≡ meter_after meter.old (max self.old.sheet.horizon to - self.old.sheet.horizon)) }
+        ensures few_steps { TicksAtMost (max self.old.sheet.horizon to - self.old.sheet.horizon) meter.old meter.new }
+        ensures gone { MatchResult result (λ _. C.gone crew.new ≡ C.gone crew.old)
+            (λ fault. C.gone crew.new ≡ gone_after_fault fault (C.gone crew.old)) }
+    {
+        if to > GREATEST_HORIZON {
+            return Err(ReplicaFault::Horizon);
+        }
+        self.known();
+        self.grow(alloc, &Scenario::empty(alloc), to, crew, meter)?;
+        Ok(self.sheet.horizon())
+    }
+
+    // The replica makes an edit.
+    fn make<C: Crew>(
+        &mut self,
+        alloc: Global,
+        object: Object,
+        step: u32,
+        value: Value,
+        crew: &mut C,
+        meter: &mut Meter,
+    ) -> Result<Stamp, ReplicaFault>
+        ensures stamp { IfOk result (λ stamp. stamp ≡ (edit_made self.old object step value).stamp) }
+        ensures fresh { IfOk result (λ stamp. (e : edit.Edit) → contains self.old.sheet.edits e ≡ true →
+            number_pair_cmp (stamp_key e.stamp) (stamp_key stamp) ≡ Less) }
+        ensures taken { OnOk result (self.new
+            ≡ replica_after (Take (single_edit (edit_made self.old object step value))) self.old) }
+        ensures accepted { IfOk result (λ _. refusals.edit_fault self.old object step value ≡ None) }
+        ensures refused { IfErr result (IsWriteRefusal (refusals.edit_fault self.old object step value)) }
+        ensures unchanged { OnErr result (self.new ≡ self.old) }
+        ensures few_steps { TicksAtMost
+            (most_steps_taking self.old.sheet (single_edit (edit_made self.old object step value)))
+            meter.old meter.new }
+        ensures gone { MatchResult result (λ _. C.gone crew.new ≡ C.gone crew.old)
+            (λ fault. C.gone crew.new ≡ gone_after_fault fault (C.gone crew.old)) }
+    {
+        let edit = self.edit_made(object, step, value);
+        match edit.fault(self.sheet.plan()) {
+            Some(fault) => Err(made_fault(fault)),
+            None => {
+                let taken = Scenario::empty(alloc).with_edit(&edit)?;
+                self.grow(alloc, &taken, 0, crew, meter)?;
+                Ok(edit.stamp)
+            }
+        }
+    }
+
+    // The edit that the replica makes.
+    fn edit_made(&self, object: Object, step: u32, value: Value) -> Edit
+        ensures { result ≡ edit_made self.now object step value }
+    {
+        self.known();
+        let count = self.sheet.scenario().greatest_count() + 1;
+        let number = self.number as u16;
+        Edit {
+            object,
+            step,
+            stamp: Stamp { count, number },
+            value,
+        }
+    }
+
+    // Its sheet takes a scenario and is simulated up to a step.
+    fn grow<C: Crew>(
+        &mut self,
+        alloc: Global,
+        scenario: &Scenario,
+        to: u32,
+        crew: &mut C,
+        meter: &mut Meter,
+    ) -> Result<Option<u32>, ReplicaFault>
+        requires fits { AreInRange self.old.sheet.plan scenario.now }
+        requires within_limit { to ≤ GREATEST_HORIZON }
+        ensures touched { IfOk result (λ touched. touched ≡ touched_step self.old.sheet scenario.now) }
+        ensures sheet { OnOk result (self.new ≡ record self.old { sheet = grown self.old.sheet scenario.now to }) }
+        ensures refused { IfErr result (IsWriteRefusal None) }
+        ensures unchanged { OnErr result (self.new ≡ self.old) }
+        ensures new_steps { IfOk result (λ _.
+            kept_step self.old.sheet.horizon (touched_step self.old.sheet scenario.now) ≡ self.old.sheet.horizon
+            → meter.new ≡ meter_after meter.old (max self.old.sheet.horizon to - self.old.sheet.horizon)) }
+        ensures few_steps { TicksAtMost
+            (most_steps self.old.sheet.horizon (max self.old.sheet.horizon to)
+            (touched_step self.old.sheet scenario.now))
+            meter.old meter.new }
+        ensures gone { MatchResult result (λ _. C.gone crew.new ≡ C.gone crew.old)
+            (λ fault. C.gone crew.new ≡ gone_after_fault fault (C.gone crew.old)) }
+    {
+        match grown(alloc, &self.sheet, scenario, to, crew, meter) {
+            Ok(Grown { sheet, touched }) => {
+                self.sheet = shared(alloc, sheet)?;
+                Ok(touched)
+            }
+            Err(fault) => Err(write_fault(fault)),
+        }
+    }
+
+    // ---- what it sends
+
+    /// All that the replica holds, to be sent to others.
+    ///
+    /// # Errors
+    ///
+    /// `OutOfMemory` where a growth was refused.
+    pub fn message(&self) -> Result<Scenario, ReplicaFault>
+        ensures message { IfOk result (λ message. message ≡ self.now.sheet.edits) }
+        ensures refused { IfErr result (IsRefusal None) }
+    {
+        Ok(self.sheet.scenario().copied()?)
+    }
+
+    /// The heads of all that the replica holds, by which it asks another for what it lacks.
+    ///
+    /// # Errors
+    ///
+    /// `OutOfMemory` where a growth was refused.
+    pub fn heads(&self, alloc: Global) -> Result<Heads, ReplicaFault>
+        ensures heads { IfOk result (λ heads. heads ≡ deltas.heads self.now.sheet.edits) }
+        ensures refused { IfErr result (IsRefusal None) }
+    {
+        Ok(heads_of(alloc, self.sheet.scenario())?)
+    }
+
+    /// What the replica holds beyond the heads of another: its answer to them.
+    ///
+    /// # Errors
+    ///
+    /// `OutOfMemory` where a growth was refused.
+    pub fn beyond(&self, alloc: Global, heads: &Heads) -> Result<Scenario, ReplicaFault>
+        ensures delta { IfOk result (λ delta. delta ≡ deltas.beyond self.now.sheet.edits heads.now) }
+        ensures refused { IfErr result (IsRefusal None) }
+    {
+        Ok(beyond(alloc, self.sheet.scenario(), heads)?)
+    }
+
+    // ---- what it shows
+
+    /// The road at a step.
+    ///
+    /// # Errors
+    ///
+    /// `NotSimulated` where the step is above the horizon, else `OutOfMemory` where a growth was refused.
+    pub fn state(&self, alloc: Global, step: u32) -> Result<Road, ReplicaFault>
+        ensures state { IfOk result (λ road. road ≡ state_of self.now.sheet step) }
+        ensures accepted { IfOk result (λ _. refusals.state_fault self.now.sheet step ≡ None) }
+        ensures refused { IfErr result (IsRefusal (refusals.state_fault self.now.sheet step)) }
+    {
+        match self.sheet.state(alloc, step) {
+            Ok(road) => Ok(road),
+            Err(fault) => Err(question_fault(fault)),
+        }
+    }
+
+    /// What a detector counts in the steps from one up to another, that one not among them.
+    ///
+    /// # Errors
+    ///
+    /// `NoDetector` where the plan has no such detector, else `Range` where `from` is above `to`, else `NotSimulated`
+    /// where `to` is above the horizon, else `OutOfMemory` where a growth was refused.
+    pub fn totals(
+        &self,
+        alloc: Global,
+        detector: u32,
+        from: u32,
+        to: u32,
+    ) -> Result<Totals, ReplicaFault>
+        ensures totals { IfOk result (λ totals. totals ≡ total_of self.now.sheet detector from to) }
+        ensures accepted { IfOk result (λ _. refusals.totals_fault self.now.sheet detector from to ≡ None) }
+        ensures refused { IfErr result (IsRefusal (refusals.totals_fault self.now.sheet detector from to)) }
+    {
+        match self.sheet.totals(alloc, detector, from, to) {
+            Ok(totals) => Ok(totals),
+            Err(fault) => Err(question_fault(fault)),
+        }
+    }
+
+    /// The rows of a space-time diagram: those of the steps from one to another, both of them, each with the blocks of
+    /// its step.
+    ///
+    /// # Errors
+    ///
+    /// `Range` where `from` is above `to` or these are more than 1,024 rows, else `NotSimulated` where `to` is above the
+    /// horizon, else `OutOfMemory` where a growth was refused.
+    pub fn rows(&self, alloc: Global, from: u32, to: u32) -> Result<Vec<String>, ReplicaFault>
+        ensures rows { IfOk result (λ rows. map string_bytes rows.items ≡ rows_of self.now.sheet from to) }
+        ensures accepted { IfOk result (λ _. refusals.rows_fault self.now.sheet from to ≡ None) }
+        ensures refused { IfErr result (IsRefusal (refusals.rows_fault self.now.sheet from to)) }
+    {
+        if from > to || to - from >= MOST_ROWS {
+            return Err(ReplicaFault::Range);
+        }
+        if self.sheet.horizon() < to {
+            return Err(ReplicaFault::NotSimulated);
+        }
+        self.known();
+        let road = self.state(alloc, from)?;
+        let first = State { step: from, road };
+        let (rows, _) = rows_between(alloc, self.sheet.plan(), self.sheet.scenario(), first, to)?;
+        Ok(rows)
+    }
+}
+
+// A sheet, to be shared.
+fn shared(alloc: Global, sheet: Sheet) -> Result<Arc<Sheet>, OutOfMemory>
+    ensures { IfOk result (λ shared. arc_value shared ≡ sheet) }
+{
+    Ok(Arc::new(alloc, sheet)?)
+}
+
+// The cause for which an import is refused: that of its first faulty edit.
+fn import_fault(plan: &Plan, edits: &[Edit]) -> Option<ReplicaFault>
+    ensures { result ≡ refusals.import_fault plan.now edits.now }
+{
+    for edit in edits {
+        if let Some(fault) = imported_fault(plan, edit) {
+            return Some(fault);
+        }
+    }
+    None
+}
+
+// The cause for which one imported edit is refused.
+fn imported_fault(plan: &Plan, edit: &Edit) -> Option<ReplicaFault>
+    ensures { result ≡ refusals.imported_fault plan.now edit.now }
+{
+    match edit.fault(plan) {
+        Some(fault) => Some(arrived_fault(fault)),
+        None if edit.stamp.number < FIRST_IMPORT_NUMBER => Some(ReplicaFault::Insider),
+        None => None,
+    }
+}
