@@ -1,0 +1,4 @@
+pub mod Events
+pub mod Answers
+pub mod Stamps
+pub mod Headline
