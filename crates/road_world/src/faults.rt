@@ -1,4 +1,10 @@
+ghost use Rattle.std.specs.Prelude.{◌≡◌};
+ghost use Rattle.road_replica.specs.declared.faults.ReplicaFault.TheVariants as replicas;
+ghost use Rattle.road_world.specs.declared.faults.PlayFault.TheVariants.{OutOfMemory};
+ghost use Rattle.road_world.specs.declared.faults.WorldFault.TheVariants.{Replica};
+
 use road_replica::ReplicaFault;
+use std::alloc::AllocError;
 use thiserror::Error;
 
 /// Why an event is refused. The causes are asked in this order; a refused event does nothing.
@@ -13,4 +19,36 @@ pub enum WorldFault {
     /// The replica refuses it.
     #[error("{0}")]
     Replica(ReplicaFault),
+}
+
+impl From<ReplicaFault> for WorldFault {
+    ghost from_gives = { λ cause fault. fault ≡ Replica cause };
+
+    fn from(fault: ReplicaFault) -> WorldFault {
+        WorldFault::Replica(fault)
+    }
+}
+
+impl From<AllocError> for WorldFault {
+    ghost from_gives = { λ _ fault. fault ≡ Replica replicas.OutOfMemory };
+
+    fn from(_failed: AllocError) -> WorldFault {
+        WorldFault::Replica(ReplicaFault::OutOfMemory)
+    }
+}
+
+/// Why a list of events is not played to its end.
+#[derive(Clone, Copy, Debug, PartialEq, Eq, Error)]
+pub enum PlayFault {
+    /// There was no memory to open the world, or for the list of replies.
+    #[error("no memory")]
+    OutOfMemory,
+}
+
+impl From<AllocError> for PlayFault {
+    ghost from_gives = { λ _ fault. fault ≡ OutOfMemory };
+
+    fn from(_failed: AllocError) -> PlayFault {
+        PlayFault::OutOfMemory
+    }
 }

@@ -25,7 +25,7 @@ mod playing;
 mod world;
 
 pub use event::Event;
-pub use faults::WorldFault;
+pub use faults::{PlayFault, WorldFault};
 pub use message::Message;
 pub use playing::{Played, play};
 pub use road_replica::Reply;

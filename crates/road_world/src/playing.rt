@@ -1,4 +1,4 @@
-ghost use Rattle.std.specs.Prelude.{◌≡◌, ◌≤◌, IfOk, map};
+ghost use Rattle.std.specs.Prelude.{◌≡◌, ◌≤◌, ◌++◌, ◌∷◌, [], IfOk, OnOk, map};
 ghost use Rattle.std.specs.Arc.{arc_value};
 ghost use Rattle.road_plan.specs.declared.limits.TheConstants.{MOST_REPLICAS};
 ghost use Rattle.road_world.specs.Answers.{AreAnswers, gone_after_answers};
@@ -8,7 +8,7 @@ ghost use Rattle.road_world.specs.Headline.{Headline};
 ghost use Rattle.road_world.specs.Stamps.{AreFresh, imported_stamps, issued_stamps};
 
 use crate::event::Event;
-use crate::faults::WorldFault;
+use crate::faults::{PlayFault, WorldFault};
 use crate::world::World;
 use road_ends::Meter;
 use road_plan::{OutOfMemory, Plan};
@@ -39,7 +39,7 @@ pub fn play<C: Crew>(
     events: &[Event],
     crew: &mut C,
     meter: &mut Meter,
-) -> Result<Played, OutOfMemory>
+) -> Result<Played, PlayFault>
     requires { replicas ≤ MOST_REPLICAS }
     ensures headline { IfOk result (λ played. Headline (arc_value plan) replicas
         (replica_after_events (arc_value plan) replicas events.now played.replies.items) played.world) }
@@ -58,7 +58,15 @@ pub fn play<C: Crew>(
     let mut world = World::open(alloc, plan, replicas)?;
     let mut replies = Vec::with_capacity(alloc, events.len())?;
     for event in events {
-        replies.push(world.apply(alloc, event, crew, meter))?;
+        let reply = world.apply(alloc, event, crew, meter);
+        add(&mut replies, reply)?;
     }
     Ok(Played { world, replies })
+}
+
+// One reply more.
+fn add(replies: &mut Vec<Result<Reply, WorldFault>>, reply: Result<Reply, WorldFault>) -> Result<(), OutOfMemory>
+    ensures { OnOk result (replies.new.items ≡ replies.old.items ++ reply ∷ []) }
+{
+    Ok(replies.push(reply)?)
 }

@@ -1,0 +1,2 @@
+pub mod KeptWorlds
+pub mod EventAnswers
