@@ -1,0 +1,3 @@
+pub mod WinnersSuffice
+pub mod EventLists
+pub mod HeadlineOfWinners
