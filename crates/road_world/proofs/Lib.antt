@@ -1,2 +1,5 @@
+pub mod WinnersSuffice
+pub mod EventLists
+pub mod HeadlineOfWinners
 pub mod KeptWorlds
 pub mod EventAnswers
