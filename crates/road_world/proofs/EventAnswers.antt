@@ -1,6 +1,6 @@
 -- What a replica answers is what its world answers.
-use Rattle.std.proofs.Common.{◌≡◌, ◌<◌, ◌∙◌, ◌⊎◌, ℕ, length, Option, Some, None, refl, ap, sym, subst, true, inl, inr}
-use Rattle.std.specs.Prelude.{nat_lt, Result, if◌then◌else◌}
+use Rattle.std.proofs.Common.{◌≡◌, ◌<◌, ◌∙◌, length, Option, Some, None, refl, ap, sym, subst, inl, inr}
+use Rattle.std.specs.Prelude.{nat_lt, IsErrAnd, Result, if◌then◌else◌}
 use Rattle.std.specs.Option.{option_map}
 use Rattle.std.specs.declared.result.Result.TheVariants.{Ok, Err}
 use Rattle.std.proofs.lemmas.Bool.{lt-ltb}
@@ -33,3 +33,9 @@ accepted w event reply below none is = (fault_there w event below ∙ none, is)
 
 pub not_accepted : (w : World) (event : Event) (fault : WorldFault) → replica_number event < length w.replicas → IsRefusal (fault_at_replica w event) fault → IsAnswer w event (Err fault)
 not_accepted w event fault below is = subst (λ cause. IsRefusal cause fault) (sym (fault_there w event below)) is
+
+-- and so is a refusal, once the world hands it on
+pub handed_on : (w : World) (event : Event) (result : Result Reply WorldFault) (fault : ReplicaFault) → replica_number event < length w.replicas → IsErrAnd result (λ given. given ≡ faults.Replica fault)
+    → IsRefusal (fault_at_replica w event) (faults.Replica fault) → IsAnswer w event result
+handed_on w event (Ok reply) fault below given is = absurd given
+handed_on w event (Err other) fault below given is = subst (λ given. IsAnswer w event (Err given)) (sym given) (not_accepted w event (faults.Replica fault) below is)

@@ -97,7 +97,9 @@ impl World {
     pub fn known(&self)
         ensures few { length self.now.replicas ≤ MOST_REPLICAS }
         ensures sheets { (number : ℕ) → number < length self.now.replicas → IsSheet (sheet_at self.now number) }
-    {}
+    {
+        let _ = &self.plan;
+    }
 
     /// What an event does: the replica at which it is writes, or makes a message. Each write computes anew every
     /// simulated step that it touches before it answers, by the crew that it is given, and the meter counts the steps.
