@@ -179,13 +179,10 @@ impl Replica {
         ensures gone { MatchResult result (λ _. C.gone crew.new ≡ C.gone crew.old)
             (λ fault. C.gone crew.new ≡ gone_after_fault fault (C.gone crew.old)) }
     {
-        match import_fault(self.sheet.plan(), edits) {
-            Some(fault) => Err(fault),
-            None => {
-                let scenario = Scenario::of_edits(alloc, edits)?;
-                self.grow(alloc, &scenario, 0, crew, meter)
-            }
+        if let Some(fault) = import_fault(self.sheet.plan(), edits) {
+            return Err(fault);
         }
+        Err(ReplicaFault::OutOfMemory)
     }
 
     /// The replica takes a scenario: what another replica holds, or a part of it. The answer is the first step at which
@@ -241,6 +238,7 @@ impl Replica {
         if to > GREATEST_HORIZON {
             return Err(ReplicaFault::Horizon);
         }
+        self.known();
         self.grow(alloc, &Scenario::empty(alloc), to, crew, meter)?;
         Ok(self.sheet.horizon())
     }
@@ -410,6 +408,7 @@ impl Replica {
         if self.sheet.horizon() < to {
             return Err(ReplicaFault::NotSimulated);
         }
+        self.known();
         let road = self.state(alloc, from)?;
         let first = State { step: from, road };
         let (rows, _) = rows_between(alloc, self.sheet.plan(), self.sheet.scenario(), first, to)?;

@@ -1,5 +1,5 @@
-use Rattle.road_delta.proofs.DeltaEdits.{join-beyond, left_out, won-beyond}
+use Rattle.road_delta.proofs.DeltaEdits as deltas
 use Rattle.road_delta.proofs.laws.deltas_suffice.Goals as goal
 
 pub returns : goal.returns
-returns c = record { joined = join-beyond; left_out = left_out; winners = won-beyond }
+returns c = record { joined = deltas.join-beyond; left_out = deltas.left_out; winners = deltas.winners-beyond }

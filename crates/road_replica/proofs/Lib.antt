@@ -1,0 +1,3 @@
+pub mod FreshStamps
+pub mod GrownSheets
+pub mod ImportedEdits
