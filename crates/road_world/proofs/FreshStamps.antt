@@ -34,7 +34,7 @@ use Rattle.road_world.specs.declared.faults.WorldFault.{WorldFault}
 use Rattle.road_world.specs.declared.faults.WorldFault.TheVariants.{NoReplica}
 use Rattle.road_world.specs.declared.faults.WorldFault.TheVariants as faults
 use Rattle.road_world.proofs.EventLists.{replicas-after_event}
-use Rattle.road_world.proofs.GreatestCountsGrow.{greatest_count_of_union, count_of_single}
+use Rattle.road_world.proofs.GrowingCounts.{greatest_count_of_union, count_of_single}
 
 -- the greatest count of what reached replica r
 abbrev count_at : World → ℕ → ℕ

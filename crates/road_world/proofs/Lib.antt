@@ -1,3 +1,6 @@
 pub mod WinnersSuffice
 pub mod EventLists
 pub mod HeadlineOfWinners
+pub mod GrowingCounts
+pub mod FreshStamps
+pub mod Examples

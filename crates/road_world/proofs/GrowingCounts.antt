@@ -1,7 +1,9 @@
 -- The more edits reach a replica, the greater is their greatest count.
-use Rattle.std.proofs.Common.{◌≡◌, ◌≤◌, ℕ, true, List, [], ◌∷◌, ap, sym, ◌∙◌, inl, inr, arith}
+use Rattle.std.proofs.Common.{◌≡◌, ◌≤◌, ℕ, suc, true, List, [], ◌∷◌, ap, sym, ◌∙◌, inl, inr, arith}
 use Rattle.std.specs.Cmp.{tied_itself}
-use Rattle.std.specs.Ordering.{is_eq}
+use Rattle.std.specs.Ordering.{is_eq, nat_cmp, ordering_then}
+use Rattle.std.specs.declared.cmp.Ordering.TheVariants.{Less}
+use Rattle.std.proofs.lemmas.Bool.Decides.{nat_tests}
 use Rattle.std.proofs.lemmas.Bool.{or_left, or_right}
 use Rattle.lattice_core.specs.Sets.{contains, items, union, from_list}
 use Rattle.lattice_core.proofs.SetElements.{contains-from_list, contains-items, contains-union}
@@ -9,8 +11,16 @@ use Rattle.road_scenario.specs.Counts.{greatest_count}
 use Rattle.road_scenario.specs.Edits.{Edits}
 use Rattle.road_scenario.specs.Instances.EditOrder.{edit_total}
 use Rattle.road_scenario.specs.declared.edit.Edit.{Edit}
-use Rattle.road_scenario.proofs.GreatestCounts.{below_greatest, reached}
+use Rattle.road_scenario.proofs.GreatestCounts.{reached}
 use Rattle.road_replica.specs.Replicas.{single_edit}
+use Rattle.road_replica.proofs.FreshStamps.{next_count_is_fresh}
+
+-- no edit of a set has a count above the greatest: the stamp of the next local edit would else not be greater
+below_greatest : (s : Edits) (e : Edit) → contains s e ≡ true → e.stamp.count ≤ greatest_count s
+below_greatest s e held = not_more e.stamp.count (greatest_count s) e.stamp.number (next_count_is_fresh s 0 e held)
+  where
+    not_more : (n m number : ℕ) → ordering_then (nat_cmp n (suc m)) (nat_cmp number 0) ≡ Less → n ≤ m
+    not_more n m number h = grind (arith, nat_tests)
 
 -- a set has no greater count than one with all its edits
 pub greatest_count_of_part : (part whole : Edits) → ((e : Edit) → contains part e ≡ true → contains whole e ≡ true) → greatest_count part ≤ greatest_count whole
