@@ -173,7 +173,7 @@ asking =
 -- taken again it touches nothing
 answer_taken : replies_to three asking
     ≡ Stamped (stamp 1 0) ∷ Stamped (stamp 2 0) ∷ Message 0 ∷ Touched (Some 3) ∷ Stamped (stamp 3 1) ∷ Stamped (stamp 3 0)
-        ∷ Message 1 ∷ Message 2 ∷ Touched (Some 4) ∷ Touched (Some 5) ∷ Touched None ∷ []
+    ∷ Message 1 ∷ Message 2 ∷ Touched (Some 4) ∷ Touched (Some 5) ∷ Touched None ∷ []
 answer_taken = refl
 
 -- the third replica has the edits that the answer lists, and no more: not the limit that the asker has exceeded

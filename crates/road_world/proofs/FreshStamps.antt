@@ -1,14 +1,14 @@
 -- Stamps that one world issues are distinct, and none is that of an import: each is above all that reached its replica
 -- before, and bears a replica's number.
-use Rattle.std.proofs.Common.{◌≡◌, ◌≤◌, ◌<◌, ◌==◌, ◌&&◌, ℕ, suc, zero, Bool, true, false, List, [], ◌∷◌, ◌++◌, length, map, Option, Some, None, refl, ap, sym, subst, ◌∙◌, arith}
-use Rattle.std.specs.Prelude.{◌||◌, slice_set, replicate, nat_lt, Result, if◌then◌else◌}
-use Rattle.std.specs.List.{AllByRecursion, IsDistinct, list_any, slice_index_or, slice_get}
+use Rattle.std.proofs.Common.{◌≡◌, ◌≤◌, ◌<◌, ◌==◌, ℕ, suc, zero, Bool, true, false, List, [], ◌∷◌, ◌++◌, length, map, Option, Some, None, refl, ap, sym, subst, ◌∙◌, arith}
+use Rattle.std.specs.Prelude.{◌||◌, slice_set, nat_lt, Result, if◌then◌else◌}
+use Rattle.std.specs.List.{AllByRecursion, IsDistinct, list_any, slice_index_or}
 use Rattle.std.specs.Option.{option_map, option_or}
 use Rattle.std.specs.declared.result.Result.TheVariants.{Ok, Err}
 use Rattle.std.proofs.lemmas.Bool.{and_parts, eqb-true, false_from_ne_true}
 use Rattle.std.proofs.lemmas.Bool.Decides.{nat_tests}
 use Rattle.std.proofs.lemmas.List.{get_or-set_same, length-replicate}
-use Rattle.lattice_core.specs.Sets.{union, from_list}
+use Rattle.lattice_core.specs.Sets.{union}
 use Rattle.road_plan.specs.Plan.{Plan}
 use Rattle.road_plan.specs.declared.limits.TheConstants.{MOST_REPLICAS, FIRST_IMPORT_NUMBER}
 use Rattle.road_plan.specs.declared.object.Object.{Object}
@@ -26,7 +26,7 @@ use Rattle.road_replica.specs.declared.faults.ReplicaFault.TheVariants.{Insider}
 use Rattle.road_replica.specs.declared.reply.Reply.{Reply}
 use Rattle.road_replica.specs.declared.reply.Reply.TheVariants.{Stamped, Touched, Message, Horizon}
 use Rattle.road_world.specs.Answers.{AreAnswers, fault_at_replica, fault_of_event, replica_number, reply_to_event}
-use Rattle.road_world.specs.Events.{World, WorldReplica, accepted_events, carried_edits, opening_replica, opening_world, replica_at, world_after_event, world_with_edits, world_with_local_edit}
+use Rattle.road_world.specs.Events.{World, WorldReplica, accepted_events, opening_replica, opening_world, replica_at, world_after_event, world_with_edits, world_with_local_edit}
 use Rattle.road_world.specs.Stamps.{AreFresh, imported_stamps, is_same_stamp, issued_stamps}
 use Rattle.road_world.specs.declared.event.Event.{Event}
 use Rattle.road_world.specs.declared.event.Event.TheVariants.{Edit, Withdraw, Import, Send, Heads, Beyond, Take, Advance}

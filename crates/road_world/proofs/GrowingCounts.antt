@@ -1,11 +1,11 @@
 -- The more edits reach a replica, the greater is their greatest count.
-use Rattle.std.proofs.Common.{◌≡◌, ◌≤◌, ℕ, suc, true, List, [], ◌∷◌, ap, sym, ◌∙◌, inl, inr, arith}
+use Rattle.std.proofs.Common.{◌≡◌, ◌≤◌, ℕ, suc, true, [], ◌∷◌, ap, ◌∙◌, inl, inr, arith}
 use Rattle.std.specs.Cmp.{tied_itself}
 use Rattle.std.specs.Ordering.{is_eq, nat_cmp, ordering_then}
 use Rattle.std.specs.declared.cmp.Ordering.TheVariants.{Less}
 use Rattle.std.proofs.lemmas.Bool.Decides.{nat_tests}
 use Rattle.std.proofs.lemmas.Bool.{or_left, or_right}
-use Rattle.lattice_core.specs.Sets.{contains, items, union, from_list}
+use Rattle.lattice_core.specs.Sets.{contains, items, union}
 use Rattle.lattice_core.proofs.SetElements.{contains-from_list, contains-items, contains-union}
 use Rattle.road_scenario.specs.Counts.{greatest_count}
 use Rattle.road_scenario.specs.Edits.{Edits}

@@ -1,6 +1,6 @@
 -- The headline: a world that holds the winners of what events have made shows their runs, and refuses no question about
 -- a step that it has simulated.
-use Rattle.std.proofs.Common.{◌≡◌, ◌≤◌, ◌<◌, ℕ, List, length, Bool, true, false, Option, Some, None, refl, ap, sym, ◌∙◌, arith}
+use Rattle.std.proofs.Common.{◌≡◌, ◌≤◌, ◌<◌, ℕ, List, length, Bool, false, Some, None, refl, ap, sym, ◌∙◌, arith}
 use Rattle.std.specs.Prelude.{Result, nat_lt, not, if◌then◌else◌}
 use Rattle.std.specs.Option.{option_map}
 use Rattle.std.proofs.lemmas.Bool.Decides.{nat_tests}
@@ -17,7 +17,7 @@ use Rattle.road_sheet.specs.declared.faults.SheetFault.{SheetFault}
 use Rattle.road_sheet.specs.declared.faults.SheetFault.TheVariants as sheet_faults
 use Rattle.road_world.specs.Answers.{sheet_at}
 use Rattle.road_world.specs.Events.{World, WorldReplica, world_of_events, replica_after_events, world_of_winners}
-use Rattle.road_world.specs.Headline.{Headline, IsRight}
+use Rattle.road_world.specs.Headline.{Headline}
 use Rattle.road_world.specs.declared.event.Event.{Event}
 use Rattle.road_world.specs.declared.faults.WorldFault.{WorldFault}
 use Rattle.road_world.proofs.EventLists.{plan-of_events, replicas-of_winners}

@@ -10,7 +10,6 @@ use Rattle.std.proofs.lemmas.Option.{slice_get-map}
 use Rattle.lattice_core.specs.Sets.{items, union, from_list}
 use Rattle.road_plan.specs.Plan.{Plan}
 use Rattle.road_plan.specs.declared.object.Object.{Object}
-use Rattle.road_scenario.specs.Counts.{greatest_count}
 use Rattle.road_scenario.specs.Edits.{Edits}
 use Rattle.road_scenario.specs.Faults.{fault_of}
 use Rattle.road_scenario.specs.Instances.EditOrder.{winners_laws}
