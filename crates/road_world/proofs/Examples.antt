@@ -31,6 +31,7 @@ data ListMessage : Type 0 where
   Carried : List edits.Edit → ListMessage
   Asked : List Head → ListMessage
 
+-- its replicas, and the messages in the order in which they were made
 record ListWorld : Type 0 where
   replicas : List ListReplica
   messages : List ListMessage
@@ -117,6 +118,7 @@ replies_to w (e ∷ es) = reply_to w e ∷ replies_to (after e w) es
 abbrev winners_at : ℕ → List Event → List edits.Edit
 winners_at r es = winners_in (at (after_all es three) r).edits
 
+-- a stamp of a count and a number
 abbrev stamp : ℕ → ℕ → Stamp
 stamp count number = record { count = count; number = number }
 
@@ -149,16 +151,19 @@ later_count_is_more : replies_to three two_limits
     ≡ Stamped (stamp 1 0) ∷ Message 0 ∷ Touched (Some 3) ∷ Stamped (stamp 2 1) ∷ Message 1 ∷ Touched (Some 3) ∷ Touched None ∷ []
 later_count_is_more = refl
 
+-- the later one is what stays
 later_limit_wins : winners_at 2 two_limits ≡ edit (Limit 0) 3 2 1 (Put 2) ∷ []
 later_limit_wins = refl
 
--- limits made apart have the same count: the one of the greater number wins at both, in either order
+-- limits made apart have the same count, and each replica takes the other's
 abbrev apart : List Event
 apart = Edit 0 (Limit 0) 3 1 ∷ Edit 1 (Limit 0) 3 2 ∷ Send 0 ∷ Send 1 ∷ Take 0 1 ∷ Take 1 0 ∷ []
 
+-- the one of the greater number wins at the first replica,
 apart_agree : winners_at 0 apart ≡ edit (Limit 0) 3 1 1 (Put 2) ∷ []
 apart_agree = refl
 
+-- and at the second, which took them in the other order
 apart_agree_at_the_other : winners_at 1 apart ≡ edit (Limit 0) 3 1 1 (Put 2) ∷ []
 apart_agree_at_the_other = refl
 

@@ -42,6 +42,7 @@ count_at w r = greatest_count (replica_at w r).edits
 
 -- ---- counts grow
 
+-- a number is at most itself
 at_most_itself : (n : ℕ) → n ≤ n
 at_most_itself n = omega arith
 
@@ -145,6 +146,7 @@ above_before e w s a = record {
     still : (n m k : ℕ) → n ≤ m → m < k → n < k
     still n m k p q = omega arith
 
+-- so it is for each of a list
 all_above_before : (e : Event) (w : World) (ss : List Stamp) → AllByRecursion (IsAbove (world_after_event e w)) ss → AllByRecursion (IsAbove w) ss
 all_above_before e w [] all = tt
 all_above_before e w (s ∷ ss) all = (above_before e w s all.0, all_above_before e w ss all.1)
@@ -170,6 +172,7 @@ apart w s t held above = false_from_ne_true _ (λ h.
     greater_yet : (c d n m : ℕ) → c ≡ d → n ≡ m → c ≤ n → m < d → ⊥
     greater_yet c d n m p q held more = omega arith
 
+-- so it is none of a list of these
 all_apart : (w : World) (s : Stamp) (ss : List Stamp) → s.count ≤ count_at w s.number → AllByRecursion (IsAbove w) ss → AllByRecursion (λ t. is_same_stamp s t ≡ false) ss
 all_apart w s [] held all = tt
 all_apart w s (t ∷ ss) held all = (apart w s t held all.0, all_apart w s ss held all.1)
@@ -195,14 +198,17 @@ issued_distinct w (e ∷ events) (Err fault ∷ replies) h = issued_distinct w e
 abbrev IsOutside : Stamp → Type 0
 IsOutside s = FIRST_IMPORT_NUMBER ≤ s.number
 
+-- no cause of two
 none_of_both : (x y : Option ReplicaFault) → option_or x y ≡ None → (x ≡ None) × (y ≡ None)
 none_of_both None y h = (refl, h)
 none_of_both (Some f) y h = cc
 
+-- no cause by another name
 unmapped : (x : Option ReplicaFault) → option_map faults.Replica x ≡ None → x ≡ None
 unmapped None h = refl
 unmapped (Some f) h = cc
 
+-- a number for which no insider is named
 no_insider : (n : ℕ) → (if nat_lt n FIRST_IMPORT_NUMBER then Some Insider else None) ≡ None → FIRST_IMPORT_NUMBER ≤ n
 no_insider n h = by_test (nat_lt n FIRST_IMPORT_NUMBER) refl h
   where
@@ -218,6 +224,7 @@ imported_outside plan (e ∷ es) h =
     let here = none_of_both (option_map arrived_fault (fault_of plan e)) _ both.0 in
     (no_insider e.stamp.number here.1, imported_outside plan es both.1)
 
+-- what holds of each of two lists holds of each of both
 all_of_both : (P : Stamp → Type 0) (ss ts : List Stamp) → AllByRecursion P ss → AllByRecursion P ts → AllByRecursion P (ss ++ ts)
 all_of_both P [] ts p q = q
 all_of_both P (s ∷ ss) ts p q = (p.0, all_of_both P ss ts p.1 q)
@@ -256,6 +263,7 @@ not_imported s (t ∷ imports) inside all =
     on_both_sides : (n m : ℕ) → n ≡ m → n < FIRST_IMPORT_NUMBER → FIRST_IMPORT_NUMBER ≤ m → ⊥
     on_both_sides n m e p q = omega arith
 
+-- so it is for each stamp above a world
 none_of_imports : (w : World) (stamps imports : List Stamp) → length w.replicas ≤ FIRST_IMPORT_NUMBER → AllByRecursion (IsAbove w) stamps → AllByRecursion IsOutside imports
     → list_any (λ s. list_any (is_same_stamp s) imports) stamps ≡ false
 none_of_imports w [] imports few above outside = refl
@@ -266,7 +274,7 @@ none_of_imports w (s ∷ stamps) imports few above outside =
     below : (n m k : ℕ) → n < m → m ≤ k → n < k
     below n m k p q = omega arith
 
--- of a world of at most as many replicas as there may be, the stamps that are issued are fresh
+-- the stamps that a world issues are fresh, where it has as many replicas as it may
 pub stamps_are_fresh : (plan : Plan) (count : ℕ) (events : List Event) (replies : List (Result Reply WorldFault)) → count ≤ MOST_REPLICAS → AreAnswers (opening_world plan count) events replies
     → AreFresh (issued_stamps replies) (imported_stamps (accepted_events events replies))
 stamps_are_fresh plan count events replies few h = record {

@@ -1,5 +1,6 @@
 pub mod WinnersSuffice
 pub mod EventLists
+pub mod PlayedEvents
 pub mod HeadlineOfWinners
 pub mod GrowingCounts
 pub mod FreshStamps
