@@ -4,4 +4,5 @@ pub mod PlayedEvents
 pub mod HeadlineOfWinners
 pub mod GrowingCounts
 pub mod FreshStamps
+pub mod ListedWorlds
 pub mod Examples

@@ -55,15 +55,15 @@ winners_of_both_parts s t = sym (winners_laws.of_union s t)
 -- ---- replicas and messages
 
 -- a replica by its parts
-abbrev replica_with : Edits → ℕ → WorldReplica
+abbrev pub replica_with : Edits → ℕ → WorldReplica
 replica_with held to = record { edits = held; horizon = to }
 
 -- and a world by its
-abbrev world_with : Plan → List WorldReplica → List Message → World
+abbrev pub world_with : Plan → List WorldReplica → List Message → World
 world_with plan replicas messages = record { plan = plan; replicas = replicas; messages = messages }
 
 -- a world is the same where its replicas and its messages are
-same_world : (plan : Plan) (xs ys : List WorldReplica) (ms ns : List Message) → xs ≡ ys → ms ≡ ns → world_with plan xs ms ≡ world_with plan ys ns
+pub same_world : (plan : Plan) (xs ys : List WorldReplica) (ms ns : List Message) → xs ≡ ys → ms ≡ ns → world_with plan xs ms ≡ world_with plan ys ns
 same_world plan xs ys ms ns e f =
     ap (λ (zs : List WorldReplica). world_with plan zs ms) e ∙ ap (λ (os : List Message). world_with plan ys os) f
 
