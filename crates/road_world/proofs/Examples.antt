@@ -1,122 +1,45 @@
--- Worked lists of events, as equations that the check computes: the same events, with lists of edits in place of sets.
-use Rattle.std.specs.Prelude.{◌≡◌, ℕ, suc, max, List, [], ◌∷◌, ◌++◌, map, length, replicate, slice_set, refl}
-use Rattle.std.specs.List.{slice_index_or, slice_get, filter}
-use Rattle.std.specs.declared.option.Option.{Option}
+-- Worked lists of events: their answers, and the edits that they make reach a replica. Each is computed in the world of
+-- lists.
+use Rattle.std.specs.Prelude.{◌≡◌, ℕ, List, [], ◌∷◌, Result, refl}
 use Rattle.std.specs.declared.option.Option.TheVariants.{None, Some}
+use Rattle.std.specs.declared.result.Result.TheVariants.{Ok, Err}
+use Rattle.lattice_core.specs.Sets.{from_list}
+use Rattle.road_plan.specs.Plan.{Plan}
 use Rattle.road_plan.specs.declared.object.Object.{Object}
 use Rattle.road_plan.specs.declared.object.Object.TheVariants.{Limit, Block}
-use Rattle.road_scenario.specs.Counts.{greatest_count_in}
-use Rattle.road_scenario.specs.Touched.{touched_in}
-use Rattle.road_scenario.specs.Winners.{winners_in}
+use Rattle.road_plan.specs.declared.parts.WordKind.TheVariants.{Steady}
+use Rattle.road_scenario.specs.Edits.{Edits}
+use Rattle.road_scenario.specs.Winners.{winners}
 use Rattle.road_scenario.specs.declared.edit.Edit as edits
 use Rattle.road_scenario.specs.declared.edit.Stamp.{Stamp}
 use Rattle.road_scenario.specs.declared.edit.Value.{Value}
 use Rattle.road_scenario.specs.declared.edit.Value.TheVariants.{Withdrawn, Put}
-use Rattle.road_delta.specs.Deltas.{head_of, is_beyond}
-use Rattle.road_delta.specs.declared.heads.Head.{Head}
+use Rattle.road_replica.specs.declared.faults.ReplicaFault.TheVariants as replica_faults
 use Rattle.road_replica.specs.declared.reply.Reply.{Reply}
 use Rattle.road_replica.specs.declared.reply.Reply.TheVariants.{Stamped, Touched, Message, Horizon}
+use Rattle.road_world.specs.Answers.{AreAnswers}
+use Rattle.road_world.specs.Events.{opening_world, replica_after_events}
 use Rattle.road_world.specs.declared.event.Event.{Event}
-use Rattle.road_world.specs.declared.event.Event.TheVariants.{Edit, Withdraw, Import, Send, Heads, Beyond, Take, Advance}
+use Rattle.road_world.specs.declared.event.Event.TheVariants.{Edit, Withdraw, Send, Heads, Beyond, Take, Advance}
+use Rattle.road_world.specs.declared.faults.WorldFault.{WorldFault}
+use Rattle.road_world.specs.declared.faults.WorldFault.TheVariants.{NoReplica, NoMessage, Replica}
+use Rattle.road_world.proofs.ListedWorlds.{computed_answers, computed_edits, computed_winners}
 
--- ---- a world of lists
+-- twelve cells, the last one deleted, with one zone, one inlet at the first cell and one detector
+abbrev small : Plan
+small = record { cells = 12; exit = 1; width = 12; zones = (2, 0) ∷ []; inlets = (0, 65536) ∷ []; detectors = 5 ∷ []; words = Steady }
 
--- a replica that holds its edits in the order in which they came
-record ListReplica : Type 0 where
-  edits : List edits.Edit
-  horizon : ℕ
+-- answers to events
+abbrev EventAnswers : Type 0
+EventAnswers = List (Result Reply WorldFault)
 
--- a message of edits in some order, or of heads
-data ListMessage : Type 0 where
-  Carried : List edits.Edit → ListMessage
-  Asked : List Head → ListMessage
+-- that these are answers to events at three replicas of that plan
+abbrev AnswersOfThree : List Event → EventAnswers → Type 0
+AnswersOfThree events answers = AreAnswers (opening_world small 3) events answers
 
--- its replicas, and the messages in the order in which they were made
-record ListWorld : Type 0 where
-  replicas : List ListReplica
-  messages : List ListMessage
-
--- three replicas before any event
-abbrev three : ListWorld
-three = record { replicas = replicate 3 (record { edits = []; horizon = 0 }); messages = [] }
-
--- a replica of it
-abbrev at : ListWorld → ℕ → ListReplica
-at w r = slice_index_or w.replicas r (record { edits = []; horizon = 0 })
-
--- the edit that a replica makes
-abbrev made : ListWorld → ℕ → Object → ℕ → Value → edits.Edit
-made w r o step v = record {
-  object = o;
-  step = step;
-  stamp = record { count = suc (greatest_count_in (at w r).edits); number = r };
-  value = v;
-}
-
--- the world after edits reached a replica
-abbrev with_edits : ℕ → List edits.Edit → ListWorld → ListWorld
-with_edits r es w =
-    let reached = record (at w r) { edits = (at w r).edits ++ es } in
-    record w { replicas = slice_set w.replicas r reached }
-
--- the world with a message more
-abbrev with_message : ListMessage → ListWorld → ListWorld
-with_message m w = record w { messages = w.messages ++ m ∷ [] }
-
--- the edits that a message carries
-abbrev carried : Option ListMessage → List edits.Edit
-carried (Some (Carried es)) = es
-carried (Some (Asked hs)) = []
-carried None = []
-
--- the heads with which a message asks
-abbrev asked : Option ListMessage → List Head
-asked (Some (Carried es)) = []
-asked (Some (Asked hs)) = hs
-asked None = []
-
--- the world after an event
-abbrev after : Event → ListWorld → ListWorld
-after (Edit r o step n) w = with_edits r (made w r o step (Put n) ∷ []) w
-after (Withdraw r o step) w = with_edits r (made w r o step Withdrawn ∷ []) w
-after (Import r es) w = with_edits r es.items w
-after (Send r) w = with_message (Carried (at w r).edits) w
-after (Heads r) w = with_message (Asked (map head_of (winners_in (at w r).edits))) w
-after (Beyond r m) w =
-    with_message (Carried (filter (is_beyond (asked (slice_get w.messages m))) (winners_in (at w r).edits))) w
-after (Take r m) w = with_edits r (carried (slice_get w.messages m)) w
-after (Advance r to) w =
-    let advanced = record (at w r) { horizon = max (at w r).horizon to } in
-    record w { replicas = slice_set w.replicas r advanced }
-
--- the first step that edits touch where they reach a replica
-abbrev touched_there : ListWorld → ℕ → List edits.Edit → Reply
-touched_there w r es = Touched (touched_in (winners_in (at w r).edits) (winners_in ((at w r).edits ++ es)))
-
--- what an event is answered
-abbrev reply_to : ListWorld → Event → Reply
-reply_to w (Edit r o step n) = Stamped (made w r o step (Put n)).stamp
-reply_to w (Withdraw r o step) = Stamped (made w r o step Withdrawn).stamp
-reply_to w (Import r es) = touched_there w r es.items
-reply_to w (Send r) = Message (length w.messages)
-reply_to w (Heads r) = Message (length w.messages)
-reply_to w (Beyond r m) = Message (length w.messages)
-reply_to w (Take r m) = touched_there w r (carried (slice_get w.messages m))
-reply_to w (Advance r to) = Horizon (max (at w r).horizon to)
-
--- the world after some events
-abbrev after_all : List Event → ListWorld → ListWorld
-after_all [] w = w
-after_all (e ∷ es) w = after_all es (after e w)
-
--- what some events are answered
-abbrev replies_to : ListWorld → List Event → List Reply
-replies_to w [] = []
-replies_to w (e ∷ es) = reply_to w e ∷ replies_to (after e w) es
-
--- what a replica shows of some events: the winners of the edits that reached it
-abbrev winners_at : ℕ → List Event → List edits.Edit
-winners_at r es = winners_in (at (after_all es three) r).edits
+-- the edits that they made reach a replica
+abbrev reached : List Event → EventAnswers → ℕ → Edits
+reached events answers r = (replica_after_events small 3 events answers r).edits
 
 -- a stamp of a count and a number
 abbrev stamp : ℕ → ℕ → Stamp
@@ -132,13 +55,16 @@ edit o step count number v = record { object = o; step = step; stamp = stamp cou
 abbrev withdrawal : List Event
 withdrawal = Edit 0 (Block 8) 4 1 ∷ Send 0 ∷ Withdraw 0 (Block 8) 4 ∷ Take 0 0 ∷ []
 
--- the block that comes back touches nothing,
-older_block_touches_nothing : replies_to three withdrawal ≡ Stamped (stamp 1 0) ∷ Message 0 ∷ Stamped (stamp 2 0) ∷ Touched None ∷ []
-older_block_touches_nothing = refl
+-- the block that comes back touches nothing
+abbrev withdrawal_answers : EventAnswers
+withdrawal_answers = Ok (Stamped (stamp 1 0)) ∷ Ok (Message 0) ∷ Ok (Stamped (stamp 2 0)) ∷ Ok (Touched None) ∷ []
 
--- and the withdrawal is what stays
-withdrawal_stays : winners_at 0 withdrawal ≡ edit (Block 8) 4 2 0 Withdrawn ∷ []
-withdrawal_stays = refl
+older_block_touches_nothing : AnswersOfThree withdrawal withdrawal_answers
+older_block_touches_nothing = computed_answers small 3 withdrawal withdrawal_answers refl
+
+-- the withdrawal is what stays
+withdrawal_stays : winners (reached withdrawal withdrawal_answers 0) ≡ from_list (edit (Block 8) 4 2 0 Withdrawn ∷ [])
+withdrawal_stays = computed_winners small 3 withdrawal withdrawal_answers refl 0 _ refl
 
 -- ---- the later edit wins
 
@@ -147,25 +73,38 @@ abbrev two_limits : List Event
 two_limits = Edit 0 (Limit 0) 3 1 ∷ Send 0 ∷ Take 1 0 ∷ Edit 1 (Limit 0) 3 2 ∷ Send 1 ∷ Take 2 1 ∷ Take 2 0 ∷ []
 
 -- the later one's count is one more, and the earlier one touches nothing after it
-later_count_is_more : replies_to three two_limits
-    ≡ Stamped (stamp 1 0) ∷ Message 0 ∷ Touched (Some 3) ∷ Stamped (stamp 2 1) ∷ Message 1 ∷ Touched (Some 3) ∷ Touched None ∷ []
-later_count_is_more = refl
+abbrev two_limits_answers : EventAnswers
+two_limits_answers =
+    Ok (Stamped (stamp 1 0)) ∷ Ok (Message 0) ∷ Ok (Touched (Some 3)) ∷ Ok (Stamped (stamp 2 1))
+    ∷ Ok (Message 1) ∷ Ok (Touched (Some 3)) ∷ Ok (Touched None) ∷ []
+
+later_count_is_more : AnswersOfThree two_limits two_limits_answers
+later_count_is_more = computed_answers small 3 two_limits two_limits_answers refl
 
 -- the later one is what stays
-later_limit_wins : winners_at 2 two_limits ≡ edit (Limit 0) 3 2 1 (Put 2) ∷ []
-later_limit_wins = refl
+later_limit_wins : winners (reached two_limits two_limits_answers 2) ≡ from_list (edit (Limit 0) 3 2 1 (Put 2) ∷ [])
+later_limit_wins = computed_winners small 3 two_limits two_limits_answers refl 2 _ refl
 
 -- limits made apart have the same count, and each replica takes the other's
-abbrev apart : List Event
-apart = Edit 0 (Limit 0) 3 1 ∷ Edit 1 (Limit 0) 3 2 ∷ Send 0 ∷ Send 1 ∷ Take 0 1 ∷ Take 1 0 ∷ []
+abbrev made_apart : List Event
+made_apart = Edit 0 (Limit 0) 3 2 ∷ Edit 1 (Limit 0) 3 1 ∷ Send 0 ∷ Send 1 ∷ Take 0 1 ∷ Take 1 0 ∷ []
 
--- the one of the greater number wins at the first replica,
-apart_agree : winners_at 0 apart ≡ edit (Limit 0) 3 1 1 (Put 2) ∷ []
-apart_agree = refl
+-- the one of the greater number touches the first replica, the other one touches nothing at the second
+abbrev made_apart_answers : EventAnswers
+made_apart_answers =
+    Ok (Stamped (stamp 1 0)) ∷ Ok (Stamped (stamp 1 1)) ∷ Ok (Message 0) ∷ Ok (Message 1)
+    ∷ Ok (Touched (Some 3)) ∷ Ok (Touched None) ∷ []
 
--- and at the second, which took them in the other order
-apart_agree_at_the_other : winners_at 1 apart ≡ edit (Limit 0) 3 1 1 (Put 2) ∷ []
-apart_agree_at_the_other = refl
+greater_number_touches : AnswersOfThree made_apart made_apart_answers
+greater_number_touches = computed_answers small 3 made_apart made_apart_answers refl
+
+-- it wins at the first replica,
+greater_number_wins : winners (reached made_apart made_apart_answers 0) ≡ from_list (edit (Limit 0) 3 1 1 (Put 1) ∷ [])
+greater_number_wins = computed_winners small 3 made_apart made_apart_answers refl 0 _ refl
+
+-- and at the second, which they reached in the other order
+greater_number_wins_there : winners (reached made_apart made_apart_answers 1) ≡ from_list (edit (Limit 0) 3 1 1 (Put 1) ∷ [])
+greater_number_wins_there = computed_winners small 3 made_apart made_apart_answers refl 1 _ refl
 
 -- ---- heads, and what lies beyond them
 
@@ -176,17 +115,50 @@ asking =
     ∷ Heads 1 ∷ Beyond 0 1 ∷ Take 2 2 ∷ Take 1 2 ∷ Take 1 2 ∷ []
 
 -- taken again it touches nothing
-answer_taken : replies_to three asking
-    ≡ Stamped (stamp 1 0) ∷ Stamped (stamp 2 0) ∷ Message 0 ∷ Touched (Some 3) ∷ Stamped (stamp 3 1) ∷ Stamped (stamp 3 0)
-    ∷ Message 1 ∷ Message 2 ∷ Touched (Some 4) ∷ Touched (Some 5) ∷ Touched None ∷ []
-answer_taken = refl
+abbrev asking_answers : EventAnswers
+asking_answers =
+    Ok (Stamped (stamp 1 0)) ∷ Ok (Stamped (stamp 2 0)) ∷ Ok (Message 0) ∷ Ok (Touched (Some 3))
+    ∷ Ok (Stamped (stamp 3 1)) ∷ Ok (Stamped (stamp 3 0)) ∷ Ok (Message 1) ∷ Ok (Message 2)
+    ∷ Ok (Touched (Some 4)) ∷ Ok (Touched (Some 5)) ∷ Ok (Touched None) ∷ []
+
+again_touches_nothing : AnswersOfThree asking asking_answers
+again_touches_nothing = computed_answers small 3 asking asking_answers refl
 
 -- the third replica has the edits that the answer lists, and no more: not the limit that the asker has exceeded
-edits_of_the_answer : (at (after_all asking three) 2).edits ≡ edit (Block 8) 4 2 0 (Put 1) ∷ edit (Limit 0) 5 3 0 (Put 0) ∷ []
-edits_of_the_answer = refl
+just_the_answer : reached asking asking_answers 2
+    ≡ from_list (edit (Block 8) 4 2 0 (Put 1) ∷ edit (Limit 0) 5 3 0 (Put 0) ∷ [])
+just_the_answer = computed_edits small 3 asking asking_answers refl 2 _ refl
 
 -- ---- horizons
 
--- a horizon is the greatest step to which its replica was advanced
-farthest_advance : replies_to three (Advance 0 100 ∷ Advance 0 40 ∷ Advance 1 40 ∷ []) ≡ Horizon 100 ∷ Horizon 100 ∷ Horizon 40 ∷ []
-farthest_advance = refl
+-- a replica is advanced, and then not so far
+abbrev advances : List Event
+advances = Advance 0 100 ∷ Advance 0 40 ∷ Advance 1 40 ∷ Advance 2 65537 ∷ []
+
+-- its horizon is the greatest step to which it was advanced
+abbrev advances_answers : EventAnswers
+advances_answers =
+    Ok (Horizon 100) ∷ Ok (Horizon 100) ∷ Ok (Horizon 40) ∷ Err (Replica replica_faults.Horizon) ∷ []
+
+greatest_step_counts : AnswersOfThree advances advances_answers
+greatest_step_counts = computed_answers small 3 advances advances_answers refl
+
+-- ---- what is refused is not done
+
+-- no such replica, no such message, a message of the wrong kind, no such zone; then a limit
+abbrev refusals : List Event
+refusals =
+    Edit 3 (Limit 0) 3 1 ∷ Take 0 0 ∷ Heads 0 ∷ Take 1 0 ∷ Send 1 ∷ Beyond 0 1 ∷ Edit 0 (Limit 1) 3 1 ∷ Edit 0 (Limit 0) 3 1 ∷ []
+
+-- only what is accepted has a message's number, or a count
+abbrev refusals_answers : EventAnswers
+refusals_answers =
+    Err NoReplica ∷ Err NoMessage ∷ Ok (Message 0) ∷ Err NoMessage ∷ Ok (Message 1) ∷ Err NoMessage
+    ∷ Err (Replica replica_faults.NoObject) ∷ Ok (Stamped (stamp 1 0)) ∷ []
+
+refused_by_name : AnswersOfThree refusals refusals_answers
+refused_by_name = computed_answers small 3 refusals refusals_answers refl
+
+-- the limit alone has reached the first replica
+refused_is_not_done : reached refusals refusals_answers 0 ≡ from_list (edit (Limit 0) 3 1 0 (Put 1) ∷ [])
+refused_is_not_done = computed_edits small 3 refusals refusals_answers refl 0 _ refl
