@@ -1,6 +1,6 @@
 -- Lists of events: what one event more makes of the world, of the answers and of the crew's count, and what stays.
-use Rattle.std.proofs.Common.{◌≡◌, ℕ, suc, zero, List, [], ◌∷◌, ◌++◌, length, refl, ap, sym, ◌∙◌}
-use Rattle.std.specs.Prelude.{replicate, Result}
+use Rattle.std.proofs.Common.{◌≡◌, ℕ, suc, List, [], ◌∷◌, ◌++◌, length, refl, ap, ◌∙◌}
+use Rattle.std.specs.Prelude.{Result}
 use Rattle.std.specs.declared.result.Result.TheVariants.{Ok, Err}
 use Rattle.std.proofs.lemmas.List.{length-set, length-replicate, length-map}
 use Rattle.road_plan.specs.Plan.{Plan}
@@ -12,12 +12,13 @@ use Rattle.road_world.specs.declared.event.Event.TheVariants.{Edit, Withdraw, Im
 use Rattle.road_world.specs.declared.faults.WorldFault.{WorldFault}
 
 -- the answer to an event: a reply, or why it is refused
-abbrev Reply1 : Type 0
-Reply1 = Result Reply WorldFault
+abbrev EventAnswer : Type 0
+EventAnswer = Result Reply WorldFault
 
 -- ---- as many answers as events
 
-pub as_many : (w : World) (events : List Event) (replies : List Reply1) → AreAnswers w events replies → length replies ≡ length events
+-- each event has one answer
+pub as_many : (w : World) (events : List Event) (replies : List EventAnswer) → AreAnswers w events replies → length replies ≡ length events
 as_many w [] [] h = refl
 as_many w [] (reply ∷ replies) h = absurd h
 as_many w (event ∷ events) [] h = absurd h
@@ -26,7 +27,7 @@ as_many w (event ∷ events) (reply ∷ replies) h = ap suc (as_many (world_afte
 -- ---- one event more
 
 -- the world after the accepted ones among some events and one more
-pub world-one_more : (w : World) (events : List Event) (replies : List Reply1) (event : Event) (reply : Reply1) → AreAnswers w events replies
+pub world-one_more : (w : World) (events : List Event) (replies : List EventAnswer) (event : Event) (reply : EventAnswer) → AreAnswers w events replies
     → world_after_events (accepted_events (events ++ event ∷ []) (replies ++ reply ∷ [])) w ≡ world_after_answer event reply (world_after_events (accepted_events events replies) w)
 world-one_more w [] [] event (Ok reply) h = refl
 world-one_more w [] [] event (Err fault) h = refl
@@ -37,7 +38,7 @@ world-one_more w (first ∷ events) (Ok past ∷ replies) event reply h =
 world-one_more w (first ∷ events) (Err fault ∷ replies) event reply h = world-one_more w events replies event reply h.1
 
 -- the answers to some events, and then the answer to one more in the world after them
-pub answers-one_more : (w : World) (events : List Event) (replies : List Reply1) (event : Event) (reply : Reply1) → AreAnswers w events replies
+pub answers-one_more : (w : World) (events : List Event) (replies : List EventAnswer) (event : Event) (reply : EventAnswer) → AreAnswers w events replies
     → IsAnswer (world_after_events (accepted_events events replies) w) event reply → AreAnswers w (events ++ event ∷ []) (replies ++ reply ∷ [])
 answers-one_more w [] [] event reply h a = (a, tt)
 answers-one_more w [] (past ∷ replies) event reply h a = absurd h
@@ -48,12 +49,13 @@ answers-one_more w (first ∷ events) (Err fault ∷ replies) event reply h a =
     (h.0, answers-one_more w events replies event reply h.1 a)
 
 -- how often the crew has answered that workers are gone
-pub gone-one_more : (replies : List Reply1) (reply : Reply1) (n : ℕ) → gone_after_answers (replies ++ reply ∷ []) n ≡ gone_after_answer reply (gone_after_answers replies n)
+pub gone-one_more : (replies : List EventAnswer) (reply : EventAnswer) (n : ℕ) → gone_after_answers (replies ++ reply ∷ []) n ≡ gone_after_answer reply (gone_after_answers replies n)
 gone-one_more [] reply n = refl
 gone-one_more (past ∷ replies) reply n = gone-one_more replies reply (gone_after_answer past n)
 
 -- ---- what stays
 
+-- an event keeps the plan
 plan-after_event : (event : Event) (w : World) → (world_after_event event w).plan ≡ w.plan
 plan-after_event (Edit r object step number) w = refl
 plan-after_event (Withdraw r object step) w = refl
@@ -89,16 +91,16 @@ replicas-after_events (event ∷ events) w =
 -- ---- from a world's opening on
 
 -- the world that events make has the plan that was given,
-pub plan-of_events : (plan : Plan) (count : ℕ) (events : List Event) (replies : List Reply1) → (world_of_events plan count events replies).plan ≡ plan
+pub plan-of_events : (plan : Plan) (count : ℕ) (events : List Event) (replies : List EventAnswer) → (world_of_events plan count events replies).plan ≡ plan
 plan-of_events plan count events replies = plan-after_events (accepted_events events replies) (opening_world plan count)
 
 -- and as many replicas as were asked for,
-pub replicas-of_events : (plan : Plan) (count : ℕ) (events : List Event) (replies : List Reply1) → length (world_of_events plan count events replies).replicas ≡ count
+pub replicas-of_events : (plan : Plan) (count : ℕ) (events : List Event) (replies : List EventAnswer) → length (world_of_events plan count events replies).replicas ≡ count
 replicas-of_events plan count events replies =
     replicas-after_events (accepted_events events replies) (opening_world plan count) ∙ length-replicate count opening_replica
 
 -- also with the winners alone
-pub replicas-of_winners : (plan : Plan) (count : ℕ) (events : List Event) (replies : List Reply1) → length (world_of_winners (world_of_events plan count events replies)).replicas ≡ count
+pub replicas-of_winners : (plan : Plan) (count : ℕ) (events : List Event) (replies : List EventAnswer) → length (world_of_winners (world_of_events plan count events replies)).replicas ≡ count
 replicas-of_winners plan count events replies =
     length-map (world_of_events plan count events replies).replicas replica_of_winners
     ∙ replicas-of_events plan count events replies

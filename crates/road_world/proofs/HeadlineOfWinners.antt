@@ -1,6 +1,6 @@
 -- The headline: a world that holds the winners of what events have made shows their runs, and refuses no question about
 -- a step that it has simulated.
-use Rattle.std.proofs.Common.{◌≡◌, ◌≤◌, ◌<◌, ℕ, List, length, Bool, true, false, Option, Some, None, refl, ap, sym, ◌∙◌, arith}
+use Rattle.std.proofs.Common.{◌≡◌, ◌≤◌, ◌<◌, ℕ, List, length, Bool, false, Some, None, refl, ap, sym, ◌∙◌, arith}
 use Rattle.std.specs.Prelude.{Result, nat_lt, not, if◌then◌else◌}
 use Rattle.std.specs.Option.{option_map}
 use Rattle.std.proofs.lemmas.Bool.Decides.{nat_tests}
@@ -17,7 +17,7 @@ use Rattle.road_sheet.specs.declared.faults.SheetFault.{SheetFault}
 use Rattle.road_sheet.specs.declared.faults.SheetFault.TheVariants as sheet_faults
 use Rattle.road_world.specs.Answers.{sheet_at}
 use Rattle.road_world.specs.Events.{World, WorldReplica, world_of_events, replica_after_events, world_of_winners}
-use Rattle.road_world.specs.Headline.{Headline, IsRight}
+use Rattle.road_world.specs.Headline.{Headline}
 use Rattle.road_world.specs.declared.event.Event.{Event}
 use Rattle.road_world.specs.declared.faults.WorldFault.{WorldFault}
 use Rattle.road_world.proofs.EventLists.{plan-of_events, replicas-of_winners}
@@ -25,20 +25,24 @@ use Rattle.road_world.proofs.WinnersSuffice.{replica-of_winners}
 
 -- ---- questions that are not refused
 
+-- a step up to the horizon is not above it
 not_above : (step horizon : ℕ) → step ≤ horizon → nat_lt horizon step ≡ false
 not_above step horizon below = grind (arith, nat_tests)
 
+-- a number below another is not outside of it
 within : (n m : ℕ) → n < m → not (nat_lt n m) ≡ false
 within n m below = grind (arith, nat_tests)
 
--- no test names a cause
+-- where each test fails, no cause is named: of three,
 none_of_three : (a b c : Bool) (x y z : SheetFault) → a ≡ false → b ≡ false → c ≡ false
     → option_map question_fault (if a then Some x else (if b then Some y else (if c then Some z else None))) ≡ None
 none_of_three a b c x y z p q r = rw p (rw q (rw r refl))
 
+-- of two,
 none_of_two : (a b : Bool) (x y : ReplicaFault) → a ≡ false → b ≡ false → (if a then Some x else (if b then Some y else None)) ≡ None
 none_of_two a b x y p q = rw p (rw q refl)
 
+-- of one
 none_of_one : (a : Bool) (x : SheetFault) → a ≡ false → option_map question_fault (if a then Some x else None) ≡ None
 none_of_one a x p = rw p refl
 
@@ -68,6 +72,7 @@ module _ (plan : Plan) (count : ℕ) (events : List Event) (replies : List (Resu
   abbrev shown : ℕ → Sheet
   shown r = record { plan = plan; edits = winners (past r).edits; horizon = (past r).horizon }
 
+  -- each replica's sheet is that one
   sheet_is : (r : ℕ) → sheet_at world r ≡ shown r
   sheet_is r =
       let made = world_of_events plan count events replies in

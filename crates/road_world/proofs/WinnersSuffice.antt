@@ -10,7 +10,6 @@ use Rattle.std.proofs.lemmas.Option.{slice_get-map}
 use Rattle.lattice_core.specs.Sets.{items, union, from_list}
 use Rattle.road_plan.specs.Plan.{Plan}
 use Rattle.road_plan.specs.declared.object.Object.{Object}
-use Rattle.road_scenario.specs.Counts.{greatest_count}
 use Rattle.road_scenario.specs.Edits.{Edits}
 use Rattle.road_scenario.specs.Faults.{fault_of}
 use Rattle.road_scenario.specs.Instances.EditOrder.{winners_laws}
@@ -55,15 +54,16 @@ winners_of_both_parts s t = sym (winners_laws.of_union s t)
 
 -- ---- replicas and messages
 
--- a replica, a message's edits, a world by their parts
-abbrev replica_with : Edits → ℕ → WorldReplica
+-- a replica by its parts
+abbrev pub replica_with : Edits → ℕ → WorldReplica
 replica_with held to = record { edits = held; horizon = to }
 
-abbrev world_with : Plan → List WorldReplica → List Message → World
+-- and a world by its
+abbrev pub world_with : Plan → List WorldReplica → List Message → World
 world_with plan replicas messages = record { plan = plan; replicas = replicas; messages = messages }
 
 -- a world is the same where its replicas and its messages are
-same_world : (plan : Plan) (xs ys : List WorldReplica) (ms ns : List Message) → xs ≡ ys → ms ≡ ns → world_with plan xs ms ≡ world_with plan ys ns
+pub same_world : (plan : Plan) (xs ys : List WorldReplica) (ms ns : List Message) → xs ≡ ys → ms ≡ ns → world_with plan xs ms ≡ world_with plan ys ns
 same_world plan xs ys ms ns e f =
     ap (λ (zs : List WorldReplica). world_with plan zs ms) e ∙ ap (λ (os : List Message). world_with plan ys os) f
 
@@ -93,12 +93,13 @@ replicas_again (x ∷ xs) =
     ap (λ (s : Edits). replica_with s x.horizon ∷ map replica_of_winners (map replica_of_winners xs)) (winners_again x.edits)
     ∙ ap (λ (ys : List WorldReplica). replica_of_winners x ∷ ys) (replicas_again xs)
 
+-- a message of winners is that of theirs
 message_again : (m : Message) → message_of_winners (message_of_winners m) ≡ message_of_winners m
 message_again (Whole s) = ap Whole (winners_again s)
 message_again (Answer s) = ap Answer (winners_again s)
 message_again (Asked hs) = refl
 
--- and messages of winners those of theirs
+-- so are messages
 messages_again : (ms : List Message) → map message_of_winners (map message_of_winners ms) ≡ map message_of_winners ms
 messages_again [] = refl
 messages_again (m ∷ ms) =
@@ -109,6 +110,7 @@ messages_again (m ∷ ms) =
 pub world-again : (w : World) → world_of_winners (world_of_winners w) ≡ world_of_winners w
 world-again w = same_world w.plan _ _ _ _ (replicas_again w.replicas) (messages_again w.messages)
 
+-- so are the winners of several
 opening_replicas : (count : ℕ) → map replica_of_winners (replicate count opening_replica) ≡ replicate count opening_replica
 opening_replicas zero = refl
 opening_replicas (suc count) =
@@ -144,6 +146,7 @@ local_edit-of_winners w r o step v =
     ap (λ (x : WorldReplica). local_edit r x.edits o step v) (replica-of_winners w r)
     ∙ ap (λ (n : ℕ). let e : edits.Edit = record { object = o; step = step; stamp = record { count = suc n; number = r }; value = v } in e) (greatest_count-winners (replica_at w r).edits)
 
+-- a replica makes an edit
 made-of_winners : (w : World) (r : ℕ) (o : Object) (step : ℕ) (v : Value) → world_of_winners (world_with_local_edit r o step v (world_of_winners w)) ≡ world_of_winners (world_with_local_edit r o step v w)
 made-of_winners w r o step v =
     let made : edits.Edit = local_edit r (replica_at w r).edits o step v in
@@ -159,12 +162,14 @@ message-of_winners w m n e =
     ∙ ap (λ (k : Message). map message_of_winners w.messages ++ k ∷ []) e
     ∙ sym (map-append message_of_winners w.messages (n ∷ [])))
 
+-- if there is a message, it carries the winners; if there is none, it carries none
 carried_by_winners : (o : Option Message) → carried_edits (option_map message_of_winners o) ≡ winners (carried_edits o)
 carried_by_winners None = sym winners-empty
 carried_by_winners (Some (Whole s)) = refl
 carried_by_winners (Some (Answer s)) = refl
 carried_by_winners (Some (Asked hs)) = sym winners-empty
 
+-- a message asks with the same heads
 asked_by_winners : (o : Option Message) → asked_heads (option_map message_of_winners o) ≡ asked_heads o
 asked_by_winners None = refl
 asked_by_winners (Some (Whole s)) = refl
@@ -181,6 +186,7 @@ pub asked-of_winners : (w : World) (m : ℕ) → asked_heads (slice_get (world_o
 asked-of_winners w m =
     ap asked_heads (slice_get-map message_of_winners w.messages m) ∙ asked_by_winners (slice_get w.messages m)
 
+-- a message reaches a replica
 taken-of_winners : (w : World) (r m : ℕ) → world_of_winners (world_with_edits r (carried_edits (slice_get (world_of_winners w).messages m)) (world_of_winners w)) ≡ world_of_winners (world_with_edits r (carried_edits (slice_get w.messages m)) w)
 taken-of_winners w r m =
     let carried : Edits = carried_edits (slice_get w.messages m) in
@@ -223,9 +229,11 @@ touched_reply-of_winners w r s t e =
     ∙ ap (λ (u : Edits). replies.Touched (touched_in (items u) (items (winners (union (winners (replica_at w r).edits) s))))) (winners_again (replica_at w r).edits)
     ∙ ap (λ (u : Edits). replies.Touched (touched_in (items (winners (replica_at w r).edits)) (items u))) e
 
+-- the stamp of the edit that a replica makes
 stamp_reply-of_winners : (w : World) (r : ℕ) (o : Object) (step : ℕ) (v : Value) → stamp_reply (world_of_winners w) r o step v ≡ stamp_reply w r o step v
 stamp_reply-of_winners w r o step v = ap (λ (e : edits.Edit). replies.Stamped e.stamp) (local_edit-of_winners w r o step v)
 
+-- the number of the message that is made
 message_reply-of_winners : (w : World) → replies.Message (length (world_of_winners w).messages) ≡ replies.Message (length w.messages)
 message_reply-of_winners w = ap replies.Message (length-map w.messages message_of_winners)
 
@@ -246,23 +254,27 @@ reply-of_winners (Advance r to) w = ap (λ (x : WorldReplica). replies.Horizon (
 
 -- ---- for which cause it is refused
 
+-- a message of winners carries edits where the message does
 edits_wanted_of_winners : (o : Option Message) → edits_wanted_fault (option_map message_of_winners o) ≡ edits_wanted_fault o
 edits_wanted_of_winners None = refl
 edits_wanted_of_winners (Some (Whole s)) = refl
 edits_wanted_of_winners (Some (Answer s)) = refl
 edits_wanted_of_winners (Some (Asked hs)) = refl
 
+-- and heads where the message has heads
 heads_wanted_of_winners : (o : Option Message) → heads_wanted_fault (option_map message_of_winners o) ≡ heads_wanted_fault o
 heads_wanted_of_winners None = refl
 heads_wanted_of_winners (Some (Whole s)) = refl
 heads_wanted_of_winners (Some (Answer s)) = refl
 heads_wanted_of_winners (Some (Asked hs)) = refl
 
+-- the edit that a replica would make has the same fault
 made_fault-of_winners : (w : World) (r : ℕ) (o : Object) (step : ℕ) (v : Value)
     → option_map faults.Replica (option_map made_fault (fault_of w.plan (local_edit r (replica_at (world_of_winners w) r).edits o step v))) ≡ option_map faults.Replica (option_map made_fault (fault_of w.plan (local_edit r (replica_at w r).edits o step v)))
 made_fault-of_winners w r o step v =
     ap (λ (e : edits.Edit). option_map faults.Replica (option_map made_fault (fault_of w.plan e))) (local_edit-of_winners w r o step v)
 
+-- where there is such a replica, an event is refused for the same cause
 fault_at-of_winners : (e : Event) (w : World) → fault_at_replica (world_of_winners w) e ≡ fault_at_replica w e
 fault_at-of_winners (Edit r o step n) w = made_fault-of_winners w r o step (Put n)
 fault_at-of_winners (Withdraw r o step) w = made_fault-of_winners w r o step Withdrawn

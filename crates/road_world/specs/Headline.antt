@@ -1,7 +1,7 @@
 -- The headline: for every list of events, each replica's scenario is the winners of the edits that reached it, and at
 -- every step that it has simulated each cell and each detector count is that of one worker's run of those winners from
 -- step zero; so replicas that the same edits reached agree at every step that both have simulated.
-use Rattle.std.specs.Prelude.{◌≡◌, ◌<◌, ◌≤◌, ℕ, List, length, false}
+use Rattle.std.specs.Prelude.{◌≡◌, ◌<◌, ◌≤◌, ℕ, length, false}
 use Rattle.std.specs.declared.option.Option.{Option}
 use Rattle.std.specs.declared.option.Option.TheVariants.{None}
 use Rattle.road_plan.specs.Plan.{Plan}
