@@ -1,24 +1,28 @@
 -- What a delta leaves out, and what is joined where it is sent.
 use Rattle.std.specs.Prelude.{◌≡◌, ◌||◌, ◌&&◌, not, Bool, true, false, List, [], ◌∷◌, map, refl}
-use Rattle.std.specs.List.{list_any}
+use Rattle.std.specs.List.{list_any, filter}
 use Rattle.std.specs.declared.cmp.Ordering.{Ordering}
 use Rattle.std.specs.declared.cmp.Ordering.TheVariants.{Less, Equal, Greater}
 use Rattle.std.specs.Ordering.{is_eq, is_lt, ordering_then, nat_cmp}
+use Rattle.std.specs.Cmp.{tied_itself}
 use Rattle.std.proofs.Common.{sym, ap, ◌∙◌, inl, inr}
-use Rattle.std.proofs.lemmas.Bool.{true≢false, or_parts, and_parts, and_from, not_from_false, not-false, cases_Bool}
-use Rattle.lattice_core.specs.Sets.{contains, items}
+use Rattle.std.proofs.lemmas.Bool.{true≢false, or_parts, and_parts, and_from, not_from_false, not-false, cases_Bool, or_right}
+use Rattle.lattice_core.specs.Sets.{contains, from_list, items}
 use Rattle.lattice_core.specs.Tops.{IsTop}
-use Rattle.lattice_core.proofs.SetElements.{contains-items, contains-retain}
+use Rattle.lattice_core.proofs.SetElements.{contains-from_list, contains-items, contains-retain, same_set}
 use Rattle.lattice_core.proofs.GreatestElements.{any_gives, any_by, same_elements}
 use Rattle.road_scenario.specs.declared.edit.Edit.{Edit}
 use Rattle.road_scenario.specs.Edits.{Edits, is_exceeded_by, edit_place, number_triple_cmp, number_pair_cmp, stamp_key, value_key}
-use Rattle.road_scenario.specs.Instances.EditOrder.{edit_total, edit_exact, winners_laws}
+use Rattle.road_plan.specs.Plan.{Plan}
+use Rattle.road_scenario.specs.Faults.{AreInRange}
+use Rattle.road_scenario.proofs.EditMembers.{any-filter}
+use Rattle.road_scenario.specs.Instances.EditOrder.{edit_total, edit_exact, number_pair_total, number_triple_total, winners_laws}
 use Rattle.road_scenario.specs.Winners.{winners, join}
 use Rattle.road_delta.specs.declared.heads.Head.{Head}
 use Rattle.road_delta.specs.Deltas.{head_of, heads, is_head_at, is_stamp_above, is_beyond, beyond, IsBehind}
 
 -- whether a head is of an edit's object and step, with no greater stamp
-abbrev is_head_reached : Edit → Head → Bool
+abbrev pub is_head_reached : Edit → Head → Bool
 is_head_reached e h = is_head_at e h && not (is_stamp_above e h)
 
 -- a test of heads is a test of their edits
@@ -76,3 +80,23 @@ winners-beyond t hs won = same_elements edit_total edit_exact _ _
     (λ e inside.
       let top : IsTop is_exceeded_by t e = (winners_laws.members t e).0 (ap (λ (s : Edits). contains s e) won ∙ from_set t hs e inside) in
       (winners_laws.members (beyond t hs) e).1 (record { inside = inside; none = λ f i. top.none f (from_set t hs f i) }))
+
+-- what is beyond heads of a list is the delta of its set
+pub from_list-beyond : (es : List Edit) (hs : List Head) → from_list (filter (is_beyond hs) es) ≡ beyond (from_list es) hs
+from_list-beyond es hs = same_set edit_total edit_exact _ _ (λ e.
+    contains-from_list edit_total (filter (is_beyond hs) es) e ∙ any-filter (is_beyond hs) es e
+    ∙ ap (λ b. b && is_beyond hs e) (sym (contains-from_list edit_total es e)) ∙ sym (contains-beyond (from_list es) hs e))
+
+-- all of a set is beyond its own heads
+pub beyond-own : (s : Edits) → beyond s (heads s) ≡ s
+beyond-own s = same_elements edit_total edit_exact _ s (from_set s (heads s)) (λ e inside.
+    let listed = sym (contains-items s e) ∙ inside in
+    let reached = any_by edit_total edit_exact (λ g. is_head_reached e (head_of g)) (items s) e listed (own_head e) in
+    contains-beyond s (heads s) e ∙ and_from _ _ inside (or_right (not (list_any (is_head_at e) (heads s))) _ (any-heads (is_head_reached e) (items s) ∙ reached)))
+  where
+    own_head : (e : Edit) → is_head_reached e (head_of e) ≡ true
+    own_head e = and_from _ _ (ap is_eq (tied_itself number_triple_total (edit_place e))) (not_from_false _ (ap is_lt (tied_itself number_pair_total (stamp_key e.stamp))))
+
+-- a delta fits a plan where its set does
+pub in_range-beyond : (p : Plan) (t : Edits) (hs : List Head) → AreInRange p t → AreInRange p (beyond t hs)
+in_range-beyond p t hs fits e inside = fits e (from_set t hs e inside)

@@ -1,1 +1,4 @@
 pub mod DeltaEdits
+pub mod RisingHeads
+pub mod HeadSearch
+mod Examples

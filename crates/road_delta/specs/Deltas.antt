@@ -1,8 +1,8 @@
 -- Deltas: what a replica tells of its edits, and what another then sends it.
-use Rattle.std.specs.Prelude.{◌≡◌, not, ◌||◌, ◌&&◌, Bool, true, List, map}
+use Rattle.std.specs.Prelude.{◌≡◌, not, ◌||◌, ◌&&◌, Bool, true, T, List, map}
 use Rattle.std.specs.List.{list_any}
 use Rattle.std.specs.Ordering.{is_eq, is_lt}
-use Rattle.lattice_core.specs.Sets.{contains, items, retain}
+use Rattle.lattice_core.specs.Sets.{contains, is_rising, items, retain}
 use Rattle.road_scenario.specs.declared.edit.Edit.{Edit}
 use Rattle.road_scenario.specs.Edits.{Edits, Place, edit_place, object_place, number_triple_cmp, number_pair_cmp, stamp_key}
 use Rattle.road_delta.specs.declared.heads.Head.{Head}
@@ -18,6 +18,10 @@ heads edits = map head_of (items edits)
 -- the place of a head
 abbrev pub head_place : Head → Place
 head_place h = object_place h.object h.step
+
+-- heads rise strictly by object and step, so each object and step has one at most
+abbrev pub AreRising : List Head → Type 0
+AreRising hs = T (is_rising (λ g h. number_triple_cmp (head_place g) (head_place h)) hs)
 
 -- whether a head is of an edit's object and step
 abbrev pub is_head_at : Edit → Head → Bool

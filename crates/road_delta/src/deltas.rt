@@ -1,16 +1,17 @@
 ghost use Rattle.std.specs.Prelude.{◌≡◌, IfOk};
 ghost use Rattle.road_plan.specs.Plan.{Plan};
 ghost use Rattle.road_scenario.specs.Faults.{AreInRange};
-ghost use Rattle.road_delta.specs.Deltas.{beyond};
+ghost use Rattle.road_delta.specs.Deltas.{AreRising, beyond, is_beyond};
 
-use crate::heads::Heads;
+use crate::heads::{Head, Heads};
+use lattice_core::lattice::Lattice;
 use road_plan::OutOfMemory;
-use road_scenario::Scenario;
+use road_scenario::{Edit, Scenario};
 use std::alloc::Global;
 
 /// The edits of a scenario that are beyond heads: those whose object and step has no head, or one whose stamp is
 /// smaller or equal. Joined to the scenario of those heads they make what the whole scenario would
-/// (`laws::deltas_suffice`). They fit a plan where the scenario does.
+/// (`laws::deltas_suffice`). They fit a plan where the scenario does. Each edit takes one binary search.
 ///
 /// # Errors
 ///
@@ -19,5 +20,20 @@ pub fn beyond(alloc: Global, scenario: &Scenario, heads: &Heads) -> Result<Scena
     ensures delta { IfOk result (λ delta. delta ≡ beyond scenario.now heads.now) }
     ensures fits { (plan : Plan) → AreInRange plan scenario.now → IfOk result (λ delta. AreInRange plan delta) }
 {
-    Err(OutOfMemory)
+    scenario.known();
+    let mut edits = scenario.edits(alloc)?;
+    edits.retain(|edit| is_beyond(heads.list(), edit));
+    Scenario::of_edits(alloc, &edits)
+}
+
+// Whether an edit is beyond heads, which rise.
+fn is_beyond(heads: &[Head], edit: &Edit) -> bool
+    requires { AreRising heads.now }
+    ensures { result ≡ is_beyond heads.now edit.now }
+{
+    let place = (edit.object, edit.step);
+    match heads.binary_search_by_key(&place, |head| (head.object, head.step)) {
+        Ok(found) => heads[found].stamp <= edit.stamp,
+        Err(_) => true,
+    }
 }

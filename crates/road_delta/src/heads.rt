@@ -1,6 +1,7 @@
 ghost use Rattle.std.specs.Prelude.{◌≡◌, IfOk};
-ghost use Rattle.road_delta.specs.Deltas.{head_of, heads};
+ghost use Rattle.road_delta.specs.Deltas.{AreRising, head_of, heads};
 
+use lattice_core::lattice::Lattice;
 use road_plan::{Object, OutOfMemory};
 use road_scenario::{Edit, Scenario, Stamp};
 use std::alloc::Global;
@@ -17,7 +18,7 @@ pub struct Head {
     pub stamp: Stamp,
 }
 
-/// The heads of a scenario, in the order of its edits. Contracts see the list.
+/// The heads of a scenario, in the order of its edits: they rise by object and step. Contracts see the list.
 #[derive(Drop)]
 pub struct Heads {
     list: Vec<Head>,
@@ -25,17 +26,21 @@ pub struct Heads {
 
 impl Model for Heads {
     ghost use Rattle.std.specs.Prelude.{List};
+    ghost use Rattle.road_delta.specs.Deltas.{AreRising};
     ghost use Rattle.road_delta.specs.declared.heads.Head.{Head};
 
     ghost Value = { List Head };
 
     ghost view = { λ heads. heads.list.items };
+
+    ghost invariant = { λ heads. AreRising heads.list.items };
 }
 
 impl Heads {
-    /// The heads, by object and step.
+    /// The heads, rising by object and step. It takes no memory.
     pub fn list(&self) -> &[Head]
-        ensures { result.now ≡ self.now }
+        ensures all { result.now ≡ self.now }
+        ensures rise { AreRising result.now }
     {
         &self.list
     }
@@ -49,6 +54,7 @@ impl Heads {
 pub fn heads_of(alloc: Global, scenario: &Scenario) -> Result<Heads, OutOfMemory>
     ensures { IfOk result (λ made. made ≡ heads scenario.now) }
 {
+    scenario.known();
     let edits = scenario.edits(alloc)?;
     let mut list = Vec::with_capacity(alloc, edits.len())?;
     for edit in &edits {

@@ -13,6 +13,8 @@ pub fn deltas_suffice()
     ensures joined { (ours theirs : Edits) → join ours (beyond theirs (heads ours)) ≡ join ours theirs }
     // Each edit that is left out has a smaller stamp than the one held at its object and step.
     ensures left_out { (ours : Edits) (e : Edit) → is_beyond (heads ours) e ≡ false → IsBehind ours e }
+    // Beyond one's own heads is all that one holds: what is held with an equal stamp is sent again.
+    ensures own { (edits : Edits) → beyond edits (heads edits) ≡ edits }
     // A delta of winners holds winners.
     ensures winners { (edits : Edits) (hs : List Head) → winners edits ≡ edits →
         winners (beyond edits hs) ≡ beyond edits hs }

@@ -1,18 +1,24 @@
 -- Growing by edits alone is taking them, and growing by steps alone is advancing.
-use Rattle.std.proofs.Common.{◌≡◌, ◌∙◌, ℕ, max, ap, arith, [], ◌∷◌, true}
+use Rattle.std.proofs.Common.{◌≡◌, ◌∙◌, ℕ, max, min, ap, sym, subst, arith, refl, List, [], ◌∷◌, ◌++◌, map, true, None}
+use Rattle.std.specs.Prelude.{cond, not}
+use Rattle.std.specs.Cmp.Lexicographic.{options_equiv}
+use Rattle.std.specs.List.{filter, reduce}
+use Rattle.std.proofs.lemmas.Cmp.{nat_eq_equiv}
 use Rattle.lattice_core.specs.Map.{is_empty}
-use Rattle.lattice_core.specs.Sets.{empty, from_list}
+use Rattle.lattice_core.specs.Sets.{empty, from_list, items}
 use Rattle.lattice_core.proofs.SetElements.{items-empty}
-use Rattle.road_scenario.specs.Edits.{Edits, edit_cmp}
-use Rattle.road_scenario.specs.Winners.{AreWinners, has_no_edit, join}
+use Rattle.road_scenario.specs.Edits.{Edits, edit_cmp, edit_place}
+use Rattle.road_scenario.specs.Touched.{has_other_number, put_number_at, touched}
+use Rattle.road_scenario.specs.Winners.{AreWinners, has_no_edit, join, winners}
+use Rattle.road_scenario.specs.Instances.EditOrder.{winners_laws}
 use Rattle.road_scenario.specs.Instances.JoinedWinners.{join_laws}
 use Rattle.road_scenario.specs.declared.edit.Edit.{Edit}
 use Rattle.road_scenario.proofs.JoinedRegisters.{winners-single}
 use Rattle.road_scenario.proofs.NoEdits.{winners-empty}
 use Rattle.road_sheet.specs.Commands.{Advance, Take, sheet_after}
 use Rattle.road_sheet.specs.Sheets.{Sheet, IsSheet}
-use Rattle.road_rewind.specs.Growth.{grown}
-use Rattle.road_replica.specs.Replicas.{single_edit}
+use Rattle.road_rewind.specs.Growth.{grown, most_steps, touched_step, TicksAtMost}
+use Rattle.road_replica.specs.Replicas.{most_steps_taking, single_edit}
 
 max-zero : (n : ℕ) → max n 0 ≡ n
 max-zero n = omega arith
@@ -36,3 +42,27 @@ grown_by_edits s edits = ap (λ (h : ℕ). let t : Sheet = record { plan = s.pla
 
 pub grown_by_steps : (s : Sheet) (to : ℕ) → IsSheet s → grown s empty to ≡ sheet_after (Advance to) s
 grown_by_steps s to is = ap (λ (edits : Edits). let t : Sheet = record { plan = s.plan; edits = edits; horizon = max s.horizon to } in t) (join-no_edit s.edits is.winners)
+
+-- all edits of a list, joined to winners, do as their winners do
+pub join-winners : (s edits : Edits) → AreWinners s → join s (winners edits) ≡ join s edits
+join-winners s edits wins = sym (winners_laws.of_union s edits ∙ ap (λ (x : Edits). join x (winners edits)) wins)
+
+-- taking edits computes no more steps than growing by them
+pub few_steps_taking : (s : Sheet) (edits : Edits) (meter later : ℕ) → TicksAtMost (most_steps s.horizon (max s.horizon 0) (touched_step s edits)) meter later → TicksAtMost (most_steps_taking s edits) meter later
+few_steps_taking s edits meter later few = subst (λ h. TicksAtMost (most_steps s.horizon h (touched_step s edits)) meter later) (max-zero s.horizon) few
+
+-- ---- no edit touches no step
+
+none_differs : (es fs : List Edit) → filter (has_other_number es es) fs ≡ []
+none_differs es [] = refl
+none_differs es (f ∷ fs) =
+    let rest = filter (has_other_number es es) fs in
+    ap (λ equal. cond (not equal) (f ∷ rest) rest) ((options_equiv nat_eq_equiv).refl (put_number_at es (edit_place f))) ∙ none_differs es fs
+
+none_touched : (edits : Edits) → touched edits edits ≡ None
+none_touched edits =
+    let es = items (winners edits) in
+    ap (λ (found : List Edit). reduce min (map (λ e. e.step) found)) (none_differs es (es ++ es))
+
+pub no_edit_touches : (s : Sheet) → IsSheet s → touched_step s empty ≡ None
+no_edit_touches s is = ap (touched s.edits) (join-no_edit s.edits is.winners) ∙ none_touched s.edits

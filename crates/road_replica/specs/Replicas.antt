@@ -8,6 +8,7 @@ use Rattle.road_scenario.specs.declared.edit.Edit.{Edit}
 use Rattle.road_scenario.specs.declared.edit.Value.{Value}
 use Rattle.road_sheet.specs.Commands.{Command, sheet_after}
 use Rattle.road_sheet.specs.Sheets.{Sheet}
+use Rattle.road_rewind.specs.Growth.{most_steps, touched_step}
 
 -- a replica's number, and its sheet
 pub record Replica : Type 0 where
@@ -35,3 +36,8 @@ single_edit edit = from_list (edit ∷ [])
 -- the replica after a command to its sheet
 abbrev pub replica_after : Command → Replica → Replica
 replica_after command r = record r { sheet = sheet_after command r.sheet }
+
+-- the most steps that are computed where a sheet takes edits: none where no simulated step is touched, else those from
+-- the touched step up to the horizon and 63 more
+abbrev pub most_steps_taking : Sheet → Edits → ℕ
+most_steps_taking s edits = most_steps s.horizon s.horizon (touched_step s edits)

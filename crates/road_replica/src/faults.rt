@@ -2,7 +2,9 @@ ghost use Rattle.std.specs.Prelude.{◌≡◌};
 ghost use Rattle.road_replica.specs.Refusals as refusals;
 ghost use Rattle.road_replica.specs.declared.faults.ReplicaFault.TheVariants.{OutOfMemory};
 
-use road_plan::limits::{FIRST_IMPORT_NUMBER, GREATEST_COUNT, GREATEST_HORIZON, LAST_EDIT_STEP, MOST_ROWS};
+use road_plan::limits::{
+    FIRST_IMPORT_NUMBER, GREATEST_COUNT, GREATEST_HORIZON, LAST_EDIT_STEP, MOST_ROWS,
+};
 use road_rewind::GrownFault;
 use road_scenario::EditFault;
 use road_sheet::SheetFault;

@@ -1,4 +1,4 @@
-ghost use Rattle.std.specs.Prelude.{◌≡◌, ◌<◌, ◌≤◌, max, IfErr, IfOk, MatchResult, None, OnErr, OnOk, map, string_bytes, true};
+ghost use Rattle.std.specs.Prelude.{◌≡◌, ◌<◌, ◌≤◌, ◌-◌, max, IfErr, IfOk, MatchResult, None, OnErr, OnOk, map, string_bytes, true};
 ghost use Rattle.std.specs.Arc.{arc_value};
 ghost use Rattle.std.specs.declared.cmp.Ordering.TheVariants.{Less};
 ghost use Rattle.lattice_core.specs.Sets.{contains, from_list};
@@ -11,10 +11,10 @@ ghost use Rattle.road_scenario.specs.Faults.{AreInRange};
 ghost use Rattle.road_delta.specs.Deltas as deltas;
 ghost use Rattle.road_sheet.specs.Commands.{Advance, Take};
 ghost use Rattle.road_sheet.specs.Sheets.{IsSheet, opening_sheet, rows_of, state_of, total_of};
-ghost use Rattle.road_rewind.specs.Growth.{grown, touched_step};
+ghost use Rattle.road_rewind.specs.Growth.{TicksAtMost, grown, kept_step, meter_after, most_steps, touched_step};
 ghost use Rattle.road_replica.specs.Refusals as refusals;
 ghost use Rattle.road_replica.specs.Refusals.{IsRefusal, IsWriteRefusal, gone_after_fault};
-ghost use Rattle.road_replica.specs.Replicas.{edit_made, replica_after, single_edit};
+ghost use Rattle.road_replica.specs.Replicas.{edit_made, most_steps_taking, replica_after, single_edit};
 
 use crate::faults::{ReplicaFault, arrived_fault, made_fault, question_fault, write_fault};
 use road_cells::Road;
@@ -24,6 +24,7 @@ use road_ends::Meter;
 use road_plan::limits::{FIRST_IMPORT_NUMBER, GREATEST_HORIZON, MOST_ROWS};
 use road_plan::{Object, OutOfMemory, Plan};
 use road_rewind::{Grown, grown};
+use road_scenario::laws::winners_agree;
 use road_scenario::{Edit, Scenario, Stamp, Value};
 use road_sheet::Sheet;
 use road_sheet::simulation::{State, rows_between};
@@ -122,6 +123,9 @@ impl Replica {
         ensures accepted { IfOk result (λ _. refusals.edit_fault self.old object step (Put value) ≡ None) }
         ensures refused { IfErr result (IsWriteRefusal (refusals.edit_fault self.old object step (Put value))) }
         ensures unchanged { OnErr result (self.new ≡ self.old) }
+        ensures few_steps { TicksAtMost
+            (most_steps_taking self.old.sheet (single_edit (edit_made self.old object step (Put value))))
+            meter.old meter.new }
         ensures gone { MatchResult result (λ _. C.gone crew.new ≡ C.gone crew.old)
             (λ fault. C.gone crew.new ≡ gone_after_fault fault (C.gone crew.old)) }
     {
@@ -151,6 +155,9 @@ impl Replica {
         ensures accepted { IfOk result (λ _. refusals.edit_fault self.old object step Withdrawn ≡ None) }
         ensures refused { IfErr result (IsWriteRefusal (refusals.edit_fault self.old object step Withdrawn)) }
         ensures unchanged { OnErr result (self.new ≡ self.old) }
+        ensures few_steps { TicksAtMost
+            (most_steps_taking self.old.sheet (single_edit (edit_made self.old object step Withdrawn)))
+            meter.old meter.new }
         ensures gone { MatchResult result (λ _. C.gone crew.new ≡ C.gone crew.old)
             (λ fault. C.gone crew.new ≡ gone_after_fault fault (C.gone crew.old)) }
     {
@@ -176,13 +183,18 @@ impl Replica {
         ensures accepted { IfOk result (λ _. refusals.import_fault self.old.sheet.plan edits.now ≡ None) }
         ensures refused { IfErr result (IsWriteRefusal (refusals.import_fault self.old.sheet.plan edits.now)) }
         ensures unchanged { OnErr result (self.new ≡ self.old) }
+        ensures few_steps { TicksAtMost (most_steps_taking self.old.sheet (from_list edits.now))
+            meter.old meter.new }
         ensures gone { MatchResult result (λ _. C.gone crew.new ≡ C.gone crew.old)
             (λ fault. C.gone crew.new ≡ gone_after_fault fault (C.gone crew.old)) }
     {
         if let Some(fault) = import_fault(self.sheet.plan(), edits) {
             return Err(fault);
         }
-        Err(ReplicaFault::OutOfMemory)
+        self.known();
+        winners_agree();
+        let scenario = Scenario::of_edits(alloc, edits)?;
+        self.grow(alloc, &scenario, 0, crew, meter)
     }
 
     /// The replica takes a scenario: what another replica holds, or a part of it. The answer is the first step at which
@@ -204,6 +216,8 @@ impl Replica {
         ensures accepted { IfOk result (λ _. refusals.take_fault self.old.sheet.plan scenario.now ≡ None) }
         ensures refused { IfErr result (IsWriteRefusal (refusals.take_fault self.old.sheet.plan scenario.now)) }
         ensures unchanged { OnErr result (self.new ≡ self.old) }
+        ensures few_steps { TicksAtMost (most_steps_taking self.old.sheet scenario.now)
+            meter.old meter.new }
         ensures gone { MatchResult result (λ _. C.gone crew.new ≡ C.gone crew.old)
             (λ fault. C.gone crew.new ≡ gone_after_fault fault (C.gone crew.old)) }
     {
@@ -232,6 +246,10 @@ impl Replica {
         ensures accepted { IfOk result (λ _. refusals.advance_fault to ≡ None) }
         ensures refused { IfErr result (IsWriteRefusal (refusals.advance_fault to)) }
         ensures unchanged { OnErr result (self.new ≡ self.old) }
+        // Just the steps after the old horizon are computed.
+        ensures new_steps { IfOk result (λ _. meter.new
+            ≡ meter_after meter.old (max self.old.sheet.horizon to - self.old.sheet.horizon)) }
+        ensures few_steps { TicksAtMost (max self.old.sheet.horizon to - self.old.sheet.horizon) meter.old meter.new }
         ensures gone { MatchResult result (λ _. C.gone crew.new ≡ C.gone crew.old)
             (λ fault. C.gone crew.new ≡ gone_after_fault fault (C.gone crew.old)) }
     {
@@ -261,6 +279,9 @@ impl Replica {
         ensures accepted { IfOk result (λ _. refusals.edit_fault self.old object step value ≡ None) }
         ensures refused { IfErr result (IsWriteRefusal (refusals.edit_fault self.old object step value)) }
         ensures unchanged { OnErr result (self.new ≡ self.old) }
+        ensures few_steps { TicksAtMost
+            (most_steps_taking self.old.sheet (single_edit (edit_made self.old object step value)))
+            meter.old meter.new }
         ensures gone { MatchResult result (λ _. C.gone crew.new ≡ C.gone crew.old)
             (λ fault. C.gone crew.new ≡ gone_after_fault fault (C.gone crew.old)) }
     {
@@ -305,6 +326,13 @@ impl Replica {
         ensures sheet { OnOk result (self.new ≡ record self.old { sheet = grown self.old.sheet scenario.now to }) }
         ensures refused { IfErr result (IsWriteRefusal None) }
         ensures unchanged { OnErr result (self.new ≡ self.old) }
+        ensures new_steps { IfOk result (λ _.
+            kept_step self.old.sheet.horizon (touched_step self.old.sheet scenario.now) ≡ self.old.sheet.horizon
+            → meter.new ≡ meter_after meter.old (max self.old.sheet.horizon to - self.old.sheet.horizon)) }
+        ensures few_steps { TicksAtMost
+            (most_steps self.old.sheet.horizon (max self.old.sheet.horizon to)
+            (touched_step self.old.sheet scenario.now))
+            meter.old meter.new }
         ensures gone { MatchResult result (λ _. C.gone crew.new ≡ C.gone crew.old)
             (λ fault. C.gone crew.new ≡ gone_after_fault fault (C.gone crew.old)) }
     {
@@ -379,7 +407,13 @@ impl Replica {
     ///
     /// `NoDetector` where the plan has no such detector, else `Range` where `from` is above `to`, else `NotSimulated`
     /// where `to` is above the horizon, else `OutOfMemory` where a growth was refused.
-    pub fn totals(&self, alloc: Global, detector: u32, from: u32, to: u32) -> Result<Totals, ReplicaFault>
+    pub fn totals(
+        &self,
+        alloc: Global,
+        detector: u32,
+        from: u32,
+        to: u32,
+    ) -> Result<Totals, ReplicaFault>
         ensures totals { IfOk result (λ totals. totals ≡ total_of self.now.sheet detector from to) }
         ensures accepted { IfOk result (λ _. refusals.totals_fault self.now.sheet detector from to ≡ None) }
         ensures refused { IfErr result (IsRefusal (refusals.totals_fault self.now.sheet detector from to)) }

@@ -1,5 +1,5 @@
 -- Edits in the plan and its ranges.
-use Rattle.std.specs.Prelude.{◌≡◌, ◌≤◌, ℕ, true, false, [], ◌∷◌, refl}
+use Rattle.std.specs.Prelude.{◌≡◌, ◌≤◌, ℕ, true, false, List, [], ◌∷◌, refl}
 use Rattle.std.specs.declared.option.Option.TheVariants.{None}
 use Rattle.std.specs.Ordering.{eq_by_cmp}
 use Rattle.std.specs.Cmp.{Equal-is}
@@ -14,9 +14,9 @@ use Rattle.road_scenario.specs.Counts.{greatest_count}
 use Rattle.road_scenario.proofs.GreatestCounts.{reached}
 use Rattle.road_scenario.specs.Instances.EditOrder.{edit_total, edit_exact, winners_laws}
 use Rattle.road_scenario.specs.Edits.{Edits, edit_cmp}
-use Rattle.road_scenario.specs.Faults.{fault_of, fault_in, IsInRange, AreInRange}
-use Rattle.road_scenario.proofs.FirstFaults.{in_range, no_fault, is_nothing}
-use Rattle.road_scenario.specs.Winners.{join}
+use Rattle.road_scenario.specs.Faults.{fault_of, fault_in, first_fault, IsInRange, AreInRange}
+use Rattle.road_scenario.proofs.FirstFaults.{in_range, each_in_range, no_fault, is_nothing}
+use Rattle.road_scenario.specs.Winners.{winners, join}
 
 pub in_range-empty : (p : Plan) → AreInRange p empty
 in_range-empty p e i = absurd (true≢false (sym i ∙ contains-empty edit_cmp e))
@@ -28,6 +28,10 @@ in_range-one p edit none e i =
       | inl t ↦ subst (IsInRange p) (sym (edit_exact e edit ((Equal-is (edit_cmp e edit)).0 t))) (in_range p edit none)
       | inr t ↦ absurd (true≢false (sym t))
     ]
+
+-- the winners of a list without a fault
+pub in_range-listed : (p : Plan) (es : List Edit) → first_fault p es ≡ None → AreInRange p (winners (from_list es))
+in_range-listed p es none e i = each_in_range p es none e (sym (contains-from_list edit_total es e) ∙ ((winners_laws.members (from_list es) e).0 i).inside)
 
 -- the winners of two sets
 pub in_range-join : (p : Plan) (s t : Edits) → AreInRange p s → AreInRange p t → AreInRange p (join s t)

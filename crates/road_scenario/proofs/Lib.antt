@@ -10,6 +10,7 @@ pub mod TouchedSteps
 pub mod SettingsBeforeTouched
 pub mod EqualRegisters
 pub mod WinnersOfLists
+pub mod WinnersOfHalves
 pub mod SettingsOfLists
 pub mod GreatestCounts
 pub mod FirstFaults

@@ -6,7 +6,7 @@ ghost use Rattle.road_plan.specs.Settings.{Fits};
 ghost use Rattle.road_plan.specs.declared.limits.TheConstants.{GREATEST_COUNT};
 ghost use Rattle.road_scenario.specs.Counts.{greatest_count};
 ghost use Rattle.road_scenario.specs.Edits.{Edits, edit_cmp};
-ghost use Rattle.road_scenario.specs.Faults.{AreInRange, fault_in, fault_of};
+ghost use Rattle.road_scenario.specs.Faults.{AreInRange, fault_in, fault_of, first_fault};
 ghost use Rattle.road_scenario.specs.Settings.{setting, settings_of};
 ghost use Rattle.road_scenario.specs.Touched.{touched};
 ghost use Rattle.road_scenario.specs.Winners.{join, winners};
@@ -60,6 +60,29 @@ impl Scenario {
         Scenario {
             registers: LatMap::empty(alloc),
             alloc,
+        }
+    }
+
+    /// The winners of a list of edits, in whatever order they stand, by joins of halves: each edit is copied about as
+    /// often as the list can be halved. It fits a plan where no edit of the list has a fault.
+    ///
+    /// # Errors
+    ///
+    /// `OutOfMemory` where a growth was refused; without edits nothing grows.
+    pub fn of_edits(alloc: Global, edits: &[Edit]) -> Result<Self, OutOfMemory>
+        ensures winners { IfOk result (λ made. made ≡ winners (sets.from_list edits.now)) }
+        ensures fits { (plan : Plan) → first_fault plan edits.now ≡ None → IfOk result (λ made. AreInRange plan made) }
+        ensures grows_nothing { edits.now ≡ [] → IsOk result }
+    {
+        if edits.len() > 1 {
+            let (first, second) = edits.split_at(edits.len() / 2);
+            let first = Scenario::of_edits(alloc, first)?;
+            let second = Scenario::of_edits(alloc, second)?;
+            return first.joined(&second);
+        }
+        match edits.first() {
+            Some(edit) => Scenario::empty(alloc).with_edit(edit),
+            None => Ok(Scenario::empty(alloc)),
         }
     }
 

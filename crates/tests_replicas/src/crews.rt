@@ -1,6 +1,6 @@
 //! A crew that fails, and what it leaves.
 
-use crate::replicas::{BLOCK, LIMIT, free_road, put, shows};
+use crate::replicas::{BLOCK, LIMIT, edit, free_road, put, shows};
 use road_ends::{Meter, StepInput};
 use road_replica::{Replica, ReplicaFault};
 use road_scenario::Scenario;
@@ -67,16 +67,15 @@ fn lost_workers_leave_it(
     calls: u64,
 ) -> Result<(), Fail> {
     let mut replica = free_road(alloc)?;
-    let (mut crew, mut meter) = (
-        Failing {
-            calls_left: calls,
-            gone: 0,
-        },
-        Meter::new(),
-    );
-    let _ = replica.edit(alloc, LIMIT, 2, 1, &mut road_workers::Alone, &mut meter)?;
+    edit(alloc, &mut replica, LIMIT, 2, 1)?;
+    let mut crew = Failing {
+        calls_left: calls,
+        gone: 0,
+    };
+    let mut meter = Meter::new();
     let refused = refusal(alloc, &mut replica, write, &mut crew, &mut meter)?;
     assert!(rt; refused == Some(ReplicaFault::WorkersGone));
+    assert_eq!(rt; meter.ticks(), calls);
     assert_eq!(rt; crew.gone, 1);
     assert_eq!(rt; replica.sheet().horizon(), 6);
     assert_eq!(rt; replica.scenario().edits(alloc)?.len(), 1);

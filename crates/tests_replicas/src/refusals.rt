@@ -43,14 +43,22 @@ fn imports_all_edits_or_none(rt: HostRuntime) -> Result<(), Fail> {
     let mut replica = opened(rt.alloc(), 0)?;
     let right = put(LIMIT, 3, (9, 70), 1);
     for (stamp, fault) in STAMPS {
-        let edits = [right, put(LIMIT, 0, stamp, 1), put(Object::Limit(1), 0, (0, 0), 99)];
+        let edits = [
+            right,
+            put(LIMIT, 0, stamp, 1),
+            put(Object::Limit(1), 0, (0, 0), 99),
+        ];
         assert!(&rt; import(rt.alloc(), &mut replica, &edits) == Err(fault));
     }
     holds(&rt, rt.alloc(), &replica, &[])
 }
 
 // How a replica refuses to take an edit.
-fn take_refused(alloc: Global, replica: &mut Replica, edit: Edit) -> Result<Option<ReplicaFault>, Fail> {
+fn take_refused(
+    alloc: Global,
+    replica: &mut Replica,
+    edit: Edit,
+) -> Result<Option<ReplicaFault>, Fail> {
     let scenario = Scenario::empty(alloc).with_edit(&edit)?;
     Ok(take(alloc, replica, &scenario).err())
 }

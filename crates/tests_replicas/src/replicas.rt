@@ -79,11 +79,7 @@ pub(crate) fn take(
     replica.take(alloc, scenario, &mut Alone, &mut Meter::new())
 }
 
-pub(crate) fn advance(
-    alloc: Global,
-    replica: &mut Replica,
-    to: u32,
-) -> Result<u32, ReplicaFault> {
+pub(crate) fn advance(alloc: Global, replica: &mut Replica, to: u32) -> Result<u32, ReplicaFault> {
     replica.advance(alloc, to, &mut Alone, &mut Meter::new())
 }
 

@@ -76,7 +76,10 @@ fn counts_the_worked_cars(rt: HostRuntime) -> Result<(), Fail> {
     let replica = free_road(rt.alloc())?;
     for ((detector, from, to), counted) in COUNTS {
         let totals = replica.totals(rt.alloc(), detector, from, to);
-        assert!(&rt; totals.map(|totals| (totals.cars, totals.speeds)) == counted, "{from} {to}");
+        assert!(&rt;
+            totals.map(|totals| (totals.cars, totals.speeds)) == counted,
+            "{from} {to}"
+        );
     }
     Ok(())
 }

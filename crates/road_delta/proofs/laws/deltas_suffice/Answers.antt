@@ -2,4 +2,4 @@ use Rattle.road_delta.proofs.DeltaEdits as deltas
 use Rattle.road_delta.proofs.laws.deltas_suffice.Goals as goal
 
 pub returns : goal.returns
-returns c = record { joined = deltas.join-beyond; left_out = deltas.left_out; winners = deltas.winners-beyond }
+returns c = record { joined = deltas.join-beyond; left_out = deltas.left_out; own = deltas.beyond-own; winners = deltas.winners-beyond }
