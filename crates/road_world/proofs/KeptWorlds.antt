@@ -47,9 +47,9 @@ none_is_no_item : {A : Type 0} (x : A) → None ≡ Some x → ⊥
 none_is_no_item x h = cc
 
 -- what both say of an item that is there
-pub if_both : {X : Type 0} {A : Type 0} {P Q R : X → Type 0} (o : Option X) → IfSome o P → MatchOption o A Q → ((x : X) → P x → Q x → R x) → IfSome o R
-if_both None p q both = tt
-if_both (Some x) p q both = both x p q
+pub if_both : {X : Type 0} (A : Type 0) (P Q R : X → Type 0) (o : Option X) → IfSome o P → MatchOption o A Q → ((x : X) → P x → Q x → R x) → IfSome o R
+if_both A P Q R None p q both = tt
+if_both A P Q R (Some x) p q both = both x p q
 
 some_fault_is_no_none : (fault : WorldFault) → Some fault ≡ None → ⊥
 some_fault_is_no_none fault h = cc

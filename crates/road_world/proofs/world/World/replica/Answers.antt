@@ -9,7 +9,7 @@ pub returns-clause-number : goal.returns-clause-number
 returns-clause-number c =
     let e = c.deref.ensures.value in
     let r = c.args.number in
-    if_both c.get.result c.get.ensures.lookup.1.0 c.get.ensures.lookup.1.1.1.0 (λ x is inside.
+    if_both _ _ _ _ c.get.result c.get.ensures.lookup.1 c.get.ensures.lookup.3 (λ x is inside.
       (is_replica (arc_value c.self.inside.plan) c.self.inside.replicas.items c.self.inside.messages.items c.self.invariant r x.now (is ∙ ap (λ (ys : List Replica). slice_index_or ys r x.now) e)
       (subst (λ (ys : List Replica). r < length ys) e inside.0)).number_is)
 
@@ -17,6 +17,6 @@ pub returns-clause-sheet : goal.returns-clause-sheet
 returns-clause-sheet c =
     let e = c.deref.ensures.value in
     let r = c.args.number in
-    if_both c.get.result c.get.ensures.lookup.1.0 c.get.ensures.lookup.1.1.1.0 (λ x is inside.
+    if_both _ _ _ _ c.get.result c.get.ensures.lookup.1 c.get.ensures.lookup.3 (λ x is inside.
       ap (λ (y : Replica). y.sheet) (with_sheet (arc_value c.self.inside.plan) c.self.inside.replicas.items c.self.inside.messages.items c.self.invariant c.args.self.now c.self.view_is r x.now
       (is ∙ ap (λ (ys : List Replica). slice_index_or ys r x.now) e) (subst (λ (ys : List Replica). r < length ys) e inside.0)))
