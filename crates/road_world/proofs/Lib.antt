@@ -1,0 +1,10 @@
+pub mod WinnersSuffice
+pub mod EventLists
+pub mod GrowingCounts
+pub mod FreshStamps
+pub mod HeadlineOfWinners
+pub mod PlayedEvents
+pub mod KeptWorlds
+pub mod EventAnswers
+pub mod ListedWorlds
+pub mod Examples

@@ -1,0 +1,53 @@
+-- A world that was played through some events: what it holds, and what one event more makes of it.
+use Rattle.std.proofs.Common.{◌≡◌, ℕ, List, [], ◌∷◌, ◌++◌, map, ap, sym, subst, ◌∙◌}
+use Rattle.std.specs.Prelude.{OnErr, OnOk, Result}
+use Rattle.std.specs.declared.result.Result.TheVariants.{Ok, Err}
+use Rattle.road_plan.specs.Plan.{Plan}
+use Rattle.road_replica.specs.declared.reply.Reply.{Reply}
+use Rattle.road_world.specs.Answers.{IsAnswer, AreAnswers}
+use Rattle.road_world.specs.Events.{World, message_of_winners, opening_world, world_after_event, world_of_events, world_of_winners}
+use Rattle.road_world.specs.declared.event.Event.{Event}
+use Rattle.road_world.specs.declared.faults.WorldFault.{WorldFault}
+use Rattle.road_world.proofs.EventLists.{answers-one_more, world-one_more}
+use Rattle.road_world.proofs.WinnersSuffice.{answer-from_winners, event-of_winners, opening_world-of_winners}
+
+-- the world is that of the events, of the winners alone, and each event has its answer
+pub record IsPlayed (plan : Plan) (count : ℕ) (events : List Event) (replies : List (Result Reply WorldFault)) (world : World) : Type 0 where
+  pub holds : world ≡ world_of_winners (world_of_events plan count events replies)
+  pub answers : AreAnswers (opening_world plan count) events replies
+
+-- before any event it is the opening world
+pub played_none : (plan : Plan) (count : ℕ) → IsPlayed plan count [] [] (opening_world plan count)
+played_none plan count = record { holds = sym (opening_world-of_winners plan count); answers = tt }
+
+-- one event more
+module _ (plan : Plan) (count : ℕ) (events : List Event) (replies : List (Result Reply WorldFault)) (old new : World) (event : Event) (played : IsPlayed plan count events replies old) where
+  -- the world that the events before it make
+  abbrev known : World
+  known = world_of_events plan count events replies
+
+  -- what it does to the world that is held
+  more_holds : (reply : Result Reply WorldFault) → OnOk reply (new ≡ world_of_winners (world_after_event event old)) → OnErr reply (new ≡ old)
+      → new ≡ world_of_winners (world_of_events plan count (events ++ event ∷ []) (replies ++ reply ∷ []))
+  more_holds (Ok reply) done same =
+      done ∙ ap (λ (w : World). world_of_winners (world_after_event event w)) played.holds ∙ event-of_winners event known
+      ∙ ap world_of_winners (sym (world-one_more (opening_world plan count) events replies event (Ok reply) played.answers))
+  more_holds (Err fault) done same =
+      same ∙ played.holds
+      ∙ ap world_of_winners (sym (world-one_more (opening_world plan count) events replies event (Err fault) played.answers))
+
+  -- its answer in the world that is held is its answer after the events before it
+  more_answers : (reply : Result Reply WorldFault) → IsAnswer old event reply → AreAnswers (opening_world plan count) (events ++ event ∷ []) (replies ++ reply ∷ [])
+  more_answers reply answer =
+      let Answered : World → Type 0 = λ w. IsAnswer w event reply in
+      answers-one_more (opening_world plan count) events replies event reply played.answers (answer-from_winners known event reply (subst Answered played.holds answer))
+
+  -- both: what is played with it
+  pub played_one_more : (reply : Result Reply WorldFault) → IsAnswer old event reply → OnOk reply (new ≡ world_of_winners (world_after_event event old)) → OnErr reply (new ≡ old)
+      → IsPlayed plan count (events ++ event ∷ []) (replies ++ reply ∷ []) new
+  played_one_more reply answer done same = record { holds = more_holds reply done same; answers = more_answers reply answer }
+
+-- each message holds what its event put into it, of edits the winners
+pub played_messages : (plan : Plan) (count : ℕ) (events : List Event) (replies : List (Result Reply WorldFault)) (world : World) → IsPlayed plan count events replies world
+    → world.messages ≡ map message_of_winners (world_of_events plan count events replies).messages
+played_messages plan count events replies world played = ap (λ (w : World). w.messages) played.holds

@@ -1,0 +1,66 @@
+use Rattle.std.proofs.Common.{◌≡◌, ◌≤◌, ◌+◌, ◌++◌, ◌∷◌, ◌∙◌, [], ℕ, List, length, take, ap, subst, sym}
+use Rattle.std.specs.Arc.{arc_value}
+use Rattle.std.specs.Prelude.{Result}
+use Rattle.std.proofs.lemmas.List.{take_more, take_all}
+use Rattle.road_plan.specs.Plan.{Plan}
+use Rattle.road_replica.specs.declared.reply.Reply.{Reply}
+use Rattle.road_world.specs.Answers.{gone_after_answer, gone_after_answers}
+use Rattle.road_world.specs.Events.{World}
+use Rattle.road_world.specs.declared.event.Event.{Event}
+use Rattle.road_world.specs.declared.faults.WorldFault.{WorldFault}
+use Rattle.road_world.proofs.EventLists.{gone-one_more}
+use Rattle.road_world.proofs.FreshStamps.{stamps_are_fresh}
+use Rattle.road_world.proofs.HeadlineOfWinners.{headline}
+use Rattle.road_world.proofs.PlayedEvents.{IsPlayed, played_none, played_one_more, played_messages}
+use Rattle.road_world.proofs.playing.play.Goals as goal
+
+-- what is played at the end of a loop over the events is all of them
+played_all : (plan : Plan) (count i : ℕ) (events : List Event) (replies : List (Result Reply WorldFault)) (world : World) → length events ≤ i → IsPlayed plan count (take i events) replies world → IsPlayed plan count events replies world
+played_all plan count i events replies world all played = subst (λ (es : List Event). IsPlayed plan count es replies world) (take_all i events all) played
+
+pub loop-event-init : goal.loop-event-init
+loop-event-init g c =
+    let plan = arc_value c.args.plan in
+    let none = sym c.in_ok-replies.ensures.items in
+    let opened = subst (λ (w : World). IsPlayed plan c.args.replicas [] [] w) (sym c.in_ok-world.ensures) (played_none plan c.args.replicas) in record {
+      played = subst (λ (replies : List (Result Reply WorldFault)). IsPlayed plan c.args.replicas [] replies c.in_ok-world.world) none opened;
+      gone = ap (λ (replies : List (Result Reply WorldFault)). gone_after_answers replies (g.C.Crew.gone c.args.crew.now)) none;
+    }
+
+pub loop-event-preserved : goal.loop-event-preserved
+loop-event-preserved g c =
+    let plan = arc_value c.args.plan in
+    let events = take c.loop-event.event-index c.args.events.now in
+    let replies = c.loop-event.replies.items in
+    let event = c.event-item.result in
+    let reply = c.apply-reply.result in
+    let new = c.apply-reply.new.self in
+    let start = g.C.Crew.gone c.args.crew.now in
+    let more : events ++ event ∷ [] ≡ take (c.loop-event.event-index + 1) c.args.events.now =
+    ap (λ (e : Event). events ++ e ∷ []) c.event-item.is ∙ sym (take_more c.args.events.now c.loop-event.event-index event c.loop-event-test.true) in
+    let added = sym c.in_ok-add.ensures in
+    let e = c.apply-reply.ensures in
+    let played = played_one_more plan c.args.replicas events replies c.loop-event.world new event c.loop-event.invariant.played reply e.answer e.after e.unchanged in record {
+      played = subst (λ (es : List Event). IsPlayed plan c.args.replicas es c.add.new.replies.items new) more
+          (subst (λ (rs : List (Result Reply WorldFault)). IsPlayed plan c.args.replicas (events ++ event ∷ []) rs new) added played);
+      gone = e.gone ∙ ap (gone_after_answer reply) c.loop-event.invariant.gone ∙ sym (gone-one_more replies reply start) ∙ ap (λ (rs : List (Result Reply WorldFault)). gone_after_answers rs start) added;
+    }
+
+pub returns-clause-headline : goal.returns-clause-headline
+returns-clause-headline g c =
+    let all = played_all (arc_value c.args.plan) c.args.replicas c.loop-event.event-index c.args.events.now c.loop-event.replies.items c.loop-event.world c.loop-event-test.false c.loop-event.invariant.played in
+    headline (arc_value c.args.plan) c.args.replicas c.args.events.now c.loop-event.replies.items c.loop-event.world all.holds
+
+pub returns-clause-stamps : goal.returns-clause-stamps
+returns-clause-stamps g c =
+    let all = played_all (arc_value c.args.plan) c.args.replicas c.loop-event.event-index c.args.events.now c.loop-event.replies.items c.loop-event.world c.loop-event-test.false c.loop-event.invariant.played in
+    stamps_are_fresh (arc_value c.args.plan) c.args.replicas c.args.events.now c.loop-event.replies.items c.requires all.answers
+
+pub returns-clause-answers : goal.returns-clause-answers
+returns-clause-answers g c =
+    (played_all (arc_value c.args.plan) c.args.replicas c.loop-event.event-index c.args.events.now c.loop-event.replies.items c.loop-event.world c.loop-event-test.false c.loop-event.invariant.played).answers
+
+pub returns-clause-messages : goal.returns-clause-messages
+returns-clause-messages g c =
+    let all = played_all (arc_value c.args.plan) c.args.replicas c.loop-event.event-index c.args.events.now c.loop-event.replies.items c.loop-event.world c.loop-event-test.false c.loop-event.invariant.played in
+    played_messages (arc_value c.args.plan) c.args.replicas c.args.events.now c.loop-event.replies.items c.loop-event.world all

@@ -1,0 +1,12 @@
+use Rattle.std.proofs.Common.{◌≡◌, take}
+use Rattle.std.specs.Arc.{arc_value}
+use Rattle.road_world.specs.Answers.{gone_after_answers}
+use Rattle.road_world.proofs.PlayedEvents.{IsPlayed}
+use Rattle.road_world.proofs.playing.play.Given as goal
+
+-- the world is that of the events so far, of the winners alone, and each of them has its answer
+abbrev pub invariant-loop-event : goal.invariant-loop-event
+invariant-loop-event g l = record {
+  played : IsPlayed (arc_value l.fn.plan) l.fn.replicas (take l.event-index l.events) l.replies.items l.world;
+  gone : g.C.Crew.gone l.crew ≡ gone_after_answers l.replies.items (g.C.Crew.gone l.fn.crew);
+}

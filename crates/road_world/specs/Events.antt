@@ -1,0 +1,137 @@
+-- What events do in a world of replicas.
+use Rattle.std.specs.Prelude.{ℕ, max, List, [], ◌∷◌, ◌++◌, map, replicate, slice_set, Result}
+use Rattle.std.specs.List.{slice_index_or, slice_get}
+use Rattle.std.specs.declared.option.Option.{Option}
+use Rattle.std.specs.declared.option.Option.TheVariants.{None, Some}
+use Rattle.std.specs.declared.result.Result.TheVariants.{Ok, Err}
+use Rattle.lattice_core.specs.Sets.{empty, union, from_list}
+use Rattle.road_plan.specs.Plan.{Plan}
+use Rattle.road_plan.specs.declared.object.Object.{Object}
+use Rattle.road_scenario.specs.Edits.{Edits}
+use Rattle.road_scenario.specs.Winners.{winners}
+use Rattle.road_scenario.specs.declared.edit.Value.{Value}
+use Rattle.road_scenario.specs.declared.edit.Value.TheVariants.{Withdrawn, Put}
+use Rattle.road_delta.specs.Deltas.{heads, beyond}
+use Rattle.road_delta.specs.declared.heads.Head.{Head}
+use Rattle.road_replica.specs.Replicas.{local_edit, single_edit}
+use Rattle.road_replica.specs.declared.reply.Reply.{Reply}
+use Rattle.road_world.specs.declared.event.Event.{Event}
+use Rattle.road_world.specs.declared.event.Event.TheVariants.{Edit, Withdraw, Import, Send, Heads, Beyond, Take, Advance}
+use Rattle.road_world.specs.declared.message.Message.{Message}
+use Rattle.road_world.specs.declared.message.Message.TheVariants.{Whole, Answer, Asked}
+use Rattle.road_world.specs.declared.faults.WorldFault.{WorldFault}
+
+-- a replica in a world: the edits that reached it, and the greatest step to which it was advanced
+pub record WorldReplica : Type 0 where
+  pub edits : Edits
+  pub horizon : ℕ
+
+-- the replicas of a plan, numbered from 0, and the messages in the order in which they were made
+pub record World : Type 0 where
+  pub plan : Plan
+  pub replicas : List WorldReplica
+  pub messages : List Message
+
+-- a replica before any event
+abbrev pub opening_replica : WorldReplica
+opening_replica = record { edits = empty; horizon = 0 }
+
+-- a world of so many replicas before any event
+abbrev pub opening_world : Plan → ℕ → World
+opening_world plan count = record { plan = plan; replicas = replicate count opening_replica; messages = [] }
+
+-- replica r of a world
+abbrev pub replica_at : World → ℕ → WorldReplica
+replica_at w r = slice_index_or w.replicas r opening_replica
+
+-- ---- one event
+
+-- the world after edits reached replica r
+abbrev pub world_with_edits : ℕ → Edits → World → World
+world_with_edits r edits w =
+    let reached = record (replica_at w r) { edits = union (replica_at w r).edits edits } in
+    record w { replicas = slice_set w.replicas r reached }
+
+-- the world after replica r made an edit
+abbrev pub world_with_local_edit : ℕ → Object → ℕ → Value → World → World
+world_with_local_edit r object step value w =
+    world_with_edits r (single_edit (local_edit r (replica_at w r).edits object step value)) w
+
+-- the world with a message more
+abbrev pub world_with_message : Message → World → World
+world_with_message message w = record w { messages = w.messages ++ message ∷ [] }
+
+-- the world after replica r was advanced to a step
+abbrev pub world_with_advance : ℕ → ℕ → World → World
+world_with_advance r to w =
+    let advanced = record (replica_at w r) { horizon = max (replica_at w r).horizon to } in
+    record w { replicas = slice_set w.replicas r advanced }
+
+-- the edits that a message carries; none where there is no such message, which no accepted event names
+abbrev pub carried_edits : Option Message → Edits
+carried_edits (Some (Whole edits)) = edits
+carried_edits (Some (Answer edits)) = edits
+carried_edits (Some (Asked hs)) = empty
+carried_edits None = empty
+
+-- the heads with which a message asks; none where there is no such message, which no accepted event names
+abbrev pub asked_heads : Option Message → List Head
+asked_heads (Some (Whole edits)) = []
+asked_heads (Some (Answer edits)) = []
+asked_heads (Some (Asked hs)) = hs
+asked_heads None = []
+
+-- the world after an accepted event
+abbrev pub world_after_event : Event → World → World
+world_after_event (Edit r object step number) w = world_with_local_edit r object step (Put number) w
+world_after_event (Withdraw r object step) w = world_with_local_edit r object step Withdrawn w
+world_after_event (Import r edits) w = world_with_edits r (from_list edits.items) w
+world_after_event (Send r) w = world_with_message (Whole (replica_at w r).edits) w
+world_after_event (Heads r) w = world_with_message (Asked (heads (winners (replica_at w r).edits))) w
+world_after_event (Beyond r message) w =
+    let asked = asked_heads (slice_get w.messages message) in
+    world_with_message (Answer (beyond (winners (replica_at w r).edits) asked)) w
+world_after_event (Take r message) w = world_with_edits r (carried_edits (slice_get w.messages message)) w
+world_after_event (Advance r to) w = world_with_advance r to w
+
+-- ---- lists of events
+
+-- the world after some events, the first one first
+abbrev pub world_after_events : List Event → World → World
+world_after_events [] w = w
+world_after_events (event ∷ events) w = world_after_events events (world_after_event event w)
+
+-- the events that were accepted, by their replies
+abbrev pub accepted_events : List Event → List (Result Reply WorldFault) → List Event
+accepted_events [] replies = []
+accepted_events (event ∷ events) [] = []
+accepted_events (event ∷ events) (Ok reply ∷ replies) = event ∷ accepted_events events replies
+accepted_events (event ∷ events) (Err fault ∷ replies) = accepted_events events replies
+
+-- the world that events with these replies make: a refused event does nothing
+abbrev pub world_of_events : Plan → ℕ → List Event → List (Result Reply WorldFault) → World
+world_of_events plan count events replies =
+    world_after_events (accepted_events events replies) (opening_world plan count)
+
+-- what such events make of replica r
+abbrev pub replica_after_events : Plan → ℕ → List Event → List (Result Reply WorldFault) → ℕ → WorldReplica
+replica_after_events plan count events replies r = replica_at (world_of_events plan count events replies) r
+
+-- ---- the winners alone
+
+-- a replica that holds the winners alone
+abbrev pub replica_of_winners : WorldReplica → WorldReplica
+replica_of_winners replica = record replica { edits = winners replica.edits }
+
+-- a message that carries the winners alone
+abbrev pub message_of_winners : Message → Message
+message_of_winners (Whole edits) = Whole (winners edits)
+message_of_winners (Answer edits) = Answer (winners edits)
+message_of_winners (Asked hs) = Asked hs
+
+-- the world of which each replica holds, and each message carries, the winners alone
+abbrev pub world_of_winners : World → World
+world_of_winners w = record w {
+  replicas = map replica_of_winners w.replicas;
+  messages = map message_of_winners w.messages;
+}

@@ -1,0 +1,5 @@
+pub mod Events
+pub mod Answers
+pub mod Stamps
+pub mod Headline
+pub mod Keeping

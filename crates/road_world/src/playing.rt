@@ -1,0 +1,72 @@
+ghost use Rattle.std.specs.Prelude.{◌≡◌, ◌≤◌, ◌++◌, ◌∷◌, [], IfOk, OnOk, map};
+ghost use Rattle.std.specs.Arc.{arc_value};
+ghost use Rattle.road_plan.specs.declared.limits.TheConstants.{MOST_REPLICAS};
+ghost use Rattle.road_world.specs.Answers.{AreAnswers, gone_after_answers};
+ghost use Rattle.road_world.specs.Events.{accepted_events, message_of_winners, opening_world};
+ghost use Rattle.road_world.specs.Events.{replica_after_events, world_of_events};
+ghost use Rattle.road_world.specs.Headline.{Headline};
+ghost use Rattle.road_world.specs.Stamps.{AreFresh, imported_stamps, issued_stamps};
+
+use crate::event::Event;
+use crate::faults::{PlayFault, WorldFault};
+use crate::world::World;
+use road_ends::Meter;
+use road_plan::{OutOfMemory, Plan};
+use road_replica::Reply;
+use road_workers::Crew;
+use std::alloc::Global;
+use std::sync::Arc;
+
+/// A world after some events, and the reply to each of them.
+#[derive(Drop)]
+pub struct Played {
+    /// The world.
+    pub world: World,
+    /// One reply for each event, in order.
+    pub replies: Vec<Result<Reply, WorldFault>>,
+}
+
+/// The world of a plan and so many replicas, at most 64, after some events. A refused event does nothing, and the next
+/// ones go on; want of memory in an event is that event's reply.
+///
+/// # Errors
+///
+/// `OutOfMemory` where the growth of the opened world or of the list of replies was refused.
+pub fn play<C: Crew>(
+    alloc: Global,
+    plan: Arc<Plan>,
+    replicas: u32,
+    events: &[Event],
+    crew: &mut C,
+    meter: &mut Meter,
+) -> Result<Played, PlayFault>
+    requires { replicas ≤ MOST_REPLICAS }
+    ensures headline { IfOk result (λ played. Headline (arc_value plan) replicas
+        (replica_after_events (arc_value plan) replicas events.now played.replies.items) played.world) }
+    // Each event has its answer.
+    ensures answers { IfOk result (λ played.
+        AreAnswers (opening_world (arc_value plan) replicas) events.now played.replies.items) }
+    // Each message holds what its event put into it, of edits the winners.
+    ensures messages { IfOk result (λ played. played.world.messages ≡ map message_of_winners
+        (world_of_events (arc_value plan) replicas events.now played.replies.items).messages) }
+    // No stamp is issued twice, and none is that of an import.
+    ensures stamps { IfOk result (λ played. AreFresh (issued_stamps played.replies.items)
+        (imported_stamps (accepted_events events.now played.replies.items))) }
+    ensures gone { IfOk result (λ played.
+        C.gone crew.new ≡ gone_after_answers played.replies.items (C.gone crew.old)) }
+{
+    let mut world = World::open(alloc, plan, replicas)?;
+    let mut replies = Vec::with_capacity(alloc, events.len())?;
+    for event in events {
+        let reply = world.apply(alloc, event, crew, meter);
+        add(&mut replies, reply)?;
+    }
+    Ok(Played { world, replies })
+}
+
+// One reply more.
+fn add(replies: &mut Vec<Result<Reply, WorldFault>>, reply: Result<Reply, WorldFault>) -> Result<(), OutOfMemory>
+    ensures { OnOk result (replies.new.items ≡ replies.old.items ++ reply ∷ []) }
+{
+    Ok(replies.push(reply)?)
+}
