@@ -11,7 +11,7 @@ use Rattle.std.specs.declared.result.Result.TheVariants.{Ok, Err}
 use Rattle.std.proofs.lemmas.List.{map-set, map-append, length-map}
 use Rattle.std.proofs.lemmas.List.Folds.{list_any-append}
 use Rattle.std.proofs.lemmas.Option.{slice_get-map}
-use Rattle.lattice_core.specs.Sets.{empty, insert, items, from_list, retain, union}
+use Rattle.lattice_core.specs.Sets.{insert, items, from_list, retain, union}
 use Rattle.lattice_core.proofs.SetElements.{contains-from_list, contains-retain, contains-union, from_list-empty, items-empty, same_set}
 use Rattle.road_plan.specs.Plan.{Plan}
 use Rattle.road_plan.specs.declared.object.Object.{Object}
@@ -41,7 +41,7 @@ use Rattle.road_world.specs.declared.faults.WorldFault.TheVariants.{NoReplica}
 use Rattle.road_world.specs.declared.faults.WorldFault.TheVariants as faults
 use Rattle.road_world.specs.declared.message.Message.{Message}
 use Rattle.road_world.specs.declared.message.Message.TheVariants as messages
-use Rattle.road_world.proofs.WinnersSuffice.{replica_with, world_with, same_world}
+use Rattle.road_world.proofs.WinnersSuffice.{replica_with, same_world}
 
 -- ---- sets of lists
 
