@@ -4,6 +4,7 @@ use Rattle.std.specs.Prelude.{◌≡◌, ℕ, List, [], ◌∷◌, Result, refl}
 use Rattle.std.specs.Global.{Vec}
 use Rattle.std.specs.declared.option.Option.TheVariants.{None, Some}
 use Rattle.std.specs.declared.result.Result.TheVariants.{Ok, Err}
+use Rattle.std.proofs.Common.{sym, ◌∙◌}
 use Rattle.lattice_core.specs.Sets.{from_list}
 use Rattle.road_plan.specs.Plan.{Plan}
 use Rattle.road_plan.specs.declared.object.Object.{Object}
@@ -24,7 +25,7 @@ use Rattle.road_world.specs.declared.event.Event.{Event}
 use Rattle.road_world.specs.declared.event.Event.TheVariants.{Edit, Withdraw, Import, Send, Heads, Beyond, Take, Advance}
 use Rattle.road_world.specs.declared.faults.WorldFault.{WorldFault}
 use Rattle.road_world.specs.declared.faults.WorldFault.TheVariants.{NoReplica, NoMessage, Replica}
-use Rattle.road_world.proofs.ListedWorlds.{answers_to, computed_answers, computed_edits, computed_winners, opening_lists}
+use Rattle.road_world.proofs.ListedWorlds.{answers_to, computed_answers, computed_edits, computed_winners, opening_lists, same_set_of_lists}
 
 -- twelve cells, the last one deleted, with one zone, one inlet at the first cell and one detector
 abbrev small : Plan
@@ -109,6 +110,29 @@ greater_number_wins = computed_winners small 3 made_apart made_apart_answers ref
 -- and at the second, which they reached in the other order
 greater_number_wins_there : winners (reached made_apart made_apart_answers 1) ≡ from_list (edit (Limit 0) 3 1 1 (Put 1) ∷ [])
 greater_number_wins_there = computed_winners small 3 made_apart made_apart_answers refl 1 _ refl
+
+-- ---- order, grouping and repetition do not matter
+
+-- one replica takes a block and a limit one after the other, another takes both at once, and the block again
+abbrev regrouped : List Event
+regrouped = Edit 0 (Block 8) 4 1 ∷ Send 0 ∷ Edit 0 (Limit 0) 3 1 ∷ Send 0 ∷ Take 1 0 ∷ Take 1 1 ∷ Take 2 1 ∷ Take 2 0 ∷ []
+
+-- the limit touches an earlier step than the block
+abbrev regrouped_answers : EventAnswers
+regrouped_answers =
+    Ok (Stamped (stamp 1 0)) ∷ Ok (Message 0) ∷ Ok (Stamped (stamp 2 0)) ∷ Ok (Message 1)
+    ∷ Ok (Touched (Some 4)) ∷ Ok (Touched (Some 3)) ∷ Ok (Touched (Some 3)) ∷ Ok (Touched None) ∷ []
+
+-- these are its answers
+repeated_block_touches_nothing : AnswersOfThree regrouped regrouped_answers
+repeated_block_touches_nothing = computed_answers small 3 regrouped regrouped_answers refl
+
+-- the same edits have reached both
+same_edits_reached_both : reached regrouped regrouped_answers 1 ≡ reached regrouped regrouped_answers 2
+same_edits_reached_both =
+    computed_edits small 3 regrouped regrouped_answers refl 1 _ refl
+    ∙ same_set_of_lists _ _ refl
+    ∙ sym (computed_edits small 3 regrouped regrouped_answers refl 2 _ refl)
 
 -- ---- heads, and what lies beyond them
 

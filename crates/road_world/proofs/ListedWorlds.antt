@@ -12,7 +12,7 @@ use Rattle.std.proofs.lemmas.List.{map-set, map-append, length-map}
 use Rattle.std.proofs.lemmas.List.Folds.{list_any-append}
 use Rattle.std.proofs.lemmas.Option.{slice_get-map}
 use Rattle.lattice_core.specs.Sets.{insert, items, from_list, retain, union}
-use Rattle.lattice_core.proofs.SetElements.{contains-from_list, contains-retain, contains-union, from_list-empty, items-empty, same_set}
+use Rattle.lattice_core.proofs.SetElements.{contains-from_list, contains-retain, contains-union, from_list-empty, items-empty, same_items, same_set}
 use Rattle.road_plan.specs.Plan.{Plan}
 use Rattle.road_plan.specs.declared.object.Object.{Object}
 use Rattle.road_scenario.specs.Counts.{greatest_count_in}
@@ -69,6 +69,10 @@ entries_of_list (e ∷ es) = maps.entries-insert edit_total (from_list es) e tt 
 pub items_of_list : (es : List edits.Edit) → items (from_list {R = edit_cmp} es) ≡ sorted es
 unfolding items
 items_of_list es = ap (map (λ x. x.0)) (entries_of_list es)
+
+-- lists that are the same when sorted have one set: order and repetition do not matter
+pub same_set_of_lists : (es fs : List edits.Edit) → sorted es ≡ sorted fs → from_list {R = edit_cmp} es ≡ from_list fs
+same_set_of_lists es fs same = same_items _ _ (items_of_list es ∙ same ∙ sym (items_of_list fs))
 
 -- the union of the sets of two lists is that of both
 pub union_of_lists : (es fs : List edits.Edit) → union (from_list {R = edit_cmp} es) (from_list fs) ≡ from_list (es ++ fs)
