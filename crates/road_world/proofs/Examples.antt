@@ -1,8 +1,10 @@
 -- Worked lists of events: their answers, and the edits that they make reach a replica. Each is computed in the world of
 -- lists.
 use Rattle.std.specs.Prelude.{◌≡◌, ℕ, List, [], ◌∷◌, Result, refl}
+use Rattle.std.specs.Global.{Vec}
 use Rattle.std.specs.declared.option.Option.TheVariants.{None, Some}
 use Rattle.std.specs.declared.result.Result.TheVariants.{Ok, Err}
+use Rattle.std.proofs.Common.{sym, ◌∙◌}
 use Rattle.lattice_core.specs.Sets.{from_list}
 use Rattle.road_plan.specs.Plan.{Plan}
 use Rattle.road_plan.specs.declared.object.Object.{Object}
@@ -20,10 +22,10 @@ use Rattle.road_replica.specs.declared.reply.Reply.TheVariants.{Stamped, Touched
 use Rattle.road_world.specs.Answers.{AreAnswers}
 use Rattle.road_world.specs.Events.{opening_world, replica_after_events}
 use Rattle.road_world.specs.declared.event.Event.{Event}
-use Rattle.road_world.specs.declared.event.Event.TheVariants.{Edit, Withdraw, Send, Heads, Beyond, Take, Advance}
+use Rattle.road_world.specs.declared.event.Event.TheVariants.{Edit, Withdraw, Import, Send, Heads, Beyond, Take, Advance}
 use Rattle.road_world.specs.declared.faults.WorldFault.{WorldFault}
 use Rattle.road_world.specs.declared.faults.WorldFault.TheVariants.{NoReplica, NoMessage, Replica}
-use Rattle.road_world.proofs.ListedWorlds.{computed_answers, computed_edits, computed_winners}
+use Rattle.road_world.proofs.ListedWorlds.{answers_to, computed_answers, computed_edits, computed_winners, opening_lists, same_set_of_lists}
 
 -- twelve cells, the last one deleted, with one zone, one inlet at the first cell and one detector
 abbrev small : Plan
@@ -59,6 +61,7 @@ withdrawal = Edit 0 (Block 8) 4 1 ∷ Send 0 ∷ Withdraw 0 (Block 8) 4 ∷ Take
 abbrev withdrawal_answers : EventAnswers
 withdrawal_answers = Ok (Stamped (stamp 1 0)) ∷ Ok (Message 0) ∷ Ok (Stamped (stamp 2 0)) ∷ Ok (Touched None) ∷ []
 
+-- these are its answers
 older_block_touches_nothing : AnswersOfThree withdrawal withdrawal_answers
 older_block_touches_nothing = computed_answers small 3 withdrawal withdrawal_answers refl
 
@@ -78,6 +81,7 @@ two_limits_answers =
     Ok (Stamped (stamp 1 0)) ∷ Ok (Message 0) ∷ Ok (Touched (Some 3)) ∷ Ok (Stamped (stamp 2 1))
     ∷ Ok (Message 1) ∷ Ok (Touched (Some 3)) ∷ Ok (Touched None) ∷ []
 
+-- these are its answers
 later_count_is_more : AnswersOfThree two_limits two_limits_answers
 later_count_is_more = computed_answers small 3 two_limits two_limits_answers refl
 
@@ -95,6 +99,7 @@ made_apart_answers =
     Ok (Stamped (stamp 1 0)) ∷ Ok (Stamped (stamp 1 1)) ∷ Ok (Message 0) ∷ Ok (Message 1)
     ∷ Ok (Touched (Some 3)) ∷ Ok (Touched None) ∷ []
 
+-- these are its answers
 greater_number_touches : AnswersOfThree made_apart made_apart_answers
 greater_number_touches = computed_answers small 3 made_apart made_apart_answers refl
 
@@ -105,6 +110,29 @@ greater_number_wins = computed_winners small 3 made_apart made_apart_answers ref
 -- and at the second, which they reached in the other order
 greater_number_wins_there : winners (reached made_apart made_apart_answers 1) ≡ from_list (edit (Limit 0) 3 1 1 (Put 1) ∷ [])
 greater_number_wins_there = computed_winners small 3 made_apart made_apart_answers refl 1 _ refl
+
+-- ---- order, grouping and repetition do not matter
+
+-- one replica takes a block and a limit one after the other, another takes both at once, and the block again
+abbrev regrouped : List Event
+regrouped = Edit 0 (Block 8) 4 1 ∷ Send 0 ∷ Edit 0 (Limit 0) 3 1 ∷ Send 0 ∷ Take 1 0 ∷ Take 1 1 ∷ Take 2 1 ∷ Take 2 0 ∷ []
+
+-- the limit touches an earlier step than the block
+abbrev regrouped_answers : EventAnswers
+regrouped_answers =
+    Ok (Stamped (stamp 1 0)) ∷ Ok (Message 0) ∷ Ok (Stamped (stamp 2 0)) ∷ Ok (Message 1)
+    ∷ Ok (Touched (Some 4)) ∷ Ok (Touched (Some 3)) ∷ Ok (Touched (Some 3)) ∷ Ok (Touched None) ∷ []
+
+-- these are its answers
+repeated_block_touches_nothing : AnswersOfThree regrouped regrouped_answers
+repeated_block_touches_nothing = computed_answers small 3 regrouped regrouped_answers refl
+
+-- the same edits have reached both
+same_edits_reached_both : reached regrouped regrouped_answers 1 ≡ reached regrouped regrouped_answers 2
+same_edits_reached_both =
+    computed_edits small 3 regrouped regrouped_answers refl 1 _ refl
+    ∙ same_set_of_lists _ _ refl
+    ∙ sym (computed_edits small 3 regrouped regrouped_answers refl 2 _ refl)
 
 -- ---- heads, and what lies beyond them
 
@@ -121,6 +149,7 @@ asking_answers =
     ∷ Ok (Stamped (stamp 3 1)) ∷ Ok (Stamped (stamp 3 0)) ∷ Ok (Message 1) ∷ Ok (Message 2)
     ∷ Ok (Touched (Some 4)) ∷ Ok (Touched (Some 5)) ∷ Ok (Touched None) ∷ []
 
+-- these are its answers
 again_touches_nothing : AnswersOfThree asking asking_answers
 again_touches_nothing = computed_answers small 3 asking asking_answers refl
 
@@ -140,6 +169,7 @@ abbrev advances_answers : EventAnswers
 advances_answers =
     Ok (Horizon 100) ∷ Ok (Horizon 100) ∷ Ok (Horizon 40) ∷ Err (Replica replica_faults.Horizon) ∷ []
 
+-- these are its answers
 greatest_step_counts : AnswersOfThree advances advances_answers
 greatest_step_counts = computed_answers small 3 advances advances_answers refl
 
@@ -156,9 +186,42 @@ refusals_answers =
     Err NoReplica ∷ Err NoMessage ∷ Ok (Message 0) ∷ Err NoMessage ∷ Ok (Message 1) ∷ Err NoMessage
     ∷ Err (Replica replica_faults.NoObject) ∷ Ok (Stamped (stamp 1 0)) ∷ []
 
+-- these are its answers
 refused_by_name : AnswersOfThree refusals refusals_answers
 refused_by_name = computed_answers small 3 refusals refusals_answers refl
 
 -- the limit alone has reached the first replica
 refused_is_not_done : reached refusals refusals_answers 0 ≡ from_list (edit (Limit 0) 3 1 0 (Put 1) ∷ [])
 refused_is_not_done = computed_edits small 3 refusals refusals_answers refl 0 _ refl
+
+-- ---- imports
+
+-- two limits of one stamp come from elsewhere, and then one that bears a replica's number; then the replica makes one
+abbrev imports : Vec edits.Edit → Vec edits.Edit → List Event
+imports outside inside = Import 0 outside ∷ Import 0 inside ∷ Edit 0 (Limit 0) 5 1 ∷ []
+
+-- the second import is refused; the replica's limit has a count that is one more than that of the first import
+abbrev imports_answers : EventAnswers
+imports_answers = Ok (Touched (Some 3)) ∷ Err (Replica replica_faults.Insider) ∷ Ok (Stamped (stamp 8 0)) ∷ []
+
+-- the edits of the two imports
+abbrev FromOutside : Vec edits.Edit → Type 0
+FromOutside es = es.items ≡ edit (Limit 0) 3 7 64 (Put 2) ∷ edit (Limit 0) 3 7 64 (Put 3) ∷ []
+
+abbrev FromInside : Vec edits.Edit → Type 0
+FromInside es = es.items ≡ edit (Limit 0) 3 7 63 (Put 2) ∷ []
+
+-- its answers, computed
+imports_computed : (outside inside : Vec edits.Edit) → FromOutside outside → FromInside inside → answers_to small (opening_lists 3) (imports outside inside) ≡ imports_answers
+imports_computed outside inside is also = simp (is, also) refl
+
+-- these are its answers
+next_count_is_above_imports : (outside inside : Vec edits.Edit) → FromOutside outside → FromInside inside → AnswersOfThree (imports outside inside) imports_answers
+next_count_is_above_imports outside inside is also =
+    computed_answers small 3 (imports outside inside) imports_answers (imports_computed outside inside is also)
+
+-- the greater number wins where stamps are the same; what was refused is not among the winners
+greater_number_of_one_stamp_wins : (outside inside : Vec edits.Edit) → FromOutside outside → FromInside inside
+    → winners (reached (imports outside inside) imports_answers 0) ≡ from_list (edit (Limit 0) 3 7 64 (Put 3) ∷ edit (Limit 0) 5 8 0 (Put 1) ∷ [])
+greater_number_of_one_stamp_wins outside inside is also =
+    computed_winners small 3 (imports outside inside) imports_answers (imports_computed outside inside is also) 0 _ (simp (is, also) refl)

@@ -11,8 +11,8 @@ use Rattle.std.specs.declared.result.Result.TheVariants.{Ok, Err}
 use Rattle.std.proofs.lemmas.List.{map-set, map-append, length-map}
 use Rattle.std.proofs.lemmas.List.Folds.{list_any-append}
 use Rattle.std.proofs.lemmas.Option.{slice_get-map}
-use Rattle.lattice_core.specs.Sets.{empty, insert, items, from_list, retain, union}
-use Rattle.lattice_core.proofs.SetElements.{contains-from_list, contains-retain, contains-union, from_list-empty, items-empty, same_set}
+use Rattle.lattice_core.specs.Sets.{insert, items, from_list, retain, union}
+use Rattle.lattice_core.proofs.SetElements.{contains-from_list, contains-retain, contains-union, from_list-empty, items-empty, same_items, same_set}
 use Rattle.road_plan.specs.Plan.{Plan}
 use Rattle.road_plan.specs.declared.object.Object.{Object}
 use Rattle.road_scenario.specs.Counts.{greatest_count_in}
@@ -41,7 +41,7 @@ use Rattle.road_world.specs.declared.faults.WorldFault.TheVariants.{NoReplica}
 use Rattle.road_world.specs.declared.faults.WorldFault.TheVariants as faults
 use Rattle.road_world.specs.declared.message.Message.{Message}
 use Rattle.road_world.specs.declared.message.Message.TheVariants as messages
-use Rattle.road_world.proofs.WinnersSuffice.{replica_with, world_with, same_world}
+use Rattle.road_world.proofs.WinnersSuffice.{replica_with, same_world}
 
 -- ---- sets of lists
 
@@ -54,19 +54,25 @@ sorted_entries (e ∷ es) = put edit_cmp e tt (sorted_entries es)
 abbrev pub sorted : List edits.Edit → List edits.Edit
 sorted es = map (λ x. x.0) (sorted_entries es)
 
+-- entries without keys are none
 no_entry : (xs : List (edits.Edit × Unit {0})) → map (λ x. x.0) xs ≡ [] → xs ≡ []
 no_entry [] h = refl
 no_entry (x ∷ xs) h = cc
 
+-- they are those of the set
 entries_of_list : (es : List edits.Edit) → maps.entries (from_list {R = edit_cmp} es) ≡ sorted_entries es
 unfolding from_list insert items
 entries_of_list [] = no_entry _ (items-empty edit_cmp)
 entries_of_list (e ∷ es) = maps.entries-insert edit_total (from_list es) e tt ∙ ap (put edit_cmp e tt) (entries_of_list es)
 
--- they are the items of the set of a list
+-- so these are the set's items
 pub items_of_list : (es : List edits.Edit) → items (from_list {R = edit_cmp} es) ≡ sorted es
 unfolding items
 items_of_list es = ap (map (λ x. x.0)) (entries_of_list es)
+
+-- lists that are the same when sorted have one set: order and repetition do not matter
+pub same_set_of_lists : (es fs : List edits.Edit) → sorted es ≡ sorted fs → from_list {R = edit_cmp} es ≡ from_list fs
+same_set_of_lists es fs same = same_items _ _ (items_of_list es ∙ same ∙ sym (items_of_list fs))
 
 -- the union of the sets of two lists is that of both
 pub union_of_lists : (es fs : List edits.Edit) → union (from_list {R = edit_cmp} es) (from_list fs) ≡ from_list (es ++ fs)
@@ -86,6 +92,7 @@ retained_of_list p es = same_set edit_total edit_exact _ _ (λ q.
 winners_of_list : (es : List edits.Edit) → winners (from_list es) ≡ from_list (winners_in es)
 winners_of_list es = sym (from_list-winners_in es)
 
+-- and their items
 winner_items_of_list : (es : List edits.Edit) → items (winners (from_list es)) ≡ sorted (winners_in es)
 winner_items_of_list es = ap items (winners_of_list es) ∙ items_of_list (winners_in es)
 
@@ -243,16 +250,19 @@ abbrev pub after_all : Plan → ListWorld → List Event → ListWorld
 after_all plan w [] = w
 after_all plan w (e ∷ es) = after_all plan (after_answer e (answer_to plan w e) w) es
 
--- ---- they are those of the sets
+-- ---- they are those in the worlds of the sets
 
+-- a replica before any event
 opening_of_list : opening_replica ≡ replica_of_list unedited
 opening_of_list = ap (λ (s : Edits). replica_with s 0) (sym from_list-empty)
 
+-- replica r of several
 at_of_lists : (xs : List ListReplica) (r : ℕ) → slice_index_or (map replica_of_list xs) r opening_replica ≡ replica_of_list (slice_index_or xs r unedited)
 at_of_lists [] r = opening_of_list
 at_of_lists (x ∷ xs) zero = refl
 at_of_lists (x ∷ xs) (suc r) = at_of_lists xs r
 
+-- several replicas before any event
 opening_replicas_of_lists : (count : ℕ) → map replica_of_list (replicate count unedited) ≡ replicate count opening_replica
 opening_replicas_of_lists zero = refl
 opening_replicas_of_lists (suc count) =
@@ -263,12 +273,14 @@ opening_replicas_of_lists (suc count) =
 pub opening_of_lists : (plan : Plan) (count : ℕ) → world_of_lists plan (opening_lists count) ≡ opening_world plan count
 opening_of_lists plan count = same_world plan _ _ _ _ (opening_replicas_of_lists count) refl
 
+-- the edits that a message carries, if there is one
 carried_of_list : (o : Option ListMessage) → carried_edits (option_map message_of_list o) ≡ from_list (carried o)
 carried_of_list None = sym from_list-empty
 carried_of_list (Some (Whole es)) = refl
 carried_of_list (Some (Answer es)) = refl
 carried_of_list (Some (Asked hs)) = sym from_list-empty
 
+-- the heads with which it asks
 asked_of_list : (o : Option ListMessage) → asked_heads (option_map message_of_list o) ≡ asked o
 asked_of_list None = refl
 asked_of_list (Some (Whole es)) = refl
@@ -280,13 +292,15 @@ module _ (plan : Plan) (w : ListWorld) where
   abbrev sets : World
   sets = world_of_lists plan w
 
+  -- replica r
   replica_of_lists : (r : ℕ) → replica_at sets r ≡ replica_of_list (at w r)
   replica_of_lists r = at_of_lists w.replicas r
 
-  -- what a message carries
+  -- the edits that a message carries
   carried_of_lists : (m : ℕ) → carried_edits (slice_get sets.messages m) ≡ from_list (carried (slice_get w.messages m))
   carried_of_lists m = ap carried_edits (slice_get-map message_of_list w.messages m) ∙ carried_of_list (slice_get w.messages m)
 
+  -- the heads with which it asks
   asked_of_lists : (m : ℕ) → asked_heads (slice_get sets.messages m) ≡ asked (slice_get w.messages m)
   asked_of_lists m = ap asked_heads (slice_get-map message_of_list w.messages m) ∙ asked_of_list (slice_get w.messages m)
 
@@ -309,6 +323,7 @@ module _ (plan : Plan) (w : ListWorld) where
       ∙ sym (map-set replica_of_list w.replicas r (record (at w r) { edits = held ++ es })))
       refl
 
+  -- a replica makes an edit
   local_edit_of_lists : (r : ℕ) (o : Object) (step : ℕ) (v : Value) → world_with_local_edit r o step v sets ≡ world_of_lists plan (with_edits r (made w r o step v ∷ []) w)
   local_edit_of_lists r o step v = edits_of_lists r _ (made w r o step v ∷ []) (ap single_edit (made_of_lists r o step v))
 
@@ -344,6 +359,7 @@ module _ (plan : Plan) (w : ListWorld) where
       ∙ sym (map-set replica_of_list w.replicas r (record (at w r) { horizon = max (at w r).horizon to })))
       refl
 
+  -- the first step that edits touch
   touched_of_lists : (r : ℕ) (s : Edits) (es : List edits.Edit) → s ≡ from_list es → touched_reply sets r s ≡ touched_there w r es
   touched_of_lists r s es is =
       let held : List edits.Edit = (at w r).edits in
@@ -352,9 +368,11 @@ module _ (plan : Plan) (w : ListWorld) where
       ∙ ap (λ (u : Edits). replies.Touched (touched (from_list held) u)) (union_of_lists held es)
       ∙ (λ i. replies.Touched (touched_in (winner_items_of_list held i) (winner_items_of_list (held ++ es) i)))
 
+  -- the stamp of the edit that a replica makes
   stamp_of_lists : (r : ℕ) (o : Object) (step : ℕ) (v : Value) → replies.Stamped (local_edit r (replica_at sets r).edits o step v).stamp ≡ replies.Stamped (made w r o step v).stamp
   stamp_of_lists r o step v = ap (λ (e : edits.Edit). replies.Stamped e.stamp) (made_of_lists r o step v)
 
+  -- the number of the message that is made
   number_of_lists : replies.Message (length sets.messages) ≡ replies.Message (length w.messages)
   number_of_lists = ap replies.Message (length-map w.messages message_of_list)
 
@@ -369,10 +387,12 @@ module _ (plan : Plan) (w : ListWorld) where
   reply_of_lists (Take r m) = touched_of_lists r _ (carried (slice_get w.messages m)) (carried_of_lists m)
   reply_of_lists (Advance r to) = ap (λ (x : WorldReplica). replies.Horizon (max x.horizon to)) (replica_of_lists r)
 
+  -- the fault of the edit that a replica would make
   made_fault_of_lists : (r : ℕ) (o : Object) (step : ℕ) (v : Value) → option_map faults.Replica (option_map made_fault (fault_of plan (local_edit r (replica_at sets r).edits o step v))) ≡ option_map faults.Replica (option_map made_fault (fault_of plan (made w r o step v)))
   made_fault_of_lists r o step v =
       ap (λ (e : edits.Edit). option_map faults.Replica (option_map made_fault (fault_of plan e))) (made_of_lists r o step v)
 
+  -- for which cause an event is refused where there is such a replica
   fault_there_of_lists : (e : Event) → fault_at_replica sets e ≡ fault_there plan w e
   fault_there_of_lists (Edit r o step n) = made_fault_of_lists r o step (Put n)
   fault_there_of_lists (Withdraw r o step) = made_fault_of_lists r o step Withdrawn
@@ -383,7 +403,7 @@ module _ (plan : Plan) (w : ListWorld) where
   fault_there_of_lists (Take r m) = ap edits_wanted_fault (slice_get-map message_of_list w.messages m)
   fault_there_of_lists (Advance r to) = refl
 
-  -- for which cause it is refused
+  -- and for which any event is
   pub fault_of_lists : (e : Event) → fault_of_event sets e ≡ fault_to plan w e
   fault_of_lists e =
       ap (λ (n : ℕ). if nat_lt (replica_number e) n then fault_at_replica sets e else Some NoReplica) (length-map w.replicas replica_of_list)
