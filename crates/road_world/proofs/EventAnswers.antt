@@ -1,6 +1,6 @@
 -- What a replica answers is what its world answers.
-use Rattle.std.proofs.Common.{◌≡◌, ◌<◌, ◌∙◌, length, Option, Some, None, refl, ap, sym, subst, inl, inr}
-use Rattle.std.specs.Prelude.{nat_lt, IsErrAnd, Result, if◌then◌else◌}
+use Rattle.std.proofs.Common.{◌≡◌, ◌⊎◌, ◌<◌, ◌∙◌, length, Option, Some, None, ap, sym, subst, inl, inr}
+use Rattle.std.specs.Prelude.{IsErrAnd, Result, if◌then◌else◌}
 use Rattle.std.specs.Option.{option_map}
 use Rattle.std.specs.declared.result.Result.TheVariants.{Ok, Err}
 use Rattle.std.proofs.lemmas.Bool.{lt-ltb}
@@ -8,19 +8,23 @@ use Rattle.road_replica.specs.Refusals.{IsWriteRefusal}
 use Rattle.road_replica.specs.declared.faults.ReplicaFault.{ReplicaFault}
 use Rattle.road_replica.specs.declared.faults.ReplicaFault.TheVariants.{WorkersGone, OutOfMemory}
 use Rattle.road_replica.specs.declared.reply.Reply.{Reply}
-use Rattle.road_world.specs.Answers.{replica_number, fault_at_replica, fault_of_event, reply_to_event, IsRefusal, IsAnswer}
+use Rattle.road_world.specs.Answers.{replica_number, fault_at_replica, fault_of_event, reply_to_event, IsUnnamedRefusal, IsRefusal, IsAnswer}
 use Rattle.road_world.specs.Events.{World}
 use Rattle.road_world.specs.declared.event.Event.{Event}
 use Rattle.road_world.specs.declared.faults.WorldFault.{WorldFault}
 use Rattle.road_world.specs.declared.faults.WorldFault.TheVariants as faults
 use Rattle.road_world.specs.declared.faults.WorldFault.TheVariants.{NoReplica}
 
--- a replica's refusal is the world's
-pub refused : (cause : Option ReplicaFault) (fault : ReplicaFault) → IsWriteRefusal cause fault → IsRefusal (option_map faults.Replica cause) (faults.Replica fault)
-refused (Some cause) fault is = ap faults.Replica is
-refused None fault is = elim is as (λ _. IsRefusal None (faults.Replica fault)) [
-  | inl gone ↦ inl (ap faults.Replica gone)
-  | inr none ↦ inr (ap faults.Replica none)
+-- a write: it may be refused for lost workers or want of memory
+abbrev pub IsWrite : Event → Type 0
+IsWrite event = (fault : WorldFault) → (fault ≡ faults.Replica WorkersGone) ⊎ (fault ≡ faults.Replica OutOfMemory) → IsUnnamedRefusal event fault
+
+-- a replica's refusal of a write is the world's
+pub refused : (event : Event) (cause : Option ReplicaFault) (fault : ReplicaFault) → IsWrite event → IsWriteRefusal cause fault → IsRefusal event (option_map faults.Replica cause) (faults.Replica fault)
+refused event (Some cause) fault writes is = ap faults.Replica is
+refused event None fault writes is = elim is as (λ _. IsRefusal event None (faults.Replica fault)) [
+  | inl gone ↦ writes (faults.Replica fault) (inl (ap faults.Replica gone))
+  | inr none ↦ writes (faults.Replica fault) (inr (ap faults.Replica none))
 ]
 
 -- where there is such a replica, the cause is the one there
@@ -31,11 +35,11 @@ fault_there w event below = ap (λ b. if b then fault_at_replica w event else So
 pub accepted : (w : World) (event : Event) (reply : Reply) → replica_number event < length w.replicas → fault_at_replica w event ≡ None → reply ≡ reply_to_event w event → IsAnswer w event (Ok reply)
 accepted w event reply below none is = (fault_there w event below ∙ none, is)
 
-pub not_accepted : (w : World) (event : Event) (fault : WorldFault) → replica_number event < length w.replicas → IsRefusal (fault_at_replica w event) fault → IsAnswer w event (Err fault)
-not_accepted w event fault below is = subst (λ cause. IsRefusal cause fault) (sym (fault_there w event below)) is
+pub not_accepted : (w : World) (event : Event) (fault : WorldFault) → replica_number event < length w.replicas → IsRefusal event (fault_at_replica w event) fault → IsAnswer w event (Err fault)
+not_accepted w event fault below is = subst (λ cause. IsRefusal event cause fault) (sym (fault_there w event below)) is
 
 -- and so is a refusal, once the world hands it on
 pub handed_on : (w : World) (event : Event) (result : Result Reply WorldFault) (fault : ReplicaFault) → replica_number event < length w.replicas → IsErrAnd result (λ given. given ≡ faults.Replica fault)
-    → IsRefusal (fault_at_replica w event) (faults.Replica fault) → IsAnswer w event result
+    → IsRefusal event (fault_at_replica w event) (faults.Replica fault) → IsAnswer w event result
 handed_on w event (Ok reply) fault below given is = absurd given
 handed_on w event (Err other) fault below given is = subst (λ given. IsAnswer w event (Err given)) (sym given) (not_accepted w event (faults.Replica fault) below is)

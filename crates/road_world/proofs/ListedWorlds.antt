@@ -421,7 +421,7 @@ module _ (plan : Plan) (w : ListWorld) where
       by_cause : (f : Option WorldFault) → fault_of_event sets e ≡ f → IsAnswer sets e (cause_or f (reply_to w e))
       by_cause None h = (h, sym (reply_of_lists e))
       by_cause (Some cause) h =
-          let Refused : Option WorldFault → Type 0 = λ o. IsRefusal o cause in
+          let Refused : Option WorldFault → Type 0 = λ o. IsRefusal e o cause in
           subst Refused (sym h) refl
 
 -- the answers to some events are answers to them

@@ -19,7 +19,8 @@ use Rattle.road_replica.specs.declared.reply.Reply.{Reply}
 use Rattle.road_replica.specs.declared.reply.Reply.TheVariants as replies
 use Rattle.road_world.specs.Events.{World, replica_at, carried_edits, world_after_event}
 use Rattle.road_world.specs.declared.event.Event.{Event}
-use Rattle.road_world.specs.declared.event.Event.TheVariants.{Edit, Withdraw, Import, Send, Heads, Beyond, Take, Advance}
+use Rattle.road_world.specs.declared.event.Event.TheVariants.{Edit, Withdraw, Import, Send}
+use Rattle.road_world.specs.declared.event.Event.TheVariants.{Heads, Beyond, Take, Advance}
 use Rattle.road_world.specs.declared.faults.WorldFault.{WorldFault}
 use Rattle.road_world.specs.declared.faults.WorldFault.TheVariants.{NoReplica, NoMessage}
 use Rattle.road_world.specs.declared.faults.WorldFault.TheVariants as faults
@@ -103,15 +104,22 @@ fault_of_event w event = if nat_lt (replica_number event) (length w.replicas) th
 
 -- ---- the answer to any event
 
--- an event is refused for the named cause where there is one, and else for lost workers or want of memory
-abbrev pub IsRefusal : Option WorldFault → WorldFault → Type 0
-IsRefusal (Some cause) fault = fault ≡ cause
-IsRefusal None fault = (fault ≡ faults.Replica WorkersGone) ⊎ (fault ≡ faults.Replica OutOfMemory)
+-- where no cause is named, a message is refused for want of memory, and a write for that or for lost workers
+abbrev pub IsUnnamedRefusal : Event → WorldFault → Type 0
+IsUnnamedRefusal (Send r) fault = fault ≡ faults.Replica OutOfMemory
+IsUnnamedRefusal (Heads r) fault = fault ≡ faults.Replica OutOfMemory
+IsUnnamedRefusal (Beyond r message) fault = fault ≡ faults.Replica OutOfMemory
+IsUnnamedRefusal event fault = (fault ≡ faults.Replica WorkersGone) ⊎ (fault ≡ faults.Replica OutOfMemory)
+
+-- an event is refused for the named cause where there is one
+abbrev pub IsRefusal : Event → Option WorldFault → WorldFault → Type 0
+IsRefusal event (Some cause) fault = fault ≡ cause
+IsRefusal event None fault = IsUnnamedRefusal event fault
 
 -- what may be answered to an event in a world
 abbrev pub IsAnswer : World → Event → Result Reply WorldFault → Type 0
 IsAnswer w event (Ok reply) = (fault_of_event w event ≡ None) × (reply ≡ reply_to_event w event)
-IsAnswer w event (Err fault) = IsRefusal (fault_of_event w event) fault
+IsAnswer w event (Err fault) = IsRefusal event (fault_of_event w event) fault
 
 -- the world after an event and its answer
 abbrev pub world_after_answer : Event → Result Reply WorldFault → World → World

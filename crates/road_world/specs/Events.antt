@@ -16,7 +16,8 @@ use Rattle.road_delta.specs.declared.heads.Head.{Head}
 use Rattle.road_replica.specs.Replicas.{local_edit, single_edit}
 use Rattle.road_replica.specs.declared.reply.Reply.{Reply}
 use Rattle.road_world.specs.declared.event.Event.{Event}
-use Rattle.road_world.specs.declared.event.Event.TheVariants.{Edit, Withdraw, Import, Send, Heads, Beyond, Take, Advance}
+use Rattle.road_world.specs.declared.event.Event.TheVariants.{Edit, Withdraw, Import, Send}
+use Rattle.road_world.specs.declared.event.Event.TheVariants.{Heads, Beyond, Take, Advance}
 use Rattle.road_world.specs.declared.message.Message.{Message}
 use Rattle.road_world.specs.declared.message.Message.TheVariants.{Whole, Answer, Asked}
 use Rattle.road_world.specs.declared.faults.WorldFault.{WorldFault}

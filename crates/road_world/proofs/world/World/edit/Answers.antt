@@ -26,7 +26,7 @@ returns-in_err-stamp-clause-answer g c =
     let below = below_kept plan xs ms c.self.invariant k c.self.view_is c.args.at c.requires in
     let same = with_sheet plan xs ms c.self.invariant k c.self.view_is c.args.at c.index_mut-replica.result.now c.index_mut-replica.ensures.value below in
     let is = subst (λ (x : Replica). IsWriteRefusal (cause x) fault) same c.in_err-stamp.ensures.refused in
-    handed_on k (events.Edit c.args.at c.args.object c.args.step c.args.value) c.from_residual.result fault c.requires c.from_residual.ensures.1 (refused (cause (replica_with_sheet k c.args.at)) fault is)
+    handed_on k (events.Edit c.args.at c.args.object c.args.step c.args.value) c.from_residual.result fault c.requires c.from_residual.ensures.1 (refused (events.Edit c.args.at c.args.object c.args.step c.args.value) (cause (replica_with_sheet k c.args.at)) fault (λ f h. h) is)
 
 pub invariant_of-self-2 : goal.invariant_of-self-2
 invariant_of-self-2 g c =

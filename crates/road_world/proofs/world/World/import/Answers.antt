@@ -29,7 +29,7 @@ returns-in_err-touched-clause-answer g c =
     let same_plan = (is_replica plan xs ms c.self.invariant c.args.at c.index_mut-replica.result.now c.index_mut-replica.ensures.value below).plan_is ∙ plan_same plan xs ms c.self.invariant k c.self.view_is in
     let of_plan = subst (λ (p : Plan). IsWriteRefusal (import_fault p c.deref.result.now) fault) same_plan c.in_err-touched.ensures.refused in
     let is = subst (λ (es : List Edit). IsWriteRefusal (import_fault k.plan es) fault) c.deref.ensures.value of_plan in
-    handed_on k (events.Import c.args.at c.args.edits.now) c.from_residual.result fault c.requires c.from_residual.ensures.1 (refused (import_fault k.plan c.args.edits.now.items) fault is)
+    handed_on k (events.Import c.args.at c.args.edits.now) c.from_residual.result fault c.requires c.from_residual.ensures.1 (refused (events.Import c.args.at c.args.edits.now) (import_fault k.plan c.args.edits.now.items) fault (λ f h. h) is)
 
 pub invariant_of-self-2 : goal.invariant_of-self-2
 invariant_of-self-2 g c =

@@ -29,9 +29,9 @@ returns-in_err-touched-clause-answer g c =
     let wanted : edits_wanted_fault (slice_get ms m) ≡ None = ap (λ (ns : List Message). edits_wanted_fault (slice_get ns m)) (sym c.deref.ensures.value) ∙ c.in-Some.ensures.wanted in
     let same : c.in-Some.scenario.now ≡ carried_edits (slice_get ms m) = c.in-Some.ensures.edits ∙ ap (λ (ns : List Message). carried_edits (slice_get ns m)) c.deref.ensures.value in
     let none = ap (λ (s : Edits). take_fault x.sheet.plan s) same ∙ carried_without_fault plan xs ms c.self.invariant k c.self.view_is c.args.at x m c.index_mut-replica.ensures.value below wanted in
-    let is = refused None fault (subst (λ (cause : Option ReplicaFault). IsWriteRefusal cause fault) none c.in_err-touched.ensures.refused) in
+    let is = refused (events.Take c.args.at m) None fault (λ f h. h) (subst (λ (cause : Option ReplicaFault). IsWriteRefusal cause fault) none c.in_err-touched.ensures.refused) in
     let there : edits_wanted_fault (slice_get k.messages m) ≡ None = ap (λ (w : World). edits_wanted_fault (slice_get w.messages m)) (sym c.self.view_is) ∙ wanted in
-    handed_on k (events.Take c.args.at m) c.from_residual.result fault c.requires c.from_residual.ensures.1 (subst (λ (cause : Option WorldFault). IsRefusal cause (faults.Replica fault)) (sym there) is)
+    handed_on k (events.Take c.args.at m) c.from_residual.result fault c.requires c.from_residual.ensures.1 (subst (λ (cause : Option WorldFault). IsRefusal (events.Take c.args.at m) cause (faults.Replica fault)) (sym there) is)
 
 pub invariant_of-self-2 : goal.invariant_of-self-2
 invariant_of-self-2 g c =
