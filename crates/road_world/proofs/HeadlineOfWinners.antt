@@ -87,8 +87,9 @@ module _ (plan : Plan) (count : ℕ) (events : List Event) (replies : List (Resu
       ∙ sym (ap (λ (x : Sheet). read x.plan x.edits) (sheet_is s))
 
   -- the headline, from that the world holds the winners of what the events have made
-  pub headline : Headline plan count past world
+  pub headline : Headline plan count events replies world
   headline = record {
+    same_plan = ap (λ (w : World). w.plan) holds ∙ plan-of_events plan count events replies;
     replicas = ap (λ (w : World). length w.replicas) holds ∙ replicas-of_winners plan count events replies;
     scenario = λ r b. ap (λ (x : Sheet). x.edits) (sheet_is r);
     simulated = λ r b. ap (λ (x : Sheet). x.horizon) (sheet_is r);

@@ -1,7 +1,12 @@
 -- The headline: for every list of events, each replica's scenario is the winners of the edits that reached it, and at
 -- every step that it has simulated each cell and each detector count is that of one worker's run of those winners from
--- step zero; so replicas that the same edits reached agree at every step that both have simulated.
-use Rattle.std.specs.Prelude.{◌≡◌, ◌<◌, ◌≤◌, ℕ, length, false}
+-- step zero; so replicas that the same edits reached, in whatever order, grouping and repetition, agree at every step
+-- that both have simulated.
+--
+-- What a replica shows is told by its sheet s: `Replica::state` answers `state_of s step`, or refuses for
+-- `state_fault s step`; likewise `rows` by `rows_of` and `rows_fault`, `totals` by `total_of` and `totals_fault`.
+-- A run (`run_at`, `rows_at`, `total_at`) begins at step zero always, and knows no kept state, no crew and no meter.
+use Rattle.std.specs.Prelude.{◌≡◌, ◌<◌, ◌≤◌, ℕ, List, Result, length, false}
 use Rattle.std.specs.declared.option.Option.{Option}
 use Rattle.std.specs.declared.option.Option.TheVariants.{None}
 use Rattle.road_plan.specs.Plan.{Plan}
@@ -10,45 +15,62 @@ use Rattle.road_sheet.specs.Sheets.{state_of, rows_of, total_of}
 use Rattle.road_sheet.specs.Shown.{run_at, rows_at, total_at}
 use Rattle.road_replica.specs.Refusals.{state_fault, rows_fault, totals_fault, is_out_of_range}
 use Rattle.road_replica.specs.declared.faults.ReplicaFault.{ReplicaFault}
+use Rattle.road_replica.specs.declared.reply.Reply.{Reply}
 use Rattle.road_world.specs.Answers.{sheet_at}
-use Rattle.road_world.specs.Events.{World, WorldReplica}
+use Rattle.road_world.specs.Events.{World, WorldReplica, replica_after_events}
+use Rattle.road_world.specs.declared.event.Event.{Event}
+use Rattle.road_world.specs.declared.faults.WorldFault.{WorldFault}
 
 -- a question is refused for no named cause, and what is shown is right
 pub record IsRight {A : Type 0} (fault : Option ReplicaFault) (shown right : A) : Type 0 where
   pub answered : fault ≡ None
   pub same : shown ≡ right
 
--- what a world of so many replicas of a plan shows, where `past r` is what the events made of replica r: the edits that
--- reached it, and the greatest step to which it was advanced
-pub record Headline (plan : Plan) (count : ℕ) (past : ℕ → WorldReplica) (world : World) : Type 0 where
-  -- the world has these replicas
+-- a world of so many replicas of a plan shows the runs of what reached them: `past r` is the edits that reached replica
+-- r, as a set, and the greatest step to which it was advanced
+pub record ShowsRuns (plan : Plan) (count : ℕ) (past : ℕ → WorldReplica) (world : World) : Type 0 where
+  -- the world is of this plan
+  pub same_plan : world.plan ≡ plan
+  -- it has these replicas
   pub replicas : length world.replicas ≡ count
   -- each replica's scenario is the winners of the edits that reached it
   pub scenario : (r : ℕ) → r < count → (sheet_at world r).edits ≡ winners (past r).edits
   -- it has simulated each step up to the greatest to which it was advanced
   pub simulated : (r : ℕ) → r < count → (sheet_at world r).horizon ≡ (past r).horizon
-  -- at each of these each cell is that of the run of those winners from step zero
+  -- at each step that it has simulated each cell is that of the run of those winners from step zero
   pub cells : (r step : ℕ) → r < count → step ≤ (past r).horizon →
       IsRight (state_fault (sheet_at world r) step)
       (state_of (sheet_at world r) step) (run_at plan (winners (past r).edits) step)
-  -- so is each row of a diagram, with the blocks of its step
+  -- each row of a diagram is that of this run, with the blocks of its step
   pub rows : (r from to : ℕ) → r < count → is_out_of_range from to ≡ false → to ≤ (past r).horizon →
       IsRight (rows_fault (sheet_at world r) from to)
       (rows_of (sheet_at world r) from to) (rows_at plan (winners (past r).edits) from to)
-  -- and each detector count
+  -- each detector count is that of this run
   pub counts : (r detector from to : ℕ) → r < count →
       detector < length plan.detectors → from ≤ to → to ≤ (past r).horizon →
       IsRight (totals_fault (sheet_at world r) detector from to)
       (total_of (sheet_at world r) detector from to) (total_at plan (winners (past r).edits) detector from to)
-  -- replicas that the same edits reached agree at every step that both have simulated: on cells,
+  -- replicas that the same edits reached agree on each cell at every step that both have simulated
   pub same_cells : (r s step : ℕ) → r < count → s < count → (past r).edits ≡ (past s).edits →
       step ≤ (past r).horizon → step ≤ (past s).horizon →
       state_of (sheet_at world r) step ≡ state_of (sheet_at world s) step
-  -- on rows,
+  -- such replicas agree on each row
   pub same_rows : (r s from to : ℕ) → r < count → s < count → (past r).edits ≡ (past s).edits →
       to ≤ (past r).horizon → to ≤ (past s).horizon →
       rows_of (sheet_at world r) from to ≡ rows_of (sheet_at world s) from to
-  -- and on counts
+  -- such replicas agree on each detector count
   pub same_counts : (r s detector from to : ℕ) → r < count → s < count → (past r).edits ≡ (past s).edits →
       to ≤ (past r).horizon → to ≤ (past s).horizon →
       total_of (sheet_at world r) detector from to ≡ total_of (sheet_at world s) detector from to
+
+-- the headline, of a list of events and their replies: the world shows the runs of what these events made reach each
+-- replica, a refused event left out
+abbrev pub Headline : Plan → ℕ → List Event → List (Result Reply WorldFault) → World → Type 0
+Headline plan count events replies world = ShowsRuns plan count (replica_after_events plan count events replies) world
+
+-- It stands on these definitions, in reading order:
+--   the road: `Array` (road_cells), `wanted`, `slowed` and the motion (road_rules), then `road_with_entries`, `gap`,
+--   `speed`, `road_after_step` and `run` (road_ends), and `total` (road_detector);
+--   edits: `Edits`, `winners`, `settings_of`, `touched` (road_scenario), `heads`, `beyond` (road_delta);
+--   what is shown: `run_at`, `rows_at`, `total_at`, `Sheet` (road_sheet), `local_edit` and the refusals (road_replica);
+--   events: `opening_world`, `world_after_event`, `accepted_events`, `replica_after_events` (road_world).

@@ -20,6 +20,7 @@
 
 mod event;
 mod faults;
+pub mod laws;
 mod message;
 mod playing;
 mod world;

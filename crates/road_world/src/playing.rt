@@ -3,7 +3,7 @@ ghost use Rattle.std.specs.Arc.{arc_value};
 ghost use Rattle.road_plan.specs.declared.limits.TheConstants.{MOST_REPLICAS};
 ghost use Rattle.road_world.specs.Answers.{AreAnswers, gone_after_answers};
 ghost use Rattle.road_world.specs.Events.{accepted_events, message_of_winners, opening_world};
-ghost use Rattle.road_world.specs.Events.{replica_after_events, world_of_events};
+ghost use Rattle.road_world.specs.Events.{world_of_events, world_of_winners};
 ghost use Rattle.road_world.specs.Headline.{Headline};
 ghost use Rattle.road_world.specs.Stamps.{AreFresh, imported_stamps, issued_stamps};
 
@@ -41,8 +41,11 @@ pub fn play<C: Crew>(
     meter: &mut Meter,
 ) -> Result<Played, PlayFault>
     requires { replicas ≤ MOST_REPLICAS }
-    ensures headline { IfOk result (λ played. Headline (arc_value plan) replicas
-        (replica_after_events (arc_value plan) replicas events.now played.replies.items) played.world) }
+    ensures headline { IfOk result (λ played.
+        Headline (arc_value plan) replicas events.now played.replies.items played.world) }
+    // The world is what the accepted events have made, of all edits the winners.
+    ensures world { IfOk result (λ played. played.world
+        ≡ world_of_winners (world_of_events (arc_value plan) replicas events.now played.replies.items)) }
     // Each event has its answer.
     ensures answers { IfOk result (λ played.
         AreAnswers (opening_world (arc_value plan) replicas) events.now played.replies.items) }

@@ -64,3 +64,7 @@ pub returns-clause-messages : goal.returns-clause-messages
 returns-clause-messages g c =
     let all = played_all (arc_value c.args.plan) c.args.replicas c.loop-event.event-index c.args.events.now c.loop-event.replies.items c.loop-event.world c.loop-event-test.false c.loop-event.invariant.played in
     played_messages (arc_value c.args.plan) c.args.replicas c.args.events.now c.loop-event.replies.items c.loop-event.world all
+
+pub returns-clause-world : goal.returns-clause-world
+returns-clause-world g c =
+    (played_all (arc_value c.args.plan) c.args.replicas c.loop-event.event-index c.args.events.now c.loop-event.replies.items c.loop-event.world c.loop-event-test.false c.loop-event.invariant.played).holds

@@ -1,0 +1,23 @@
+//! What holds of all lists of events, on a function that does nothing: for those who apply events one by one.
+
+ghost use Rattle.std.specs.Prelude.{◌≤◌, ℕ, List, Result};
+ghost use Rattle.road_plan.specs.Plan.{Plan};
+ghost use Rattle.road_plan.specs.declared.limits.TheConstants.{MOST_REPLICAS};
+ghost use Rattle.road_replica.specs.declared.reply.Reply.{Reply};
+ghost use Rattle.road_world.specs.Answers.{AreAnswers};
+ghost use Rattle.road_world.specs.Events.{accepted_events, opening_world, world_of_events, world_of_winners};
+ghost use Rattle.road_world.specs.Headline.{Headline};
+ghost use Rattle.road_world.specs.Stamps.{AreFresh, imported_stamps, issued_stamps};
+ghost use Rattle.road_world.specs.declared.event.Event.{Event};
+ghost use Rattle.road_world.specs.declared.faults.WorldFault.{WorldFault};
+
+/// What every list of events makes of a world.
+pub fn known_headline()
+    // A world that holds the winners of what events have made shows their runs.
+    ensures headline { (plan : Plan) (count : ℕ) (events : List Event) (replies : List (Result Reply WorldFault)) →
+        Headline plan count events replies (world_of_winners (world_of_events plan count events replies)) }
+    // Where each event has its answer, no stamp is issued twice, and none is that of an import.
+    ensures stamps { (plan : Plan) (count : ℕ) (events : List Event) (replies : List (Result Reply WorldFault)) →
+        count ≤ MOST_REPLICAS → AreAnswers (opening_world plan count) events replies →
+        AreFresh (issued_stamps replies) (imported_stamps (accepted_events events replies)) }
+{}
