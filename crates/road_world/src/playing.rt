@@ -68,7 +68,10 @@ pub fn play<C: Crew>(
 }
 
 // One reply more.
-fn add(replies: &mut Vec<Result<Reply, WorldFault>>, reply: Result<Reply, WorldFault>) -> Result<(), OutOfMemory>
+fn add(
+    replies: &mut Vec<Result<Reply, WorldFault>>,
+    reply: Result<Reply, WorldFault>,
+) -> Result<(), OutOfMemory>
     ensures { OnOk result (replies.new.items ≡ replies.old.items ++ reply ∷ []) }
 {
     Ok(replies.push(reply)?)

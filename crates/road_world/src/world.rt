@@ -1,10 +1,12 @@
-ghost use Rattle.std.specs.Prelude.{◌≡◌, ◌<◌, ◌≤◌, ◌↔◌, ℕ, IfOk, IfSome, IsSome, MatchOption, None, OnErr, OnOk, Some, length};
+ghost use Rattle.std.specs.Prelude.{◌≡◌, ◌<◌, ◌≤◌, ◌↔◌, ℕ, IfOk, IfSome, IsSome, OnErr, OnOk, length};
+ghost use Rattle.std.specs.Prelude.{MatchOption, None, Some};
 ghost use Rattle.std.specs.Arc.{arc_value};
 ghost use Rattle.std.specs.List.{slice_get};
 ghost use Rattle.road_plan.specs.declared.limits.TheConstants.{MOST_REPLICAS};
 ghost use Rattle.road_replica.specs.declared.reply.Reply.TheVariants as replies;
 ghost use Rattle.road_sheet.specs.Sheets.{IsSheet, opening_sheet};
-ghost use Rattle.road_world.specs.Answers.{IsAnswer, edits_wanted_fault, gone_after_answer, heads_wanted_fault, sheet_at};
+ghost use Rattle.road_world.specs.Answers.{IsAnswer, gone_after_answer, sheet_at};
+ghost use Rattle.road_world.specs.Answers.{edits_wanted_fault, heads_wanted_fault};
 ghost use Rattle.road_world.specs.Events.{asked_heads, carried_edits, opening_world, world_after_event};
 ghost use Rattle.road_world.specs.Events.{world_of_winners, world_with_message};
 ghost use Rattle.road_world.specs.Keeping.{IsSendable};

@@ -55,7 +55,7 @@ returns-clause-answer g c =
     let none = sym (ap (λ (p : Plan). cause p c.deref.result.now) same_plan ∙ ap (cause k.plan) c.deref.ensures.value) ∙ c.in_ok-touched.ensures.accepted in (
       fault_there k (events.Import c.args.at c.args.edits.now) c.requires ∙ ap (option_map faults.Replica) none,
       ap replies.Touched (c.in_ok-touched.ensures.touched ∙ same_touched plan xs ms c.self.invariant k c.self.view_is c.args.at x (from_list c.deref.result.now) c.index_mut-replica.ensures.value below)
-      ∙ ap (λ (es : List Edit). touched_reply k c.args.at (from_list es)) c.deref.ensures.value,
+          ∙ ap (λ (es : List Edit). touched_reply k c.args.at (from_list es)) c.deref.ensures.value,
     )
 
 pub returns-clause-after : goal.returns-clause-after

@@ -1,0 +1,13 @@
+//! Tests of worlds.
+#![tactic(auto)]
+
+#[cfg(test)]
+mod crews;
+#[cfg(test)]
+mod lists;
+#[cfg(test)]
+mod merges;
+#[cfg(test)]
+mod refusals;
+#[cfg(test)]
+mod worlds;

@@ -1,0 +1,88 @@
+//! Replicas that the same edits reach, in whatever order and however often.
+
+use crate::worlds::{B1, BLOCK, C1, LIMIT, holds, played, shows};
+use road_scenario::{Edit, Value};
+use road_world::Event;
+use std::alloc::Global;
+use std::test::Fail;
+
+/// Every order of three messages.
+const ORDERS: [[u64; 3]; 6] = [
+    [0, 1, 2],
+    [0, 2, 1],
+    [1, 0, 2],
+    [1, 2, 0],
+    [2, 0, 1],
+    [2, 1, 0],
+];
+
+/// What they agree on: of the two edits of the limit, with one count, that of the greater number.
+const AGREED: [Edit; 2] = [
+    Edit {
+        object: LIMIT,
+        step: 3,
+        stamp: B1,
+        value: Value::Put(0),
+    },
+    Edit {
+        object: BLOCK,
+        step: 4,
+        stamp: C1,
+        value: Value::Put(1),
+    },
+];
+
+/// No car moves from step 3 on.
+const ROWS: [(u32, &str); 3] = [
+    (3, ".1...2......"),
+    (4, "00...0..#..."),
+    (6, "00...0..#..."),
+];
+
+// Each of three replicas makes an edit and sends it.
+fn apart(alloc: Global) -> Result<Vec<Event>, Fail> {
+    let mut events = Vec::new(alloc);
+    for at in 0..3 {
+        events.push(Event::Advance { at, to: 6 })?;
+    }
+    for (at, object, step, value) in [(0, LIMIT, 3, 1), (1, LIMIT, 3, 0), (2, BLOCK, 4, 1)] {
+        events.push(Event::Edit {
+            at,
+            object,
+            step,
+            value,
+        })?;
+        events.push(Event::Send { at })?;
+    }
+    Ok(events)
+}
+
+// A replica takes three messages in an order, each twice.
+fn take(events: &mut Vec<Event>, at: u32, order: &[u64]) -> Result<(), Fail> {
+    for message in order {
+        for _ in 0..2 {
+            events.push(Event::Take {
+                at,
+                message: *message,
+            })?;
+        }
+    }
+    Ok(())
+}
+
+#[test]
+fn replicas_agree_in_every_order(rt: HostRuntime) -> Result<(), Fail> {
+    for first in 0..6 {
+        let mut events = apart(rt.alloc())?;
+        for at in 0..3 {
+            let order = &ORDERS[(first + at) % 6];
+            take(&mut events, at as u32, order)?;
+        }
+        let played = played(rt.alloc(), &events)?;
+        for number in 0..3 {
+            holds(&rt, rt.alloc(), &played.world, number, &AGREED)?;
+            shows(&rt, rt.alloc(), &played.world, number, &ROWS)?;
+        }
+    }
+    Ok(())
+}

@@ -1,0 +1,76 @@
+//! Lists of events on the free road, what they are answered, and what the world then shows.
+
+use road_ends::Meter;
+use road_plan::Object;
+use road_replica::Reply;
+use road_scenario::{Edit, Stamp};
+use road_workers::Alone;
+use road_world::{Event, Played, World, WorldFault, play};
+use std::alloc::Global;
+use std::process::Abort;
+use std::sync::Arc;
+use std::test::Fail;
+use tests_plans::{FREE, plan_of};
+
+pub(crate) const LIMIT: Object = Object::Limit(0);
+
+pub(crate) const BLOCK: Object = Object::Block(8);
+
+/// What an event is answered.
+pub(crate) type Answer = Result<Reply, WorldFault>;
+
+/// The stamps of a replica's edits.
+pub(crate) const A1: Stamp = Stamp { count: 1, number: 0 };
+pub(crate) const A2: Stamp = Stamp { count: 2, number: 0 };
+pub(crate) const A3: Stamp = Stamp { count: 3, number: 0 };
+pub(crate) const B1: Stamp = Stamp { count: 1, number: 1 };
+pub(crate) const B2: Stamp = Stamp { count: 2, number: 1 };
+pub(crate) const B3: Stamp = Stamp { count: 3, number: 1 };
+pub(crate) const C1: Stamp = Stamp { count: 1, number: 2 };
+
+/// The world of three replicas of the free road after some events.
+pub(crate) fn played(alloc: Global, events: &[Event]) -> Result<Played, Fail> {
+    let plan = Arc::new(alloc, plan_of(alloc, &FREE)?)?;
+    Ok(play(alloc, plan, 3, events, &mut Alone, &mut Meter::new())?)
+}
+
+/// That some events are answered so.
+pub(crate) fn answers(rt: &impl Abort, played: &Played, expected: &[Answer]) {
+    assert_eq!(rt; played.replies.len(), expected.len());
+    for (reply, answer) in played.replies.iter().zip(expected.iter()) {
+        assert!(rt; *reply == *answer, "{reply:?} {answer:?}");
+    }
+}
+
+/// That a replica of a world shows these rows at these steps.
+pub(crate) fn shows(
+    rt: &impl Abort,
+    alloc: Global,
+    world: &World,
+    number: u32,
+    rows: &[(u32, &str)],
+) -> Result<(), Fail> {
+    let Some(replica) = world.replica(number) else {
+        panic!(rt; "no replica {number}");
+    };
+    for (step, text) in rows {
+        let shown = replica.rows(alloc, *step, *step)?;
+        assert!(rt; shown.first().map(|row| row.as_str()) == Some(*text));
+    }
+    Ok(())
+}
+
+/// That the edits that won at a replica of a world are these.
+pub(crate) fn holds(
+    rt: &impl Abort,
+    alloc: Global,
+    world: &World,
+    number: u32,
+    edits: &[Edit],
+) -> Result<(), Fail> {
+    let Some(replica) = world.replica(number) else {
+        panic!(rt; "no replica {number}");
+    };
+    assert!(rt; replica.scenario().edits(alloc)?.as_slice() == edits);
+    Ok(())
+}
