@@ -1,9 +1,9 @@
 //! Deltas: a replica tells what it holds by heads, and another sends it the edits beyond them, not all that it has.
 //!
-//! A caller whose two replicas hold an edit each. The first tells its heads, the second sends what is beyond them, and
-//! the first then holds what it would with all of the second's:
+//! A caller with two scenarios; the second holds an edit more. The first tells its heads, the second sends what is beyond
+//! them, and the first then holds what it would with all of the second's:
 //!
-//! ```text
+//! ```
 //! let stamp = Stamp { count: 1, number: 0 };
 //! let lower = Edit { object: Object::Limit(0), step: 40, stamp, value: Value::Put(2) };
 //! let ours = Scenario::of_edits(alloc, &[lower])?;

@@ -33,7 +33,7 @@ arrived_fault edits.Step = Step
 arrived_fault edits.ValueOutOfRange = ValueOutOfRange
 arrived_fault edits.Count = Count
 
--- the refusal of an edit that the replica would make: its count is faulty only where the greatest count is held
+-- the refusal of an edit that the replica would make: its count, one more than the greatest held, can only be too great
 abbrev pub made_fault : EditFault → ReplicaFault
 made_fault edits.NoObject = NoObject
 made_fault edits.Step = Step
@@ -54,41 +54,41 @@ write_fault growth.OutOfMemory = OutOfMemory
 
 -- ---- the first named cause for which a call is refused
 
--- of an edit that the replica would make
+-- the first named cause for which an edit is refused that the replica would make
 abbrev pub edit_fault : Replica → Object → ℕ → Value → Option ReplicaFault
 edit_fault r object step value = option_map made_fault (fault_of r.sheet.plan (edit_made r object step value))
 
--- of one imported edit: it must not bear a replica's number
+-- the first named cause for which one imported edit is refused: it must not bear a replica's number
 abbrev pub imported_fault : Plan → Edit → Option ReplicaFault
 imported_fault plan edit = option_or (option_map arrived_fault (fault_of plan edit))
     (if nat_lt edit.stamp.number FIRST_IMPORT_NUMBER then Some Insider else None)
 
--- of an import: that of its first faulty edit
+-- the cause for which an import is refused: that of its first faulty edit
 abbrev pub import_fault : Plan → List Edit → Option ReplicaFault
 import_fault plan [] = None
 import_fault plan (edit ∷ edits) = option_or (imported_fault plan edit) (import_fault plan edits)
 
--- of a scenario to be taken: that of its first faulty edit, by object and step
+-- the cause for which a scenario is not taken: that of its first faulty edit, by object and step
 abbrev pub take_fault : Plan → Edits → Option ReplicaFault
 take_fault plan edits = option_map arrived_fault (fault_in plan edits)
 
--- of an advance to a step
+-- the cause for which an advance to a step is refused
 abbrev pub advance_fault : ℕ → Option ReplicaFault
 advance_fault to = if nat_lt GREATEST_HORIZON to then Some Horizon else None
 
--- of a question for a state
+-- the cause for which a question for a state is refused
 abbrev pub state_fault : Sheet → ℕ → Option ReplicaFault
 state_fault s step = option_map question_fault (sheets.state_fault s step)
 
--- of a question for totals
+-- the first named cause for which a question for totals is refused
 abbrev pub totals_fault : Sheet → ℕ → ℕ → ℕ → Option ReplicaFault
 totals_fault s detector from to = option_map question_fault (sheets.totals_fault s detector from to)
 
--- whether these steps are none, or more than one diagram shows
+-- whether the rows from one step to another are none, or more than one diagram has
 abbrev pub is_out_of_range : ℕ → ℕ → Bool
 is_out_of_range from to = nat_lt to from || nat_lt MOST_ROWS (suc to - from)
 
--- of a question for rows
+-- the first named cause for which a question for rows is refused
 abbrev pub rows_fault : Sheet → ℕ → ℕ → Option ReplicaFault
 rows_fault s from to = if is_out_of_range from to then Some Range
     else (if nat_lt s.horizon to then Some NotSimulated else None)

@@ -11,7 +11,8 @@ use road_sheet::SheetFault;
 use std::alloc::AllocError;
 use thiserror::Error;
 
-/// Why a replica refuses a call. The causes are asked in this order, and the first that stands is named.
+/// Why a replica refuses a call. The causes are asked in this order, and the first that stands is named; of a list of
+/// edits, that of its first faulty edit.
 #[derive(Clone, Copy, Debug, PartialEq, Eq, Error)]
 pub enum ReplicaFault {
     /// The plan has no such zone, cell, inlet or detector.
@@ -27,7 +28,7 @@ pub enum ReplicaFault {
     #[error("the count is not 1 to {most}", most = GREATEST_COUNT)]
     Count,
     /// An imported edit bears a replica's number.
-    #[error("the number of an imported edit is below {least}", least = FIRST_IMPORT_NUMBER)]
+    #[error("the stamp of an imported edit has a number below {least}", least = FIRST_IMPORT_NUMBER)]
     Insider,
     /// The replica holds an edit with the greatest count, so it can make none with a greater one.
     #[error("an edit with the greatest count is held")]

@@ -80,7 +80,7 @@ impl Replica {
         &self.sheet
     }
 
-    /// The winners of all edits that the replica made and took.
+    /// The winners of all edits that the replica made, took and imported.
     pub fn scenario(&self) -> &Scenario
         ensures { result.now ≡ self.now.sheet.edits }
     {

@@ -1,4 +1,4 @@
--- What events are answered.
+-- The replies to events, and their refusals.
 use Rattle.std.specs.Prelude.{◌≡◌, ◌⊎◌, ℕ, max, nat_lt, List, [], ◌∷◌, length, Result, if◌then◌else◌}
 use Rattle.std.specs.List.{slice_get}
 use Rattle.std.specs.Option.{option_map}
@@ -27,7 +27,7 @@ use Rattle.road_world.specs.declared.faults.WorldFault.TheVariants as faults
 use Rattle.road_world.specs.declared.message.Message.{Message}
 use Rattle.road_world.specs.declared.message.Message.TheVariants.{Whole, Answer, Asked}
 
--- the sheet of replica r of a world
+-- the sheet of replica r of a world: of all edits that reached it in the definition, of the winners in what is kept
 abbrev pub sheet_at : World → ℕ → Sheet
 sheet_at w r = record { plan = w.plan; edits = (replica_at w r).edits; horizon = (replica_at w r).horizon }
 
@@ -46,7 +46,7 @@ abbrev pub touched_reply : World → ℕ → Edits → Reply
 touched_reply w r edits =
     replies.Touched (touched (replica_at w r).edits (union (replica_at w r).edits edits))
 
--- what an accepted event is answered
+-- the reply to an accepted event
 abbrev pub reply_to_event : World → Event → Reply
 reply_to_event w (Edit r object step number) = stamp_reply w r object step (Put number)
 reply_to_event w (Withdraw r object step) = stamp_reply w r object step Withdrawn
@@ -84,7 +84,7 @@ heads_wanted_fault (Some (Answer edits)) = Some NoMessage
 heads_wanted_fault (Some (Asked hs)) = None
 heads_wanted_fault None = Some NoMessage
 
--- the cause where there is such a replica
+-- the first named cause for which an event at a replica that is there is refused
 abbrev pub fault_at_replica : World → Event → Option WorldFault
 fault_at_replica w (Edit r object step number) =
     option_map faults.Replica (edit_fault (replica_with_sheet w r) object step (Put number))
@@ -97,7 +97,7 @@ fault_at_replica w (Beyond r message) = heads_wanted_fault (slice_get w.messages
 fault_at_replica w (Take r message) = edits_wanted_fault (slice_get w.messages message)
 fault_at_replica w (Advance r to) = option_map faults.Replica (advance_fault to)
 
--- the cause of any event: the replica is asked for first
+-- the first named cause for which an event is refused: whether its replica is there is asked first
 abbrev pub fault_of_event : World → Event → Option WorldFault
 fault_of_event w event = if nat_lt (replica_number event) (length w.replicas) then fault_at_replica w event
     else Some NoReplica
@@ -139,7 +139,7 @@ abbrev pub gone_after_answer : Result Reply WorldFault → ℕ → ℕ
 gone_after_answer (Err (faults.Replica fault)) n = gone_after_fault fault n
 gone_after_answer reply n = n
 
--- and after several answers
+-- how often a crew has answered `WorkersGone`, after the answers to several events
 abbrev pub gone_after_answers : List (Result Reply WorldFault) → ℕ → ℕ
 gone_after_answers [] n = n
 gone_after_answers (reply ∷ replies) n = gone_after_answers replies (gone_after_answer reply n)

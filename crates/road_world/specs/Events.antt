@@ -68,14 +68,14 @@ world_with_advance r to w =
     let advanced = record (replica_at w r) { horizon = max (replica_at w r).horizon to } in
     record w { replicas = slice_set w.replicas r advanced }
 
--- the edits that a message carries; none where there is no such message, which no accepted event names
+-- the edits that a message carries; none where it asks with heads or is not there, which no accepted event takes
 abbrev pub carried_edits : Option Message → Edits
 carried_edits (Some (Whole edits)) = edits
 carried_edits (Some (Answer edits)) = edits
 carried_edits (Some (Asked hs)) = empty
 carried_edits None = empty
 
--- the heads with which a message asks; none where there is no such message, which no accepted event names
+-- the heads with which a message asks; none where it carries edits or is not there, which no accepted event answers
 abbrev pub asked_heads : Option Message → List Head
 asked_heads (Some (Whole edits)) = []
 asked_heads (Some (Answer edits)) = []

@@ -1,5 +1,6 @@
 pub mod Events
 pub mod Answers
+pub mod Steps
 pub mod Stamps
 pub mod Headline
-pub mod Keeping
+pub mod Private

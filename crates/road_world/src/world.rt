@@ -9,7 +9,9 @@ ghost use Rattle.road_world.specs.Answers.{IsAnswer, gone_after_answer, sheet_at
 ghost use Rattle.road_world.specs.Answers.{edits_wanted_fault, heads_wanted_fault};
 ghost use Rattle.road_world.specs.Events.{asked_heads, carried_edits, opening_world, world_after_event};
 ghost use Rattle.road_world.specs.Events.{world_of_winners, world_with_message};
-ghost use Rattle.road_world.specs.Keeping.{IsSendable};
+ghost use Rattle.road_rewind.specs.Growth.{TicksAtMost};
+ghost use Rattle.road_world.specs.Private.Worlds.{IsSendable};
+ghost use Rattle.road_world.specs.Steps.{most_steps_of_event};
 ghost use Rattle.road_world.specs.declared.event.Event.TheVariants as events;
 ghost use Rattle.road_world.specs.declared.faults.WorldFault.TheVariants.{NoMessage};
 
@@ -41,7 +43,7 @@ impl Model for World {
     ghost use Rattle.std.specs.Coded.{codes};
     ghost use Rattle.road_scenario.specs.Instances.EditOrder.{edits_code};
     ghost use Rattle.road_world.specs.Events.{World};
-    ghost use Rattle.road_world.specs.Keeping.{IsKept, world_replica};
+    ghost use Rattle.road_world.specs.Private.Worlds.{IsKept, world_replica};
 
     ghost Value = { World };
 
@@ -94,8 +96,8 @@ impl World {
         self.messages.get(number as usize)
     }
 
-    /// That the replicas are at most 64, and that the edits of each win and fit the plan, and its horizon is at most
-    /// 65,536. It is a fact for proofs: the call does nothing.
+    /// That the replicas are at most 64, that the edits of each win and fit the plan, and its horizon is at most
+    /// 65,536, and that messages carry winners alone. It is a fact for proofs: the call does nothing.
     pub fn known(&self)
         ensures few { length self.now.replicas ≤ MOST_REPLICAS }
         ensures sheets { (number : ℕ) → number < length self.now.replicas → IsSheet (sheet_at self.now number) }
@@ -121,6 +123,7 @@ impl World {
         ensures answer { IsAnswer self.old event.now result }
         ensures after { OnOk result (self.new ≡ world_of_winners (world_after_event event.now self.old)) }
         ensures unchanged { OnErr result (self.new ≡ self.old) }
+        ensures few_steps { TicksAtMost (most_steps_of_event self.old event.now) meter.old meter.new }
         ensures gone { C.gone crew.new ≡ gone_after_answer result (C.gone crew.old) }
     {
         if event.replica() as usize >= self.replicas.len() {
@@ -163,6 +166,8 @@ impl World {
         ensures after { OnOk result (self.new
             ≡ world_of_winners (world_after_event (events.Edit at object step value) self.old)) }
         ensures unchanged { OnErr result (self.new ≡ self.old) }
+        ensures few_steps { TicksAtMost (most_steps_of_event self.old (events.Edit at object step value))
+            meter.old meter.new }
         ensures gone { C.gone crew.new ≡ gone_after_answer result (C.gone crew.old) }
     {
         let replica = &mut self.replicas[at as usize];
@@ -186,6 +191,8 @@ impl World {
         ensures after { OnOk result (self.new
             ≡ world_of_winners (world_after_event (events.Withdraw at object step) self.old)) }
         ensures unchanged { OnErr result (self.new ≡ self.old) }
+        ensures few_steps { TicksAtMost (most_steps_of_event self.old (events.Withdraw at object step))
+            meter.old meter.new }
         ensures gone { C.gone crew.new ≡ gone_after_answer result (C.gone crew.old) }
     {
         let replica = &mut self.replicas[at as usize];
@@ -208,6 +215,8 @@ impl World {
         ensures after { OnOk result (self.new
             ≡ world_of_winners (world_after_event (events.Import at edits.now) self.old)) }
         ensures unchanged { OnErr result (self.new ≡ self.old) }
+        ensures few_steps { TicksAtMost (most_steps_of_event self.old (events.Import at edits.now))
+            meter.old meter.new }
         ensures gone { C.gone crew.new ≡ gone_after_answer result (C.gone crew.old) }
     {
         let replica = &mut self.replicas[at as usize];
@@ -230,6 +239,8 @@ impl World {
         ensures after { OnOk result (self.new
             ≡ world_of_winners (world_after_event (events.Take at message) self.old)) }
         ensures unchanged { OnErr result (self.new ≡ self.old) }
+        ensures few_steps { TicksAtMost (most_steps_of_event self.old (events.Take at message))
+            meter.old meter.new }
         ensures gone { C.gone crew.new ≡ gone_after_answer result (C.gone crew.old) }
     {
         let Some(scenario) = carried_edits(&self.messages, message) else {
@@ -255,6 +266,8 @@ impl World {
         ensures after { OnOk result (self.new
             ≡ world_of_winners (world_after_event (events.Advance at to) self.old)) }
         ensures unchanged { OnErr result (self.new ≡ self.old) }
+        ensures few_steps { TicksAtMost (most_steps_of_event self.old (events.Advance at to))
+            meter.old meter.new }
         ensures gone { C.gone crew.new ≡ gone_after_answer result (C.gone crew.old) }
     {
         let replica = &mut self.replicas[at as usize];

@@ -1,4 +1,4 @@
--- What holds of the replicas and the messages of a world.
+-- What holds of the replicas and the messages that a world keeps.
 use Rattle.std.specs.Prelude.{◌≡◌, ◌≤◌, ℕ, List, length}
 use Rattle.std.specs.List.{All, slice_get}
 use Rattle.std.specs.declared.option.Option.TheVariants.{Some}
