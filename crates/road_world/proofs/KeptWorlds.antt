@@ -29,7 +29,7 @@ use Rattle.road_replica.specs.Replicas.{Replica, edit_made, replica_after, singl
 use Rattle.road_world.specs.Answers.{edits_wanted_fault, replica_with_sheet, sheet_at}
 use Rattle.road_world.specs.Events.{World, WorldReplica, opening_replica, replica_at, carried_edits, replica_of_winners, message_of_winners, world_of_winners}
 use Rattle.road_world.specs.Events.{world_with_advance, world_with_edits, world_with_local_edit, world_with_message}
-use Rattle.road_world.specs.Keeping.{world_replica, IsReplicaOf, AreSendable, IsSendable, IsKept}
+use Rattle.road_world.specs.Private.Keeping.{world_replica, IsReplicaOf, AreSendable, IsSendable, IsKept}
 use Rattle.road_world.specs.declared.faults.WorldFault.{WorldFault}
 use Rattle.road_world.specs.declared.message.Message.{Message}
 use Rattle.road_world.specs.declared.message.Message.TheVariants.{Whole, Answer, Asked}

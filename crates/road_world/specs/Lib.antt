@@ -2,4 +2,4 @@ pub mod Events
 pub mod Answers
 pub mod Stamps
 pub mod Headline
-pub mod Keeping
+pub mod Private

@@ -9,7 +9,7 @@ ghost use Rattle.road_world.specs.Answers.{IsAnswer, gone_after_answer, sheet_at
 ghost use Rattle.road_world.specs.Answers.{edits_wanted_fault, heads_wanted_fault};
 ghost use Rattle.road_world.specs.Events.{asked_heads, carried_edits, opening_world, world_after_event};
 ghost use Rattle.road_world.specs.Events.{world_of_winners, world_with_message};
-ghost use Rattle.road_world.specs.Keeping.{IsSendable};
+ghost use Rattle.road_world.specs.Private.Keeping.{IsSendable};
 ghost use Rattle.road_world.specs.declared.event.Event.TheVariants as events;
 ghost use Rattle.road_world.specs.declared.faults.WorldFault.TheVariants.{NoMessage};
 
@@ -41,7 +41,7 @@ impl Model for World {
     ghost use Rattle.std.specs.Coded.{codes};
     ghost use Rattle.road_scenario.specs.Instances.EditOrder.{edits_code};
     ghost use Rattle.road_world.specs.Events.{World};
-    ghost use Rattle.road_world.specs.Keeping.{IsKept, world_replica};
+    ghost use Rattle.road_world.specs.Private.Keeping.{IsKept, world_replica};
 
     ghost Value = { World };
 

@@ -3,7 +3,7 @@ use Rattle.std.specs.Arc.{arc_value}
 use Rattle.road_plan.specs.declared.limits.TheConstants.{MOST_REPLICAS}
 use Rattle.road_replica.specs.Replicas.{Replica}
 use Rattle.road_world.proofs.KeptWorlds.{AreOpened, one_more_opened, opened_kept}
-use Rattle.road_world.specs.Keeping.{IsKept}
+use Rattle.road_world.specs.Private.Keeping.{IsKept}
 use Rattle.road_world.specs.declared.message.Message.{Message}
 use Rattle.road_world.proofs.world.World.open.Goals as goal
 
