@@ -4,7 +4,8 @@ use crate::worlds::{A1, A2, A3, Answer, B2, B3, BLOCK, LIMIT, answers, holds, pl
 use road_delta::Head;
 use road_replica::Reply;
 use road_scenario::{Edit, Value};
-use road_world::{Event, Message, WorldFault};
+use road_world::{Event, Message, World, WorldFault};
+use std::process::Abort;
 use std::test::Fail;
 
 const TURNS: [Event; 6] = [
@@ -193,14 +194,19 @@ const HEADS: [Head; 2] = [
     },
 ];
 
+// That a message of a world asks with these heads.
+fn asks(rt: &impl Abort, world: &World, number: u64, heads: &[Head]) {
+    let Some(Message::Asked(asked)) = world.message(number) else {
+        panic!(rt; "no heads");
+    };
+    assert!(rt; asked.list() == heads);
+}
+
 #[test]
 fn a_replica_is_sent_what_it_lacks(rt: HostRuntime) -> Result<(), Fail> {
     let played = played(rt.alloc(), &ASKED)?;
     answers(&rt, &played, &ASKED_ANSWERED);
-    let Some(Message::Asked(heads)) = played.world.message(1) else {
-        panic!(&rt; "no heads");
-    };
-    assert!(&rt; heads.list() == HEADS.as_slice());
+    asks(&rt, &played.world, 1, &HEADS);
     holds(&rt, rt.alloc(), &played.world, 1, &[CLOSED, CLOSED_LATER, BLOCKED])?;
     holds(&rt, rt.alloc(), &played.world, 2, &[CLOSED_LATER, BLOCKED])
 }

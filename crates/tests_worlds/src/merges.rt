@@ -6,14 +6,14 @@ use road_world::Event;
 use std::alloc::Global;
 use std::test::Fail;
 
-/// Every order of three messages.
-const ORDERS: [[u64; 3]; 6] = [
-    [0, 1, 2],
-    [0, 2, 1],
-    [1, 0, 2],
-    [1, 2, 0],
-    [2, 0, 1],
-    [2, 1, 0],
+/// Every order of three messages, twice.
+const ORDERS: [[u64; 6]; 6] = [
+    [0, 1, 2, 0, 1, 2],
+    [0, 2, 1, 0, 2, 1],
+    [1, 0, 2, 1, 0, 2],
+    [1, 2, 0, 1, 2, 0],
+    [2, 0, 1, 2, 0, 1],
+    [2, 1, 0, 2, 1, 0],
 ];
 
 /// What they agree on: of the two edits of the limit, with one count, that of the greater number.
@@ -57,15 +57,11 @@ fn apart(alloc: Global) -> Result<Vec<Event>, Fail> {
     Ok(events)
 }
 
-// A replica takes three messages in an order, each twice.
+// A replica takes messages in an order.
 fn take(events: &mut Vec<Event>, at: u32, order: &[u64]) -> Result<(), Fail> {
     for message in order {
-        for _ in 0..2 {
-            events.push(Event::Take {
-                at,
-                message: *message,
-            })?;
-        }
+        let message = *message;
+        events.push(Event::Take { at, message })?;
     }
     Ok(())
 }

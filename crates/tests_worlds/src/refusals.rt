@@ -31,10 +31,12 @@ const NOWHERE: [Event; 7] = [
     },
 ];
 
+const NO_REPLICA: [Answer; 7] = [Err(WorldFault::NoReplica); 7];
+
 #[test]
 fn a_replica_that_is_not_there_is_asked_for_first(rt: HostRuntime) -> Result<(), Fail> {
     let played = played(rt.alloc(), &NOWHERE)?;
-    answers(&rt, &played, &[Err(WorldFault::NoReplica); 7]);
+    answers(&rt, &played, &NO_REPLICA);
     assert!(&rt; played.world.replica(2).is_some());
     assert!(&rt; played.world.replica(3).is_none());
     assert!(&rt; played.world.message(0).is_none());

@@ -36,10 +36,7 @@ pub(crate) fn played(alloc: Global, events: &[Event]) -> Result<Played, Fail> {
 
 /// That some events are answered so.
 pub(crate) fn answers(rt: &impl Abort, played: &Played, expected: &[Answer]) {
-    assert_eq!(rt; played.replies.len(), expected.len());
-    for (reply, answer) in played.replies.iter().zip(expected.iter()) {
-        assert!(rt; *reply == *answer, "{reply:?} {answer:?}");
-    }
+    assert!(rt; played.replies.as_slice() == expected);
 }
 
 /// That a replica of a world shows these rows at these steps.
