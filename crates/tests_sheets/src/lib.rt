@@ -2,11 +2,7 @@
 #![tactic(auto)]
 
 #[cfg(test)]
-mod crews;
-#[cfg(test)]
-mod growing;
-#[cfg(test)]
-mod rows;
+mod examples;
 #[cfg(test)]
 mod scripts;
 #[cfg(test)]

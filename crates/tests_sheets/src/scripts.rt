@@ -1,16 +1,17 @@
 //! Scripts of edits and advances at steps round the ends of blocks: each state and each total against a run from step zero.
 
-ghost use Rattle.std.specs.Prelude.{◌≡◌, IfOk};
-ghost use Rattle.road_sheet.specs.Sheets.{state_of};
-
-use crate::sheets::{Parts, opening, put, state, totals, with_edits};
+use crate::sheets::{grow, opening};
+use road_detector::Totals;
 use road_plan::{Object, WordKind};
-use road_scenario::{Edit, Value};
+use road_scenario::{Edit, Stamp, Value};
 use road_sheet::Sheet;
 use road_sheet::simulation::{State, state_at, totals_between};
 use std::alloc::Global;
-use std::process::Abort;
 use std::test::Fail;
+use tests_plans::Parts;
+
+/// How many scripts are run.
+const SCRIPTS: u64 = 20;
 
 /// Two zones, two inlets and two detectors, with chances between never and always.
 const MIXED: Parts = Parts {
@@ -21,12 +22,12 @@ const MIXED: Parts = Parts {
     words: WordKind::Seeded(11),
 };
 
-const STEPS: [u32; 16] = [
+const STEPS: &[u32] = &[
     0, 1, 5, 62, 63, 64, 65, 66, 126, 127, 128, 129, 130, 191, 192, 193,
 ];
 
 /// Numbers that look random.
-#[derive(Clone, Copy, Debug)]
+#[derive(Clone, Copy)]
 struct Dice {
     seed: u64,
 }
@@ -45,121 +46,104 @@ impl Dice {
         let place = self.below(16) as usize;
         STEPS.get(place).copied().unwrap_or(0)
     }
-}
 
-// An edit of some object, one in seven a withdrawal.
-fn edit(dice: &mut Dice, count: u64) -> Edit {
-    let step = dice.step();
-    let kind = dice.below(6);
-    let edit = match kind {
-        0 => put(Object::Limit(0), step, count, dice.below(4)),
-        1 => put(
-            Object::Slow(1),
-            step,
-            count,
-            dice.below(3).saturating_mul(30_000),
-        ),
-        2 => put(Object::Block(dice.below(24)), step, count, dice.below(2)),
-        3 => put(
-            Object::Inflow(1),
-            step,
-            count,
-            dice.below(3).saturating_mul(30_000),
-        ),
-        _ => put(Object::Watch(0), step, count, dice.below(2)),
-    };
-    if dice.below(7) > 0 {
-        return edit;
-    }
-    Edit {
-        value: Value::Withdrawn,
-        ..edit
+    // An edit, one in seven a withdrawal.
+    fn edit(&mut self, count: u64) -> Edit {
+        let (object, number) = match self.below(6) {
+            0 => (Object::Limit(0), self.below(4)),
+            1 => (Object::Slow(1), self.below(65_537)),
+            2 => (Object::Block(self.below(24)), self.below(2)),
+            3 => (Object::Inflow(1), self.below(65_537)),
+            _ => (Object::Watch(0), self.below(2)),
+        };
+        Edit {
+            object,
+            step: self.step(),
+            stamp: Stamp { count, number: 0 },
+            value: match self.below(7) {
+                0 => Value::Withdrawn,
+                _ => Value::Put(number),
+            },
+        }
     }
 }
 
-// A sheet's states.
-fn states_agree(rt: &impl Abort, alloc: Global, sheet: &Sheet) -> Result<(), Fail> {
-    let mut computed = from_zero(alloc, sheet, 0)?;
-    for step in STEPS {
-        let step = step.min(sheet.horizon());
-        computed = go_on(alloc, sheet, &computed, step)?;
-        let shown = state(alloc, sheet, step)?;
-        assert!(rt; shown.road.cars() == computed.road.cars());
-    }
-    Ok(())
+// Whether a sheet shows the state at a step that the run from step zero has.
+fn state_agrees(alloc: Global, sheet: &Sheet, step: u32) -> Result<bool, Fail> {
+    sheet.known();
+    let opening = State::opening(alloc);
+    let computed = state_at(alloc, sheet.plan(), sheet.scenario(), &opening, step)?;
+    Ok(sheet.state(alloc, step)?.cars() == computed.road.cars())
 }
 
-// What a detector counts in some steps.
+// What a detector counts up to a step, computed from step zero.
+fn totals_from_zero(alloc: Global, sheet: &Sheet, detector: u32, to: u32) -> Result<Totals, Fail> {
+    sheet.known();
+    if to > 65_536 || sheet.plan().detectors().len() <= detector as usize {
+        return Err(Fail::new("no such step, or no such detector"));
+    }
+    let opening = State::opening(alloc);
+    let (totals, _) = totals_between(alloc, sheet.plan(), sheet.scenario(), opening, detector, to)?;
+    Ok(totals)
+}
+
+// Whether what a detector counts in some steps is what it counts up to their end, less what it counts up to their first.
 fn totals_agree(
-    rt: &impl Abort,
     alloc: Global,
     sheet: &Sheet,
-    (detector, from, to): (u32, u32, u32),
-) -> Result<(), Fail> {
-    let first = from_zero(alloc, sheet, from)?;
-    let shown = totals(alloc, sheet, (detector, from, to))?;
-    sheet.known();
-    assert!(rt; first.step <= to);
-    assert!(rt; to <= 65_536);
-    assert!(rt; (detector as usize) < sheet.plan().detectors().len());
-    let (computed, _) = totals_between(alloc, sheet.plan(), sheet.scenario(), first, detector, to)?;
-    assert!(rt; shown == (computed.cars, computed.speeds));
-    Ok(())
+    detector: u32,
+    from: u32,
+    to: u32,
+) -> Result<bool, Fail> {
+    let before = totals_from_zero(alloc, sheet, detector, from)?;
+    let all = totals_from_zero(alloc, sheet, detector, to)?;
+    let shown = sheet.totals(alloc, detector, from, to)?;
+    Ok(
+        before.cars.saturating_add(shown.cars) == all.cars
+            && before.speeds.saturating_add(shown.speeds) == all.speeds,
+    )
 }
 
-// The state at a step, computed from an earlier one.
-fn go_on(alloc: Global, sheet: &Sheet, last: &State, step: u32) -> Result<State, Fail>
-    requires { last.now.road ≡ state_of sheet.now last.now.step }
-    ensures { IfOk result (λ state. state.road ≡ state_of sheet.now state.step) }
-{
-    sheet.known();
-    Ok(state_at(alloc, sheet.plan(), sheet.scenario(), last, step)?)
+// Whether a sheet agrees with the run from step zero: its states, and what a detector counts from a random step to another.
+fn sheet_agrees(alloc: Global, sheet: &Sheet, dice: &mut Dice) -> Result<bool, Fail> {
+    for step in STEPS {
+        if !state_agrees(alloc, sheet, (*step).min(sheet.horizon()))? {
+            return Ok(false);
+        }
+    }
+    let to = dice.step().min(sheet.horizon());
+    let from = dice.step().min(to);
+    totals_agree(alloc, sheet, dice.below(2), from, to)
 }
 
-// The state at a step, computed from step zero.
-fn from_zero(alloc: Global, sheet: &Sheet, step: u32) -> Result<State, Fail>
-    ensures { IfOk result (λ state. state.road ≡ state_of sheet.now state.step) }
-{
-    go_on(alloc, sheet, &State::opening(alloc), step)
-}
-
-// One edit, none or two, and a step to go to.
+// A sheet with none, one or two more edits, simulated up to a random step.
 fn grown_at_random(
-    rt: &impl Abort,
     alloc: Global,
     sheet: &Sheet,
     dice: &mut Dice,
     count: u64,
 ) -> Result<Sheet, Fail> {
-    let both = [edit(dice, count), edit(dice, count)];
-    let edits = match dice.below(3) {
-        0 => both.get(..0),
-        1 => both.get(..1),
-        _ => both.get(..2),
-    };
-    with_edits(rt, alloc, sheet, edits.unwrap_or(&[]), dice.step())
+    let edits = [dice.edit(count), dice.edit(count)];
+    let some = edits.get(dice.below(3) as usize..).unwrap_or(&[]);
+    Ok(grow(alloc, sheet, some, dice.step())?.sheet)
 }
 
-// A script of some edits and advances.
-fn run_script(rt: &impl Abort, alloc: Global, seed: u64) -> Result<(), Fail> {
+// Whether all sheets of a script agree with the run from step zero.
+fn script_agrees(alloc: Global, seed: u64) -> Result<bool, Fail> {
     let mut dice = Dice { seed };
+    let mut agreed = true;
     let mut sheet = opening(alloc, &MIXED)?;
     for count in 1..6 {
-        sheet = grown_at_random(rt, alloc, &sheet, &mut dice, count)?;
-        states_agree(rt, alloc, &sheet)?;
-        for detector in 0..2 {
-            let to = dice.step().min(sheet.horizon());
-            let from = dice.step().min(to);
-            totals_agree(rt, alloc, &sheet, (detector, from, to))?;
-        }
+        sheet = grown_at_random(alloc, &sheet, &mut dice, count)?;
+        agreed = agreed && sheet_agrees(alloc, &sheet, &mut dice)?;
     }
-    Ok(())
+    Ok(agreed)
 }
 
 #[test]
 fn short_scripts_agree_with_runs_from_zero(rt: HostRuntime) -> Result<(), Fail> {
-    for seed in 0..20 {
-        run_script(&rt, rt.alloc(), seed)?;
+    for seed in 0..SCRIPTS {
+        assert!(rt; script_agrees(rt.alloc(), seed)?, "{seed}");
     }
     Ok(())
 }
