@@ -9,14 +9,15 @@ use Rattle.road_replica.specs.Replicas.{edit_made, most_steps_taking, single_edi
 use Rattle.road_world.specs.Answers.{replica_with_sheet, sheet_at}
 use Rattle.road_world.specs.Events.{World, carried_edits}
 use Rattle.road_world.specs.declared.event.Event.{Event}
-use Rattle.road_world.specs.declared.event.Event.TheVariants.{Edit, Withdraw, Import, Send, Heads, Beyond, Take, Advance}
+use Rattle.road_world.specs.declared.event.Event.TheVariants.{Edit, Withdraw, Import, Send, Heads, Beyond}
+use Rattle.road_world.specs.declared.event.Event.TheVariants.{Take, Advance}
 
 -- the most steps that are computed where replica r makes an edit
 abbrev pub most_steps_of_edit : World → ℕ → Object → ℕ → Value → ℕ
 most_steps_of_edit w r object step value =
     most_steps_taking (sheet_at w r) (single_edit (edit_made (replica_with_sheet w r) object step value))
 
--- the most steps that are computed for an event: those that a write touches, with 63 more, or those that an advance adds
+-- the most steps that are computed for an event: those that its write touches and 63 more, or those that an advance adds
 abbrev pub most_steps_of_event : World → Event → ℕ
 most_steps_of_event w (Edit r object step number) = most_steps_of_edit w r object step (Put number)
 most_steps_of_event w (Withdraw r object step) = most_steps_of_edit w r object step Withdrawn

@@ -207,6 +207,12 @@ fn a_replica_is_sent_what_it_lacks(rt: HostRuntime) -> Result<(), Fail> {
     let played = played(rt.alloc(), &ASKED)?;
     answers(&rt, &played, &ASKED_ANSWERED);
     asks(&rt, &played.world, 1, &HEADS);
-    holds(&rt, rt.alloc(), &played.world, 1, &[CLOSED, CLOSED_LATER, BLOCKED])?;
+    holds(
+        &rt,
+        rt.alloc(),
+        &played.world,
+        1,
+        &[CLOSED, CLOSED_LATER, BLOCKED],
+    )?;
     holds(&rt, rt.alloc(), &played.world, 2, &[CLOSED_LATER, BLOCKED])
 }

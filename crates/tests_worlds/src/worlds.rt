@@ -20,13 +20,40 @@ pub(crate) const BLOCK: Object = Object::Block(8);
 pub(crate) type Answer = Result<Reply, WorldFault>;
 
 /// The stamps of a replica's edits.
-pub(crate) const A1: Stamp = Stamp { count: 1, number: 0 };
-pub(crate) const A2: Stamp = Stamp { count: 2, number: 0 };
-pub(crate) const A3: Stamp = Stamp { count: 3, number: 0 };
-pub(crate) const B1: Stamp = Stamp { count: 1, number: 1 };
-pub(crate) const B2: Stamp = Stamp { count: 2, number: 1 };
-pub(crate) const B3: Stamp = Stamp { count: 3, number: 1 };
-pub(crate) const C1: Stamp = Stamp { count: 1, number: 2 };
+pub(crate) const A1: Stamp = Stamp {
+    count: 1,
+    number: 0,
+};
+
+pub(crate) const A2: Stamp = Stamp {
+    count: 2,
+    number: 0,
+};
+
+pub(crate) const A3: Stamp = Stamp {
+    count: 3,
+    number: 0,
+};
+
+pub(crate) const B1: Stamp = Stamp {
+    count: 1,
+    number: 1,
+};
+
+pub(crate) const B2: Stamp = Stamp {
+    count: 2,
+    number: 1,
+};
+
+pub(crate) const B3: Stamp = Stamp {
+    count: 3,
+    number: 1,
+};
+
+pub(crate) const C1: Stamp = Stamp {
+    count: 1,
+    number: 2,
+};
 
 /// The world of three replicas of the free road after some events.
 pub(crate) fn played(alloc: Global, events: &[Event]) -> Result<Played, Fail> {
