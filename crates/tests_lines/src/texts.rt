@@ -1,4 +1,4 @@
-//! The texts of all errors of the libraries.
+//! The texts of the errors of plans, edits, crews and lines.
 
 use road_format::{LineFault, PlanLineFault};
 use road_plan::PlanFault;

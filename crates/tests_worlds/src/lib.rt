@@ -10,4 +10,6 @@ mod merges;
 #[cfg(test)]
 mod refusals;
 #[cfg(test)]
+mod texts;
+#[cfg(test)]
 mod worlds;
