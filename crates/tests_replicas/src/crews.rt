@@ -54,10 +54,12 @@ fn leaves_it(alloc: Global, write: Write, calls: u64) -> Result<bool, Fail> {
     };
     let mut meter = Meter::new();
     let answer = written(alloc, &mut replica, write, &mut crew, &mut meter);
-    Ok(answer == Err(ReplicaFault::WorkersGone)
-        && (meter.ticks(), crew.gone, replica.sheet().horizon()) == (calls, 1, 6)
-        && holds(alloc, &replica, &HELD)?
-        && shows(alloc, &replica, 6, "0.1.1..1....")?)
+    Ok(
+        answer == Err(ReplicaFault::WorkersGone)
+            && (meter.ticks(), crew.gone, replica.sheet().horizon()) == (calls, 1, 6)
+            && holds(alloc, &replica, &HELD)?
+            && shows(alloc, &replica, 6, "0.1.1..1....")?,
+    )
 }
 
 #[test]

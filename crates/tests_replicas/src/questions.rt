@@ -72,6 +72,16 @@ fn counts_the_worked_cars(rt: HostRuntime) -> Result<(), Fail> {
     Ok(())
 }
 
+// Whether the rows of a diagram are these.
+fn are_rows(rows: &[String], texts: &[&str]) -> bool {
+    for (row, text) in rows.iter().zip(texts.iter()) {
+        if row.as_str() != *text {
+            return false;
+        }
+    }
+    rows.len() == texts.len()
+}
+
 #[test]
 fn a_diagram_has_at_most_1024_rows(rt: HostRuntime) -> Result<(), Fail> {
     let writes = [Write::Edit(BLOCK, 4, 1), Write::Advance(1_024)];
@@ -79,7 +89,6 @@ fn a_diagram_has_at_most_1024_rows(rt: HostRuntime) -> Result<(), Fail> {
     for (from, to, rows) in DIAGRAMS {
         assert!(&rt; replica.rows(rt.alloc(), from, to).map(|rows| rows.len()) == rows);
     }
-    let rows = replica.rows(rt.alloc(), 4, 6)?;
-    assert!(&rt; rows.iter().map(|row| row.as_str()).eq(BLOCKED));
+    assert!(&rt; are_rows(&replica.rows(rt.alloc(), 4, 6)?, &BLOCKED));
     Ok(())
 }
