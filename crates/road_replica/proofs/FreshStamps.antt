@@ -1,5 +1,5 @@
 -- A stamp whose count is above all counts that are held is greater than each stamp that is held.
-use Rattle.std.proofs.Common.{◌≡◌, ◌≤◌, ◌∙◌, ℕ, suc, max, map, List, [], ◌∷◌, ap, sym, subst, arith, true, refl, inl, inr}
+use Rattle.std.proofs.Common.{◌≡◌, ◌≤◌, ◌∙◌, ℕ, suc, max, map, List, [], ◌∷◌, ap, sym, subst, arith, true, inl, inr}
 use Rattle.std.specs.Cmp.{Equal-is}
 use Rattle.std.specs.List.{fold, list_any}
 use Rattle.std.specs.declared.cmp.Ordering.{Ordering}
