@@ -33,9 +33,10 @@ no_edit-join edits wins = join_laws.neutral empty edits winners-empty wins no_ed
 join-no_edit : (edits : Edits) → AreWinners edits → join edits empty ≡ edits
 join-no_edit edits wins = join_laws.commutative edits empty wins winners-empty ∙ no_edit-join edits wins
 
--- one edit joined to none
-pub no_edit-join-single : (edit : Edit) → join empty (from_list (edit ∷ [])) ≡ single_edit edit
-no_edit-join-single edit = no_edit-join (single_edit edit) (winners-single edit)
+-- the scenario of one edit, made of one without edits
+pub scenario_of_one : (none taken : Edits) (edit made : Edit) → none ≡ empty → taken ≡ join none (from_list (edit ∷ [])) → edit ≡ made → taken ≡ single_edit made
+scenario_of_one none taken edit made is joined same =
+    joined ∙ ap (λ (edits : Edits). join edits (single_edit edit)) is ∙ no_edit-join (single_edit edit) (winners-single edit) ∙ ap single_edit same
 
 pub grown_by_edits : (s : Sheet) (edits : Edits) → grown s edits 0 ≡ sheet_after (Take edits) s
 grown_by_edits s edits = ap (λ (h : ℕ). let t : Sheet = record { plan = s.plan; edits = join s.edits edits; horizon = h } in t) (max-zero s.horizon)
@@ -48,8 +49,10 @@ pub join-winners : (s edits : Edits) → AreWinners s → join s (winners edits)
 join-winners s edits wins = sym (winners_laws.of_union s edits ∙ ap (λ (x : Edits). join x (winners edits)) wins)
 
 -- taking edits computes no more steps than growing by them
-pub few_steps_taking : (s : Sheet) (edits : Edits) (meter later : ℕ) → TicksAtMost (most_steps s.horizon (max s.horizon 0) (touched_step s edits)) meter later → TicksAtMost (most_steps_taking s edits) meter later
-few_steps_taking s edits meter later few = subst (λ h. TicksAtMost (most_steps s.horizon h (touched_step s edits)) meter later) (max-zero s.horizon) few
+pub few_steps_taking : (s : Sheet) (taken edits : Edits) (meter later : ℕ) → taken ≡ edits → TicksAtMost (most_steps s.horizon (max s.horizon 0) (touched_step s taken)) meter later → TicksAtMost (most_steps_taking s edits) meter later
+few_steps_taking s taken edits meter later same few =
+    subst (λ (x : Edits). TicksAtMost (most_steps_taking s x) meter later) same
+    (subst (λ h. TicksAtMost (most_steps s.horizon h (touched_step s taken)) meter later) (max-zero s.horizon) few)
 
 -- ---- no edit touches no step
 

@@ -4,10 +4,10 @@
 #[cfg(test)]
 mod crews;
 #[cfg(test)]
-mod merges;
+mod examples;
 #[cfg(test)]
-mod refusals;
+mod messages;
+#[cfg(test)]
+mod questions;
 #[cfg(test)]
 mod replicas;
-#[cfg(test)]
-mod rows;

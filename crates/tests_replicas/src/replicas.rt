@@ -1,12 +1,11 @@
-//! A replica of the free road, its writes with a crew of one, and what it shows.
+//! Replicas of the free road, and writes to them as tables have them.
 
 use road_ends::Meter;
 use road_plan::Object;
-use road_replica::{Replica, ReplicaFault};
+use road_replica::{OutOfMemory, Replica, ReplicaFault, Reply};
 use road_scenario::{Edit, Scenario, Stamp, Value};
-use road_workers::Alone;
+use road_workers::{Alone, Crew};
 use std::alloc::Global;
-use std::process::Abort;
 use std::sync::Arc;
 use std::test::Fail;
 use tests_plans::{FREE, plan_of};
@@ -15,96 +14,96 @@ pub(crate) const LIMIT: Object = Object::Limit(0);
 
 pub(crate) const BLOCK: Object = Object::Block(8);
 
+/// An edit: its object and step, the count and number of its stamp, and its value.
+pub(crate) type Entry = (Object, u32, (u64, u16), Value);
+
+/// A write to a replica.
+#[derive(Clone, Copy)]
+pub(crate) enum Write {
+    Edit(Object, u32, u32),
+    Withdraw(Object, u32),
+    Import(&'static [Entry]),
+    Take(&'static [Entry]),
+    Advance(u32),
+}
+
 /// A replica of the free road before any write.
 pub(crate) fn opened(alloc: Global, number: u8) -> Result<Replica, Fail> {
     let plan = Arc::new(alloc, plan_of(alloc, &FREE)?)?;
     Ok(Replica::open(alloc, plan, (number % 64) as u32)?)
 }
 
-/// The replica 0 of the free road at step 6.
-pub(crate) fn free_road(alloc: Global) -> Result<Replica, Fail> {
-    let mut replica = opened(alloc, 0)?;
-    advance(alloc, &mut replica, 6)?;
+/// The edits of a table.
+pub(crate) fn edits_of(alloc: Global, entries: &[Entry]) -> Result<Vec<Edit>, OutOfMemory> {
+    let mut edits = Vec::new(alloc);
+    for (object, step, (count, number), value) in entries {
+        let stamp = Stamp {
+            count: *count,
+            number: *number,
+        };
+        edits.push(Edit {
+            object: *object,
+            step: *step,
+            stamp,
+            value: *value,
+        })?;
+    }
+    Ok(edits)
+}
+
+/// What a write is answered.
+pub(crate) fn written<C: Crew>(
+    alloc: Global,
+    replica: &mut Replica,
+    write: Write,
+    crew: &mut C,
+    meter: &mut Meter,
+) -> Result<Reply, ReplicaFault> {
+    Ok(match write {
+        Write::Edit(object, step, value) => {
+            Reply::Stamped(replica.edit(alloc, object, step, value, crew, meter)?)
+        }
+        Write::Withdraw(object, step) => {
+            Reply::Stamped(replica.withdraw(alloc, object, step, crew, meter)?)
+        }
+        Write::Import(entries) => {
+            let edits = edits_of(alloc, entries)?;
+            Reply::Touched(replica.import(alloc, &edits, crew, meter)?)
+        }
+        Write::Take(entries) => {
+            let taken = Scenario::of_edits(alloc, &edits_of(alloc, entries)?)?;
+            Reply::Touched(replica.take(alloc, &taken, crew, meter)?)
+        }
+        Write::Advance(to) => Reply::Horizon(replica.advance(alloc, to, crew, meter)?),
+    })
+}
+
+/// A replica of the free road after some writes that it accepts, with a crew of one.
+pub(crate) fn replica_after(alloc: Global, number: u8, writes: &[Write]) -> Result<Replica, Fail> {
+    let mut replica = opened(alloc, number)?;
+    for write in writes {
+        written(alloc, &mut replica, *write, &mut Alone, &mut Meter::new())?;
+    }
     Ok(replica)
 }
 
-/// An edit that puts a number, with the count and the number of its stamp.
-pub(crate) fn put(object: Object, step: u32, stamp: (u64, u16), number: u32) -> Edit {
-    let (count, writer) = stamp;
-    Edit {
-        object,
-        step,
-        stamp: Stamp {
-            count,
-            number: writer,
-        },
-        value: Value::Put(number),
-    }
-}
-
-pub(crate) fn edit(
-    alloc: Global,
-    replica: &mut Replica,
-    object: Object,
-    step: u32,
-    value: u32,
-) -> Result<(u64, u16), ReplicaFault> {
-    let stamp = replica.edit(alloc, object, step, value, &mut Alone, &mut Meter::new())?;
-    Ok((stamp.count, stamp.number))
-}
-
-pub(crate) fn withdraw(
-    alloc: Global,
-    replica: &mut Replica,
-    object: Object,
-    step: u32,
-) -> Result<(u64, u16), ReplicaFault> {
-    let stamp = replica.withdraw(alloc, object, step, &mut Alone, &mut Meter::new())?;
-    Ok((stamp.count, stamp.number))
-}
-
-pub(crate) fn import(
-    alloc: Global,
-    replica: &mut Replica,
-    edits: &[Edit],
-) -> Result<Option<u32>, ReplicaFault> {
-    replica.import(alloc, edits, &mut Alone, &mut Meter::new())
-}
-
-pub(crate) fn take(
-    alloc: Global,
-    replica: &mut Replica,
-    scenario: &Scenario,
-) -> Result<Option<u32>, ReplicaFault> {
-    replica.take(alloc, scenario, &mut Alone, &mut Meter::new())
-}
-
-pub(crate) fn advance(alloc: Global, replica: &mut Replica, to: u32) -> Result<u32, ReplicaFault> {
-    replica.advance(alloc, to, &mut Alone, &mut Meter::new())
-}
-
-/// That a replica shows these rows at these steps.
-pub(crate) fn shows(
-    rt: &impl Abort,
-    alloc: Global,
-    replica: &Replica,
-    rows: &[(u32, &str)],
-) -> Result<(), Fail> {
-    for (step, text) in rows {
-        let shown = replica.rows(alloc, *step, *step)?;
-        assert_eq!(rt; shown.len(), 1);
-        assert!(rt; shown.first().map(|row| row.as_str()) == Some(*text));
-    }
-    Ok(())
-}
-
-/// That the edits that won at a replica are these.
+/// Whether a replica holds just these edits, by object and step.
 pub(crate) fn holds(
-    rt: &impl Abort,
     alloc: Global,
     replica: &Replica,
-    edits: &[Edit],
-) -> Result<(), Fail> {
-    assert!(rt; replica.scenario().edits(alloc)?.as_slice() == edits);
-    Ok(())
+    entries: &[Entry],
+) -> Result<bool, OutOfMemory> {
+    let held = replica.scenario().edits(alloc)?;
+    Ok(held.as_slice() == edits_of(alloc, entries)?.as_slice())
+}
+
+/// Whether a replica shows just this row at a step.
+pub(crate) fn shows(
+    alloc: Global,
+    replica: &Replica,
+    step: u32,
+    row: &str,
+) -> Result<bool, ReplicaFault> {
+    let rows = replica.rows(alloc, step, step)?;
+    Ok(rows.len() == 1 && rows.iter().all(|shown| shown.as_str() == row))
 }

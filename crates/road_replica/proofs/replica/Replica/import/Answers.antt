@@ -1,4 +1,4 @@
-use Rattle.std.proofs.Common.{◌≡◌, ◌∙◌, None, Option, ap, sym, subst, rules}
+use Rattle.std.proofs.Common.{◌≡◌, ◌∙◌, None, Option, ap, refl, sym, subst, rules}
 use Rattle.std.specs.Prelude.{IfOk, IfSome}
 use Rattle.lattice_core.specs.Sets.{from_list}
 use Rattle.road_scenario.specs.Edits.{Edits, edit_cmp}
@@ -33,4 +33,4 @@ returns-clause-few_steps g c =
     let s = c.args.self.now.sheet in
     let joined = ap (λ (edits : Edits). join s.edits edits) c.in_ok-scenario.ensures.winners ∙ join-winners s.edits (from_list {R = edit_cmp} c.args.edits.now) c.known.ensures.sheet.winners in
     subst (λ (edits : Edits). TicksAtMost (most_steps s.horizon s.horizon (touched s.edits edits)) c.args.meter.now c.grow.new.meter) joined
-    (few_steps_taking s c.in_ok-scenario.scenario c.args.meter.now c.grow.new.meter c.grow.ensures.few_steps)
+    (few_steps_taking s c.in_ok-scenario.scenario c.in_ok-scenario.scenario c.args.meter.now c.grow.new.meter refl c.grow.ensures.few_steps)

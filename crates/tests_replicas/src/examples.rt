@@ -1,0 +1,269 @@
+//! Writes with their answers, and what the replica holds and shows then.
+
+use crate::replicas::{BLOCK, Entry, LIMIT, Write, holds, opened, shows, written};
+use road_ends::Meter;
+use road_plan::Object;
+use road_replica::{Replica, ReplicaFault, Reply};
+use road_scenario::{Stamp, Value};
+use road_workers::Alone;
+use std::alloc::Global;
+use std::test::Fail;
+
+/// A write to a replica, and its answer.
+type Answered = (Write, Result<Reply, ReplicaFault>);
+
+/// Writes to a replica before which there was none, the edits that it holds then, and rows that it shows.
+#[derive(Clone, Copy)]
+struct Example {
+    number: u8,
+    writes: &'static [Answered],
+    held: &'static [Entry],
+    rows: &'static [(u32, &'static str)],
+}
+
+/// The greatest count of a stamp.
+const MOST: u64 = 281_474_976_710_656;
+
+const TO_SIX: Answered = (Write::Advance(6), Ok(Reply::Horizon(6)));
+
+/// The cell 8 is blocked from step 4 on, once the road is at step 6.
+const BLOCKED: Answered = (
+    Write::Edit(BLOCK, 4, 1),
+    Ok(Reply::Stamped(Stamp {
+        count: 1,
+        number: 0,
+    })),
+);
+
+const SECOND_STAMP: Stamp = Stamp {
+    count: 2,
+    number: 0,
+};
+
+const FREE_ROAD: Example = Example {
+    number: 0,
+    writes: &[TO_SIX, (Write::Advance(3), Ok(Reply::Horizon(6)))],
+    held: &[],
+    rows: &[
+        (0, "............"),
+        (1, ".1.........."),
+        (2, "0..2........"),
+        (3, ".1...2......"),
+        (4, "0..2...2...."),
+        (5, ".1...2...2.."),
+        (6, "0..2...2...."),
+    ],
+};
+
+const LATE_EDIT: Example = Example {
+    writes: &[TO_SIX, BLOCKED],
+    held: &[(BLOCK, 4, (1, 0), Value::Put(1))],
+    rows: &[
+        (4, "0..2...2#..."),
+        (5, ".1...2.0#..."),
+        (6, "0..2..10#..."),
+    ],
+    ..FREE_ROAD
+};
+
+/// What was withdrawn does not come back with an older message.
+const WITHDRAWAL: Example = Example {
+    writes: &[
+        TO_SIX,
+        BLOCKED,
+        (Write::Withdraw(BLOCK, 4), Ok(Reply::Stamped(SECOND_STAMP))),
+        (
+            Write::Take(&[(BLOCK, 4, (1, 0), Value::Put(1))]),
+            Ok(Reply::Touched(None)),
+        ),
+    ],
+    held: &[(BLOCK, 4, (2, 0), Value::Withdrawn)],
+    ..FREE_ROAD
+};
+
+const GREATEST_HORIZON: Example = Example {
+    writes: &[
+        (
+            Write::Edit(Object::Block(0), 0, 1),
+            Ok(Reply::Stamped(Stamp {
+                count: 1,
+                number: 0,
+            })),
+        ),
+        (Write::Advance(65_536), Ok(Reply::Horizon(65_536))),
+        (Write::Advance(65_537), Err(ReplicaFault::Horizon)),
+    ],
+    held: &[(Object::Block(0), 0, (1, 0), Value::Put(1))],
+    rows: &[(65_536, "#...........")],
+    ..FREE_ROAD
+};
+
+/// No count is left above the greatest.
+const COUNTS_SPENT: Example = Example {
+    writes: &[
+        (
+            Write::Import(&[(LIMIT, 0, (MOST, 64), Value::Put(1))]),
+            Ok(Reply::Touched(Some(0))),
+        ),
+        (Write::Edit(LIMIT, 1, 1), Err(ReplicaFault::CountsSpent)),
+        (Write::Withdraw(LIMIT, 0), Err(ReplicaFault::CountsSpent)),
+        (Write::Edit(LIMIT, 65_536, 1), Err(ReplicaFault::Step)),
+    ],
+    held: &[(LIMIT, 0, (MOST, 64), Value::Put(1))],
+    rows: &[],
+    ..FREE_ROAD
+};
+
+/// Each is refused for the first cause that stands.
+const REFUSALS: Example = Example {
+    writes: &[
+        (
+            Write::Edit(Object::Limit(1), 65_536, 10),
+            Err(ReplicaFault::NoObject),
+        ),
+        (Write::Edit(LIMIT, 65_536, 10), Err(ReplicaFault::Step)),
+        (
+            Write::Edit(LIMIT, 65_535, 10),
+            Err(ReplicaFault::ValueOutOfRange),
+        ),
+        (
+            Write::Withdraw(Object::Limit(1), 65_536),
+            Err(ReplicaFault::NoObject),
+        ),
+        (Write::Withdraw(LIMIT, 65_536), Err(ReplicaFault::Step)),
+        (
+            Write::Take(&[(LIMIT, 0, (0, 3), Value::Put(10))]),
+            Err(ReplicaFault::ValueOutOfRange),
+        ),
+        (
+            Write::Take(&[(LIMIT, 0, (0, 3), Value::Put(1))]),
+            Err(ReplicaFault::Count),
+        ),
+    ],
+    held: &[],
+    rows: &[],
+    ..FREE_ROAD
+};
+
+/// The first faulty edit decides, and nothing of a refused import is taken.
+const REFUSED_IMPORTS: Example = Example {
+    writes: &[
+        (
+            Write::Import(&[
+                (LIMIT, 3, (9, 70), Value::Put(1)),
+                (LIMIT, 0, (1, 63), Value::Put(1)),
+                (Object::Limit(1), 0, (0, 63), Value::Put(99)),
+            ]),
+            Err(ReplicaFault::Insider),
+        ),
+        (
+            Write::Import(&[(LIMIT, 0, (0, 63), Value::Put(1))]),
+            Err(ReplicaFault::Count),
+        ),
+        (
+            Write::Import(&[(LIMIT, 0, (MOST + 1, 64), Value::Put(1))]),
+            Err(ReplicaFault::Count),
+        ),
+        (
+            Write::Import(&[(LIMIT, 0, (0, 64), Value::Put(10))]),
+            Err(ReplicaFault::ValueOutOfRange),
+        ),
+    ],
+    ..REFUSALS
+};
+
+/// Of equal stamps the greater number wins, whichever comes first.
+const RISING_NUMBERS: Example = Example {
+    writes: &[
+        (
+            Write::Import(&[(LIMIT, 0, (7, 64), Value::Put(2))]),
+            Ok(Reply::Touched(Some(0))),
+        ),
+        (
+            Write::Import(&[(LIMIT, 0, (7, 64), Value::Put(3))]),
+            Ok(Reply::Touched(Some(0))),
+        ),
+    ],
+    held: &[(LIMIT, 0, (7, 64), Value::Put(3))],
+    rows: &[],
+    ..FREE_ROAD
+};
+
+const FALLING_NUMBERS: Example = Example {
+    writes: &[
+        (
+            Write::Import(&[(LIMIT, 0, (7, 64), Value::Put(3))]),
+            Ok(Reply::Touched(Some(0))),
+        ),
+        (
+            Write::Import(&[(LIMIT, 0, (7, 64), Value::Put(2))]),
+            Ok(Reply::Touched(None)),
+        ),
+    ],
+    ..RISING_NUMBERS
+};
+
+/// A replica counts on from what it took.
+const NEXT_COUNT: Example = Example {
+    number: 1,
+    writes: &[
+        (
+            Write::Take(&[(LIMIT, 3, (1, 0), Value::Put(1))]),
+            Ok(Reply::Touched(Some(3))),
+        ),
+        (
+            Write::Edit(LIMIT, 3, 2),
+            Ok(Reply::Stamped(Stamp {
+                count: 2,
+                number: 1,
+            })),
+        ),
+    ],
+    held: &[(LIMIT, 3, (2, 1), Value::Put(2))],
+    rows: &[],
+};
+
+const EXAMPLES: [Example; 10] = [
+    FREE_ROAD,
+    LATE_EDIT,
+    WITHDRAWAL,
+    GREATEST_HORIZON,
+    COUNTS_SPENT,
+    REFUSALS,
+    REFUSED_IMPORTS,
+    RISING_NUMBERS,
+    FALLING_NUMBERS,
+    NEXT_COUNT,
+];
+
+// The replica of an example, once its answers are compared.
+fn answered(alloc: Global, example: &Example) -> Result<Replica, Fail> {
+    let mut replica = opened(alloc, example.number)?;
+    for (write, answer) in example.writes {
+        let is = written(alloc, &mut replica, *write, &mut Alone, &mut Meter::new());
+        if is != *answer {
+            return Err(Fail::new("another answer"));
+        }
+    }
+    Ok(replica)
+}
+
+// Whether a replica shows the rows of an example.
+fn shows_rows(alloc: Global, replica: &Replica, example: &Example) -> Result<bool, ReplicaFault> {
+    for (step, row) in example.rows {
+        if !shows(alloc, replica, *step, row)? {
+            return Ok(false);
+        }
+    }
+    Ok(true)
+}
+
+#[test]
+fn writes_are_answered(rt: HostRuntime) -> Result<(), Fail> {
+    for example in EXAMPLES {
+        let replica = answered(rt.alloc(), &example)?;
+        assert!(&rt; holds(rt.alloc(), &replica, example.held)?);
+        assert!(&rt; shows_rows(rt.alloc(), &replica, &example)?);
+    }
+    Ok(())
+}
