@@ -17,7 +17,8 @@ abbrev pub most_steps_of_edit : World → ℕ → Object → ℕ → Value → �
 most_steps_of_edit w r object step value =
     most_steps_taking (sheet_at w r) (single_edit (edit_made (replica_with_sheet w r) object step value))
 
--- the most steps that are computed for an event: those that its write touches and 63 more, or those that an advance adds
+-- the most steps that are computed for an event: those that its write touches and 63 more, or those that an advance
+-- adds
 abbrev pub most_steps_of_event : World → Event → ℕ
 most_steps_of_event w (Edit r object step number) = most_steps_of_edit w r object step (Put number)
 most_steps_of_event w (Withdraw r object step) = most_steps_of_edit w r object step Withdrawn
