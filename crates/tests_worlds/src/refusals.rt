@@ -136,11 +136,14 @@ const INSIDER: Edit = Edit {
     ..TWO
 };
 
-// Edits that reach a replica from outside.
-fn import(alloc: Global, at: u32, edits: &[Edit]) -> Result<Event, Fail> {
-    let edits = edits.to_vec(alloc)?;
-    Ok(Event::Import { at, edits })
-}
+/// Replicas, and the edits that reach them from outside.
+const IMPORTS: [(u32, &[Edit]); 5] = [
+    (0, &[TWO]),
+    (0, &[THREE]),
+    (1, &[THREE]),
+    (1, &[TWO]),
+    (2, &[TWO, INSIDER]),
+];
 
 const IMPORTS_ANSWERED: [Answer; 5] = [
     Ok(Reply::Touched(Some(0))),
@@ -150,15 +153,19 @@ const IMPORTS_ANSWERED: [Answer; 5] = [
     Err(WorldFault::Replica(ReplicaFault::Insider)),
 ];
 
+// These imports, one after another.
+fn imports(alloc: Global) -> Result<Vec<Event>, Fail> {
+    let mut events = Vec::new(alloc);
+    for (at, edits) in IMPORTS {
+        let edits = edits.to_vec(alloc)?;
+        events.push(Event::Import { at, edits })?;
+    }
+    Ok(events)
+}
+
 #[test]
 fn imports_come_in_any_order_and_all_or_none(rt: HostRuntime) -> Result<(), Fail> {
-    let events = [
-        import(rt.alloc(), 0, &[TWO])?,
-        import(rt.alloc(), 0, &[THREE])?,
-        import(rt.alloc(), 1, &[THREE])?,
-        import(rt.alloc(), 1, &[TWO])?,
-        import(rt.alloc(), 2, &[TWO, INSIDER])?,
-    ];
+    let events = imports(rt.alloc())?;
     let played = played(rt.alloc(), &events)?;
     answers(&rt, &played, &IMPORTS_ANSWERED);
     holds(&rt, rt.alloc(), &played.world, 0, &[THREE])?;
