@@ -1,4 +1,5 @@
-ghost use Rattle.std.specs.Prelude.{◌≡◌, ◌<◌, ◌≤◌, ◌-◌, max, IfErr, IfOk, MatchResult, None, OnErr, OnOk, map, string_bytes, true};
+ghost use Rattle.std.specs.Prelude.{◌≡◌, ◌<◌, ◌≤◌, ◌-◌, max, IfErr, IfOk};
+ghost use Rattle.std.specs.Prelude.{MatchResult, None, OnErr, OnOk, map, string_bytes, true};
 ghost use Rattle.std.specs.Arc.{arc_value};
 ghost use Rattle.std.specs.declared.cmp.Ordering.TheVariants.{Less};
 ghost use Rattle.lattice_core.specs.Sets.{contains, from_list};
@@ -103,8 +104,8 @@ impl Replica {
     ///
     /// # Errors
     ///
-    /// `NoObject`, `Step`, `ValueOutOfRange`, `CountsSpent`, in this order; else `WorkersGone` where the crew answers so,
-    /// or `OutOfMemory` where a growth was refused.
+    /// `NoObject`, `Step`, `ValueOutOfRange`, `CountsSpent`, in this order; else `WorkersGone` where the crew answers
+    /// so, or `OutOfMemory` where a growth was refused.
     pub fn edit<C: Crew>(
         &mut self,
         alloc: Global,
@@ -429,8 +430,8 @@ impl Replica {
     ///
     /// # Errors
     ///
-    /// `Range` where `from` is above `to` or these are more than 1,024 rows, else `NotSimulated` where `to` is above the
-    /// horizon, else `OutOfMemory` where a growth was refused.
+    /// `Range` where `from` is above `to` or these are more than 1,024 rows, else `NotSimulated` where `to` is above
+    /// the horizon, else `OutOfMemory` where a growth was refused.
     pub fn rows(&self, alloc: Global, from: u32, to: u32) -> Result<Vec<String>, ReplicaFault>
         ensures rows { IfOk result (λ rows. map string_bytes rows.items ≡ rows_of self.now.sheet from to) }
         ensures accepted { IfOk result (λ _. refusals.rows_fault self.now.sheet from to ≡ None) }
