@@ -41,7 +41,7 @@ each_below (f ∷ es) n e h = elim (or_cases (eq_by_cmp edit_cmp e f) _ h) as (�
 less_by_count : (n m : ℕ) (numbers : Ordering) → n ≤ m → ordering_then (nat_cmp n (suc m)) numbers ≡ Less
 less_by_count n m numbers below = grind (arith, nat_tests)
 
-next_count_is_fresh : (edits : Edits) (number : ℕ) (e : Edit) → contains edits e ≡ true → number_pair_cmp (stamp_key e.stamp) (suc (greatest_count edits), number) ≡ Less
+pub next_count_is_fresh : (edits : Edits) (number : ℕ) (e : Edit) → contains edits e ≡ true → number_pair_cmp (stamp_key e.stamp) (suc (greatest_count edits), number) ≡ Less
 next_count_is_fresh edits number e held =
     less_by_count e.stamp.count (greatest_count edits) (nat_cmp e.stamp.number number) (each_below (items edits) 0 e (sym (contains-items edits e) ∙ held))
 

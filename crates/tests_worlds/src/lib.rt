@@ -4,6 +4,8 @@
 #[cfg(test)]
 mod crews;
 #[cfg(test)]
+mod growths;
+#[cfg(test)]
 mod lists;
 #[cfg(test)]
 mod merges;
