@@ -19,7 +19,7 @@ struct Growth {
 }
 
 /// A step, and the row that a sheet shows there.
-type Row = (u32, Result<&'static str, SheetFault>);
+pub(crate) type Row = (u32, Result<&'static str, SheetFault>);
 
 /// A detector and two steps, and the cars and speeds that it counts from one up to the other.
 type Count = ((u32, u32, u32), Result<(u32, u32), SheetFault>);
@@ -271,8 +271,8 @@ fn row(alloc: Global, sheet: &Sheet, step: u32) -> Result<String, SheetFault> {
     Ok(row_of(alloc, sheet.plan(), sheet.scenario(), &state)?)
 }
 
-// Whether a sheet shows these rows.
-fn shows(alloc: Global, sheet: &Sheet, rows: &[Row]) -> bool {
+/// Whether a sheet shows these rows.
+pub(crate) fn shows(alloc: Global, sheet: &Sheet, rows: &[Row]) -> bool {
     for (step, wanted) in rows {
         let agrees = match (row(alloc, sheet, *step), wanted) {
             (Ok(row), Ok(wanted)) => row.as_str() == *wanted,

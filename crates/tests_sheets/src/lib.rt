@@ -4,6 +4,8 @@
 #[cfg(test)]
 mod examples;
 #[cfg(test)]
+mod growths;
+#[cfg(test)]
 mod scripts;
 #[cfg(test)]
 mod sheets;
