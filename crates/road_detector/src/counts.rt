@@ -1,10 +1,13 @@
-ghost use Rattle.std.specs.Prelude.{◌≡◌, ◌<◌, ◌≤◌, ◌+◌, ◌^◌, length};
+ghost use Rattle.std.specs.Prelude.{◌≡◌, ℕ, ◌<◌, ◌≤◌, ◌+◌, ◌^◌, length, slice_index};
 ghost use Rattle.road_plan.specs.declared.limits.TheConstants.{GREATEST_LENGTH};
-ghost use Rattle.road_cells.specs.Cars.{cars_of};
+ghost use Rattle.road_cells.specs.Cars.{cars_before, cars_of};
 ghost use Rattle.road_detector.specs.Passes.{totals_of, drives, passes_at, plus};
 
 use road_cells::Road;
 use road_ends::StepInput;
+
+/// Among how many cars a site is looked for before it is searched.
+const NEAR: usize = 16;
 
 /// What a detector has counted.
 #[derive(Clone, Copy, Debug, PartialEq, Eq)]
@@ -34,34 +37,96 @@ impl Totals {
 /// deleted too, and the sum of their new speeds. Nothing where the detector is off.
 ///
 /// `speeds` has one speed for each car, in the order of the cars, and may be any speeds. The cars before the site are
-/// found by one search; only those from which a speed of one byte can reach it are looked at. It takes no memory.
+/// found by one search; only those from which the greatest of the speeds can reach it are looked at. It takes no
+/// memory.
 pub fn passes(input: &StepInput, speeds: &[u8], detector: u32) -> Totals
     requires one_each { length speeds.now ≡ length (cars_of input.now.road) }
     requires in_plan { detector < length input.now.plan.detectors }
     ensures { result ≡ passes_at input.now speeds.now detector }
 {
-    input.known();
-    if !input.settings().watched()[detector as usize] {
-        return Totals { cars: 0, speeds: 0 };
-    }
-    counted(
-        input.road(),
-        speeds,
-        input.plan().detectors()[detector as usize],
-    )
+    passes_from(input, speeds, detector, greatest_speed(speeds), usize::MAX).totals
 }
 
-// The cars that pass a site.
-fn counted(road: &Road, speeds: &[u8], site: u32) -> Totals
+/// The greatest of these speeds, 0 where there is none. It takes no memory.
+pub fn greatest_speed(speeds: &[u8]) -> u8
+    ensures { (i : ℕ) → slice_index speeds.now i ≤ result }
+{
+    let mut greatest = 0;
+    for speed in speeds {
+        greatest = (*speed).max(greatest);
+    }
+    greatest
+}
+
+/// What a detector counts in a step, and how many cars stand before its site.
+#[derive(Clone, Copy, Debug, PartialEq, Eq)]
+pub struct Passed {
+    /// What it counts.
+    pub totals: Totals,
+    /// How many cars stand before its site; 0 where it is off.
+    pub before: usize,
+}
+
+/// What a detector counts in a step, as [`passes`], where it is known that no speed is above `greatest`, in cells per
+/// step: only the cars from which such a speed can reach the site are looked at. About as many cars as `near` stand
+/// before the site: where it is a few less, as after a detector that is a little before this one, nothing is searched.
+/// It takes no memory.
+pub fn passes_from(
+    input: &StepInput,
+    speeds: &[u8],
+    detector: u32,
+    greatest: u8,
+    near: usize,
+) -> Passed
+    requires one_each { length speeds.now ≡ length (cars_of input.now.road) }
+    requires in_plan { detector < length input.now.plan.detectors }
+    requires greatest { (i : ℕ) → slice_index speeds.now i ≤ greatest }
+    ensures { result.totals ≡ passes_at input.now speeds.now detector }
+{
+    input.known();
+    if !input.settings().watched()[detector as usize] {
+        return Passed {
+            totals: Totals { cars: 0, speeds: 0 },
+            before: 0,
+        };
+    }
+    let site = input.plan().detectors()[detector as usize];
+    let before = place_of(input.road(), site, near);
+    Passed {
+        totals: counted(input.road(), speeds, site, greatest, before),
+        before,
+    }
+}
+
+// How many cars stand before a site: looked for among the few behind the first `near` ones, else searched.
+fn place_of(road: &Road, site: u32, near: usize) -> usize
+    ensures { result ≡ cars_before site (cars_of road.now) }
+{
+    let cars = road.cars();
+    for place in near..cars.len().min(near.saturating_add(NEAR)) {
+        if site <= cars[place].cell {
+            if place == 0 || cars[place - 1].cell < site {
+                return place;
+            }
+            break;
+        }
+    }
+    road.cars_before(site)
+}
+
+// The cars that pass a site, where no speed is above `greatest`, and so many stand before it.
+fn counted(road: &Road, speeds: &[u8], site: u32, greatest: u8, before: usize) -> Totals
     requires one_each { length speeds.now ≡ length (cars_of road.now) }
     requires short { length road.now ≤ GREATEST_LENGTH }
+    requires greatest { (i : ℕ) → slice_index speeds.now i ≤ greatest }
+    requires before { before ≡ cars_before site (cars_of road.now) }
     ensures { result ≡ totals_of site (drives (cars_of road.now) speeds.now) }
 {
     let cars = road.cars();
     let mut totals = Totals { cars: 0, speeds: 0 };
-    for place in (0..road.cars_before(site)).rev() {
+    for place in (0..before).rev() {
         let distance = site - cars[place].cell;
-        if distance > u32::from(u8::MAX) {
+        if distance > u32::from(greatest) {
             break;
         }
         if distance <= u32::from(speeds[place]) {

@@ -16,7 +16,7 @@ mod counts;
 pub mod laws;
 mod rows;
 
-pub use counts::{Totals, passes};
+pub use counts::{Passed, Totals, greatest_speed, passes, passes_from};
 pub use rows::row_text;
 /// Want of memory, answered only where a growth was refused.
 pub use std::alloc::AllocError as OutOfMemory;

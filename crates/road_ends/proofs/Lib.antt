@@ -7,3 +7,4 @@ pub mod StepByCars
 pub mod ChanceEvents
 pub mod PassOverCars
 pub mod CellsBetweenInlets
+pub mod KeptColumns

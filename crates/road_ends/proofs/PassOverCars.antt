@@ -1,17 +1,34 @@
 -- What the pass over the cars computes.
-use Rattle.std.specs.Prelude.{◌≡◌, ℕ, ◌+◌, ◌<◌, ◌≤◌, List, ◌∷◌, length, drop, slice_index, slice_set}
-use Rattle.std.proofs.Common.{sym, ap, ◌∙◌, arith}
+use Rattle.std.specs.Prelude.{◌≡◌, ℕ, ◌+◌, ◌/◌, ◌<◌, ◌≤◌, ◌||◌, Bool, true, suc, List, ◌∷◌, length, drop, is_some, slice_index, slice_set}
+use Rattle.std.proofs.Common.{sym, ap, ◌∙◌, arith, refl}
 use Rattle.std.proofs.lemmas.List.{drop-set, drop_more, get_or-map, length-map}
 use Rattle.road_plan.specs.Plan.{Plan, zone_of}
 use Rattle.road_plan.specs.Settings.{Settings, Fits}
 use Rattle.road_words.specs.Words.{word}
-use Rattle.road_cells.specs.Array.{Array}
-use Rattle.road_cells.specs.Cars.{cars_of, vehicle_of, cell_at}
-use Rattle.road_cells.specs.Gap.{free_cells}
+use Rattle.road_cells.specs.Array.{Array, vehicle_at}
+use Rattle.road_cells.specs.Cars.{cars_of, vehicle_of, vehicle_among, cell_at}
+use Rattle.road_cells.specs.Gap.{free_before, free_cells, is_blocked, is_taken}
+use Rattle.road_cells.proofs.CarLists.{rise-cars_from, vehicle_among-cars_from}
+use Rattle.road_cells.proofs.CarPlaces.{vehicle_among-at}
 use Rattle.road_cells.specs.declared.car.Car.{Car}
 use Rattle.road_rules.specs.Speeds.{wanted, slowed, has_event}
 use Rattle.road_ends.specs.Speed.{gap, speed, speeds, nth_car}
+use Rattle.road_ends.specs.Private.KeptHalves.{AreHalves, IsHeldUp}
 use Rattle.road_ends.proofs.StepByCars.{gap-free_cells}
+
+-- no cell is free where the first one is taken
+first_taken : (test : ℕ → Bool) (c n : ℕ) → test c ≡ true → free_before test c (suc n) ≡ 0
+unfolding free_before
+first_taken test c n taken = rw taken refl
+
+-- a car that is held up has no free cell in front of it
+held_up : (blocks : List ℕ) (a : Array) (k : ℕ) → IsHeldUp (cars_of a) k → free_cells blocks a (cell_at (cars_of a) k) ≡ 0
+held_up blocks a k held =
+    let ahead = cell_at (cars_of a) (k + 1) in
+    let zero_more : 0 + ahead ≡ ahead = omega arith in
+    let stands = sym (vehicle_among-cars_from 0 ahead a) ∙ ap (λ c. vehicle_among c (cars_of a)) zero_more ∙ vehicle_among-at 0 (cars_of a) (k + 1) (record { number = 0; cell = 0; speed = 0 }) (rise-cars_from 0 a) held.0 in
+    first_taken (is_taken blocks a) (cell_at (cars_of a) k + 1) 8
+    (ap (λ c. is_some (vehicle_at a c) || is_blocked blocks c) (sym held.1) ∙ ap (λ v. is_some v || is_blocked blocks ahead) stands)
 
 module _ (p : Plan) (s : Settings) (t : ℕ) (a : Array) where
   -- the speed by the limit, the free cells, the chance and the word that were read is that of the definition
@@ -30,6 +47,19 @@ module _ (p : Plan) (s : Settings) (t : ℕ) (a : Array) where
       let drawn : words (nth_car cars k).number step ≡ word p.words (nth_car (cars_of a) k).number t =
       named (nth_car cars k).number step ∙ (λ i. word p.words (nth_car (all i) k).number (now i)) in
       is ∙ (λ i. slowed (wish i) (has_event (drawn i) (slice_index (chanced i) (in_zone i))))
+
+  -- the same, by the half that is kept of the word
+  pub read_kept_speed : (cars : List Car) (halves blocks limits chances : List ℕ) (k zone free wished v : ℕ) → Fits p s → length a ≤ p.cells → AreHalves p.words t a halves → k < length halves
+      → cars ≡ cars_of a → blocks ≡ s.blocks → limits ≡ s.limits → chances ≡ s.chances → zone ≡ zone_of p (cell_at (cars_of a) k)
+      → free ≡ free_cells blocks a (cell_at (cars_of a) k)
+      → wished ≡ wanted (nth_car cars k).speed (slice_index limits zone) free
+      → ((word : ℕ) → (0 < wished → slice_index halves k ≡ word / 65536) → v ≡ slowed wished (has_event word (slice_index chances zone)))
+      → v ≡ speed p s t a (nth_car (cars_of a) k).cell (vehicle_of (nth_car (cars_of a) k))
+  read_kept_speed cars halves blocks limits chances k zone free wished v fits long are inside all blocked limited chanced in_zone clear wishes is =
+      let right : 0 < wished → slice_index halves k ≡ word p.words (nth_car cars k).number t / 65536 =
+      λ moves. are.each k inside (λ held. let none : free ≡ 0 = clear ∙ held_up blocks a k held in omega arith) ∙ ap (λ (cs : List Car). word p.words (nth_car cs k).number t / 65536) (sym all) in
+      read_speed (word p.words) cars blocks limits chances k zone t free wished v fits long (λ _ _. refl) all blocked limited chanced in_zone refl clear wishes
+      (is (word p.words (nth_car cars k).number t) right)
 
   -- one speed for each car
   pub speed_each : length (speeds p s t a) ≡ length (cars_of a)

@@ -1,11 +1,12 @@
 ghost use Rattle.std.specs.Prelude.{◌≡◌, ◌+◌, min, IfOk, OnOk, OnErr};
 ghost use Rattle.std.specs.Arc.{arc_value};
 ghost use Rattle.road_plan.specs.Settings.{Fits};
-ghost use Rattle.road_ends.specs.Input.{input_of, input_speeds};
+ghost use Rattle.road_ends.specs.Input.{input_next, input_of, input_speeds};
 ghost use Rattle.road_ends.specs.Run.{road_after_step};
 
 use crate::OutOfMemory;
-use crate::input::{StepInput, enter};
+use crate::drawn::DrawnWords;
+use crate::input::{StepInput, enter, enter_with};
 use crate::meter::Meter;
 use crate::step::finish;
 use road_cells::Road;
@@ -48,9 +49,48 @@ pub fn step_alone(
     ensures kept { OnErr result (meter.new ≡ meter.old) }
 {
     let input = enter(alloc, plan, settings, step, road)?;
+    let done = step_of(alloc, input)?;
+    meter.tick();
+    Ok(done)
+}
+
+/// One step of the road, as [`step_alone`], of a run whose words are drawn for 64 steps at once. The words must be the
+/// plan's. No meter counts it.
+///
+/// # Errors
+///
+/// `OutOfMemory` where a growth is refused: those of [`enter_with`], of the speeds, of the new road. The words are the
+/// plan's as before.
+pub fn step_with(
+    alloc: Global,
+    plan: &Arc<Plan>,
+    settings: Arc<Settings>,
+    step: u32,
+    road: &Road,
+    words: &mut DrawnWords,
+) -> Result<Stepped, OutOfMemory>
+    requires fits { Fits (arc_value plan.now) (arc_value settings) }
+    requires words { words.old ≡ (arc_value plan.now).words }
+    ensures input { IfOk result (λ done. arc_value done.input
+        ≡ input_of (arc_value plan.now) (arc_value settings) step road.now) }
+    ensures speeds { IfOk result (λ done. done.speeds.items
+        ≡ input_speeds (input_of (arc_value plan.now) (arc_value settings) step road.now)) }
+    ensures road { IfOk result (λ done. done.road
+        ≡ road_after_step (arc_value plan.now) (arc_value settings) step road.now) }
+    ensures unchanged { words.new ≡ words.old }
+{
+    let input = enter_with(alloc, plan, settings, step, road, words)?;
+    step_of(alloc, input)
+}
+
+// The step of an input.
+fn step_of(alloc: Global, input: Arc<StepInput>) -> Result<Stepped, OutOfMemory>
+    ensures input { IfOk result (λ done. done.input ≡ input) }
+    ensures speeds { IfOk result (λ done. done.speeds.items ≡ input_speeds (arc_value input)) }
+    ensures road { IfOk result (λ done. done.road ≡ input_next (arc_value input)) }
+{
     let speeds = input.speeds(alloc)?;
     let road = finish(alloc, &input, &speeds)?;
-    meter.tick();
     Ok(Stepped {
         input,
         speeds,

@@ -1,11 +1,42 @@
-ghost use Rattle.std.specs.Prelude.{◌≡◌};
+ghost use Rattle.std.specs.Prelude.{◌≡◌, ◌<◌, ◌/◌, ℕ, IfOk};
+ghost use Rattle.road_plan.specs.declared.limits.TheConstants.{MOST_INLETS};
 ghost use Rattle.road_rules.specs.Speeds.{has_event, slowed};
+ghost use Rattle.road_words.specs.Words.{word};
+ghost use Rattle.road_ends.specs.Entries.{inlet_stream};
 
+use crate::OutOfMemory;
+use crate::drawn::DrawnWords;
 use road_plan::limits::CERTAIN;
 use road_words::{PlanWords, Words};
 
+// Whether a chance leaves its event to the word.
+pub(crate) fn is_open(chance: u32) -> bool {
+    0 < chance && chance < CERTAIN
+}
+
+// Whether an inlet's word at a step has its event under a chance. It is drawn only where the chance leaves that open.
+pub(crate) fn has_inflow(
+    words: &mut DrawnWords,
+    inlet: usize,
+    step: u32,
+    chance: u32,
+) -> Result<bool, OutOfMemory>
+    requires { inlet < MOST_INLETS }
+    ensures event { IfOk result (λ event. event ≡ has_event (word words.old (inlet_stream inlet) step) chance) }
+    ensures unchanged { words.new ≡ words.old }
+{
+    if chance == 0 {
+        return Ok(false);
+    }
+    if chance >= CERTAIN {
+        return Ok(true);
+    }
+    let half = words.half_of_inlet(inlet, step)?;
+    Ok(u32::from(half) < chance)
+}
+
 // Whether the word at a place of a stream has its event under a chance. It is drawn only where the chance leaves that open.
-pub(crate) fn has_event(words: &PlanWords, stream: u64, place: u64, chance: u32) -> bool
+fn has_event(words: &PlanWords, stream: u64, place: u64, chance: u32) -> bool
     ensures { result ≡ has_event (⟦<PlanWords as Words>⟧.word_of words.now stream place) chance }
 {
     if chance == 0 {
@@ -26,6 +57,17 @@ pub(crate) fn slowed_by_chance(
 {
     if speed > 0 && has_event(words, stream, place, chance) {
         speed - 1
+    } else {
+        speed
+    }
+}
+
+// A speed after rule 3, by the upper half of its word. Where the speed is 0 it may be any number.
+pub(crate) fn slowed_by_half(half: u16, speed: u8, chance: u32) -> u8
+    ensures { (word : ℕ) → (0 < speed → half ≡ word / 65536) → result ≡ slowed speed (has_event word chance) }
+{
+    if u32::from(half) < chance {
+        speed.saturating_sub(1)
     } else {
         speed
     }

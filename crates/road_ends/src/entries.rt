@@ -7,38 +7,40 @@ ghost use Rattle.road_cells.specs.Cars.{car_of};
 ghost use Rattle.road_ends.specs.Entries.{entry_at, road_with_entries};
 
 use crate::OutOfMemory;
-use crate::chance::has_event;
+use crate::chance::has_inflow;
+use crate::drawn::DrawnWords;
 use road_cells::{Car, Road, is_blocked};
 use road_plan::limits::MOST_INLETS;
 use road_plan::{Plan, Settings};
-use road_words::PlanWords;
 use std::alloc::Global;
-
-/// The stream of the first inlet's words; the others follow it.
-const FIRST_INLET_STREAM: u64 = 1 << 63;
 
 // The road with the cars that enter at a step: at each inlet whose cell is empty and not blocked, and whose word has
 // its event under the inflow chance. Cars past the road's end are left out. The cars between two inlets are copied as
 // they are, in one growth for all.
+#[inline(never)]
 pub(crate) fn entered(
     alloc: Global,
     plan: &Plan,
     settings: &Settings,
     step: u32,
     road: &Road,
+    words: &mut DrawnWords,
 ) -> Result<Road, OutOfMemory>
-    requires { Fits plan.now settings.now }
+    requires fits { Fits plan.now settings.now }
+    requires words { words.old ≡ plan.now.words }
     ensures moving { IfOk result (λ moving. moving ≡ road_with_entries plan.now settings.now step road.now) }
     ensures on_road { IfOk result (λ moving. length moving ≤ plan.now.cells) }
+    ensures unchanged { words.new ≡ words.old }
 {
     plan.known();
+    words.follow(road.cars().len())?;
     let mut cars = Vec::with_capacity(alloc, road.cars().len() + plan.inlets().len())?;
     let mut cell = 0;
     while cell < plan.length() {
         let inlet = next_inlet(plan.inlets(), cell, plan.length());
         cars.extend_from_slice(road.between(cell, inlet))?;
         if inlet < plan.length() {
-            match standing_or_entering(plan, settings, step, road, inlet) {
+            match standing_or_entering(plan, settings, step, road, inlet, cars.len(), words)? {
                 Some(car) => cars.push(car)?,
                 None => {}
             }
@@ -64,44 +66,58 @@ fn next_inlet(inlets: &[(u32, u32)], cell: u32, end: u32) -> u32
     next
 }
 
-// The car that stands at a cell, or else the one that enters there.
+// The car that stands at a cell, or else the one that enters there, as the one of that place in the list of cars.
 fn standing_or_entering(
     plan: &Plan,
     settings: &Settings,
     step: u32,
     road: &Road,
     cell: u32,
-) -> Option<Car>
-    requires { Fits plan.now settings.now }
-    ensures { result ≡ option_map (car_of cell)
-        (option_or (vehicle_at road.now cell) (entry_at plan.now settings.now step cell)) }
+    place: usize,
+    words: &mut DrawnWords,
+) -> Result<Option<Car>, OutOfMemory>
+    requires fits { Fits plan.now settings.now }
+    requires words { words.old ≡ plan.now.words }
+    ensures car { IfOk result (λ car. car ≡ option_map (car_of cell)
+        (option_or (vehicle_at road.now cell) (entry_at plan.now settings.now step cell))) }
+    ensures unchanged { words.new ≡ words.old }
 {
     match road.car_at(cell) {
-        Some(car) => Some(car),
-        None => entering(plan, settings, step, cell),
+        Some(car) => Ok(Some(car)),
+        None => entering(plan, settings, step, cell, place, words),
     }
 }
 
-// The car that enters at a cell, where that is an inlet's.
-fn entering(plan: &Plan, settings: &Settings, step: u32, cell: u32) -> Option<Car>
-    requires { Fits plan.now settings.now }
-    ensures { result ≡ option_map (car_of cell) (entry_at plan.now settings.now step cell) }
+// The car that enters at a cell, where that is an inlet's, as the one of that place in the list of cars.
+fn entering(
+    plan: &Plan,
+    settings: &Settings,
+    step: u32,
+    cell: u32,
+    place: usize,
+    words: &mut DrawnWords,
+) -> Result<Option<Car>, OutOfMemory>
+    requires fits { Fits plan.now settings.now }
+    requires words { words.old ≡ plan.now.words }
+    ensures car { IfOk result (λ car. car ≡ option_map (car_of cell) (entry_at plan.now settings.now step cell)) }
+    ensures unchanged { words.new ≡ words.old }
 {
     plan.known();
-    let inlet = inlet_at(plan.inlets(), cell)?;
+    let Some(inlet) = inlet_at(plan.inlets(), cell) else {
+        return Ok(None);
+    };
     if is_blocked(settings.blocks(), cell) {
-        return None;
+        return Ok(None);
     }
-    let words = PlanWords::of(plan);
-    let stream = FIRST_INLET_STREAM + inlet as u64;
-    if !has_event(&words, stream, u64::from(step), settings.inflows()[inlet]) {
-        return None;
+    if !has_inflow(words, inlet, step, settings.inflows()[inlet])? {
+        return Ok(None);
     }
-    Some(Car {
+    words.admit(place)?;
+    Ok(Some(Car {
         number: u64::from(step) * MOST_INLETS as u64 + inlet as u64,
         cell,
         speed: 0,
-    })
+    }))
 }
 
 // The index of the inlet at a cell.

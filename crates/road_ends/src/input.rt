@@ -3,8 +3,11 @@ ghost use Rattle.std.specs.Arc.{arc_value};
 ghost use Rattle.road_plan.specs.Plan.{IsWithinLimits};
 ghost use Rattle.road_plan.specs.Settings.{Fits};
 ghost use Rattle.road_ends.specs.Input.{input_of, input_speeds};
+ghost use Rattle.road_ends.specs.Private.KeptHalves.{AreHalves};
 
 use crate::OutOfMemory;
+use crate::chance::is_open;
+use crate::drawn::DrawnWords;
 use crate::entries::entered;
 use crate::pass::speeds;
 use road_cells::Road;
@@ -17,9 +20,11 @@ use std::sync::Arc;
 #[derive(Drop)]
 pub struct StepInput {
     plan: Arc<Plan>,
-    settings: Settings,
+    settings: Arc<Settings>,
     step: u32,
     road: Road,
+    // The upper halves of the cars' words in this step, one for each, or none at all.
+    halves: Vec<u16>,
 }
 
 impl Model for StepInput {
@@ -27,14 +32,16 @@ impl Model for StepInput {
     ghost use Rattle.std.specs.Arc.{arc_value};
     ghost use Rattle.road_plan.specs.Settings.{Fits};
     ghost use Rattle.road_ends.specs.Input.{StepInput};
+    ghost use Rattle.road_ends.specs.Private.KeptHalves.{AreHalves};
 
     ghost Value = { StepInput };
 
     ghost view = { λ input. record
-        { plan = arc_value input.plan; settings = input.settings; step = input.step; road = input.road } };
+        { plan = arc_value input.plan; settings = arc_value input.settings; step = input.step; road = input.road } };
 
-    ghost invariant = { λ input. Fits (arc_value input.plan) input.settings
-        × (length input.road ≤ (arc_value input.plan).cells) };
+    ghost invariant = { λ input. Fits (arc_value input.plan) (arc_value input.settings)
+        × (length input.road ≤ (arc_value input.plan).cells)
+        × AreHalves (arc_value input.plan).words input.step input.road input.halves.items };
 }
 
 impl StepInput {
@@ -75,7 +82,15 @@ impl StepInput {
         ensures { IfOk result (λ new. new.items ≡ input_speeds self.now) }
     {
         self.known();
-        speeds(alloc, &self.plan, &self.settings, self.step, &self.road)
+        let step = self.step;
+        speeds(
+            alloc,
+            &self.plan,
+            &self.settings,
+            step,
+            &self.road,
+            &self.halves,
+        )
     }
 
     /// Tells a proof that the settings fit the plan, and that all cars stand on the road. It does nothing.
@@ -92,7 +107,8 @@ impl StepInput {
 ///
 /// # Errors
 ///
-/// `OutOfMemory` where the growth of the new road or of the input is refused, or the plan can have no more owners.
+/// `OutOfMemory` where the growth of the new road, of an inlet's words, of the settings or of the input is refused, or
+/// the plan can have no more owners.
 pub fn enter(
     alloc: Global,
     plan: &Arc<Plan>,
@@ -103,13 +119,66 @@ pub fn enter(
     requires fits { Fits (arc_value plan.now) settings }
     ensures { IfOk result (λ input. arc_value input ≡ input_of (arc_value plan.now) settings step road.now) }
 {
-    let road = entered(alloc, plan, &settings, step, road)?;
+    let mut words = DrawnWords::of(alloc, plan);
+    let road = entered(alloc, plan, &settings, step, road, &mut words)?;
+    let plan = Arc::try_clone(plan)?;
+    let settings = Arc::new(alloc, settings)?;
+    let input = StepInput {
+        plan,
+        settings,
+        step,
+        road,
+        halves: Vec::new(alloc),
+    };
+    Ok(Arc::new(alloc, input)?)
+}
+
+/// The input of a step, as [`enter`], of a run whose words are drawn for 64 steps at once. The words must be the plan's.
+///
+/// # Errors
+///
+/// `OutOfMemory` where the growth of the new road, of its words or of the input is refused, or the plan can have no
+/// more owners. The words are the plan's as before.
+pub fn enter_with(
+    alloc: Global,
+    plan: &Arc<Plan>,
+    settings: Arc<Settings>,
+    step: u32,
+    road: &Road,
+    words: &mut DrawnWords,
+) -> Result<Arc<StepInput>, OutOfMemory>
+    requires fits { Fits (arc_value plan.now) (arc_value settings) }
+    requires words { words.old ≡ (arc_value plan.now).words }
+    ensures input { IfOk result (λ input. arc_value input
+        ≡ input_of (arc_value plan.now) (arc_value settings) step road.now) }
+    ensures unchanged { words.new ≡ words.old }
+{
+    let road = entered(alloc, plan, &settings, step, road, words)?;
+    let halves = halves_of(alloc, settings.chances(), step, &road, words)?;
     let plan = Arc::try_clone(plan)?;
     let input = StepInput {
         plan,
         settings,
         step,
         road,
+        halves,
     };
     Ok(Arc::new(alloc, input)?)
+}
+
+// The upper halves of the words of a road's cars at a step; none where no chance leaves a slowing to them.
+fn halves_of(
+    alloc: Global,
+    chances: &[u32],
+    step: u32,
+    road: &Road,
+    words: &mut DrawnWords,
+) -> Result<Vec<u16>, OutOfMemory>
+    ensures halves { IfOk result (λ halves. AreHalves words.old step road.now halves.items) }
+    ensures unchanged { words.new ≡ words.old }
+{
+    if chances.iter().any(|chance| is_open(*chance)) {
+        return words.halves(alloc, road, step);
+    }
+    Ok(Vec::new(alloc))
 }

@@ -17,16 +17,19 @@
 
 mod alone;
 mod chance;
+mod drawn;
 mod entries;
 mod input;
 pub mod laws;
 mod letters;
 mod meter;
 mod pass;
+mod rows;
 mod step;
 
-pub use alone::{Stepped, step_alone};
-pub use input::{StepInput, enter};
+pub use alone::{Stepped, step_alone, step_with};
+pub use drawn::DrawnWords;
+pub use input::{StepInput, enter, enter_with};
 pub use letters::{BLOCKED, EMPTY, STANDING};
 pub use meter::Meter;
 /// Want of memory, answered only where a growth was refused.

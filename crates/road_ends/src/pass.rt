@@ -6,10 +6,11 @@ ghost use Rattle.road_plan.specs.Settings.{Fits};
 ghost use Rattle.road_cells.specs.Cars.{cars_of, cell_at, vehicle_of};
 ghost use Rattle.road_words.specs.Words.{word};
 ghost use Rattle.road_ends.specs.Speed.{speed, speeds, nth_car};
+ghost use Rattle.road_ends.specs.Private.KeptHalves.{AreHalves};
 ghost use Rattle.road_ends.specs.Private.PassPlaces.{IsPassAt};
 
 use crate::OutOfMemory;
-use crate::chance::slowed_by_chance;
+use crate::chance::{slowed_by_chance, slowed_by_half};
 use road_cells::{Road, reached_blocks_below};
 use road_plan::{Plan, Settings};
 use road_rules::wanted;
@@ -33,17 +34,20 @@ struct Zone {
 }
 
 // The new speeds of all cars, in the order of the cars. It is one pass over the cars from the far end, in one growth.
-// The next car and the next blocked cell come with the pass, so that nothing is searched; a word is drawn only where
-// it can change a speed; and a zone is divided out only where it changes.
+// The next car and the next blocked cell come with the pass, so that nothing is searched; a word is drawn only where no
+// half of it is given and it can change a speed; and a zone is divided out only where it changes.
+#[inline(never)]
 pub(crate) fn speeds(
     alloc: Global,
     plan: &Plan,
     settings: &Settings,
     step: u32,
     road: &Road,
+    halves: &[u16],
 ) -> Result<Vec<u8>, OutOfMemory>
     requires fits { Fits plan.now settings.now }
     requires on_road { length road.now ≤ plan.now.cells }
+    requires halves { AreHalves plan.now.words step road.now halves.now }
     ensures { IfOk result (λ new. new.items ≡ speeds plan.now settings.now step road.now) }
 {
     let words = PlanWords::of(plan);
@@ -54,7 +58,7 @@ pub(crate) fn speeds(
     };
     for place in (0..road.cars().len()).rev() {
         cursor = moved_back(plan, settings, road.cars()[place].cell, cursor);
-        new[place] = new_speed(plan, settings, &words, step, road, place, cursor);
+        new[place] = new_speed(plan, settings, &words, step, road, halves, place, cursor);
     }
     Ok(new)
 }
@@ -101,11 +105,13 @@ fn new_speed(
     words: &PlanWords,
     step: u32,
     road: &Road,
+    halves: &[u16],
     place: usize,
     cursor: Cursor,
 ) -> u8
     requires fits { Fits plan.now settings.now }
     requires on_road { length road.now ≤ plan.now.cells }
+    requires halves { AreHalves plan.now.words step road.now halves.now }
     requires words { (stream step : ℕ)
         → ⟦<PlanWords as Words>⟧.word_of words.now stream step ≡ word plan.now.words stream step }
     requires car { place < length (cars_of road.now) }
@@ -118,5 +124,8 @@ fn new_speed(
     let gap = road.gap_to(place, settings.blocks(), cursor.reached);
     let wished = wanted(car.speed, settings.limits()[cursor.zone.index], gap);
     let chance = settings.chances()[cursor.zone.index];
+    if place < halves.len() {
+        return slowed_by_half(halves[place], wished, chance);
+    }
     slowed_by_chance(words, car.number, u64::from(step), wished, chance)
 }

@@ -1,2 +1,3 @@
--- What private fields and functions say of the blocks; no public contract names it.
+-- What private fields and functions say of the blocks, and of what is kept between steps; no public contract names it.
 pub mod Blocks
+pub mod CarriedSettings

@@ -6,7 +6,7 @@ ghost use Rattle.road_cells.specs.Cars.{cars_of};
 ghost use Rattle.road_detector.specs.Passes.{no_totals, passes_at, plus};
 
 use road_cells::Road;
-use road_detector::{OutOfMemory, Totals, passes};
+use road_detector::{OutOfMemory, Totals, greatest_speed, passes_from};
 use road_ends::StepInput;
 use std::alloc::Global;
 
@@ -60,10 +60,13 @@ impl Block {
             ≡ plus (slice_index_or self.now.totals.items d no_totals) (passes_at input.now speeds.now d)) }
     {
         input.known();
+        let greatest = greatest_speed(speeds);
+        let mut before = 0;
         let mut totals = Vec::with_capacity(alloc, self.totals.len())?;
         for detector in 0..self.totals.len() {
-            let passed = passes(input, speeds, detector as u32);
-            totals.push(self.totals[detector].plus(passed))?;
+            let passed = passes_from(input, speeds, detector as u32, greatest, before);
+            totals.push(self.totals[detector].plus(passed.totals))?;
+            before = passed.before;
         }
         Ok(totals)
     }

@@ -4,6 +4,7 @@ ghost use Rattle.road_plan.specs.declared.limits.TheConstants.{GREATEST_HORIZON}
 ghost use Rattle.road_ends.specs.Input.{input_speeds};
 ghost use Rattle.road_sheet.specs.Sheets.{next_input, sheet_after_step};
 
+use crate::carried::Carried;
 use crate::sheet::Sheet;
 use road_ends::StepInput;
 use road_plan::OutOfMemory;
@@ -15,6 +16,7 @@ use std::sync::Arc;
 #[derive(Drop)]
 pub struct Draft {
     pub(crate) sheet: Sheet,
+    pub(crate) carried: Carried,
 }
 
 impl Model for Draft {
@@ -27,6 +29,10 @@ impl Model for Draft {
     ghost coded = { Prim.hlevel (codes, edits_code) };
 
     ghost view = { λ d. d.sheet };
+
+    ghost use Rattle.road_sheet.specs.Private.CarriedSettings.{IsCarried};
+
+    ghost invariant = { λ d. IsCarried d.sheet.plan d.sheet.edits d.carried };
 }
 
 impl Draft {
@@ -46,7 +52,7 @@ impl Draft {
         ensures input { IfOk result (λ input. arc_value input ≡ next_input self.old) }
         ensures unchanged { self.new ≡ self.old }
     {
-        self.sheet.next_input(alloc)
+        self.sheet.next_input(alloc, &mut self.carried)
     }
 
     /// One step more, from its input and the new speeds of its cars.

@@ -15,6 +15,7 @@
 #![tactic(auto)]
 
 mod block;
+mod carried;
 mod draft;
 mod faults;
 mod sheet;

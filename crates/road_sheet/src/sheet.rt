@@ -11,9 +11,10 @@ ghost use Rattle.road_sheet.specs.Sheets.{IsSheet, opening_sheet, state_of, tota
 ghost use Rattle.road_sheet.specs.Sheets.{IsRefusalBy, state_fault, totals_fault};
 
 use crate::block::{BLOCK_STEPS, Block};
+use crate::carried::Carried;
 use crate::draft::Draft;
 use crate::faults::SheetFault;
-use crate::simulation::{State, run_on, totals_between};
+use crate::simulation::{State, run_on, totals_on};
 use lattice_core::both::Both;
 use lattice_core::greatest::Greatest;
 use lattice_core::lattice::Lattice;
@@ -21,7 +22,7 @@ use road_cells::Road;
 use road_detector::Totals;
 use road_detector::laws::{cars_pass_one_by_one, totals_are_bounded};
 use road_ends::laws::runs_depend_on_earlier_settings;
-use road_ends::{StepInput, enter, finish};
+use road_ends::{StepInput, enter_with, finish};
 use road_plan::{OutOfMemory, Plan};
 use road_scenario::Scenario;
 use road_scenario::laws::settings_stay_before_touched;
@@ -67,6 +68,8 @@ impl Model for Sheet {
 }
 
 impl Sheet {
+    ghost use Rattle.road_sheet.specs.Private.CarriedSettings.{IsCarried};
+
     /// The sheet without edits, of which no step is simulated.
     ///
     /// # Errors
@@ -175,20 +178,37 @@ impl Sheet {
             return self.last.copied();
         }
         let block = step / BLOCK_STEPS;
-        let state = self.state_in(alloc, block, step)?;
+        let mut carried = self.carried(alloc);
+        let state = self.state_in(alloc, block, step, &mut carried)?;
         Ok(state.road)
     }
 
     // The state at a step of a block, from the road at the block's first step.
-    fn state_in(&self, alloc: Global, block: u32, step: u32) -> Result<State, OutOfMemory>
+    fn state_in(
+        &self,
+        alloc: Global,
+        block: u32,
+        step: u32,
+        carried: &mut Carried,
+    ) -> Result<State, OutOfMemory>
         requires begun { BLOCK_STEPS * block ≤ step }
         requires simulated { step ≤ self.now.horizon }
+        requires carried { IsCarried self.now.plan self.now.edits carried.old }
         ensures step { IfOk result (λ state. state.step ≡ step) }
         ensures road { IfOk result (λ state. state.road ≡ state_of self.now step) }
+        ensures carried { IsCarried self.now.plan self.now.edits carried.new }
     {
         let start = self.block(block as usize).start.copied()?;
         let first = block * BLOCK_STEPS;
-        run_on(alloc, &self.plan, &self.known.first, first, start, step)
+        run_on(
+            alloc,
+            &self.plan,
+            &self.known.first,
+            first,
+            start,
+            step,
+            carried,
+        )
     }
 
     // A block.
@@ -252,14 +272,16 @@ impl Sheet {
         if from == first && to == end {
             return Ok(self.block(block as usize).totals[detector as usize]);
         }
-        let state = self.state_in(alloc, block, from)?;
-        let (totals, _) = totals_between(
+        let mut carried = self.carried(alloc);
+        let state = self.state_in(alloc, block, from, &mut carried)?;
+        let (totals, _) = totals_on(
             alloc,
             &self.plan,
             &self.known.first,
             state,
             detector,
             to,
+            &mut carried,
         )?;
         Ok(totals)
     }
@@ -311,7 +333,8 @@ impl Sheet {
         } else {
             self.cut_back(alloc, joined, keep / BLOCK_STEPS)?
         };
-        Ok(Draft { sheet })
+        let carried = sheet.carried(alloc);
+        Ok(Draft { sheet, carried })
     }
 
     // The sheet with other edits, which give the same run up to the horizon.
@@ -372,14 +395,34 @@ impl Sheet {
         })
     }
 
+    // What a run by this sheet's edits carries before its first step: nothing. It takes no memory.
+    fn carried(&self, alloc: Global) -> Carried
+        ensures { IsCarried self.now.plan self.now.edits result }
+    {
+        Carried::of(alloc, &self.plan, &self.known.first)
+    }
+
     // The input of the next step.
-    pub(crate) fn next_input(&self, alloc: Global) -> Result<Arc<StepInput>, OutOfMemory>
-        ensures { IfOk result (λ input. arc_value input ≡ next_input self.now) }
+    pub(crate) fn next_input(
+        &self,
+        alloc: Global,
+        carried: &mut Carried,
+    ) -> Result<Arc<StepInput>, OutOfMemory>
+        requires carried { IsCarried self.now.plan self.now.edits carried.old }
+        ensures input { IfOk result (λ input. arc_value input ≡ next_input self.now) }
+        ensures carried { IsCarried self.now.plan self.now.edits carried.new }
     {
         self.known();
         let step = self.horizon();
-        let settings = self.known.first.settings_at(alloc, &self.plan, step)?;
-        enter(alloc, &self.plan, settings, step, &self.last)
+        let settings = carried.settings(alloc, &self.plan, &self.known.first, step)?;
+        enter_with(
+            alloc,
+            &self.plan,
+            settings,
+            step,
+            &self.last,
+            &mut carried.words,
+        )
     }
 
     // A step more. What can fail for memory is done before the sheet is changed.

@@ -6,12 +6,14 @@ ghost use Rattle.road_plan.specs.declared.limits.TheConstants.{GREATEST_HORIZON}
 ghost use Rattle.road_scenario.specs.Faults.{AreInRange};
 ghost use Rattle.road_scenario.specs.Settings.{settings_of};
 ghost use Rattle.road_ends.specs.Input.{input_of, input_speeds};
+ghost use Rattle.road_sheet.specs.Private.CarriedSettings.{IsCarried};
 ghost use Rattle.road_sheet.specs.Shown.{run_at, row_at, rows_at, total_at};
 
+use crate::carried::Carried;
 use road_cells::Road;
 use road_detector::laws::{cars_have_digits, cars_pass_one_by_one, totals_are_bounded};
 use road_detector::{Totals, passes, row_text};
-use road_ends::{Meter, Stepped, step_alone};
+use road_ends::{Stepped, step_with};
 use road_plan::{OutOfMemory, Plan};
 use road_scenario::Scenario;
 use std::alloc::Global;
@@ -53,11 +55,20 @@ pub fn state_at(
     ensures step { IfOk result (λ state. state.step ≡ step) }
     ensures road { IfOk result (λ state. state.road ≡ run_at (arc_value plan.now) scenario.now step) }
 {
+    let mut carried = Carried::of(alloc, plan, scenario);
     if last.step <= step {
         let road = last.road.copied()?;
-        return run_on(alloc, plan, scenario, last.step, road, step);
+        return run_on(alloc, plan, scenario, last.step, road, step, &mut carried);
     }
-    run_on(alloc, plan, scenario, 0, Road::empty(alloc), step)
+    run_on(
+        alloc,
+        plan,
+        scenario,
+        0,
+        Road::empty(alloc),
+        step,
+        &mut carried,
+    )
 }
 
 // The state at a step, from the road of a step that is not later.
@@ -68,15 +79,18 @@ pub(crate) fn run_on(
     from: u32,
     mut road: Road,
     step: u32,
+    carried: &mut Carried,
 ) -> Result<State, OutOfMemory>
     requires fits { AreInRange (arc_value plan.now) scenario.now }
     requires before { from ≤ step }
     requires run { road ≡ run_at (arc_value plan.now) scenario.now from }
+    requires carried { IsCarried (arc_value plan.now) scenario.now carried.old }
     ensures step { IfOk result (λ state. state.step ≡ step) }
     ensures road { IfOk result (λ state. state.road ≡ run_at (arc_value plan.now) scenario.now step) }
+    ensures carried { IsCarried (arc_value plan.now) scenario.now carried.new }
 {
     for now in from..step {
-        let stepped = next(alloc, plan, scenario, now, &road)?;
+        let stepped = next(alloc, plan, scenario, now, &road, carried)?;
         road = stepped.road;
     }
     Ok(State { step, road })
@@ -89,16 +103,19 @@ fn next(
     scenario: &Scenario,
     step: u32,
     road: &Road,
+    carried: &mut Carried,
 ) -> Result<Stepped, OutOfMemory>
     requires fits { AreInRange (arc_value plan.now) scenario.now }
     requires run { road.now ≡ run_at (arc_value plan.now) scenario.now step }
+    requires carried { IsCarried (arc_value plan.now) scenario.now carried.old }
     ensures input { IfOk result (λ done. arc_value done.input
         ≡ input_of (arc_value plan.now) (settings_of (arc_value plan.now) scenario.now step) step road.now) }
     ensures speeds { IfOk result (λ done. done.speeds.items ≡ input_speeds (arc_value done.input)) }
     ensures road { IfOk result (λ done. done.road ≡ run_at (arc_value plan.now) scenario.now (step + 1)) }
+    ensures carried { IsCarried (arc_value plan.now) scenario.now carried.new }
 {
-    let settings = scenario.settings_at(alloc, plan, step)?;
-    let stepped = step_alone(alloc, plan, settings, step, road, &mut Meter::new())?;
+    let settings = carried.settings(alloc, plan, scenario, step)?;
+    let stepped = step_with(alloc, plan, settings, step, road, &mut carried.words)?;
     Ok(stepped)
 }
 
@@ -138,10 +155,11 @@ pub fn rows_between(
 {
     let from = first.step;
     let mut state = first;
+    let mut carried = Carried::of(alloc, plan, scenario);
     let mut rows = Vec::new(alloc);
     rows.push(row_of(alloc, plan, scenario, &state)?)?;
     for step in from..to {
-        let stepped = next(alloc, plan, scenario, step, &state.road)?;
+        let stepped = next(alloc, plan, scenario, step, &state.road, &mut carried)?;
         state = State {
             step: step + 1,
             road: stepped.road,
@@ -168,13 +186,36 @@ pub fn totals_between(
     ensures totals { IfOk result (λ seen. seen.0 ≡ total_at (arc_value plan.now) scenario.now detector first.step to) }
     ensures road { IfOk result (λ seen. seen.1.road ≡ run_at (arc_value plan.now) scenario.now seen.1.step) }
 {
+    let mut carried = Carried::of(alloc, plan, scenario);
+    totals_on(alloc, plan, scenario, first, detector, to, &mut carried)
+}
+
+// The same, by what is carried from the steps before.
+pub(crate) fn totals_on(
+    alloc: Global,
+    plan: &Arc<Plan>,
+    scenario: &Scenario,
+    first: State,
+    detector: u32,
+    to: u32,
+    carried: &mut Carried,
+) -> Result<(Totals, State), OutOfMemory>
+    requires fits { AreInRange (arc_value plan.now) scenario.now }
+    requires in_plan { detector < length (arc_value plan.now).detectors }
+    requires before { first.step ≤ to }
+    requires horizon { to ≤ GREATEST_HORIZON }
+    requires run { first.road ≡ run_at (arc_value plan.now) scenario.now first.step }
+    requires carried { IsCarried (arc_value plan.now) scenario.now carried.old }
+    ensures totals { IfOk result (λ seen. seen.0 ≡ total_at (arc_value plan.now) scenario.now detector first.step to) }
+    ensures road { IfOk result (λ seen. seen.1.road ≡ run_at (arc_value plan.now) scenario.now seen.1.step) }
+{
     let from = first.step;
     let mut road = first.road;
     let mut totals = Totals { cars: 0, speeds: 0 };
     cars_pass_one_by_one(plan);
     totals_are_bounded(plan);
     for step in from..to {
-        let stepped = next(alloc, plan, scenario, step, &road)?;
+        let stepped = next(alloc, plan, scenario, step, &road, carried)?;
         let passed = passes(&stepped.input, &stepped.speeds, detector);
         totals = totals.plus(passed);
         road = stepped.road;

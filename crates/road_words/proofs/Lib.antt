@@ -1,2 +1,3 @@
 pub mod WordSizes
+pub mod RowsOfWords
 mod Examples

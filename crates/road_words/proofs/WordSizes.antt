@@ -2,7 +2,9 @@
 use Rattle.std.specs.Prelude.{ℕ, ◌+◌, ◌*◌, ◌/◌, ◌%◌, ◌^◌, ◌<◌, List}
 use Rattle.std.proofs.Common.{arith}
 use Rattle.rand_chacha.specs.Block.{block_word, add32}
-use Rattle.road_words.specs.Words.{steady_word}
+use Rattle.road_plan.specs.declared.parts.WordKind.{WordKind}
+use Rattle.road_plan.specs.declared.parts.WordKind.TheVariants as kinds
+use Rattle.road_words.specs.Words.{steady_word, word}
 use Rattle.road_words.specs.PlanWords.{source_word}
 use Rattle.road_words.specs.declared.plan_words.PlanWords.{PlanWords}
 use Rattle.road_words.specs.declared.plan_words.PlanWords.TheVariants.{Seeded, Steady}
@@ -24,3 +26,7 @@ steady_word-small stream place = let x = stream * 40503 + place * 30011 in small
 pub source_word-small : (words : PlanWords) (stream place : ℕ) → source_word words stream place < 2 ^ 32
 source_word-small (Seeded words) stream place = block_word-small 4 _ (place / 16) stream (place % 16)
 source_word-small (Steady words) stream place = steady_word-small stream place
+
+pub word-small : (kind : WordKind) (stream place : ℕ) → word kind stream place < 2 ^ 32
+word-small (kinds.Seeded seed) stream place = block_word-small 4 _ (place / 16) stream (place % 16)
+word-small kinds.Steady stream place = steady_word-small stream place

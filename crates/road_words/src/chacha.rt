@@ -1,7 +1,7 @@
-ghost use Rattle.std.specs.Prelude.{◌≡◌, ℕ};
+ghost use Rattle.std.specs.Prelude.{◌≡◌, ◌<◌, ◌+◌, ◌/◌, ℕ, slice_index};
 ghost use Rattle.road_words.specs.Words.{seeded_word};
 
-use crate::words::Words;
+use crate::words::{ROW_WORDS, Words};
 use rand_chacha::ChaCha8Rng;
 use rand_core::SeedableRng;
 use rand_core::utils::NextWord;
@@ -22,6 +22,21 @@ impl ChaChaWords {
         let mut key = [0u8; 32];
         key[..8].copy_from_slice(&seed.to_be_bytes());
         ChaChaWords { key }
+    }
+
+    /// The upper 16 bits of the words of a stream at the places from `first` on, by one generator. Takes no memory.
+    pub fn row(&self, stream: u64, first: u32) -> [u16; ROW_WORDS]
+        ensures { (i : ℕ) → i < ROW_WORDS →
+            slice_index result i ≡ ⟦<ChaChaWords as Words>⟧.word_of self.now stream (first + i) / 65536 }
+    {
+        let mut generator = ChaCha8Rng::from_seed(self.key);
+        generator.set_stream(stream);
+        generator.set_word_pos(u128::from(first));
+        let mut halves = [0u16; ROW_WORDS];
+        for place in 0..ROW_WORDS {
+            halves[place] = (generator.next_word() >> 16) as u16;
+        }
+        halves
     }
 }
 

@@ -10,6 +10,8 @@
 //! let is_slowed = word >> 16 < chance;
 //! // Words that were not drawn move no other: this one is the same whatever was asked before.
 //! let later = words.word(48, 6);
+//! // The upper 16 bits of its words in the steps 64 to 127, drawn at once.
+//! let halves = words.row(48, 64);
 //! ```
 #![tactic(auto)]
 
@@ -21,4 +23,4 @@ mod words;
 pub use chacha::ChaChaWords;
 pub use plan_words::PlanWords;
 pub use steady::SteadyWords;
-pub use words::Words;
+pub use words::{ROW_WORDS, Words};

@@ -1,9 +1,9 @@
-ghost use Rattle.std.specs.Prelude.{◌≡◌, ℕ};
+ghost use Rattle.std.specs.Prelude.{◌≡◌, ◌<◌, ◌+◌, ◌/◌, ℕ, slice_index};
 ghost use Rattle.road_words.specs.Words.{word};
 
 use crate::chacha::ChaChaWords;
 use crate::steady::SteadyWords;
-use crate::words::Words;
+use crate::words::{ROW_WORDS, Words};
 use road_plan::{Plan, WordKind};
 
 /// The words that a plan names.
@@ -21,9 +21,29 @@ impl PlanWords {
         ensures { (stream place : ℕ) →
             ⟦<PlanWords as Words>⟧.word_of result stream place ≡ word plan.now.words stream place }
     {
-        match plan.words() {
+        PlanWords::of_kind(plan.words())
+    }
+
+    /// The words of this kind. Takes no memory.
+    pub fn of_kind(kind: WordKind) -> Self
+        ensures { (stream place : ℕ) →
+            ⟦<PlanWords as Words>⟧.word_of result stream place ≡ word kind stream place }
+    {
+        match kind {
             WordKind::Seeded(seed) => PlanWords::Seeded(ChaChaWords::new(seed)),
             WordKind::Steady => PlanWords::Steady(SteadyWords),
+        }
+    }
+
+    /// The upper 16 bits of the words of a stream at the places from `first` on, which one generator gives at once.
+    /// Takes no memory.
+    pub fn row(&self, stream: u64, first: u32) -> [u16; ROW_WORDS]
+        ensures { (i : ℕ) → i < ROW_WORDS →
+            slice_index result i ≡ ⟦<PlanWords as Words>⟧.word_of self.now stream (first + i) / 65536 }
+    {
+        match self {
+            PlanWords::Seeded(words) => words.row(stream, first),
+            PlanWords::Steady(words) => words.row(stream, first),
         }
     }
 }

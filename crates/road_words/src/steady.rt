@@ -1,8 +1,24 @@
-use crate::words::Words;
+ghost use Rattle.std.specs.Prelude.{◌≡◌, ◌<◌, ◌+◌, ◌/◌, ℕ, slice_index};
+
+use crate::words::{ROW_WORDS, Words};
 
 /// Words for tests and worked examples, plain enough to be worked out by hand. They are no random words.
 #[derive(Clone, Copy, Debug, PartialEq, Eq)]
 pub struct SteadyWords;
+
+impl SteadyWords {
+    /// The upper 16 bits of the words of a stream at the places from `first` on. Takes no memory.
+    pub fn row(&self, stream: u64, first: u32) -> [u16; ROW_WORDS]
+        ensures { (i : ℕ) → i < ROW_WORDS →
+            slice_index result i ≡ ⟦<SteadyWords as Words>⟧.word_of self.now stream (first + i) / 65536 }
+    {
+        let mut halves = [0u16; ROW_WORDS];
+        for place in 0..ROW_WORDS {
+            halves[place] = (self.word(stream, u64::from(first) + place as u64) >> 16) as u16;
+        }
+        halves
+    }
+}
 
 impl Words for SteadyWords {
     ghost use Rattle.road_words.specs.Words.{steady_word};

@@ -11,7 +11,7 @@ pub loop-place-init : goal.loop-place-init
 loop-place-init c =
     let cars = c.cars-cars.result.now in
     let one : length c.args.speeds.now ≡ length cars = c.requires.one_each ∙ ap length (sym c.cars-cars.ensures.all) in
-    let before : c.cars_before-place.result ≡ cars_before c.args.site cars = c.cars_before-place.ensures ∙ ap (cars_before c.args.site) (sym c.cars-cars.ensures.all) in
+    let before : c.args.before ≡ cars_before c.args.site cars = c.requires.before ∙ ap (cars_before c.args.site) (sym c.cars-cars.ensures.all) in
     let none = ap (λ k. passing_speeds c.args.site (drop k (drives cars c.args.speeds.now))) before ∙ none_ahead c.args.site cars c.args.speeds.now c.cars-cars.ensures.rise one in
     record { cars = ap length (sym none); speeds = ap sum (sym none); few = omega arith; slow = omega arith }
 
@@ -83,8 +83,8 @@ returns-then-distance-from c =
     let few = inv.few in
     let short = cars_before-le c.args.site cars in
     let next : place ≡ (place - 1) + 1 = omega arith in
-    let far : cell_at cars (place - 1) + 255 < c.args.site = let test = c.if-distance-from.true in let is = c.from.ensures in omega arith in
+    let far : cell_at cars (place - 1) + c.args.greatest < c.args.site = let test = c.if-distance-from.true in let is = c.from.ensures in omega arith in
     let same = ap (λ k. passing_speeds c.args.site (drop k (drives cars c.args.speeds.now))) next
-    ∙ sym (too_far c.args.site cars c.args.speeds.now c.cars-cars.ensures.rise one (place - 1) 255 (omega arith) (λ i. let byte = (c.type_inv.speeds i).fits in omega arith) far) in
+    ∙ sym (too_far c.args.site cars c.args.speeds.now c.cars-cars.ensures.rise one (place - 1) c.args.greatest (omega arith) c.requires.greatest far) in
     (λ i. record { cars = (inv.cars ∙ ap length same) i; speeds = (inv.speeds ∙ ap sum same) i })
     ∙ ap (λ cars. totals_of c.args.site (drives cars c.args.speeds.now)) c.cars-cars.ensures.all

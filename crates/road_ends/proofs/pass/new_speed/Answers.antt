@@ -2,7 +2,7 @@ use Rattle.std.proofs.Common.{arith, refl}
 use Rattle.road_cells.specs.Cars.{cars_of}
 use Rattle.road_words.specs.PlanWords.{source_word}
 use Rattle.road_ends.proofs.StepByCars.{not_falling, zone_in_plan}
-use Rattle.road_ends.proofs.PassOverCars.{read_speed}
+use Rattle.road_ends.proofs.PassOverCars.{read_speed, read_kept_speed}
 use Rattle.road_ends.proofs.pass.new_speed.Goals as goal
 
 pub gap_to-gap-requires-clause-rising : goal.gap_to-gap-requires-clause-rising
@@ -40,3 +40,10 @@ returns c =
     c.args.place c.args.cursor.zone.index c.from.result c.gap_to-gap.result c.wanted-wished.result c.slowed_by_chance.result
     c.requires.fits c.requires.on_road c.requires.words c.cars.ensures.all c.blocks-2.ensures c.limits.ensures c.chances.ensures c.requires.at.in_zone c.from.ensures
     c.gap_to-gap.ensures c.wanted-wished.ensures c.slowed_by_chance.ensures
+
+pub returns-then-place-halves : goal.returns-then-place-halves
+returns-then-place-halves c =
+    read_kept_speed c.args.plan.now c.args.settings.now c.args.step c.args.road.now c.cars.result.now c.args.halves.now c.blocks-2.result.now c.limits.result.now c.chances.result.now
+    c.args.place c.args.cursor.zone.index c.gap_to-gap.result c.wanted-wished.result c.slowed_by_half.result
+    c.requires.fits c.requires.on_road c.requires.halves c.if-place-halves.true c.cars.ensures.all c.blocks-2.ensures c.limits.ensures c.chances.ensures c.requires.at.in_zone
+    c.gap_to-gap.ensures c.wanted-wished.ensures c.slowed_by_half.ensures

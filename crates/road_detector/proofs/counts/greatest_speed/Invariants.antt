@@ -1,0 +1,7 @@
+use Rattle.std.proofs.Common.{ℕ, ◌<◌, ◌≤◌}
+use Rattle.std.specs.Prelude.{slice_index}
+use Rattle.road_detector.proofs.counts.greatest_speed.Given as goal
+
+-- none of the speeds so far is above it
+abbrev pub invariant-loop-speed : goal.invariant-loop-speed
+invariant-loop-speed l = (i : ℕ) → i < l.speed-index → slice_index l.speeds i ≤ l.greatest

@@ -1,0 +1,20 @@
+-- The upper halves of the words that decide whether cars are slowed.
+use Rattle.std.specs.Prelude.{◌≡◌, ◌+◌, ◌/◌, ◌<◌, ℕ, List, length, slice_index}
+use Rattle.road_plan.specs.declared.parts.WordKind.{WordKind}
+use Rattle.road_words.specs.Words.{word}
+use Rattle.road_cells.specs.Array.{Array}
+use Rattle.road_cells.specs.Cars.{cars_of, cell_at}
+use Rattle.road_cells.specs.declared.car.Car.{Car}
+use Rattle.road_ends.specs.Speed.{nth_car}
+
+-- the next car stands right in front of the k-th
+abbrev pub IsHeldUp : List Car → ℕ → Type 0
+IsHeldUp cars k = (k + 1 < length cars) × (cell_at cars (k + 1) ≡ cell_at cars k + 1)
+
+-- the half of the k-th car's word at step t; of a car that cannot move it may be any number
+abbrev pub IsHalf : WordKind → ℕ → List Car → ℕ → ℕ → Type 0
+IsHalf kind t cars k half = ¬ (IsHeldUp cars k) → half ≡ word kind (nth_car cars k).number t / 65536
+
+-- such halves of the first cars of an array: of all of them, or of none
+pub record AreHalves (kind : WordKind) (t : ℕ) (a : Array) (halves : List ℕ) : Type 0 where
+  pub each : (k : ℕ) → k < length halves → IsHalf kind t (cars_of a) k (slice_index halves k)

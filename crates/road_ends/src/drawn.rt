@@ -1,0 +1,135 @@
+ghost use Rattle.std.specs.Prelude.{◌≡◌, ◌<◌, ◌/◌, length, IsTrue, IfOk};
+ghost use Rattle.road_words.specs.Words.{word};
+ghost use Rattle.road_ends.specs.Entries.{inlet_stream};
+ghost use Rattle.road_ends.specs.Private.KeptHalves.{AreHalves, IsHalf, IsHeldUp};
+
+use crate::OutOfMemory;
+use crate::rows::{NO_ROW, WordRows};
+use road_cells::{Car, Road};
+use road_plan::Plan;
+use road_plan::limits::MOST_INLETS;
+use std::alloc::Global;
+use std::marker::Model;
+
+/// The stream of the first inlet's words; the others follow it.
+const FIRST_INLET_STREAM: u64 = 1 << 63;
+
+/// The words of a plan's cars and inlets, drawn for 64 steps at once: for each car that can move, and for each inlet
+/// that is open, the upper halves of its words. Contracts see where the words come from: they are those of the
+/// plan whatever is kept.
+///
+/// It serves a run whose steps follow one another. After any other step it draws anew.
+#[derive(Drop)]
+pub struct DrawnWords {
+    rows: WordRows,
+    // For each car of the last step, in order, the slot of its row.
+    cars: Vec<u32>,
+    inlets: [u32; MOST_INLETS],
+}
+
+impl Model for DrawnWords {
+    ghost use Rattle.road_plan.specs.declared.parts.WordKind.{WordKind};
+
+    ghost Value = { WordKind };
+
+    ghost view = { λ words. words.rows.kind };
+}
+
+impl DrawnWords {
+    /// The words of this plan, of which none is drawn. It takes no memory.
+    pub fn of(alloc: Global, plan: &Plan) -> DrawnWords
+        ensures { result ≡ plan.now.words }
+    {
+        DrawnWords {
+            rows: WordRows::of(alloc, plan.words()),
+            cars: Vec::new(alloc),
+            inlets: [NO_ROW; MOST_INLETS],
+        }
+    }
+
+    // The road has so many cars before the next step's entries: those of the last step but for the ones that left, at
+    // its end.
+    pub(crate) fn follow(&mut self, cars: usize) -> Result<(), OutOfMemory>
+        ensures { self.new ≡ self.old }
+    {
+        self.cars.resize(cars, NO_ROW)
+    }
+
+    // A car enters at a place of the list of cars.
+    pub(crate) fn admit(&mut self, place: usize) -> Result<(), OutOfMemory>
+        ensures { self.new ≡ self.old }
+    {
+        if place <= self.cars.len() {
+            self.cars.insert(place, NO_ROW)?;
+        }
+        Ok(())
+    }
+
+    // The upper half of an inlet's word at a step.
+    pub(crate) fn half_of_inlet(&mut self, inlet: usize, step: u32) -> Result<u16, OutOfMemory>
+        requires { inlet < MOST_INLETS }
+        ensures half { IfOk result (λ half. half ≡ word self.old (inlet_stream inlet) step / 65536) }
+        ensures unchanged { self.new ≡ self.old }
+    {
+        let stream = FIRST_INLET_STREAM + inlet as u64;
+        if let Some(half) = self.rows.kept(self.inlets[inlet], stream, step) {
+            return Ok(half);
+        }
+        let drawn = self.rows.draw(stream, step)?;
+        self.inlets[inlet] = drawn.slot;
+        Ok(drawn.half)
+    }
+
+    // The upper halves of the words of a road's cars at a step, in one growth and as many rows as are not drawn yet.
+    #[inline(never)]
+    pub(crate) fn halves(
+        &mut self,
+        alloc: Global,
+        road: &Road,
+        step: u32,
+    ) -> Result<Vec<u16>, OutOfMemory>
+        ensures halves { IfOk result (λ halves. AreHalves self.old step road.now halves.items) }
+        ensures unchanged { self.new ≡ self.old }
+    {
+        let cars = road.cars();
+        let mut halves = vec![in alloc; 0; cars.len()]?;
+        for place in 0..cars.len() {
+            halves[place] = self.half_of_car(cars, place, step)?;
+        }
+        Ok(halves)
+    }
+
+    // The upper half of a car's word at a step; 0 of a car that cannot move, whose word nobody asks for.
+    #[inline(always)]
+    fn half_of_car(&mut self, cars: &[Car], place: usize, step: u32) -> Result<u16, OutOfMemory>
+        requires { place < length cars.now }
+        ensures half { IfOk result (λ half. IsHalf self.old step cars.now place half) }
+        ensures unchanged { self.new ≡ self.old }
+    {
+        if is_held_up(cars, place) {
+            return Ok(0);
+        }
+        let number = cars[place].number;
+        if place < self.cars.len()
+            && let Some(half) = self.rows.kept(self.cars[place], number, step)
+        {
+            return Ok(half);
+        }
+        let drawn = self.rows.draw(number, step)?;
+        if place < self.cars.len() {
+            self.cars[place] = drawn.slot;
+        }
+        Ok(drawn.half)
+    }
+}
+
+// Whether the next car stands right in front of a car.
+fn is_held_up(cars: &[Car], place: usize) -> bool
+    requires { place < length cars.now }
+    ensures { IsTrue result → IsHeldUp cars.now place }
+{
+    match cars.get(place + 1) {
+        Some(next) => u64::from(cars[place].cell) + 1 == u64::from(next.cell),
+        None => false,
+    }
+}

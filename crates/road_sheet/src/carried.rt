@@ -1,0 +1,135 @@
+//! What a run carries from a step to the next, so that it is not made anew.
+
+ghost use Rattle.std.specs.Prelude.{◌≡◌, ◌<◌, ◌≤◌, ℕ, length, IfOk, IfSome};
+ghost use Rattle.std.specs.Arc.{arc_value};
+ghost use Rattle.std.specs.List.{slice_index_or};
+ghost use Rattle.road_plan.specs.Plan.{Plan};
+ghost use Rattle.road_plan.specs.Settings.{Fits};
+ghost use Rattle.road_scenario.specs.Edits.{Edits};
+ghost use Rattle.road_scenario.specs.Faults.{AreInRange};
+ghost use Rattle.road_scenario.specs.Settings.{settings_of};
+ghost use Rattle.road_scenario.specs.declared.edit.Edit.{Edit};
+
+use lattice_core::lattice::Lattice;
+use road_ends::DrawnWords;
+use road_plan::{OutOfMemory, Plan, Settings};
+use road_scenario::{Edit, Scenario};
+use std::alloc::Global;
+use std::sync::Arc;
+
+/// Settings, and the steps at which they are in force: from one up to another, that one not among them.
+#[derive(Drop)]
+pub(crate) struct InForce {
+    settings: Arc<Settings>,
+    from: u32,
+    until: u32,
+}
+
+impl InForce {
+    // The settings, where they are in force at a step.
+    fn at(&self, step: u32) -> Result<Option<Arc<Settings>>, OutOfMemory>
+        ensures { IfOk result (λ found. IfSome found (λ settings. (arc_value settings ≡ arc_value self.now.settings)
+            × (self.now.from ≤ step) × (step < self.now.until))) }
+    {
+        if step < self.from || self.until <= step {
+            return Ok(None);
+        }
+        Ok(Some(Arc::try_clone(&self.settings)?))
+    }
+}
+
+/// What a run carries from a step to the next: words that are drawn, and the last settings.
+#[derive(Drop)]
+pub(crate) struct Carried {
+    pub(crate) words: DrawnWords,
+    settings: Option<InForce>,
+}
+
+impl Carried {
+    ghost use Rattle.road_sheet.specs.Private.CarriedSettings.{IsCarried};
+
+    // What a run by these edits carries before its first step: nothing. It takes no memory.
+    pub(crate) fn of(alloc: Global, plan: &Arc<Plan>, scenario: &Scenario) -> Carried
+        ensures { IsCarried (arc_value plan.now) scenario.now result }
+    {
+        let _ = scenario;
+        Carried {
+            words: DrawnWords::of(alloc, plan),
+            settings: None,
+        }
+    }
+
+    // The settings of a step: the last ones where no edit is dated since, and else made anew.
+    pub(crate) fn settings(
+        &mut self,
+        alloc: Global,
+        plan: &Arc<Plan>,
+        scenario: &Scenario,
+        step: u32,
+    ) -> Result<Arc<Settings>, OutOfMemory>
+        requires fits { AreInRange (arc_value plan.now) scenario.now }
+        requires carried { IsCarried (arc_value plan.now) scenario.now self.old }
+        ensures settings { IfOk result (λ settings.
+            arc_value settings ≡ settings_of (arc_value plan.now) scenario.now step) }
+        ensures fits { IfOk result (λ settings. Fits (arc_value plan.now) (arc_value settings)) }
+        ensures carried { IsCarried (arc_value plan.now) scenario.now self.new }
+    {
+        if let Some(settings) = self.kept(step)? {
+            return Ok(settings);
+        }
+        self.renewed(alloc, plan, scenario, step)
+    }
+
+    // The last settings, where they are in force at a step.
+    fn kept(&self, step: u32) -> Result<Option<Arc<Settings>>, OutOfMemory>
+        ensures { (plan : Plan) (edits : Edits) → IsCarried plan edits self.now → IfOk result (λ found.
+            IfSome found (λ settings. (arc_value settings ≡ settings_of plan edits step)
+            × Fits plan (arc_value settings))) }
+    {
+        match &self.settings {
+            Some(kept) => kept.at(step),
+            None => Ok(None),
+        }
+    }
+
+    // The settings of a step, made anew and kept.
+    fn renewed(
+        &mut self,
+        alloc: Global,
+        plan: &Arc<Plan>,
+        scenario: &Scenario,
+        step: u32,
+    ) -> Result<Arc<Settings>, OutOfMemory>
+        requires fits { AreInRange (arc_value plan.now) scenario.now }
+        requires carried { IsCarried (arc_value plan.now) scenario.now self.old }
+        ensures settings { IfOk result (λ settings.
+            arc_value settings ≡ settings_of (arc_value plan.now) scenario.now step) }
+        ensures fits { IfOk result (λ settings. Fits (arc_value plan.now) (arc_value settings)) }
+        ensures carried { IsCarried (arc_value plan.now) scenario.now self.new }
+    {
+        scenario.known();
+        let settings = Arc::new(alloc, scenario.settings_at(alloc, plan, step)?)?;
+        let shared = Arc::try_clone(&settings)?;
+        let until = next_date(&scenario.edits(alloc)?, step);
+        self.settings = Some(InForce {
+            settings,
+            from: step,
+            until,
+        });
+        Ok(shared)
+    }
+}
+
+// The first step after a step by which one of these edits is dated; the greatest of all where there is none.
+fn next_date(edits: &[Edit], step: u32) -> u32
+    ensures { (k : ℕ) (d : Edit) → k < length edits.now → step < (slice_index_or edits.now k d).step →
+        result ≤ (slice_index_or edits.now k d).step }
+{
+    let mut next = u32::MAX;
+    for edit in edits {
+        if step < edit.step && edit.step < next {
+            next = edit.step;
+        }
+    }
+    next
+}
