@@ -1,4 +1,4 @@
-ghost use Rattle.std.specs.Prelude.{◌≡◌, ◌<◌, ◌≤◌, ◌-◌, max, IfErr, IfOk};
+ghost use Rattle.std.specs.Prelude.{◌≡◌, ◌<◌, ◌≤◌, ◌-◌, max, IfErr, IfNone, IfOk};
 ghost use Rattle.std.specs.Prelude.{MatchResult, None, OnErr, OnOk, map, string_bytes, true};
 ghost use Rattle.std.specs.Arc.{arc_value};
 ghost use Rattle.std.specs.declared.cmp.Ordering.TheVariants.{Less};
@@ -81,6 +81,13 @@ impl Replica {
         &self.sheet
     }
 
+    /// The sheet alone.
+    pub fn into_sheet(self) -> Arc<Sheet>
+        ensures { arc_value result ≡ self.sheet }
+    {
+        self.sheet
+    }
+
     /// The winners of all edits that the replica made, took and imported.
     pub fn scenario(&self) -> &Scenario
         ensures { result.now ≡ self.now.sheet.edits }
@@ -95,6 +102,45 @@ impl Replica {
         ensures sheet { IsSheet self.now.sheet }
     {
         self.sheet.known();
+    }
+
+    /// Another replica with the same plan, number and sheet. What is written to one leaves the other as it is.
+    ///
+    /// # Errors
+    ///
+    /// `OutOfMemory` where the sheet can have no owner more.
+    pub fn copied(&self) -> Result<Replica, OutOfMemory>
+        ensures { IfOk result (λ copy. copy ≡ self.now) }
+    {
+        let sheet = Arc::try_clone(&self.sheet)?;
+        Ok(Replica {
+            number: self.number,
+            sheet,
+        })
+    }
+
+    // ---- the named causes for which writes are refused
+
+    /// The cause for which the replica would refuse to make an edit; none where it would not, but for lost workers or
+    /// want of memory.
+    pub fn edit_fault(&self, object: Object, step: u32, value: Value) -> Option<ReplicaFault>
+        ensures { result ≡ refusals.edit_fault self.now object step value }
+    {
+        match self.edit_made(object, step, value).fault(self.sheet.plan()) {
+            Some(fault) => Some(made_fault(fault)),
+            None => None,
+        }
+    }
+
+    /// The cause for which the replica would refuse to take a scenario; none where its edits fit the plan.
+    pub fn take_fault(&self, scenario: &Scenario) -> Option<ReplicaFault>
+        ensures fault { result ≡ refusals.take_fault self.now.sheet.plan scenario.now }
+        ensures fits { IfNone result (AreInRange self.now.sheet.plan scenario.now) }
+    {
+        match scenario.fits(self.sheet.plan()) {
+            Some(fault) => Some(arrived_fault(fault)),
+            None => None,
+        }
     }
 
     // ---- writes

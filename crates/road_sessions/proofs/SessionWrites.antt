@@ -1,0 +1,119 @@
+-- What a session's write or look leaves of it.
+use Rattle.std.proofs.Common.{◌≡◌, ◌∙◌, ℕ, ◌+◌, ◌<◌, List, [], ◌∷◌, ◌++◌, length, length-append, slice_get, Some, refl, sym, ap, subst, arith}
+use Rattle.std.proofs.lemmas.Option.{slice_get_within}
+use mathlib.Core.List.{IsPrefix}
+use Rattle.road_replica.specs.Replicas.{Replica}
+use Rattle.road_replica.specs.declared.reply.Reply.{Reply}
+use Rattle.road_sessions.specs.declared.entry.Entry.{Entry}
+use Rattle.road_sessions.specs.declared.view.View.{View}
+use Rattle.road_sessions.specs.declared.wish.Wish.{Wish}
+use Rattle.road_sessions.specs.Closings.{Brings}
+use Rattle.road_sessions.specs.Journals.{AreOf, Each, IsLegal, Rise, Stand, Write, entry, replay}
+use Rattle.road_sessions.specs.Looks.{HasEntered}
+use Rattle.road_sessions.specs.Private.Stores.{EntersAfterWrite, EntersToLook, last_from}
+use Rattle.road_sessions.specs.Seats.{AreFresh, IsSeat, IsWrite, Seat, newcomer, seat}
+use Rattle.road_sessions.specs.Writes.{reply_to, wished}
+use Rattle.road_sessions.proofs.Beginnings.{each_of_both, got_last, stand_later}
+
+-- ---- a write
+
+last_of_more : (place : ℕ) (history : List Entry) (e : Entry) → last_from place (history ++ e ∷ []) ≡ (place + length history, e) ∷ []
+last_of_more place [] e = ap (λ (n : ℕ). (n, e) ∷ []) (omega arith)
+last_of_more place (x ∷ []) e = ap (λ (n : ℕ). (n, e) ∷ []) (omega arith)
+last_of_more place (x ∷ y ∷ ys) e = last_of_more (place + 1) (y ∷ ys) e ∙ ap (λ (n : ℕ). (n, e) ∷ []) (omega arith)
+
+-- the write that ends the published history is one more of the session's own
+own_more : (own : List Write) (front after : List Entry) (e : Entry) (place : ℕ) → after ≡ front ++ e ∷ [] → place ≡ length front → own ++ last_from 0 after ≡ own ++ (place, e) ∷ []
+own_more own front after e place is at =
+    let here : 0 + length front ≡ place = omega arith in
+    let last = ap (λ (l : List Entry). last_from 0 l) is ∙ last_of_more 0 front e ∙ ap (λ (n : ℕ). (n, e) ∷ []) here in
+    ap (λ (w : List Write). own ++ w) last
+
+pub is_write : (r : Replica) (session : ℕ) (wish : Wish) (seen front after : List Entry) (v w : View) (place : ℕ) (reply : Reply) → IsPrefix seen front
+    → after ≡ front ++ entry session (wished wish (replay r front)) ∷ [] → IsLegal r after → place ≡ length front → reply ≡ reply_to wish (replay r front) → EntersAfterWrite v after w
+    → IsWrite r wish (seat session seen v) place reply (seat session after w)
+is_write r session wish seen front after v w place reply before is legal at answer enters = record {
+  front = front;
+  before = before;
+  seen = is;
+  legal = legal;
+  place_is = at;
+  reply_is = answer;
+  found = ap (λ (u : View). u.found) enters.1;
+  later = subst (λ (u : View). IsPrefix v.found u.found) (sym enters.1) enters.0;
+  own = ap (λ (u : View). u.own) enters.1 ∙ own_more v.own front after (entry session (wished wish (replay r front))) place is at;
+  number = refl;
+  entered = ap (λ (u : View). u.entered) enters.1;
+}
+
+all_before : (writes : List Write) (journal : List Entry) → Stand writes journal → Each (λ (w : Write). w.0 < length journal) writes
+all_before [] journal stand = tt
+all_before (w ∷ ws) journal stand = (slice_get_within journal w.0 w.1 stand.0, all_before ws journal stand.1)
+
+rise_more : (writes : List Write) (place : ℕ) (e : Entry) → Rise writes → Each (λ (w : Write). w.0 < place) writes → Rise (writes ++ (place, e) ∷ [])
+rise_more [] place e rise low = (tt, tt)
+rise_more (w ∷ ws) place e rise low =
+    (each_of_both (λ (v : Write). w.0 < v.0) ws ((place, e) ∷ []) rise.0 (low.0, tt), rise_more ws place e rise.1 low.1)
+
+-- after an accepted write a session meets what every session meets
+pub seat_after_write : (r : Replica) (wish : Wish) (s t : Seat) (place : ℕ) (reply : Reply) → IsWrite r wish s place reply t → IsSeat r s → IsSeat r t
+seat_after_write r wish s t place reply w is =
+    let e = entry s.number (wished wish (replay r w.front)) in
+    let stood : Stand s.view.own w.front = stand_later s.view.own s.seen w.front w.before is.standing in
+    let stands : Stand s.view.own t.seen = stand_later s.view.own w.front t.seen (e ∷ [], sym w.seen) stood in
+    let low : Each (λ (u : Write). u.0 < place) s.view.own = subst (λ (n : ℕ). Each (λ (u : Write). u.0 < n) s.view.own) (sym w.place_is) (all_before s.view.own w.front stood) in
+    let there : slice_get t.seen place ≡ Some e = subst (λ (l : List Entry). slice_get l place ≡ Some e) (sym w.seen) (subst (λ (n : ℕ). slice_get (w.front ++ e ∷ []) n ≡ Some e) (sym w.place_is) (got_last w.front e)) in
+    let mine = each_of_both (λ (u : Write). u.1.session ≡ s.number) s.view.own ((place, e) ∷ []) is.own (refl, tt) in
+    let all = each_of_both (λ (u : Write). slice_get t.seen u.0 ≡ Some u.1) s.view.own ((place, e) ∷ []) stands (there, tt) in
+    record {
+      legal = w.legal;
+      own = subst (λ (n : ℕ). AreOf n t.view.own) (sym w.number) (subst (λ (o : List Write). AreOf s.number o) (sym w.own) mine);
+      rising = subst Rise (sym w.own) (rise_more s.view.own place e is.rising low);
+      standing = subst (λ (o : List Write). Stand o t.seen) (sym w.own) all;
+    }
+
+pub one_more_write : (r : Replica) (wish : Wish) (s t : Seat) (place : ℕ) (reply : Reply) → IsWrite r wish s place reply t → length t.view.own ≡ length s.view.own + 1
+one_more_write r wish s t place reply w =
+    ap (λ (o : List Write). length o) w.own ∙ (let n = length-append s.view.own ((place, entry s.number (wished wish (replay r w.front))) ∷ []) in omega arith)
+
+-- ---- a look, and what was told
+
+-- having seen more, a session meets what every session meets
+pub seat_later : (r : Replica) (session : ℕ) (seen after : List Entry) (v w : View) → IsPrefix seen after → IsLegal r after → w.own ≡ v.own → IsSeat r (seat session seen v) → IsSeat r (seat session after w)
+seat_later r session seen after v w grows legal own is = record {
+  legal = legal;
+  own = subst (λ (o : List Write). AreOf session o) (sym own) is.own;
+  rising = subst Rise (sym own) is.rising;
+  standing = subst (λ (o : List Write). Stand o after) (sym own) (stand_later v.own seen after grows is.standing);
+}
+
+-- the store was entered, where this was published
+pub has_entered : (r : Replica) (session : ℕ) (seen after published : List Entry) (v w : View) → IsPrefix seen after → IsLegal r after → EntersToLook v published w → IsSeat r (seat session seen v) → HasEntered r (seat session seen v) (seat session after w)
+has_entered r session seen after published v w grows legal enters is =
+    let own : w.own ≡ v.own = ap (λ (u : View). u.own) enters.1 in
+    let after_is = seat_later r session seen after v w grows legal own is in record {
+      entered = ap (λ (u : View). u.entered) enters.1;
+      later = subst (λ (u : View). IsPrefix v.found u.found) (sym enters.1) enters.0;
+      seen = grows;
+      legal = legal;
+      standing = after_is.standing;
+      own = own;
+      number = refl;
+    }
+
+-- ---- opening and closing
+
+fresh_from : (n : ℕ) (ss : List Seat) → AreFresh n ss → AreFresh n (ss ++ seat (n + length ss) [] newcomer ∷ [])
+fresh_from n [] fresh = (ap (λ (k : ℕ). seat k [] newcomer) (omega arith), tt)
+fresh_from n (s ∷ ss) fresh =
+    (fresh.0, subst (λ (k : ℕ). AreFresh (n + 1) (ss ++ seat k [] newcomer ∷ [])) (omega arith) (fresh_from (n + 1) ss fresh.1))
+
+-- a session more, with the next number
+pub fresh_more : (ss : List Seat) (n : ℕ) (s : Seat) → AreFresh 0 ss → length ss ≡ n → s ≡ seat n [] newcomer → AreFresh 0 (ss ++ s ∷ [])
+fresh_more ss n s fresh at is =
+    let next : 0 + length ss ≡ n = omega arith in
+    subst (λ (t : Seat). AreFresh 0 (ss ++ t ∷ [])) (ap (λ (k : ℕ). seat k [] newcomer) next ∙ sym is) (fresh_from 0 ss fresh)
+
+-- what a session brings to the closing
+pub brings : (r : Replica) (journal : List Entry) (s : Seat) → IsSeat r s → IsPrefix s.seen journal → Brings journal s
+brings r journal s is begins = (is.rising, is.own, stand_later s.view.own s.seen journal begins is.standing, begins)

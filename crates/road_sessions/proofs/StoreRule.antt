@@ -1,0 +1,51 @@
+-- Each kind of step keeps the rule of the store, and what is pending ends in its last operation.
+use Rattle.std.proofs.Common.{◌≡◌, ◌∙◌, ℕ, ◌≢◌, ◌+◌, List, [], ◌∷◌, ◌++◌, set, refl, ap, subst, ⊎_elim}
+use Rattle.std.specs.Prelude.{fold}
+use Rattle.std.proofs.lemmas.List.Sums.{fold-append}
+use mathlib.Core.Option.{some}
+use mathlib.Core.List.{IsPrefix}
+use lib.ListN.{get_elem?}
+use Rattle.crossbeam_utils.specs.Register.{Admits, TurnsAt, Turns}
+use Rattle.atomic_table.proofs.Lists.{at_set, at_snoc}
+use Rattle.road_sessions.specs.Private.Stores.{EndWith, EntersAfterWrite, EntersToLook, FoundBegins, last_from}
+use Rattle.road_sessions.specs.Seats.{newcomer, view_of}
+use Rattle.road_sessions.specs.declared.entry.Entry.{Entry}
+use Rattle.road_sessions.specs.declared.view.View.{View}
+use Rattle.road_sessions.proofs.Beginnings.{begins_itself, begins_longer}
+
+-- one view changes, and what is published goes on
+one_changes : (before after : List Entry) (views : List View) (seat : ℕ) (w : View) → IsPrefix before after → IsPrefix w.found after → FoundBegins before views → FoundBegins after (set views seat w)
+one_changes before after views seat w grows found rule other u at = ⊎_elim
+    (λ (here : (other ≡ seat) × (w ≡ u)). subst (λ (v : View). IsPrefix v.found after) here.1 found)
+    (λ (there : (other ≢ seat) × (get_elem? views other ≡ some u)). begins_longer u.found before after (rule other u there.1) grows)
+    (at_set views seat other w u at)
+
+pub admits_newcomer : Admits FoundBegins newcomer
+admits_newcomer published views rule seat v at = ⊎_elim (rule seat v)
+    (λ (new : newcomer ≡ v). subst (λ (u : View). IsPrefix u.found published) new (published, refl))
+    (at_snoc views newcomer v seat at)
+
+pub opens : (published : List Entry) → FoundBegins published (newcomer ∷ [])
+opens published = admits_newcomer published [] (λ seat v at. absurd (cc (at)))
+
+pub may_look : (seat : ℕ) (v : View) → Turns FoundBegins seat v (λ published. published) (λ v before after w. EntersToLook v after w)
+may_look seat v published views rule at =
+    let w = view_of published v.own (v.entered + 1) in
+    let all = begins_itself published in
+    (w, one_changes published published views seat w all all rule, (rule seat v at, refl))
+
+pub may_enter_after_write : (seat : ℕ) (v : View) → Turns FoundBegins seat v (λ published. published) (λ v before after w. EntersAfterWrite v after w)
+may_enter_after_write seat v published views rule at =
+    let w = view_of published (v.own ++ last_from 0 published) v.entered in
+    let all = begins_itself published in
+    (w, one_changes published published views seat w all all rule, (rule seat v at, refl))
+
+pub may_publish : (seat : ℕ) (v : View) (before after : List Entry) → IsPrefix before after → TurnsAt FoundBegins seat v before after (λ v before after w. w ≡ v)
+may_publish seat v before after grows views rule at =
+    (v, one_changes before after views seat v grows (begins_longer v.found before after (rule seat v at) grows) rule, refl)
+
+-- what is pending does what its last operation does
+pub ends_so : (history start state : List Entry) (operations : List (List Entry)) → EndWith history operations → state ≡ fold (λ (published next : List Entry). next) start operations → state ≡ history
+ends_so history start state operations ends is =
+    is ∙ ap (λ (l : List (List Entry)). fold (λ (published next : List Entry). next) start l) ends.1
+    ∙ fold-append (λ (published next : List Entry). next) start ends.0 (history ∷ [])

@@ -1,0 +1,11 @@
+use Rattle.std.proofs.Common.{◌≤◌, ◌<◌, Bool, length, subst}
+use Rattle.std.specs.Prelude.{MatchBool}
+use Rattle.road_sessions.proofs.Beginnings.{begins_whole}
+use Rattle.road_sessions.proofs.book.Beginning.is_same.Goals as goal
+
+pub returns-then-begins : goal.returns-then-begins
+returns-then-begins g c is =
+    let this = c.args.self.now in
+    let that = c.args.other.now in
+    let short : length that ≤ length this = subst (λ (b : Bool). MatchBool b (length that ≤ length this) (length this < length that)) is c.begins-then-begins.ensures.length in
+    begins_whole this that short c.if-begins.ensures.begins

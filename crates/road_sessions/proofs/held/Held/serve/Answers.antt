@@ -1,0 +1,18 @@
+use Rattle.std.proofs.Common.{◌≡◌, ◌∙◌, List, subst, sym}
+use mathlib.Core.List.{IsPrefix}
+use Rattle.left_right.specs.Sides.{view}
+use Rattle.road_sessions.specs.Journals.{IsLegal}
+use Rattle.road_sessions.specs.declared.entry.Entry.{Entry}
+use Rattle.road_sessions.proofs.SessionWrites.{is_write}
+use Rattle.road_sessions.proofs.held.Held.serve.Goals as goal
+
+pub returns-clause-wrote : goal.returns-clause-wrote
+returns-clause-wrote g c =
+    let r = g.J.Naming.replica in
+    let seen : List Entry = c.args.seen.now in
+    let journal : List Entry = c.args.self.now.journal.items in
+    let before : IsPrefix seen journal = subst (λ (l : List Entry). IsPrefix seen l) c.args.self.now.journalled c.if-not-begins.ensures.begins in
+    let after : c.again.result ≡ c.write.new.self.journal.items = c.again.ensures ∙ c.write.new.self.journalled in
+    let legal : IsLegal r c.again.result = subst (λ (l : List Entry). IsLegal r l) (sym c.again.ensures) c.known.ensures in
+    is_write r c.args.session c.args.wish.now seen journal c.again.result (view c.args.reader.now.place) (view c.own.new.reader.place) c.in_ok-place.place c.in_ok-place.reply
+    before (after ∙ c.in_ok-place.ensures.journal) legal c.in_ok-place.ensures.reply.0 c.in_ok-place.ensures.reply.1 c.own.ensures

@@ -1,0 +1,9 @@
+use Rattle.std.proofs.Common.{◌∙◌, ◌++◌, ◌∷◌, [], List, ap, drop, sym}
+use Rattle.road_sessions.specs.declared.entry.Entry.{Entry}
+use Rattle.road_sessions.proofs.store.publish.Goals as goal
+
+pub show-requires-clause-pending : goal.show-requires-clause-pending
+show-requires-clause-pending g c =
+    let before : List (List Entry) = drop c.args.writer.behind c.args.writer.log.items in
+    let same = c.again-history.ensures ∙ c.history.ensures in
+    (before, c.hand_over-writer.ensures.pending ∙ ap (λ (l : List Entry). before ++ l ∷ []) (sym same))

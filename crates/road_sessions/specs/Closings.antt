@@ -1,0 +1,40 @@
+-- What is left when a store is closed.
+use Rattle.std.specs.Prelude.{◌≡◌, ◌≢◌, ◌+◌, ℕ, List, [], ◌∷◌, length}
+use mathlib.Core.List.{IsPrefix}
+use Rattle.road_sessions.specs.declared.entry.Entry.{Entry}
+use Rattle.road_sessions.specs.declared.faults.CloseCause.{CloseCause}
+use Rattle.road_sessions.specs.declared.faults.CloseCause.TheVariants.{Missing, OutOfMemory}
+use Rattle.road_sessions.specs.Journals.{Each, Stand, AreOf, Rise, writes_of}
+use Rattle.road_sessions.specs.Seats.{Seat}
+
+-- no two of these sessions have one number
+abbrev pub AreApart : List Seat → Type 0
+AreApart [] = Unit {0}
+AreApart (s ∷ ss) = Each (λ t. s.number ≢ t.number) ss × AreApart ss
+
+-- they are all the sessions of a store that was opened with so many
+abbrev pub AreAll : ℕ → List Seat → Type 0
+AreAll count ss = (length ss ≡ count) × AreApart ss
+
+-- how many writes they made together
+abbrev pub made_by : List Seat → ℕ
+made_by [] = 0
+made_by (s ∷ ss) = length s.view.own + made_by ss
+
+-- the journal's entries of a session's number are that session's writes, each once, at their places and in order, and
+-- what the session has seen begins the journal
+abbrev pub IsTold : List Entry → Seat → Type 0
+IsTold journal s = (writes_of s.number journal ≡ s.view.own) × IsPrefix s.seen journal
+
+-- the journal is just what these sessions wrote
+abbrev pub IsJust : List Entry → List Seat → Type 0
+IsJust journal ss = (length journal ≡ made_by ss) × Each (IsTold journal) ss
+
+-- what is known of a session whose history begins the journal: its writes stand there, at rising places
+abbrev pub Brings : List Entry → Seat → Type 0
+Brings journal s = Rise s.view.own × AreOf s.number s.view.own × Stand s.view.own journal × IsPrefix s.seen journal
+
+-- a closing is refused as `Missing` where these are not all the sessions, and else for want of memory
+abbrev pub IsCloseRefusal : ℕ → List Seat → CloseCause → Type 0
+IsCloseRefusal count ss Missing = ¬ AreAll count ss
+IsCloseRefusal count ss OutOfMemory = AreAll count ss

@@ -1,0 +1,72 @@
+-- Journals: who wrote what to one replica, and the replica that is left.
+use Rattle.std.specs.Prelude.{◌≡◌, ◌+◌, ◌<◌, ℕ, fold, List, [], ◌∷◌, nat_eq, if◌then◌else◌}
+use Rattle.std.specs.List.{slice_get}
+use Rattle.std.specs.declared.option.Option.TheVariants.{Some}
+use Rattle.road_plan.specs.Plan.{Plan}
+use Rattle.road_sheet.specs.Commands as commands
+use Rattle.road_sheet.specs.Commands.{IsAllowed, IsHistoryFrom, sheet_after}
+use Rattle.road_sheet.specs.Sheets.{Sheet, opening_sheet}
+use Rattle.road_replica.specs.Replicas.{Replica, replica_after}
+use Rattle.road_sessions.specs.declared.entry.Command.{Command}
+use Rattle.road_sessions.specs.declared.entry.Command.TheVariants.{Take, Advance}
+use Rattle.road_sessions.specs.declared.entry.Entry.{Entry}
+
+-- the replica that is opened: without edits, and nothing is simulated
+abbrev pub opening_replica : Plan → ℕ → Replica
+opening_replica plan number = record { number = number; sheet = opening_sheet plan }
+
+-- a command of a journal, as a command to the replica
+abbrev pub command_of : Command → commands.Command
+command_of (Take edits) = commands.Take edits
+command_of (Advance to) = commands.Advance to
+
+-- a session's command, as it stands in the journal
+abbrev pub entry : ℕ → Command → Entry
+entry session command = record { session = session; command = command }
+
+-- the replica after all commands of a journal, one after another
+abbrev pub replay : Replica → List Entry → Replica
+replay r journal = fold (λ q e. replica_after (command_of e.command) q) r journal
+
+-- the history of a journal: its entries, each with the sheet after it
+abbrev pub with_sheets : Sheet → List Entry → List commands.Entry
+with_sheets s [] = []
+with_sheets s (e ∷ es) =
+    let after = sheet_after (command_of e.command) s in
+    record { session = e.session; command = command_of e.command; sheet = after } ∷ with_sheets after es
+
+-- a journal is legal at a replica: its history is, so each command is allowed where it stands
+abbrev pub IsLegal : Replica → List Entry → Type 0
+IsLegal r journal = IsHistoryFrom r.sheet (with_sheets r.sheet journal)
+
+-- a fact holds of each element of a list
+abbrev pub Each : {A : Type 0} → (A → Type 0) → List A → Type 0
+Each P [] = Unit {0}
+Each P (x ∷ xs) = P x × Each P xs
+
+-- a write: its place in the journal, from 0, and what stands there
+abbrev pub Write : Type 0
+Write = ℕ × Entry
+
+-- each of these writes stands in the journal at its place
+abbrev pub Stand : List Write → List Entry → Type 0
+Stand writes journal = Each (λ w. slice_get journal w.0 ≡ Some w.1) writes
+
+-- all these writes are of one session
+abbrev pub AreOf : ℕ → List Write → Type 0
+AreOf session writes = Each (λ w. w.1.session ≡ session) writes
+
+-- their places rise
+abbrev pub Rise : List Write → Type 0
+Rise [] = Unit {0}
+Rise (w ∷ ws) = Each (λ v. w.0 < v.0) ws × Rise ws
+
+-- the writes of one session in a journal whose first place has this number
+abbrev pub writes_from : ℕ → ℕ → List Entry → List Write
+writes_from session place [] = []
+writes_from session place (e ∷ es) =
+    let later = writes_from session (place + 1) es in if nat_eq e.session session then (place, e) ∷ later else later
+
+-- the writes of one session in a journal
+abbrev pub writes_of : ℕ → List Entry → List Write
+writes_of session journal = writes_from session 0 journal

@@ -1,0 +1,32 @@
+-- The rule of the store, and what its steps tell.
+use Rattle.std.specs.Prelude.{◌≡◌, ℕ, ◌+◌, List, [], ◌∷◌, ◌++◌}
+use mathlib.Core.Option.{some}
+use mathlib.Core.List.{IsPrefix}
+use lib.ListN.{get_elem?}
+use Rattle.road_sessions.specs.declared.entry.Entry.{Entry}
+use Rattle.road_sessions.specs.declared.view.View.{View}
+use Rattle.road_sessions.specs.Journals.{Write}
+use Rattle.road_sessions.specs.Seats.{view_of}
+
+-- what each reader found when it last entered begins the published history
+abbrev pub FoundBegins : List Entry → List View → Type 0
+FoundBegins published views = (seat : ℕ) (v : View) → get_elem? views seat ≡ some v → IsPrefix v.found published
+
+-- a reader entered to look: it found what was published, which goes on from what it had found before
+abbrev pub EntersToLook : View → List Entry → View → Type 0
+EntersToLook v published w = IsPrefix v.found published × (w ≡ view_of published v.own (v.entered + 1))
+
+-- the last entry of a history whose first place has this number, as a write
+abbrev pub last_from : ℕ → List Entry → List Write
+last_from place [] = []
+last_from place (e ∷ []) = (place, e) ∷ []
+last_from place (e ∷ f ∷ es) = last_from (place + 1) (f ∷ es)
+
+-- a reader entered at the end of its session's write, which ends the published history
+abbrev pub EntersAfterWrite : View → List Entry → View → Type 0
+EntersAfterWrite v published w =
+    IsPrefix v.found published × (w ≡ view_of published (v.own ++ last_from 0 published) v.entered)
+
+-- the last of these operations puts this history in place of whatever was shown
+abbrev pub EndWith : List Entry → List (List Entry) → Type 0
+EndWith history operations = (before : List (List Entry)) × (operations ≡ before ++ history ∷ [])

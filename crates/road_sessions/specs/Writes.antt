@@ -1,0 +1,66 @@
+-- What a session asks the replica for, what is answered, and for which cause it is refused.
+use Rattle.std.specs.Prelude.{◌≡◌, ◌⊎◌, ℕ, max, nat_le, List, length, if◌then◌else◌}
+use Rattle.std.specs.Option.{option_map}
+use Rattle.std.specs.declared.option.Option.{Option}
+use Rattle.std.specs.declared.option.Option.TheVariants.{None, Some}
+use Rattle.road_scenario.specs.declared.edit.Value.TheVariants.{Put, Withdrawn}
+use Rattle.road_rewind.specs.Growth.{touched_step}
+use Rattle.road_replica.specs.Replicas.{Replica, edit_made, replica_after, single_edit}
+use Rattle.road_sheet.specs.Commands.{IsAllowed}
+use Rattle.road_replica.specs.Refusals as refusals
+use Rattle.road_replica.specs.declared.faults.ReplicaFault.{ReplicaFault}
+use Rattle.road_replica.specs.declared.faults.ReplicaFault.TheVariants as causes
+use Rattle.road_replica.specs.declared.reply.Reply.{Reply}
+use Rattle.road_replica.specs.declared.reply.Reply.TheVariants.{Stamped, Touched, Horizon}
+use Rattle.road_sessions.specs.declared.entry.Command.{Command}
+use Rattle.road_sessions.specs.declared.entry.Command.TheVariants as commands
+use Rattle.road_sessions.specs.declared.entry.Entry.{Entry}
+use Rattle.road_sessions.specs.declared.wish.Wish.{Wish}
+use Rattle.road_sessions.specs.declared.wish.Wish.TheVariants.{Take, Advance, Edit, Withdraw}
+use Rattle.road_sessions.specs.declared.faults.WriteFault.{WriteFault}
+use Rattle.road_sessions.specs.declared.faults.WriteFault.TheVariants.{JournalFull, Replica as OfReplica}
+use Rattle.road_sessions.specs.Journals.{command_of, replay}
+
+-- the command that a wish comes to at a replica: an edit that the replica makes is journalled as the taking of it
+abbrev pub wished : Wish → Replica → Command
+wished (Take edits) r = commands.Take edits.now
+wished (Advance to) r = commands.Advance to
+wished (Edit object step value) r = commands.Take (single_edit (edit_made r object step (Put value)))
+wished (Withdraw object step) r = commands.Take (single_edit (edit_made r object step Withdrawn))
+
+-- the answer to it: the touched step, the horizon, or the fresh stamp
+abbrev pub reply_to : Wish → Replica → Reply
+reply_to (Take edits) r = Touched (touched_step r.sheet edits.now)
+reply_to (Advance to) r = Horizon (max r.sheet.horizon to)
+reply_to (Edit object step value) r = Stamped (edit_made r object step (Put value)).stamp
+reply_to (Withdraw object step) r = Stamped (edit_made r object step Withdrawn).stamp
+
+-- what was wished is done: it came to this command, was answered so, and left this replica
+pub record IsMade (wish : Wish) (r : Replica) (command : Command) (reply : Reply) (after : Replica) : Type 0 where
+  pub command_is : command ≡ wished wish r
+  pub allowed : IsAllowed r.sheet.plan (command_of command)
+  pub reply_is : reply ≡ reply_to wish r
+  pub after_is : after ≡ replica_after (command_of command) r
+
+-- the named cause for which the replica refuses it
+abbrev pub wish_fault : Wish → Replica → Option ReplicaFault
+wish_fault (Take edits) r = refusals.take_fault r.sheet.plan edits.now
+wish_fault (Advance to) r = refusals.advance_fault to
+wish_fault (Edit object step value) r = refusals.edit_fault r object step (Put value)
+wish_fault (Withdraw object step) r = refusals.edit_fault r object step Withdrawn
+
+-- the first named cause for which a write is refused, where the journal has room for so many entries
+abbrev pub write_fault : ℕ → Wish → Replica → List Entry → Option WriteFault
+write_fault limit wish r journal =
+    if nat_le limit (length journal) then Some JournalFull
+    else option_map OfReplica (wish_fault wish (replay r journal))
+
+-- a write is refused for the named cause where there is one, and else for lost workers or want of memory
+abbrev pub IsWriteRefusal : Option WriteFault → WriteFault → Type 0
+IsWriteRefusal (Some cause) fault = fault ≡ cause
+IsWriteRefusal None fault = (fault ≡ OfReplica causes.WorkersGone) ⊎ (fault ≡ OfReplica causes.OutOfMemory)
+
+-- how often a crew has answered `WorkersGone`, after such a refusal
+abbrev pub gone_after_fault : WriteFault → ℕ → ℕ
+gone_after_fault JournalFull n = n
+gone_after_fault (OfReplica fault) n = refusals.gone_after_fault fault n

@@ -1,0 +1,139 @@
+ghost use Rattle.std.specs.Prelude.{◌≡◌, ◌≢◌, ◌+◌, IfErr, IfOk, IsTrue, MatchBool, MatchResult, length};
+ghost use Rattle.std.specs.Arc.{arc_value};
+ghost use Rattle.road_sessions.specs.Closings.{AreAll, AreApart, Brings, IsCloseRefusal, IsJust, made_by};
+ghost use Rattle.road_sessions.specs.Journals.{Each, replay};
+
+use crate::book::Beginning;
+use crate::entry::Entry;
+use crate::faults::CloseCause;
+use crate::held::Held;
+use crate::naming::Naming;
+use crate::session::Session;
+use crate::shared::Shared;
+use crate::store::Published;
+use left_right::Absorb;
+use road_sheet::Sheet;
+use std::sync::ledger::Share;
+use std::sync::{Arc, Mutex, Wait};
+
+/// What is left of a closed store.
+#[derive(Drop)]
+pub struct Closed {
+    /// The replica's sheet.
+    pub sheet: Arc<Sheet>,
+    /// Who wrote what, in order.
+    pub journal: Vec<Entry>,
+}
+
+/// Why a store is not closed, and all that was given for it, as it was.
+#[derive(Drop)]
+pub struct CloseFault<J: Naming, R: Wait + Drop>
+where
+    Published<J>: Absorb<Published<J>>,
+{
+    /// Why.
+    pub cause: CloseCause,
+    /// What the sessions share.
+    pub shared: Shared<J, R>,
+    /// The sessions that were given.
+    pub sessions: Vec<Session<J>>,
+}
+
+/// Closes a store whose sessions are all given, in any order. The journal is just what they wrote: it has as many
+/// entries as they made writes, those of each session's number are that session's, each once, at their places and in
+/// order, and what each session has seen begins it. The sheet is that of the journal replayed.
+///
+/// # Errors
+///
+/// `Missing` where these are not all sessions of the store, else `OutOfMemory` where a growth was refused. All that
+/// was given is handed back, as it was.
+pub fn close<J: Naming, R: Wait + Drop>(
+    shared: Shared<J, R>,
+    sessions: Vec<Session<J>>,
+) -> Result<Closed, CloseFault<J, R>>
+    ensures just { IfOk result (λ closed. IsJust closed.journal.items sessions.items) }
+    ensures sheet { IfOk result
+        (λ closed. arc_value closed.sheet ≡ (replay J.replica closed.journal.items).sheet) }
+    ensures all { MatchResult result (λ _. AreAll J.parts sessions.items)
+        (λ fault. IsCloseRefusal J.parts sessions.items fault.cause) }
+    ensures unchanged { IfErr result (λ fault. fault.sessions.items ≡ sessions.items) }
+{
+    let Shared { held } = shared;
+    let mut held = held.into_inner();
+    if sessions.len() != held.sessions as usize || !are_apart(sessions.as_slice()) {
+        return Err(refusal(CloseCause::Missing, held, sessions));
+    }
+    // What a session has seen was published, and begins the journal. No contract says so, and the refusal stands here.
+    if !all_bring(sessions.as_slice(), &held.history) {
+        return Err(refusal(CloseCause::OutOfMemory, held, sessions));
+    }
+    let mut all = held.spare.empty();
+    all = shares(sessions, all);
+    held.accepted.audit(&mut all);
+    let (sheet, journal) = held.taken();
+    Ok(Closed { sheet, journal })
+}
+
+// All is handed back.
+fn refusal<J: Naming, R: Wait + Drop>(
+    cause: CloseCause,
+    held: Held<J, R>,
+    sessions: Vec<Session<J>>,
+) -> CloseFault<J, R>
+    ensures { (result.cause ≡ cause) × (result.sessions ≡ sessions) }
+{
+    let shared = Shared {
+        held: Mutex::new(held),
+    };
+    CloseFault {
+        cause,
+        shared,
+        sessions,
+    }
+}
+
+// Whether none of these sessions has a number.
+fn none_has<J: Naming>(sessions: &[Session<J>], number: u32) -> bool
+    ensures { MatchBool result (Each (λ t. number ≢ t.number) sessions.now)
+        (¬ Each (λ t. number ≢ t.number) sessions.now) }
+{
+    match sessions.split_first() {
+        None => true,
+        Some((first, rest)) => first.number() != number && none_has(rest, number),
+    }
+}
+
+// Whether no two of them have one number.
+fn are_apart<J: Naming>(sessions: &[Session<J>]) -> bool
+    ensures { MatchBool result (AreApart sessions.now) (¬ AreApart sessions.now) }
+{
+    match sessions.split_first() {
+        None => true,
+        Some((first, rest)) => none_has(rest, first.number()) && are_apart(rest),
+    }
+}
+
+// Whether what each of them has seen begins a history, where their writes stand then.
+fn all_bring<J: Naming>(sessions: &[Session<J>], history: &Beginning<J>) -> bool
+    ensures { IsTrue result → Each (Brings history.now) sessions.now }
+{
+    match sessions.split_first() {
+        None => true,
+        Some((first, rest)) => first.brings(history) && all_bring(rest, history),
+    }
+}
+
+// Their shares of the ledger, beside this one.
+#[tactic(auto, using(crate::proofs::ClosedSessions::made_by_one_more))]
+fn shares<J: Naming>(mut sessions: Vec<Session<J>>, mut all: Share<J>) -> Share<J>
+    ensures { (result.parts ≡ all.parts + length sessions.items)
+        × (result.amount ≡ all.amount + made_by sessions.items) }
+{
+    match sessions.pop() {
+        None => all,
+        Some(session) => {
+            all.merge(session.into_share());
+            shares(sessions, all)
+        }
+    }
+}

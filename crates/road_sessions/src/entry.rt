@@ -1,0 +1,22 @@
+use road_scenario::Scenario;
+
+/// The most writes that a journal has room for.
+pub const MOST_WRITES: u64 = 1_000_000;
+
+/// What a session has done to the replica. A local edit stands here as the taking of that one edit.
+#[derive(Drop)]
+pub enum Command {
+    /// These edits were taken.
+    Take(Scenario),
+    /// The run was simulated up to this step.
+    Advance(u32),
+}
+
+/// A line of the journal.
+#[derive(Drop)]
+pub struct Entry {
+    /// The session that wrote, numbered from 0.
+    pub session: u32,
+    /// What it wrote.
+    pub command: Command,
+}

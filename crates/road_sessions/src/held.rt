@@ -1,0 +1,317 @@
+//! What lies under the lock.
+ghost use Rattle.std.specs.Prelude.{◌≡◌, ◌+◌, ◌<◌, ◌≤◌, ◌++◌, ◌∷◌, [], IfErr, IfOk, MatchResult, None, OnErr, OnOk, length};
+ghost use Rattle.std.specs.Arc.{arc_value};
+ghost use Rattle.left_right.specs.Sides.{view};
+ghost use Rattle.road_sheet.specs.Commands.{IsAllowed};
+ghost use Rattle.road_replica.specs.Refusals as refusals;
+ghost use Rattle.road_replica.specs.Replicas.{replica_after};
+ghost use Rattle.road_replica.specs.declared.faults.ReplicaFault.TheVariants.{OutOfMemory};
+ghost use Rattle.road_sessions.specs.declared.entry.TheConstants.{MOST_WRITES};
+ghost use Rattle.road_sessions.specs.Journals.{command_of, entry, replay};
+ghost use Rattle.road_sessions.specs.Seats.{AreFresh, IsWrite, seat};
+ghost use Rattle.road_sessions.specs.Writes.{IsMade, IsWriteRefusal, gone_after_fault, reply_to, wish_fault, wished};
+ghost use Rattle.road_sessions.specs.Writes.{write_fault};
+
+use crate::book::{Beginning, Length};
+use crate::entry::Entry;
+use crate::faults::{OpenFault, WriteFault};
+use crate::making::{made, wish_fault};
+use crate::naming::Naming;
+use crate::reading::own;
+use crate::session::Session;
+use crate::store::{Published, StoreReader, StoreWriter, publish};
+use crate::wish::Wish;
+use core::mem::replace_with;
+use left_right::Absorb;
+use road_ends::Meter;
+use road_replica::{Replica, ReplicaFault, Reply};
+use road_sheet::Sheet;
+use road_workers::Crew;
+use std::alloc::{AllocError, Global};
+use std::sync::ledger::{Book, Share};
+use std::sync::{Arc, Wait};
+
+/// The locked value: the replica as the journal leaves it, the journal, and the store's writer. Whenever the lock is
+/// free, replaying the journal gives the replica, its sheet is the published one, and the published history is the
+/// journal.
+pub struct Held<J: Naming, R: Wait + Drop>
+where
+    Published<J>: Absorb<Published<J>>,
+{
+    rt: R,
+    alloc: Global,
+    /// The store's writer.
+    pub writer: StoreWriter<J>,
+    length_word: Length<J>,
+    /// The history that is published.
+    pub history: Beginning<J>,
+    /// The replica that it leaves.
+    pub replica: Replica,
+    /// Who wrote what, in order.
+    pub journal: Vec<Entry>,
+    /// How many writes it has room for.
+    pub limit: u64,
+    /// How many sessions were opened.
+    pub sessions: u32,
+    /// How many writes were accepted.
+    pub accepted: Book<J>,
+    /// A share of no session.
+    pub spare: Share<J>,
+    pub ghost replayed: { replica ≡ replay J.replica journal.items },
+    pub ghost journalled: { history ≡ journal.items },
+    pub ghost published: { writer.desk.shown.value ≡ journal.items },
+    pub ghost counted: { accepted.total ≡ length journal.items },
+    pub ghost few: { limit ≤ MOST_WRITES },
+    pub ghost parts: { J.parts ≡ sessions },
+    pub ghost spared: { (spare.parts ≡ 0) × (spare.amount ≡ 0) },
+}
+
+impl<J: Naming, R: Wait + Drop> Drop for Held<J, R> {
+    fn drop(self) {
+        let Held {
+            rt,
+            alloc: _,
+            writer,
+            length_word: _length_word,
+            history: _history,
+            replica: _replica,
+            journal: _journal,
+            limit: _,
+            sessions: _,
+            accepted: _accepted,
+            spare: _spare,
+        } = self;
+        drop(writer.take(&rt));
+    }
+}
+
+impl<J: Naming, R: Wait + Drop> Held<J, R> {
+    /// With an empty journal; the opening sheet is published.
+    pub(crate) fn new(
+        rt: R,
+        alloc: Global,
+        writer: StoreWriter<J>,
+        length_word: Length<J>,
+        history: Beginning<J>,
+        replica: Replica,
+        limit: u64,
+        sessions: u32,
+        accepted: Book<J>,
+        spare: Share<J>,
+    ) -> Held<J, R>
+        requires replica { replica ≡ J.replica }
+        requires history { history ≡ [] }
+        requires published { writer.desk.shown.value ≡ [] }
+        requires accepted { accepted.total ≡ 0 }
+        requires few { limit ≤ MOST_WRITES }
+        requires parts { J.parts ≡ sessions }
+        requires spared { (spare.parts ≡ 0) × (spare.amount ≡ 0) }
+        ensures { result.journal.items ≡ [] }
+    {
+        Held {
+            rt,
+            alloc,
+            writer,
+            length_word,
+            history,
+            replica,
+            journal: Vec::new(alloc),
+            limit,
+            sessions,
+            accepted,
+            spare,
+        }
+    }
+
+    // The writer's queue gets its memory, so that no write has to wait for it. What it is given is published already.
+    pub(crate) fn warm(&mut self, published: Published<J>) -> Result<(), AllocError>
+        ensures { self.new.journal ≡ self.old.journal }
+    {
+        match self.writer.append(published) {
+            Ok(()) => Ok(()),
+            Err(_refused) => Err(AllocError),
+        }
+    }
+
+    /// The write of a session. Where it is accepted, its command stands at the end of the journal, readers see its
+    /// sheet, and the session's share of the ledger is one more. The answer is its place in the journal, and the reply.
+    ///
+    /// # Errors
+    ///
+    /// `JournalFull` where the journal has no room, else the replica's: its named causes in their order, then
+    /// `WorkersGone` where the crew answers so, or `OutOfMemory` where a growth was refused. All is as it was then.
+    pub fn write<C: Crew>(
+        &mut self,
+        session: u32,
+        wish: &Wish<'_>,
+        crew: &mut C,
+        meter: &mut Meter,
+        mine: &mut Share<J>,
+    ) -> Result<(u64, Reply), WriteFault>
+        requires { 0 < mine.old.parts }
+        ensures journal { OnOk result (self.new.journal.items ≡ self.old.journal.items
+            ++ entry session (wished wish.now (replay J.replica self.old.journal.items)) ∷ []) }
+        ensures reply { IfOk result (λ wrote. (wrote.0 ≡ length self.old.journal.items)
+            × (wrote.1 ≡ reply_to wish.now (replay J.replica self.old.journal.items))) }
+        ensures accepted { IfOk result
+            (λ _. write_fault self.old.limit wish.now J.replica self.old.journal.items ≡ None) }
+        ensures refused { IfErr result
+            (IsWriteRefusal (write_fault self.old.limit wish.now J.replica self.old.journal.items)) }
+        ensures unchanged { OnErr result ((self.new.journal.items ≡ self.old.journal.items)
+            × (self.new.replica ≡ self.old.replica)
+            × (self.new.writer.desk.shown.value ≡ self.old.writer.desk.shown.value)) }
+        ensures limit { self.new.limit ≡ self.old.limit }
+        ensures share { (mine.new.parts ≡ mine.old.parts) × MatchResult result
+            (λ _. mine.new.amount ≡ mine.old.amount + 1) (λ _. mine.new.amount ≡ mine.old.amount) }
+        ensures gone { MatchResult result (λ _. C.gone crew.new ≡ C.gone crew.old)
+            (λ fault. C.gone crew.new ≡ gone_after_fault fault (C.gone crew.old)) }
+    {
+        if self.journal.len() as u64 >= self.limit {
+            return Err(WriteFault::JournalFull);
+        }
+        if let Some(fault) = wish_fault(&self.replica, wish) {
+            return Err(WriteFault::Replica(fault));
+        }
+        let (replica, entry, reply) = self.next(session, wish, crew, meter)?;
+        let place = self.journal.len() as u64;
+        self.put(replica, entry, mine)?;
+        Ok((place, reply))
+    }
+
+    // The write on a copy of the replica, and its line of the journal.
+    fn next<C: Crew>(
+        &self,
+        session: u32,
+        wish: &Wish<'_>,
+        crew: &mut C,
+        meter: &mut Meter,
+    ) -> Result<(Replica, Entry, Reply), ReplicaFault>
+        requires { wish_fault wish.now self.now.replica ≡ None }
+        ensures made { IfOk result (λ next. IsMade wish.now self.now.replica next.1.command next.2 next.0) }
+        ensures session { IfOk result (λ next. next.1.session ≡ session) }
+        ensures refused { IfErr result (refusals.IsWriteRefusal None) }
+        ensures gone { MatchResult result (λ _. C.gone crew.new ≡ C.gone crew.old)
+            (λ fault. C.gone crew.new ≡ refusals.gone_after_fault fault (C.gone crew.old)) }
+    {
+        let mut replica = self.replica.copied()?;
+        let (command, reply) = made(self.alloc, &mut replica, wish, crew, meter)?;
+        Ok((replica, Entry { session, command }, reply))
+    }
+
+    // Puts the next replica in place, with its line of the journal, and publishes its sheet. What may be refused comes
+    // before anything has changed.
+    fn put(
+        &mut self,
+        replica: Replica,
+        entry: Entry,
+        mine: &mut Share<J>,
+    ) -> Result<(), ReplicaFault>
+        requires part { 0 < mine.old.parts }
+        requires room { length self.old.journal.items < self.old.limit }
+        requires allowed { IsAllowed self.old.replica.sheet.plan (command_of entry.command) }
+        requires after { replica ≡ replica_after (command_of entry.command) self.old.replica }
+        ensures journal { OnOk result (self.new.journal.items ≡ self.old.journal.items ++ entry ∷ []) }
+        ensures unchanged { OnErr result ((self.new.journal.items ≡ self.old.journal.items)
+            × (self.new.replica ≡ self.old.replica)
+            × (self.new.writer.desk.shown.value ≡ self.old.writer.desk.shown.value)) }
+        ensures limit { self.new.limit ≡ self.old.limit }
+        ensures refused { IfErr result (λ fault. fault ≡ OutOfMemory) }
+        ensures share { (mine.new.parts ≡ mine.old.parts) × MatchResult result
+            (λ _. mine.new.amount ≡ mine.old.amount + 1) (λ _. mine.new.amount ≡ mine.old.amount) }
+    {
+        let sheet = Arc::try_clone(replica.sheet())?;
+        let place = self.journal.len();
+        let Ok(()) = self.journal.push(entry) else {
+            return Err(ReplicaFault::OutOfMemory);
+        };
+        let mut history = self.history.again();
+        // Nobody else writes to the history while the lock is held, so it is no longer than what is published. No
+        // contract says so, and the refusal stands here.
+        if !history.append(&self.length_word, &self.journal[place]) {
+            self.journal.pop();
+            return Err(ReplicaFault::OutOfMemory);
+        }
+        let next = Published::new(sheet, history.again());
+        let Held { rt, writer, .. } = self;
+        replace_with(writer, (), |writer, ()| (publish(rt, writer, next), ()));
+        self.history = history;
+        self.replica = replica;
+        self.accepted.add(mine, 1);
+        Ok(())
+    }
+
+    /// The write of a session, of which `seen` is what it has seen and `reader` its place in the store. Where it is
+    /// accepted, the session has seen the history that it ends, and has found it in the store.
+    pub(crate) fn serve<C: Crew>(
+        &mut self,
+        session: u32,
+        wish: &Wish<'_>,
+        crew: &mut C,
+        meter: &mut Meter,
+        seen: &mut Beginning<J>,
+        reader: &mut StoreReader<J>,
+        mine: &mut Share<J>,
+    ) -> Result<(u64, Reply), WriteFault>
+        requires { 0 < mine.old.parts }
+        ensures wrote { MatchResult result
+            (λ wrote. IsWrite J.replica wish.now (seat session seen.old (view reader.old.place)) wrote.0 wrote.1
+            (seat session seen.new (view reader.new.place)))
+            (λ _. (seen.new ≡ seen.old) × (view reader.new.place ≡ view reader.old.place)) }
+        ensures share { (mine.new.parts ≡ mine.old.parts) × MatchResult result
+            (λ _. mine.new.amount ≡ mine.old.amount + 1) (λ _. mine.new.amount ≡ mine.old.amount) }
+        ensures gone { MatchResult result (λ _. C.gone crew.new ≡ C.gone crew.old)
+            (λ fault. C.gone crew.new ≡ gone_after_fault fault (C.gone crew.old)) }
+    {
+        // Whatever a session has seen was published. No contract says so, and the refusal stands here.
+        if !seen.begins(&self.history) {
+            return Err(WriteFault::Replica(ReplicaFault::OutOfMemory));
+        }
+        let (place, reply) = self.write(session, wish, crew, meter, mine)?;
+        self.history.known();
+        *seen = self.history.again();
+        own(&self.rt, reader, seen);
+        Ok((place, reply))
+    }
+
+    /// The sessions of a store that was just opened, numbered from 0.
+    pub(crate) fn seats(&self, mut whole: Share<J>) -> Result<Vec<Session<J>>, OpenFault>
+        requires empty { self.now.journal.items ≡ [] }
+        requires whole { (whole.parts ≡ self.now.sessions) × (whole.amount ≡ 0) }
+        ensures { IfOk result (λ seats. (length seats.items ≡ self.now.sessions) × AreFresh 0 seats.items) }
+    {
+        let mut seats = Vec::new(self.alloc);
+        for number in 0..self.sessions {
+            let Ok(reader) = self.writer.factory().reader() else {
+                return Err(OpenFault::NoPlace);
+            };
+            let seen = self.history.again();
+            let share = whole.split_off(1, 0);
+            let Ok(()) = seats.push(Session::new(number, seen, reader, share)) else {
+                return Err(OpenFault::OutOfMemory);
+            };
+        }
+        Ok(seats)
+    }
+
+    /// The sheet and the journal, without the store.
+    pub(crate) fn taken(self) -> (Arc<Sheet>, Vec<Entry>)
+        ensures journal { result.1 ≡ self.journal }
+        ensures sheet { arc_value result.0 ≡ (replay J.replica result.1.items).sheet }
+    {
+        let Held {
+            rt,
+            alloc: _,
+            writer,
+            length_word: _length_word,
+            history: _history,
+            replica,
+            journal,
+            limit: _,
+            sessions: _,
+            accepted: _accepted,
+            spare: _spare,
+        } = self;
+        drop(writer.take(&rt));
+        (replica.into_sheet(), journal)
+    }
+}

@@ -1,0 +1,27 @@
+//! Which store a session is of.
+use std::marker::Brand;
+use std::sync::ledger::Ledger;
+
+/// Names a store in the types of its sessions and receipts, so that those of another store don't fit it. A program
+/// passes [`Brand`], and each call of it that does so names a store of its own.
+pub trait Naming: Ledger {
+    ghost use Rattle.logbook.specs.Pages.{Book};
+    ghost use Rattle.road_replica.specs.Replicas.{Replica};
+
+    /// The book of the store's one history.
+    ghost book: { Book };
+
+    /// The replica that was opened.
+    ghost replica: { Replica };
+}
+
+impl Naming for Brand {
+    ghost use Rattle.std.specs.Prelude.{[]};
+    ghost use Rattle.road_plan.specs.declared.parts.WordKind.TheVariants.{Steady};
+    ghost use Rattle.road_sessions.specs.Journals.{opening_replica};
+
+    ghost book = { record { number = 0; log_name = 0; cells_name = 0 } };
+
+    ghost replica = { opening_replica
+        (record { cells = 0; exit = 0; width = 0; zones = []; inlets = []; detectors = []; words = Steady }) 0 };
+}

@@ -1,0 +1,124 @@
+//! What a session does at its place in the store.
+ghost use Rattle.std.specs.Prelude.{◌≡◌, IfSome, IfNone, MatchResult};
+ghost use Rattle.std.specs.Arc.{arc_value};
+ghost use Rattle.left_right.specs.Sides.{view};
+ghost use Rattle.road_sessions.specs.Journals.{IsLegal, replay};
+ghost use Rattle.road_sessions.specs.Looks.{HasLooked, IsLookRefusal};
+ghost use Rattle.road_sessions.specs.Private.Stores.{EntersAfterWrite, EntersToLook};
+ghost use Rattle.road_sessions.specs.Seats.{IsSeat, seat};
+
+use crate::book::Beginning;
+use crate::faults::LookFault;
+use crate::naming::Naming;
+use crate::store::{AfterWrite, StoreReader, ToLook};
+use core::mem::replace_with;
+use road_sheet::{Sheet, SheetFault};
+use std::sync::{Arc, Wait};
+
+// What was found in the store: a history, and its sheet where that can have an owner more.
+type Found<J> = (Beginning<J>, Option<Arc<Sheet>>);
+
+// Enters the store to look; nothing is found where it lets no one in.
+fn enter<J: Naming>(reader: StoreReader<J>) -> (StoreReader<J>, Option<Found<J>>)
+    ensures entered { IfSome result.1 (λ found. EntersToLook (view reader.place) found.0 (view result.0.place)) }
+    ensures sheet { IfSome result.1
+        (λ found. IfSome found.1 (λ sheet. arc_value sheet ≡ (replay J.replica found.0).sheet)) }
+    ensures refused { IfNone result.1 (view result.0.place ≡ view reader.place) }
+{
+    match reader.enter_as::<ToLook>() {
+        Ok(reading) => {
+            let published = reading.get();
+            let history = published.history().again();
+            let sheet = Arc::try_clone(published.sheet()).ok();
+            (reading.leave(), Some((history, sheet)))
+        }
+        Err(reader) => (reader, None),
+    }
+}
+
+// The same of a reader in its place.
+fn enter_here<J: Naming>(reader: &mut StoreReader<J>) -> Option<Found<J>>
+    ensures entered { IfSome result (λ found. EntersToLook (view reader.old.place) found.0 (view reader.new.place)) }
+    ensures sheet { IfSome result
+        (λ found. IfSome found.1 (λ sheet. arc_value sheet ≡ (replay J.replica found.0).sheet)) }
+    ensures refused { IfNone result (view reader.new.place ≡ view reader.old.place) }
+{
+    replace_with(reader, (), |reader, ()| enter(reader))
+}
+
+/// A session looks: it enters the store, and what is published there becomes what it has seen.
+pub(crate) fn look<J: Naming>(
+    _number: u32,
+    seen: &mut Beginning<J>,
+    reader: &mut StoreReader<J>,
+) -> Result<Arc<Sheet>, LookFault>
+    requires { IsSeat J.replica (seat _number seen.old (view reader.old.place)) }
+    ensures seat { IsSeat J.replica (seat _number seen.new (view reader.new.place)) }
+    ensures own { (view reader.new.place).own ≡ (view reader.old.place).own }
+    ensures looked { MatchResult result
+        (λ sheet. HasLooked J.replica (seat _number seen.old (view reader.old.place))
+        (seat _number seen.new (view reader.new.place))
+        × (arc_value sheet ≡ (replay J.replica seen.new).sheet))
+        (λ fault. IsLookRefusal J.replica fault (seat _number seen.old (view reader.old.place))
+        (seat _number seen.new (view reader.new.place))) }
+{
+    let Some((history, sheet)) = enter_here(reader) else {
+        return Err(LookFault::NotEntered);
+    };
+    // What is published goes on from all that the session has seen, since both begin the one history of the store, and
+    // whatever a session has seen was published before. No contract says the latter, so the refusal stands here.
+    if !seen.begins(&history) {
+        return Err(LookFault::Sheet(SheetFault::OutOfMemory));
+    }
+    history.known();
+    *seen = history;
+    match sheet {
+        Some(sheet) => Ok(sheet),
+        None => Err(LookFault::Sheet(SheetFault::OutOfMemory)),
+    }
+}
+
+// It never returns.
+fn wait_for_ever<R: Wait>(rt: &R)
+    ensures { ⊥ }
+{
+    for _ in rt.forever() {}
+    unreachable!()
+}
+
+// A reader enters at the end of its session's write.
+fn enter_after_write<J: Naming, R: Wait>(
+    rt: &R,
+    reader: StoreReader<J>,
+    written: &Beginning<J>,
+) -> StoreReader<J>
+    ensures { EntersAfterWrite (view reader.place) written.now (view result.place) }
+{
+    match reader.enter_as::<AfterWrite>() {
+        Ok(reading) => {
+            let is_written = reading.get().history().is_same(written);
+            let reader = reading.leave();
+            if !is_written {
+                wait_for_ever(rt);
+            }
+            reader
+        }
+        Err(reader) => {
+            wait_for_ever(rt);
+            reader
+        }
+    }
+}
+
+/// A session's reader enters the store at the end of its write, which is published. The writer's lock is held, so nobody
+/// else has published since, and the store lets its readers in while its writer lives. Were it not so, it would wait
+/// for ever.
+pub(crate) fn own<J: Naming, R: Wait>(rt: &R, reader: &mut StoreReader<J>, written: &Beginning<J>)
+    ensures { EntersAfterWrite (view reader.old.place) written.now (view reader.new.place) }
+{
+    replace_with(
+        reader,
+        (),
+        |reader, ()| (enter_after_write(rt, reader, written), ()),
+    )
+}

@@ -1,0 +1,350 @@
+ghost use Rattle.std.specs.Prelude.{◌≡◌, ◌⊎◌, [], IsTrue, MatchResult, None, length};
+ghost use Rattle.std.specs.Arc.{arc_value};
+ghost use mathlib.Core.List.{IsPrefix};
+ghost use Rattle.left_right.specs.Sides.{view as view_at};
+ghost use Rattle.road_sheet.specs.Sheets.{state_fault, state_of, total_of, totals_fault};
+ghost use Rattle.road_sessions.specs.Closings.{Brings};
+ghost use Rattle.road_sessions.specs.Looks.{HasLooked, IsLookRefusal, IsQuestionRefusal, sheet_seen};
+ghost use Rattle.road_sessions.specs.Seats.{IsSeat, IsWrite, newcomer, seat};
+ghost use Rattle.road_sessions.specs.Writes.{gone_after_fault};
+ghost use Rattle.road_sessions.specs.declared.wish.Wish.TheVariants as wishes;
+
+use crate::book::Beginning;
+use crate::faults::{LookFault, WriteFault};
+use crate::naming::Naming;
+use crate::reading;
+use crate::shared::{Of, Shared};
+use crate::store::StoreReader;
+use crate::wish::Wish;
+use road_cells::Road;
+use road_detector::Totals;
+use road_ends::Meter;
+use road_plan::Object;
+use road_replica::Reply;
+use road_scenario::Scenario;
+use road_sheet::Sheet;
+use road_workers::Crew;
+use std::alloc::Global;
+use std::marker::Model;
+use std::sync::ledger::Share;
+use std::sync::{Arc, Wait};
+
+/// What a session tells another: the history of all that it had seen and written. Contracts see it as that history.
+#[derive(Drop)]
+pub struct Receipt<J: Naming> {
+    history: Beginning<J>,
+}
+
+impl<J: Naming> Model for Receipt<J> {
+    ghost use Rattle.std.specs.Prelude.{List};
+    ghost use Rattle.std.specs.Coded.{codes};
+    ghost use Rattle.road_scenario.specs.Instances.EditOrder.{edits_code};
+    ghost use Rattle.road_sessions.specs.declared.entry.Entry.{Entry};
+
+    ghost Value = { List Entry };
+
+    ghost coded = { Prim.hlevel (codes, edits_code) };
+
+    ghost view = { λ r. r.history };
+}
+
+/// What is answered to an accepted write.
+#[derive(Drop)]
+pub struct Wrote<J: Naming> {
+    /// Its place in the journal, from 0.
+    pub place: u64,
+    /// The horizon, the touched step, or the stamp of the edit that was made.
+    pub reply: Reply,
+    /// The history that it ends, to be told to other sessions.
+    pub receipt: Receipt<J>,
+}
+
+/// A session of a store. It may be moved to a thread of its own. Contracts see its number, the history of all that it
+/// has seen, heard of or written, and what the store knows of its reader.
+#[derive(Drop)]
+pub struct Session<J: Naming> {
+    number: u32,
+    seen: Beginning<J>,
+    reader: StoreReader<J>,
+    share: Share<J>,
+}
+
+impl<J: Naming> Model for Session<J> {
+    ghost use Rattle.std.specs.Prelude.{◌≡◌, length};
+    ghost use Rattle.left_right.specs.Sides.{view as view_at};
+    ghost use Rattle.std.specs.Coded.{codes};
+    ghost use Rattle.road_scenario.specs.Instances.EditOrder.{edits_code};
+    ghost use Rattle.road_sessions.specs.Seats.{IsSeat, Seat, seat};
+
+    ghost Value = { Seat };
+
+    ghost coded = { Prim.hlevel (codes, edits_code) };
+
+    ghost view = { λ s. seat s.number s.seen (view_at s.reader.place) };
+
+    ghost invariant = { λ s. IsSeat J.replica (seat s.number s.seen (view_at s.reader.place))
+        × (s.share.parts ≡ 1) × (s.share.amount ≡ length (view_at s.reader.place).own) };
+}
+
+impl<J: Naming> Session<J> {
+    /// A session that has seen and written nothing.
+    pub(crate) fn new(
+        number: u32,
+        seen: Beginning<J>,
+        reader: StoreReader<J>,
+        share: Share<J>,
+    ) -> Session<J>
+        requires fresh { (seen ≡ []) × (view_at reader.place ≡ newcomer) }
+        requires share { (share.parts ≡ 1) × (share.amount ≡ 0) }
+        ensures { result ≡ seat number [] newcomer }
+    {
+        Session {
+            number,
+            seen,
+            reader,
+            share,
+        }
+    }
+
+    /// Its number, from 0.
+    pub fn number(&self) -> u32
+        ensures { result ≡ self.now.number }
+    {
+        self.number
+    }
+
+    // ---- writes, under the lock
+
+    /// The replica takes edits. The reply is the touched step.
+    ///
+    /// # Errors
+    ///
+    /// `JournalFull`, then the replica's: those of `Replica::take`. The session has seen and written no more then.
+    pub fn take<R: Wait + Drop, W: Wait, C: Crew>(
+        &mut self,
+        rt: &W,
+        shared: &Shared<J, R>,
+        scenario: &Scenario,
+        crew: &mut C,
+        meter: &mut Meter,
+    ) -> Result<Wrote<J>, WriteFault>
+        ensures wrote { MatchResult result
+            (λ wrote. IsWrite J.replica (wishes.Take scenario.entry) self.old wrote.place wrote.reply self.new
+            × (wrote.receipt ≡ self.new.seen))
+            (λ _. self.new ≡ self.old) }
+        ensures gone { MatchResult result (λ _. C.gone crew.new ≡ C.gone crew.old)
+            (λ fault. C.gone crew.new ≡ gone_after_fault fault (C.gone crew.old)) }
+    {
+        self.write(rt, shared, &Wish::Take(scenario), crew, meter)
+    }
+
+    /// The replica simulates up to a step. The reply is its horizon.
+    ///
+    /// # Errors
+    ///
+    /// `JournalFull`, then the replica's: those of `Replica::advance`. The session has seen and written no more then.
+    pub fn advance<R: Wait + Drop, W: Wait, C: Crew>(
+        &mut self,
+        rt: &W,
+        shared: &Shared<J, R>,
+        to: u32,
+        crew: &mut C,
+        meter: &mut Meter,
+    ) -> Result<Wrote<J>, WriteFault>
+        ensures wrote { MatchResult result
+            (λ wrote. IsWrite J.replica (wishes.Advance to) self.old wrote.place wrote.reply self.new
+            × (wrote.receipt ≡ self.new.seen))
+            (λ _. self.new ≡ self.old) }
+        ensures gone { MatchResult result (λ _. C.gone crew.new ≡ C.gone crew.old)
+            (λ fault. C.gone crew.new ≡ gone_after_fault fault (C.gone crew.old)) }
+    {
+        self.write(rt, shared, &Wish::Advance(to), crew, meter)
+    }
+
+    /// The replica puts a number for an object from a step on, in the object's units. The reply is the edit's stamp.
+    ///
+    /// # Errors
+    ///
+    /// `JournalFull`, then the replica's: those of `Replica::edit`. The session has seen and written no more then.
+    pub fn edit<R: Wait + Drop, W: Wait, C: Crew>(
+        &mut self,
+        rt: &W,
+        shared: &Shared<J, R>,
+        object: Object,
+        step: u32,
+        value: u32,
+        crew: &mut C,
+        meter: &mut Meter,
+    ) -> Result<Wrote<J>, WriteFault>
+        ensures wrote { MatchResult result
+            (λ wrote. IsWrite J.replica (wishes.Edit object step value) self.old wrote.place wrote.reply self.new
+            × (wrote.receipt ≡ self.new.seen))
+            (λ _. self.new ≡ self.old) }
+        ensures gone { MatchResult result (λ _. C.gone crew.new ≡ C.gone crew.old)
+            (λ fault. C.gone crew.new ≡ gone_after_fault fault (C.gone crew.old)) }
+    {
+        self.write(rt, shared, &Wish::Edit(object, step, value), crew, meter)
+    }
+
+    /// The replica withdraws what is put for an object at a step. The reply is the withdrawal's stamp.
+    ///
+    /// # Errors
+    ///
+    /// `JournalFull`, then the replica's: those of `Replica::withdraw`. The session has seen and written no more then.
+    pub fn withdraw<R: Wait + Drop, W: Wait, C: Crew>(
+        &mut self,
+        rt: &W,
+        shared: &Shared<J, R>,
+        object: Object,
+        step: u32,
+        crew: &mut C,
+        meter: &mut Meter,
+    ) -> Result<Wrote<J>, WriteFault>
+        ensures wrote { MatchResult result
+            (λ wrote. IsWrite J.replica (wishes.Withdraw object step) self.old wrote.place wrote.reply self.new
+            × (wrote.receipt ≡ self.new.seen))
+            (λ _. self.new ≡ self.old) }
+        ensures gone { MatchResult result (λ _. C.gone crew.new ≡ C.gone crew.old)
+            (λ fault. C.gone crew.new ≡ gone_after_fault fault (C.gone crew.old)) }
+    {
+        self.write(rt, shared, &Wish::Withdraw(object, step), crew, meter)
+    }
+
+    // Whatever it wishes.
+    fn write<R: Wait + Drop, W: Wait, C: Crew>(
+        &mut self,
+        rt: &W,
+        shared: &Shared<J, R>,
+        wish: &Wish<'_>,
+        crew: &mut C,
+        meter: &mut Meter,
+    ) -> Result<Wrote<J>, WriteFault>
+        ensures wrote { MatchResult result
+            (λ wrote. IsWrite J.replica wish.now self.old wrote.place wrote.reply self.new
+            × (wrote.receipt ≡ self.new.seen))
+            (λ _. self.new ≡ self.old) }
+        ensures gone { MatchResult result (λ _. C.gone crew.new ≡ C.gone crew.old)
+            (λ fault. C.gone crew.new ≡ gone_after_fault fault (C.gone crew.old)) }
+    {
+        let number = self.number;
+        let (place, reply) = shared.held.lock(rt).serve(
+            number,
+            wish,
+            crew,
+            meter,
+            &mut self.seen,
+            &mut self.reader,
+            &mut self.share,
+        )?;
+        let receipt = Receipt {
+            history: self.seen.again(),
+        };
+        Ok(Wrote {
+            place,
+            reply,
+            receipt,
+        })
+    }
+
+    // ---- looks, without a lock
+
+    /// The sheet that is published. Its history goes on from all that the session has seen and heard of, and its own
+    /// writes stand there. It never waits, and grows nothing.
+    ///
+    /// # Errors
+    ///
+    /// `NotEntered` where the store did not let the session in, which is as before then; else `Sheet(OutOfMemory)` where
+    /// the sheet can have no owner more.
+    pub fn look<S: Of<J>>(&mut self, _shared: &S) -> Result<Arc<Sheet>, LookFault>
+        ensures { MatchResult result
+            (λ sheet. HasLooked J.replica self.old self.new × (arc_value sheet ≡ sheet_seen J.replica self.new))
+            (λ fault. IsLookRefusal J.replica fault self.old self.new) }
+    {
+        reading::look(self.number, &mut self.seen, &mut self.reader)
+    }
+
+    /// The road at a step, by a look.
+    ///
+    /// # Errors
+    ///
+    /// Those of the look, else `Sheet` of what `Sheet::state` refuses.
+    pub fn state<S: Of<J>>(
+        &mut self,
+        alloc: Global,
+        shared: &S,
+        step: u32,
+    ) -> Result<Road, LookFault>
+        ensures { MatchResult result
+            (λ road. HasLooked J.replica self.old self.new × (road ≡ state_of (sheet_seen J.replica self.new) step)
+            × (state_fault (sheet_seen J.replica self.new) step ≡ None))
+            (λ fault. IsQuestionRefusal (λ sheet. state_fault sheet step) J.replica fault self.old self.new) }
+    {
+        let sheet = self.look(shared)?;
+        match sheet.state(alloc, step) {
+            Ok(road) => Ok(road),
+            Err(fault) => Err(LookFault::Sheet(fault)),
+        }
+    }
+
+    /// What a detector counts in the steps from one up to another, that one not among them, by a look.
+    ///
+    /// # Errors
+    ///
+    /// Those of the look, else `Sheet` of what `Sheet::totals` refuses.
+    pub fn totals<S: Of<J>>(
+        &mut self,
+        alloc: Global,
+        shared: &S,
+        detector: u32,
+        from: u32,
+        to: u32,
+    ) -> Result<Totals, LookFault>
+        ensures { MatchResult result
+            (λ totals. HasLooked J.replica self.old self.new
+            × (totals ≡ total_of (sheet_seen J.replica self.new) detector from to)
+            × (totals_fault (sheet_seen J.replica self.new) detector from to ≡ None))
+            (λ fault. IsQuestionRefusal (λ sheet. totals_fault sheet detector from to) J.replica fault
+            self.old self.new) }
+    {
+        let sheet = self.look(shared)?;
+        match sheet.totals(alloc, detector, from, to) {
+            Ok(totals) => Ok(totals),
+            Err(fault) => Err(LookFault::Sheet(fault)),
+        }
+    }
+
+    /// The session is told of a history: from now on it has seen that, or what it had seen where that is longer.
+    pub fn hear(&mut self, receipt: Receipt<J>)
+        ensures longer { (self.new.seen ≡ self.old.seen) ⊎ (self.new.seen ≡ receipt) }
+        ensures before { IsPrefix self.old.seen self.new.seen }
+        ensures told { IsPrefix receipt self.new.seen }
+        ensures same { (self.new.number ≡ self.old.number) × (self.new.view ≡ self.old.view) }
+    {
+        if self.seen.begins(&receipt.history) {
+            receipt.history.known();
+            self.seen = receipt.history.again();
+        }
+    }
+
+    // ---- closing
+
+    // Whether all that it has seen begins this history, where its writes stand then.
+    pub(crate) fn brings(&self, history: &Beginning<J>) -> bool
+        ensures { IsTrue result → Brings history.now self.now }
+    {
+        self.seen.begins(history)
+    }
+
+    // Its share of the ledger, which counts its writes.
+    pub(crate) fn into_share(self) -> Share<J>
+        ensures { (result.parts ≡ 1) × (result.amount ≡ length self.view.own) }
+    {
+        let Session {
+            number: _,
+            seen: _seen,
+            reader: _reader,
+            share,
+        } = self;
+        share
+    }
+}

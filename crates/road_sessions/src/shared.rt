@@ -1,0 +1,169 @@
+ghost use Rattle.std.specs.Prelude.{◌≡◌, ◌<◌, ◌≤◌, [], IfOk, length};
+ghost use Rattle.std.specs.Arc.{arc_value};
+ghost use Rattle.road_plan.specs.declared.limits.TheConstants.{MOST_REPLICAS, MOST_SESSIONS};
+ghost use Rattle.road_sessions.specs.declared.entry.TheConstants.{MOST_WRITES};
+ghost use Rattle.road_sessions.specs.Journals.{opening_replica};
+ghost use Rattle.road_sessions.specs.Seats.{AreFresh};
+
+use crate::book::EmptyBook;
+use crate::faults::OpenFault;
+use crate::held::Held;
+use crate::naming::Naming;
+use crate::session::Session;
+use crate::store::{Published, StoreWriter};
+use left_right::Absorb;
+use left_right::writer::Writer;
+use road_plan::Plan;
+use road_replica::Replica;
+use std::alloc::Global;
+use std::sync::ledger::Blank;
+use std::sync::{Arc, Mutex, Wait};
+
+/// What the sessions of a store share. Their writes lock it; their looks don't.
+#[derive(Drop)]
+pub struct Shared<J: Naming, R: Wait + Drop>
+where
+    Published<J>: Absorb<Published<J>>,
+{
+    pub(crate) held: Mutex<Held<J, R>>,
+}
+
+/// That something is what the sessions named by `J` share. It says nothing of waiting, and so a look can't wait.
+pub trait Of<J: Naming> {}
+
+impl<J: Naming, R: Wait + Drop> Of<J> for Shared<J, R> {}
+
+/// A replica that was opened for sessions, and has no name yet.
+#[derive(Drop)]
+pub struct Prepared<R: Wait + Drop> {
+    rt: R,
+    alloc: Global,
+    /// The book of its history, which is empty.
+    pub book: EmptyBook,
+    /// The replica.
+    pub replica: Replica,
+    /// How many sessions it is for.
+    pub sessions: u32,
+    limit: u64,
+    /// The ledger of accepted writes, with a part for each session.
+    pub ledger: Blank,
+    pub ghost parts: { ledger.parts ≡ sessions },
+    pub ghost within_limits: { (0 < sessions) × (sessions ≤ MOST_SESSIONS) × (limit ≤ MOST_WRITES) },
+}
+
+/// Prepares a replica of this number, below 64, for 1 to 8 sessions and 1 to 1,000,000 writes. Nothing is simulated.
+///
+/// # Errors
+///
+/// `OutOfMemory` where a growth was refused.
+pub fn prepare<R: Wait + Drop>(
+    rt: R,
+    alloc: Global,
+    plan: Arc<Plan>,
+    number: u32,
+    sessions: u32,
+    limit: u64,
+) -> Result<Prepared<R>, OpenFault>
+    requires number { number < MOST_REPLICAS }
+    requires sessions { (0 < sessions) × (sessions ≤ MOST_SESSIONS) }
+    requires limit { (0 < limit) × (limit ≤ MOST_WRITES) }
+    ensures sessions { IfOk result (λ prepared. prepared.sessions ≡ sessions) }
+    ensures replica { IfOk result (λ prepared. prepared.replica ≡ opening_replica (arc_value plan) number) }
+{
+    let replica = Replica::open(alloc, plan, number)?;
+    Ok(Prepared {
+        rt,
+        alloc,
+        book: EmptyBook::new(),
+        replica,
+        sessions,
+        limit,
+        ledger: Blank::new(u64::from(sessions)),
+    })
+}
+
+/// Opens what was prepared under the name `J`: its sessions have seen and written nothing and are numbered from 0, the
+/// opening sheet is published, and the journal is empty.
+///
+/// # Errors
+///
+/// `NoPlace` where the store gave a session no reader, else `OutOfMemory` where a growth was refused. What was prepared
+/// is given up then.
+pub fn open<J: Naming, R: Wait + Drop>(
+    prepared: Prepared<R>,
+) -> Result<(Shared<J, R>, Vec<Session<J>>), OpenFault>
+    requires book { prepared.book.seen.book ≡ J.book }
+    requires replica { prepared.replica ≡ J.replica }
+    requires ledger { (prepared.ledger.name ≡ J.name) × (prepared.ledger.parts ≡ J.parts) }
+    ensures { IfOk result (λ opened. (length opened.1.items ≡ prepared.sessions) × AreFresh 0 opened.1.items) }
+{
+    let (held, sessions) = opened::<J, R>(prepared)?;
+    let shared = Shared {
+        held: Mutex::new(held),
+    };
+    Ok((shared, sessions))
+}
+
+/// What [`open`] puts under the lock, and the sessions.
+pub fn opened<J: Naming, R: Wait + Drop>(
+    prepared: Prepared<R>,
+) -> Result<(Held<J, R>, Vec<Session<J>>), OpenFault>
+    requires book { prepared.book.seen.book ≡ J.book }
+    requires replica { prepared.replica ≡ J.replica }
+    requires ledger { (prepared.ledger.name ≡ J.name) × (prepared.ledger.parts ≡ J.parts) }
+    ensures journal { IfOk result (λ opened. opened.0.journal.items ≡ []) }
+    ensures sessions { IfOk result (λ opened. (length opened.1.items ≡ prepared.sessions)
+        × AreFresh 0 opened.1.items) }
+{
+    let Prepared {
+        rt,
+        alloc,
+        book,
+        replica,
+        sessions,
+        limit,
+        ledger,
+    } = prepared;
+    let (length_word, history) = book.of_store::<J>();
+    let sheet = Arc::try_clone(replica.sheet())?;
+    let published = Published::new(sheet, history.again());
+    let first = published.again()?;
+    let second = published.again()?;
+    let Ok(writer) = new_store(alloc, first, second, sessions) else {
+        return Err(OpenFault::OutOfMemory);
+    };
+    let (accepted, mut whole) = ledger.open::<J>();
+    let spare = whole.empty();
+    let mut held = Held::new(
+        rt,
+        alloc,
+        writer,
+        length_word,
+        history,
+        replica,
+        limit,
+        sessions,
+        accepted,
+        spare,
+    );
+    held.warm(published)?;
+    let seats = held.seats(whole)?;
+    Ok((held, seats))
+}
+
+// A store with room for so many readers, which shows one of these; both are the same.
+fn new_store<J: Naming>(
+    alloc: Global,
+    first: Published<J>,
+    second: Published<J>,
+    readers: u32,
+) -> Result<StoreWriter<J>, OpenFault>
+    requires same { first ≡ second }
+    requires readers { (0 < readers) × (readers ≤ MOST_SESSIONS) }
+    ensures { IfOk result (λ writer. writer.desk.shown.value ≡ first) }
+{
+    match Writer::new(alloc, first, second, readers as usize) {
+        Ok(writer) => Ok(writer),
+        Err(_refused) => Err(OpenFault::OutOfMemory),
+    }
+}

@@ -1,0 +1,193 @@
+//! What readers see, the rule by which they see it, and the publishing of a sheet.
+ghost use Rattle.std.specs.Prelude.{◌≡◌, ◌++◌, ◌∷◌, [], IfOk, drop};
+ghost use Rattle.std.specs.Arc.{arc_value};
+ghost use mathlib.Core.List.{IsPrefix};
+ghost use Rattle.road_sessions.specs.Journals.{replay};
+ghost use Rattle.road_sessions.specs.Private.Stores.{EndWith};
+
+use crate::book::Beginning;
+use crate::entry::Entry;
+use crate::naming::Naming;
+use crate::view::View;
+use crossbeam_utils::rule::{Outcome, Protocol};
+use left_right::Absorb;
+use left_right::reader::Reader;
+use left_right::writer::Writer;
+use road_sheet::Sheet;
+use std::alloc::AllocError;
+use std::marker::Model;
+use std::sync::{Arc, Wait};
+
+/// A sheet and the history that leaves it. Contracts see it as that history.
+#[derive(Drop)]
+pub struct Published<J: Naming> {
+    sheet: Arc<Sheet>,
+    history: Beginning<J>,
+}
+
+impl<J: Naming> Model for Published<J> {
+    ghost use Rattle.std.specs.Prelude.{◌≡◌, List};
+    ghost use Rattle.std.specs.Arc.{arc_value};
+    ghost use Rattle.std.specs.Coded.{codes};
+    ghost use Rattle.road_scenario.specs.Instances.EditOrder.{edits_code};
+    ghost use Rattle.road_sessions.specs.declared.entry.Entry.{Entry};
+    ghost use Rattle.road_sessions.specs.Journals.{replay};
+
+    ghost Value = { List Entry };
+
+    ghost coded = { Prim.hlevel (codes, edits_code) };
+
+    ghost view = { λ p. p.history };
+
+    ghost invariant = { λ p. arc_value p.sheet ≡ (replay J.replica p.history).sheet };
+}
+
+impl<J: Naming> Published<J> {
+    /// A sheet, and the history that leaves it.
+    pub(crate) fn new(sheet: Arc<Sheet>, history: Beginning<J>) -> Published<J>
+        requires { arc_value sheet ≡ (replay J.replica history).sheet }
+        ensures { result ≡ history }
+    {
+        Published { sheet, history }
+    }
+
+    /// Its sheet.
+    pub(crate) fn sheet(&self) -> &Arc<Sheet>
+        ensures { arc_value result.now ≡ (replay J.replica self.now).sheet }
+    {
+        &self.sheet
+    }
+
+    /// Its history.
+    pub(crate) fn history(&self) -> &Beginning<J>
+        ensures { result.now ≡ self.now }
+    {
+        &self.history
+    }
+
+    /// The same once more. It is refused where the sheet can have no owner more.
+    pub(crate) fn again(&self) -> Result<Published<J>, AllocError>
+        ensures { IfOk result (λ same. same ≡ self.now) }
+    {
+        let sheet = Arc::try_clone(&self.sheet)?;
+        Ok(Published {
+            sheet,
+            history: self.history.again(),
+        })
+    }
+}
+
+/// Each operation replaces the whole published value, so one that is left pending has no effect.
+impl<J: Naming> Absorb<Published<J>> for Published<J> {
+    type State = [Entry; 0];
+
+    ghost state = { λ published. published };
+
+    ghost applied = { λ published next. next };
+
+    fn absorb_first(
+        &mut self,
+        operation: &Published<J>,
+        _other: &Published<J>,
+    ) -> Result<(), AllocError> {
+        *self = operation.again()?;
+        Ok(())
+    }
+}
+
+/// The rule of the store: what a reader has found begins what is published.
+pub struct FoundFirst;
+
+impl<J: Naming> Protocol<Published<J>, View> for FoundFirst {
+    ghost use Rattle.road_sessions.specs.Private.Stores.{FoundBegins};
+    ghost use Rattle.road_sessions.specs.Seats.{newcomer};
+
+    ghost holds = { FoundBegins };
+
+    ghost first = { newcomer };
+}
+
+/// A reader enters to look.
+pub struct ToLook;
+
+impl<J: Naming> Outcome<Published<J>, View> for ToLook {
+    ghost use Rattle.road_sessions.specs.Private.Stores.{EntersToLook};
+
+    ghost then = { λ v published same w. EntersToLook v same w };
+}
+
+/// A reader enters at the end of its session's write.
+pub struct AfterWrite;
+
+impl<J: Naming> Outcome<Published<J>, View> for AfterWrite {
+    ghost use Rattle.road_sessions.specs.Private.Stores.{EntersAfterWrite};
+
+    ghost then = { λ v published same w. EntersAfterWrite v same w };
+}
+
+/// The writer publishes. What the store knows of it stays.
+pub struct ToPublish;
+
+impl<J: Naming> Outcome<Published<J>, View> for ToPublish {
+    ghost use Rattle.std.specs.Prelude.{◌≡◌};
+
+    ghost then = { λ v before after w. w ≡ v };
+}
+
+/// A session's place at the store.
+pub type StoreReader<J> = Reader<Published<J>, View, FoundFirst>;
+
+/// The one writer of a store.
+pub type StoreWriter<J> = Writer<Published<J>, Published<J>, View, FoundFirst>;
+
+// Gives the writer what it is to publish, again and again until there is memory for it.
+fn hand_over<J: Naming, R: Wait>(
+    rt: &R,
+    mut writer: StoreWriter<J>,
+    mut next: Published<J>,
+) -> StoreWriter<J>
+    ensures desk { result.desk ≡ writer.desk }
+    ensures pending { drop result.behind result.log.items ≡ drop writer.behind writer.log.items ++ next ∷ [] }
+{
+    for _ in rt.forever() {
+        match writer.append(next) {
+            Ok(()) => return writer,
+            Err(refused) => next = refused,
+        }
+    }
+    unreachable!()
+}
+
+// Publishes what is pending, again and again until it is done. The last of it has this history.
+fn show<J: Naming, R: Wait>(
+    rt: &R,
+    mut writer: StoreWriter<J>,
+    history: &Beginning<J>,
+) -> StoreWriter<J>
+    requires pending { EndWith history.now (drop writer.behind writer.log.items) }
+    requires grows { IsPrefix writer.desk.shown.value history.now }
+    ensures { result.desk.shown.value ≡ history.now }
+{
+    for _ in rt.forever() {
+        let (after, done) = writer.publish_as::<ToPublish, R>(rt);
+        match done {
+            Ok(()) => return after,
+            Err(_refused) => writer = after,
+        }
+    }
+    unreachable!()
+}
+
+/// Publishes a sheet with its history, in place of what is published or pending. It returns once that is done.
+pub(crate) fn publish<J: Naming, R: Wait>(
+    rt: &R,
+    writer: StoreWriter<J>,
+    next: Published<J>,
+) -> StoreWriter<J>
+    requires { IsPrefix writer.desk.shown.value next }
+    ensures { result.desk.shown.value ≡ next }
+{
+    let history = next.history().again();
+    let writer = hand_over(rt, writer, next);
+    show(rt, writer, &history)
+}
