@@ -1,11 +1,11 @@
 -- Worked examples: the definitions, computed.
-use Rattle.std.proofs.Common.{◌≡◌, [], ◌∷◌, true, false, codes, refl, Ok, Err, replicate}
+use Rattle.std.proofs.Common.{◌≡◌, [], ◌∷◌, true, false, codes, refl, Ok, Err, Some, None, replicate}
 use Rattle.road_plan.specs.declared.parts.WordKind.TheVariants.{Seeded, Steady}
 use Rattle.road_plan.specs.declared.object.Object.TheVariants.{Limit, Block}
 use Rattle.road_scenario.specs.declared.edit.Value.TheVariants.{Withdrawn, Put}
 use Rattle.road_format.specs.Cut.{lines_of}
 use Rattle.road_format.specs.Fields.{is_name}
-use Rattle.road_format.specs.CommandGrammar.{Edit, Withdraw, Advance, Cells, Cars, Count, Diagram, Scenario, command_of}
+use Rattle.road_format.specs.CommandGrammar.{Edit, Withdraw, Advance, Cells, Cars, Count, Diagram, Scenario, Import, Send, Heads, Beyond, Take, command_of}
 use Rattle.road_format.specs.PlanGrammar.{plan_line_of}
 use Rattle.road_format.specs.Replies as replies
 use Rattle.road_format.specs.Replies.{reply}
@@ -95,6 +95,68 @@ a_number_too_great = refl
 no_json : command_of [] ≡ Err refusals.NotJson
 unfolding road_format_on_literals
 no_json = refl
+
+-- ---- edits from outside, and messages
+
+an_import : command_of (codes "{\"import\":{\"at\":\"A\",\"edits\":[[\"limit\",0,0,7,64,2]],\"form\":1}}")
+    ≡ Ok (Import (codes "A") (record { object = Limit 0; step = 0; stamp = record { count = 7; number = 64 }; value = Put 2 } ∷ []))
+unfolding road_format_on_literals
+an_import = refl
+
+-- null is a withdrawal; the count is the greatest of 64 bits, the number the greatest of 16
+an_import_of_a_withdrawal : command_of (codes "{\"import\":{\"form\":1,\"edits\":[[\"block\",8,4,18446744073709551615,65535,null]],\"at\":\"A\"}}")
+    ≡ Ok (Import (codes "A") (record { object = Block 8; step = 4; stamp = record { count = 18446744073709551615; number = 65535 }; value = Withdrawn } ∷ []))
+unfolding road_format_on_literals
+an_import_of_a_withdrawal = refl
+
+an_import_of_nothing : command_of (codes "{\"import\":{\"at\":\"A\",\"edits\":[],\"form\":1}}") ≡ Ok (Import (codes "A") [])
+unfolding road_format_on_literals
+an_import_of_nothing = refl
+
+another_form : command_of (codes "{\"import\":{\"at\":\"A\",\"edits\":[],\"form\":2}}") ≡ Err refusals.UnknownForm
+unfolding road_format_on_literals
+another_form = refl
+
+-- the edits are asked before the form
+no_edits_in_another_form : command_of (codes "{\"import\":{\"at\":\"A\",\"edits\":[[\"limit\",0,0,7,64]],\"form\":2}}") ≡ Err refusals.NotACommand
+unfolding road_format_on_literals
+no_edits_in_another_form = refl
+
+a_form_that_is_no_number : command_of (codes "{\"import\":{\"at\":\"A\",\"edits\":[],\"form\":\"1\"}}") ≡ Err refusals.NotACommand
+unfolding road_format_on_literals
+a_form_that_is_no_number = refl
+
+a_form_where_there_is_none : command_of (codes "{\"send\":{\"at\":\"A\",\"form\":1,\"name\":\"m1\"}}") ≡ Err refusals.NotACommand
+unfolding road_format_on_literals
+a_form_where_there_is_none = refl
+
+an_edit_of_seven_items : command_of (codes "{\"import\":{\"at\":\"A\",\"edits\":[[\"limit\",0,0,7,64,2,0]],\"form\":1}}") ≡ Err refusals.NotACommand
+unfolding road_format_on_literals
+an_edit_of_seven_items = refl
+
+a_number_of_17_bits : command_of (codes "{\"import\":{\"at\":\"A\",\"edits\":[[\"limit\",0,0,7,65536,2]],\"form\":1}}") ≡ Err refusals.NotACommand
+unfolding road_format_on_literals
+a_number_of_17_bits = refl
+
+a_send : command_of (codes "{\"send\":{\"at\":\"A\",\"name\":\"m1\"}}") ≡ Ok (Send (codes "A") (codes "m1"))
+unfolding road_format_on_literals
+a_send = refl
+
+some_heads : command_of (codes "{\"heads\":{\"name\":\"h\",\"at\":\"A\"}}") ≡ Ok (Heads (codes "A") (codes "h"))
+unfolding road_format_on_literals
+some_heads = refl
+
+a_delta : command_of (codes "{\"beyond\":{\"at\":\"B\",\"heads\":\"h\",\"name\":\"d\"}}") ≡ Ok (Beyond (codes "B") (codes "h") (codes "d"))
+unfolding road_format_on_literals
+a_delta = refl
+
+a_take : command_of (codes "{\"take\":{\"at\":\"B\",\"message\":\"m1\"}}") ≡ Ok (Take (codes "B") (codes "m1"))
+unfolding road_format_on_literals
+a_take = refl
+
+a_message_without_a_name : command_of (codes "{\"send\":{\"at\":\"A\",\"name\":\"\"}}") ≡ Err refusals.NotACommand
+unfolding road_format_on_literals
+a_message_without_a_name = refl
 
 -- ---- plan lines
 
@@ -186,3 +248,29 @@ an_edit_and_a_withdrawal : reply (replies.Edits (
     ≡ codes "{\"edits\":[[\"limit\",1,10,1,0,0],[\"block\",8,4,2,0,null]],\"form\":1}\n"
 unfolding road_format_on_literals
 an_edit_and_a_withdrawal = refl
+
+touched_at_a_step : reply (replies.Touched (Some 4)) ≡ codes "{\"touched\":4}\n"
+unfolding road_format_on_literals
+touched_at_a_step = refl
+
+touched_nowhere : reply (replies.Touched None) ≡ codes "{\"touched\":null}\n"
+unfolding road_format_on_literals
+touched_nowhere = refl
+
+sent : reply (replies.Sent (codes "m1") 1) ≡ codes "{\"message\":\"m1\",\"size\":1}\n"
+unfolding road_format_on_literals
+sent = refl
+
+two_heads : reply (replies.Heads (codes "h") (
+    record { object = Limit 1; step = 10; stamp = record { count = 1; number = 0 } }
+    ∷ record { object = Block 8; step = 4; stamp = record { count = 2; number = 64 } }
+    ∷ []))
+    ≡ codes "{\"form\":1,\"heads\":[[\"limit\",1,10,1,0],[\"block\",8,4,2,64]],\"message\":\"h\"}\n"
+unfolding road_format_on_literals
+two_heads = refl
+
+a_withdrawal_beyond_heads : reply (replies.Delta (codes "d") (
+    record { object = Block 8; step = 4; stamp = record { count = 2; number = 0 }; value = Withdrawn } ∷ []))
+    ≡ codes "{\"edits\":[[\"block\",8,4,2,0,null]],\"form\":1,\"message\":\"d\"}\n"
+unfolding road_format_on_literals
+a_withdrawal_beyond_heads = refl

@@ -4,7 +4,7 @@ use Rattle.std.specs.declared.alloc.Global.{Global}
 use Rattle.serde_json.specs.Data.{Data}
 use Rattle.serde_json.specs.View.{members_of, members_view, items_view, view}
 use Rattle.serde_json.specs.declared.value.Value.{Value}
-use Rattle.road_format.specs.Fields.{member_count, only_member, two_items}
+use Rattle.road_format.specs.Fields.{member_count, only_member, item_count, two_items}
 
 -- an object has as many members as the map has entries
 pub member_count-members_of : {V : Type 0} (f : V → Data) (ms : List (String Global × V)) → member_count (members_of (map (λ m. (m.0, f m.1)) ms)) ≡ length ms
@@ -12,6 +12,10 @@ member_count-members_of f [] = refl
 member_count-members_of f (m ∷ ms) = ap suc (member_count-members_of f ms)
 
 -- ---- lists
+
+pub item_count-items_view : (vs : List Value) → item_count (items_view vs) ≡ length vs
+item_count-items_view [] = refl
+item_count-items_view (v ∷ vs) = ap suc (item_count-items_view vs)
 
 -- these, and then what was read
 abbrev pub with_front : {A : Type 0} → List A → Option (List A) → Option (List A)

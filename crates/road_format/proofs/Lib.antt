@@ -7,3 +7,4 @@ pub mod AcceptedNames
 pub mod NoOtherField
 pub mod ReplyValues
 pub mod ReplyTexts
+pub mod WrittenEdits

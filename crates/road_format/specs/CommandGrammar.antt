@@ -1,16 +1,17 @@
 -- Which lines are commands. A command is an object of one field, the command's name, whose value is the object of its
 -- fields: `at`, a replica's name, and those of the command.
-use Rattle.std.specs.Prelude.{ℕ, List, codes, if◌then◌else◌, Option, Some, None, option_map, Result}
-use Rattle.std.specs.Option.{ok_or}
+use Rattle.std.specs.Prelude.{ℕ, List, ◌==◌, codes, if◌then◌else◌, Option, Some, None, option_map, Result, Ok, Err}
 use Rattle.std.specs.Str.{bytes_eq}
 use Rattle.serde_json.specs.Data.{Data}
 use Rattle.road_format.specs.Reading.{value_of}
-use Rattle.road_format.specs.Fields.{◌>>=◌, check, has_fields, only_field, name_at, number_at}
+use Rattle.road_format.specs.Fields.{◌>>=◌, check, has_fields, only_field, name_at, number_at, long_number_at, list_at}
 use Rattle.road_format.specs.ObjectGrammar.{object_at}
+use Rattle.road_format.specs.EditGrammar as edit_grammar
 use Rattle.road_format.specs.Refusals.{result_or_refusal}
+use Rattle.road_scenario.specs.declared.edit.Edit as edit
 use Rattle.road_plan.specs.declared.object.Object.{Object}
 use Rattle.road_format.specs.declared.refusal.Refusal.{Refusal}
-use Rattle.road_format.specs.declared.refusal.Refusal.TheVariants.{NotJson, NotACommand}
+use Rattle.road_format.specs.declared.refusal.Refusal.TheVariants.{NotJson, NotACommand, UnknownForm}
 
 -- a command, with the text of the replica's name and what stands at its other fields
 pub data Command : Type 0 where
@@ -30,6 +31,18 @@ pub data Command : Type 0 where
   Diagram : List ℕ → ℕ → ℕ → Command
   -- at
   Scenario : List ℕ → Command
+  -- at, edits
+  Import : List ℕ → List edit.Edit → Command
+  -- at, name
+  Send : List ℕ → List ℕ → Command
+  -- at, name
+  Heads : List ℕ → List ℕ → Command
+  -- at, heads, name
+  Beyond : List ℕ → List ℕ → List ℕ → Command
+  -- at, message
+  Take : List ℕ → List ℕ → Command
+
+-- ---- what a replica is told and asked for itself
 
 -- the number at a field, of an object that has exactly this field and `at`
 abbrev pub only_number : List ℕ → Data → Option ℕ
@@ -82,9 +95,9 @@ scenario_in at d = do
   exact ← check (has_fields 1 d)
   Some (Scenario at)
 
--- the command of a name at a replica, with these fields
-unfoldable pub command_of_name : List ℕ → List ℕ → Data → Option Command
-command_of_name name at d =
+-- the command of a name that tells or asks one replica, with these fields
+unfoldable pub local_of_name : List ℕ → List ℕ → Data → Option Command
+local_of_name name at d =
     if bytes_eq name (codes "edit") then edit_in at d
     else if bytes_eq name (codes "withdraw") then withdraw_in at d
     else if bytes_eq name (codes "advance") then option_map (Advance at) (only_number (codes "to") d)
@@ -95,13 +108,60 @@ command_of_name name at d =
     else if bytes_eq name (codes "scenario") then scenario_in at d
     else None
 
--- the command that a value is
-unfoldable pub command_in : Data → Option Command
+-- ---- edits from outside, and messages from replica to replica
+
+-- exactly the fields `at`, `edits` and, which `form_of_name` reads, `form`
+unfoldable pub import_in : List ℕ → Data → Option Command
+import_in at d = do
+  exact ← check (has_fields 3 d)
+  edits ← list_at edit_grammar.edit_in (codes "edits") d
+  Some (Import at edits)
+
+-- the name at a field, of an object that has exactly this field and `at`
+abbrev pub only_name : List ℕ → Data → Option (List ℕ)
+only_name field d = do
+  exact ← check (has_fields 2 d)
+  name_at field d
+
+-- exactly the fields `at`, `heads` and `name`
+unfoldable pub beyond_in : List ℕ → Data → Option Command
+beyond_in at d = do
+  exact ← check (has_fields 3 d)
+  heads ← name_at (codes "heads") d
+  name ← name_at (codes "name") d
+  Some (Beyond at heads name)
+
+-- ---- every command
+
+-- the command of a name at a replica, with these fields
+unfoldable pub command_of_name : List ℕ → List ℕ → Data → Option Command
+command_of_name name at d =
+    if bytes_eq name (codes "import") then import_in at d
+    else if bytes_eq name (codes "send") then option_map (Send at) (only_name (codes "name") d)
+    else if bytes_eq name (codes "heads") then option_map (Heads at) (only_name (codes "name") d)
+    else if bytes_eq name (codes "beyond") then beyond_in at d
+    else if bytes_eq name (codes "take") then option_map (Take at) (only_name (codes "message") d)
+    else local_of_name name at d
+
+-- the form of a command of a name: what its `form` says where it has one, and else 1
+abbrev pub form_of_name : List ℕ → Data → Option ℕ
+form_of_name name d = if bytes_eq name (codes "import") then long_number_at (codes "form") d else Some 1
+
+-- the form and the command that a value is
+unfoldable pub command_in : Data → Option (ℕ × Command)
 command_in d = do
   field ← only_field d
+  form ← form_of_name field.0 field.1
   at ← name_at (codes "at") field.1
-  command_of_name field.0 at field.1
+  command ← command_of_name field.0 at field.1
+  Some (form, command)
 
--- the command that a line is, or its refusal: first a line that is no JSON, then a value that is no command
+-- the command, if its form is known: 1 alone is
+abbrev pub command_of_form : ℕ × Command → Result Command Refusal
+command_of_form read = if read.0 == 1 then Ok read.1 else Err UnknownForm
+
+-- the command that a line is, or its refusal: first a line that is no JSON, then a value that is no command, then a
+-- form that is not known
 unfoldable pub command_of : List ℕ → Result Command Refusal
-command_of line = result_or_refusal NotJson (value_of line) (λ d. ok_or (command_in d) NotACommand)
+command_of line =
+    result_or_refusal NotJson (value_of line) (λ d. result_or_refusal NotACommand (command_in d) command_of_form)

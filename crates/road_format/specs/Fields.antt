@@ -53,6 +53,14 @@ number_of_32_bits n = if nat_lt n (2 ^ 32) then Some n else None
 abbrev pub long_number_in : Data → Option ℕ
 long_number_in d = as_number d >>= as_u64
 
+-- the number, if it fits 16 bits
+abbrev pub number_of_16_bits : ℕ → Option ℕ
+number_of_16_bits n = if nat_lt n (2 ^ 16) then Some n else None
+
+-- a whole number of at most 16 bits, written without point and exponent
+abbrev pub short_number_in : Data → Option ℕ
+short_number_in d = long_number_in d >>= number_of_16_bits
+
 -- a whole number of at most 32 bits, written without point and exponent
 abbrev pub number_in : Data → Option ℕ
 number_in d = long_number_in d >>= number_of_32_bits
@@ -60,6 +68,10 @@ number_in d = long_number_in d >>= number_of_32_bits
 -- the number at a field
 abbrev pub number_at : List ℕ → Data → Option ℕ
 number_at field d = get field d >>= number_in
+
+-- the number of at most 64 bits at a field
+abbrev pub long_number_at : List ℕ → Data → Option ℕ
+long_number_at field d = get field d >>= long_number_in
 
 -- ---- names
 
@@ -76,6 +88,20 @@ abbrev pub name_at : List ℕ → Data → Option (List ℕ)
 name_at field d = get field d >>= as_str >>= name_of_text
 
 -- ---- lists
+
+-- how many items these are
+abbrev pub item_count : Items → ℕ
+item_count no_items = 0
+item_count (item d ds) = suc (item_count ds)
+
+-- whether there are items, and so many
+abbrev pub has_count : ℕ → Option Items → Bool
+has_count n None = false
+has_count n (Some ds) = item_count ds == n
+
+-- whether this is a list of so many items
+abbrev pub has_items : ℕ → Data → Bool
+has_items n d = has_count n (as_array d)
 
 -- what each item reads as; nothing, where one reads as nothing
 abbrev pub values_of_items : {A : Type 0} → (Data → Option A) → Items → Option (List A)

@@ -2,6 +2,7 @@ pub mod Cut
 pub mod Reading
 pub mod Fields
 pub mod ObjectGrammar
+pub mod EditGrammar
 pub mod Refusals
 pub mod CommandGrammar
 pub mod PlanGrammar
@@ -10,3 +11,4 @@ pub mod Views
 pub mod CutLaws
 pub mod FieldsLaws
 pub mod RepliesLaws
+pub mod EditLaws

@@ -2,7 +2,7 @@
 use Rattle.std.specs.Prelude.{ℕ, List, codes, if◌then◌else◌, Option, Some, None}
 use Rattle.std.specs.Str.{bytes_eq}
 use Rattle.serde_json.specs.Data.{Data}
-use Rattle.serde_json.specs.Find.{as_str}
+use Rattle.serde_json.specs.Find.{at, as_str}
 use Rattle.road_plan.specs.declared.object.Object.{Object}
 use Rattle.road_plan.specs.declared.object.Object.TheVariants.{Limit, Slow, Block, Inflow, Watch}
 use Rattle.road_format.specs.Fields.{◌>>=◌, number_in, items_at, two_items}
@@ -40,3 +40,7 @@ object_from both = as_str both.0 >>= λ kind. number_in both.1 >>= λ index. obj
 -- the object at a field: a list of just two items
 abbrev pub object_at : List ℕ → Data → Option Object
 object_at field d = items_at field d >>= two_items >>= object_from
+
+-- the object of which a list's first two items are a kind's name and an index
+abbrev pub object_in_front : Data → Option Object
+object_in_front d = at 0 d >>= as_str >>= λ kind. at 1 d >>= number_in >>= λ index. object_of kind index

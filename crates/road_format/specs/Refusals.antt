@@ -23,11 +23,16 @@ text_of refusals.Inlets = codes "Inlets"
 text_of refusals.Detectors = codes "Detectors"
 text_of refusals.Default = codes "Default"
 text_of refusals.NotACommand = codes "not a command"
+text_of refusals.UnknownForm = codes "unknown form"
 text_of refusals.NoReplica = codes "NoReplica"
+text_of refusals.NoMessage = codes "NoMessage"
+text_of refusals.NameTaken = codes "NameTaken"
 text_of refusals.NoObject = codes "NoObject"
 text_of refusals.Step = codes "Step"
 text_of refusals.ValueOutOfRange = codes "ValueOutOfRange"
 text_of refusals.CountsSpent = codes "CountsSpent"
+text_of refusals.Count = codes "Count"
+text_of refusals.Insider = codes "Insider"
 text_of refusals.Horizon = codes "Horizon"
 text_of refusals.NoDetector = codes "NoDetector"
 text_of refusals.Range = codes "Range"
@@ -55,6 +60,7 @@ plan_line_refusal plan_line_faults.OutOfMemory = None
 abbrev pub line_refusal : LineFault → Option Refusal
 line_refusal line_faults.NotJson = Some refusals.NotJson
 line_refusal line_faults.NotACommand = Some refusals.NotACommand
+line_refusal line_faults.UnknownForm = Some refusals.UnknownForm
 line_refusal line_faults.OutOfMemory = None
 
 -- what the next step makes of a value; where there is none, this refusal

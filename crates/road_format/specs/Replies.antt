@@ -1,5 +1,5 @@
 -- What is written for an answer: one compact JSON object and a newline.
-use Rattle.std.specs.Prelude.{ℕ, List, [], ◌∷◌, ◌++◌, map, codes}
+use Rattle.std.specs.Prelude.{ℕ, List, [], ◌∷◌, ◌++◌, map, codes, Option, Some, None}
 use Rattle.serde_json.specs.Data.{Data, null, number, unsigned, string, array, object, no_members, member}
 use Rattle.serde_json.specs.View.{items_of}
 use Rattle.serde_json.specs.Written.{compact_text}
@@ -7,6 +7,7 @@ use Rattle.road_scenario.specs.declared.edit.Stamp.{Stamp}
 use Rattle.road_scenario.specs.declared.edit.Value.{Value}
 use Rattle.road_scenario.specs.declared.edit.Value.TheVariants.{Withdrawn, Put}
 use Rattle.road_scenario.specs.declared.edit.Edit.{Edit}
+use Rattle.road_delta.specs.declared.heads.Head.{Head}
 use Rattle.road_format.specs.Cut.{newline}
 use Rattle.road_format.specs.ObjectGrammar.{kind_of, index_of}
 use Rattle.road_format.specs.Refusals.{text_of}
@@ -31,6 +32,14 @@ pub data Answer : Type 0 where
   Stamped : Stamp → Answer
   -- the edits that a replica holds
   Edits : List Edit → Answer
+  -- the first step at which a number put for an object is another than before, if there is one
+  Touched : Option ℕ → Answer
+  -- the name of a message, and how many edits it has
+  Sent : List ℕ → ℕ → Answer
+  -- the name of a message, and the heads that it has
+  Heads : List ℕ → List Head → Answer
+  -- the name of a message, and the edits that it has
+  Delta : List ℕ → List Edit → Answer
 
 -- a whole number
 abbrev pub number_data : ℕ → Data
@@ -59,6 +68,17 @@ edit_data e =
     list_data (string (kind_of e.object) ∷ number_data (index_of e.object) ∷ number_data e.step
     ∷ number_data e.stamp.count ∷ number_data e.stamp.number ∷ value_data e.value ∷ [])
 
+-- a head: kind, index, step, count, number
+abbrev pub head_data : Head → Data
+head_data h =
+    list_data (string (kind_of h.object) ∷ number_data (index_of h.object) ∷ number_data h.step
+    ∷ number_data h.stamp.count ∷ number_data h.stamp.number ∷ [])
+
+-- a step, or null where there is none
+abbrev pub step_data : Option ℕ → Data
+step_data None = null
+step_data (Some step) = number_data step
+
 -- the value that is written for an answer
 abbrev pub data_of : Answer → Data
 data_of (Open replicas) = field_data (codes "open") (number_data replicas)
@@ -73,6 +93,15 @@ data_of (Stamped stamp) =
     field_data (codes "stamp") (list_data (number_data stamp.count ∷ number_data stamp.number ∷ []))
 data_of (Edits edits) =
     object (member (codes "edits") (list_data (map edit_data edits)) (member (codes "form") (number_data 1) no_members))
+data_of (Touched step) = field_data (codes "touched") (step_data step)
+data_of (Sent message size) =
+    object (member (codes "message") (string message) (member (codes "size") (number_data size) no_members))
+data_of (Heads message heads) =
+    object (member (codes "form") (number_data 1) (member (codes "heads") (list_data (map head_data heads))
+    (member (codes "message") (string message) no_members)))
+data_of (Delta message edits) =
+    object (member (codes "edits") (list_data (map edit_data edits)) (member (codes "form") (number_data 1)
+    (member (codes "message") (string message) no_members)))
 
 -- the line that is written for an answer, as serde_json writes a value
 unfoldable pub reply : Answer → List ℕ

@@ -28,6 +28,16 @@ command_view (commands.Cars at step) = grammar.Cars (string_bytes at) step
 command_view (commands.Count at detector from to) = grammar.Count (string_bytes at) detector from to
 command_view (commands.Diagram at from to) = grammar.Diagram (string_bytes at) from to
 command_view (commands.Scenario at) = grammar.Scenario (string_bytes at)
+command_view (commands.Import at edits) = grammar.Import (string_bytes at) edits.items
+command_view (commands.Send at name) = grammar.Send (string_bytes at) (string_bytes name)
+command_view (commands.Heads at name) = grammar.Heads (string_bytes at) (string_bytes name)
+command_view (commands.Beyond at heads name) =
+    grammar.Beyond (string_bytes at) (string_bytes heads) (string_bytes name)
+command_view (commands.Take at message) = grammar.Take (string_bytes at) (string_bytes message)
+
+-- what a command and its form say
+abbrev pub formed_view : ℕ × Command → ℕ × grammar.Command
+formed_view read = (read.0, command_view read.1)
 
 -- what a plan line says
 abbrev pub plan_line_view : PlanLine → plan_grammar.PlanLine
@@ -52,6 +62,10 @@ answer_view (answers.Counted cars speeds) = replies.Counted cars speeds
 answer_view (answers.Rows rows) = replies.Rows (texts rows.items)
 answer_view (answers.Stamped stamp) = replies.Stamped stamp
 answer_view (answers.Edits edits) = replies.Edits edits.items
+answer_view (answers.Touched step) = replies.Touched step
+answer_view (answers.Sent message size) = replies.Sent (string_bytes message) size
+answer_view (answers.Heads message heads) = replies.Heads (string_bytes message) heads.items
+answer_view (answers.Delta message edits) = replies.Delta (string_bytes message) edits.items
 
 -- ---- what was returned, beside what the grammar gives
 

@@ -1,5 +1,6 @@
 use crate::refusal::Refusal;
 use road_cells::Car;
+use road_delta::Head;
 use road_scenario::{Edit, Stamp};
 
 /// What is answered to a line.
@@ -31,4 +32,27 @@ pub enum Answer {
     Stamped(Stamp),
     /// The edits that a replica holds, by object and step.
     Edits(Vec<Edit>),
+    /// The first step at which a number put for an object is another than before, if there is one.
+    Touched(Option<u32>),
+    /// A message of all the edits that a replica holds.
+    Sent {
+        /// The name of the message.
+        message: String,
+        /// How many edits it has.
+        size: u64,
+    },
+    /// A message of heads.
+    Heads {
+        /// The name of the message.
+        message: String,
+        /// The heads, by object and step.
+        heads: Vec<Head>,
+    },
+    /// A message of the edits that are beyond heads.
+    Delta {
+        /// The name of the message.
+        message: String,
+        /// The edits, by object and step.
+        edits: Vec<Edit>,
+    },
 }

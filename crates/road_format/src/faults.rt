@@ -19,6 +19,9 @@ pub enum LineFault {
     /// The value is no command.
     #[error("not a command")]
     NotACommand,
+    /// The command's form is not known.
+    #[error("unknown form")]
+    UnknownForm,
     /// There was no memory to read the line.
     #[error("no memory")]
     OutOfMemory,
@@ -53,6 +56,7 @@ impl LineFault {
         match self {
             LineFault::NotJson => Some(Refusal::NotJson),
             LineFault::NotACommand => Some(Refusal::NotACommand),
+            LineFault::UnknownForm => Some(Refusal::UnknownForm),
             LineFault::OutOfMemory => None,
         }
     }

@@ -29,11 +29,38 @@ pub(crate) fn only_field(value: &Value) -> Option<(&str, &Value)>
     Some((name.as_str(), value))
 }
 
+// Whether this value is a list of so many items.
+pub(crate) fn has_items(count: usize, value: &Value) -> bool
+    ensures { result ≡ fields.has_items count (view value.now) }
+{
+    match value.as_array() {
+        Some(items) => items.as_slice().len() == count,
+        None => false,
+    }
+}
+
+// The whole number of at most 64 bits that this value is.
+pub(crate) fn long_number_in(value: &Value) -> Option<u64>
+    ensures { result ≡ fields.long_number_in (view value.now) }
+{
+    value.as_u64()
+}
+
+// The whole number of at most 16 bits that this value is.
+pub(crate) fn short_number_in(value: &Value) -> Option<u16>
+    ensures { result ≡ fields.short_number_in (view value.now) }
+{
+    match long_number_in(value) {
+        Some(n) => u16::try_from(n).ok(),
+        None => None,
+    }
+}
+
 // The whole number of at most 32 bits that this value is.
 pub(crate) fn number_in(value: &Value) -> Option<u32>
     ensures { result ≡ fields.number_in (view value.now) }
 {
-    match value.as_u64() {
+    match long_number_in(value) {
         Some(n) => u32::try_from(n).ok(),
         None => None,
     }
@@ -45,6 +72,16 @@ pub(crate) fn number_at(field: &str, value: &Value) -> Option<u32>
 {
     match value.get(field) {
         Some(value) => number_in(value),
+        None => None,
+    }
+}
+
+// The whole number of at most 64 bits at this field.
+pub(crate) fn long_number_at(field: &str, value: &Value) -> Option<u64>
+    ensures { result ≡ fields.long_number_at field.now (view value.now) }
+{
+    match value.get(field) {
+        Some(value) => long_number_in(value),
         None => None,
     }
 }

@@ -2,6 +2,7 @@
 //! laws.
 
 ghost use Rattle.road_format.specs.CutLaws.{LinesGoOn, CutLosesNothing, LinesHaveNoNewline};
+ghost use Rattle.road_format.specs.EditLaws.{EditsReadBack};
 ghost use Rattle.road_format.specs.FieldsLaws.{NoOtherField};
 ghost use Rattle.road_format.specs.RepliesLaws.{RepliesAreLines};
 
@@ -28,4 +29,9 @@ pub fn no_other_field()
 /// A reply is one line: a newline ends it, and it has no other.
 pub fn replies_are_lines()
     ensures { RepliesAreLines }
+{}
+
+/// The edits of a reply, read as those of an `import`, are the edits that it was written for.
+pub fn edits_read_back()
+    ensures { EditsReadBack }
 {}

@@ -20,10 +20,14 @@
 
 mod answer;
 mod command;
+mod command_line;
+mod edits;
+mod exchange;
 mod faults;
 mod fields;
 mod laws;
 mod lists;
+mod local;
 mod names;
 mod object;
 mod plan_line;
@@ -32,10 +36,12 @@ mod refusal;
 mod reply;
 
 pub use answer::Answer;
-pub use command::{Command, read_command};
+pub use command::Command;
+pub use command_line::read_command;
 pub use faults::{LineFault, PlanLineFault};
 pub use laws::{
-    cut_loses_nothing, lines_go_on, lines_have_no_newline, no_other_field, replies_are_lines,
+    cut_loses_nothing, edits_read_back, lines_go_on, lines_have_no_newline, no_other_field,
+    replies_are_lines,
 };
 pub use plan_line::{PlanLine, read_plan};
 pub use refusal::Refusal;

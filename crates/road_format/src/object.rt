@@ -17,6 +17,15 @@ pub(crate) fn object_at(field: &str, value: &Value) -> Option<Object>
     object_of(kind.as_str()?, number_in(index)?)
 }
 
+// The object of which a list's first two items are a kind's name and an index.
+pub(crate) fn object_in_front(value: &Value) -> Option<Object>
+    ensures { result ≡ objects.object_in_front (view value.now) }
+{
+    let kind = value.get(0)?.as_str()?;
+    let index = number_in(value.get(1)?)?;
+    object_of(kind, index)
+}
+
 // The name of an object's kind.
 pub(crate) fn kind_of(object: Object) -> &'static str
     ensures { result.now ≡ objects.kind_of object }

@@ -28,8 +28,14 @@ pub enum Refusal {
     Default,
     /// The line is a JSON value, and no command.
     NotACommand,
+    /// The command's form is not known.
+    UnknownForm,
     /// No replica has this name.
     NoReplica,
+    /// No message has this name, or the one that has it is of another kind.
+    NoMessage,
+    /// A message has this name already.
+    NameTaken,
     /// The plan has no such object.
     NoObject,
     /// The step at which an edit acts is too great.
@@ -38,6 +44,10 @@ pub enum Refusal {
     ValueOutOfRange,
     /// No count is left for the stamp of an edit.
     CountsSpent,
+    /// The count of an edit's stamp is 0 or too great.
+    Count,
+    /// The number of an edit's stamp is one of a replica.
+    Insider,
     /// The horizon asked for is too great.
     Horizon,
     /// The plan has no such detector.
@@ -66,11 +76,16 @@ impl Refusal {
             Refusal::Detectors => "Detectors",
             Refusal::Default => "Default",
             Refusal::NotACommand => "not a command",
+            Refusal::UnknownForm => "unknown form",
             Refusal::NoReplica => "NoReplica",
+            Refusal::NoMessage => "NoMessage",
+            Refusal::NameTaken => "NameTaken",
             Refusal::NoObject => "NoObject",
             Refusal::Step => "Step",
             Refusal::ValueOutOfRange => "ValueOutOfRange",
             Refusal::CountsSpent => "CountsSpent",
+            Refusal::Count => "Count",
+            Refusal::Insider => "Insider",
             Refusal::Horizon => "Horizon",
             Refusal::NoDetector => "NoDetector",
             Refusal::Range => "Range",

@@ -4,13 +4,23 @@ ghost use Rattle.std.specs.Prelude.{◌≡◌, IfOk, string_bytes, map};
 ghost use Rattle.serde_json.specs.Data.{string};
 ghost use Rattle.serde_json.specs.View.{view};
 ghost use Rattle.road_format.specs.Replies as replies;
-ghost use Rattle.road_format.specs.Replies.{list_data, car_data, value_data, edit_data, data_of, reply};
+ghost use Rattle.road_format.specs.Replies.{
+  list_data,
+  car_data,
+  value_data,
+  edit_data,
+  head_data,
+  step_data,
+  data_of,
+  reply,
+};
 ghost use Rattle.road_format.specs.Views.{texts, car_view, answer_view};
 
 use crate::answer::Answer;
 use crate::object::{index_of, kind_of};
 use crate::refusal::Refusal;
 use road_cells::Car;
+use road_delta::Head;
 use road_plan::OutOfMemory;
 use road_scenario::{Edit, Stamp, Value as Put};
 use serde_json::{Value, json};
@@ -44,6 +54,10 @@ fn answer_value(alloc: Global, answer: &Answer) -> Result<Value, OutOfMemory>
         Answer::Rows(rows) => rows_value(alloc, rows.as_slice()),
         Answer::Stamped(stamp) => stamped_value(alloc, *stamp),
         Answer::Edits(edits) => edits_value(alloc, edits.as_slice()),
+        Answer::Touched(step) => touched_value(alloc, *step),
+        Answer::Sent { message, size } => sent_value(alloc, message.as_str(), *size),
+        Answer::Heads { message, heads } => heads_value(alloc, message.as_str(), heads.as_slice()),
+        Answer::Delta { message, edits } => delta_value(alloc, message.as_str(), edits.as_slice()),
     }
 }
 
@@ -114,6 +128,37 @@ fn edits_value(alloc: Global, edits: &[Edit]) -> Result<Value, OutOfMemory>
     json!(in alloc; {"edits": edits, "form": 1u32})
 }
 
+// The first step at which a number put is another than before.
+fn touched_value(alloc: Global, step: Option<u32>) -> Result<Value, OutOfMemory>
+    ensures { IfOk result (λ value. view value ≡ data_of (replies.Touched step)) }
+{
+    let step = step_value(alloc, step)?;
+    json!(in alloc; {"touched": step})
+}
+
+// A message of all the edits that a replica holds.
+fn sent_value(alloc: Global, message: &str, size: u64) -> Result<Value, OutOfMemory>
+    ensures { IfOk result (λ value. view value ≡ data_of (replies.Sent message.now size)) }
+{
+    json!(in alloc; {"message": message, "size": size})
+}
+
+// A message of heads.
+fn heads_value(alloc: Global, message: &str, heads: &[Head]) -> Result<Value, OutOfMemory>
+    ensures { IfOk result (λ value. view value ≡ data_of (replies.Heads message.now heads.now)) }
+{
+    let heads = head_values(alloc, heads)?;
+    json!(in alloc; {"form": 1u32, "heads": heads, "message": message})
+}
+
+// A message of the edits that are beyond heads.
+fn delta_value(alloc: Global, message: &str, edits: &[Edit]) -> Result<Value, OutOfMemory>
+    ensures { IfOk result (λ value. view value ≡ data_of (replies.Delta message.now edits.now)) }
+{
+    let edits = edit_values(alloc, edits)?;
+    json!(in alloc; {"edits": edits, "form": 1u32, "message": message})
+}
+
 // The JSON list of these cars.
 fn car_values(alloc: Global, cars: &[Car]) -> Result<Value, OutOfMemory>
     ensures { IfOk result (λ value. view value ≡ list_data (map car_data (map car_view cars.now))) }
@@ -170,6 +215,37 @@ fn edit_value(alloc: Global, edit: Edit) -> Result<Value, OutOfMemory>
     let stamp = edit.stamp;
     let value = put_value(alloc, edit.value)?;
     json!(in alloc; [kind, index, edit.step, stamp.count, stamp.number, value])
+}
+
+// The JSON list of these heads.
+fn head_values(alloc: Global, heads: &[Head]) -> Result<Value, OutOfMemory>
+    ensures { IfOk result (λ value. view value ≡ list_data (map head_data heads.now)) }
+{
+    let mut values = Vec::new(alloc);
+    for head in heads {
+        values.push(head_value(alloc, *head)?)?;
+    }
+    Ok(Value::Array(values))
+}
+
+// The JSON value of a head: kind, index, step, count, number.
+fn head_value(alloc: Global, head: Head) -> Result<Value, OutOfMemory>
+    ensures { IfOk result (λ value. view value ≡ head_data head) }
+{
+    let kind = kind_of(head.object);
+    let index = index_of(head.object);
+    let stamp = head.stamp;
+    json!(in alloc; [kind, index, head.step, stamp.count, stamp.number])
+}
+
+// The JSON value of a step, or null where there is none.
+fn step_value(alloc: Global, step: Option<u32>) -> Result<Value, OutOfMemory>
+    ensures { IfOk result (λ value. view value ≡ step_data step) }
+{
+    match step {
+        Some(step) => json!(in alloc; step),
+        None => Ok(Value::Null),
+    }
 }
 
 // The number that an edit puts, or null for a withdrawal.

@@ -7,8 +7,8 @@ use Rattle.road_format.specs.PlanGrammar.{PlanLine}
 use Rattle.road_format.specs.Replies.{reply}
 use Rattle.road_format.specs.declared.refusal.Refusal.{Refusal}
 use Rattle.road_format.proofs.CutLines.{lines_go_on, pieces_of-append}
-use Rattle.road_keeper.specs.Laboratory.{Event}
-use Rattle.road_lab.specs.Answers.{plan_reading, command_reading, opening_answer, line_answer, line_events, later_replies, session_replies, first_reading, line_replies, answers, ends_within, answers_within, is_refusal, is_plan_refused, has_more_lines}
+use Rattle.road_laboratory.specs.Laboratory.{Laboratory, opening_laboratory}
+use Rattle.road_lab.specs.Answers.{plan_reading, command_reading, opening_answer, line_answer, laboratory_after_line, later_replies, session_replies, first_reading, line_replies, answers, ends_within, answers_within, is_refusal, is_plan_refused, has_more_lines}
 use Rattle.road_lab.specs.Laws.{AnswersGoOn}
 use Rattle.road_lab.proofs.CutBytes.{IsLine, cut-more, cut-newline}
 
@@ -19,21 +19,22 @@ take_front zero a b = ([], refl)
 take_front (suc n) [] b = (take (suc n) b, refl)
 take_front {A = A} (suc n) (x ∷ a) b = let t = take_front n a b in (t.0, ap (λ (l : List A). x ∷ l) t.1)
 
-later_front : (plan : PlanLine) (events : List Event) (a b : List (List ℕ)) → (rest : List ℕ) × (later_replies plan events (a ++ b) ≡ later_replies plan events a ++ rest)
+later_front : (lab : Laboratory) (a b : List (List ℕ)) → (rest : List ℕ) × (later_replies lab (a ++ b) ≡ later_replies lab a ++ rest)
 unfolding later_replies
-later_front plan events [] b = (later_replies plan events b, refl)
-later_front plan events (l ∷ a) b =
-    let after = line_events plan events (command_reading l) in
-    let t = later_front plan after a b in
-    let one = reply (line_answer plan events (command_reading l)) in
-    (t.0, ap (λ (x : List ℕ). one ++ x) t.1 ∙ sym (append_assoc one (later_replies plan after a) t.0))
+later_front lab [] b = (later_replies lab b, refl)
+later_front lab (l ∷ a) b =
+    let after = laboratory_after_line lab (command_reading l) in
+    let t = later_front after a b in
+    let one = reply (line_answer lab (command_reading l)) in
+    (t.0, ap (λ (x : List ℕ). one ++ x) t.1 ∙ sym (append_assoc one (later_replies after a) t.0))
 
 session_front : (reading : Result PlanLine Refusal) (a b : List (List ℕ)) → (rest : List ℕ) × (session_replies reading (a ++ b) ≡ session_replies reading a ++ rest)
 session_front (Err refusal) a b = ([], sym (append-nil (reply (opening_answer (Err refusal)))))
 session_front (Ok plan) a b =
-    let t = later_front plan [] a b in
+    let lab = opening_laboratory plan in
+    let t = later_front lab a b in
     let one = reply (opening_answer (Ok plan)) in
-    (t.0, ap (λ (x : List ℕ). one ++ x) t.1 ∙ sym (append_assoc one (later_replies plan [] a) t.0))
+    (t.0, ap (λ (x : List ℕ). one ++ x) t.1 ∙ sym (append_assoc one (later_replies lab a) t.0))
 
 lines_front : (ended : Bool) (a b : List (List ℕ)) → (rest : List ℕ) × (line_replies ended (a ++ b) ≡ line_replies false a ++ rest)
 lines_front ended [] b = (line_replies ended b, refl)

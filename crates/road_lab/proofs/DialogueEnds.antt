@@ -5,7 +5,7 @@ use Rattle.std.specs.Io.KnownBytes.{Appends}
 use Rattle.road_format.specs.Cut.{newline, Pieces, pieces_of, last_line, lines_of}
 use Rattle.road_format.specs.Replies.{Refused, reply}
 use Rattle.road_format.specs.declared.refusal.Refusal.TheVariants as refusals
-use Rattle.road_keeper.specs.Kept.{Kept}
+use Rattle.road_laboratory.specs.Laboratory.{Laboratory}
 use Rattle.road_lab.specs.Answers.{first_reading, later_lines, line_replies, answers, is_refusal, is_plan_refused, has_more_lines}
 use Rattle.road_lab.specs.Dialogue.{IsAfterLines, Holds, Whole, TooLong, GoesOn, Stands, StandsAtEnd, HasAnswered, HasFinished}
 use Rattle.road_lab.specs.StreamViews.{SinkView, Stops}
@@ -73,8 +73,8 @@ last_few n a few some =
 abbrev Accepted : ℕ → ℕ → List (List ℕ) → Type 0
 Accepted n left ls = (is_refusal (first_reading true ls) ≡ false) × (left + length (later_lines ls) ≡ n)
 
-accepted_lines : (n : ℕ) (ls : List (List ℕ)) (keeper : Option Kept) (left : ℕ) → IsAfterLines n ls keeper left → 0 < length ls → Accepted n left ls
-accepted_lines n [] keeper left after some = absurd (omega arith)
+accepted_lines : (n : ℕ) (ls : List (List ℕ)) (lab : Option Laboratory) (left : ℕ) → IsAfterLines n ls lab left → 0 < length ls → Accepted n left ls
+accepted_lines n [] lab left after some = absurd (omega arith)
 accepted_lines n (first ∷ later) None left after some = absurd after
 accepted_lines n (first ∷ later) (Some kept) left after some = (rw (after.1) refl, after.3)
 
@@ -88,9 +88,9 @@ stands_accepted n a d ls e few ok = (
 
 stands_line : (n : ℕ) (a : List ℕ) (d : Dialogue) (o : Option EarlyEnd) → has_more_lines n a ≡ false → 0 < length (pieces_of a).1 → Stands n (a ++ newline ∷ []) d o → StandsAtEnd n a d o
 stands_line n a d None few some on =
-    let Family : List (List ℕ) → Type 0 = λ ls. IsAfterLines n ls d.keeper d.left in
+    let Family : List (List ℕ) → Type 0 = λ ls. IsAfterLines n ls d.laboratory d.left in
     let after = subst Family (ap (λ (p : Pieces). p.0) (cut-newline a)) on.after in
-    stands_accepted n a d _ (ended_line a some) few (accepted_lines n _ d.keeper d.left after (omega (arith, length-append (pieces_of a).0 ((pieces_of a).1 ∷ []))))
+    stands_accepted n a d _ (ended_line a some) few (accepted_lines n _ d.laboratory d.left after (omega (arith, length-append (pieces_of a).0 ((pieces_of a).1 ∷ []))))
 stands_line n a d (Some ends.BadPlan) few some refused = refused_ended a some ∙ refused
 stands_line n a d (Some ends.TooMany) few some many = let no = last_few n a few some in let yes_ = many.1 in absurd (cc)
 
@@ -112,7 +112,7 @@ line_ends n a first sink d (Err fault) few some s = stops_same first sink _ _ fa
 clear_lines : (a : List ℕ) → (pieces_of a).1 ≡ [] → lines_of a true ≡ (pieces_of a).0
 clear_lines a clear = ap (λ (r : List ℕ). (pieces_of a).0 ++ last_line true r) clear ∙ append-nil (pieces_of a).0
 
-some_kept : (n : ℕ) (ls : List (List ℕ)) (keeper : Option Kept) (left : ℕ) → IsAfterLines n ls keeper left → IsSome keeper → 0 < length ls
+some_kept : (n : ℕ) (ls : List (List ℕ)) (lab : Option Laboratory) (left : ℕ) → IsAfterLines n ls lab left → IsSome lab → 0 < length ls
 some_kept n ls None left after some = absurd (cc)
 some_kept n [] (Some kept) left after some = absurd after
 some_kept n (first ∷ later) (Some kept) left after some = omega arith
@@ -127,22 +127,22 @@ answers_clear n a clear some =
     ap (λ (ls : List (List ℕ)). line_replies true (take (suc n) ls)) (clear_lines a clear) ∙ replies_clear n (pieces_of a).0 some
     ∙ ap (λ (ls : List (List ℕ)). line_replies false (take (suc n) ls)) (sym (append-nil (pieces_of a).0))
 
-pub clear_ends : (n : ℕ) (a : List ℕ) (first sink : SinkView) (d : Dialogue) → HasAnswered n a first sink d → d.over ≡ None → d.held.items ≡ [] → d.long ≡ false → IsSome d.keeper → HasFinished n a first sink d
+pub clear_ends : (n : ℕ) (a : List ℕ) (first sink : SinkView) (d : Dialogue) → HasAnswered n a first sink d → d.over ≡ None → d.held.items ≡ [] → d.long ≡ false → IsSome d.laboratory → HasFinished n a first sink d
 clear_ends n a first sink d h none held short kept =
     let on = goes_on n a first sink d h none in
     let clear = no_rest d.held.items d.long (pieces_of a).1 on.holds held short in
-    let some = some_kept n (pieces_of a).0 d.keeper d.left on.after kept in
+    let some = some_kept n (pieces_of a).0 d.laboratory d.left on.after kept in
     let Family : Option EarlyEnd → Type 0 = λ o. StandsAtEnd n a d o in
     record {
       answered = takes_same first sink _ _ _ _ (sym (answers_clear n a clear some)) refl h.answered;
       well = h.well;
-      stands = subst Family (sym none) (stands_accepted n a d (pieces_of a).0 (clear_lines a clear) on.few (accepted_lines n (pieces_of a).0 d.keeper d.left on.after some));
+      stands = subst Family (sym none) (stands_accepted n a d (pieces_of a).0 (clear_lines a clear) on.few (accepted_lines n (pieces_of a).0 d.laboratory d.left on.after some));
     }
 
 -- ---- no line came
 
-no_lines : (n : ℕ) (ls : List (List ℕ)) (keeper : Option Kept) (left : ℕ) → IsAfterLines n ls keeper left → keeper ≡ None → ls ≡ []
-no_lines n [] keeper left after none = refl
+no_lines : (n : ℕ) (ls : List (List ℕ)) (lab : Option Laboratory) (left : ℕ) → IsAfterLines n ls lab left → lab ≡ None → ls ≡ []
+no_lines n [] lab left after none = refl
 no_lines n (first ∷ later) None left after none = absurd after
 no_lines n (first ∷ later) (Some kept) left after none = absurd (cc)
 
@@ -162,14 +162,14 @@ refused_none a none = ap (λ (ls : List (List ℕ)). is_refusal (first_reading t
 abbrev NoPlanFacts : ℕ → List ℕ → Type 0
 NoPlanFacts n a = (answers n a true ≡ answers n a false ++ reply (Refused refusals.NoPlan)) × (is_plan_refused a true ≡ true)
 
-no_plan_facts : (n : ℕ) (a : List ℕ) (d : Dialogue) → GoesOn n a d → d.held.items ≡ [] → d.long ≡ false → d.keeper ≡ None → NoPlanFacts n a
+no_plan_facts : (n : ℕ) (a : List ℕ) (d : Dialogue) → GoesOn n a d → d.held.items ≡ [] → d.long ≡ false → d.laboratory ≡ None → NoPlanFacts n a
 no_plan_facts n a d on held short kept =
     let clear = no_rest d.held.items d.long (pieces_of a).1 on.holds held short in
-    let whole = no_lines n (pieces_of a).0 d.keeper d.left on.after kept in
+    let whole = no_lines n (pieces_of a).0 d.laboratory d.left on.after kept in
     let none = none_at_all a clear whole in
     (answers_none n a none whole, refused_none a none)
 
-pub no_plan_ends : (n : ℕ) (a text all : List ℕ) (first sink sink' : SinkView) (d d' : Dialogue) (r : Result (Unit {0}) ServeFault) → HasAnswered n a first sink d → d.over ≡ None → d.held.items ≡ [] → d.long ≡ false → d.keeper ≡ None
+pub no_plan_ends : (n : ℕ) (a text all : List ℕ) (first sink sink' : SinkView) (d d' : Dialogue) (r : Result (Unit {0}) ServeFault) → HasAnswered n a first sink d → d.over ≡ None → d.held.items ≡ [] → d.long ≡ false → d.laboratory ≡ None
     → text ≡ reply (Refused refusals.NoPlan) → all ≡ d.waiting.items ++ text → Put sink sink' all d'.waiting.items r → d'.over ≡ Some ends.BadPlan
     → MatchResult r (λ _. HasFinished n a first sink' d') (λ fault. Stops first sink' (answers n a true) fault)
 no_plan_ends n a text all first sink sink' d d' (Ok done) h none held short kept says e put over =
@@ -210,10 +210,10 @@ memory_at_end n a first sink d h = stops_same first sink _ _ faults.OutOfMemory 
 
 -- ---- nobody was refused who goes on
 
-refused_after : (n : ℕ) (ls : List (List ℕ)) (keeper : Option Kept) (left : ℕ) → IsAfterLines n ls keeper left → is_refusal (first_reading false ls) ≡ false
-refused_after n [] keeper left after = refl
+refused_after : (n : ℕ) (ls : List (List ℕ)) (lab : Option Laboratory) (left : ℕ) → IsAfterLines n ls lab left → is_refusal (first_reading false ls) ≡ false
+refused_after n [] lab left after = refl
 refused_after n (first ∷ later) None left after = absurd after
 refused_after n (first ∷ later) (Some kept) left after = rw (after.1) refl
 
 pub going_accepted : (n : ℕ) (a : List ℕ) (d : Dialogue) → GoesOn n a d → is_plan_refused a false ≡ false
-going_accepted n a d on = refused_whole a ∙ refused_after n (pieces_of a).0 d.keeper d.left on.after
+going_accepted n a d on = refused_whole a ∙ refused_after n (pieces_of a).0 d.laboratory d.left on.after

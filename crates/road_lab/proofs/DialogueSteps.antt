@@ -4,15 +4,15 @@ use Rattle.road_format.specs.Cut.{newline, Pieces, pieces_of, last_line, lines_o
 use Rattle.road_format.specs.CommandGrammar.{command_of}
 use Rattle.road_format.specs.PlanGrammar.{plan_line_of}
 use Rattle.road_format.specs.Replies.{reply}
-use Rattle.road_keeper.specs.Kept.{Kept}
-use Rattle.road_lab.specs.Answers.{reading_unless, opening_answer, first_reading, line_replies, answers, is_refusal, is_plan_refused, has_more_lines}
-use Rattle.road_lab.specs.Dialogue.{opening_kept, reading_answer, kept_after_reading, IsAfterLines, Holds, GoesOn, Stands, HasAnswered}
+use Rattle.road_laboratory.specs.Laboratory.{Laboratory}
+use Rattle.road_lab.specs.Answers.{reading_unless, opening_answer, line_answer, first_reading, line_replies, answers, is_refusal, is_plan_refused, has_more_lines}
+use Rattle.road_lab.specs.Dialogue.{opened_laboratory, kept_after_line, IsAfterLines, Holds, GoesOn, Stands, HasAnswered}
 use Rattle.road_lab.specs.StreamViews.{SinkView}
 use Rattle.road_lab.specs.declared.dialogue.Dialogue.{Dialogue}
 use Rattle.road_lab.specs.declared.faults.EarlyEnd.{EarlyEnd}
 use Rattle.road_lab.specs.declared.faults.EarlyEnd.TheVariants as ends
 use Rattle.road_lab.proofs.CutBytes.{IsLine, cut-more, cut-newline}
-use Rattle.road_lab.proofs.LineReplies.{no_bytes, later_replied, later_kept, opening_replied, opening_kept_after, opening_refused}
+use Rattle.road_lab.proofs.LineReplies.{no_bytes, later_replied, later_kept, opening_replied, opened_after, opening_refused}
 use Rattle.road_lab.proofs.AnswersGrow.{few_lines, are_few, many_lines, are_many, last_len, lines-append, lines_rise, answers_few, whole_few, answers_line, answers_full, refused_stays, refused_some, answers_refused, refused_whole, some_lines, len_line, len_newline}
 use Rattle.road_lab.proofs.SinkTexts.{takes_none, takes_same}
 
@@ -52,16 +52,16 @@ stands_on n a d none on =
 abbrev Full : ℕ → List (List ℕ) → Type 0
 Full n ls = (length ls ≡ suc n) × (is_refusal (first_reading false ls) ≡ false)
 
-accepted_full : (n : ℕ) (ls : List (List ℕ)) (keeper : Option Kept) (left : ℕ) → IsAfterLines n ls keeper left → IsSome keeper → left ≡ 0 → Full n ls
+accepted_full : (n : ℕ) (ls : List (List ℕ)) (lab : Option Laboratory) (left : ℕ) → IsAfterLines n ls lab left → IsSome lab → left ≡ 0 → Full n ls
 accepted_full n ls None left after some none = absurd (cc)
 accepted_full n [] (Some kept) left after some none = absurd after
 accepted_full n (first ∷ later) (Some kept) left after some none = (omega (arith, after.3), rw (after.1) refl)
 
-pub full_more : (n : ℕ) (a b : List ℕ) (first sink : SinkView) (d d' : Dialogue) → HasAnswered n a first sink d → d.over ≡ None → IsSome d.keeper → d.left ≡ 0 → 0 < length b
+pub full_more : (n : ℕ) (a b : List ℕ) (first sink : SinkView) (d d' : Dialogue) → HasAnswered n a first sink d → d.over ≡ None → IsSome d.laboratory → d.left ≡ 0 → 0 < length b
     → d'.over ≡ Some ends.TooMany → d'.waiting ≡ d.waiting → HasAnswered n (a ++ b) first sink d'
 full_more n a b first sink d d' h none some spent more over waits =
     let g = goes_on n a first sink d h none in
-    let f = accepted_full n (pieces_of a).0 d.keeper d.left g.after some spent in
+    let f = accepted_full n (pieces_of a).0 d.laboratory d.left g.after some spent in
     let one = some_lines (pieces_of a).1 b more in
     let all = ap (λ (ls : List (List ℕ)). length ls) (lines-append a b true) in
     let refused = refused_stays a b false false (omega (arith, f.0)) (refused_whole a ∙ f.1) in
@@ -76,41 +76,41 @@ full_more n a b first sink d d' h none some spent more over waits =
 
 -- ---- bytes of a line
 
-some_room : (n : ℕ) (ls : List (List ℕ)) (keeper : Option Kept) (left : ℕ) → IsAfterLines n ls keeper left → (IsSome keeper → left ≡ 0 → ⊥) → length ls ≤ n
+some_room : (n : ℕ) (ls : List (List ℕ)) (lab : Option Laboratory) (left : ℕ) → IsAfterLines n ls lab left → (IsSome lab → left ≡ 0 → ⊥) → length ls ≤ n
 some_room n [] None left after open_ = omega arith
 some_room n [] (Some kept) left after open_ = absurd after
 some_room n (first ∷ later) None left after open_ = absurd after
 some_room n (first ∷ later) (Some kept) zero after open_ = absurd (open_ refl refl)
 some_room n (first ∷ later) (Some kept) (suc left) after open_ = omega (arith, after.3)
 
-pub room_line : (n : ℕ) (a b : List ℕ) (d : Dialogue) → GoesOn n a d → (IsSome d.keeper → d.left ≡ 0 → ⊥) → IsLine b → has_more_lines n (a ++ b) ≡ false
+pub room_line : (n : ℕ) (a b : List ℕ) (d : Dialogue) → GoesOn n a d → (IsSome d.laboratory → d.left ≡ 0 → ⊥) → IsLine b → has_more_lines n (a ++ b) ≡ false
 room_line n a b d g open_ line =
-    let room = some_room n (pieces_of a).0 d.keeper d.left g.after open_ in
+    let room = some_room n (pieces_of a).0 d.laboratory d.left g.after open_ in
     are_few n (a ++ b) (omega (arith, room, len_line a b line))
 
-pub room_newline : (n : ℕ) (a b : List ℕ) (d : Dialogue) → GoesOn n a d → (IsSome d.keeper → d.left ≡ 0 → ⊥) → IsLine b → has_more_lines n ((a ++ b) ++ newline ∷ []) ≡ false
+pub room_newline : (n : ℕ) (a b : List ℕ) (d : Dialogue) → GoesOn n a d → (IsSome d.laboratory → d.left ≡ 0 → ⊥) → IsLine b → has_more_lines n ((a ++ b) ++ newline ∷ []) ≡ false
 room_newline n a b d g open_ line =
-    let room = some_room n (pieces_of a).0 d.keeper d.left g.after open_ in
+    let room = some_room n (pieces_of a).0 d.laboratory d.left g.after open_ in
     let same = ap (λ (p : Pieces). length p.0) (cut-more a b line) in
     are_few n ((a ++ b) ++ newline ∷ []) (omega (arith, room, same, len_newline (a ++ b)))
 
-after_same : (n : ℕ) (ls ls' : List (List ℕ)) (keeper keeper' : Option Kept) (left left' : ℕ) → ls ≡ ls' → keeper ≡ keeper' → left ≡ left' → IsAfterLines n ls keeper left → IsAfterLines n ls' keeper' left'
-after_same n ls ls' keeper keeper' left left' e f g h =
-    let Lines : List (List ℕ) → Type 0 = λ x. IsAfterLines n x keeper left in
-    let Keepers : Option Kept → Type 0 = λ x. IsAfterLines n ls' x left in
-    let Lefts : ℕ → Type 0 = λ x. IsAfterLines n ls' keeper' x in
+after_same : (n : ℕ) (ls ls' : List (List ℕ)) (lab lab' : Option Laboratory) (left left' : ℕ) → ls ≡ ls' → lab ≡ lab' → left ≡ left' → IsAfterLines n ls lab left → IsAfterLines n ls' lab' left'
+after_same n ls ls' lab lab' left left' e f g h =
+    let Lines : List (List ℕ) → Type 0 = λ x. IsAfterLines n x lab left in
+    let Keepers : Option Laboratory → Type 0 = λ x. IsAfterLines n ls' x left in
+    let Lefts : ℕ → Type 0 = λ x. IsAfterLines n ls' lab' x in
     subst Lefts g (subst Keepers f (subst Lines e h))
 
 holds_same : (held held' : List ℕ) (long long' : Bool) (line line' : List ℕ) → line ≡ line' → Holds held long line → Holds held long line'
 holds_same held held' long long' line line' e h = let Family : List ℕ → Type 0 = λ x. Holds held long x in subst Family e h
 
 pub held_more : (n : ℕ) (a b : List ℕ) (first sink : SinkView) (d d' : Dialogue) → HasAnswered n a first sink d → d.over ≡ None → has_more_lines n (a ++ b) ≡ false → IsLine b
-    → d'.keeper ≡ d.keeper → d'.left ≡ d.left → d'.waiting ≡ d.waiting → d'.over ≡ d.over → Holds d'.held.items d'.long ((pieces_of a).1 ++ b) → HasAnswered n (a ++ b) first sink d'
-held_more n a b first sink d d' h none few line keeper left waits over holds =
+    → d'.laboratory ≡ d.laboratory → d'.left ≡ d.left → d'.waiting ≡ d.waiting → d'.over ≡ d.over → Holds d'.held.items d'.long ((pieces_of a).1 ++ b) → HasAnswered n (a ++ b) first sink d'
+held_more n a b first sink d d' h none few line lab left waits over holds =
     let g = goes_on n a first sink d h none in
     let c = cut-more a b line in
     let on : GoesOn n (a ++ b) d' = record {
-      after = after_same n (pieces_of a).0 (pieces_of (a ++ b)).0 d.keeper d'.keeper d.left d'.left (ap (λ (p : Pieces). p.0) (sym c)) (sym keeper) (sym left) g.after;
+      after = after_same n (pieces_of a).0 (pieces_of (a ++ b)).0 d.laboratory d'.laboratory d.left d'.left (ap (λ (p : Pieces). p.0) (sym c)) (sym lab) (sym left) g.after;
       holds = holds_same d'.held.items d'.held.items d'.long d'.long _ _ (ap (λ (p : Pieces). p.1) (sym c)) holds;
       few = few;
     } in
@@ -132,48 +132,48 @@ answers_step n a text few few' one =
 len_step : (n : ℕ) (a : List ℕ) → has_more_lines n (a ++ newline ∷ []) ≡ false → length ((pieces_of a).0 ++ (pieces_of a).1 ∷ []) ≤ suc n
 len_step n a few = omega (arith, few_lines n (a ++ newline ∷ []) few, len_newline a, length-append (pieces_of a).0 ((pieces_of a).1 ∷ []))
 
-goes_on_cleared : (n : ℕ) (a : List ℕ) (d : Dialogue) (keeper : Option Kept) (left : ℕ) → has_more_lines n (a ++ newline ∷ []) ≡ false → IsAfterLines n ((pieces_of a).0 ++ (pieces_of a).1 ∷ []) keeper left
-    → d.keeper ≡ keeper → d.left ≡ left → d.held.items ≡ [] → d.long ≡ false → GoesOn n (a ++ newline ∷ []) d
-goes_on_cleared n a d keeper left few after k l held short =
+goes_on_cleared : (n : ℕ) (a : List ℕ) (d : Dialogue) (lab : Option Laboratory) (left : ℕ) → has_more_lines n (a ++ newline ∷ []) ≡ false → IsAfterLines n ((pieces_of a).0 ++ (pieces_of a).1 ∷ []) lab left
+    → d.laboratory ≡ lab → d.left ≡ left → d.held.items ≡ [] → d.long ≡ false → GoesOn n (a ++ newline ∷ []) d
+goes_on_cleared n a d lab left few after k l held short =
     let c = cut-newline a in
     record {
-      after = after_same n _ (pieces_of (a ++ newline ∷ [])).0 keeper d.keeper left d.left (ap (λ (p : Pieces). p.0) (sym c)) (sym k) (sym l) after;
+      after = after_same n _ (pieces_of (a ++ newline ∷ [])).0 lab d.laboratory left d.left (ap (λ (p : Pieces). p.0) (sym c)) (sym k) (sym l) after;
       holds = holds_same d.held.items d.held.items d.long d.long [] _ (ap (λ (p : Pieces). p.1) (sym c)) (no_bytes d.held.items d.long held short);
       few = few;
     }
 
-keeper_after : (n : ℕ) (a : List ℕ) (d : Dialogue) (keeper : Option Kept) → GoesOn n a d → d.keeper ≡ keeper → IsAfterLines n (pieces_of a).0 keeper d.left
-keeper_after n a d keeper g is = after_same n _ _ d.keeper keeper d.left d.left refl is refl g.after
+lab_after : (n : ℕ) (a : List ℕ) (d : Dialogue) (lab : Option Laboratory) → GoesOn n a d → d.laboratory ≡ lab → IsAfterLines n (pieces_of a).0 lab d.left
+lab_after n a d lab g is = after_same n _ _ d.laboratory lab d.left d.left refl is refl g.after
 
-pub later_step : (n : ℕ) (a text : List ℕ) (d d' : Dialogue) (kept kept' : Kept) → GoesOn n a d → d.keeper ≡ Some kept → has_more_lines n (a ++ newline ∷ []) ≡ false
-    → text ≡ reply (reading_answer kept (reading_unless d.long (command_of d.held.items))) → kept' ≡ kept_after_reading kept (reading_unless d.long (command_of d.held.items))
-    → d'.keeper ≡ Some kept' → d'.left ≡ d.left - 1 → d'.held.items ≡ [] → d'.long ≡ false → d'.over ≡ None
+pub later_step : (n : ℕ) (a text : List ℕ) (d d' : Dialogue) (kept kept' : Laboratory) → GoesOn n a d → d.laboratory ≡ Some kept → has_more_lines n (a ++ newline ∷ []) ≡ false
+    → text ≡ reply (line_answer kept (reading_unless d.long (command_of d.held.items))) → kept' ≡ kept_after_line kept (reading_unless d.long (command_of d.held.items))
+    → d'.laboratory ≡ Some kept' → d'.left ≡ d.left - 1 → d'.held.items ≡ [] → d'.long ≡ false → d'.over ≡ None
     → (answers n (a ++ newline ∷ []) false ≡ answers n a false ++ text) × Stands n (a ++ newline ∷ []) d' d'.over
-later_step n a text d d' kept kept' g is few says kept_is keeper left held short over =
-    let after = keeper_after n a d (Some kept) g is in
+later_step n a text d d' kept kept' g is few says kept_is lab left held short over =
+    let after = lab_after n a d (Some kept) g is in
     let one = later_replied n (pieces_of a).0 kept d.held.items d.long d.left (pieces_of a).1 after g.holds in
     let next = later_kept n (pieces_of a).0 kept d.held.items d.long d.left (pieces_of a).1 after g.holds (len_step n a few) in (
       answers_step n a text g.few few (one ∙ ap (λ (t : List ℕ). line_replies false (pieces_of a).0 ++ t) (sym says)),
-      stands_on n (a ++ newline ∷ []) d' over (goes_on_cleared n a d' _ _ few next (keeper ∙ ap (λ (k : Kept). Some k) kept_is) left held short),
+      stands_on n (a ++ newline ∷ []) d' over (goes_on_cleared n a d' _ _ few next (lab ∙ ap (λ (k : Laboratory). Some k) kept_is) left held short),
     )
 
-pub opening_step : (n : ℕ) (a text : List ℕ) (d d' : Dialogue) → GoesOn n a d → d.keeper ≡ None → has_more_lines n (a ++ newline ∷ []) ≡ false
-    → text ≡ reply (opening_answer (reading_unless d.long (plan_line_of d.held.items))) → d'.keeper ≡ opening_kept (reading_unless d.long (plan_line_of d.held.items)) → d'.keeper ≢ None
+pub opening_step : (n : ℕ) (a text : List ℕ) (d d' : Dialogue) → GoesOn n a d → d.laboratory ≡ None → has_more_lines n (a ++ newline ∷ []) ≡ false
+    → text ≡ reply (opening_answer (reading_unless d.long (plan_line_of d.held.items))) → d'.laboratory ≡ opened_laboratory (reading_unless d.long (plan_line_of d.held.items)) → d'.laboratory ≢ None
     → d'.left ≡ d.left → d'.held.items ≡ [] → d'.long ≡ false → d'.over ≡ None
     → (answers n (a ++ newline ∷ []) false ≡ answers n a false ++ text) × Stands n (a ++ newline ∷ []) d' d'.over
-opening_step n a text d d' g is few says keeper some left held short over =
-    let after = keeper_after n a d None g is in
+opening_step n a text d d' g is few says lab some left held short over =
+    let after = lab_after n a d None g is in
     let one = opening_replied n (pieces_of a).0 d.held.items d.long d.left (pieces_of a).1 after g.holds in
-    let next = opening_kept_after n (pieces_of a).0 d'.keeper d.held.items d.long d.left (pieces_of a).1 after g.holds keeper some in (
+    let next = opened_after n (pieces_of a).0 d'.laboratory d.held.items d.long d.left (pieces_of a).1 after g.holds lab some in (
       answers_step n a text g.few few (one ∙ ap (λ (t : List ℕ). line_replies false (pieces_of a).0 ++ t) (sym says)),
       stands_on n (a ++ newline ∷ []) d' over (goes_on_cleared n a d' _ _ few next refl left held short),
     )
 
-pub refused_step : (n : ℕ) (a text : List ℕ) (d : Dialogue) (keeper : Option Kept) → GoesOn n a d → d.keeper ≡ None → has_more_lines n (a ++ newline ∷ []) ≡ false
-    → text ≡ reply (opening_answer (reading_unless d.long (plan_line_of d.held.items))) → keeper ≡ opening_kept (reading_unless d.long (plan_line_of d.held.items)) → keeper ≡ None
+pub refused_step : (n : ℕ) (a text : List ℕ) (d : Dialogue) (lab : Option Laboratory) → GoesOn n a d → d.laboratory ≡ None → has_more_lines n (a ++ newline ∷ []) ≡ false
+    → text ≡ reply (opening_answer (reading_unless d.long (plan_line_of d.held.items))) → lab ≡ opened_laboratory (reading_unless d.long (plan_line_of d.held.items)) → lab ≡ None
     → (answers n (a ++ newline ∷ []) false ≡ answers n a false ++ text) × (is_plan_refused (a ++ newline ∷ []) false ≡ true)
-refused_step n a text d keeper g is few says kept none =
-    let after = keeper_after n a d None g is in
+refused_step n a text d lab g is few says kept none =
+    let after = lab_after n a d None g is in
     let one = opening_replied n (pieces_of a).0 d.held.items d.long d.left (pieces_of a).1 after g.holds in (
       answers_step n a text g.few few (one ∙ ap (λ (t : List ℕ). line_replies false (pieces_of a).0 ++ t) (sym says)),
       refused_whole (a ++ newline ∷ []) ∙ ap (λ (p : Pieces). is_refusal (first_reading false p.0)) (cut-newline a)
@@ -186,12 +186,12 @@ no_answers : (n : ℕ) → answers n [] false ≡ []
 unfolding answers
 no_answers n = refl
 
-pub nothing_came : (n : ℕ) (first : SinkView) (d : Dialogue) → d.keeper ≡ None → d.left ≡ n → d.held.items ≡ [] → d.long ≡ false → d.over ≡ None → d.waiting.items ≡ [] → HasAnswered n [] first first d
-nothing_came n first d keeper left held short over waits = record {
+pub nothing_came : (n : ℕ) (first : SinkView) (d : Dialogue) → d.laboratory ≡ None → d.left ≡ n → d.held.items ≡ [] → d.long ≡ false → d.over ≡ None → d.waiting.items ≡ [] → HasAnswered n [] first first d
+nothing_came n first d lab left held short over waits = record {
   answered = takes_same first first [] _ [] _ (sym (no_answers n)) (sym waits) (takes_none first []);
   well = refl;
   stands = stands_on n [] d over (record {
-    after = after_same n [] [] None d.keeper n d.left refl (sym keeper) (sym left) refl;
+    after = after_same n [] [] None d.laboratory n d.left refl (sym lab) (sym left) refl;
     holds = no_bytes d.held.items d.long held short;
     few = are_few n [] (omega arith);
   });

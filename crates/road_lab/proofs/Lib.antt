@@ -8,5 +8,6 @@ pub mod DialogueSteps
 pub mod DialogueCalls
 pub mod DialogueEnds
 pub mod RunEnds
+pub mod CommandLines
 mod Examples
 mod PlanFaults

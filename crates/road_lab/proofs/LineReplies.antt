@@ -7,54 +7,48 @@ use Rattle.road_format.specs.CommandGrammar.{Command, command_of}
 use Rattle.road_format.specs.PlanGrammar.{PlanLine, plan_line_of}
 use Rattle.road_format.specs.Replies.{Answer, reply}
 use Rattle.road_format.specs.declared.refusal.Refusal.{Refusal}
-use Rattle.road_keeper.specs.Laboratory.{Event}
-use Rattle.road_keeper.specs.Kept.{Kept, start}
-use Rattle.road_keeper.proofs.KeptAnswers.{Agrees, answer_agrees, after_agrees, start_agrees}
-use Rattle.road_lab.specs.Answers.{is_long, reading_unless, plan_reading, command_reading, opening_answer, line_answer, line_events, later_replies, session_replies, first_reading, line_replies, is_refusal}
-use Rattle.road_lab.specs.Dialogue.{opening_kept, reading_answer, kept_after_reading, kept_after_lines, IsAfterLines, Holds, Whole, TooLong}
+use Rattle.road_laboratory.specs.Laboratory.{Laboratory, laboratory_of_winners, opening_laboratory}
+use Rattle.road_laboratory.proofs.WinnersSuffice.{after-of_winners, answer-of_winners}
+use Rattle.road_world.proofs.WinnersSuffice.{opening_world-of_winners}
+use Rattle.road_world.specs.Events.{World}
+use Rattle.road_lab.specs.Answers.{is_long, reading_unless, plan_reading, command_reading, opening_answer, line_answer, laboratory_after_line, later_replies, session_replies, first_reading, line_replies, is_refusal}
+use Rattle.road_lab.specs.Dialogue.{opened_laboratory, kept_after_line, laboratory_after_lines, IsAfterLines, Holds, Whole, TooLong}
 
 -- ---- later lines
 
--- the events after these later lines
-abbrev events_after_lines : PlanLine → List Event → List (List ℕ) → List Event
-events_after_lines plan events [] = events
-events_after_lines plan events (line ∷ lines) = events_after_lines plan (line_events plan events (command_reading line)) lines
+replies-snoc : (lab : Laboratory) (ls : List (List ℕ)) (l : List ℕ)
+    → later_replies lab (ls ++ l ∷ []) ≡ later_replies lab ls ++ reply (line_answer (laboratory_after_lines lab ls) (command_reading l))
+unfolding later_replies laboratory_after_lines
+replies-snoc lab [] l = append-nil (reply (line_answer lab (command_reading l)))
+replies-snoc lab (x ∷ ls) l =
+    let one = reply (line_answer lab (command_reading x)) in
+    let after = laboratory_after_line lab (command_reading x) in
+    ap (λ (t : List ℕ). one ++ t) (replies-snoc after ls l)
+    ∙ sym (append_assoc one (later_replies after ls) (reply (line_answer (laboratory_after_lines after ls) (command_reading l))))
 
-replies-snoc : (plan : PlanLine) (events : List Event) (ls : List (List ℕ)) (l : List ℕ)
-    → later_replies plan events (ls ++ l ∷ []) ≡ later_replies plan events ls ++ reply (line_answer plan (events_after_lines plan events ls) (command_reading l))
-unfolding later_replies
-replies-snoc plan events [] l = append-nil (reply (line_answer plan events (command_reading l)))
-replies-snoc plan events (x ∷ ls) l =
-    let one = reply (line_answer plan events (command_reading x)) in
-    let after = line_events plan events (command_reading x) in
-    ap (λ (t : List ℕ). one ++ t) (replies-snoc plan after ls l)
-    ∙ sym (append_assoc one (later_replies plan after ls) (reply (line_answer plan (events_after_lines plan after ls) (command_reading l))))
+after-snoc : (lab : Laboratory) (ls : List (List ℕ)) (l : List ℕ) → laboratory_after_lines lab (ls ++ l ∷ []) ≡ laboratory_after_line (laboratory_after_lines lab ls) (command_reading l)
+unfolding laboratory_after_lines
+after-snoc lab [] l = refl
+after-snoc lab (x ∷ ls) l = after-snoc (laboratory_after_line lab (command_reading x)) ls l
 
-kept-snoc : (kept : Kept) (ls : List (List ℕ)) (l : List ℕ) → kept_after_lines kept (ls ++ l ∷ []) ≡ kept_after_reading (kept_after_lines kept ls) (command_reading l)
-unfolding kept_after_lines
-kept-snoc kept [] l = refl
-kept-snoc kept (x ∷ ls) l = kept-snoc (kept_after_reading kept (command_reading x)) ls l
+-- the winners suffice for the answer to a line, and for the winners after it
+answered_by_winners : (lab : Laboratory) (reading : Result Command Refusal) → line_answer (laboratory_of_winners lab) reading ≡ line_answer lab reading
+answered_by_winners lab (Err refusal) = refl
+answered_by_winners lab (Ok command) = answer-of_winners lab command
 
--- what is kept agrees with the events, line by line
-reading_agrees : (kept : Kept) (plan : PlanLine) (events : List Event) (reading : Result Command Refusal) → Agrees kept plan events → reading_answer kept reading ≡ line_answer plan events reading
-reading_agrees kept plan events (Err refusal) a = refl
-reading_agrees kept plan events (Ok command) a = answer_agrees kept plan events command a
+kept_by_winners : (lab : Laboratory) (reading : Result Command Refusal) → kept_after_line (laboratory_of_winners lab) reading ≡ laboratory_of_winners (laboratory_after_line lab reading)
+kept_by_winners lab (Err refusal) = refl
+kept_by_winners lab (Ok command) = after-of_winners lab command
 
-agrees_after : (kept : Kept) (plan : PlanLine) (events : List Event) (reading : Result Command Refusal) → Agrees kept plan events → Agrees (kept_after_reading kept reading) plan (line_events plan events reading)
-agrees_after kept plan events (Err refusal) a = a
-agrees_after kept plan events (Ok command) a = after_agrees kept plan events command a
+opening-of_winners : (plan : PlanLine) → laboratory_of_winners (opening_laboratory plan) ≡ opening_laboratory plan
+opening-of_winners plan =
+    ap (λ (w : World). let lab : Laboratory = record { replica_names = plan.names; message_names = []; world = w } in lab)
+    (opening_world-of_winners plan.plan (length plan.names))
 
-agrees_lines : (kept : Kept) (plan : PlanLine) (events : List Event) (ls : List (List ℕ)) → Agrees kept plan events → Agrees (kept_after_lines kept ls) plan (events_after_lines plan events ls)
-unfolding kept_after_lines
-agrees_lines kept plan events [] a = a
-agrees_lines kept plan events (l ∷ ls) a =
-    agrees_lines (kept_after_reading kept (command_reading l)) plan (line_events plan events (command_reading l)) ls (agrees_after kept plan events (command_reading l) a)
-
-later_more : (plan : PlanLine) (ls : List (List ℕ)) (l : List ℕ)
-    → later_replies plan [] (ls ++ l ∷ []) ≡ later_replies plan [] ls ++ reply (reading_answer (kept_after_lines (start plan) ls) (command_reading l))
-later_more plan ls l =
-    let same = reading_agrees (kept_after_lines (start plan) ls) plan (events_after_lines plan [] ls) (command_reading l) (agrees_lines (start plan) plan [] ls (start_agrees plan)) in
-    replies-snoc plan [] ls l ∙ ap (λ (a : Answer). later_replies plan [] ls ++ reply a) (sym same)
+later_more : (lab : Laboratory) (ls : List (List ℕ)) (l : List ℕ)
+    → later_replies lab (ls ++ l ∷ []) ≡ later_replies lab ls ++ reply (line_answer (laboratory_of_winners (laboratory_after_lines lab ls)) (command_reading l))
+later_more lab ls l =
+    replies-snoc lab ls l ∙ ap (λ (a : Answer). later_replies lab ls ++ reply a) (sym (answered_by_winners (laboratory_after_lines lab ls) (command_reading l)))
 
 -- ---- the line that is held
 
@@ -72,33 +66,39 @@ no_bytes held long none short = Whole none (omega arith) short
 
 -- ---- it ends as a later line
 
+-- what is kept after the later lines of a plan
+abbrev kept_after_lines : PlanLine → List (List ℕ) → Laboratory
+kept_after_lines plan ls = laboratory_of_winners (laboratory_after_lines (opening_laboratory plan) ls)
+
 session-snoc : (plan : PlanLine) (reading : Result PlanLine Refusal) (later : List (List ℕ)) (l : List ℕ) → reading ≡ Ok plan
-    → session_replies reading (later ++ l ∷ []) ≡ session_replies reading later ++ reply (reading_answer (kept_after_lines (start plan) later) (command_reading l))
+    → session_replies reading (later ++ l ∷ []) ≡ session_replies reading later ++ reply (line_answer (kept_after_lines plan later) (command_reading l))
 session-snoc plan (Err refusal) later l is = absurd (cc)
 session-snoc plan (Ok read) later l is =
     let same : read ≡ plan = cc in
     let opened = reply (opening_answer (Ok read)) in
-    let next : List ℕ = reply (reading_answer (kept_after_lines (start read) later) (command_reading l)) in
-    ap (λ (t : List ℕ). opened ++ t) (later_more read later l) ∙ sym (append_assoc opened (later_replies read [] later) next)
-    ∙ ap (λ (p : PlanLine). session_replies (Ok read) later ++ reply (reading_answer (kept_after_lines (start p) later) (command_reading l))) same
+    let next : List ℕ = reply (line_answer (kept_after_lines read later) (command_reading l)) in
+    ap (λ (t : List ℕ). opened ++ t) (later_more (opening_laboratory read) later l) ∙ sym (append_assoc opened (later_replies (opening_laboratory read) later) next)
+    ∙ ap (λ (p : PlanLine). session_replies (Ok read) later ++ reply (line_answer (kept_after_lines p later) (command_reading l))) same
 
-pub later_replied : (n : ℕ) (ls : List (List ℕ)) (kept : Kept) (held : List ℕ) (long : Bool) (left : ℕ) (l : List ℕ) → IsAfterLines n ls (Some kept) left → Holds held long l
-    → line_replies false (ls ++ l ∷ []) ≡ line_replies false ls ++ reply (reading_answer kept (reading_unless long (command_of held)))
+pub later_replied : (n : ℕ) (ls : List (List ℕ)) (kept : Laboratory) (held : List ℕ) (long : Bool) (left : ℕ) (l : List ℕ) → IsAfterLines n ls (Some kept) left → Holds held long l
+    → line_replies false (ls ++ l ∷ []) ≡ line_replies false ls ++ reply (line_answer kept (reading_unless long (command_of held)))
 later_replied n [] kept held long left l after holds = absurd after
 later_replied n (first ∷ later) kept held long left l after holds =
     let read = held_reading command_of held long l holds in
     session-snoc after.0 (plan_reading first) later l after.1
-    ∙ ap (λ (k : Kept). session_replies (plan_reading first) later ++ reply (reading_answer k (command_reading l))) (sym after.2)
-    ∙ ap (λ (r : Result Command Refusal). session_replies (plan_reading first) later ++ reply (reading_answer kept r)) (sym read)
+    ∙ ap (λ (k : Laboratory). session_replies (plan_reading first) later ++ reply (line_answer k (command_reading l))) (sym after.2)
+    ∙ ap (λ (r : Result Command Refusal). session_replies (plan_reading first) later ++ reply (line_answer kept r)) (sym read)
 
-pub later_kept : (n : ℕ) (ls : List (List ℕ)) (kept : Kept) (held : List ℕ) (long : Bool) (left : ℕ) (l : List ℕ) → IsAfterLines n ls (Some kept) left → Holds held long l → length (ls ++ l ∷ []) ≤ suc n
-    → IsAfterLines n (ls ++ l ∷ []) (Some (kept_after_reading kept (reading_unless long (command_of held)))) (left - 1)
+pub later_kept : (n : ℕ) (ls : List (List ℕ)) (kept : Laboratory) (held : List ℕ) (long : Bool) (left : ℕ) (l : List ℕ) → IsAfterLines n ls (Some kept) left → Holds held long l → length (ls ++ l ∷ []) ≤ suc n
+    → IsAfterLines n (ls ++ l ∷ []) (Some (kept_after_line kept (reading_unless long (command_of held)))) (left - 1)
 later_kept n [] kept held long left l after holds few = absurd after
 later_kept n (first ∷ later) kept held long left l after holds few =
-    let read = held_reading command_of held long l holds in (
+    let read = held_reading command_of held long l holds in
+    let lab = laboratory_after_lines (opening_laboratory after.0) later in (
       after.0,
       after.1,
-      ap (kept_after_reading kept) read ∙ ap (λ (k : Kept). kept_after_reading k (command_reading l)) after.2 ∙ sym (kept-snoc (start after.0) later l),
+      ap (kept_after_line kept) read ∙ ap (λ (k : Laboratory). kept_after_line k (command_reading l)) after.2
+          ∙ kept_by_winners lab (command_reading l) ∙ ap laboratory_of_winners (sym (after-snoc (opening_laboratory after.0) later l)),
       omega (arith, after.3, length-append later (l ∷ [])),
     )
 
@@ -114,23 +114,23 @@ pub opening_replied : (n : ℕ) (ls : List (List ℕ)) (held : List ℕ) (long :
 opening_replied n [] held long left l after holds = opened (plan_reading l) ∙ ap (λ (r : Result PlanLine Refusal). reply (opening_answer r)) (sym (held_reading plan_line_of held long l holds))
 opening_replied n (first ∷ later) held long left l after holds = absurd after
 
-accepted : (n left : ℕ) (keeper : Option Kept) (l : List ℕ) (reading : Result PlanLine Refusal) → plan_reading l ≡ reading → keeper ≡ opening_kept reading → keeper ≢ None → left ≡ n → IsAfterLines n (l ∷ []) keeper left
-unfolding kept_after_lines
+accepted : (n left : ℕ) (lab : Option Laboratory) (l : List ℕ) (reading : Result PlanLine Refusal) → plan_reading l ≡ reading → lab ≡ opened_laboratory reading → lab ≢ None → left ≡ n → IsAfterLines n (l ∷ []) lab left
+unfolding laboratory_after_lines
 accepted n left None l reading read is some all = absurd (some refl)
 accepted n left (Some kept) l (Err refusal) read is some all = absurd (cc)
-accepted n left (Some kept) l (Ok plan) read is some all = let same : kept ≡ start plan = cc in (plan, read, same, omega arith)
+accepted n left (Some kept) l (Ok plan) read is some all = let same : kept ≡ opening_laboratory plan = cc in (plan, read, same ∙ sym (opening-of_winners plan), omega arith)
 
-pub opening_kept_after : (n : ℕ) (ls : List (List ℕ)) (keeper : Option Kept) (held : List ℕ) (long : Bool) (left : ℕ) (l : List ℕ) → IsAfterLines n ls None left → Holds held long l
-    → keeper ≡ opening_kept (reading_unless long (plan_line_of held)) → keeper ≢ None → IsAfterLines n (ls ++ l ∷ []) keeper left
-opening_kept_after n [] keeper held long left l after holds is some =
-    accepted n left keeper l (plan_reading l) refl (is ∙ ap opening_kept (held_reading plan_line_of held long l holds)) some after
-opening_kept_after n (first ∷ later) keeper held long left l after holds is some = absurd after
+pub opened_after : (n : ℕ) (ls : List (List ℕ)) (lab : Option Laboratory) (held : List ℕ) (long : Bool) (left : ℕ) (l : List ℕ) → IsAfterLines n ls None left → Holds held long l
+    → lab ≡ opened_laboratory (reading_unless long (plan_line_of held)) → lab ≢ None → IsAfterLines n (ls ++ l ∷ []) lab left
+opened_after n [] lab held long left l after holds is some =
+    accepted n left lab l (plan_reading l) refl (is ∙ ap opened_laboratory (held_reading plan_line_of held long l holds)) some after
+opened_after n (first ∷ later) lab held long left l after holds is some = absurd after
 
-refused : (reading : Result PlanLine Refusal) → opening_kept reading ≡ None → is_refusal (Some reading) ≡ true
+refused : (reading : Result PlanLine Refusal) → opened_laboratory reading ≡ None → is_refusal (Some reading) ≡ true
 refused (Err refusal) is = refl
 refused (Ok plan) is = absurd (cc)
 
 pub opening_refused : (n : ℕ) (ls : List (List ℕ)) (held : List ℕ) (long : Bool) (left : ℕ) (l : List ℕ) → IsAfterLines n ls None left → Holds held long l
-    → opening_kept (reading_unless long (plan_line_of held)) ≡ None → is_refusal (first_reading false (ls ++ l ∷ [])) ≡ true
-opening_refused n [] held long left l after holds is = refused (plan_reading l) (sym (ap opening_kept (held_reading plan_line_of held long l holds)) ∙ is)
+    → opened_laboratory (reading_unless long (plan_line_of held)) ≡ None → is_refusal (first_reading false (ls ++ l ∷ [])) ≡ true
+opening_refused n [] held long left l after holds is = refused (plan_reading l) (sym (ap opened_laboratory (held_reading plan_line_of held long l holds)) ∙ is)
 opening_refused n (first ∷ later) held long left l after holds is = absurd after

@@ -5,13 +5,13 @@ use Rattle.std.proofs.lemmas.Bool.{le-leb, le-ltb, lt-ltb, ltb-false}
 use Rattle.std.proofs.lemmas.List.{take_all, length-take-le}
 use Rattle.std.proofs.Math.Seq.{take-append-add}
 use Rattle.std.proofs.Math.Dec.{eqb-suc-zero}
-use Rattle.std.proofs.KnownBytes.{Consumes-nil, Consumes-trans, Consumes-kept}
-use Rattle.std.specs.Io.KnownBytes.{Consumes, IsAtEnd, Keeps}
+use Rattle.std.proofs.KnownBytes.{Appends-nil, Consumes-nil, Consumes-trans, Consumes-kept}
+use Rattle.std.specs.Io.KnownBytes.{Appends, Consumes, IsAtEnd, Keeps}
 use Rattle.road_format.specs.Cut.{lines_of}
 use Rattle.road_lab.specs.Answers.{later_lines, answers, answers_within, is_plan_refused, is_plan_refused_within, has_more_lines, has_byte_past_limits, reply_count}
 use Rattle.road_lab.specs.Dialogue.{HasAnswered, HasFinished, Stands, StandsAtEnd}
 use Rattle.road_lab.specs.Failures.{RisesByOne}
-use Rattle.road_lab.specs.Faults.{early_fault}
+use Rattle.road_lab.specs.Faults.{early_fault, gone_after_call}
 use Rattle.road_lab.specs.Run.{Run, run_answers, WritesAll, Ends, AnswersInput}
 use Rattle.road_lab.specs.StreamViews.{SourceView, SinkView, Stops}
 use Rattle.road_lab.specs.declared.dialogue.Dialogue.{Dialogue}
@@ -24,7 +24,7 @@ use Rattle.road_lab.proofs.AnswersGrow.{few_lines}
 use Rattle.road_lab.proofs.DialogueSteps.{goes_on}
 use Rattle.road_lab.proofs.DialogueCalls.{stops_same}
 use Rattle.road_lab.proofs.DialogueEnds.{going_accepted}
-use Rattle.road_lab.proofs.SinkTexts.{takes_same, taken_all, rises_after}
+use Rattle.road_lab.proofs.SinkTexts.{takes_none, takes_same, taken_all, rises_after}
 
 -- ---- bytes within the limit
 
@@ -176,6 +176,7 @@ unread lines limit room source s1 s2 sink k1 d so keeps rises =
 
 ends_stopped : (run : Run) (input : List ℕ) (fault : ServeFault) → Stops run.sink_before run.sink_after (run_answers run input) fault → run.source_after.failures ≡ run.source_before.failures → Ends run input (Err fault)
 ends_stopped run input faults.OutOfMemory s well = record { stops = s; reads_well = well }
+ends_stopped run input faults.WorkersGone s well = record { stops = s; reads_well = well }
 ends_stopped run input faults.Write s well = record { stops = s; reads_well = well }
 ends_stopped run input faults.BadPlan s well = absurd s
 ends_stopped run input faults.Read s well = absurd s
@@ -329,3 +330,41 @@ ended_well lines limit room n source s1 s2 sink k1 k2 d d' piece served so more 
         counted = omega (arith, count, s.2, count_ended lines limit so.input short s.1);
       };
     }
+
+-- no worker has gone where a run is over early
+pub early_gone : (end : EarlyEnd) (fault : ServeFault) (n : ℕ) → fault ≡ early_fault end → gone_after_call {A = Served} (Err fault) n ≡ n
+early_gone ends.BadPlan fault n is = ap (λ (f : ServeFault). gone_after_call {A = Served} (Err f) n) is
+early_gone ends.TooMany fault n is = ap (λ (f : ServeFault). gone_after_call {A = Served} (Err f) n) is
+
+-- ---- nothing was read
+
+nothing_answered : (lines limit : ℕ) → answers_within lines limit [] false ≡ []
+unfolding answers
+nothing_answered lines limit = answers_going lines limit [] ∙ ap (λ (x : List ℕ). answers lines x false) (whole limit [] (omega arith))
+
+appends_nothing : (contents : Option (List ℕ)) (text : List ℕ) → text ≡ [] → Appends contents contents text
+appends_nothing contents text none = let Family : List ℕ → Type 0 = λ x. Appends contents contents x in subst Family (sym none) (Appends-nil contents)
+
+-- a source that was not opened, after so many failed reads
+abbrev pub unopened_source : ℕ → SourceView
+unopened_source failed = record { remaining = None; at_end = false; failures = failed }
+
+-- it is as one of which the first read fails
+pub unopened : (lines limit : ℕ) (sink : SinkView) → AnswersInput (run_of lines limit (unopened_source 0) (unopened_source 1) sink sink (Err faults.Read))
+unopened lines limit sink = record {
+  input = [];
+  read = Consumes-nil None;
+  ends = record {
+    written = appends_nothing sink.contents _ (nothing_answered lines limit);
+    reads_failed = refl;
+    writes_well = refl;
+  };
+}
+
+-- there was no memory to begin
+pub not_begun : (lines limit : ℕ) (source : SourceView) (sink : SinkView) → AnswersInput (run_of lines limit source source sink sink (Err faults.OutOfMemory))
+not_begun lines limit source sink = record {
+  input = [];
+  read = Consumes-nil source.remaining;
+  ends = record { stops = ((_, takes_none sink _), refl); reads_well = refl };
+}

@@ -51,6 +51,7 @@ front_after a b c text rest more t f = (f.0, takes_more a b c text rest more f.0
 
 pub stops_longer : (a b : SinkView) (text more text' : List ℕ) (fault : ServeFault) → text' ≡ text ++ more → Stops a b text fault → Stops a b text' fault
 stops_longer a b text more text' faults.OutOfMemory e s = (front_longer a b text more text' e s.0, s.1)
+stops_longer a b text more text' faults.WorkersGone e s = (front_longer a b text more text' e s.0, s.1)
 stops_longer a b text more text' faults.Write e s = (front_longer a b text more text' e s.0, s.1)
 stops_longer a b text more text' faults.BadPlan e s = absurd s
 stops_longer a b text more text' faults.Read e s = absurd s
@@ -61,6 +62,7 @@ rises_after a b c e r = r ∙ ap (λ (k : ℕ). min (k + 1) (2 ^ 64 - 1)) e
 
 pub stops_after : (a b c : SinkView) (text rest more : List ℕ) (fault : ServeFault) → TakesAllBut a b text rest → b.failures ≡ a.failures → Stops b c (rest ++ more) fault → Stops a c (text ++ more) fault
 stops_after a b c text rest more faults.OutOfMemory t well s = (front_after a b c text rest more t s.0, s.1 ∙ well)
+stops_after a b c text rest more faults.WorkersGone t well s = (front_after a b c text rest more t s.0, s.1 ∙ well)
 stops_after a b c text rest more faults.Write t well s = (front_after a b c text rest more t s.0, rises_after a.failures b.failures c.failures well s.1)
 stops_after a b c text rest more faults.BadPlan t well s = absurd s
 stops_after a b c text rest more faults.Read t well s = absurd s

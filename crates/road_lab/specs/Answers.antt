@@ -8,7 +8,7 @@ use Rattle.road_format.specs.PlanGrammar.{PlanLine, plan_line_of}
 use Rattle.road_format.specs.Replies.{Answer, Open, Refused, reply}
 use Rattle.road_format.specs.declared.refusal.Refusal.{Refusal}
 use Rattle.road_format.specs.declared.refusal.Refusal.TheVariants as refusals
-use Rattle.road_keeper.specs.Laboratory.{Event, answer_to, events_after}
+use Rattle.road_laboratory.specs.Laboratory.{Laboratory, answer_to, laboratory_after, opening_laboratory}
 
 -- ---- one line
 
@@ -34,29 +34,30 @@ abbrev pub opening_answer : Result PlanLine Refusal → Answer
 opening_answer (Err refusal) = Refused refusal
 opening_answer (Ok plan) = Open (length plan.names)
 
--- what a later line is answered after these events
-abbrev pub line_answer : PlanLine → List Event → Result Command Refusal → Answer
-line_answer plan events (Err refusal) = Refused refusal
-line_answer plan events (Ok command) = answer_to plan events command
+-- what a later line is answered
+abbrev pub line_answer : Laboratory → Result Command Refusal → Answer
+line_answer lab (Err refusal) = Refused refusal
+line_answer lab (Ok command) = answer_to lab command
 
--- the events after a later line: a refused one adds nothing
-abbrev pub line_events : PlanLine → List Event → Result Command Refusal → List Event
-line_events plan events (Err refusal) = events
-line_events plan events (Ok command) = events_after plan events command
+-- the laboratory after a later line: a refused one changes nothing
+abbrev pub laboratory_after_line : Laboratory → Result Command Refusal → Laboratory
+laboratory_after_line lab (Err refusal) = lab
+laboratory_after_line lab (Ok command) = laboratory_after lab command
 
 -- ---- all lines
 
--- the replies to the lines after the plan line, each after the events of those before it
-unfoldable pub later_replies : PlanLine → List Event → List (List ℕ) → List ℕ
-later_replies plan events [] = []
-later_replies plan events (line ∷ lines) =
-    reply (line_answer plan events (command_reading line))
-    ++ later_replies plan (line_events plan events (command_reading line)) lines
+-- the replies to the lines after the plan line, each by the laboratory after those before it
+unfoldable pub later_replies : Laboratory → List (List ℕ) → List ℕ
+later_replies lab [] = []
+later_replies lab (line ∷ lines) =
+    reply (line_answer lab (command_reading line))
+    ++ later_replies (laboratory_after_line lab (command_reading line)) lines
 
 -- the reply to the plan line, and where it is accepted the replies to the lines after it
 abbrev pub session_replies : Result PlanLine Refusal → List (List ℕ) → List ℕ
 session_replies (Err refusal) lines = reply (opening_answer (Err refusal))
-session_replies (Ok plan) lines = reply (opening_answer (Ok plan)) ++ later_replies plan [] lines
+session_replies (Ok plan) lines =
+    reply (opening_answer (Ok plan)) ++ later_replies (opening_laboratory plan) lines
 
 -- how the plan line is read: not yet, where there is none and the input goes on
 abbrev pub first_reading : Bool → List (List ℕ) → Option (Result PlanLine Refusal)

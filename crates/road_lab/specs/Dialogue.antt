@@ -5,10 +5,10 @@ use Rattle.road_plan.specs.declared.limits.TheConstants.{LONGEST_LINE}
 use Rattle.road_format.specs.Cut.{pieces_of, lines_of}
 use Rattle.road_format.specs.CommandGrammar.{Command}
 use Rattle.road_format.specs.PlanGrammar.{PlanLine}
-use Rattle.road_format.specs.Replies.{Answer, Refused}
 use Rattle.road_format.specs.declared.refusal.Refusal.{Refusal}
-use Rattle.road_keeper.specs.Kept.{Kept, start, kept_answer, kept_after}
-use Rattle.road_lab.specs.Answers.{plan_reading, command_reading, later_lines, answers, is_plan_refused, has_more_lines}
+use Rattle.road_laboratory.specs.Laboratory.{Laboratory, laboratory_after, laboratory_of_winners, opening_laboratory}
+use Rattle.road_lab.specs.Answers.{plan_reading, command_reading, laboratory_after_line, later_lines, answers}
+use Rattle.road_lab.specs.Answers.{is_plan_refused, has_more_lines}
 use Rattle.road_lab.specs.StreamViews.{SinkView, TakesAllBut}
 use Rattle.road_lab.specs.declared.dialogue.Dialogue.{Dialogue}
 use Rattle.road_lab.specs.declared.faults.EarlyEnd.{EarlyEnd}
@@ -16,36 +16,33 @@ use Rattle.road_lab.specs.declared.faults.EarlyEnd.TheVariants as ends
 
 -- ---- one line
 
--- what is kept after the plan line, where it is accepted
-abbrev pub opening_kept : Result PlanLine Refusal → Option Kept
-opening_kept (Err refusal) = None
-opening_kept (Ok plan) = Some (start plan)
+-- the laboratory after the plan line, where it is accepted
+abbrev pub opened_laboratory : Result PlanLine Refusal → Option Laboratory
+opened_laboratory (Err refusal) = None
+opened_laboratory (Ok plan) = Some (opening_laboratory plan)
 
--- what a later line is answered
-abbrev pub reading_answer : Kept → Result Command Refusal → Answer
-reading_answer kept (Err refusal) = Refused refusal
-reading_answer kept (Ok command) = kept_answer kept command
-
--- what is kept after it: a refused one changes nothing
-abbrev pub kept_after_reading : Kept → Result Command Refusal → Kept
-kept_after_reading kept (Err refusal) = kept
-kept_after_reading kept (Ok command) = kept_after kept command
+-- what is kept after a later line is the laboratory of winners; a refused line changes nothing
+abbrev pub kept_after_line : Laboratory → Result Command Refusal → Laboratory
+kept_after_line kept (Err refusal) = kept
+kept_after_line kept (Ok command) = laboratory_of_winners (laboratory_after kept command)
 
 -- ---- whole lines
 
--- what is kept after these later lines
-unfoldable pub kept_after_lines : Kept → List (List ℕ) → Kept
-kept_after_lines kept [] = kept
-kept_after_lines kept (line ∷ lines) = kept_after_lines (kept_after_reading kept (command_reading line)) lines
+-- the laboratory after these later lines
+unfoldable pub laboratory_after_lines : Laboratory → List (List ℕ) → Laboratory
+laboratory_after_lines lab [] = lab
+laboratory_after_lines lab (line ∷ lines) =
+    laboratory_after_lines (laboratory_after_line lab (command_reading line)) lines
 
--- after these lines: nothing before the first; then its plan, and what is kept after the later ones. So many more may
--- come
-abbrev pub IsAfterLines : ℕ → List (List ℕ) → Option Kept → ℕ → Type 0
+-- after these lines: nothing before the first; then its plan, and the laboratory after the later ones, as far as edits
+-- win. So many more may come
+abbrev pub IsAfterLines : ℕ → List (List ℕ) → Option Laboratory → ℕ → Type 0
 IsAfterLines lines [] None left = left ≡ lines
 IsAfterLines lines [] (Some kept) left = ⊥
 IsAfterLines lines (first ∷ later) None left = ⊥
 IsAfterLines lines (first ∷ later) (Some kept) left =
-    (plan : PlanLine) × (plan_reading first ≡ Ok plan) × (kept ≡ kept_after_lines (start plan) later)
+    (plan : PlanLine) × (plan_reading first ≡ Ok plan)
+    × (kept ≡ laboratory_of_winners (laboratory_after_lines (opening_laboratory plan) later))
     × (left + length later ≡ lines)
 
 -- ---- the line that has not ended
@@ -59,7 +56,7 @@ pub data Holds (held : List ℕ) (long : Bool) (line : List ℕ) : Type 0 where
 
 -- the dialogue goes on: it is after the whole lines of these bytes, and holds the rest
 pub record GoesOn (lines : ℕ) (bytes : List ℕ) (d : Dialogue) : Type 0 where
-  pub after : IsAfterLines lines (pieces_of bytes).0 d.keeper d.left
+  pub after : IsAfterLines lines (pieces_of bytes).0 d.laboratory d.left
   pub holds : Holds d.held.items d.long (pieces_of bytes).1
   pub few : has_more_lines lines bytes ≡ false
 

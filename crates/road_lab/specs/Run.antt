@@ -55,7 +55,8 @@ pub record EndsUnread (run : Run) (input : List ℕ) : Type 0 where
   pub reads_failed : RisesByOne run.source_before.failures run.source_after.failures
   pub writes_well : run.sink_after.failures ≡ run.sink_before.failures
 
--- A run that a failed write or want of memory ends: some of the answers were written, from the first on.
+-- A run that a failed write, or want of memory or of workers ends: some of the answers were written, from the first
+-- on.
 pub record EndsUnwritten (run : Run) (input : List ℕ) (fault : ServeFault) : Type 0 where
   pub stops : Stops run.sink_before run.sink_after (run_answers run input) fault
   pub reads_well : run.source_after.failures ≡ run.source_before.failures
@@ -68,6 +69,7 @@ Ends run input (Err faults.TooMany) = WritesAll run input × RefusesPlan run inp
 Ends run input (Err faults.Read) = EndsUnread run input
 Ends run input (Err faults.Write) = EndsUnwritten run input faults.Write
 Ends run input (Err faults.OutOfMemory) = EndsUnwritten run input faults.OutOfMemory
+Ends run input (Err faults.WorkersGone) = EndsUnwritten run input faults.WorkersGone
 
 -- The run read some input, the front of what the source had left, and answered it.
 pub record AnswersInput (run : Run) : Type 0 where

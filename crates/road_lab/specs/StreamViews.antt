@@ -47,8 +47,10 @@ pub record TakesAllBut (old new : SinkView) (text rest : List ℕ) : Type 0 wher
 abbrev pub TakesFront : SinkView → SinkView → List ℕ → Type 0
 TakesFront old new text = (rest : List ℕ) × TakesAllBut old new text rest
 
--- A call that would have taken this text ended with a fault: it found no memory, or a call of the sink failed.
+-- A call that would have taken this text ended with a fault: it found no memory, or no worker, or a call of the sink
+-- failed.
 abbrev pub Stops : SinkView → SinkView → List ℕ → ServeFault → Type 0
 Stops old new text faults.OutOfMemory = TakesFront old new text × (new.failures ≡ old.failures)
+Stops old new text faults.WorkersGone = TakesFront old new text × (new.failures ≡ old.failures)
 Stops old new text faults.Write = TakesFront old new text × RisesByOne old.failures new.failures
 Stops old new text fault = ⊥

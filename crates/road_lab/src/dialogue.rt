@@ -9,8 +9,10 @@ ghost use Rattle.std.specs.Str.{bytes_eq};
 ghost use Rattle.road_format.specs.PlanGrammar.{plan_line_of};
 ghost use Rattle.road_format.specs.Replies.{reply};
 ghost use Rattle.road_format.specs.Views.{texts, plan_line_view, command_view, answer_view};
-ghost use Rattle.road_lab.specs.Answers.{reading_unless, opening_answer, answers, has_more_lines};
-ghost use Rattle.road_lab.specs.Dialogue.{opening_kept, reading_answer, kept_after_reading, Holds, GoesOn, Stands, HasAnswered, HasFinished};
+ghost use Rattle.road_laboratory.specs.Laboratory.{gone_after};
+ghost use Rattle.road_lab.specs.Answers.{reading_unless, opening_answer, line_answer, answers, has_more_lines};
+ghost use Rattle.road_lab.specs.Dialogue.{opened_laboratory, kept_after_line, Holds, GoesOn, Stands, HasAnswered, HasFinished};
+ghost use Rattle.road_lab.specs.Faults.{gone_after_call};
 ghost use Rattle.road_lab.specs.Readings.{IsRead};
 ghost use Rattle.road_lab.specs.StreamViews.{SinkView, sink_view, Stops};
 
@@ -18,9 +20,10 @@ use crate::faults::{EarlyEnd, ServeFault};
 use crate::streams::Sink;
 use crate::waiting::{flush, put};
 use road_format::{Answer, Command, PlanLine, Refusal, read_command, read_plan, reply_line};
-use road_keeper::Keeper;
+use road_laboratory::{Laboratory, LaboratoryFault};
 use road_plan::OutOfMemory;
 use road_plan::limits::LONGEST_LINE;
+use road_workers::Crew;
 use std::alloc::{AllocError, Global};
 
 // What a line says as the first one.
@@ -65,18 +68,23 @@ fn later_line(
     }
 }
 
-// The reply to the plan line, and the replicas where it is accepted.
-fn opening(alloc: Global, held: &[u8], long: bool) -> Result<(String, Option<Keeper>), OutOfMemory>
+// The reply to the plan line, and the laboratory where it is accepted.
+fn opening(
+    alloc: Global,
+    held: &[u8],
+    long: bool,
+) -> Result<(String, Option<Laboratory>), OutOfMemory>
     ensures text { IfOk result (λ opened. string_bytes opened.0
         ≡ reply (opening_answer (reading_unless long (plan_line_of held.now)))) }
-    ensures keeper { IfOk result (λ opened. opened.1 ≡ opening_kept (reading_unless long (plan_line_of held.now))) }
+    ensures laboratory { IfOk result (λ opened. opened.1
+        ≡ opened_laboratory (reading_unless long (plan_line_of held.now))) }
 {
     match first_line(alloc, held, long)? {
         Ok(line) => {
             let replicas = line.names.len() as u32;
             let reply = reply_line(alloc, &Answer::Open { replicas })?;
-            let keeper = Keeper::start(alloc, line)?;
-            Ok((reply, Some(keeper)))
+            let laboratory = Laboratory::open(alloc, line)?;
+            Ok((reply, Some(laboratory)))
         }
         Err(refusal) => {
             let reply = reply_line(alloc, &Answer::Refused(refusal))?;
@@ -86,23 +94,25 @@ fn opening(alloc: Global, held: &[u8], long: bool) -> Result<(String, Option<Kee
 }
 
 // The reply to a line after the first.
-fn later_reply(
+fn later_reply<C: Crew>(
     alloc: Global,
-    keeper: &mut Keeper,
+    laboratory: &mut Laboratory,
     held: &[u8],
     long: bool,
-) -> Result<String, OutOfMemory>
+    crew: &mut C,
+) -> Result<String, LaboratoryFault>
     ensures text { IfOk result (λ text. string_bytes text
-        ≡ reply (reading_answer keeper.old (reading_unless long (command_of held.now)))) }
-    ensures after { OnOk result (keeper.new
-        ≡ kept_after_reading keeper.old (reading_unless long (command_of held.now))) }
+        ≡ reply (line_answer laboratory.old (reading_unless long (command_of held.now)))) }
+    ensures after { OnOk result (laboratory.new
+        ≡ kept_after_line laboratory.old (reading_unless long (command_of held.now))) }
+    ensures gone { C.gone crew.new ≡ gone_after result (C.gone crew.old) }
 {
     match later_line(alloc, held, long)? {
         Ok(command) => {
-            let answer = keeper.answer(alloc, &command)?;
-            reply_line(alloc, &answer)
+            let answer = laboratory.answer(alloc, &command, crew)?;
+            Ok(reply_line(alloc, &answer)?)
         }
-        Err(refusal) => reply_line(alloc, &Answer::Refused(refusal)),
+        Err(refusal) => Ok(reply_line(alloc, &Answer::Refused(refusal))?),
     }
 }
 
@@ -117,8 +127,8 @@ fn line_end(bytes: &[u8]) -> Option<usize>
 /// and no more than 64 KiB of replies wait to be written.
 #[derive(Drop)]
 pub struct Dialogue {
-    /// The replicas, once the plan line is accepted.
-    pub keeper: Option<Keeper>,
+    /// The laboratory, once the plan line is accepted.
+    pub laboratory: Option<Laboratory>,
     /// The bytes of the line that has not ended.
     pub held: Vec<u8>,
     /// Whether that line is too long, so that its bytes are not held.
@@ -139,7 +149,7 @@ impl Dialogue {
         ensures none_wait { result.waiting.items ≡ [] }
     {
         Dialogue {
-            keeper: None,
+            laboratory: None,
             held: Vec::new(alloc),
             long: false,
             left: lines,
@@ -152,7 +162,7 @@ impl Dialogue {
     fn hold(&mut self, bytes: &[u8]) -> Result<(), OutOfMemory>
         ensures holds { (line : List ℕ) → Holds self.old.held.items self.old.long line
             → OnOk result (Holds self.new.held.items self.new.long (line ++ bytes.now)) }
-        ensures keeper { self.new.keeper ≡ self.old.keeper }
+        ensures laboratory { self.new.laboratory ≡ self.old.laboratory }
         ensures left { self.new.left ≡ self.old.left }
         ensures waiting { self.new.waiting ≡ self.old.waiting }
         ensures over { self.new.over ≡ self.old.over }
@@ -166,9 +176,9 @@ impl Dialogue {
 
     // Whether no further line may come.
     fn is_spent(&self) -> bool
-        ensures { IsTrue result ↔ (IsSome self.now.keeper × (self.now.left ≡ 0)) }
+        ensures { IsTrue result ↔ (IsSome self.now.laboratory × (self.now.left ≡ 0)) }
     {
-        self.keeper.is_some() && self.left == 0
+        self.laboratory.is_some() && self.left == 0
     }
 
     // Whether nothing of the next line has come.
@@ -179,7 +189,7 @@ impl Dialogue {
     }
 
     // The line that is held has ended: the reply to it.
-    fn reply(&mut self, alloc: Global) -> Result<String, OutOfMemory>
+    fn reply<C: Crew>(&mut self, alloc: Global, crew: &mut C) -> Result<String, LaboratoryFault>
         requires { self.old.over ≡ None }
         ensures answered { (lines : ℕ) (bytes : List ℕ) → GoesOn lines bytes self.old
             → has_more_lines lines (bytes ++ newline ∷ []) ≡ false
@@ -187,17 +197,18 @@ impl Dialogue {
             (answers lines (bytes ++ newline ∷ []) false ≡ answers lines bytes false ++ string_bytes text)
             × Stands lines (bytes ++ newline ∷ []) self.new self.new.over) }
         ensures waiting { self.new.waiting ≡ self.old.waiting }
+        ensures gone { C.gone crew.new ≡ gone_after result (C.gone crew.old) }
     {
-        if let Some(keeper) = &mut self.keeper {
-            let reply = later_reply(alloc, keeper, self.held.as_slice(), self.long)?;
+        if let Some(laboratory) = &mut self.laboratory {
+            let reply = later_reply(alloc, laboratory, self.held.as_slice(), self.long, crew)?;
             self.left = self.left.saturating_sub(1);
             self.held.clear();
             self.long = false;
             return Ok(reply);
         }
-        let (reply, keeper) = opening(alloc, self.held.as_slice(), self.long)?;
-        self.keeper = keeper;
-        if self.keeper.is_none() {
+        let (reply, laboratory) = opening(alloc, self.held.as_slice(), self.long)?;
+        self.laboratory = laboratory;
+        if self.laboratory.is_none() {
             self.over = Some(EarlyEnd::BadPlan);
             return Ok(reply);
         }
@@ -207,25 +218,32 @@ impl Dialogue {
     }
 
     // Answers the line that is held, which has ended.
-    fn answer<W: Sink>(&mut self, alloc: Global, writer: &mut W) -> Result<(), ServeFault>
+    fn answer<W: Sink, C: Crew>(
+        &mut self,
+        alloc: Global,
+        writer: &mut W,
+        crew: &mut C,
+    ) -> Result<(), ServeFault>
         requires { self.old.over ≡ None }
-        ensures { (lines : ℕ) (bytes : List ℕ) (first : SinkView)
+        ensures answered { (lines : ℕ) (bytes : List ℕ) (first : SinkView)
             → HasAnswered lines bytes first (sink_view W.Sink writer.old) self.old
             → has_more_lines lines (bytes ++ newline ∷ []) ≡ false
             → MatchResult result
             (λ _. HasAnswered lines (bytes ++ newline ∷ []) first (sink_view W.Sink writer.new) self.new)
             (λ fault. Stops first (sink_view W.Sink writer.new) (answers lines (bytes ++ newline ∷ []) false) fault) }
+        ensures gone { C.gone crew.new ≡ gone_after_call result (C.gone crew.old) }
     {
-        let reply = self.reply(alloc)?;
+        let reply = self.reply(alloc, crew)?;
         put(&mut self.waiting, writer, reply.as_bytes())
     }
 
     // Takes the next of these bytes, up to the end of a line where one of them ends it, and gives how many.
-    fn take_line<W: Sink>(
+    fn take_line<W: Sink, C: Crew>(
         &mut self,
         alloc: Global,
         writer: &mut W,
         bytes: &[u8],
+        crew: &mut C,
     ) -> Result<usize, ServeFault>
         requires { 0 < length bytes.now }
         ensures taken { IfOk result (λ n. (0 < n) × (n ≤ length bytes.now)) }
@@ -234,6 +252,7 @@ impl Dialogue {
             → MatchResult result
             (λ n. HasAnswered lines (before ++ take n bytes.now) first (sink_view W.Sink writer.new) self.new)
             (λ fault. Stops first (sink_view W.Sink writer.new) (answers lines (before ++ bytes.now) false) fault) }
+        ensures gone { C.gone crew.new ≡ gone_after_call result (C.gone crew.old) }
     {
         if self.over.is_some() {
             return Ok(bytes.len());
@@ -245,7 +264,7 @@ impl Dialogue {
         match line_end(bytes) {
             Some(end) => {
                 self.hold(&bytes[..end])?;
-                self.answer(alloc, writer)?;
+                self.answer(alloc, writer, crew)?;
                 Ok(end + 1)
             }
             None => {
@@ -256,11 +275,12 @@ impl Dialogue {
     }
 
     /// Takes the next bytes of the input: writes the reply to each line that they end, and flushes.
-    pub fn take<W: Sink>(
+    pub fn take<W: Sink, C: Crew>(
         &mut self,
         alloc: Global,
         writer: &mut W,
         bytes: &[u8],
+        crew: &mut C,
     ) -> Result<(), ServeFault>
         ensures answered { (lines : ℕ) (before : List ℕ) (first : SinkView)
             → HasAnswered lines before first (sink_view W.Sink writer.old) self.old
@@ -269,28 +289,35 @@ impl Dialogue {
             (λ fault. Stops first (sink_view W.Sink writer.new) (answers lines (before ++ bytes.now) false) fault) }
         ensures none_wait { OnOk result (self.new.waiting.items ≡ []) }
         ensures flushed { OnOk result (W.flushed writer.new ≡ true) }
+        ensures gone { C.gone crew.new ≡ gone_after_call result (C.gone crew.old) }
     {
         let mut done = 0;
         while done < bytes.len() {
-            done += self.take_line(alloc, writer, &bytes[done..])?;
+            done += self.take_line(alloc, writer, &bytes[done..], crew)?;
         }
         flush(&mut self.waiting, writer)?;
         Ok(())
     }
 
     // The input has ended: answers a last line without a newline, or an input without a line.
-    fn answer_last<W: Sink>(&mut self, alloc: Global, writer: &mut W) -> Result<(), ServeFault>
+    fn answer_last<W: Sink, C: Crew>(
+        &mut self,
+        alloc: Global,
+        writer: &mut W,
+        crew: &mut C,
+    ) -> Result<(), ServeFault>
         requires { self.old.over ≡ None }
-        ensures { (lines : ℕ) (bytes : List ℕ) (first : SinkView)
+        ensures answered { (lines : ℕ) (bytes : List ℕ) (first : SinkView)
             → HasAnswered lines bytes first (sink_view W.Sink writer.old) self.old
             → MatchResult result
             (λ _. HasFinished lines bytes first (sink_view W.Sink writer.new) self.new)
             (λ fault. Stops first (sink_view W.Sink writer.new) (answers lines bytes true) fault) }
+        ensures gone { C.gone crew.new ≡ gone_after_call result (C.gone crew.old) }
     {
         if !self.is_clear() {
-            return self.answer(alloc, writer);
+            return self.answer(alloc, writer, crew);
         }
-        if self.keeper.is_some() {
+        if self.laboratory.is_some() {
             return Ok(());
         }
         let reply = reply_line(alloc, &Answer::Refused(Refusal::NoPlan))?;
@@ -300,7 +327,12 @@ impl Dialogue {
 
     /// The input has ended: writes the reply to a last line without a newline, or to an input without a line, and
     /// flushes.
-    pub fn finish<W: Sink>(&mut self, alloc: Global, writer: &mut W) -> Result<(), ServeFault>
+    pub fn finish<W: Sink, C: Crew>(
+        &mut self,
+        alloc: Global,
+        writer: &mut W,
+        crew: &mut C,
+    ) -> Result<(), ServeFault>
         requires { self.old.over ≡ None }
         ensures answered { (lines : ℕ) (bytes : List ℕ) (first : SinkView)
             → HasAnswered lines bytes first (sink_view W.Sink writer.old) self.old
@@ -309,8 +341,9 @@ impl Dialogue {
             (λ fault. Stops first (sink_view W.Sink writer.new) (answers lines bytes true) fault) }
         ensures none_wait { OnOk result (self.new.waiting.items ≡ []) }
         ensures flushed { OnOk result (W.flushed writer.new ≡ true) }
+        ensures gone { C.gone crew.new ≡ gone_after_call result (C.gone crew.old) }
     {
-        self.answer_last(alloc, writer)?;
+        self.answer_last(alloc, writer, crew)?;
         flush(&mut self.waiting, writer)?;
         Ok(())
     }

@@ -1,9 +1,10 @@
 //! How a run ends other than well.
 
 ghost use Rattle.std.specs.Prelude.{◌≡◌};
-ghost use Rattle.road_lab.specs.Faults.{early_fault};
+ghost use Rattle.road_lab.specs.Faults.{early_fault, unanswered_fault};
 ghost use Rattle.road_lab.specs.declared.faults.ServeFault.TheVariants.{OutOfMemory, Read, Write};
 
+use road_laboratory::LaboratoryFault;
 use std::alloc::{AllocError, AllocFailed};
 use thiserror::Error;
 
@@ -25,6 +26,9 @@ pub enum ServeFault {
     /// A byte past the limits was read: past those of lines, or past that of bytes.
     #[error("too many lines")]
     TooMany,
+    /// A worker of the crew could not be started, or has gone.
+    #[error("workers gone")]
+    WorkersGone,
 }
 
 /// How a run is over before the end of its input.
@@ -71,6 +75,17 @@ impl From<WriteFailed> for ServeFault {
 
     fn from(_failed: WriteFailed) -> ServeFault {
         ServeFault::Write
+    }
+}
+
+impl From<LaboratoryFault> for ServeFault {
+    ghost from_gives = { λ failed fault. fault ≡ unanswered_fault failed };
+
+    fn from(failed: LaboratoryFault) -> ServeFault {
+        match failed {
+            LaboratoryFault::WorkersGone => ServeFault::WorkersGone,
+            LaboratoryFault::OutOfMemory => ServeFault::OutOfMemory,
+        }
     }
 }
 

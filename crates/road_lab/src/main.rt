@@ -1,6 +1,7 @@
 //! The program `road_lab`: it reads a plan line and then commands, one JSON object a line, and writes a reply for each.
 #![tactic(auto)]
 
+mod arguments;
 mod dialogue;
 mod faults;
 mod laws;
@@ -32,7 +33,7 @@ fn main(rt: HostRuntime) -> ExitCode {
         Ok(words) => {
             let mut reader = StdSource::new(rt.stdin());
             let mut writer = StdSink::new(rt.stdout());
-            run(rt.alloc(), &words, &mut reader, &mut writer)
+            run(&rt, &words, &mut reader, &mut writer)
         }
         Err(fault) if fault.kind() == io::ErrorKind::OutOfMemory => Ended::no_memory(),
         // A word that is no UTF-8 is none that the program takes.

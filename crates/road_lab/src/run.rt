@@ -1,17 +1,25 @@
 //! The program without its process.
 
-ghost use Rattle.std.specs.Prelude.{◌≡◌, ◌≢◌, ◌↔◌, IsTrue, [], codes, Some, Result};
+ghost use Rattle.std.specs.Prelude.{◌≡◌, ◌≢◌, IsSome, codes, true, false, None, Some, Result, Err};
+ghost use Rattle.road_format.specs.Views.{texts};
 ghost use Rattle.road_plan.specs.declared.limits.TheConstants.{MOST_LINES, MOST_BYTES};
-ghost use Rattle.road_lab.specs.Run.{AnswersInput};
-ghost use Rattle.road_lab.specs.Statuses.{status_of, line_of, fault_status, fault_line, HasStatus};
-ghost use Rattle.road_lab.specs.StreamViews.{source_view, sink_view};
+ghost use Rattle.road_lab.specs.Arguments.{are_accepted, script_of};
+ghost use Rattle.road_lab.specs.Faults.{gone_after_call};
+ghost use Rattle.road_lab.specs.Statuses.{status_of, line_of, fault_status, fault_line, EndsAfter, HasStatus, IsRefused};
+ghost use Rattle.road_lab.specs.StreamViews.{SourceView, source_view, sink_view};
 ghost use Rattle.road_lab.specs.declared.serve.Served.{Served};
 ghost use Rattle.road_lab.specs.declared.faults.ServeFault.{ServeFault};
+ghost use Rattle.road_lab.specs.declared.faults.ServeFault.TheVariants.{WorkersGone};
 
+use crate::arguments::{ArgumentFault, script_in};
 use crate::faults::ServeFault;
 use crate::serve::{Served, serve};
+use crate::std_streams::StdSource;
 use crate::streams::{Sink, Source};
+use road_workers::{Alone, Crew};
 use std::alloc::Global;
+use std::fs;
+use std::rt::Files;
 
 /// How the program ends.
 #[derive(Clone, Copy, Debug)]
@@ -44,18 +52,75 @@ impl Ended {
     }
 }
 
-/// Runs the program with these words after its name. Any word is refused today, and then nothing is read or written.
-pub fn run<R: Source, W: Sink>(
-    alloc: Global,
+/// Runs the program with these words after its name: from the script that they name, or from the reader.
+pub fn run<F: Files + AllocGlobal, R: Source, W: Sink>(
+    rt: &F,
     words: &[String],
     reader: &mut R,
     writer: &mut W,
 ) -> Ended
-    ensures refused { words.now ≢ [] → HasStatus result 2 (Some (codes "bad arguments"))
+    ensures refused { are_accepted (texts words.now) ≡ false → IsRefused result
         × (reader.new ≡ reader.old) × (writer.new ≡ writer.old) }
-    ensures served { words.now ≡ [] → (served : Result Served ServeFault)
-        × HasStatus result (status_of served) (line_of served)
-        × AnswersInput (record {
+    ensures served { are_accepted (texts words.now) ≡ true → script_of (texts words.now) ≡ None
+        → (served : Result Served ServeFault) × (served ≢ Err WorkersGone)
+        × EndsAfter result (record {
+          lines = MOST_LINES;
+          bytes = MOST_BYTES;
+          source_before = source_view R.Source reader.old;
+          source_after = source_view R.Source reader.new;
+          sink_before = sink_view W.Sink writer.old;
+          sink_after = sink_view W.Sink writer.new;
+          result = served;
+        }) }
+    // No contract says which bytes a file holds.
+    ensures script { are_accepted (texts words.now) ≡ true → IsSome (script_of (texts words.now))
+        → (reader.new ≡ reader.old) × (served : Result Served ServeFault) × (served ≢ Err WorkersGone)
+        × (before : SourceView) × (after : SourceView)
+        × EndsAfter result (record {
+          lines = MOST_LINES;
+          bytes = MOST_BYTES;
+          source_before = before;
+          source_after = after;
+          sink_before = sink_view W.Sink writer.old;
+          sink_after = sink_view W.Sink writer.new;
+          result = served;
+        }) }
+{
+    match script_in(rt.alloc(), words) {
+        Ok(None) => run_alone(rt.alloc(), reader, writer),
+        Ok(Some(path)) => run_script(rt, path, writer),
+        Err(ArgumentFault::Refused) => Ended::bad_arguments(),
+        Err(ArgumentFault::OutOfMemory) => Ended::no_memory(),
+    }
+}
+
+// Runs the program from the script at a path. One that cannot be opened is as one of which the first read fails.
+fn run_script<F: Files + AllocGlobal, W: Sink>(rt: &F, path: &str, writer: &mut W) -> Ended
+    ensures { (served : Result Served ServeFault) × (served ≢ Err WorkersGone)
+        × (before : SourceView) × (after : SourceView)
+        × EndsAfter result (record {
+          lines = MOST_LINES;
+          bytes = MOST_BYTES;
+          source_before = before;
+          source_after = after;
+          sink_before = sink_view W.Sink writer.old;
+          sink_after = sink_view W.Sink writer.new;
+          result = served;
+        }) }
+{
+    match fs::open(rt, path) {
+        Ok(file) => {
+            let mut reader = StdSource::new(file);
+            run_alone(rt.alloc(), &mut reader, writer)
+        }
+        Err(_) => after_fault(&ServeFault::Read),
+    }
+}
+
+// Runs the program by the crew of one, from a reader to a writer.
+fn run_alone<R: Source, W: Sink>(alloc: Global, reader: &mut R, writer: &mut W) -> Ended
+    ensures { (served : Result Served ServeFault) × (served ≢ Err WorkersGone)
+        × EndsAfter result (record {
           lines = MOST_LINES;
           bytes = MOST_BYTES;
           source_before = source_view R.Source reader.old;
@@ -65,17 +130,33 @@ pub fn run<R: Source, W: Sink>(
           result = served;
         }) }
 {
-    if !are_accepted(words) {
-        return Ended::bad_arguments();
-    }
-    after_run(&serve(alloc, reader, writer))
+    let mut crew = Alone;
+    crew.known();
+    let ended = run_by(alloc, reader, writer, &mut crew);
+    crew.known();
+    ended
 }
 
-// Whether the program takes these words: today it takes none.
-fn are_accepted(words: &[String]) -> bool
-    ensures { IsTrue result ↔ (words.now ≡ []) }
+/// Runs the program by a crew, from a reader to a writer.
+pub fn run_by<R: Source, W: Sink, C: Crew>(
+    alloc: Global,
+    reader: &mut R,
+    writer: &mut W,
+    crew: &mut C,
+) -> Ended
+    ensures { (served : Result Served ServeFault)
+        × (C.gone crew.new ≡ gone_after_call served (C.gone crew.old))
+        × EndsAfter result (record {
+          lines = MOST_LINES;
+          bytes = MOST_BYTES;
+          source_before = source_view R.Source reader.old;
+          source_after = source_view R.Source reader.new;
+          sink_before = sink_view W.Sink writer.old;
+          sink_after = sink_view W.Sink writer.new;
+          result = served;
+        }) }
 {
-    words.is_empty()
+    after_run(&serve(alloc, reader, writer, crew))
 }
 
 // How the program ends after a run.
@@ -101,6 +182,7 @@ fn after_fault(fault: &ServeFault) -> Ended
         ServeFault::Write => (4, "write fault"),
         ServeFault::Read => (5, "read fault"),
         ServeFault::TooMany => (6, "too many lines"),
+        ServeFault::WorkersGone => (7, "workers gone"),
     };
     Ended {
         status,

@@ -3,6 +3,7 @@
 ghost use Rattle.std.specs.Prelude.{◌≡◌, ◌++◌, ℕ, List, length, min, take, true, None};
 ghost use Rattle.road_plan.specs.declared.limits.TheConstants.{MOST_LINES, MOST_BYTES};
 ghost use Rattle.road_lab.specs.Dialogue.{HasAnswered};
+ghost use Rattle.road_lab.specs.Faults.{gone_after_call};
 ghost use Rattle.road_lab.specs.Run.{AnswersInput};
 ghost use Rattle.road_lab.specs.StreamViews.{SinkView, source_view, sink_view};
 
@@ -10,6 +11,7 @@ use crate::dialogue::Dialogue;
 use crate::faults::ServeFault;
 use crate::streams::{Sink, Source};
 use road_plan::limits::{MOST_BYTES, MOST_LINES};
+use road_workers::Crew;
 use std::alloc::Global;
 
 /// How many bytes are read at once, at most.
@@ -23,13 +25,20 @@ pub struct Served {
 }
 
 /// Reads an input to its end, and writes the reply to each of its lines. At most 1,000,000 lines after the plan line
-/// are read, and at most 2^32 bytes.
-pub fn serve<R: Source, W: Sink>(
+/// are read, and at most 2^32 bytes. The crew computes the speeds of the steps that are simulated.
+///
+/// # Errors
+///
+/// `BadPlan` where the plan line is refused, `TooMany` where it is not and a byte stands past the limits: then the
+/// replies are written whole. `Read` and `Write` where the source or the sink failed, `WorkersGone` where the crew did,
+/// `OutOfMemory` where a growth was refused: then what was written begins the replies.
+pub fn serve<R: Source, W: Sink, C: Crew>(
     alloc: Global,
     reader: &mut R,
     writer: &mut W,
+    crew: &mut C,
 ) -> Result<Served, ServeFault>
-    ensures { AnswersInput (record {
+    ensures answers { AnswersInput (record {
       lines = MOST_LINES;
       bytes = MOST_BYTES;
       source_before = source_view R.Source reader.old;
@@ -38,19 +47,25 @@ pub fn serve<R: Source, W: Sink>(
       sink_after = sink_view W.Sink writer.new;
       result = result;
     }) }
+    ensures gone { C.gone crew.new ≡ gone_after_call result (C.gone crew.old) }
 {
-    serve_within(alloc, reader, writer, MOST_LINES, MOST_BYTES)
+    serve_within(alloc, reader, writer, crew, MOST_LINES, MOST_BYTES)
 }
 
 /// As `serve`, with at most so many lines after the plan line, and at most so many bytes.
-pub fn serve_within<R: Source, W: Sink>(
+///
+/// # Errors
+///
+/// As for `serve`.
+pub fn serve_within<R: Source, W: Sink, C: Crew>(
     alloc: Global,
     reader: &mut R,
     writer: &mut W,
+    crew: &mut C,
     lines: u32,
     bytes: u64,
 ) -> Result<Served, ServeFault>
-    ensures { AnswersInput (record {
+    ensures answers { AnswersInput (record {
       lines = lines;
       bytes = bytes;
       source_before = source_view R.Source reader.old;
@@ -59,6 +74,7 @@ pub fn serve_within<R: Source, W: Sink>(
       sink_after = sink_view W.Sink writer.new;
       result = result;
     }) }
+    ensures gone { C.gone crew.new ≡ gone_after_call result (C.gone crew.old) }
 {
     let mut dialogue = Dialogue::new(alloc, lines);
     let mut buffer = [0u8; PIECE];
@@ -66,7 +82,7 @@ pub fn serve_within<R: Source, W: Sink>(
     loop {
         let count = reader.read(&mut buffer)?;
         if count == 0 {
-            dialogue.finish(alloc, writer)?;
+            dialogue.finish(alloc, writer, crew)?;
             if let Some(end) = dialogue.over {
                 return Err(end.fault());
             }
@@ -75,7 +91,7 @@ pub fn serve_within<R: Source, W: Sink>(
             });
         }
         let within = fitting(room, count);
-        dialogue.take(alloc, writer, &buffer[..within])?;
+        dialogue.take(alloc, writer, &buffer[..within], crew)?;
         if let Some(end) = dialogue.over {
             return Err(end.fault());
         }

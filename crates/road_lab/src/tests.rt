@@ -2,13 +2,16 @@
 
 use crate::faults::ServeFault;
 use crate::memory::{Failing, MemorySink, MemorySource};
-use crate::run::run;
+use crate::run::{run, run_by};
 use crate::serve::{Served, serve, serve_within};
 use crate::std_streams::{StdSink, StdSource};
 use crate::streams::{Sink, Source};
+use road_ends::StepInput;
 use road_plan::OutOfMemory;
+use road_workers::{Alone, Crew, CrewFault};
 use std::alloc::{AllocError, Global};
 use std::io;
+use std::sync::Arc;
 use std::test::Fail;
 
 /// A road of 12 cells without slowing, and three replicas.
@@ -240,6 +243,157 @@ const SCRIPTS: &[(&str, &str, &str)] = &[
 {"refused":"NoObject"}
 "#,
     ),
+    // Edits of two replicas of one object and step, sent on and crossed: the later stamp wins everywhere.
+    (
+        FREE_ROAD,
+        r#"{"edit":{"at":"A","object":["limit",0],"step":3,"value":1}}
+{"send":{"at":"A","name":"m1"}}
+{"take":{"at":"B","message":"m1"}}
+{"edit":{"at":"B","object":["limit",0],"step":3,"value":2}}
+{"send":{"at":"B","name":"m2"}}
+{"take":{"at":"C","message":"m2"}}
+{"take":{"at":"C","message":"m1"}}
+{"scenario":{"at":"C"}}
+"#,
+        r#"{"open":3}
+{"stamp":[1,0]}
+{"message":"m1","size":1}
+{"touched":3}
+{"stamp":[2,1]}
+{"message":"m2","size":1}
+{"touched":3}
+{"touched":null}
+{"edits":[["limit",0,3,2,1,2]],"form":1}
+"#,
+    ),
+    // A message is what its sender held: a withdrawal that was made later is not in it, and does not come undone by it.
+    (
+        FREE_ROAD,
+        r#"{"advance":{"at":"A","to":6}}
+{"edit":{"at":"A","object":["block",8],"step":4,"value":1}}
+{"send":{"at":"A","name":"m1"}}
+{"withdraw":{"at":"A","object":["block",8],"step":4}}
+{"cells":{"at":"A","step":6}}
+{"take":{"at":"A","message":"m1"}}
+{"cells":{"at":"A","step":6}}
+{"take":{"at":"B","message":"m1"}}
+{"advance":{"at":"B","to":6}}
+{"cells":{"at":"B","step":6}}
+"#,
+        r#"{"open":3}
+{"horizon":6}
+{"stamp":[1,0]}
+{"message":"m1","size":1}
+{"stamp":[2,0]}
+{"cells":"0..2...2...."}
+{"touched":null}
+{"cells":"0..2...2...."}
+{"touched":4}
+{"horizon":6}
+{"cells":"0..2..10#..."}
+"#,
+    ),
+    // Heads ask, and the answer has what lies beyond them alone.
+    (
+        FREE_ROAD,
+        r#"{"edit":{"at":"A","object":["limit",0],"step":3,"value":1}}
+{"edit":{"at":"A","object":["block",8],"step":4,"value":1}}
+{"send":{"at":"A","name":"m1"}}
+{"take":{"at":"B","message":"m1"}}
+{"edit":{"at":"B","object":["limit",0],"step":3,"value":0}}
+{"edit":{"at":"A","object":["limit",0],"step":5,"value":0}}
+{"heads":{"at":"B","name":"h1"}}
+{"beyond":{"at":"A","heads":"h1","name":"d1"}}
+{"take":{"at":"C","message":"d1"}}
+{"scenario":{"at":"C"}}
+{"take":{"at":"B","message":"d1"}}
+{"take":{"at":"B","message":"d1"}}
+{"scenario":{"at":"B"}}
+"#,
+        r#"{"open":3}
+{"stamp":[1,0]}
+{"stamp":[2,0]}
+{"message":"m1","size":2}
+{"touched":3}
+{"stamp":[3,1]}
+{"stamp":[3,0]}
+{"form":1,"heads":[["limit",0,3,3,1],["block",8,4,2,0]],"message":"h1"}
+{"edits":[["limit",0,5,3,0,0],["block",8,4,2,0,1]],"form":1,"message":"d1"}
+{"touched":4}
+{"edits":[["limit",0,5,3,0,0],["block",8,4,2,0,1]],"form":1}
+{"touched":5}
+{"touched":null}
+{"edits":[["limit",0,3,3,1,0],["limit",0,5,3,0,0],["block",8,4,2,0,1]],"form":1}
+"#,
+    ),
+    // Imports come in any order; a faulty edit lets nothing in; the greatest count leaves none for later edits.
+    (
+        FREE_ROAD,
+        r#"{"import":{"at":"A","edits":[["limit",0,0,7,64,2]],"form":1}}
+{"import":{"at":"A","edits":[["limit",0,0,7,64,3]],"form":1}}
+{"import":{"at":"B","edits":[["limit",0,0,7,64,3]],"form":1}}
+{"import":{"at":"B","edits":[["limit",0,0,7,64,2]],"form":1}}
+{"scenario":{"at":"A"}}
+{"scenario":{"at":"B"}}
+{"import":{"at":"C","edits":[["limit",0,0,7,64,3],["limit",0,0,0,64,1]],"form":1}}
+{"import":{"at":"C","edits":[["limit",0,0,1,3,1],["limit",1,0,1,64,1]],"form":1}}
+{"import":{"at":"C","edits":[],"form":2}}
+{"import":{"at":"D","edits":[],"form":2}}
+{"import":{"at":"C","edits":[["limit",0,0,1.5,64,1]],"form":2}}
+{"scenario":{"at":"C"}}
+{"import":{"at":"C","edits":[["limit",0,0,281474976710656,64,1]],"form":1}}
+{"edit":{"at":"C","object":["limit",0],"step":1,"value":1}}
+{"withdraw":{"at":"C","object":["limit",0],"step":0}}
+"#,
+        r#"{"open":3}
+{"touched":0}
+{"touched":0}
+{"touched":0}
+{"touched":null}
+{"edits":[["limit",0,0,7,64,3]],"form":1}
+{"edits":[["limit",0,0,7,64,3]],"form":1}
+{"refused":"Count"}
+{"refused":"Insider"}
+{"refused":"unknown form"}
+{"refused":"unknown form"}
+{"refused":"not a command"}
+{"edits":[],"form":1}
+{"touched":0}
+{"refused":"CountsSpent"}
+{"refused":"CountsSpent"}
+"#,
+    ),
+    // The names of messages: asked for, of the wrong kind, taken. A refused command leaves its name free.
+    (
+        FREE_ROAD,
+        r#"{"advance":{"at":"D","to":1}}
+{"take":{"at":"A","message":"m9"}}
+{"heads":{"at":"A","name":"h1"}}
+{"take":{"at":"A","message":"h1"}}
+{"send":{"at":"A","name":"h1"}}
+{"send":{"at":"D","name":"m1"}}
+{"beyond":{"at":"A","heads":"m1","name":"m1"}}
+{"send":{"at":"A","name":"m1"}}
+{"beyond":{"at":"A","heads":"m1","name":"h1"}}
+{"beyond":{"at":"A","heads":"h1","name":"m1"}}
+{"beyond":{"at":"A","heads":"h1","name":"A"}}
+{"take":{"at":"B","message":"A"}}
+"#,
+        r#"{"open":3}
+{"refused":"NoReplica"}
+{"refused":"NoMessage"}
+{"form":1,"heads":[],"message":"h1"}
+{"refused":"NoMessage"}
+{"refused":"NameTaken"}
+{"refused":"NoReplica"}
+{"refused":"NoMessage"}
+{"message":"m1","size":0}
+{"refused":"NoMessage"}
+{"refused":"NameTaken"}
+{"edits":[],"form":1,"message":"A"}
+{"touched":null}
+"#,
+    ),
 ];
 
 #[test]
@@ -247,7 +401,7 @@ fn answers_scripts(rt: HostRuntime) -> Result<(), Fail> {
     for (plan, commands, answers) in SCRIPTS {
         let input = format!(in rt.alloc(); "{plan}{commands}")?;
         let mut writer = sink(rt.alloc())?;
-        serve(rt.alloc(), &mut source(&input), &mut writer)?;
+        serve(rt.alloc(), &mut source(&input), &mut writer, &mut Alone)?;
         assert!(rt; writer.bytes() == answers.as_bytes(), "{commands}");
     }
     Ok(())
@@ -362,7 +516,14 @@ fn limits_and_faults(rt: HostRuntime) -> Result<(), Fail> {
         let mut reader = MemorySource::new(input.as_bytes(), piece, reads);
         let taken = Vec::with_capacity(rt.alloc(), 1000)?;
         let mut writer = MemorySink::new(taken, room, writes, flushes);
-        let result = end_of(serve_within(rt.alloc(), &mut reader, &mut writer, lines, bytes))?;
+        let result = end_of(serve_within(
+            rt.alloc(),
+            &mut reader,
+            &mut writer,
+            &mut Alone,
+            lines,
+            bytes,
+        ))?;
         let said = format!(in rt.alloc(); "{result:?}")?;
         assert!(rt;
             said.as_str() == end
@@ -388,7 +549,7 @@ fn the_longest_line(rt: HostRuntime) -> Result<(), Fail> {
     }
     let mut reader = MemorySource::new(input.as_bytes(), usize::MAX, ALL);
     let mut writer = sink(alloc)?;
-    serve(alloc, &mut reader, &mut writer)?;
+    serve(alloc, &mut reader, &mut writer, &mut Alone)?;
     let answers =
         "{\"open\":3}\n{\"horizon\":1}\n{\"refused\":\"line too long\"}\n{\"horizon\":1}\n";
     assert!(rt; writer.bytes() == answers.as_bytes());
@@ -444,7 +605,7 @@ fn the_greatest_horizon(rt: HostRuntime) -> Result<(), Fail> {
     }
     let mut reader = MemorySource::new(input.as_bytes(), usize::MAX, ALL);
     let mut writer = sink(alloc)?;
-    serve(alloc, &mut reader, &mut writer)?;
+    serve(alloc, &mut reader, &mut writer, &mut Alone)?;
     assert!(rt; writer.bytes() == answers.as_bytes());
     Ok(())
 }
@@ -461,7 +622,7 @@ fn statuses(rt: HostRuntime) -> Result<(), Fail> {
     ];
     for (mut reader, room, status, line) in table {
         let mut writer = MemorySink::new(Vec::with_capacity(alloc, 1000)?, room, ALL, ALL);
-        let ended = run(alloc, &[], &mut reader, &mut writer);
+        let ended = run(&rt, &[], &mut reader, &mut writer);
         if ended.status == 3 {
             return Err(AllocError.into());
         }
@@ -469,9 +630,71 @@ fn statuses(rt: HostRuntime) -> Result<(), Fail> {
     }
     let words = [String::from_str(alloc, "--help")?];
     let mut writer = sink(alloc)?;
-    let ended = run(alloc, &words, &mut source(FREE_ROAD), &mut writer);
+    let ended = run(&rt, &words, &mut source(FREE_ROAD), &mut writer);
     assert!(rt; ended.status == 2 && ended.line == Some("bad arguments"));
     assert!(rt; writer.bytes().is_empty());
+    Ok(())
+}
+
+/// Answers `WorkersGone` once, after some calls, and computes all other speeds by itself.
+#[derive(Clone, Copy, Debug)]
+struct Leaving {
+    calls_left: u64,
+    gone: u64,
+}
+
+impl Crew for Leaving {
+    ghost gone = { λ crew. crew.gone };
+
+    fn speeds(&mut self, alloc: Global, input: &Arc<StepInput>) -> Result<Vec<u8>, CrewFault> {
+        if self.gone == 0 && self.calls_left == 0 {
+            self.gone = 1;
+            return Err(CrewFault::WorkersGone);
+        }
+        self.calls_left = self.calls_left.saturating_sub(1);
+        Ok(input.speeds(alloc)?)
+    }
+}
+
+/// Six steps, an edit for which they are all taken again, and six steps of another replica.
+const STEPS: &str = r#"{"advance":{"at":"A","to":6}}
+{"edit":{"at":"A","object":["block",8],"step":4,"value":1}}
+{"advance":{"at":"B","to":6}}
+"#;
+
+/// How many calls of the crew succeed, the status, and how many bytes of the replies are written.
+const WORKERS: [(u64, u8, usize); 6] = [
+    (0, 7, 11),
+    (5, 7, 11),
+    (6, 7, 25),
+    (11, 7, 25),
+    (12, 7, 41),
+    (18, 0, 55),
+];
+
+#[test]
+fn workers_that_leave(rt: HostRuntime) -> Result<(), Fail> {
+    let alloc = rt.alloc();
+    let input = format!(in alloc; "{FREE_ROAD}{STEPS}")?;
+    let replies = "{\"open\":3}\n{\"horizon\":6}\n{\"stamp\":[1,0]}\n{\"horizon\":6}\n";
+    for (calls_left, status, written) in WORKERS {
+        let mut writer = sink(alloc)?;
+        let mut crew = Leaving {
+            calls_left,
+            gone: 0,
+        };
+        // Each reply is written before the next line is read.
+        let mut reader = MemorySource::new(input.as_bytes(), 1, ALL);
+        let ended = run_by(alloc, &mut reader, &mut writer, &mut crew);
+        if ended.status == 3 {
+            return Err(AllocError.into());
+        }
+        assert!(rt; ended.status == status && (status == 0 || ended.line == Some("workers gone")));
+        assert!(rt; crew.gone == u64::from(status == 7));
+        assert!(rt;
+            writer.bytes().len() == written && replies.as_bytes().starts_with(writer.bytes())
+        );
+    }
     Ok(())
 }
 
@@ -535,7 +758,7 @@ fn writers_of_std(rt: HostRuntime) -> Result<(), Fail> {
         };
         let mut writer = StdSink::new(&mut holding);
         let mut reader = MemorySource::new(FREE_ROAD.as_bytes(), usize::MAX, ALL);
-        let result = end_of(serve(rt.alloc(), &mut reader, &mut writer))?;
+        let result = end_of(serve(rt.alloc(), &mut reader, &mut writer, &mut Alone))?;
         drop(writer);
         if whole {
             assert!(rt; result.is_ok() && holding.passed_on == 11 && holding.held == 0);

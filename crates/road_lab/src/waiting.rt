@@ -1,8 +1,9 @@
 //! Replies that wait to be written.
 
-ghost use Rattle.std.specs.Prelude.{◌≡◌, ◌++◌, [], true, OnOk, OnErr, IfErr, MatchResult};
+ghost use Rattle.std.specs.Prelude.{◌≡◌, ◌++◌, ℕ, [], true, OnOk, OnErr, IfErr, MatchResult};
 ghost use Rattle.std.specs.Io.KnownBytes.{Appends};
 ghost use Rattle.road_lab.specs.Failures.{RisesByOne};
+ghost use Rattle.road_lab.specs.Faults.{gone_after_call};
 ghost use Rattle.road_lab.specs.StreamViews.{sink_view, TakesAllBut, TakesFront, Stops};
 
 use crate::faults::{ServeFault, WriteFailed};
@@ -34,6 +35,7 @@ pub fn put<W: Sink>(waiting: &mut Vec<u8>, writer: &mut W, reply: &[u8]) -> Resu
     ensures well { OnOk result (W.failures writer.new ≡ W.failures writer.old) }
     ensures err { IfErr result (λ fault. Stops (sink_view W.Sink writer.old) (sink_view W.Sink writer.new)
         (waiting.old.items ++ reply.now) fault) }
+    ensures no_crew { (n : ℕ) → gone_after_call result n ≡ n }
 {
     if reply.len() <= MOST_WAITING.saturating_sub(waiting.len()) {
         waiting.extend_from_slice(reply)?;

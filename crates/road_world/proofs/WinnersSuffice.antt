@@ -82,7 +82,7 @@ pub replica-of_winners : (w : World) (r : ℕ) → replica_at (world_of_winners 
 replica-of_winners w r = at_of_winners w.replicas r
 
 -- the winners of what such a replica holds are those of what the world's replica holds
-held-of_winners : (w : World) (r : ℕ) → winners (replica_at (world_of_winners w) r).edits ≡ winners (replica_at w r).edits
+pub held-of_winners : (w : World) (r : ℕ) → winners (replica_at (world_of_winners w) r).edits ≡ winners (replica_at w r).edits
 held-of_winners w r =
     ap (λ (x : WorldReplica). winners x.edits) (replica-of_winners w r) ∙ winners_again (replica_at w r).edits
 
@@ -131,7 +131,7 @@ set-of_winners xs r x y e =
     ∙ ap (λ (z : WorldReplica). slice_set (map replica_of_winners xs) r z) e ∙ sym (map-set replica_of_winners xs r y)
 
 -- edits that reach a replica, where the unions have the same winners
-edits-of_winners : (w : World) (r : ℕ) (s t : Edits) → winners (union (winners (replica_at w r).edits) s) ≡ winners (union (replica_at w r).edits t) → world_of_winners (world_with_edits r s (world_of_winners w)) ≡ world_of_winners (world_with_edits r t w)
+pub edits-of_winners : (w : World) (r : ℕ) (s t : Edits) → winners (union (winners (replica_at w r).edits) s) ≡ winners (union (replica_at w r).edits t) → world_of_winners (world_with_edits r s (world_of_winners w)) ≡ world_of_winners (world_with_edits r t w)
 edits-of_winners w r s t e =
     let reached : WorldReplica = record (replica_at (world_of_winners w) r) { edits = union (replica_at (world_of_winners w) r).edits s } in
     let known : WorldReplica = replica_with (union (replica_at w r).edits t) (replica_at w r).horizon in
@@ -223,7 +223,7 @@ event-of_winners (Advance r to) w =
 -- ---- what an event is answered
 
 -- the first touched step, where the unions have the same winners
-touched_reply-of_winners : (w : World) (r : ℕ) (s t : Edits) → winners (union (winners (replica_at w r).edits) s) ≡ winners (union (replica_at w r).edits t) → touched_reply (world_of_winners w) r s ≡ touched_reply w r t
+pub touched_reply-of_winners : (w : World) (r : ℕ) (s t : Edits) → winners (union (winners (replica_at w r).edits) s) ≡ winners (union (replica_at w r).edits t) → touched_reply (world_of_winners w) r s ≡ touched_reply w r t
 touched_reply-of_winners w r s t e =
     ap (λ (x : WorldReplica). replies.Touched (touched x.edits (union x.edits s))) (replica-of_winners w r)
     ∙ ap (λ (u : Edits). replies.Touched (touched_in (items u) (items (winners (union (winners (replica_at w r).edits) s))))) (winners_again (replica_at w r).edits)
@@ -275,7 +275,7 @@ made_fault-of_winners w r o step v =
     ap (λ (e : edits.Edit). option_map faults.Replica (option_map made_fault (fault_of w.plan e))) (local_edit-of_winners w r o step v)
 
 -- where there is such a replica, an event is refused for the same cause
-fault_at-of_winners : (e : Event) (w : World) → fault_at_replica (world_of_winners w) e ≡ fault_at_replica w e
+pub fault_at-of_winners : (e : Event) (w : World) → fault_at_replica (world_of_winners w) e ≡ fault_at_replica w e
 fault_at-of_winners (Edit r o step n) w = made_fault-of_winners w r o step (Put n)
 fault_at-of_winners (Withdraw r o step) w = made_fault-of_winners w r o step Withdrawn
 fault_at-of_winners (Import r es) w = refl

@@ -1,8 +1,11 @@
 //! Lines and replies worked out by hand.
 
 use road_cells::Car;
+use road_delta::Head;
 use road_format::PlanLineFault::{Names, NotAPlan, NotJson, Plan};
-use road_format::{Answer, LineFault, PlanLineFault, Refusal, read_command, read_plan, reply_line};
+use road_format::{
+    Answer, Command, LineFault, PlanLineFault, Refusal, read_command, read_plan, reply_line,
+};
 use road_plan::{Object, PlanFault, WordKind};
 use road_scenario::{Edit, Stamp, Value};
 use std::alloc::{AllocError, Global};
@@ -179,6 +182,9 @@ fn bounds_names(rt: HostRuntime) -> Result<(), Fail> {
         let command = format!(in rt.alloc(); "{{\"scenario\":{{\"at\":\"{name}\"}}}}")?;
         let fault = command_fault(rt.alloc(), command.as_bytes())?;
         assert_eq!(rt; fault.is_none(), *is_name);
+        let send = format!(in rt.alloc(); "{{\"send\":{{\"at\":\"A\",\"name\":\"{name}\"}}}}")?;
+        let fault = command_fault(rt.alloc(), send.as_bytes())?;
+        assert_eq!(rt; fault.is_none(), *is_name);
     }
     Ok(())
 }
@@ -199,6 +205,8 @@ fn bounds_replicas(rt: HostRuntime) -> Result<(), Fail> {
 const NOT_JSON: &str = "Err(NotJson)";
 
 const NOT_A_COMMAND: &str = "Err(NotACommand)";
+
+const UNKNOWN_FORM: &str = "Err(UnknownForm)";
 
 /// Lines, and what is read of each.
 const COMMANDS: &[(&str, &str)] = &[
@@ -371,16 +379,242 @@ const COMMANDS: &[(&str, &str)] = &[
     ),
 ];
 
+/// Lines of edits from outside and of messages, and what is read of each.
+const EXCHANGES: &[(&str, &str)] = &[
+    (
+        "{\"import\":{\"at\":\"A\",\"edits\":[[\"limit\",0,0,7,64,2]],\"form\":1}}",
+        "Ok(Import { at: \"A\", edits: [Edit { object: Limit(0), step: 0, stamp: Stamp { count: 7, number: 64 }, value: Put(2) }] })",
+    ),
+    (
+        "{\"import\":{\"form\":1,\"edits\":[[\"watch\",4294967295,4294967295,18446744073709551615,65535,4294967295],[\"slow\",0,0,0,0,null]],\"at\":\"A\"}}",
+        "Ok(Import { at: \"A\", edits: [Edit { object: Watch(4294967295), step: 4294967295, stamp: Stamp { count: 18446744073709551615, number: 65535 }, value: Put(4294967295) }, Edit { object: Slow(0), step: 0, stamp: Stamp { count: 0, number: 0 }, value: Withdrawn }] })",
+    ),
+    (
+        "{\"import\":{\"at\":\"A\",\"edits\":[],\"form\":1}}",
+        "Ok(Import { at: \"A\", edits: [] })",
+    ),
+    (
+        "{\"import\":{\"at\":\"A\",\"edits\":[],\"form\":2,\"form\":1}}",
+        "Ok(Import { at: \"A\", edits: [] })",
+    ),
+    (
+        "{\"send\":{\"at\":\"A\",\"name\":\"m1\"}}",
+        "Ok(Send { at: \"A\", name: \"m1\" })",
+    ),
+    (
+        "{\"heads\":{\"name\":\"h\",\"at\":\"A\"}}",
+        "Ok(Heads { at: \"A\", name: \"h\" })",
+    ),
+    (
+        "{\"beyond\":{\"at\":\"B\",\"heads\":\"h\",\"name\":\"d\"}}",
+        "Ok(Beyond { at: \"B\", heads: \"h\", name: \"d\" })",
+    ),
+    (
+        "{\"take\":{\"at\":\"B\",\"message\":\"m1\"}}",
+        "Ok(Take { at: \"B\", message: \"m1\" })",
+    ),
+    (
+        "{\"import\":{\"at\":\"A\",\"edits\":[],\"form\":0}}",
+        UNKNOWN_FORM,
+    ),
+    (
+        "{\"import\":{\"at\":\"A\",\"edits\":[],\"form\":2}}",
+        UNKNOWN_FORM,
+    ),
+    (
+        "{\"import\":{\"at\":\"A\",\"edits\":[],\"form\":18446744073709551615}}",
+        UNKNOWN_FORM,
+    ),
+    (
+        "{\"import\":{\"at\":\"A\",\"edits\":[[\"limit\",0,0,7,64,2]],\"form\":2}}",
+        UNKNOWN_FORM,
+    ),
+    (
+        "{\"import\":{\"at\":\"A\",\"edits\":[],\"form\":\"1\"}}",
+        NOT_A_COMMAND,
+    ),
+    (
+        "{\"import\":{\"at\":\"A\",\"edits\":[],\"form\":null}}",
+        NOT_A_COMMAND,
+    ),
+    (
+        "{\"import\":{\"at\":\"A\",\"edits\":[],\"form\":1.0}}",
+        NOT_A_COMMAND,
+    ),
+    (
+        "{\"import\":{\"at\":\"A\",\"edits\":[],\"form\":-1}}",
+        NOT_A_COMMAND,
+    ),
+    (
+        "{\"import\":{\"at\":\"A\",\"edits\":[],\"form\":18446744073709551616}}",
+        NOT_A_COMMAND,
+    ),
+    (
+        "{\"import\":{\"at\":\"A\",\"edits\":[[\"limit\",0,0,7,64]],\"form\":2}}",
+        NOT_A_COMMAND,
+    ),
+    (
+        "{\"import\":{\"at\":\"A\",\"edits\":{},\"form\":2}}",
+        NOT_A_COMMAND,
+    ),
+    (
+        "{\"import\":{\"at\":\"A\",\"edits\":[[\"limit\",0,0,7,64]],\"form\":1}}",
+        NOT_A_COMMAND,
+    ),
+    (
+        "{\"import\":{\"at\":\"A\",\"edits\":[[\"limit\",0,0,7,64,2,0]],\"form\":1}}",
+        NOT_A_COMMAND,
+    ),
+    (
+        "{\"import\":{\"at\":\"A\",\"edits\":[[]],\"form\":1}}",
+        NOT_A_COMMAND,
+    ),
+    (
+        "{\"import\":{\"at\":\"A\",\"edits\":[[[\"limit\",0],0,7,64,2,0]],\"form\":1}}",
+        NOT_A_COMMAND,
+    ),
+    (
+        "{\"import\":{\"at\":\"A\",\"edits\":[[\"lane\",0,0,7,64,2]],\"form\":1}}",
+        NOT_A_COMMAND,
+    ),
+    (
+        "{\"import\":{\"at\":\"A\",\"edits\":[[0,\"limit\",0,7,64,2]],\"form\":1}}",
+        NOT_A_COMMAND,
+    ),
+    (
+        "{\"import\":{\"at\":\"A\",\"edits\":[[\"limit\",4294967296,0,7,64,2]],\"form\":1}}",
+        NOT_A_COMMAND,
+    ),
+    (
+        "{\"import\":{\"at\":\"A\",\"edits\":[[\"limit\",0,4294967296,7,64,2]],\"form\":1}}",
+        NOT_A_COMMAND,
+    ),
+    (
+        "{\"import\":{\"at\":\"A\",\"edits\":[[\"limit\",0,0,18446744073709551616,64,2]],\"form\":1}}",
+        NOT_A_COMMAND,
+    ),
+    (
+        "{\"import\":{\"at\":\"A\",\"edits\":[[\"limit\",0,0,7,65536,2]],\"form\":1}}",
+        NOT_A_COMMAND,
+    ),
+    (
+        "{\"import\":{\"at\":\"A\",\"edits\":[[\"limit\",0,0,7,64,4294967296]],\"form\":1}}",
+        NOT_A_COMMAND,
+    ),
+    (
+        "{\"import\":{\"at\":\"A\",\"edits\":[[\"limit\",0,0,7,64,-1]],\"form\":1}}",
+        NOT_A_COMMAND,
+    ),
+    (
+        "{\"import\":{\"at\":\"A\",\"edits\":[[\"limit\",0,0,7,64,false]],\"form\":1}}",
+        NOT_A_COMMAND,
+    ),
+    (
+        "{\"import\":{\"at\":\"A\",\"edits\":[[\"limit\",0,0,7,64,\"2\"]],\"form\":1}}",
+        NOT_A_COMMAND,
+    ),
+    (
+        "{\"import\":{\"at\":\"A\",\"edits\":[[\"limit\",0,0,null,64,2]],\"form\":1}}",
+        NOT_A_COMMAND,
+    ),
+    (
+        "{\"import\":{\"at\":\"A\",\"edits\":[[\"limit\",0,null,7,64,2]],\"form\":1}}",
+        NOT_A_COMMAND,
+    ),
+    (
+        "{\"import\":{\"at\":\"A\",\"edits\":[\"limit\"],\"form\":1}}",
+        NOT_A_COMMAND,
+    ),
+    (
+        "{\"import\":{\"at\":\"A\",\"edits\":[[\"limit\",0,0,7,64,2],[\"limit\",0,0,7,64]],\"form\":1}}",
+        NOT_A_COMMAND,
+    ),
+    (
+        "{\"import\":{\"at\":\"A\",\"edits\":[\"limit\",0,0,7,64,2],\"form\":1}}",
+        NOT_A_COMMAND,
+    ),
+    ("{\"import\":{\"at\":\"A\",\"edits\":[]}}", NOT_A_COMMAND),
+    ("{\"import\":{\"at\":\"A\",\"form\":1}}", NOT_A_COMMAND),
+    ("{\"import\":{\"edits\":[],\"form\":1}}", NOT_A_COMMAND),
+    (
+        "{\"import\":{\"at\":\"A\",\"edits\":[],\"form\":1,\"name\":\"m\"}}",
+        NOT_A_COMMAND,
+    ),
+    ("{\"send\":{\"at\":\"A\"}}", NOT_A_COMMAND),
+    ("{\"send\":{\"at\":\"A\",\"name\":\"\"}}", NOT_A_COMMAND),
+    ("{\"send\":{\"at\":\"A\",\"name\":1}}", NOT_A_COMMAND),
+    (
+        "{\"send\":{\"at\":\"A\",\"message\":\"m1\"}}",
+        NOT_A_COMMAND,
+    ),
+    (
+        "{\"send\":{\"at\":\"A\",\"form\":1,\"name\":\"m1\"}}",
+        NOT_A_COMMAND,
+    ),
+    ("{\"heads\":{\"at\":\"A\",\"heads\":\"h\"}}", NOT_A_COMMAND),
+    ("{\"beyond\":{\"at\":\"A\",\"name\":\"d\"}}", NOT_A_COMMAND),
+    (
+        "{\"beyond\":{\"at\":\"A\",\"heads\":\"\",\"name\":\"d\"}}",
+        NOT_A_COMMAND,
+    ),
+    (
+        "{\"beyond\":{\"at\":\"A\",\"form\":1,\"heads\":\"h\",\"name\":\"d\"}}",
+        NOT_A_COMMAND,
+    ),
+    ("{\"take\":{\"at\":\"A\",\"name\":\"m1\"}}", NOT_A_COMMAND),
+    (
+        "{\"take\":{\"at\":\"A\",\"message\":\"m1\",\"name\":\"m1\"}}",
+        NOT_A_COMMAND,
+    ),
+];
+
+// A command line is read so. Want of memory ends the test.
+fn is_read(rt: &impl Abort, alloc: Global, line: &str, want: &str) -> Result<(), Fail> {
+    let read = read_command(alloc, line.as_bytes());
+    if matches!(&read, Err(LineFault::OutOfMemory)) {
+        return Err(AllocError)?;
+    }
+    let said = format!(in alloc; "{read:?}")?;
+    assert_eq!(rt; said.as_str(), want, "{line}");
+    Ok(())
+}
+
 #[test]
 fn reads_commands(rt: HostRuntime) -> Result<(), Fail> {
     for (line, want) in COMMANDS {
-        let read = read_command(rt.alloc(), line.as_bytes());
-        if matches!(&read, Err(LineFault::OutOfMemory)) {
-            return Err(AllocError)?;
-        }
-        let said = format!(in rt.alloc(); "{read:?}")?;
-        assert_eq!(rt; said.as_str(), *want, "{line}");
+        is_read(&rt, rt.alloc(), line, want)?;
     }
+    Ok(())
+}
+
+#[test]
+fn reads_edits_and_messages(rt: HostRuntime) -> Result<(), Fail> {
+    for (line, want) in EXCHANGES {
+        is_read(&rt, rt.alloc(), line, want)?;
+    }
+    Ok(())
+}
+
+/// About as many edits as a line has room for: all are read, in their order.
+#[test]
+fn reads_long_imports(rt: HostRuntime) -> Result<(), Fail> {
+    let most = "[\"limit\",0,0,1,64,2],".repeat(rt.alloc(), 2_899)?;
+    let line = format!(in rt.alloc();
+        "{{\"import\":{{\"at\":\"A\",\"edits\":[{most}[\"limit\",0,0,1,64,3]],\"form\":1}}}}"
+    )?;
+    let edits = match read_command(rt.alloc(), line.as_bytes())? {
+        Command::Import { edits, .. } => edits,
+        _ => Vec::new(rt.alloc()),
+    };
+    assert_eq!(rt; edits.len(), 2_900);
+    assert!(rt;
+        edits
+            .iter()
+            .filter(|edit| edit.value == Value::Put(2))
+            .count()
+            == 2_899
+    );
+    assert!(rt; edits.last().is_some_and(|edit| edit.value == Value::Put(3)));
     Ok(())
 }
 
@@ -492,6 +726,63 @@ fn writes_edits(rt: HostRuntime) -> Result<(), Fail> {
     is_written(&rt, rt.alloc(), &edits, want)
 }
 
+/// Heads of the least and the greatest numbers.
+const HEADS: &[Head] = &[
+    Head {
+        object: Object::Slow(0),
+        step: 0,
+        stamp: Stamp {
+            count: 1,
+            number: 0,
+        },
+    },
+    Head {
+        object: Object::Inflow(15),
+        step: 65_535,
+        stamp: Stamp {
+            count: 281_474_976_710_656,
+            number: 65_535,
+        },
+    },
+];
+
+#[test]
+fn writes_messages(rt: HostRuntime) -> Result<(), Fail> {
+    let alloc = rt.alloc();
+    let sent = Answer::Sent {
+        message: String::from_str(alloc, "m\"1")?,
+        size: 18_446_744_073_709_551_615,
+    };
+    let want = "{\"message\":\"m\\\"1\",\"size\":18446744073709551615}\n";
+    is_written(&rt, alloc, &sent, want)?;
+    let heads = Answer::Heads {
+        message: String::from_str(alloc, "h")?,
+        heads: HEADS.to_vec(alloc)?,
+    };
+    let want =
+        "{\"form\":1,\"heads\":[[\"slow\",0,0,1,0],[\"inflow\",15,65535,281474976710656,65535]],\"message\":\"h\"}\n";
+    is_written(&rt, alloc, &heads, want)?;
+    let delta = Answer::Delta {
+        message: String::from_str(alloc, "d")?,
+        edits: EDITS.to_vec(alloc)?,
+    };
+    let want =
+        "{\"edits\":[[\"limit\",0,65535,281474976710656,65535,4294967295],[\"watch\",63,0,1,0,null]],\"form\":1,\"message\":\"d\"}\n";
+    is_written(&rt, alloc, &delta, want)
+}
+
+#[test]
+fn writes_touched_steps(rt: HostRuntime) -> Result<(), Fail> {
+    let touched = Answer::Touched(Some(65_535));
+    is_written(&rt, rt.alloc(), &touched, "{\"touched\":65535}\n")?;
+    is_written(
+        &rt,
+        rt.alloc(),
+        &Answer::Touched(None),
+        "{\"touched\":null}\n",
+    )
+}
+
 const ROWS: &[&str] = &["0..2..10#...", "............"];
 
 #[test]
@@ -546,7 +837,10 @@ const REFUSALS: &[(Refusal, &str)] = &[
     (Refusal::Detectors, "{\"refused\":\"Detectors\"}\n"),
     (Refusal::Default, "{\"refused\":\"Default\"}\n"),
     (Refusal::NotACommand, "{\"refused\":\"not a command\"}\n"),
+    (Refusal::UnknownForm, "{\"refused\":\"unknown form\"}\n"),
     (Refusal::NoReplica, "{\"refused\":\"NoReplica\"}\n"),
+    (Refusal::NoMessage, "{\"refused\":\"NoMessage\"}\n"),
+    (Refusal::NameTaken, "{\"refused\":\"NameTaken\"}\n"),
     (Refusal::NoObject, "{\"refused\":\"NoObject\"}\n"),
     (Refusal::Step, "{\"refused\":\"Step\"}\n"),
     (
@@ -554,6 +848,8 @@ const REFUSALS: &[(Refusal, &str)] = &[
         "{\"refused\":\"ValueOutOfRange\"}\n",
     ),
     (Refusal::CountsSpent, "{\"refused\":\"CountsSpent\"}\n"),
+    (Refusal::Count, "{\"refused\":\"Count\"}\n"),
+    (Refusal::Insider, "{\"refused\":\"Insider\"}\n"),
     (Refusal::Horizon, "{\"refused\":\"Horizon\"}\n"),
     (Refusal::NoDetector, "{\"refused\":\"NoDetector\"}\n"),
     (Refusal::Range, "{\"refused\":\"Range\"}\n"),

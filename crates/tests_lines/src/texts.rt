@@ -63,6 +63,7 @@ const TEXTS: &[(Fault, &str)] = &[
     (Fault::Crew(CrewFault::OutOfMemory), "no memory"),
     (Fault::Line(LineFault::NotJson), "not json"),
     (Fault::Line(LineFault::NotACommand), "not a command"),
+    (Fault::Line(LineFault::UnknownForm), "unknown form"),
     (Fault::Line(LineFault::OutOfMemory), "no memory"),
     (Fault::PlanLine(PlanLineFault::NotJson), "not json"),
     (Fault::PlanLine(PlanLineFault::NotAPlan), "not a plan"),

@@ -7,29 +7,29 @@ use Rattle.road_lab.proofs.DialogueSteps.{goes_on}
 use Rattle.road_lab.proofs.DialogueEnds.{memory_at_end, rest_of, last_few, line_ends, clear_ends, no_plan_ends}
 use Rattle.road_lab.proofs.dialogue.Dialogue.answer_last.Goals as goal
 
-pub returns-then-not-is_clear : goal.returns-then-not-is_clear
-returns-then-not-is_clear g c lines bytes first h =
+pub returns-then-not-is_clear-clause-answered : goal.returns-then-not-is_clear-clause-answered
+returns-then-not-is_clear-clause-answered g c lines bytes first h =
     let on = goes_on lines bytes first _ c.args.self.now h c.requires in
     let some = rest_of lines bytes c.args.self.now on (λ e s. let clear : c.is_clear.result ≡ true = c.is_clear.ensures.1 (e, s) in cc) in
-    line_ends lines bytes first (sink_view g.W.Sink c.answer.new.writer) c.answer.new.self c.answer.result on.few some (c.answer.ensures lines bytes first h (last_few lines bytes on.few some))
+    line_ends lines bytes first (sink_view g.W.Sink c.answer.new.writer) c.answer.new.self c.answer.result on.few some (c.answer.ensures.answered lines bytes first h (last_few lines bytes on.few some))
 
-pub returns-then-is_some : goal.returns-then-is_some
-returns-then-is_some g c lines bytes first h =
+pub returns-then-is_some-clause-answered : goal.returns-then-is_some-clause-answered
+returns-then-is_some-clause-answered g c lines bytes first h =
     let is : c.is_clear.result ≡ true = cc in
     let clear = c.is_clear.ensures.0 is in
-    let some : IsSome c.args.self.now.keeper = cc in
+    let some : IsSome c.args.self.now.laboratory = cc in
     clear_ends lines bytes first _ c.args.self.now h c.requires clear.0 clear.1 some
 
-pub returns-in_err-reply : goal.returns-in_err-reply
-returns-in_err-reply g c lines bytes first h =
+pub returns-in_err-reply-clause-answered : goal.returns-in_err-reply-clause-answered
+returns-in_err-reply-clause-answered g c lines bytes first h =
     let p = err_from_is_err_and c.from_residual.result c.from_residual.ensures.1 in
     rw (p.1, p.2) (memory_at_end lines bytes first _ c.args.self.now h)
 
-pub returns : goal.returns
-returns g c lines bytes first h =
+pub returns-clause-answered : goal.returns-clause-answered
+returns-clause-answered g c lines bytes first h =
     let is : c.is_clear.result ≡ true = cc in
     let clear = c.is_clear.ensures.0 is in
-    let isnt : is_some c.args.self.now.keeper ≡ false = cc in
+    let isnt : is_some c.args.self.now.laboratory ≡ false = cc in
     no_plan_ends lines bytes (string_bytes c.in_ok-reply.reply) (c.args.self.now.waiting.items ++ c.as_bytes.result.now) first (sink_view g.W.Sink c.args.writer.now) (sink_view g.W.Sink c.put.new.writer)
-    c.args.self.now (record c.args.self.now { waiting = c.put.new.waiting; over = Some BadPlan }) c.put.result h c.requires clear.0 clear.1 (not_some c.args.self.now.keeper isnt)
+    c.args.self.now (record c.args.self.now { waiting = c.put.new.waiting; over = Some BadPlan }) c.put.result h c.requires clear.0 clear.1 (not_some c.args.self.now.laboratory isnt)
     c.in_ok-reply.ensures (ap (λ (t : List ℕ). c.args.self.now.waiting.items ++ t) c.as_bytes.ensures.value) (c.put.ensures.ok, c.put.ensures.well, c.put.ensures.err) refl

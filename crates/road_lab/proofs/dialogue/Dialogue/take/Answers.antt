@@ -17,6 +17,7 @@ loop-done-preserved g c =
       λ lines before first h.
           let x = c.in_ok-done.ensures.answered lines (before ++ take done b) first (i.1 lines before first h) in
           answered_same lines _ _ first _ c.take_line.new.self (part_then_part before b done c.in_ok-done.field-0) (rw rest at x),
+      c.in_ok-done.ensures.gone ∙ i.2,
     )
 
 pub returns-in_err-done-clause-answered : goal.returns-in_err-done-clause-answered

@@ -1,4 +1,4 @@
-use Rattle.std.proofs.Common.{◌≤◌, ◌-◌, ◌++◌, ℕ, List, take, length}
+use Rattle.std.proofs.Common.{◌≡◌, ◌≤◌, ◌-◌, ◌++◌, ℕ, List, take, length}
 use Rattle.road_lab.specs.Dialogue.{HasAnswered}
 use Rattle.road_lab.specs.StreamViews.{SinkView, sink_view}
 use Rattle.road_lab.proofs.dialogue.Dialogue.take.Given as goal
@@ -9,6 +9,7 @@ invariant-loop-done g l =
     (l.done ≤ length l.bytes)
     × ((lines : ℕ) (before : List ℕ) (first : SinkView) → HasAnswered lines before first (sink_view g.W.Sink l.initial.writer) l.initial.self
     → HasAnswered lines (before ++ take l.done l.bytes) first (sink_view g.W.Sink l.writer) l.self)
+    × (g.C.Crew.gone l.crew ≡ g.C.Crew.gone l.initial.crew)
 
 abbrev pub decreases-loop-done : goal.decreases-loop-done
 decreases-loop-done g l = length l.bytes - l.done

@@ -1,0 +1,101 @@
+//! Lines that are commands.
+
+ghost use Rattle.std.specs.Prelude.{◌≡◌, ◌<◌, length, IfOk, IfErr, OnErr, IsSome, option_map, string_bytes};
+ghost use Rattle.serde_json.specs.View.{view};
+ghost use Rattle.road_format.specs.CommandGrammar as grammar;
+ghost use Rattle.road_format.specs.Fields as fields;
+ghost use Rattle.road_format.specs.Refusals.{line_refusal};
+ghost use Rattle.road_format.specs.Views.{Gives, command_view, formed_view};
+ghost use Rattle.road_format.specs.declared.faults.LineFault.TheVariants as line_faults;
+
+use crate::command::Command;
+use crate::exchange::{beyond_in, heads_in, import_in, send_in, take_in};
+use crate::faults::LineFault;
+use crate::fields::{long_number_at, name_at, only_field};
+use crate::local::local_of_name;
+use crate::reading::value_in;
+use road_plan::OutOfMemory;
+use serde_json::Value;
+use std::alloc::Global;
+
+/// The command that a line is: an object of one field, whose name is that of a variant of `Command` in small letters,
+/// and whose value is an object of exactly the variant's fields, in any order; `import` has the number `form` beside
+/// them. A name is a text of 1 to 64 bytes; a number is whole, of at most 32 bits, and written without point and
+/// exponent; an object is a list of its kind and its index; an edit is a list of its kind, index, step, count (of at most
+/// 64 bits), number (of at most 16) and value, where null is a withdrawal. Of a field that stands twice the last counts.
+///
+/// # Errors
+///
+/// `NotJson` where the line is no JSON value, then `NotACommand` where the value is no command, then `UnknownForm` where
+/// its `form` is not 1. `OutOfMemory` may come in the place of any of them where the line has a byte. The length of the
+/// line is not asked here.
+#[tactic(auto, using(crate::proofs::LineValues::length_of_value), unfolding(crate::specs::CommandGrammar::command_of))]
+pub fn read_command(alloc: Global, line: &[u8]) -> Result<Command, LineFault>
+    // The grammar's command, or its refusal; want of memory is none.
+    ensures command { Gives command_view line_refusal result (grammar.command_of line.now) }
+
+    // A line without a byte grows nothing.
+    ensures memory { IfErr result (λ fault. fault ≡ line_faults.OutOfMemory → 0 < length line.now) }
+{
+    let Some(value) = value_in(alloc, line)? else {
+        return Err(LineFault::NotJson);
+    };
+    match command_in(alloc, &value)? {
+        Some((1, command)) => Ok(command),
+        Some(_) => Err(LineFault::UnknownForm),
+        None => Err(LineFault::NotACommand),
+    }
+}
+
+// The form and the command that a value is.
+#[tactic(auto, unfolding(crate::specs::CommandGrammar::command_in))]
+fn command_in(alloc: Global, value: &Value) -> Result<Option<(u64, Command)>, OutOfMemory>
+    ensures command { IfOk result (λ read. option_map formed_view read ≡ grammar.command_in (view value.now)) }
+    ensures memory { OnErr result (IsSome (fields.only_field (view value.now))) }
+{
+    let Some((name, fields)) = only_field(value) else {
+        return Ok(None);
+    };
+    let Some(form) = form_of_name(name, fields) else {
+        return Ok(None);
+    };
+    let Some(at) = name_at("at", fields) else {
+        return Ok(None);
+    };
+    let at = String::from_str(alloc, at)?;
+    match command_of_name(alloc, name, at, fields)? {
+        Some(command) => Ok(Some((form, command))),
+        None => Ok(None),
+    }
+}
+
+// The form of a command of a name: what its `form` says where it has one, and else 1.
+fn form_of_name(name: &str, fields: &Value) -> Option<u64>
+    ensures { result ≡ grammar.form_of_name name.now (view fields.now) }
+{
+    match name {
+        "import" => long_number_at("form", fields),
+        _ => Some(1),
+    }
+}
+
+// The command of a name at a replica, with these fields.
+#[tactic(auto, unfolding(crate::specs::CommandGrammar::command_of_name))]
+fn command_of_name(
+    alloc: Global,
+    name: &str,
+    at: String,
+    fields: &Value,
+) -> Result<Option<Command>, OutOfMemory>
+    ensures { IfOk result (λ command. option_map command_view command
+        ≡ grammar.command_of_name name.now (string_bytes at) (view fields.now)) }
+{
+    match name {
+        "import" => import_in(alloc, at, fields),
+        "send" => send_in(alloc, at, fields),
+        "heads" => heads_in(alloc, at, fields),
+        "beyond" => beyond_in(alloc, at, fields),
+        "take" => take_in(alloc, at, fields),
+        _ => Ok(local_of_name(name, at, fields)),
+    }
+}

@@ -1,0 +1,120 @@
+//! Commands that take edits from outside, and those that make messages and take them.
+
+ghost use Rattle.std.specs.Prelude.{◌≡◌, IfOk, codes, option_map, string_bytes};
+ghost use Rattle.serde_json.specs.View.{view};
+ghost use Rattle.road_format.specs.CommandGrammar as grammar;
+ghost use Rattle.road_format.specs.Fields as spec_fields;
+ghost use Rattle.road_format.specs.Views.{command_view};
+
+use crate::command::Command;
+use crate::edits::edits_at;
+use crate::fields::{has_fields, name_at};
+use road_plan::OutOfMemory;
+use serde_json::Value;
+use std::alloc::Global;
+
+// The `import` at a replica, of exactly its fields; its `form` is read beside them.
+#[tactic(auto, unfolding(crate::specs::CommandGrammar::import_in))]
+pub(crate) fn import_in(
+    alloc: Global,
+    at: String,
+    fields: &Value,
+) -> Result<Option<Command>, OutOfMemory>
+    ensures { IfOk result (λ command. option_map command_view command
+        ≡ grammar.import_in (string_bytes at) (view fields.now)) }
+{
+    if !has_fields(3, fields) {
+        return Ok(None);
+    }
+    let Some(edits) = edits_at(alloc, "edits", fields)? else {
+        return Ok(None);
+    };
+    Ok(Some(Command::Import { at, edits }))
+}
+
+// The `send` at a replica, of exactly its fields.
+pub(crate) fn send_in(
+    alloc: Global,
+    at: String,
+    fields: &Value,
+) -> Result<Option<Command>, OutOfMemory>
+    ensures { IfOk result (λ command. option_map command_view command
+        ≡ option_map (grammar.Send (string_bytes at)) (grammar.only_name (codes "name") (view fields.now))) }
+{
+    let Some(name) = only_name(alloc, "name", fields)? else {
+        return Ok(None);
+    };
+    Ok(Some(Command::Send { at, name }))
+}
+
+// The `heads` at a replica, of exactly its fields.
+pub(crate) fn heads_in(
+    alloc: Global,
+    at: String,
+    fields: &Value,
+) -> Result<Option<Command>, OutOfMemory>
+    ensures { IfOk result (λ command. option_map command_view command
+        ≡ option_map (grammar.Heads (string_bytes at)) (grammar.only_name (codes "name") (view fields.now))) }
+{
+    let Some(name) = only_name(alloc, "name", fields)? else {
+        return Ok(None);
+    };
+    Ok(Some(Command::Heads { at, name }))
+}
+
+// The `take` at a replica, of exactly its fields.
+pub(crate) fn take_in(
+    alloc: Global,
+    at: String,
+    fields: &Value,
+) -> Result<Option<Command>, OutOfMemory>
+    ensures { IfOk result (λ command. option_map command_view command
+        ≡ option_map (grammar.Take (string_bytes at)) (grammar.only_name (codes "message") (view fields.now))) }
+{
+    let Some(message) = only_name(alloc, "message", fields)? else {
+        return Ok(None);
+    };
+    Ok(Some(Command::Take { at, message }))
+}
+
+// The `beyond` at a replica, of exactly its fields.
+#[tactic(auto, unfolding(crate::specs::CommandGrammar::beyond_in))]
+pub(crate) fn beyond_in(
+    alloc: Global,
+    at: String,
+    fields: &Value,
+) -> Result<Option<Command>, OutOfMemory>
+    ensures { IfOk result (λ command. option_map command_view command
+        ≡ grammar.beyond_in (string_bytes at) (view fields.now)) }
+{
+    if !has_fields(3, fields) {
+        return Ok(None);
+    }
+    let Some(heads) = owned_name_at(alloc, "heads", fields)? else {
+        return Ok(None);
+    };
+    let Some(name) = owned_name_at(alloc, "name", fields)? else {
+        return Ok(None);
+    };
+    Ok(Some(Command::Beyond { at, heads, name }))
+}
+
+// The name at this field, of an object that has exactly this field and `at`.
+fn only_name(alloc: Global, field: &str, fields: &Value) -> Result<Option<String>, OutOfMemory>
+    ensures { IfOk result (λ name. option_map string_bytes name ≡ grammar.only_name field.now (view fields.now)) }
+{
+    if !has_fields(2, fields) {
+        return Ok(None);
+    }
+    owned_name_at(alloc, field, fields)
+}
+
+// The name at this field, in a text of its own.
+fn owned_name_at(alloc: Global, field: &str, fields: &Value) -> Result<Option<String>, OutOfMemory>
+    ensures { IfOk result (λ name. option_map string_bytes name ≡ spec_fields.name_at field.now (view fields.now)) }
+{
+    match name_at(field, fields) {
+        Some(name) => Ok(Some(String::from_str(alloc, name)?)),
+        None => Ok(None),
+    }
+}

@@ -1,0 +1,127 @@
+//! Commands that tell or ask one replica.
+
+ghost use Rattle.std.specs.Prelude.{◌≡◌, option_map, string_bytes};
+ghost use Rattle.serde_json.specs.View.{view};
+ghost use Rattle.road_format.specs.CommandGrammar as grammar;
+ghost use Rattle.road_format.specs.Views.{command_view};
+
+use crate::command::Command;
+use crate::fields::{has_fields, number_at};
+use crate::object::object_at;
+use serde_json::Value;
+
+// The command of a name that tells or asks one replica, with these fields.
+#[tactic(auto, unfolding(crate::specs::CommandGrammar::local_of_name))]
+pub(crate) fn local_of_name(name: &str, at: String, fields: &Value) -> Option<Command>
+    ensures { option_map command_view result ≡ grammar.local_of_name name.now (string_bytes at) (view fields.now) }
+{
+    match name {
+        "edit" => edit_in(at, fields),
+        "withdraw" => withdraw_in(at, fields),
+        "advance" => Some(Command::Advance {
+            at,
+            to: only_number("to", fields)?,
+        }),
+        "cells" => Some(Command::Cells {
+            at,
+            step: only_number("step", fields)?,
+        }),
+        "cars" => Some(Command::Cars {
+            at,
+            step: only_number("step", fields)?,
+        }),
+        "count" => count_in(at, fields),
+        "diagram" => diagram_in(at, fields),
+        "scenario" => scenario_in(at, fields),
+        _ => None,
+    }
+}
+
+// The number at this field, of an object that has exactly this field and `at`.
+fn only_number(field: &str, fields: &Value) -> Option<u32>
+    ensures { result ≡ grammar.only_number field.now (view fields.now) }
+{
+    if !has_fields(2, fields) {
+        return None;
+    }
+    number_at(field, fields)
+}
+
+// The `edit` at a replica, of exactly its fields.
+#[tactic(auto, unfolding(crate::specs::CommandGrammar::edit_in))]
+fn edit_in(at: String, fields: &Value) -> Option<Command>
+    ensures { option_map command_view result ≡ grammar.edit_in (string_bytes at) (view fields.now) }
+{
+    if !has_fields(4, fields) {
+        return None;
+    }
+    let object = object_at("object", fields)?;
+    let step = number_at("step", fields)?;
+    let value = number_at("value", fields)?;
+    Some(Command::Edit {
+        at,
+        object,
+        step,
+        value,
+    })
+}
+
+// The `withdraw` at a replica, of exactly its fields.
+#[tactic(auto, unfolding(crate::specs::CommandGrammar::withdraw_in))]
+fn withdraw_in(at: String, fields: &Value) -> Option<Command>
+    ensures { option_map command_view result ≡ grammar.withdraw_in (string_bytes at) (view fields.now) }
+{
+    if !has_fields(3, fields) {
+        return None;
+    }
+    let object = object_at("object", fields)?;
+    let step = number_at("step", fields)?;
+    Some(Command::Withdraw { at, object, step })
+}
+
+// The steps at `from` and `to`.
+fn steps_at(fields: &Value) -> Option<(u32, u32)>
+    ensures { result ≡ grammar.steps_at (view fields.now) }
+{
+    Some((number_at("from", fields)?, number_at("to", fields)?))
+}
+
+// The `count` at a replica, of exactly its fields.
+#[tactic(auto, unfolding(crate::specs::CommandGrammar::count_in))]
+fn count_in(at: String, fields: &Value) -> Option<Command>
+    ensures { option_map command_view result ≡ grammar.count_in (string_bytes at) (view fields.now) }
+{
+    if !has_fields(4, fields) {
+        return None;
+    }
+    let detector = number_at("detector", fields)?;
+    let (from, to) = steps_at(fields)?;
+    Some(Command::Count {
+        at,
+        detector,
+        from,
+        to,
+    })
+}
+
+// The `diagram` at a replica, of exactly its fields.
+#[tactic(auto, unfolding(crate::specs::CommandGrammar::diagram_in))]
+fn diagram_in(at: String, fields: &Value) -> Option<Command>
+    ensures { option_map command_view result ≡ grammar.diagram_in (string_bytes at) (view fields.now) }
+{
+    if !has_fields(3, fields) {
+        return None;
+    }
+    let (from, to) = steps_at(fields)?;
+    Some(Command::Diagram { at, from, to })
+}
+
+// The `scenario` at a replica, of exactly its field.
+fn scenario_in(at: String, fields: &Value) -> Option<Command>
+    ensures { option_map command_view result ≡ grammar.scenario_in (string_bytes at) (view fields.now) }
+{
+    if !has_fields(1, fields) {
+        return None;
+    }
+    Some(Command::Scenario { at })
+}

@@ -1,3 +1,0 @@
-pub mod Laboratory
-pub mod Keeping
-pub mod Kept

@@ -1,0 +1,15 @@
+use Rattle.std.proofs.Common.{Err}
+use Rattle.road_plan.specs.declared.limits.TheConstants.{MOST_LINES, MOST_BYTES}
+use Rattle.road_lab.specs.StreamViews.{sink_view}
+use Rattle.road_lab.specs.declared.faults.ServeFault.TheVariants.{Read}
+use Rattle.road_lab.proofs.RunEnds.{unopened, unopened_source}
+use Rattle.road_lab.proofs.run.run_script.Goals as goal
+
+pub returns-in-Err : goal.returns-in-Err
+returns-in-Err g c = (
+  Err Read,
+  λ e. cc,
+  unopened_source 0,
+  unopened_source 1,
+  record { status = c.after_fault.ensures; answers = unopened MOST_LINES MOST_BYTES (sink_view g.W.Sink c.args.writer.now) },
+)

@@ -1,0 +1,4 @@
+pub mod WinnersSuffice
+pub mod KeptStates
+pub mod Numbered
+pub mod Outcomes

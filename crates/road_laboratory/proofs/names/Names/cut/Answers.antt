@@ -1,0 +1,5 @@
+use Rattle.road_laboratory.proofs.Numbered.{texts_cut}
+use Rattle.road_laboratory.proofs.names.Names.cut.Goals as goal
+
+pub returns : goal.returns
+returns c = texts_cut c.self.inside.set.keys c.truncate.new.self.keys c.args.count c.args.self.now c.self.view_is c.truncate.ensures.keys

@@ -1,0 +1,3 @@
+pub mod Laboratory
+pub mod Keeping
+pub mod Private

@@ -1,0 +1,107 @@
+#!/usr/bin/env python3
+"""Compares the program with the simulator of this folder, line by line, on the examples and on random scripts.
+
+    tests/outside_eye/compare.py --program P --scripts 300 --seed 0
+"""
+import argparse
+import collections
+import json
+import os
+import subprocess
+import sys
+
+sys.dont_write_bytecode = True
+from scripts import plan_line, script
+from simulator import replies
+
+TOP = os.path.join(os.path.dirname(os.path.abspath(__file__)), "..", "..")
+PROGRAM = os.path.join(TOP, "crates", "road_lab", "out", "road_lab")
+EXAMPLES = os.path.join(TOP, "examples")
+# A program that has not ended after so many seconds is killed.
+PATIENCE = 120
+SHOWN = 300
+
+
+def of_program(program, given):
+    """The lines that the program answers to a script, and its status last."""
+    try:
+        ended = subprocess.run([program], input=given, stdout=subprocess.PIPE, stderr=subprocess.PIPE, timeout=PATIENCE)
+    except subprocess.TimeoutExpired:
+        return [b"(no end)"]
+    return ended.stdout.splitlines(True) + [b"status %d %s" % (ended.returncode, ended.stderr)]
+
+
+def of_simulator(given):
+    """The same of the simulator."""
+    answers = list(replies(given))
+    refused = len(answers) == 1 and answers[0].startswith(b'{"refused":')
+    return answers + [b"status 2 bad plan\n" if refused else b"status 0 "]
+
+
+def first_difference(program, given):
+    """The place of the first line that is answered otherwise, and both answers; or None."""
+    theirs, ours = of_program(program, given), of_simulator(given)
+    for place, pair in enumerate(zip(theirs, ours), 1):
+        if pair[0] != pair[1]:
+            return place, *pair
+    return None if len(theirs) == len(ours) else (min(len(theirs), len(ours)), b"(its length)", b"(its length)")
+
+
+def smallest(program, given):
+    """The script without the lines that can be left out while the answers still differ."""
+    kept, place = given.split(b"\n"), 1
+    while place < len(kept):
+        fewer = kept[:place] + kept[place + 1:]
+        if first_difference(program, b"\n".join(fewer)):
+            kept = fewer
+        else:
+            place += 1
+    return b"\n".join(kept)
+
+
+def kind_of(answer):
+    """What an answer is called in the table at the end."""
+    reply = json.loads(answer)
+    return "refused: " + reply["refused"] if "refused" in reply else " ".join(reply)
+
+
+def cases(scripts, seed):
+    """The name of each script, and the script: the examples, then for each seed a plan line alone and a script."""
+    for name in sorted(os.listdir(EXAMPLES)):
+        if name.endswith(".jsonl"):
+            with open(os.path.join(EXAMPLES, name), "rb") as example:
+                yield name, example.read()
+    for number in range(seed, seed + scripts):
+        yield f"plan line of seed {number}", plan_line(number)
+        yield f"script of seed {number}", script(number)
+
+
+def main():
+    parser = argparse.ArgumentParser(description=__doc__, formatter_class=argparse.RawDescriptionHelpFormatter)
+    parser.add_argument("--program", metavar="P", default=PROGRAM)
+    parser.add_argument("--scripts", type=int, metavar="N", default=300)
+    parser.add_argument("--seed", type=int, metavar="S", default=0)
+    given = parser.parse_args()
+    if not os.path.exists(given.program):
+        parser.error(f"no program at {given.program}: rt run in its crate builds it")
+    kinds, alike, differing = collections.Counter(), 0, 0
+    for name, text in cases(given.scripts, given.seed):
+        difference = first_difference(given.program, text)
+        if difference is None:
+            alike += 1
+            kinds.update(map(kind_of, of_simulator(text)[:-1]))
+            continue
+        differing += 1
+        place, theirs, ours = difference
+        print(f"{name}: line {place} is answered {theirs[:SHOWN]}, not {ours[:SHOWN]}. The smallest script that shows a difference:")
+        sys.stdout.flush()
+        sys.stdout.buffer.write(smallest(given.program, text) + b"\n")
+        sys.stdout.flush()
+    for kind, times in sorted(kinds.items()):
+        print(f"{times:7} {kind}")
+    print(f"{alike} scripts answered alike, {differing} not")
+    sys.exit(1 if differing else 0)
+
+
+if __name__ == "__main__":
+    main()

@@ -1,0 +1,327 @@
+#!/usr/bin/env python3
+"""The laboratory as plainly as it can be said: a set of edits for each replica, and a road that runs from step zero each time.
+
+    tests/outside_eye/simulator.py < SCRIPT
+"""
+import itertools
+import json
+import sys
+
+import lines
+from lines import KINDS, Refused
+from words import word
+
+LAST_STEP = 65_535
+LAST_HORIZON = 65_536
+GREATEST_COUNT = 2 ** 48
+MOST_REPLICAS = 64
+MOST_ROWS = 1_024
+ALWAYS = 65_536
+GREATEST = {"limit": 9, "slow": ALWAYS, "block": 1, "inflow": ALWAYS, "watch": 1}
+
+
+# The plan
+
+class Plan:
+    """The road that all replicas share, and what holds of it where no edit acts."""
+
+    def __init__(self, given):
+        self.length, self.exit, self.zone_width = given["length"], given["exit"], given["zone"]
+        self.zones, self.inlets, self.detectors = given["zones"], given["inlets"], given["detectors"]
+        self.seed, self.names = given["words"], given["replicas"]
+        for fault, stands in self.faults():
+            if stands:
+                raise Refused(fault)
+        self.defaults = {
+            **{("limit", zone): limit for zone, (limit, _) in enumerate(self.zones)},
+            **{("slow", zone): chance for zone, (_, chance) in enumerate(self.zones)},
+            **{("block", cell): 0 for cell in range(self.length)},
+            **{("inflow", inlet): chance for inlet, (_, chance) in enumerate(self.inlets)},
+            **{("watch", detector): 1 for detector in range(len(self.detectors))}}
+
+    def faults(self):
+        """Each fault of a plan, and whether it stands, in their order."""
+        cells = [cell for cell, _ in self.inlets]
+        yield "Names", not (1 <= len(self.names) <= MOST_REPLICAS and len(set(self.names)) == len(self.names)
+                            and all(1 <= len(name.encode()) <= 64 for name in self.names))
+        yield "Length", not 8 <= self.length <= 8_192
+        yield "Exit", not 1 <= self.exit <= min(64, self.length - 1)
+        yield "Zones", not (1 <= len(self.zones) <= 64
+                            and (len(self.zones) - 1) * self.zone_width < self.length <= len(self.zones) * self.zone_width)
+        yield "Inlets", not (1 <= len(cells) <= 16 and len(set(cells)) == len(cells) and max(cells) < self.first_deleted())
+        yield "Detectors", not (len(self.detectors) <= 64
+                                and all(1 <= site < self.first_deleted() for site in self.detectors))
+        yield "Default", not (all(limit <= 9 and chance <= ALWAYS for limit, chance in self.zones)
+                              and all(chance <= ALWAYS for _, chance in self.inlets))
+
+    def first_deleted(self):
+        return self.length - self.exit
+
+    def happens(self, chance, stream, step):
+        """Whether the event of a chance happens, by the word of the stream at the step."""
+        return word(self.seed, stream, step) >> 16 < chance
+
+
+# Edits: (kind, index, step, count, number, value), the value None for a withdrawal
+
+def place_of(edit):
+    """Kind, index and step, as they are listed."""
+    kind, index, step = edit[:3]
+    return KINDS.index(kind), index, step
+
+
+def strength_of(edit):
+    """The stamp decides, then the value, a withdrawal being below every number."""
+    *_, count, number, value = edit
+    return count, number, -1 if value is None else value
+
+
+def winners(edits):
+    """Of the edits of one object and step the strongest, listed."""
+    best = {}
+    for edit in sorted(edits, key=strength_of):
+        best[place_of(edit)] = edit
+    return [best[place] for place in sorted(best)]
+
+
+def head_of(edit):
+    return edit[:5]
+
+
+def beyond(edits, heads):
+    """The winners that have no head, or one whose stamp is not greater."""
+    stamps = {place_of(head): head[3:5] for head in heads}
+    return [edit for edit in winners(edits) if stamps.get(place_of(edit), (0, 0)) <= edit[3:5]]
+
+
+def put(edits):
+    """The number that is put for each object and step."""
+    return {place_of(edit): edit[5] for edit in winners(edits) if edit[5] is not None}
+
+
+def touched(before, after):
+    """The first step at which another number is put."""
+    changed = set(put(before).items()) ^ set(put(after).items())
+    return min((step for (_, _, step), _ in changed), default=None)
+
+
+def settings_at(plan, listed, step):
+    """The number of each object at a step: the latest-dated that is put up to it, else the plan's. (Winners are listed by step.)"""
+    numbers = dict(plan.defaults)
+    for kind, index, date, _, _, value in listed:
+        if date <= step and value is not None:
+            numbers[kind, index] = value
+    return numbers
+
+
+# The road: for each cell None, or a car's number and speed
+
+def run(plan, edits, to):
+    """For each step from zero up to `to`: the road, the settings, and what each detector counts in that step."""
+    road, listed = [None] * plan.length, winners(edits)
+    for step in range(to + 1):
+        numbers = settings_at(plan, listed, step)
+        after, counts = one_step(plan, numbers, step, road)
+        yield road, numbers, counts
+        road = after
+
+
+def one_step(plan, numbers, step, road):
+    """The road after a step, and the cars that passed each detector with the sum of their speeds."""
+    road = entered(plan, numbers, step, road)
+    after, counts = [None] * plan.length, [(0, 0)] * len(plan.detectors)
+    for cell, car in enumerate(road):
+        if car is None:
+            continue
+        number, _ = car
+        speed = new_speed(plan, numbers, step, road, cell)
+        for detector, site in enumerate(plan.detectors):
+            if numbers["watch", detector] and cell < site <= cell + speed:
+                cars, speeds = counts[detector]
+                counts[detector] = cars + 1, speeds + speed
+        if cell + speed < plan.first_deleted():
+            after[cell + speed] = number, speed
+    return after, counts
+
+
+def entered(plan, numbers, step, road):
+    """The road with the cars that enter in a step."""
+    road = list(road)
+    for inlet, (cell, _) in enumerate(plan.inlets):
+        if is_free(numbers, road, cell) and plan.happens(numbers["inflow", inlet], 2 ** 63 + inlet, step):
+            road[cell] = step * 16 + inlet, 0
+    return road
+
+
+def is_free(numbers, road, cell):
+    """Cells past the end of the road are free too."""
+    return cell >= len(road) or road[cell] is None and not numbers["block", cell]
+
+
+def new_speed(plan, numbers, step, road, cell):
+    """The speed of the car at the cell in a step."""
+    number, speed = road[cell]
+    zone = cell // plan.zone_width
+    speed = min(speed + 1, numbers["limit", zone])
+    for ahead in range(speed):
+        if not is_free(numbers, road, cell + 1 + ahead):
+            speed = ahead
+            break
+    if speed > 0 and plan.happens(numbers["slow", zone], number, step):
+        speed -= 1
+    return speed
+
+
+def row_of(road, numbers):
+    return "".join(str(car[1]) if car else "#" if numbers["block", cell] else "." for cell, car in enumerate(road))
+
+
+# Replicas and messages, and what they answer
+
+class Replica:
+    """All edits that reached it, and how far it may be asked."""
+
+    def __init__(self, number):
+        self.number, self.edits, self.horizon = number, frozenset(), 0
+
+
+class Laboratory:
+    """The replicas of a plan, and the messages between them: edits, or heads."""
+
+    def __init__(self, plan):
+        self.plan = plan
+        self.replicas = {name: Replica(number) for number, name in enumerate(plan.names)}
+        self.sent, self.asked = {}, {}
+
+    def answer(self, verb, fields):
+        """The reply to a command; its fields stand as the grammar lists them."""
+        replica = self.replicas.get(fields.pop("at"))
+        require(replica, "NoReplica")
+        return getattr(self, "answer_" + verb)(replica, *fields.values())
+
+    # Writes
+
+    def answer_edit(self, replica, thing, step, value):
+        return self.own_edit(replica, thing, step, value)
+
+    def answer_withdraw(self, replica, thing, step):
+        return self.own_edit(replica, thing, step, None)
+
+    def own_edit(self, replica, thing, step, value):
+        count = 1 + max((edit[3] for edit in replica.edits), default=0)
+        edit = (*thing, step, count, replica.number, value)
+        self.require_in_plan(edit)
+        require(count <= GREATEST_COUNT, "CountsSpent")
+        replica.edits |= {edit}
+        return {"stamp": [count, replica.number]}
+
+    def answer_import(self, replica, edits):
+        for edit in edits:
+            self.require_in_plan(edit)
+            require(1 <= edit[3] <= GREATEST_COUNT, "Count")
+            require(edit[4] >= MOST_REPLICAS, "Insider")
+        return self.grow(replica, edits)
+
+    def answer_take(self, replica, message):
+        require(message in self.sent, "NoMessage")
+        return self.grow(replica, self.sent[message])
+
+    def grow(self, replica, edits):
+        before = replica.edits
+        replica.edits = before | set(edits)
+        return {"touched": touched(before, replica.edits)}
+
+    def require_in_plan(self, edit):
+        kind, index, step, _, _, value = edit
+        require((kind, index) in self.plan.defaults, "NoObject")
+        require(step <= LAST_STEP, "Step")
+        require(value is None or value <= GREATEST[kind], "ValueOutOfRange")
+
+    def answer_advance(self, replica, to):
+        require(to <= LAST_HORIZON, "Horizon")
+        replica.horizon = max(replica.horizon, to)
+        return {"horizon": replica.horizon}
+
+    # Messages
+
+    def require_new(self, name):
+        require(name not in self.sent and name not in self.asked, "NameTaken")
+
+    def answer_send(self, replica, name):
+        self.require_new(name)
+        self.sent[name] = replica.edits
+        return {"message": name, "size": len(winners(replica.edits))}
+
+    def answer_heads(self, replica, name):
+        self.require_new(name)
+        self.asked[name] = [head_of(edit) for edit in winners(replica.edits)]
+        return {"form": 1, "heads": self.asked[name], "message": name}
+
+    def answer_beyond(self, replica, heads, name):
+        require(heads in self.asked, "NoMessage")
+        self.require_new(name)
+        self.sent[name] = beyond(replica.edits, self.asked[heads])
+        return {"edits": self.sent[name], "form": 1, "message": name}
+
+    # Questions
+
+    def answer_scenario(self, replica):
+        return {"edits": winners(replica.edits), "form": 1}
+
+    def answer_cells(self, replica, step):
+        return {"cells": self.rows(replica, step, step)[0]}
+
+    def answer_diagram(self, replica, first, to):
+        require(first <= to < first + MOST_ROWS, "Range")
+        return {"rows": self.rows(replica, first, to)}
+
+    def answer_cars(self, replica, step):
+        (road, _, _), = self.states(replica, step, step)
+        return {"cars": [[car[0], cell, car[1]] for cell, car in enumerate(road) if car]}
+
+    def answer_count(self, replica, detector, first, to):
+        require(detector < len(self.plan.detectors), "NoDetector")
+        require(first <= to, "Range")
+        counts = [counts[detector] for _, _, counts in self.states(replica, first, to)[:-1]]
+        return {"cars": sum(cars for cars, _ in counts), "speeds": sum(speeds for _, speeds in counts)}
+
+    def rows(self, replica, first, last):
+        return [row_of(road, numbers) for road, numbers, _ in self.states(replica, first, last)]
+
+    def states(self, replica, first, last):
+        """What `run` gives for some steps."""
+        require(last <= replica.horizon, "NotSimulated")
+        return list(itertools.islice(run(self.plan, replica.edits, last), first, None))
+
+
+def require(stands, otherwise):
+    if not stands:
+        raise Refused(otherwise)
+
+
+# From bytes to bytes
+
+def written(reply):
+    return json.dumps(reply, ensure_ascii=False, separators=(",", ":"), sort_keys=True).encode() + b"\n"
+
+
+def replies(script):
+    """The reply to each line of an input, of at most a million lines. A refused plan line ends it."""
+    first, *others = lines.cut(script) or [None]
+    try:
+        require(first is not None, "no plan")
+        plan = Plan(lines.reading(first, lines.plan))
+    except Refused as why:
+        yield written({"refused": str(why)})
+        return
+    yield written({"open": len(plan.names)})
+    laboratory = Laboratory(plan)
+    for line in others:
+        try:
+            yield written(laboratory.answer(*lines.reading(line, lines.command)))
+        except Refused as why:
+            yield written({"refused": str(why)})
+
+
+if __name__ == "__main__":
+    sys.stdout.buffer.writelines(replies(sys.stdin.buffer.read()))
