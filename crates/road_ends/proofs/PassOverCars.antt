@@ -1,19 +1,26 @@
 -- What the pass over the cars computes.
-use Rattle.std.specs.Prelude.{◌≡◌, ℕ, ◌+◌, ◌/◌, ◌<◌, ◌≤◌, ◌||◌, Bool, true, suc, List, ◌∷◌, length, drop, is_some, slice_index, slice_set}
-use Rattle.std.proofs.Common.{sym, ap, ◌∙◌, arith, refl}
+use Rattle.std.specs.Prelude.{◌≡◌, ℕ, ◌+◌, ◌/◌, ◌<◌, ◌≤◌, ◌||◌, ◌-◌, min, Bool, true, suc, List, ◌∷◌, length, drop, is_some, slice_index, slice_set}
+use Rattle.std.proofs.Common.{sym, ap, ◌∙◌, arith, refl, inl, inr}
+use Rattle.std.proofs.lemmas.Bool.{cases_lt}
+use Rattle.std.specs.List.Sorted.{IsNonDecreasing}
 use Rattle.std.proofs.lemmas.List.{drop-set, drop_more, get_or-map, length-map}
 use Rattle.road_plan.specs.Plan.{Plan, zone_of}
 use Rattle.road_plan.specs.Settings.{Settings, Fits}
 use Rattle.road_words.specs.Words.{word}
 use Rattle.road_cells.specs.Array.{Array, vehicle_at}
 use Rattle.road_cells.specs.Cars.{cars_of, vehicle_of, vehicle_among, cell_at}
-use Rattle.road_cells.specs.Gap.{free_before, free_cells, is_blocked, is_taken}
+use Rattle.road_cells.specs.Gap.{free_before, free_cells, is_blocked, is_taken, ArePartedAt}
 use Rattle.road_cells.proofs.CarLists.{rise-cars_from, vehicle_among-cars_from}
-use Rattle.road_cells.proofs.CarPlaces.{vehicle_among-at}
+use Rattle.road_cells.proofs.CarPlaces.{rise-at, vehicle_among-at}
+use Rattle.road_cells.proofs.CellsAhead.{free_to_next, free_to_none, free_to_point, free_to_end}
+use Rattle.road_cells.proofs.FreeCells.{free_before-or, free_before-same}
+use Rattle.road_cells.specs.declared.car.TheConstants.{GREATEST_SPEED}
 use Rattle.road_cells.specs.declared.car.Car.{Car}
+use Rattle.road_rules.proofs.MotionOfCars.{cell_at-end}
 use Rattle.road_rules.specs.Speeds.{wanted, slowed, has_event}
 use Rattle.road_ends.specs.Speed.{gap, speed, speeds, nth_car}
 use Rattle.road_ends.specs.Private.KeptHalves.{AreHalves, IsHeldUp}
+use Rattle.road_ends.specs.Private.PassPlaces.{IsNthOrNowhere, AreOfZone}
 use Rattle.road_ends.proofs.StepByCars.{gap-free_cells}
 
 -- no cell is free where the first one is taken
@@ -29,6 +36,49 @@ held_up blocks a k held =
     let stands = sym (vehicle_among-cars_from 0 ahead a) ∙ ap (λ c. vehicle_among c (cars_of a)) zero_more ∙ vehicle_among-at 0 (cars_of a) (k + 1) (record { number = 0; cell = 0; speed = 0 }) (rise-cars_from 0 a) held.0 in
     first_taken (is_taken blocks a) (cell_at (cars_of a) k + 1) 8
     (ap (λ c. is_some (vehicle_at a c) || is_blocked blocks c) (sym held.1) ∙ ap (λ v. is_some v || is_blocked blocks ahead) stands)
+
+-- a car stands before the next one
+pub before_next : (a : Array) (k next : ℕ) → length a ≤ 65536 → k < length (cars_of a) → IsNthOrNowhere (length (cars_of a)) (k + 1) (cell_at (cars_of a) (k + 1)) next → cell_at (cars_of a) k < next
+before_next a k next long below is = elim (cases_lt (k + 1) (length (cars_of a))) as (λ _. cell_at (cars_of a) k < next) [
+  | inl more ↦ let rise = rise-at 0 (cars_of a) k (k + 1) (rise-cars_from 0 a) (omega arith) more in let here = is.here more in omega arith
+  | inr last ↦ let end = cell_at-end 0 a k below in let far = is.none last in omega arith
+]
+
+-- a cell lies before the next block
+pub before_block : (blocks : List ℕ) (c reached block : ℕ) → c ≤ 65536 → ArePartedAt blocks c reached → IsNthOrNowhere (length blocks) reached (slice_index blocks reached) block → c < block
+before_block blocks c reached block low parted is = elim (cases_lt reached (length blocks)) as (λ _. c < block) [
+  | inl more ↦ let ahead = parted.ahead reached (omega arith) more in let here = is.here more in omega arith
+  | inr last ↦ let far = is.none last in omega arith
+]
+
+-- the free cells in front of a car are those before the next car and the next block
+pub free_ahead : (blocks : List ℕ) (a : Array) (k reached next block : ℕ) → length a ≤ 65536 → k < length (cars_of a) → IsNonDecreasing blocks → ArePartedAt blocks (cell_at (cars_of a) k) reached
+    → IsNthOrNowhere (length (cars_of a)) (k + 1) (cell_at (cars_of a) (k + 1)) next → IsNthOrNowhere (length blocks) reached (slice_index blocks reached) block
+    → min GREATEST_SPEED (min next block - (cell_at (cars_of a) k + 1)) ≡ free_cells blocks a (cell_at (cars_of a) k)
+free_ahead blocks a k reached next block long below rising parted is_next is_block =
+    let cars = cars_of a in
+    let cell = cell_at cars k in
+    let rise = rise-cars_from 0 a in
+    let end = cell_at-end 0 a k below in
+    let to_car : free_before (λ c. is_some (vehicle_among c cars)) (cell + 1) GREATEST_SPEED ≡ min GREATEST_SPEED (next - (cell + 1)) =
+    elim (cases_lt (k + 1) (length cars)) as (λ _. free_before (λ c. is_some (vehicle_among c cars)) (cell + 1) GREATEST_SPEED ≡ min GREATEST_SPEED (next - (cell + 1))) [
+      | inl more ↦ free_to_next cars k GREATEST_SPEED (record { number = 0; cell = 0; speed = 0 }) rise more ∙ ap (λ n. min GREATEST_SPEED (n - (cell + 1))) (sym (is_next.here more))
+      | inr last ↦ let none = free_to_none cars k GREATEST_SPEED rise below last in let far = is_next.none last in omega arith
+    ] in
+    let to_block : free_before (is_blocked blocks) (cell + 1) GREATEST_SPEED ≡ min GREATEST_SPEED (block - (cell + 1)) =
+    elim (cases_lt reached (length blocks)) as (λ _. free_before (is_blocked blocks) (cell + 1) GREATEST_SPEED ≡ min GREATEST_SPEED (block - (cell + 1))) [
+      | inl more ↦ free_to_point blocks cell reached rising parted GREATEST_SPEED more ∙ ap (λ n. min GREATEST_SPEED (n - (cell + 1))) (sym (is_block.here more))
+      | inr last ↦ let none = free_to_end blocks cell reached rising parted GREATEST_SPEED last in let far = is_block.none last in omega arith
+    ] in
+    let among : free_before (λ c. is_some (vehicle_among c cars)) (cell + 1) GREATEST_SPEED ≡ free_before (λ c. is_some (vehicle_at a c)) (cell + 1) GREATEST_SPEED =
+    free_before-same (λ c. is_some (vehicle_among c cars)) (λ c. is_some (vehicle_at a c)) GREATEST_SPEED (cell + 1)
+    (λ c le lt. let here : c ≡ 0 + c = omega arith in ap (λ j. is_some (vehicle_among j cars)) here ∙ ap is_some (vehicle_among-cars_from 0 c a)) in
+    let both = free_before-or (λ c. is_some (vehicle_at a c)) (is_blocked blocks) GREATEST_SPEED (cell + 1) in
+    least (next - (cell + 1)) (block - (cell + 1)) (min next block - (cell + 1)) (omega arith)
+    ∙ (λ i. min (sym to_car i) (sym to_block i)) ∙ ap (λ n. min n (free_before (is_blocked blocks) (cell + 1) GREATEST_SPEED)) among ∙ sym both
+  where
+    least : (m n l : ℕ) → l ≡ min m n → min GREATEST_SPEED l ≡ min (min GREATEST_SPEED m) (min GREATEST_SPEED n)
+    least m n l is = omega arith
 
 module _ (p : Plan) (s : Settings) (t : ℕ) (a : Array) where
   -- the speed by the limit, the free cells, the chance and the word that were read is that of the definition
@@ -60,6 +110,29 @@ module _ (p : Plan) (s : Settings) (t : ℕ) (a : Array) where
       λ moves. are.each k inside (λ held. let none : free ≡ 0 = clear ∙ held_up blocks a k held in omega arith) ∙ ap (λ (cs : List Car). word p.words (nth_car cs k).number t / 65536) (sym all) in
       read_speed (word p.words) cars blocks limits chances k zone t free wished v fits long (λ _ _. refl) all blocked limited chanced in_zone refl clear wishes
       (is (word p.words (nth_car cars k).number t) right)
+
+  -- the speed by what the pass has before it is that of the definition
+  pub pass_speed : (words : ℕ → ℕ → ℕ) (cars : List Car) (halves : List ℕ) (k reached next block zone limit chance v : ℕ) → Fits p s → length a ≤ p.cells → p.cells ≤ 65536 → IsNonDecreasing s.blocks
+      → AreHalves p.words t a halves → ((stream step : ℕ) → words stream step ≡ word p.words stream step) → cars ≡ cars_of a → k < length (cars_of a)
+      → ArePartedAt s.blocks (cell_at (cars_of a) k) reached
+      → IsNthOrNowhere (length (cars_of a)) (k + 1) (cell_at (cars_of a) (k + 1)) next → IsNthOrNowhere (length s.blocks) reached (slice_index s.blocks reached) block
+      → zone ≡ zone_of p (cell_at (cars_of a) k) → AreOfZone s.limits s.chances zone limit chance
+      → (k < length halves → (word : ℕ) → (0 < wanted (nth_car cars k).speed limit (min GREATEST_SPEED (min next block - (cell_at cars k + 1))) → slice_index halves k ≡ word / 65536)
+      → v ≡ slowed (wanted (nth_car cars k).speed limit (min GREATEST_SPEED (min next block - (cell_at cars k + 1)))) (has_event word chance))
+      → (length halves ≤ k → v ≡ slowed (wanted (nth_car cars k).speed limit (min GREATEST_SPEED (min next block - (cell_at cars k + 1)))) (has_event (words (nth_car cars k).number t) chance))
+      → v ≡ speed p s t a (nth_car (cars_of a) k).cell (vehicle_of (nth_car (cars_of a) k))
+  pass_speed words cars halves k reached next block zone limit chance v fits long short rising are named all below parted is_next is_block in_zone of_zone by_half by_word =
+      let free = min GREATEST_SPEED (min next block - (cell_at cars k + 1)) in
+      let wished = wanted (nth_car cars k).speed limit free in
+      let clear : free ≡ free_cells s.blocks a (cell_at (cars_of a) k) =
+      ap (λ (cs : List Car). min GREATEST_SPEED (min next block - (cell_at cs k + 1))) all ∙ free_ahead s.blocks a k reached next block (omega arith) below rising parted is_next is_block in
+      let wishes : wished ≡ wanted (nth_car cars k).speed (slice_index s.limits zone) free = ap (λ l. wanted (nth_car cars k).speed l free) of_zone.limit_is in
+      elim (cases_lt k (length halves)) as (λ _. v ≡ speed p s t a (nth_car (cars_of a) k).cell (vehicle_of (nth_car (cars_of a) k))) [
+        | inl inside ↦ read_kept_speed cars halves s.blocks s.limits s.chances k zone free wished v fits long are inside all refl refl refl in_zone clear wishes
+            (λ word right. by_half inside word right ∙ ap (λ ch. slowed wished (has_event word ch)) of_zone.chance_is)
+        | inr none ↦ read_speed words cars s.blocks s.limits s.chances k zone t free wished v fits long named all refl refl refl in_zone refl clear wishes
+            (by_word none ∙ ap (λ ch. slowed wished (has_event (words (nth_car cars k).number t) ch)) of_zone.chance_is)
+      ]
 
   -- one speed for each car
   pub speed_each : length (speeds p s t a) ≡ length (cars_of a)

@@ -46,6 +46,7 @@ fn has_event(words: &PlanWords, stream: u64, place: u64, chance: u32) -> bool
 }
 
 // A speed after rule 3, by the word at a place of a stream. It is drawn only where it can change the speed.
+#[inline(never)]
 pub(crate) fn slowed_by_chance(
     words: &PlanWords,
     stream: u64,
@@ -66,9 +67,5 @@ pub(crate) fn slowed_by_chance(
 pub(crate) fn slowed_by_half(half: u16, speed: u8, chance: u32) -> u8
     ensures { (word : ℕ) → (0 < speed → half ≡ word / 65536) → result ≡ slowed speed (has_event word chance) }
 {
-    if u32::from(half) < chance {
-        speed.saturating_sub(1)
-    } else {
-        speed
-    }
+    speed.saturating_sub(u8::from(u32::from(half) < chance))
 }

@@ -1,10 +1,10 @@
-ghost use Rattle.std.specs.Prelude.{◌≡◌, ◌<◌, ◌/◌, length, IsTrue, IfOk};
+ghost use Rattle.std.specs.Prelude.{◌≡◌, ℕ, ◌-◌, ◌<◌, ◌≤◌, ◌/◌, ◌%◌, length, slice_index, IsTrue, IfOk, IfSome};
 ghost use Rattle.road_words.specs.Words.{word};
 ghost use Rattle.road_ends.specs.Entries.{inlet_stream};
 ghost use Rattle.road_ends.specs.Private.KeptHalves.{AreHalves, IsHalf, IsHeldUp};
 
 use crate::OutOfMemory;
-use crate::rows::{NO_ROW, WordRows};
+use crate::rows::{NO_ROW, ROW_STEPS, WordRows};
 use road_cells::{Car, Road};
 use road_plan::Plan;
 use road_plan::limits::MOST_INLETS;
@@ -92,35 +92,84 @@ impl DrawnWords {
         ensures unchanged { self.new ≡ self.old }
     {
         let cars = road.cars();
-        let mut halves = vec![in alloc; 0; cars.len()]?;
-        for place in 0..cars.len() {
-            halves[place] = self.half_of_car(cars, place, step)?;
-        }
-        Ok(halves)
+        self.cars.resize(cars.len(), NO_ROW)?;
+        halves_of(alloc, &mut self.rows, &mut self.cars, cars, step)
     }
+}
 
-    // The upper half of a car's word at a step; 0 of a car that cannot move, whose word nobody asks for.
-    #[inline(always)]
-    fn half_of_car(&mut self, cars: &[Car], place: usize, step: u32) -> Result<u16, OutOfMemory>
-        requires { place < length cars.now }
-        ensures half { IfOk result (λ half. IsHalf self.old step cars.now place half) }
-        ensures unchanged { self.new ≡ self.old }
-    {
-        if is_held_up(cars, place) {
-            return Ok(0);
+// The upper halves of the words of cars at a step, by their slots. Where a row is not drawn yet it is, and has its slot
+// then.
+#[inline(always)]
+fn halves_of(
+    alloc: Global,
+    rows: &mut WordRows,
+    slots: &mut [u32],
+    cars: &[Car],
+    step: u32,
+) -> Result<Vec<u16>, OutOfMemory>
+    requires { length slots.old ≡ length cars.now }
+    ensures halves { IfOk result (λ halves. (k : ℕ) → k < length halves.items →
+        IsHalf rows.old.kind step cars.now k (slice_index halves.items k)) }
+    ensures kind { rows.new.kind ≡ rows.old.kind }
+{
+    rows.turn_to(step);
+    let mut halves = vec![in alloc; 0; cars.len()]?;
+    let mut place = 0;
+    while place < cars.len() {
+        place = filled(rows, slots, cars, step, place, &mut halves);
+        if place < cars.len() {
+            let drawn = rows.draw(cars[place].number, step)?;
+            slots[place] = drawn.slot;
+            halves[place] = drawn.half;
+            place += 1;
         }
-        let number = cars[place].number;
-        if place < self.cars.len()
-            && let Some(half) = self.rows.kept(self.cars[place], number, step)
-        {
-            return Ok(half);
-        }
-        let drawn = self.rows.draw(number, step)?;
-        if place < self.cars.len() {
-            self.cars[place] = drawn.slot;
-        }
-        Ok(drawn.half)
     }
+    Ok(halves)
+}
+
+// Writes the upper halves of the words of cars at a step, from a place on, as far as their rows are drawn: the place of
+// the first car whose row is not.
+#[inline(always)]
+fn filled(
+    rows: &WordRows,
+    slots: &[u32],
+    cars: &[Car],
+    step: u32,
+    from: usize,
+    halves: &mut [u16],
+) -> usize
+    requires first { rows.now.first ≡ step - step % ROW_STEPS }
+    requires slots { length slots.now ≡ length cars.now }
+    requires halves { length halves.old ≡ length cars.now }
+    requires from { from ≤ length cars.now }
+    ensures long { length halves.new ≡ length cars.now }
+    ensures after { from ≤ result }
+    ensures within { result ≤ length cars.now }
+    ensures before { (k : ℕ) → k < from → slice_index halves.new k ≡ slice_index halves.old k }
+    ensures are { (k : ℕ) → from ≤ k → k < result →
+        IsHalf rows.now.kind step cars.now k (slice_index halves.new k) }
+{
+    for place in from..cars.len() {
+        match kept_half(rows, slots[place], cars, place, step) {
+            Some(half) => halves[place] = half,
+            None => return place,
+        }
+    }
+    cars.len()
+}
+
+// The upper half of a car's word at a step, where its row is drawn; 0 of a car that cannot move, whose word nobody asks
+// for.
+#[inline(always)]
+fn kept_half(rows: &WordRows, slot: u32, cars: &[Car], place: usize, step: u32) -> Option<u16>
+    requires first { rows.now.first ≡ step - step % ROW_STEPS }
+    requires place { place < length cars.now }
+    ensures { IfSome result (λ half. IsHalf rows.now.kind step cars.now place half) }
+{
+    if is_held_up(cars, place) {
+        return Some(0);
+    }
+    rows.kept_now(slot, cars[place].number, step)
 }
 
 // Whether the next car stands right in front of a car.

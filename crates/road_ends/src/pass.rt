@@ -1,41 +1,57 @@
 //! One pass over the cars, from the far end of the road to its beginning.
 
-ghost use Rattle.std.specs.Prelude.{◌≡◌, ℕ, ◌*◌, ◌≤◌, ◌<◌, length, slice_index, IfOk};
-ghost use Rattle.road_plan.specs.Plan.{zone_of};
+ghost use Rattle.std.specs.Prelude.{◌≡◌, ℕ, ◌+◌, ◌-◌, ◌*◌, ◌/◌, ◌≤◌, ◌<◌, length, min, slice_index, IfOk};
+ghost use Rattle.std.specs.List.Sorted.{IsNonDecreasing};
 ghost use Rattle.road_plan.specs.Settings.{Fits};
-ghost use Rattle.road_cells.specs.Cars.{cars_of, cell_at, vehicle_of};
-ghost use Rattle.road_words.specs.Words.{word};
-ghost use Rattle.road_ends.specs.Speed.{speed, speeds, nth_car};
+ghost use Rattle.road_cells.specs.Gap.{ArePartedAt};
+ghost use Rattle.road_cells.specs.declared.car.TheConstants.{GREATEST_SPEED};
+ghost use Rattle.road_rules.specs.Speeds.{has_event, slowed, wanted};
+ghost use Rattle.road_ends.specs.Speed.{speeds};
 ghost use Rattle.road_ends.specs.Private.KeptHalves.{AreHalves};
-ghost use Rattle.road_ends.specs.Private.PassPlaces.{IsPassAt};
+ghost use Rattle.road_ends.specs.Private.PassPlaces.{IsNthOrNowhere, AreOfZone};
 
 use crate::OutOfMemory;
 use crate::chance::{slowed_by_chance, slowed_by_half};
-use road_cells::{Road, reached_blocks_below};
+use road_cells::{Car, GREATEST_SPEED, Road, reached_blocks_below};
 use road_plan::{Plan, Settings};
 use road_rules::wanted;
 use road_words::{PlanWords, Words};
 use std::alloc::Global;
 
+/// A cell past all roads, in place of that of a car or a block that is not there.
+const NOWHERE: u32 = u32::MAX;
+
 /// What the pass keeps from a car to the next one behind it.
 #[derive(Clone, Copy)]
 struct Cursor {
-    /// How many of the blocked cells are not in front of the car.
-    reached: usize,
+    /// The cell of the car in front.
+    next: u32,
+    /// The blocked cell in front.
+    block: Block,
     /// The zone where the car stands.
     zone: Zone,
 }
 
-/// A zone, and its first cell.
+/// The first blocked cell in front of a cell, and how many of them are not in front of it.
+#[derive(Clone, Copy)]
+struct Block {
+    reached: usize,
+    cell: u32,
+}
+
+/// A zone, its first cell, its speed limit and its slowing chance.
 #[derive(Clone, Copy)]
 struct Zone {
     index: usize,
     start: u32,
+    limit: u32,
+    chance: u32,
 }
 
 // The new speeds of all cars, in the order of the cars. It is one pass over the cars from the far end, in one growth.
-// The next car and the next blocked cell come with the pass, so that nothing is searched; a word is drawn only where no
-// half of it is given and it can change a speed; and a zone is divided out only where it changes.
+// The next car, the next blocked cell, and the zone's limit and chance come with the pass, so that nothing is searched or
+// looked up for a car; a word is drawn only where no half of it is given and it can change a speed; and a zone is divided
+// out only where it changes.
 #[inline(never)]
 pub(crate) fn speeds(
     alloc: Global,
@@ -50,44 +66,63 @@ pub(crate) fn speeds(
     requires halves { AreHalves plan.now.words step road.now halves.now }
     ensures { IfOk result (λ new. new.items ≡ speeds plan.now settings.now step road.now) }
 {
+    plan.known();
     let words = PlanWords::of(plan);
-    let mut new = vec![in alloc; 0; road.cars().len()]?;
-    let mut cursor = Cursor {
-        reached: settings.blocks().len(),
-        zone: Zone { index: 0, start: 0 },
-    };
-    for place in (0..road.cars().len()).rev() {
-        cursor = moved_back(plan, settings, road.cars()[place].cell, cursor);
-        new[place] = new_speed(plan, settings, &words, step, road, halves, place, cursor);
+    let cars = road.cars();
+    let width = plan.width();
+    let limits = settings.limits();
+    let chances = settings.chances();
+    let blocks = settings.blocks();
+    let mut new = vec![in alloc; 0; cars.len()]?;
+    let mut cursor = far_end(limits, chances, blocks);
+    for place in (0..cars.len()).rev() {
+        let car = cars[place];
+        cursor.zone = zone_at(width, limits, chances, car.cell, cursor.zone);
+        cursor.block = block_ahead(blocks, car.cell, cursor.block);
+        new[place] = new_speed(&words, step, car, halves, place, cursor);
+        cursor.next = car.cell;
     }
     Ok(new)
 }
 
-// The pass at a cell that is not in front of where it stood.
-fn moved_back(plan: &Plan, settings: &Settings, cell: u32, cursor: Cursor) -> Cursor
-    requires fits { Fits plan.now settings.now }
-    requires bound { cursor.reached ≤ length settings.now.blocks }
-    requires ahead { (i : ℕ) → cursor.reached ≤ i → i < length settings.now.blocks
-        → cell < slice_index settings.now.blocks i }
-    requires start { cursor.zone.start ≡ cursor.zone.index * plan.now.width }
-    ensures at { IsPassAt plan.now settings.now cell result.reached result.zone.index }
-    ensures bound { result.reached ≤ length settings.now.blocks }
-    ensures start { result.zone.start ≡ result.zone.index * plan.now.width }
+// Where the pass begins: nothing is in front.
+fn far_end(limits: &[u32], chances: &[u32], blocks: &[u32]) -> Cursor
+    requires limits { 0 < length limits.now }
+    requires chances { 0 < length chances.now }
+    ensures next { result.next ≡ NOWHERE }
+    ensures reached { result.block.reached ≡ length blocks.now }
+    ensures block { result.block.cell ≡ NOWHERE }
+    ensures zone { result.zone.index ≡ 0 }
+    ensures start { result.zone.start ≡ 0 }
+    ensures of_zone { AreOfZone limits.now chances.now result.zone.index result.zone.limit result.zone.chance }
 {
     Cursor {
-        reached: reached_blocks_below(settings.blocks(), cell, cursor.reached),
-        zone: zone_at(plan, cell, cursor.zone),
+        next: NOWHERE,
+        block: Block {
+            reached: blocks.len(),
+            cell: NOWHERE,
+        },
+        zone: Zone {
+            index: 0,
+            start: 0,
+            limit: limits[0],
+            chance: chances[0],
+        },
     }
 }
 
 // The zone of a cell. Most cells lie in the zone of the cell before.
-fn zone_at(plan: &Plan, cell: u32, last: Zone) -> Zone
-    requires { last.start ≡ last.index * plan.now.width }
-    ensures zone { result.index ≡ zone_of plan.now cell }
-    ensures start { result.start ≡ result.index * plan.now.width }
+#[inline(always)]
+fn zone_at(width: u32, limits: &[u32], chances: &[u32], cell: u32, last: Zone) -> Zone
+    requires wide { 0 < width }
+    requires limits { cell / width < length limits.now }
+    requires chances { cell / width < length chances.now }
+    requires start { last.start ≡ last.index * width }
+    requires of_zone { AreOfZone limits.now chances.now last.index last.limit last.chance }
+    ensures zone { result.index ≡ cell / width }
+    ensures start { result.start ≡ result.index * width }
+    ensures of_zone { AreOfZone limits.now chances.now result.index result.limit result.chance }
 {
-    plan.known();
-    let width = plan.width();
     if last.start <= cell && cell - last.start < width {
         return last;
     }
@@ -95,37 +130,74 @@ fn zone_at(plan: &Plan, cell: u32, last: Zone) -> Zone
     Zone {
         index: index as usize,
         start: index * width,
+        limit: limits[index as usize],
+        chance: chances[index as usize],
     }
 }
 
-// The new speed of the car at a place of the list, where the pass stands.
+// The first blocked cell in front of a cell that is not in front of where the pass stood.
+#[inline(always)]
+fn block_ahead(blocks: &[u32], cell: u32, last: Block) -> Block
+    requires rising { IsNonDecreasing blocks.now }
+    requires bound { last.reached ≤ length blocks.now }
+    requires ahead { (i : ℕ) → last.reached ≤ i → i < length blocks.now → cell < slice_index blocks.now i }
+    requires named { IsNthOrNowhere (length blocks.now) last.reached (slice_index blocks.now last.reached) last.cell }
+    ensures bound { result.reached ≤ length blocks.now }
+    ensures parted { ArePartedAt blocks.now cell result.reached }
+    ensures named { IsNthOrNowhere (length blocks.now) result.reached (slice_index blocks.now result.reached) result.cell }
+{
+    if last.reached == 0 {
+        return last;
+    }
+    let reached = reached_blocks_below(blocks, cell, last.reached);
+    if reached == last.reached {
+        return last;
+    }
+    Block {
+        reached,
+        cell: blocks[reached],
+    }
+}
+
+// The new speed of a car, where the pass stands: by the half of its word, where there are halves, and else by its word.
+#[inline(always)]
 fn new_speed(
-    plan: &Plan,
-    settings: &Settings,
     words: &PlanWords,
     step: u32,
-    road: &Road,
+    car: Car,
     halves: &[u16],
     place: usize,
     cursor: Cursor,
 ) -> u8
-    requires fits { Fits plan.now settings.now }
-    requires on_road { length road.now ≤ plan.now.cells }
-    requires halves { AreHalves plan.now.words step road.now halves.now }
-    requires words { (stream step : ℕ)
-        → ⟦<PlanWords as Words>⟧.word_of words.now stream step ≡ word plan.now.words stream step }
-    requires car { place < length (cars_of road.now) }
-    requires at { IsPassAt plan.now settings.now (cell_at (cars_of road.now) place) cursor.reached cursor.zone.index }
-    ensures { let car = nth_car (cars_of road.now) place in
-        result ≡ speed plan.now settings.now step road.now car.cell (vehicle_of car) }
+    requires next { car.cell < cursor.next }
+    requires block { car.cell < cursor.block.cell }
+    ensures by_half { let wished = wanted car.speed cursor.zone.limit
+        (min GREATEST_SPEED (min cursor.next cursor.block.cell - (car.cell + 1))) in
+        place < length halves.now → (word : ℕ) → (0 < wished → slice_index halves.now place ≡ word / 65536)
+        → result ≡ slowed wished (has_event word cursor.zone.chance) }
+    ensures by_word { let wished = wanted car.speed cursor.zone.limit
+        (min GREATEST_SPEED (min cursor.next cursor.block.cell - (car.cell + 1))) in
+        let word = ⟦<PlanWords as Words>⟧.word_of words.now car.number step in
+        length halves.now ≤ place → result ≡ slowed wished (has_event word cursor.zone.chance) }
 {
-    plan.known();
-    let car = road.cars()[place];
-    let gap = road.gap_to(place, settings.blocks(), cursor.reached);
-    let wished = wanted(car.speed, settings.limits()[cursor.zone.index], gap);
-    let chance = settings.chances()[cursor.zone.index];
+    let free = free_between(car.cell, cursor.next.min(cursor.block.cell));
+    let wished = wanted(car.speed, cursor.zone.limit, free);
     if place < halves.len() {
-        return slowed_by_half(halves[place], wished, chance);
+        return slowed_by_half(halves[place], wished, cursor.zone.chance);
     }
-    slowed_by_chance(words, car.number, u64::from(step), wished, chance)
+    slowed_by_chance(
+        words,
+        car.number,
+        u64::from(step),
+        wished,
+        cursor.zone.chance,
+    )
+}
+
+// The cells between two cells, at most `GREATEST_SPEED`.
+fn free_between(cell: u32, next: u32) -> u8
+    requires { cell < next }
+    ensures { result ≡ min GREATEST_SPEED (next - (cell + 1)) }
+{
+    (next - cell - 1).min(u32::from(GREATEST_SPEED)) as u8
 }

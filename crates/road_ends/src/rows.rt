@@ -10,7 +10,7 @@ use road_words::{PlanWords, ROW_WORDS};
 use std::alloc::Global;
 
 /// The steps of a row's words.
-const ROW_STEPS: u32 = ROW_WORDS as u32;
+pub(crate) const ROW_STEPS: u32 = ROW_WORDS as u32;
 
 /// A slot of no row.
 pub(crate) const NO_ROW: u32 = u32::MAX;
@@ -30,7 +30,7 @@ struct WordRow {
 #[derive(Drop)]
 pub(crate) struct WordRows {
     pub(crate) kind: WordKind,
-    first: u32,
+    pub(crate) first: u32,
     rows: Vec<WordRow>,
     ghost drawn: { AreRows kind first rows.items },
 }
@@ -56,7 +56,7 @@ impl WordRows {
 
     // The rows are for the steps round this one, from a multiple of 64 on: others are let go.
     #[inline(always)]
-    fn turn_to(&mut self, step: u32)
+    pub(crate) fn turn_to(&mut self, step: u32)
         ensures first { self.new.first ≡ step - step % ROW_STEPS }
         ensures kind { self.new.kind ≡ self.old.kind }
     {
@@ -74,6 +74,15 @@ impl WordRows {
         ensures kind { self.new.kind ≡ self.old.kind }
     {
         self.turn_to(step);
+        self.kept_now(slot, stream, step)
+    }
+
+    // The same, where the rows are for the steps round this one.
+    #[inline(always)]
+    pub(crate) fn kept_now(&self, slot: u32, stream: u64, step: u32) -> Option<u16>
+        requires { self.now.first ≡ step - step % ROW_STEPS }
+        ensures { IfSome result (λ half. half ≡ word self.now.kind stream step / 65536) }
+    {
         match self.rows.get(slot as usize) {
             Some(row) if row.stream == stream => Some(row.halves[(step % ROW_STEPS) as usize]),
             _ => None,
@@ -84,6 +93,7 @@ impl WordRows {
     #[inline(never)]
     pub(crate) fn draw(&mut self, stream: u64, step: u32) -> Result<Drawn, OutOfMemory>
         ensures half { IfOk result (λ drawn. drawn.half ≡ word self.old.kind stream step / 65536) }
+        ensures first { self.new.first ≡ step - step % ROW_STEPS }
         ensures kind { self.new.kind ≡ self.old.kind }
     {
         self.turn_to(step);

@@ -26,32 +26,28 @@ pub fn moved(alloc: Global, road: &Road, speeds: &[u8]) -> Result<Road, OutOfMem
     if road.cars().is_empty() {
         return Ok(Road::empty(alloc));
     }
-    moved_cars(alloc, road, speeds)
+    moved_cars(road, speeds)
 }
 
-// The same, one car after the other.
-fn moved_cars(alloc: Global, road: &Road, speeds: &[u8]) -> Result<Road, OutOfMemory>
+// The same, one car after the other in a copy of the road.
+fn moved_cars(road: &Road, speeds: &[u8]) -> Result<Road, OutOfMemory>
     requires low { length road.now ≤ 65536 }
     requires may { MayMove road.now speeds.now }
     ensures motion { IfOk result (λ moved. moved ≡ array_after_motion_at speeds.now road.now) }
     ensures cars { IfOk result (λ moved. cars_of moved ≡ cars_after_motion speeds.now (cars_of road.now)) }
 {
-    let cars = road.cars();
-    let mut moved = Vec::with_capacity(alloc, cars.len())?;
-    for (place, car) in cars.iter().enumerate() {
-        moved.push(advanced(*car, speeds[place]))?;
+    let mut cars = road.copied()?.into_cars();
+    for place in 0..cars.len() {
+        advance(&mut cars[place], speeds[place]);
     }
-    Ok(Road::of(moved))
+    Ok(Road::of(cars))
 }
 
-// A car after its motion.
-fn advanced(car: Car, speed: u8) -> Car
-    requires { car.cell ≤ 65535 }
-    ensures { result ≡ car_after_motion speed car }
+// A car drives.
+fn advance(car: &mut Car, speed: u8)
+    requires { car.old.cell ≤ 65535 }
+    ensures { car.new ≡ car_after_motion speed car.old }
 {
-    Car {
-        number: car.number,
-        cell: car.cell + u32::from(speed),
-        speed,
-    }
+    car.cell += u32::from(speed);
+    car.speed = speed;
 }

@@ -1,10 +1,13 @@
 -- Where a pass over the cars stands.
-use Rattle.std.specs.Prelude.{◌≡◌, ℕ}
-use Rattle.road_plan.specs.Plan.{Plan, zone_of}
-use Rattle.road_plan.specs.Settings.{Settings}
-use Rattle.road_cells.specs.Gap.{ArePartedAt}
+use Rattle.std.specs.Prelude.{◌≡◌, ℕ, ◌<◌, ◌≤◌, List, slice_index}
+use Rattle.road_ends.specs.declared.pass.TheConstants.{NOWHERE}
 
--- at cell c: so many blocked cells are not in front of it, and it lies in this zone
-pub record IsPassAt (p : Plan) (s : Settings) (c reached zone : ℕ) : Type 0 where
-  pub parted : ArePartedAt s.blocks c reached
-  pub in_zone : zone ≡ zone_of p c
+-- of n cells this is the k-th, or a cell past all roads where there is none
+pub record IsNthOrNowhere (n k kth c : ℕ) : Type 0 where
+  pub here : k < n → c ≡ kth
+  pub none : n ≤ k → c ≡ NOWHERE
+
+-- the speed limit and the slowing chance of a zone
+pub record AreOfZone (limits chances : List ℕ) (zone limit chance : ℕ) : Type 0 where
+  pub limit_is : limit ≡ slice_index limits zone
+  pub chance_is : chance ≡ slice_index chances zone

@@ -2,13 +2,17 @@ use Rattle.std.proofs.Common.{◌≡◌, ℕ, ◌*◌, ◌<◌, ◌≤◌, lengt
 use Rattle.std.specs.Prelude.{slice_index}
 use Rattle.road_cells.specs.Cars.{cars_of, cell_at}
 use Rattle.road_ends.specs.Speed.{speeds}
+use Rattle.road_ends.specs.Private.PassPlaces.{IsNthOrNowhere, AreOfZone}
 use Rattle.road_ends.proofs.pass.speeds.Given as goal
 
 abbrev pub invariant-loop-place : goal.invariant-loop-place
 invariant-loop-place l = record {
   one_each : length l.new.items ≡ length (cars_of l.road);
   done : drop l.place l.new.items ≡ drop l.place (speeds l.plan l.settings l.step l.road);
-  reached : l.cursor.reached ≤ length l.settings.blocks;
-  ahead : (i : ℕ) → l.cursor.reached ≤ i → i < length l.settings.blocks → (k : ℕ) → k < l.place → cell_at (cars_of l.road) k < slice_index l.settings.blocks i;
+  next : IsNthOrNowhere (length (cars_of l.road)) l.place (cell_at (cars_of l.road) l.place) l.cursor.next;
+  reached : l.cursor.block.reached ≤ length l.settings.blocks;
+  ahead : (i : ℕ) → l.cursor.block.reached ≤ i → i < length l.settings.blocks → (k : ℕ) → k < l.place → cell_at (cars_of l.road) k < slice_index l.settings.blocks i;
+  block : IsNthOrNowhere (length l.settings.blocks) l.cursor.block.reached (slice_index l.settings.blocks l.cursor.block.reached) l.cursor.block.cell;
   start : l.cursor.zone.start ≡ l.cursor.zone.index * l.plan.width;
+  of_zone : AreOfZone l.settings.limits l.settings.chances l.cursor.zone.index l.cursor.zone.limit l.cursor.zone.chance;
 }

@@ -1,6 +1,11 @@
-use Rattle.std.proofs.Common.{◌≡◌, drop, ◌++◌}
-use Rattle.road_rules.specs.Motion.{cars_after_motion}
+use Rattle.std.proofs.Common.{◌≡◌, ◌≤◌, length}
+use Rattle.road_cells.specs.Cars.{cars_of}
+use Rattle.road_rules.proofs.MotionLoop.{driven}
 use Rattle.road_rules.proofs.motion.moved_cars.Given as goal
 
+-- the cars so far have driven
 abbrev pub invariant-loop-place : goal.invariant-loop-place
-invariant-loop-place l = l.moved.items ++ cars_after_motion (drop l.place l.speeds) (drop l.place l.cars) ≡ cars_after_motion l.speeds l.cars
+invariant-loop-place l = record {
+  within : l.place ≤ length (cars_of l.road);
+  are : l.cars.items ≡ driven l.speeds (cars_of l.road) l.place;
+}
