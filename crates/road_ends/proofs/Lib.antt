@@ -6,5 +6,7 @@ pub mod Examples
 pub mod StepByCars
 pub mod ChanceEvents
 pub mod PassOverCars
+pub mod PassOverPieces
+pub mod SameInputs
 pub mod CellsBetweenInlets
 pub mod KeptColumns

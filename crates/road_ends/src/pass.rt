@@ -9,8 +9,11 @@ ghost use Rattle.road_ends.specs.Speed.{speed, speeds, nth_car};
 ghost use Rattle.road_ends.specs.Private.KeptHalves.{AreHalves};
 ghost use Rattle.road_ends.specs.Private.PassPlaces.{IsPassAt};
 
+mod piece;
+
 use crate::OutOfMemory;
 use crate::chance::{slowed_by_chance, slowed_by_half};
+pub(crate) use piece::piece_speeds;
 use road_cells::{Road, reached_blocks_below};
 use road_plan::{Plan, Settings};
 use road_rules::wanted;
