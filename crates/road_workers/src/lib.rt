@@ -19,7 +19,12 @@
 mod alone;
 mod crew;
 mod faults;
+mod gate;
+mod piece;
+mod scoped;
 
 pub use alone::Alone;
 pub use crew::Crew;
 pub use faults::CrewFault;
+pub use gate::{Gate, NoGate};
+pub use scoped::{Scoped, SharedGate};
