@@ -1,6 +1,6 @@
 -- The pieces of all workers, one behind the other, are the whole.
 use Rattle.std.specs.Prelude.{◌≡◌, ℕ, ◌+◌, ◌*◌, ◌/◌, ◌-◌, ◌<◌, ◌≤◌, List, ◌++◌, length, take, slice_range}
-use Rattle.std.proofs.Common.{sym, ap, ◌∙◌, arith}
+use Rattle.std.proofs.Common.{rules, sym, ap, ◌∙◌, arith}
 use Rattle.std.proofs.Math.Nat.{mul-div_cancel_left}
 use Rattle.std.proofs.Math.Seq.{take-add}
 use Rattle.std.proofs.lemmas.List.{take_all}
@@ -16,6 +16,10 @@ few_cars a = length-cars_from 0 a
 
 pub take_piece : (xs : List ℕ) (first end : ℕ) → first ≤ end → take first xs ++ slice_range xs first end ≡ take end xs
 take_piece xs first end order = sym (take-add first (end - first) xs) ∙ ap (λ n. take n xs) (omega arith)
+
+-- a piece ends where it begins or later
+pub pieces_rise : (n m w : ℕ) → piece_start n m w ≤ piece_start n m (w + 1)
+pieces_rise n m w = search rules
 
 -- the last piece ends with the cars
 pub all_pieces : (n m : ℕ) → 0 < n → piece_start n m n ≡ m

@@ -1,5 +1,5 @@
 -- Results that have come from the workers of a pool.
-use Rattle.std.specs.Prelude.{◌≡◌, ℕ, ◌<◌, List, length, slice_index_or, Vec, Result, IfOk, IfSome}
+use Rattle.std.specs.Prelude.{◌≡◌, ℕ, ◌+◌, ◌<◌, List, length, slice_index_or, Vec, Result, IfOk, IfSome}
 use Rattle.std.specs.declared.option.Option.{Option}
 use Rattle.std.specs.declared.alloc.Global.{Global}
 use Rattle.std.specs.declared.alloc.AllocError.{AllocError}
@@ -18,3 +18,8 @@ IsAnswerOf input n w answer = IfOk answer (λ new. new.items ≡ speeds_of_worke
 abbrev pub AreGathered : StepInput → List (Option Answer) → Type 0
 AreGathered input places = (w : ℕ) (d : Option Answer) → w < length places
     → IfSome (slice_index_or places w d) (IsAnswerOf input (length places) w)
+
+-- so are the places from that of worker w on, of n workers
+abbrev pub AreGatheredFrom : StepInput → ℕ → ℕ → List (Option Answer) → Type 0
+AreGatheredFrom input n w places = (k : ℕ) (d : Option Answer) → k < length places
+    → IfSome (slice_index_or places k d) (IsAnswerOf input n (w + k))
