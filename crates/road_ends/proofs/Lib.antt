@@ -6,5 +6,6 @@ pub mod Examples
 pub mod StepByCars
 pub mod ChanceEvents
 pub mod PassOverCars
+pub mod SameInputs
 pub mod CellsBetweenInlets
 pub mod KeptColumns

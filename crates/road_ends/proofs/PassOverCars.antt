@@ -1,9 +1,10 @@
 -- What the pass over the cars computes.
-use Rattle.std.specs.Prelude.{◌≡◌, ℕ, ◌+◌, ◌/◌, ◌<◌, ◌≤◌, ◌||◌, ◌-◌, min, Bool, true, suc, List, ◌∷◌, length, drop, is_some, slice_index, slice_set}
+use Rattle.std.specs.Prelude.{◌≡◌, ℕ, ◌+◌, ◌/◌, ◌<◌, ◌≤◌, ◌||◌, ◌-◌, min, Bool, true, suc, List, ◌∷◌, length, drop, is_some, slice_index, slice_range, slice_set}
 use Rattle.std.proofs.Common.{sym, ap, ◌∙◌, arith, refl, inl, inr}
 use Rattle.std.proofs.lemmas.Bool.{cases_lt}
 use Rattle.std.specs.List.Sorted.{IsNonDecreasing}
 use Rattle.std.proofs.lemmas.List.{drop-set, drop_more, get_or-map, length-map}
+use Rattle.std.proofs.lemmas.List.Edits.{length-between, get_or-between}
 use Rattle.road_plan.specs.Plan.{Plan, zone_of}
 use Rattle.road_plan.specs.Settings.{Settings, Fits}
 use Rattle.road_words.specs.Words.{word}
@@ -138,13 +139,20 @@ module _ (p : Plan) (s : Settings) (t : ℕ) (a : Array) where
   pub speed_each : length (speeds p s t a) ≡ length (cars_of a)
   speed_each = length-map (cars_of a) (λ car. speed p s t a car.cell (vehicle_of car))
 
-  -- the speeds listed from the far end, and the one before them
-  pub one_speed_before : (new : List ℕ) (k v : ℕ) → k < length (cars_of a) → length new ≡ length (cars_of a)
+  -- the speeds of a piece that are listed from its far end, and the one before them
+  pub one_speed_before_in : (new : List ℕ) (first end k v : ℕ) → first ≤ k → k < end → end ≤ length (cars_of a) → length new ≡ end - first
       → v ≡ speed p s t a (nth_car (cars_of a) k).cell (vehicle_of (nth_car (cars_of a) k))
-      → drop (k + 1) new ≡ drop (k + 1) (speeds p s t a) → drop k (slice_set new k v) ≡ drop k (speeds p s t a)
-  one_speed_before new k v below long is rest =
-      let here = get_or-map (λ car. speed p s t a car.cell (vehicle_of car)) (cars_of a) k (record { number = 0; cell = 0; speed = 0 }) 0 below in
+      → drop ((k - first) + 1) new ≡ drop ((k - first) + 1) (slice_range (speeds p s t a) first end)
+      → drop (k - first) (slice_set new (k - first) v) ≡ drop (k - first) (slice_range (speeds p s t a) first end)
+  one_speed_before_in new first end k v after before within long is rest =
+      let all = speeds p s t a in
+      let at = k - first in
+      let same : first + at ≡ k = omega arith in
+      let below : k < length (cars_of a) = omega arith in
       let each = speed_each in
-      drop-set new k v (omega arith)
+      let size = length-between all first end (omega arith) in
+      let here = get_or-between all first end at 0 (omega arith) ∙ ap (λ i. slice_index all i) same
+      ∙ get_or-map (λ car. speed p s t a car.cell (vehicle_of car)) (cars_of a) k (record { number = 0; cell = 0; speed = 0 }) 0 below in
+      drop-set new at v (omega arith)
       ∙ (λ i. (is ∙ sym here) i ∷ rest i)
-      ∙ sym (drop_more (speeds p s t a) k 0 (omega arith))
+      ∙ sym (drop_more (slice_range all first end) at 0 (omega arith))

@@ -1,5 +1,5 @@
 -- The input of a step: what is needed to compute it.
-use Rattle.std.specs.Prelude.{ℕ, List}
+use Rattle.std.specs.Prelude.{ℕ, List, slice_range}
 use Rattle.road_plan.specs.Plan.{Plan}
 use Rattle.road_plan.specs.Settings.{Settings}
 use Rattle.road_cells.specs.Array.{Array}
@@ -21,6 +21,10 @@ input_of p s t a = record { plan = p; settings = s; step = t; road = road_with_e
 -- the new speeds of all cars of the step
 abbrev pub input_speeds : StepInput → List ℕ
 input_speeds input = speeds input.plan input.settings input.step input.road
+
+-- the new speeds of a piece of the cars: of those at the places from `first` to before `end`
+abbrev pub input_speeds_between : StepInput → ℕ → ℕ → List ℕ
+input_speeds_between input first end = slice_range (input_speeds input) first end
 
 -- the array after the step
 abbrev pub input_next : StepInput → Array

@@ -5,6 +5,9 @@ ghost use Rattle.road_plan.specs.Settings.{Fits};
 ghost use Rattle.road_ends.specs.Input.{input_of, input_speeds};
 ghost use Rattle.road_ends.specs.Private.KeptHalves.{AreHalves};
 
+mod pieces;
+mod sameness;
+
 use crate::OutOfMemory;
 use crate::chance::is_open;
 use crate::drawn::DrawnWords;

@@ -1,8 +1,9 @@
 //! One pass over the cars, from the far end of the road to its beginning.
 
-ghost use Rattle.std.specs.Prelude.{◌≡◌, ℕ, ◌+◌, ◌-◌, ◌*◌, ◌/◌, ◌≤◌, ◌<◌, length, min, slice_index, IfOk};
+ghost use Rattle.std.specs.Prelude.{◌≡◌, ℕ, ◌+◌, ◌-◌, ◌*◌, ◌/◌, ◌≤◌, ◌<◌, length, min, slice_index, slice_range, IfOk};
 ghost use Rattle.std.specs.List.Sorted.{IsNonDecreasing};
 ghost use Rattle.road_plan.specs.Settings.{Fits};
+ghost use Rattle.road_cells.specs.Cars.{cars_of, cell_at};
 ghost use Rattle.road_cells.specs.Gap.{ArePartedAt};
 ghost use Rattle.road_cells.specs.declared.car.TheConstants.{GREATEST_SPEED};
 ghost use Rattle.road_rules.specs.Speeds.{has_event, slowed, wanted};
@@ -48,11 +49,7 @@ struct Zone {
     chance: u32,
 }
 
-// The new speeds of all cars, in the order of the cars. It is one pass over the cars from the far end, in one growth.
-// The next car, the next blocked cell, and the zone's limit and chance come with the pass, so that nothing is searched or
-// looked up for a car; a word is drawn only where no half of it is given and it can change a speed; and a zone is divided
-// out only where it changes.
-#[inline(never)]
+// The new speeds of all cars, in the order of the cars, in one growth.
 pub(crate) fn speeds(
     alloc: Global,
     plan: &Plan,
@@ -66,6 +63,32 @@ pub(crate) fn speeds(
     requires halves { AreHalves plan.now.words step road.now halves.now }
     ensures { IfOk result (λ new. new.items ≡ speeds plan.now settings.now step road.now) }
 {
+    let count = road.cars().len();
+    Ok(speeds_between(alloc, plan, settings, step, road, halves, 0, count)?)
+}
+
+// The new speeds of the cars at the places from `first` to before `end`, in the order of the cars. It is one pass over
+// these cars from their far end, in one growth. The next car, the next blocked cell, and the zone's limit and chance come
+// with the pass, so that nothing is searched or looked up for a car; a word is drawn only where no half of it is given and
+// it can change a speed; and a zone is divided out only where it changes.
+#[inline(never)]
+pub(crate) fn speeds_between(
+    alloc: Global,
+    plan: &Plan,
+    settings: &Settings,
+    step: u32,
+    road: &Road,
+    halves: &[u16],
+    first: usize,
+    end: usize,
+) -> Result<Vec<u8>, OutOfMemory>
+    requires fits { Fits plan.now settings.now }
+    requires on_road { length road.now ≤ plan.now.cells }
+    requires halves { AreHalves plan.now.words step road.now halves.now }
+    requires order { first ≤ end }
+    requires within { end ≤ length (cars_of road.now) }
+    ensures { IfOk result (λ new. new.items ≡ slice_range (speeds plan.now settings.now step road.now) first end) }
+{
     plan.known();
     let words = PlanWords::of(plan);
     let cars = road.cars();
@@ -73,23 +96,33 @@ pub(crate) fn speeds(
     let limits = settings.limits();
     let chances = settings.chances();
     let blocks = settings.blocks();
-    let mut new = vec![in alloc; 0; cars.len()]?;
-    let mut cursor = far_end(limits, chances, blocks);
-    for place in (0..cars.len()).rev() {
+    let mut new = vec![in alloc; 0; end - first]?;
+    let mut cursor = far_end(limits, chances, blocks, cell_at(cars, end));
+    for place in (first..end).rev() {
         let car = cars[place];
         cursor.zone = zone_at(width, limits, chances, car.cell, cursor.zone);
         cursor.block = block_ahead(blocks, car.cell, cursor.block);
-        new[place] = new_speed(&words, step, car, halves, place, cursor);
+        new[place - first] = new_speed(&words, step, car, halves, place, cursor);
         cursor.next = car.cell;
     }
     Ok(new)
 }
 
-// Where the pass begins: nothing is in front.
-fn far_end(limits: &[u32], chances: &[u32], blocks: &[u32]) -> Cursor
+// The cell of a car, or a cell past all roads where there is no such car.
+fn cell_at(cars: &[Car], place: usize) -> u32
+    ensures { IsNthOrNowhere (length cars.now) place (cell_at cars.now place) result }
+{
+    match cars.get(place) {
+        Some(car) => car.cell,
+        None => NOWHERE,
+    }
+}
+
+// Where the pass begins: in front is a car at most, and no blocked cell counts as reached yet.
+fn far_end(limits: &[u32], chances: &[u32], blocks: &[u32], next: u32) -> Cursor
     requires limits { 0 < length limits.now }
     requires chances { 0 < length chances.now }
-    ensures next { result.next ≡ NOWHERE }
+    ensures next { result.next ≡ next }
     ensures reached { result.block.reached ≡ length blocks.now }
     ensures block { result.block.cell ≡ NOWHERE }
     ensures zone { result.zone.index ≡ 0 }
@@ -97,7 +130,7 @@ fn far_end(limits: &[u32], chances: &[u32], blocks: &[u32]) -> Cursor
     ensures of_zone { AreOfZone limits.now chances.now result.zone.index result.zone.limit result.zone.chance }
 {
     Cursor {
-        next: NOWHERE,
+        next,
         block: Block {
             reached: blocks.len(),
             cell: NOWHERE,

@@ -1,1 +1,3 @@
 pub mod Crews
+pub mod Pieces
+pub mod Private

@@ -23,3 +23,13 @@ pub trait Crew {
         ensures speeds { IfOk result (λ new. new.items ≡ input_speeds (arc_value input.now)) }
         ensures gone { gone self.new ≡ gone_after result (gone self.old) };
 }
+
+/// A crew's count of answers `WorkersGone` after one more answer.
+pub(crate) fn gone_after<T>(answer: &Result<T, CrewFault>, gone: u64) -> u64
+    ensures { result ≡ gone_after answer.now gone }
+{
+    match answer {
+        Err(CrewFault::WorkersGone) => gone.saturating_add(1),
+        _ => gone,
+    }
+}

@@ -19,7 +19,14 @@
 mod alone;
 mod crew;
 mod faults;
+mod gate;
+mod piece;
+mod pool;
+mod scoped;
 
 pub use alone::Alone;
 pub use crew::Crew;
 pub use faults::CrewFault;
+pub use gate::{Gate, NoGate};
+pub use pool::Pool;
+pub use scoped::{Scoped, SharedGate};

@@ -1,0 +1,42 @@
+//! The speeds of a piece of the cars: the part of one worker of many.
+
+ghost use Rattle.std.specs.Prelude.{◌≡◌, ◌≤◌, length, IfOk};
+ghost use Rattle.road_cells.specs.Cars.{cars_of};
+ghost use Rattle.road_ends.specs.Input.{input_speeds_between};
+
+use crate::OutOfMemory;
+use crate::input::StepInput;
+use crate::pass::speeds_between;
+use std::alloc::Global;
+
+impl StepInput {
+    /// The new speeds of the cars at the places from `first` to before `end`, in their order. It is one pass over these
+    /// cars alone, which reads the whole road.
+    ///
+    /// # Errors
+    ///
+    /// `OutOfMemory` where their growth is refused.
+    pub fn speeds_between(
+        &self,
+        alloc: Global,
+        first: usize,
+        end: usize,
+    ) -> Result<Vec<u8>, OutOfMemory>
+        requires order { first ≤ end }
+        requires within { end ≤ length (cars_of self.now.road) }
+        ensures { IfOk result (λ new. new.items ≡ input_speeds_between self.now first end) }
+    {
+        self.known();
+        let step = self.step;
+        speeds_between(
+            alloc,
+            &self.plan,
+            &self.settings,
+            step,
+            &self.road,
+            &self.halves,
+            first,
+            end,
+        )
+    }
+}

@@ -1,0 +1,119 @@
+//! Whether two inputs are the same.
+
+ghost use Rattle.std.specs.Prelude.{◌≡◌, ◌↔◌, IsTrue};
+
+use crate::input::StepInput;
+use road_cells::{Car, Road};
+use road_plan::{Plan, Settings};
+
+impl StepInput {
+    /// Whether two inputs are the same: in step, road, plan and settings. It takes no memory.
+    pub fn same(&self, other: &StepInput) -> bool
+        ensures { IsTrue result ↔ (self.now ≡ other.now) }
+    {
+        self.step == other.step
+            && is_same_road(&self.road, &other.road)
+            && is_same_plan(&self.plan, &other.plan)
+            && are_same_settings(&self.settings, &other.settings)
+    }
+}
+
+// Whether two roads have the same cars in the same cells.
+fn is_same_road(road: &Road, other: &Road) -> bool
+    ensures { IsTrue result ↔ (road.now ≡ other.now) }
+{
+    are_same_cars(road.cars(), other.cars())
+}
+
+// Whether two plans are the same in all their parts.
+fn is_same_plan(plan: &Plan, other: &Plan) -> bool
+    ensures { IsTrue result ↔ (plan.now ≡ other.now) }
+{
+    have_same_numbers(plan, other) && have_same_lists(plan, other)
+}
+
+// Whether two plans have roads of the same length, exit and zone width, and the same words.
+fn have_same_numbers(plan: &Plan, other: &Plan) -> bool
+    ensures { IsTrue result ↔ (
+        (plan.now.cells ≡ other.now.cells)
+        × (plan.now.exit ≡ other.now.exit)
+        × (plan.now.width ≡ other.now.width)
+        × (plan.now.words ≡ other.now.words)
+        ) }
+{
+    plan.length() == other.length()
+        && plan.exit() == other.exit()
+        && plan.width() == other.width()
+        && plan.words() == other.words()
+}
+
+// Whether two plans have the same zones, inlets and detectors.
+fn have_same_lists(plan: &Plan, other: &Plan) -> bool
+    ensures { IsTrue result ↔ (
+        (plan.now.zones ≡ other.now.zones)
+        × (plan.now.inlets ≡ other.now.inlets)
+        × (plan.now.detectors ≡ other.now.detectors)
+        ) }
+{
+    are_same_pairs(plan.zones(), other.zones())
+        && are_same_pairs(plan.inlets(), other.inlets())
+        && are_same_numbers(plan.detectors(), other.detectors())
+}
+
+// Whether these settings are the same.
+fn are_same_settings(settings: &Settings, other: &Settings) -> bool
+    ensures { IsTrue result ↔ (settings.now ≡ other.now) }
+{
+    have_same_chances(settings, other) && have_same_places(settings, other)
+}
+
+// Whether these settings have the same limits, slowing chances and inflows.
+fn have_same_chances(settings: &Settings, other: &Settings) -> bool
+    ensures { IsTrue result ↔ (
+        (settings.now.limits ≡ other.now.limits)
+        × (settings.now.chances ≡ other.now.chances)
+        × (settings.now.inflows ≡ other.now.inflows)
+        ) }
+{
+    are_same_numbers(settings.limits(), other.limits())
+        && are_same_numbers(settings.chances(), other.chances())
+        && are_same_numbers(settings.inflows(), other.inflows())
+}
+
+// Whether these settings have the same blocked cells, and the same detectors on.
+fn have_same_places(settings: &Settings, other: &Settings) -> bool
+    ensures { IsTrue result ↔ (
+        (settings.now.blocks ≡ other.now.blocks) × (settings.now.watched ≡ other.now.watched)
+        ) }
+{
+    are_same_numbers(settings.blocks(), other.blocks())
+        && are_same_flags(settings.watched(), other.watched())
+}
+
+// Whether these numbers are the same.
+fn are_same_numbers(numbers: &[u32], other: &[u32]) -> bool
+    ensures { IsTrue result ↔ (numbers.now ≡ other.now) }
+{
+    numbers == other
+}
+
+// Whether these pairs are the same.
+fn are_same_pairs(pairs: &[(u32, u32)], other: &[(u32, u32)]) -> bool
+    ensures { IsTrue result ↔ (pairs.now ≡ other.now) }
+{
+    pairs == other
+}
+
+// Whether these flags are the same.
+fn are_same_flags(flags: &[bool], other: &[bool]) -> bool
+    ensures { IsTrue result ↔ (flags.now ≡ other.now) }
+{
+    flags == other
+}
+
+// Whether these cars are the same.
+fn are_same_cars(cars: &[Car], other: &[Car]) -> bool
+    ensures { IsTrue result ↔ (cars.now ≡ other.now) }
+{
+    cars == other
+}

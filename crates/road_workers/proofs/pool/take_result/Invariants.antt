@@ -1,0 +1,10 @@
+use Rattle.std.proofs.Common.{◌≡◌, vec_len}
+use Rattle.road_workers.specs.Private.Gathered.{AreGathered}
+use Rattle.road_workers.proofs.pool.take_result.Given as goal
+
+abbrev pub invariant-loop : goal.invariant-loop
+invariant-loop g l = record {
+  goes_on : (goal.iterator-loop g).can_next l.iterator' × (goal.iterator-loop g).is_finite l.iterator';
+  count : vec_len l.places ≡ vec_len l.fn.places;
+  gathered : AreGathered l.input l.places.items;
+}

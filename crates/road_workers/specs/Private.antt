@@ -1,0 +1,3 @@
+-- What contracts of private functions say of workers and their pieces; no public contract names it.
+pub mod Started
+pub mod Gathered

@@ -1,0 +1,15 @@
+/// What each worker passes before it computes its piece, for a program that watches its workers.
+pub trait Gate {
+    /// A worker, numbered from 0, is about to compute its piece, which may be empty.
+    fn arrive(&self, worker: u32);
+}
+
+/// The gate that does nothing.
+#[derive(Clone, Copy, Debug, PartialEq, Eq)]
+pub struct NoGate;
+
+impl Gate for NoGate {
+    fn arrive(&self, worker: u32) {
+        let _ = worker;
+    }
+}

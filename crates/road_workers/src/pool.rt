@@ -1,0 +1,293 @@
+//! The crew of lasting workers.
+
+ghost use Rattle.std.specs.Prelude.{◌≡◌, ℕ, ◌<◌, ◌≤◌, length, vec_len, IfOk};
+ghost use Rattle.std.specs.Arc.{arc_value};
+ghost use Rattle.road_plan.specs.declared.limits.TheConstants.{MOST_WORKERS, GREATEST_LENGTH};
+ghost use Rattle.road_cells.specs.Cars.{cars_of};
+ghost use Rattle.road_ends.specs.Input.{input_speeds};
+ghost use Rattle.road_workers.specs.Private.Gathered.{AreGathered};
+
+mod gathering;
+mod job;
+mod working;
+
+use crate::crew::{Crew, gone_after};
+use crate::faults::CrewFault;
+use crate::gate::{Gate, NoGate};
+use crate::piece::{Answer, Piece, cars_in};
+use crate::pool::gathering::{is_taken, places_for, put_together};
+use crate::pool::job::{Done, Job};
+use crate::pool::working::work;
+use crossbeam_channel::{Receiver, SendError, Sender, bounded};
+use road_ends::{OutOfMemory, StepInput};
+use std::alloc::Global;
+use std::marker::Model;
+use std::sync::{Arc, Wait};
+use std::thread;
+use std::thread::{JoinHandle, Threads};
+
+/// A worker: the end of its channel of jobs, which has room for one, and its thread.
+#[derive(Drop)]
+struct Worker {
+    jobs: Sender<Job>,
+    thread: JoinHandle<()>,
+}
+
+/// The crew whose workers are threads that live as long as the crew. Each call waits for them. Where a worker has gone,
+/// every later call answers `WorkersGone`. Contracts see it as its count of these answers.
+#[derive(Drop)]
+pub struct Pool<R> {
+    rt: R,
+    workers: Vec<Worker>,
+    // It has room for a result of each worker.
+    results: Receiver<Done>,
+    is_broken: bool,
+    gone: u64,
+}
+
+impl<R> Model for Pool<R> {
+    ghost use Rattle.std.specs.Prelude.{ℕ, ◌<◌, ◌≤◌, vec_len};
+    ghost use Rattle.road_plan.specs.declared.limits.TheConstants.{MOST_WORKERS};
+
+    ghost Value = { ℕ };
+
+    ghost view = { λ pool. pool.gone };
+
+    ghost invariant = { λ pool. (0 < vec_len pool.workers) × (vec_len pool.workers ≤ MOST_WORKERS) };
+}
+
+impl<R: Threads + Wait + Clone + Drop + Send + 'static> Pool<R> {
+    /// Starts a crew of so many workers, 1 to 16.
+    ///
+    /// # Errors
+    ///
+    /// `WorkersGone` where a thread cannot be started, else `OutOfMemory` where a growth is refused.
+    pub fn start(rt: R, alloc: Global, workers: u32) -> Result<Pool<R>, CrewFault>
+        requires some { 0 < workers }
+        requires few { workers ≤ MOST_WORKERS }
+        ensures { IfOk result (λ pool. ⟦<Pool<R> as Crew>⟧.gone pool ≡ 0) }
+    {
+        Pool::start_gated(rt, alloc, workers, no_gate(alloc)?)
+    }
+
+    /// Starts a crew, as [`Pool::start`], each worker of which passes the gate before it computes a piece.
+    ///
+    /// # Errors
+    ///
+    /// `WorkersGone` where a thread cannot be started, else `OutOfMemory` where a growth is refused.
+    pub fn start_gated<G: Gate + Drop + Send + Sync + 'static>(
+        rt: R,
+        alloc: Global,
+        workers: u32,
+        gate: Arc<G>,
+    ) -> Result<Pool<R>, CrewFault>
+        requires some { 0 < workers }
+        requires few { workers ≤ MOST_WORKERS }
+        ensures { IfOk result (λ pool. ⟦<Pool<R> as Crew>⟧.gone pool ≡ 0) }
+    {
+        let mut started = Vec::with_capacity(alloc, workers as usize)?;
+        let (done, results) = bounded(alloc, workers as usize)?;
+        let fault = start_workers(&rt, alloc, workers, &gate, &done, &mut started);
+        drop(done);
+        if started.len() < workers as usize {
+            finish_workers(&rt, started);
+            return Err(fault);
+        }
+        Ok(Pool {
+            rt,
+            workers: started,
+            results,
+            is_broken: false,
+            gone: 0,
+        })
+    }
+
+    /// Ends the workers and waits until they have ended.
+    pub fn finish(self) {
+        let Pool {
+            rt,
+            workers,
+            results: _,
+            is_broken: _,
+            gone: _,
+        } = self;
+        finish_workers(&rt, workers);
+    }
+}
+
+impl<R: Wait> Crew for Pool<R> {
+    ghost gone = { λ gone. gone };
+
+    fn speeds(&mut self, alloc: Global, input: &Arc<StepInput>) -> Result<Vec<u8>, CrewFault> {
+        let answer = if self.is_broken {
+            Err(CrewFault::WorkersGone)
+        } else {
+            speeds_by(
+                &self.rt,
+                alloc,
+                input,
+                self.workers.as_slice(),
+                &self.results,
+            )
+        };
+        self.is_broken = matches!(answer, Err(CrewFault::WorkersGone));
+        self.gone = gone_after(&answer, self.gone);
+        answer
+    }
+}
+
+// The gate that does nothing, for all workers.
+fn no_gate(alloc: Global) -> Result<Arc<NoGate>, OutOfMemory> {
+    Ok(Arc::new(alloc, NoGate)?)
+}
+
+// Starts the workers in their order, up to the first that cannot be started. The fault is why that was.
+fn start_workers<
+    R: Threads + Wait + Clone + Drop + Send + 'static,
+    G: Gate + Drop + Send + Sync + 'static,
+>(
+    rt: &R,
+    alloc: Global,
+    workers: u32,
+    gate: &Arc<G>,
+    results: &Sender<Done>,
+    started: &mut Vec<Worker>,
+) -> CrewFault
+    requires { vec_len started.old ≡ 0 }
+    ensures { vec_len started.new ≤ workers }
+{
+    for worker in 0..workers {
+        match start_worker(rt, alloc, worker, gate, results) {
+            Ok(new) => {
+                if started.push(new).is_err() {
+                    return CrewFault::OutOfMemory;
+                }
+            }
+            Err(fault) => return fault,
+        }
+    }
+    CrewFault::WorkersGone
+}
+
+// Starts a worker.
+fn start_worker<
+    R: Threads + Wait + Clone + Drop + Send + 'static,
+    G: Gate + Drop + Send + Sync + 'static,
+>(
+    rt: &R,
+    alloc: Global,
+    worker: u32,
+    gate: &Arc<G>,
+    results: &Sender<Done>,
+) -> Result<Worker, CrewFault> {
+    let (jobs, theirs) = bounded(alloc, 1)?;
+    let gate = Arc::try_clone(gate)?;
+    let results = results.clone()?;
+    let their_rt = rt.clone()?;
+    let started = thread::spawn(
+        rt,
+        move || work(&their_rt, alloc, worker, &*gate, &theirs, &results),
+    );
+    match started {
+        Ok(thread) => Ok(Worker { jobs, thread }),
+        Err(_) => Err(CrewFault::WorkersGone),
+    }
+}
+
+// Closes the workers' channels, and joins their threads.
+fn finish_workers<R: Threads>(rt: &R, workers: Vec<Worker>) {
+    for worker in workers {
+        let Worker { jobs, thread } = worker;
+        drop(jobs);
+        thread.join(rt);
+    }
+}
+
+// The speeds of a step: a job for each worker, and a result for each job.
+fn speeds_by<R: Wait>(
+    rt: &R,
+    alloc: Global,
+    input: &Arc<StepInput>,
+    workers: &[Worker],
+    results: &Receiver<Done>,
+) -> Result<Vec<u8>, CrewFault>
+    requires some { 0 < length workers.now }
+    requires few { length workers.now ≤ MOST_WORKERS }
+    ensures { IfOk result (λ new. new.items ≡ input_speeds (arc_value input.now)) }
+{
+    let count = workers.len() as u32;
+    let cars = cars_in(input);
+    let whole = Vec::with_capacity(alloc, cars)?;
+    let mut places = places_for(alloc, count, input)?;
+    let (jobs, sent) = send_jobs(rt, input, workers, cars);
+    for _ in 0..jobs {
+        take_result(rt, results, &mut places, input, cars)?;
+    }
+    sent?;
+    put_together(whole, places, input)
+}
+
+// Sends each worker its piece, up to the first that is refused. How many were sent, and whether it was all.
+fn send_jobs<R: Wait>(
+    rt: &R,
+    input: &Arc<StepInput>,
+    workers: &[Worker],
+    cars: usize,
+) -> (u32, Result<(), CrewFault>)
+    requires few { length workers.now ≤ MOST_WORKERS }
+    requires cars { cars ≡ length (cars_of (arc_value input.now).road) }
+    requires short { cars ≤ GREATEST_LENGTH }
+{
+    let count = workers.len() as u32;
+    for worker in 0..count {
+        let piece = Piece::of(worker, count, cars);
+        if let Err(fault) = send_job(rt, input, piece, &workers[worker as usize].jobs) {
+            return (worker, Err(fault));
+        }
+    }
+    (count, Ok(()))
+}
+
+// Sends a worker its piece.
+fn send_job<R: Wait>(
+    rt: &R,
+    input: &Arc<StepInput>,
+    piece: Piece,
+    jobs: &Sender<Job>,
+) -> Result<(), CrewFault>
+    requires order { piece.first ≤ piece.end }
+    requires within { piece.end ≤ length (cars_of (arc_value input.now).road) }
+{
+    let job = Job::new(Arc::try_clone(input)?, piece);
+    match jobs.send(rt, job) {
+        Ok(()) => Ok(()),
+        Err(SendError::Disconnected(_)) => Err(CrewFault::WorkersGone),
+        Err(SendError::OutOfMemory(_)) => Err(CrewFault::OutOfMemory),
+    }
+}
+
+// Takes one result of this step. What comes twice or from another step is dropped.
+fn take_result<R: Wait>(
+    rt: &R,
+    results: &Receiver<Done>,
+    places: &mut Vec<Option<Answer>>,
+    input: &StepInput,
+    cars: usize,
+) -> Result<(), CrewFault>
+    requires few { vec_len places.old ≤ MOST_WORKERS }
+    requires cars { cars ≡ length (cars_of input.now.road) }
+    requires short { cars ≤ GREATEST_LENGTH }
+    requires gathered { AreGathered input.now places.old.items }
+    ensures count { vec_len places.new ≡ vec_len places.old }
+    ensures gathered { AreGathered input.now places.new.items }
+{
+    for _ in rt.forever() {
+        let Ok(done) = results.recv(rt) else {
+            return Err(CrewFault::WorkersGone);
+        };
+        if is_taken(places, done, input, cars) {
+            return Ok(());
+        }
+    }
+    Ok(())
+}

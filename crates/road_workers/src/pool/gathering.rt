@@ -1,0 +1,99 @@
+//! The results of a step, gathered from the workers of a pool.
+
+ghost use Rattle.std.specs.Prelude.{◌≡◌, ℕ, ◌+◌, ◌<◌, ◌≤◌, length, take, vec_len, [], IfOk, IfSome};
+ghost use Rattle.std.specs.Arc.{arc_value};
+ghost use Rattle.road_plan.specs.declared.limits.TheConstants.{MOST_WORKERS, GREATEST_LENGTH};
+ghost use Rattle.road_cells.specs.Cars.{cars_of};
+ghost use Rattle.road_ends.specs.Input.{input_speeds};
+ghost use Rattle.road_workers.specs.Pieces.{piece_start};
+ghost use Rattle.road_workers.specs.Private.Gathered.{AreGathered};
+
+use crate::faults::CrewFault;
+use crate::piece::{Answer, Piece, appended};
+use crate::pool::job::Done;
+use road_ends::{OutOfMemory, StepInput};
+use std::alloc::Global;
+
+/// One place for each worker, none of which has answered yet.
+pub(crate) fn places_for(
+    alloc: Global,
+    workers: u32,
+    input: &StepInput,
+) -> Result<Vec<Option<Answer>>, OutOfMemory>
+    ensures count { IfOk result (λ places. vec_len places ≡ workers) }
+    ensures gathered { IfOk result (λ places. AreGathered input.now places.items) }
+{
+    let mut places = Vec::with_capacity(alloc, workers as usize)?;
+    for _ in 0..workers {
+        places.push(None)?;
+    }
+    Ok(places)
+}
+
+/// Takes a result where its input is the one asked and its piece is still missing: it drops doubles and strangers.
+/// Whether it took it.
+pub(crate) fn is_taken(
+    places: &mut Vec<Option<Answer>>,
+    done: Done,
+    input: &StepInput,
+    cars: usize,
+) -> bool
+    requires few { vec_len places.old ≤ MOST_WORKERS }
+    requires cars { cars ≡ length (cars_of input.now.road) }
+    requires short { cars ≤ GREATEST_LENGTH }
+    requires gathered { AreGathered input.now places.old.items }
+    ensures count { vec_len places.new ≡ vec_len places.old }
+    ensures gathered { AreGathered input.now places.new.items }
+{
+    if !done.input.same(input) {
+        return false;
+    }
+    let Some(place) = missing_place(places.as_slice(), done.piece, cars) else {
+        return false;
+    };
+    let Done {
+        input: _,
+        piece: _,
+        answer,
+    } = done;
+    places[place] = Some(answer);
+    true
+}
+
+// The first worker whose piece it is and who has not answered yet.
+fn missing_place(places: &[Option<Answer>], piece: Piece, cars: usize) -> Option<usize>
+    requires few { length places.now ≤ MOST_WORKERS }
+    requires short { cars ≤ GREATEST_LENGTH }
+    ensures { IfSome result (λ w. (w < length places.now)
+        × (piece.first ≡ piece_start (length places.now) cars w)
+        × (piece.end ≡ piece_start (length places.now) cars (w + 1))) }
+{
+    let workers = places.len() as u32;
+    for worker in 0..workers {
+        if places[worker as usize].is_none() && Piece::of(worker, workers, cars) == piece {
+            return Some(worker as usize);
+        }
+    }
+    None
+}
+
+/// The speeds of all workers, one behind the other in the list `whole`. Where one has not answered, it has gone.
+pub(crate) fn put_together(
+    whole: Vec<u8>,
+    places: Vec<Option<Answer>>,
+    input: &StepInput,
+) -> Result<Vec<u8>, CrewFault>
+    requires nothing { whole.items ≡ [] }
+    requires some { 0 < vec_len places }
+    requires gathered { AreGathered input.now places.items }
+    ensures { IfOk result (λ new. new.items ≡ input_speeds input.now) }
+{
+    let mut whole = Ok(whole);
+    for place in places {
+        let Some(answer) = place else {
+            return Err(CrewFault::WorkersGone);
+        };
+        whole = appended(whole, answer);
+    }
+    Ok(whole?)
+}

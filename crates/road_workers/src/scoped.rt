@@ -1,0 +1,202 @@
+//! The crew whose workers are threads made for the call.
+
+ghost use Rattle.std.specs.Prelude.{◌≡◌, ℕ, ◌+◌, ◌<◌, ◌≤◌, length, take, slice_range, vec_len, [], IfOk, IfSome};
+ghost use Rattle.std.specs.Arc.{arc_value};
+ghost use Rattle.road_plan.specs.declared.limits.TheConstants.{MOST_WORKERS};
+ghost use Rattle.road_cells.specs.Cars.{cars_of};
+ghost use Rattle.road_ends.specs.Input.{input_speeds, input_speeds_between};
+ghost use Rattle.road_workers.specs.Crews.{gone_after};
+ghost use Rattle.road_workers.specs.Pieces.{piece_start};
+ghost use Rattle.road_workers.specs.Private.Started.{AreStartedFrom};
+
+use crate::crew::{Crew, gone_after};
+use crate::faults::CrewFault;
+use crate::gate::Gate;
+use crate::piece::{Answer, Piece, appended, cars_in};
+use road_ends::{OutOfMemory, StepInput};
+use std::alloc::Global;
+use std::marker::Model;
+use std::sync::{Arc, Wait};
+use std::thread;
+use std::thread::{Promise, PromisedHandle, Scope, Threads};
+
+/// A gate that all workers of a crew share.
+pub type SharedGate = Box<dyn Gate + Send + Sync + Drop>;
+
+/// The crew whose workers are threads made for each call, and joined before it answers. So each call waits for them.
+/// Contracts see it as its count of answers `WorkersGone`.
+#[derive(Drop)]
+pub struct Scoped<R> {
+    rt: R,
+    workers: u32,
+    gate: SharedGate,
+    gone: u64,
+}
+
+impl<R> Model for Scoped<R> {
+    ghost use Rattle.std.specs.Prelude.{ℕ, ◌<◌, ◌≤◌};
+    ghost use Rattle.road_plan.specs.declared.limits.TheConstants.{MOST_WORKERS};
+
+    ghost Value = { ℕ };
+
+    ghost view = { λ crew. crew.gone };
+
+    ghost invariant = { λ crew. (0 < crew.workers) × (crew.workers ≤ MOST_WORKERS) };
+}
+
+impl<R: Threads + Wait> Scoped<R> {
+    /// A crew of so many workers, 1 to 16. Each passes the gate before it computes its piece.
+    pub fn new(rt: R, workers: u32, gate: SharedGate) -> Scoped<R>
+        requires some { 0 < workers }
+        requires few { workers ≤ MOST_WORKERS }
+        ensures { ⟦<Scoped<R> as Crew>⟧.gone result ≡ 0 }
+    {
+        Scoped {
+            rt,
+            workers,
+            gate,
+            gone: 0,
+        }
+    }
+}
+
+impl<R: Threads + Wait> Crew for Scoped<R> {
+    ghost gone = { λ gone. gone };
+
+    fn speeds(&mut self, alloc: Global, input: &Arc<StepInput>) -> Result<Vec<u8>, CrewFault> {
+        let answer = speeds_by(&self.rt, alloc, input, self.workers, &self.gate);
+        self.gone = gone_after(&answer, self.gone);
+        answer
+    }
+}
+
+/// That a thread gives the speeds of a piece, where it finds memory.
+#[derive(Clone, Copy)]
+struct SpeedsOf<'a> {
+    input: &'a StepInput,
+    piece: Piece,
+}
+
+impl<'a> Promise<Answer> for SpeedsOf<'a> {
+    ghost kept_by = { λ promise answer. IfOk answer
+        (λ new. new.items ≡ input_speeds_between promise.input.now promise.piece.first promise.piece.end) };
+}
+
+// A worker's thread.
+type Worker<'a> = PromisedHandle<Answer, SpeedsOf<'a>>;
+
+// The speeds of a step, by workers whose threads are started and joined here. Where one cannot be started, the others
+// are joined before the answer.
+fn speeds_by<R: Threads + Wait>(
+    rt: &R,
+    alloc: Global,
+    input: &StepInput,
+    workers: u32,
+    gate: &SharedGate,
+) -> Result<Vec<u8>, CrewFault>
+    requires some { 0 < workers }
+    requires few { workers ≤ MOST_WORKERS }
+    ensures { IfOk result (λ new. new.items ≡ input_speeds input.now) }
+{
+    thread::scope(
+        thread::scope_env(),
+        rt,
+        |scope| -> Result<Vec<u8>, CrewFault>
+            requires { (0 < workers) × (workers ≤ MOST_WORKERS) }
+            ensures { IfOk result (λ new. new.items ≡ input_speeds input.entry.now) }
+        {
+            let whole = Vec::with_capacity(alloc, cars_in(input))?;
+            let started = start_workers(scope, alloc, input, workers, gate)?;
+            let count = started.len();
+            let whole = joined(rt, whole, started, input, workers);
+            if count < workers as usize {
+                return Err(CrewFault::WorkersGone);
+            }
+            Ok(whole?)
+        },
+    )
+}
+
+// Starts the workers in their order, up to the first that cannot be started.
+fn start_workers<'s, E>(
+    scope: &Scope<'s, E>,
+    alloc: Global,
+    input: &'s StepInput,
+    workers: u32,
+    gate: &'s SharedGate,
+) -> Result<Vec<Worker<'s>>, OutOfMemory>
+    requires few { workers ≤ MOST_WORKERS }
+    ensures count { IfOk result (λ started. vec_len started ≤ workers) }
+    ensures started { IfOk result (λ started. AreStartedFrom input.now workers 0 started.items) }
+{
+    let mut started = Vec::with_capacity(alloc, workers as usize)?;
+    let cars = cars_in(input);
+    for worker in 0..workers {
+        let piece = Piece::of(worker, workers, cars);
+        let Some(thread) = start_worker(scope, alloc, input, piece, worker, gate) else {
+            break;
+        };
+        started.push(thread)?;
+    }
+    Ok(started)
+}
+
+// Starts a worker; none where its thread cannot be started.
+fn start_worker<'s, E>(
+    scope: &Scope<'s, E>,
+    alloc: Global,
+    input: &'s StepInput,
+    piece: Piece,
+    worker: u32,
+    gate: &'s SharedGate,
+) -> Option<Worker<'s>>
+    requires order { piece.first ≤ piece.end }
+    requires within { piece.end ≤ length (cars_of input.now.road) }
+    ensures { IfSome result (λ thread. (thread.promise.input.now ≡ input.now) × (thread.promise.piece ≡ piece)) }
+{
+    let promise = SpeedsOf { input, piece };
+    let started = scope.spawn_with(
+        promise,
+        move || -> Answer
+            requires { (piece.first ≤ piece.end) × (piece.end ≤ length (cars_of input.now.road)) }
+            ensures { IfOk result (λ new. new.items ≡ input_speeds_between input.entry.now piece.first piece.end) }
+        { piece_speeds(alloc, input, piece, worker, gate) },
+    );
+    started.ok()
+}
+
+// What a worker does.
+fn piece_speeds(
+    alloc: Global,
+    input: &StepInput,
+    piece: Piece,
+    worker: u32,
+    gate: &SharedGate,
+) -> Answer
+    requires order { piece.first ≤ piece.end }
+    requires within { piece.end ≤ length (cars_of input.now.road) }
+    ensures { IfOk result (λ new. new.items ≡ input_speeds_between input.now piece.first piece.end) }
+{
+    gate.arrive(worker);
+    input.speeds_between(alloc, piece.first, piece.end)
+}
+
+// Joins the workers, and puts their speeds one behind the other.
+fn joined<'s, R: Threads>(
+    rt: &R,
+    whole: Vec<u8>,
+    started: Vec<Worker<'s>>,
+    input: &StepInput,
+    workers: u32,
+) -> Answer
+    requires nothing { whole.items ≡ [] }
+    requires started { AreStartedFrom input.now workers 0 started.items }
+    ensures { IfOk result (λ new. new.items
+        ≡ take (piece_start workers (length (cars_of input.now.road)) (vec_len started.entry)) (input_speeds input.now)) }
+{
+    let mut whole = Ok(whole);
+    for worker in started {
+        whole = appended(whole, worker.join(rt));
+    }
+    whole
+}
