@@ -23,7 +23,7 @@ pub(crate) fn all_edits(
 {
     let mut edits = Vec::new(alloc);
     for (object, steps) in registers.iter() {
-        push_edits(&mut edits, *object, steps)?;
+        push_edits(&mut edits, *object, steps.value())?;
     }
     Ok(edits)
 }
@@ -56,7 +56,7 @@ pub(crate) fn greatest_count_of(registers: &RegistersByObject) -> u64
 {
     let mut greatest = 0;
     for (_, steps) in registers.iter() {
-        greatest = greatest_count_at(steps, greatest);
+        greatest = greatest_count_at(steps.value(), greatest);
     }
     greatest
 }
@@ -80,7 +80,7 @@ pub(crate) fn fault_of_first(registers: &RegistersByObject, plan: &Plan) -> Opti
     ensures { result ≡ first_fault plan.now (edit_list registers.now) }
 {
     for (object, steps) in registers.iter() {
-        match fault_at(*object, steps, plan) {
+        match fault_at(*object, steps.value(), plan) {
             Some(fault) => return Some(fault),
             None => {}
         }

@@ -19,6 +19,7 @@ use crate::touched::first_change;
 use lattice_core::greatest::Greatest;
 use lattice_core::lattice::Lattice;
 use lattice_core::map::LatMap;
+use lattice_core::shared::Shared;
 use road_plan::{Object, OutOfMemory, Plan, Settings};
 use std::alloc::Global;
 use std::marker::Model;
@@ -29,8 +30,8 @@ pub type Won = Greatest<(Stamp, Value)>;
 // The registers of one object, each with its step.
 pub(crate) type RegistersByStep = LatMap<u32, Won>;
 
-// All registers, each object with its own.
-pub(crate) type RegistersByObject = LatMap<Object, RegistersByStep>;
+// All registers, each object with its own, which scenarios share as long as nothing is joined in for the object.
+pub(crate) type RegistersByObject = LatMap<Object, Shared<RegistersByStep>>;
 
 /// The winners of the edits that came. Contracts see the set of them.
 #[derive(Drop)]
@@ -99,7 +100,8 @@ impl Scenario {
         self.registers.known();
         let won = Greatest::Of((edit.stamp, edit.value));
         let none: RegistersByStep = LatMap::empty(self.alloc);
-        let steps = none.with(edit.step, &won)?;
+        let one = none.with(edit.step, &won)?;
+        let steps = Shared::of(self.alloc, one)?;
         Ok(Scenario {
             registers: self.registers.with(edit.object, &steps)?,
             alloc: self.alloc,

@@ -19,7 +19,7 @@ pub(crate) fn put_all(
     ensures { OnOk result (settings.new ≡ walks.settings_with_last_numbers step settings.old registers.now) }
 {
     for (object, steps) in registers.iter() {
-        match last_put(steps, step) {
+        match last_put(steps.value(), step) {
             Some(number) => put(settings, *object, number)?,
             None => {}
         }
@@ -52,7 +52,7 @@ pub(crate) fn number_of(registers: &RegistersByObject, object: Object, step: u32
     ensures { result ≡ walks.last_number step (walks.registers_of_object (⟦<Object as Ord>⟧.cmp) registers.now object) }
 {
     match registers.get(object) {
-        Some(steps) => last_put(steps, step),
+        Some(steps) => last_put(steps.value(), step),
         None => None,
     }
 }

@@ -6,6 +6,7 @@ ghost use Rattle.road_scenario.specs.Private.RegisterWalks as walks;
 
 use crate::scenario::{RegistersByObject, RegistersByStep};
 use crate::settings::number_put;
+use lattice_core::shared::Shared;
 use road_plan::Object;
 
 // The first step at which one of the registers puts a number and the other none or another.
@@ -22,13 +23,13 @@ fn changed(ours: &RegistersByObject, theirs: &RegistersByObject) -> Option<u32>
 {
     let mut first = None;
     for (object, steps) in ours.iter() {
-        first = earlier(first, changed_at(steps, theirs.get(*object)));
+        first = earlier(first, changed_at(steps.value(), theirs.get(*object)));
     }
     first
 }
 
 // The first step of an object at which the numbers put differ. The others may have no entry of the object.
-fn changed_at(steps: &RegistersByStep, others: Option<&RegistersByStep>) -> Option<u32>
+fn changed_at(steps: &RegistersByStep, others: Option<&Shared<RegistersByStep>>) -> Option<u32>
     ensures { result ≡ walks.first_change_at steps.now (unwrap_or (option_copied others.entry) []) }
 {
     for (step, won) in steps.iter() {
@@ -40,11 +41,11 @@ fn changed_at(steps: &RegistersByStep, others: Option<&RegistersByStep>) -> Opti
 }
 
 // The number put at a step, if there are steps.
-fn number_at(steps: Option<&RegistersByStep>, step: u32) -> Option<u32>
+fn number_at(steps: Option<&Shared<RegistersByStep>>, step: u32) -> Option<u32>
     ensures { result ≡ walks.number_at_step (unwrap_or (option_copied steps.entry) []) step }
 {
     match steps {
-        Some(steps) => number_in(steps, step),
+        Some(steps) => number_in(steps.value(), step),
         None => None,
     }
 }

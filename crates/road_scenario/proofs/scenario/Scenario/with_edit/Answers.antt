@@ -16,7 +16,7 @@ returns-clause-winners c =
     let e = c.args.edit.now in
     ap edit_set c.in_ok-with.ensures
     ∙ edit_set-with c.self.inside.registers e c.in_ok-steps.steps c.known.ensures
-    (c.in_ok-steps.ensures ∙ ap (λ m. map_with nat_cmp won_join is_nothing m e.step (Of (e.stamp, e.value))) c.empty-none.ensures)
+    (c.in_ok-steps.ensures ∙ c.in_ok-one.ensures ∙ ap (λ m. map_with nat_cmp won_join is_nothing m e.step (Of (e.stamp, e.value))) c.empty-none.ensures)
     ∙ ap (λ s. join s (from_list (e ∷ []))) c.self.view_is
 
 pub returns-clause-fits : goal.returns-clause-fits
