@@ -7,6 +7,7 @@ pub mod FittingSettings
 pub mod SettingsOfRegisters
 pub mod PutNumbers
 pub mod TouchedSteps
+pub mod TouchedByJoins
 pub mod SettingsBeforeTouched
 pub mod EqualRegisters
 pub mod WinnersOfLists

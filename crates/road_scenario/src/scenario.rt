@@ -15,7 +15,7 @@ use crate::edit::{Edit, Stamp, Value};
 use crate::faults::EditFault;
 use crate::listing::{all_edits, fault_of_first, greatest_count_of};
 use crate::settings::{number_of, put_all};
-use crate::touched::first_change;
+use crate::touched::{first_change, first_change_by};
 use lattice_core::greatest::Greatest;
 use lattice_core::lattice::Lattice;
 use lattice_core::map::LatMap;
@@ -186,6 +186,18 @@ impl Scenario {
         self.registers.known();
         other.registers.known();
         first_change(&self.registers, &other.registers)
+    }
+
+    /// As [`Scenario::touched`], where the other scenario is this one with what is `taken` joined in: just the objects
+    /// and steps of what is taken are looked at. It takes no memory.
+    pub fn touched_by(&self, taken: &Scenario, joined: &Scenario) -> Option<u32>
+        requires { joined.now ≡ join self.now taken.now }
+        ensures { result ≡ touched self.now joined.now }
+    {
+        self.registers.known();
+        taken.registers.known();
+        joined.registers.known();
+        first_change_by(&self.registers, &taken.registers, &joined.registers)
     }
 
     /// The edits by object and step, each once.

@@ -40,6 +40,40 @@ fn changed_at(steps: &RegistersByStep, others: Option<&Shared<RegistersByStep>>)
     None
 }
 
+// The first of the steps of taken registers at which ours and the joined ones put different numbers: look-ups for each
+// object and step that was taken.
+pub(crate) fn first_change_by(
+    ours: &RegistersByObject,
+    taken: &RegistersByObject,
+    joined: &RegistersByObject,
+) -> Option<u32>
+    ensures { result ≡ walks.first_change_where (⟦<Object as Ord>⟧.cmp) ours.now joined.now taken.now }
+{
+    let mut first = None;
+    for (object, steps) in taken.iter() {
+        let changed = changed_among(steps.value(), ours.get(*object), joined.get(*object));
+        first = earlier(first, changed);
+    }
+    first
+}
+
+// The first of some steps of an object at which the numbers put differ.
+fn changed_among(
+    steps: &RegistersByStep,
+    ours: Option<&Shared<RegistersByStep>>,
+    joined: Option<&Shared<RegistersByStep>>,
+) -> Option<u32>
+    ensures { result ≡ walks.first_change_among (unwrap_or (option_copied ours.entry) [])
+        (unwrap_or (option_copied joined.entry) []) steps.now }
+{
+    for (step, _) in steps.iter() {
+        if number_at(ours, *step) != number_at(joined, *step) {
+            return Some(*step);
+        }
+    }
+    None
+}
+
 // The number put at a step, if there are steps.
 fn number_at(steps: Option<&Shared<RegistersByStep>>, step: u32) -> Option<u32>
     ensures { result ≡ walks.number_at_step (unwrap_or (option_copied steps.entry) []) step }

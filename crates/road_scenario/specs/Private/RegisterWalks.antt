@@ -70,6 +70,13 @@ first_change_at [] others = None
 first_change_at (e ∷ es) others =
     cond (option_eq nat_eq (register_number e.1) (number_at_step others e.0)) (first_change_at es others) (Some e.0)
 
+-- the first step of some registers of an object at which others of it put different numbers
+abbrev pub first_change_among : RegistersByStep → RegistersByStep → RegistersByStep → Option ℕ
+first_change_among ours theirs [] = None
+first_change_among ours theirs (e ∷ es) =
+    cond (option_eq nat_eq (number_at_step ours e.0) (number_at_step theirs e.0)) (first_change_among ours theirs es)
+    (Some e.0)
+
 module _ (cmp : Object → Object → Ordering) where
   -- the registers of an object, none where it has no entry
   abbrev pub registers_of_object : RegistersByObject → Object → RegistersByStep
@@ -80,3 +87,10 @@ module _ (cmp : Object → Object → Ordering) where
   first_change [] others = None
   first_change (e ∷ es) others =
       earlier_step (first_change_at e.1 (registers_of_object others e.0)) (first_change es others)
+
+  -- the first step of some registers at which others put different numbers
+  abbrev pub first_change_where : RegistersByObject → RegistersByObject → RegistersByObject → Option ℕ
+  first_change_where ours theirs [] = None
+  first_change_where ours theirs (e ∷ es) =
+      earlier_step (first_change_among (registers_of_object ours e.0) (registers_of_object theirs e.0) e.1)
+      (first_change_where ours theirs es)
