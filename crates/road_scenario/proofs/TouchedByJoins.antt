@@ -1,5 +1,5 @@
 -- The first step that a join touches is the first one of what was joined in at which the numbers put differ.
-use Rattle.std.specs.Prelude.{◌≡◌, ℕ, ◌≤◌, min, not, Bool, true, false, cond, T, List, [], ◌∷◌, ◌++◌, map, ◌⊎◌, refl, nat_eq}
+use Rattle.std.specs.Prelude.{◌≡◌, ℕ, ◌≤◌, min, not, Bool, true, false, cond, T, List, [], ◌∷◌, ◌++◌, ◌⊎◌, refl, nat_eq}
 use Rattle.std.specs.declared.option.Option.{Option}
 use Rattle.std.specs.declared.option.Option.TheVariants.{None, Some}
 use Rattle.std.specs.List.{AllByRecursion, filter, fold, reduce}
@@ -29,7 +29,7 @@ use Rattle.road_scenario.specs.Registers.{Register, RegistersByStep, RegistersBy
 use Rattle.road_scenario.specs.Touched.{put_number_at, has_other_number, touched, touched_in}
 use Rattle.road_scenario.specs.Winners.{join}
 use Rattle.road_scenario.specs.Private.RegisterWalks.{number_at_step, first_change_among, first_change_where, earlier_step, registers_of_object, register_number}
-use Rattle.road_scenario.proofs.EditMembers.{IsIn, same_edit, none_in, first_in, later_in, in_front, in_back, kept_in, passing_in}
+use Rattle.road_scenario.proofs.EditMembers.{IsIn, none_in, first_in, later_in, in_front, in_back, kept_in, passing_in}
 use Rattle.road_scenario.proofs.EqualRegisters.{same_edit_set}
 use Rattle.road_scenario.proofs.JoinedRegisters.{object_total, won_join, won_laws, steps_join, steps_laws, maps_join, proper-joined, edit_set-joined}
 use Rattle.road_scenario.proofs.LastNumbers.{is_one, steps_here, steps_there}

@@ -13,7 +13,7 @@ ghost use Rattle.road_scenario.specs.Winners.{join, winners};
 
 use crate::edit::{Edit, Stamp, Value};
 use crate::faults::EditFault;
-use crate::listing::{all_edits, fault_of_first, greatest_count_of};
+use crate::listing::{all_edits, fault_of_first};
 use crate::settings::{number_of, put_all};
 use crate::touched::{first_change, first_change_by};
 use lattice_core::greatest::Greatest;
@@ -37,6 +37,8 @@ pub(crate) type RegistersByObject = LatMap<Object, Shared<RegistersByStep>>;
 #[derive(Drop)]
 pub struct Scenario {
     registers: RegistersByObject,
+    // The greatest count of all edits, 0 where there is none.
+    greatest: u64,
     alloc: Global,
 }
 
@@ -50,6 +52,11 @@ impl Model for Scenario {
     ghost coded = { edits_code };
 
     ghost view = { λ s. edit_set s.registers };
+
+    ghost use Rattle.std.specs.Prelude.{◌≡◌};
+    ghost use Rattle.road_scenario.specs.Counts.{greatest_count};
+
+    ghost invariant = { λ s. s.greatest ≡ greatest_count (edit_set s.registers) };
 }
 
 impl Scenario {
@@ -60,6 +67,7 @@ impl Scenario {
     {
         Scenario {
             registers: LatMap::empty(alloc),
+            greatest: 0,
             alloc,
         }
     }
@@ -104,6 +112,7 @@ impl Scenario {
         let steps = Shared::of(self.alloc, one)?;
         Ok(Scenario {
             registers: self.registers.with(edit.object, &steps)?,
+            greatest: self.greatest.max(edit.stamp.count),
             alloc: self.alloc,
         })
     }
@@ -122,6 +131,7 @@ impl Scenario {
         other.registers.known();
         Ok(Scenario {
             registers: self.registers.joined(&other.registers)?,
+            greatest: self.greatest.max(other.greatest),
             alloc: self.alloc,
         })
     }
@@ -136,6 +146,7 @@ impl Scenario {
     {
         Ok(Scenario {
             registers: self.registers.copied()?,
+            greatest: self.greatest,
             alloc: self.alloc,
         })
     }
@@ -221,8 +232,7 @@ impl Scenario {
         ensures every { (edits : Edits) → winners edits ≡ self.now → result ≡ greatest_count edits }
         ensures most { (plan : Plan) → AreInRange plan self.now → result ≤ GREATEST_COUNT }
     {
-        self.registers.known();
-        greatest_count_of(&self.registers)
+        self.greatest
     }
 
     /// The fault of the first faulty edit, in the order of `edits`; none where all edits are in the plan and its
