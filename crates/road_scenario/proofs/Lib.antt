@@ -9,6 +9,7 @@ pub mod PutNumbers
 pub mod TouchedSteps
 pub mod TouchedByJoins
 pub mod SettingsBeforeTouched
+pub mod NextDates
 pub mod EqualRegisters
 pub mod WinnersOfLists
 pub mod WinnersOfHalves

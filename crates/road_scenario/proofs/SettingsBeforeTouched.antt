@@ -39,7 +39,7 @@ least_later (f ∷ es) a e i = elim (or_cases (eq_by_cmp edit_cmp e f) _ i) as (
 ]
 
 -- a step before the least of some edits is before each of them
-before_each : (es : List Edit) (step : ℕ) → IsBefore step (reduce min (steps_of es)) → (e : Edit) → IsIn e es → step < e.step
+pub before_each : (es : List Edit) (step : ℕ) → IsBefore step (reduce min (steps_of es)) → (e : Edit) → IsIn e es → step < e.step
 before_each [] step before e i = absurd (none_in e i)
 before_each (f ∷ es) step before e i =
     let first : step < fold min f.step (steps_of es) = before in

@@ -180,7 +180,7 @@ least_all n (e ∷ m) h =
 
 -- ---- both maps
 
-filter-same : (p q : Edit → Bool) (es : List Edit) → ((e : Edit) → IsIn e es → p e ≡ q e) → filter p es ≡ filter q es
+pub filter-same : (p q : Edit → Bool) (es : List Edit) → ((e : Edit) → IsIn e es → p e ≡ q e) → filter p es ≡ filter q es
 filter-same p q [] h = refl
 filter-same p q (e ∷ es) h = λ i. cond (h e (or_left _ _ (ap is_eq (tied_itself edit_total e))) i) (e ∷ filter-same p q es (λ f j. h f (or_right (eq_by_cmp edit_cmp f e) _ j)) i) (filter-same p q es (λ f j. h f (or_right (eq_by_cmp edit_cmp f e) _ j)) i)
 

@@ -1,4 +1,4 @@
-ghost use Rattle.std.specs.Prelude.{◌≡◌, ◌↔◌, ◌≤◌, [], ◌∷◌, IfOk, IsNone, IsOk, None, T, true};
+ghost use Rattle.std.specs.Prelude.{◌≡◌, ◌↔◌, ◌≤◌, ℕ, [], ◌∷◌, IfOk, IsNone, IsOk, None, T, true};
 ghost use Rattle.lattice_core.specs.Sets as sets;
 ghost use Rattle.road_plan.specs.Objects.{in_plan};
 ghost use Rattle.road_plan.specs.Plan.{Plan};
@@ -7,10 +7,11 @@ ghost use Rattle.road_plan.specs.declared.limits.TheConstants.{GREATEST_COUNT};
 ghost use Rattle.road_scenario.specs.Counts.{greatest_count};
 ghost use Rattle.road_scenario.specs.Edits.{Edits, edit_cmp};
 ghost use Rattle.road_scenario.specs.Faults.{AreInRange, fault_in, fault_of, first_fault};
-ghost use Rattle.road_scenario.specs.Settings.{setting, settings_of};
-ghost use Rattle.road_scenario.specs.Touched.{touched};
+ghost use Rattle.road_scenario.specs.Settings.{next_date, setting, settings_of};
+ghost use Rattle.road_scenario.specs.Touched.{IsBefore, touched};
 ghost use Rattle.road_scenario.specs.Winners.{join, winners};
 
+use crate::dates::first_date_after;
 use crate::edit::{Edit, Stamp, Value};
 use crate::faults::EditFault;
 use crate::listing::{all_edits, fault_of_first};
@@ -186,6 +187,17 @@ impl Scenario {
         let mut settings = Settings::of_plan(alloc, plan)?;
         put_all(&mut settings, &self.registers, step)?;
         Ok(settings)
+    }
+
+    /// The first step after a step by which an edit is dated, a withdrawal too; none where there is no later one. The
+    /// settings of all steps before it are those of the step. It takes a look-up for each object and no memory.
+    pub fn next_date(&self, step: u32) -> Option<u32>
+        ensures date { result ≡ next_date self.now step }
+        ensures settings { (plan : Plan) (t : ℕ) → step ≤ t → IsBefore t result →
+            settings_of plan self.now t ≡ settings_of plan self.now step }
+    {
+        self.registers.known();
+        first_date_after(&self.registers, step)
     }
 
     /// The least step of an object and step at which the numbers put here and in `other` differ: nothing is put where

@@ -95,7 +95,7 @@ fn number_in(steps: &RegistersByStep, step: u32) -> Option<u32>
 }
 
 // The earlier of two steps, if there are any.
-fn earlier(first: Option<u32>, second: Option<u32>) -> Option<u32>
+pub(crate) fn earlier(first: Option<u32>, second: Option<u32>) -> Option<u32>
     ensures { result ≡ walks.earlier_step first second }
 {
     match (first, second) {

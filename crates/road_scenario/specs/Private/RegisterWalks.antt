@@ -27,6 +27,11 @@ abbrev pub last_number : ℕ → RegistersByStep → Option ℕ
 last_number step [] = None
 last_number step (e ∷ es) = option_or (last_number step es) (entry_number step e)
 
+-- the last number that the registers of an object put
+abbrev pub last_number_of : RegistersByStep → Option ℕ
+last_number_of [] = None
+last_number_of (e ∷ es) = option_or (last_number_of es) (register_number e.1)
+
 -- all settings with one number put
 abbrev pub settings_with_number : Settings → Object → ℕ → Settings
 settings_with_number s (Limit zone) n = record s { limits = slice_set s.limits zone n }
@@ -59,6 +64,16 @@ abbrev pub earlier_step : Option ℕ → Option ℕ → Option ℕ
 earlier_step None y = y
 earlier_step (Some a) None = Some a
 earlier_step (Some a) (Some b) = Some (min a b)
+
+-- the first step of the registers of an object after a step
+abbrev pub first_step_after : ℕ → RegistersByStep → Option ℕ
+first_step_after step [] = None
+first_step_after step (e ∷ es) = cond (nat_lt step e.0) (Some e.0) (first_step_after step es)
+
+-- the first step of all registers after a step
+abbrev pub first_date_after : ℕ → RegistersByObject → Option ℕ
+first_date_after step [] = None
+first_date_after step (e ∷ es) = earlier_step (first_step_after step e.1) (first_date_after step es)
 
 -- the number that the registers of an object put at a step
 abbrev pub number_at_step : RegistersByStep → ℕ → Option ℕ
