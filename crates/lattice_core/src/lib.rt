@@ -23,6 +23,7 @@ pub mod greatest;
 pub mod lattice;
 pub mod laws;
 pub mod map;
+pub mod shared;
 
 /// A growth of memory was refused. It is the only error of this crate, and a call that answers it changed nothing.
 pub use std::alloc::AllocError as OutOfMemory;

@@ -2,7 +2,7 @@ ghost use Rattle.std.specs.Prelude.{◌≡◌, ◌↔◌, [], IfOk, IfSome, IsOk
 ghost use Rattle.std.specs.Option.{option_copied};
 ghost use Rattle.std.specs.FinMap.Entries.{find, is_sorted, put};
 ghost use Rattle.std.specs.Map.{keys_of};
-ghost use Rattle.lattice_core.specs.Map.{IsHeld, IsProperMap, map_with};
+ghost use Rattle.lattice_core.specs.Map.{IsHeld, IsProperMap, map_with, entries_up_to, entries_after};
 ghost use Rattle.lattice_core.specs.Private.EntryLists.{IsUpTo, other_entries, left_union, join_with_option, joined_entries};
 
 use crate::OutOfMemory;
@@ -10,8 +10,9 @@ use crate::exact::Exact;
 use crate::lattice::Lattice;
 use std::alloc::Global;
 use std::collections::BTreeMap;
-use std::collections::btree_map::{Iter, Keys};
+use std::collections::btree_map::{Iter, Keys, Range};
 use std::marker::Model;
+use std::ops::Bound;
 
 /// A map to a lattice, joined key by key. It never holds a bottom, so that two maps which give equal values at every
 /// key are equal. Contracts see the list of its entries by rising key. A join takes at most two look-ups or insertions
@@ -66,6 +67,20 @@ impl<K: Exact, V: Lattice> LatMap<K, V> {
         ensures proper { IsProperMap K.cmp V.is_proper V.is_least self.now }
     {
         self.map.iter()
+    }
+
+    /// The entries up to a key, by rising key. The walk begins at either end and takes a look-up for it.
+    pub fn up_to(&self, key: K) -> Range<'_, K, V>
+        ensures { result ≡ entries_up_to K.cmp key self.now }
+    {
+        self.map.range(..=key)
+    }
+
+    /// The entries after a key, by rising key. The walk begins at either end and takes a look-up for it.
+    pub fn after(&self, key: K) -> Range<'_, K, V>
+        ensures { result ≡ entries_after K.cmp key self.now }
+    {
+        self.map.range((Bound::Excluded(key), Bound::Unbounded))
     }
 
     /// A copy of the map with `value` joined in at `key`. A bottom adds nothing.

@@ -1,4 +1,4 @@
--- A set of edits and its winners have the same greatest count.
+-- A set of edits and its winners have the same greatest count, and a join has the greater one of the two.
 use Rattle.std.specs.Prelude.{◌≡◌, ℕ, ◌≤◌, max, true, List, [], ◌∷◌, map, ◌⊎◌, refl}
 use Rattle.std.specs.declared.cmp.Ordering.{Ordering}
 use Rattle.std.specs.declared.cmp.Ordering.TheVariants.{Less, Equal, Greater}
@@ -8,14 +8,14 @@ use Rattle.std.specs.Cmp.{Equal-is, tied_itself}
 use Rattle.std.proofs.Common.{arith, sym, ap, ◌∙◌, inl, inr}
 use Rattle.std.proofs.lemmas.Bool.{true≢false, or_cases, or_left, or_right, and_parts, and_from, not_from_false, cases_Bool}
 use Rattle.std.proofs.lemmas.Bool.Decides.{nat_tests}
-use Rattle.lattice_core.specs.Sets.{contains, items}
-use Rattle.lattice_core.proofs.SetElements.{contains-items}
+use Rattle.lattice_core.specs.Sets.{contains, from_list, items, union}
+use Rattle.lattice_core.proofs.SetElements.{contains-items, contains-union, items-empty, items-from_list, from_list-empty}
 use Rattle.lattice_core.proofs.GreatestElements.{any_gives, contains-tops, top_above}
 use Rattle.road_scenario.specs.declared.edit.Edit.{Edit}
-use Rattle.road_scenario.specs.Counts.{greatest_count}
+use Rattle.road_scenario.specs.Counts.{greatest_count, greatest_count_in}
 use Rattle.road_scenario.specs.Edits.{Edits, edit_cmp, is_exceeded_by, edit_place, edit_rank, number_triple_cmp, value_key}
 use Rattle.road_scenario.specs.Instances.EditOrder.{edit_total, edit_exact, exceeds_strict, winners_laws}
-use Rattle.road_scenario.specs.Winners.{winners}
+use Rattle.road_scenario.specs.Winners.{join, winners}
 
 abbrev counts_from : ℕ → List Edit → ℕ
 counts_from a es = fold max a (map (λ e. e.stamp.count) es)
@@ -115,3 +115,59 @@ greatest_count-winners s = between _ _ (no_more s) (no_less s)
   where
     between : (a b : ℕ) → a ≤ b → b ≤ a → a ≡ b
     between a b p q = omega arith
+
+-- ---- joins
+
+upper_in : (s : Edits) (e : Edit) → contains s e ≡ true → e.stamp.count ≤ greatest_count s
+upper_in s e i = upper (items s) 0 e (sym (contains-items s e) ∙ i)
+
+-- a set whose edits are all of another one has no greater count
+greatest_of_part : (s t : Edits) → ((e : Edit) → contains s e ≡ true → contains t e ≡ true) → greatest_count s ≤ greatest_count t
+greatest_of_part s t part = elim (reached (items s) 0) as (λ _. greatest_count s ≤ greatest_count t) [
+  | inl h ↦ at_zero _ _ h
+  | inr r ↦ by_same _ _ _ r.2 (upper_in t r.0 (part r.0 (contains-items s r.0 ∙ r.1)))
+]
+  where
+    at_zero : (a b : ℕ) → a ≡ 0 → a ≤ b
+    at_zero a b e = omega arith
+
+    by_same : (a b c : ℕ) → a ≡ b → b ≤ c → a ≤ c
+    by_same a b c e h = omega arith
+
+greatest_of_union : (s t : Edits) → greatest_count (union s t) ≤ max (greatest_count s) (greatest_count t)
+greatest_of_union s t = elim (reached (items (union s t)) 0) as (λ _. greatest_count (union s t) ≤ max (greatest_count s) (greatest_count t)) [
+  | inl h ↦ at_zero _ _ h
+  | inr r ↦ elim (or_cases (contains s r.0) (contains t r.0) (sym (contains-union edit_total s t r.0) ∙ contains-items (union s t) r.0 ∙ r.1)) as (λ _. greatest_count (union s t) ≤ max (greatest_count s) (greatest_count t)) [
+    | inl i ↦ below_first _ _ _ _ r.2 (upper_in s r.0 i)
+    | inr i ↦ below_second _ _ _ _ r.2 (upper_in t r.0 i)
+  ]
+]
+  where
+    at_zero : (a b : ℕ) → a ≡ 0 → a ≤ b
+    at_zero a b e = omega arith
+
+    below_first : (a b c d : ℕ) → a ≡ b → b ≤ c → a ≤ max c d
+    below_first a b c d e h = grind (arith, nat_tests)
+
+    below_second : (a b c d : ℕ) → a ≡ b → b ≤ d → a ≤ max c d
+    below_second a b c d e h = grind (arith, nat_tests)
+
+-- a join has the greater one of the two greatest counts
+pub greatest_count-join : (s t : Edits) → greatest_count (join s t) ≡ max (greatest_count s) (greatest_count t)
+greatest_count-join s t =
+    greatest_count-winners (union s t)
+    ∙ between _ _ _ (greatest_of_union s t)
+    (greatest_of_part s (union s t) (λ e i. contains-union edit_total s t e ∙ or_left (contains s e) (contains t e) i))
+    (greatest_of_part t (union s t) (λ e i. contains-union edit_total s t e ∙ or_right (contains s e) (contains t e) i))
+  where
+    between : (a b c : ℕ) → a ≤ max b c → b ≤ a → c ≤ a → a ≡ max b c
+    between a b c p q r = grind (arith, nat_tests)
+
+pub greatest_count-none : greatest_count (from_list []) ≡ 0
+greatest_count-none = ap greatest_count from_list-empty ∙ ap greatest_count_in (items-empty edit_cmp)
+
+pub greatest_count-one : (e : Edit) → greatest_count (from_list (e ∷ [])) ≡ e.stamp.count
+greatest_count-one e = ap greatest_count_in (items-from_list edit_total (e ∷ []) tt) ∙ above_zero e.stamp.count
+  where
+    above_zero : (n : ℕ) → max 0 n ≡ n
+    above_zero n = grind (arith, nat_tests)

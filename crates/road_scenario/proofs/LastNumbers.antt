@@ -1,5 +1,5 @@
 -- The number in force for an object is the last one put in its steps.
-use Rattle.std.specs.Prelude.{◌≡◌, ℕ, ◌<◌, Bool, true, false, cond, ◌&&◌, ◌||◌, T, List, [], ◌∷◌, ◌++◌, nat_le, nat_lt, is_some, refl}
+use Rattle.std.specs.Prelude.{◌≡◌, ℕ, ◌<◌, Bool, true, false, not, cond, ◌&&◌, ◌||◌, T, List, [], ◌∷◌, ◌++◌, nat_le, nat_lt, is_some, refl}
 use Rattle.std.specs.declared.cmp.Ordering.{Ordering}
 use Rattle.std.specs.declared.cmp.Ordering.TheVariants.{Less, Equal, Greater}
 use Rattle.std.specs.declared.option.Option.{Option}
@@ -9,13 +9,14 @@ use Rattle.std.specs.Option.{option_or, unwrap_or, option_and_then}
 use Rattle.std.specs.Ordering.{nat_cmp, ordering_reverse, eq_by_cmp, is_eq, is_lt}
 use Rattle.std.specs.Cmp.{tied_itself, Equal-is}
 use Rattle.std.specs.FinMap.Entries.{find, below_all, is_sorted}
-use Rattle.std.proofs.Common.{arith, sym, ap, subst, ◌∙◌}
+use Rattle.std.proofs.Common.{arith, sym, ap, ◌∙◌}
 use Rattle.std.proofs.lemmas.Bool.{true≢false}
 use Rattle.std.proofs.lemmas.Bool.Decides.{nat_tests}
 use Rattle.std.proofs.Math.Bool.{or-true}
 use Rattle.std.proofs.lemmas.List.Elements.{filter-append}
 use Rattle.lattice_core.specs.Instances.TestAnswers.{first_of_both, second_of_both}
 use Rattle.lattice_core.specs.declared.greatest.Greatest.TheVariants.{Nothing, Of}
+use Rattle.lattice_core.specs.Map.{entries_up_to}
 use Rattle.road_plan.specs.Objects.{order_key, object_order}
 use Rattle.road_plan.specs.Instances.ObjectOrder.{ordered}
 use Rattle.road_plan.specs.declared.object.Object.{Object}
@@ -26,7 +27,7 @@ use Rattle.road_scenario.specs.Edits.{put_number, number_pair_cmp}
 use Rattle.road_scenario.specs.Instances.EditOrder.{number_pair_total}
 use Rattle.road_scenario.specs.Registers.{Register, RegistersByStep, RegistersByObject, edit_with, edits_from_register, object_edits, edit_list}
 use Rattle.road_scenario.specs.Settings.{is_put_up_to, latest_edit}
-use Rattle.road_scenario.specs.Private.RegisterWalks.{register_number, entry_number, last_number, registers_of_object}
+use Rattle.road_scenario.specs.Private.RegisterWalks.{register_number, entry_number, last_number, last_number_of, registers_of_object}
 use Rattle.road_scenario.proofs.RisingEdits.{object_cmp, is_less}
 
 -- whether two objects are the same
@@ -35,25 +36,40 @@ is_one p o = is_eq (object_order p o)
 
 -- ---- the code's walk
 
-not_yet : (step a b : ℕ) → step < a → nat_cmp a b ≡ Less → nat_le b step ≡ false
-not_yet step a b l e = grind (arith, nat_tests)
+or_none : (x : Option ℕ) → x ≡ option_or x None
+or_none None = refl
+or_none (Some n) = refl
 
--- no entry behind a step is dated at most at it
-pub past : (steps : RegistersByStep) (step a : ℕ) → step < a → T (below_all nat_cmp a steps) → last_number step steps ≡ None
-past [] step a l h = refl
-past (s ∷ steps) step a l h =
-    ap (λ x. option_or x (entry_number step s)) (past steps step a l (second_of_both (is_lt (nat_cmp a s.0)) _ h))
-    ∙ ap (λ b. cond b (register_number s.1) None) (not_yet step a s.0 l (is_less _ (first_of_both (is_lt (nat_cmp a s.0)) _ h)))
+or-assoc : (x y z : Option ℕ) → option_or (option_or x y) z ≡ option_or x (option_or y z)
+or-assoc None y z = refl
+or-assoc (Some n) y z = refl
 
-late : (step a : ℕ) → step < a → nat_le a step ≡ false
-late step a l = grind (arith, nat_tests)
+last-append : (es : RegistersByStep) (x : ℕ × Register) → last_number_of (es ++ x ∷ []) ≡ option_or (register_number x.1) (last_number_of es)
+last-append [] x = or_none (register_number x.1)
+last-append (e ∷ es) x = ap (λ y. option_or y (register_number e.1)) (last-append es x) ∙ or-assoc (register_number x.1) (last_number_of es) (register_number e.1)
 
--- at the first entry behind the step, all is found
-pub all_found : (steps rest : RegistersByStep) (step a : ℕ) (w : Register) (number whole : Option ℕ) → steps ≡ (a, w) ∷ rest → step < a → T (is_sorted nat_cmp steps) → option_or (last_number step steps) number ≡ whole → number ≡ whole
-all_found steps rest step a w number whole is l s h =
-    let sorted : T (is_sorted nat_cmp ((a, w) ∷ rest)) = subst (λ x. T (is_sorted nat_cmp x)) is s in
-    let none : last_number step ((a, w) ∷ rest) ≡ None = ap (λ x. option_or x (entry_number step (a, w))) (past rest step a l (first_of_both (below_all nat_cmp a rest) _ sorted)) ∙ ap (λ b. cond b (register_number w) None) (late step a l) in
-    ap (λ x. option_or x number) (sym (ap (last_number step) is ∙ none)) ∙ h
+-- the last number put up to a step is that of the entries up to it
+pub last-up_to : (step : ℕ) (steps : RegistersByStep) → last_number_of (entries_up_to nat_cmp step steps) ≡ last_number step steps
+last-up_to step [] = refl
+last-up_to step (e ∷ steps) =
+    ap (λ b. last_number_of (cond b (e ∷ entries_up_to nat_cmp step steps) (entries_up_to nat_cmp step steps))) (same_test step e.0)
+    ∙ elim (nat_le e.0 step) as (λ b. last_number_of (cond b (e ∷ entries_up_to nat_cmp step steps) (entries_up_to nat_cmp step steps)) ≡ option_or (last_number step steps) (cond b (register_number e.1) None)) [
+      | true ↦ ap (λ x. option_or x (register_number e.1)) (last-up_to step steps)
+      | false ↦ last-up_to step steps ∙ or_none (last_number step steps)
+    ]
+  where
+    same_test : (a b : ℕ) → not (is_lt (nat_cmp a b)) ≡ nat_le b a
+    same_test a b = grind (arith, nat_tests)
+
+-- a number of the last entry is the last number
+pub last_found : (rest left : RegistersByStep) (x : ℕ × Register) (number whole : Option ℕ) (n : ℕ) → rest ≡ left ++ x ∷ [] → number ≡ register_number x.1 → Some n ≡ number → last_number_of rest ≡ whole → Some n ≡ whole
+last_found rest left x number whole n ends is some h =
+    ap (λ y. option_or y (last_number_of left)) (some ∙ is) ∙ sym (last-append left x) ∙ sym (ap last_number_of ends) ∙ h
+
+-- past an entry that puts none, the last number is that of what is left
+pub last_further : (rest left : RegistersByStep) (x : ℕ × Register) (number whole : Option ℕ) → rest ≡ left ++ x ∷ [] → number ≡ register_number x.1 → None ≡ number → last_number_of rest ≡ whole → last_number_of left ≡ whole
+last_further rest left x number whole ends is none h =
+    ap (λ y. option_or y (last_number_of left)) (none ∙ is) ∙ sym (last-append left x) ∙ sym (ap last_number_of ends) ∙ h
 
 -- ---- one object
 

@@ -7,7 +7,9 @@ pub mod FittingSettings
 pub mod SettingsOfRegisters
 pub mod PutNumbers
 pub mod TouchedSteps
+pub mod TouchedByJoins
 pub mod SettingsBeforeTouched
+pub mod NextDates
 pub mod EqualRegisters
 pub mod WinnersOfLists
 pub mod WinnersOfHalves

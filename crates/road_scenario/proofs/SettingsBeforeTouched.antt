@@ -31,7 +31,7 @@ least_first : (ns : List ℕ) (a : ℕ) → fold min a ns ≤ a
 least_first [] a = omega arith
 least_first (n ∷ ns) a = let rest = least_first ns (min a n) in omega (arith, rest)
 
-least_later : (es : List Edit) (a : ℕ) (e : Edit) → IsIn e es → fold min a (steps_of es) ≤ e.step
+pub least_later : (es : List Edit) (a : ℕ) (e : Edit) → IsIn e es → fold min a (steps_of es) ≤ e.step
 least_later [] a e i = absurd (none_in e i)
 least_later (f ∷ es) a e i = elim (or_cases (eq_by_cmp edit_cmp e f) _ i) as (λ _. fold min (min a f.step) (steps_of es) ≤ e.step) [
   | inl t ↦ let one : e.step ≡ f.step = ap (λ (x : Edit). x.step) (same_edit e f t) in let least = least_first (steps_of es) (min a f.step) in omega (arith, one, least)
@@ -39,7 +39,7 @@ least_later (f ∷ es) a e i = elim (or_cases (eq_by_cmp edit_cmp e f) _ i) as (
 ]
 
 -- a step before the least of some edits is before each of them
-before_each : (es : List Edit) (step : ℕ) → IsBefore step (reduce min (steps_of es)) → (e : Edit) → IsIn e es → step < e.step
+pub before_each : (es : List Edit) (step : ℕ) → IsBefore step (reduce min (steps_of es)) → (e : Edit) → IsIn e es → step < e.step
 before_each [] step before e i = absurd (none_in e i)
 before_each (f ∷ es) step before e i =
     let first : step < fold min f.step (steps_of es) = before in

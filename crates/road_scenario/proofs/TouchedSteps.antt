@@ -85,7 +85,7 @@ put_here o step (s ∷ steps) fs h none = here s.1 h.0.1 (put_here o step steps 
         ∙ either (is_eq (nat_cmp step s.0)) w (find nat_cmp step steps)
 
 -- what is put at an object and step is found by look-ups
-put_found : (m : RegistersByObject) → T (is_sorted object_cmp m) → AllByRecursion (λ e. IsHeld AreRegistersByStep is_empty e.1) m → (o : Object) (step : ℕ) → put_number_at (edit_list m) (object_place o step) ≡ number_at_step (registers_of_object object_cmp m o) step
+pub put_found : (m : RegistersByObject) → T (is_sorted object_cmp m) → AllByRecursion (λ e. IsHeld AreRegistersByStep is_empty e.1) m → (o : Object) (step : ℕ) → put_number_at (edit_list m) (object_place o step) ≡ number_at_step (registers_of_object object_cmp m o) step
 put_found [] s h o step = refl
 put_found (e ∷ m) s h o step = elim (is_one e.0 o) as (λ b. is_one e.0 o ≡ b → put_number_at (edit_list (e ∷ m)) (object_place o step) ≡ number_at_step (registers_of_object object_cmp (e ∷ m) o) step) [
   | true ↦ λ t.
@@ -100,7 +100,7 @@ put_found (e ∷ m) s h o step = elim (is_one e.0 o) as (λ b. is_one e.0 o ≡ 
 
 -- ---- the least step
 
-abbrev steps_of_edits : List Edit → List ℕ
+abbrev pub steps_of_edits : List Edit → List ℕ
 steps_of_edits es = map (λ e. e.step) es
 
 fold-min : (a b : ℕ) (ns : List ℕ) → fold min (min a b) ns ≡ min a (fold min b ns)
@@ -110,7 +110,7 @@ fold-min a b (n ∷ ns) = ap (λ x. fold min x ns) (min-assoc a b n) ∙ fold-mi
     min-assoc : (a b c : ℕ) → min (min a b) c ≡ min a (min b c)
     min-assoc a b c = grind (arith, nat_tests)
 
-least-append : (ms ns : List ℕ) → reduce min (ms ++ ns) ≡ earlier_step (reduce min ms) (reduce min ns)
+pub least-append : (ms ns : List ℕ) → reduce min (ms ++ ns) ≡ earlier_step (reduce min ms) (reduce min ns)
 least-append [] ns = refl
 least-append (m ∷ ms) ns = ap Some (fold-append m ms ns) ∙ both (fold min m ms) ns
   where
@@ -122,11 +122,11 @@ least-append (m ∷ ms) ns = ap Some (fold-append m ms ns) ∙ both (fold min m 
     both a [] = refl
     both a (n ∷ ns) = ap Some (fold-min a n ns)
 
-abbrev AllLater : ℕ → List Edit → Type 0
+abbrev pub AllLater : ℕ → List Edit → Type 0
 AllLater step [] = Unit {0}
 AllLater step (e ∷ es) = (step < e.step) × AllLater step es
 
-later_object_edits : (o : Object) (a : ℕ) (steps : RegistersByStep) → T (below_all nat_cmp a steps) → AllLater a (object_edits o steps)
+pub later_object_edits : (o : Object) (a : ℕ) (steps : RegistersByStep) → T (below_all nat_cmp a steps) → AllLater a (object_edits o steps)
 later_object_edits o a [] h = tt
 later_object_edits o a (s ∷ steps) h =
     let rest = later_object_edits o a steps (second_of_both (is_lt (nat_cmp a s.0)) _ h) in
@@ -138,14 +138,14 @@ later_object_edits o a (s ∷ steps) h =
     is_later : (a b : ℕ) → nat_cmp a b ≡ Less → a < b
     is_later a b e = grind (arith, nat_tests)
 
-later_kept : (q : Edit → Bool) (a : ℕ) (es : List Edit) → AllLater a es → AllLater a (filter q es)
+pub later_kept : (q : Edit → Bool) (a : ℕ) (es : List Edit) → AllLater a es → AllLater a (filter q es)
 later_kept q a [] h = tt
 later_kept q a (e ∷ es) h = elim (q e) as (λ b. AllLater a (cond b (e ∷ filter q es) (filter q es))) [
   | true ↦ (h.0, later_kept q a es h.1)
   | false ↦ later_kept q a es h.1
 ]
 
-first_least : (a : ℕ) (es : List Edit) → AllLater a es → fold min a (steps_of_edits es) ≡ a
+pub first_least : (a : ℕ) (es : List Edit) → AllLater a es → fold min a (steps_of_edits es) ≡ a
 first_least a [] h = refl
 first_least a (e ∷ es) h = ap (λ x. fold min x (steps_of_edits es)) (lesser a e.step h.0) ∙ first_least a es h.1
   where
@@ -180,7 +180,7 @@ least_all n (e ∷ m) h =
 
 -- ---- both maps
 
-filter-same : (p q : Edit → Bool) (es : List Edit) → ((e : Edit) → IsIn e es → p e ≡ q e) → filter p es ≡ filter q es
+pub filter-same : (p q : Edit → Bool) (es : List Edit) → ((e : Edit) → IsIn e es → p e ≡ q e) → filter p es ≡ filter q es
 filter-same p q [] h = refl
 filter-same p q (e ∷ es) h = λ i. cond (h e (or_left _ _ (ap is_eq (tied_itself edit_total e))) i) (e ∷ filter-same p q es (λ f j. h f (or_right (eq_by_cmp edit_cmp f e) _ j)) i) (filter-same p q es (λ f j. h f (or_right (eq_by_cmp edit_cmp f e) _ j)) i)
 

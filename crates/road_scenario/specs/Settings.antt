@@ -1,6 +1,6 @@
 -- The settings that edits give.
-use Rattle.std.specs.Prelude.{ℕ, ◌==◌, ◌&&◌, Bool, List, [], ◌∷◌, map, length, nat_le, nat_lt, is_some}
-use Rattle.std.specs.List.{filter, best_of, range_with_len}
+use Rattle.std.specs.Prelude.{ℕ, ◌==◌, ◌&&◌, Bool, List, [], ◌∷◌, map, length, min, nat_le, nat_lt, is_some}
+use Rattle.std.specs.List.{filter, best_of, range_with_len, reduce}
 use Rattle.std.specs.Option.{unwrap_or, option_and_then}
 use Rattle.std.specs.Ordering.{is_eq}
 use Rattle.std.specs.declared.option.Option.{Option}
@@ -52,3 +52,7 @@ settings_in p edits step = all_settings p (λ o. setting_in p edits o step)
 -- all settings at a step, by the winners of the edits
 abbrev pub settings_of : Plan → Edits → ℕ → Settings
 settings_of p edits step = settings_in p (items (winners edits)) step
+
+-- the first step after a step by which a winner of the edits is dated, if there is one
+abbrev pub next_date : Edits → ℕ → Option ℕ
+next_date edits step = reduce min (map (λ e. e.step) (filter (λ e. nat_lt step e.step) (items (winners edits))))

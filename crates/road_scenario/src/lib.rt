@@ -18,6 +18,7 @@
 //! ```
 #![tactic(auto)]
 
+mod dates;
 mod edit;
 mod exact;
 mod faults;

@@ -1,8 +1,6 @@
-// Walks over a scenario's registers that list its edits, count and check them.
+// Walks over a scenario's registers that list its edits and check them.
 
-ghost use Rattle.std.specs.Prelude.{◌≡◌, [], ◌++◌, OnOk, IfOk, IsOk, map, max};
-ghost use Rattle.std.specs.List.{fold};
-ghost use Rattle.road_plan.specs.declared.object.Object.{Object};
+ghost use Rattle.std.specs.Prelude.{◌≡◌, [], ◌++◌, OnOk, IfOk, IsOk};
 ghost use Rattle.road_scenario.specs.Faults.{first_fault};
 ghost use Rattle.road_scenario.specs.Registers.{edits_from_register, edit_list, object_edits};
 
@@ -23,7 +21,7 @@ pub(crate) fn all_edits(
 {
     let mut edits = Vec::new(alloc);
     for (object, steps) in registers.iter() {
-        push_edits(&mut edits, *object, steps)?;
+        push_edits(&mut edits, *object, steps.value())?;
     }
     Ok(edits)
 }
@@ -50,37 +48,12 @@ fn push_edits(
     Ok(())
 }
 
-// The greatest count of all edits, 0 where there is none.
-pub(crate) fn greatest_count_of(registers: &RegistersByObject) -> u64
-    ensures { result ≡ fold max 0 (map (λ e. e.stamp.count) (edit_list registers.now)) }
-{
-    let mut greatest = 0;
-    for (_, steps) in registers.iter() {
-        greatest = greatest_count_at(steps, greatest);
-    }
-    greatest
-}
-
-// The greatest of a count and those of an object's edits.
-fn greatest_count_at(steps: &RegistersByStep, count: u64) -> u64
-    ensures { (object : Object) → result ≡ fold max count (map (λ e. e.stamp.count) (object_edits object steps.now)) }
-{
-    let mut greatest = count;
-    for (_, won) in steps.iter() {
-        match *won {
-            Greatest::Nothing => {}
-            Greatest::Of((stamp, _)) => greatest = greatest.max(stamp.count),
-        }
-    }
-    greatest
-}
-
 // The fault of the first faulty edit, by object and step.
 pub(crate) fn fault_of_first(registers: &RegistersByObject, plan: &Plan) -> Option<EditFault>
     ensures { result ≡ first_fault plan.now (edit_list registers.now) }
 {
     for (object, steps) in registers.iter() {
-        match fault_at(*object, steps, plan) {
+        match fault_at(*object, steps.value(), plan) {
             Some(fault) => return Some(fault),
             None => {}
         }

@@ -1,4 +1,4 @@
-ghost use Rattle.std.specs.Prelude.{◌≡◌, ◌↔◌, ◌≤◌, [], ◌∷◌, IfOk, IsNone, IsOk, None, T, true};
+ghost use Rattle.std.specs.Prelude.{◌≡◌, ◌↔◌, ◌≤◌, ℕ, [], ◌∷◌, IfOk, IsNone, IsOk, None, T, true};
 ghost use Rattle.lattice_core.specs.Sets as sets;
 ghost use Rattle.road_plan.specs.Objects.{in_plan};
 ghost use Rattle.road_plan.specs.Plan.{Plan};
@@ -7,18 +7,20 @@ ghost use Rattle.road_plan.specs.declared.limits.TheConstants.{GREATEST_COUNT};
 ghost use Rattle.road_scenario.specs.Counts.{greatest_count};
 ghost use Rattle.road_scenario.specs.Edits.{Edits, edit_cmp};
 ghost use Rattle.road_scenario.specs.Faults.{AreInRange, fault_in, fault_of, first_fault};
-ghost use Rattle.road_scenario.specs.Settings.{setting, settings_of};
-ghost use Rattle.road_scenario.specs.Touched.{touched};
+ghost use Rattle.road_scenario.specs.Settings.{next_date, setting, settings_of};
+ghost use Rattle.road_scenario.specs.Touched.{IsBefore, touched};
 ghost use Rattle.road_scenario.specs.Winners.{join, winners};
 
+use crate::dates::first_date_after;
 use crate::edit::{Edit, Stamp, Value};
 use crate::faults::EditFault;
-use crate::listing::{all_edits, fault_of_first, greatest_count_of};
+use crate::listing::{all_edits, fault_of_first};
 use crate::settings::{number_of, put_all};
-use crate::touched::first_change;
+use crate::touched::{first_change, first_change_by};
 use lattice_core::greatest::Greatest;
 use lattice_core::lattice::Lattice;
 use lattice_core::map::LatMap;
+use lattice_core::shared::Shared;
 use road_plan::{Object, OutOfMemory, Plan, Settings};
 use std::alloc::Global;
 use std::marker::Model;
@@ -29,13 +31,15 @@ pub type Won = Greatest<(Stamp, Value)>;
 // The registers of one object, each with its step.
 pub(crate) type RegistersByStep = LatMap<u32, Won>;
 
-// All registers, each object with its own.
-pub(crate) type RegistersByObject = LatMap<Object, RegistersByStep>;
+// All registers, each object with its own, which scenarios share as long as nothing is joined in for the object.
+pub(crate) type RegistersByObject = LatMap<Object, Shared<RegistersByStep>>;
 
 /// The winners of the edits that came. Contracts see the set of them.
 #[derive(Drop)]
 pub struct Scenario {
     registers: RegistersByObject,
+    // The greatest count of all edits, 0 where there is none.
+    greatest: u64,
     alloc: Global,
 }
 
@@ -49,6 +53,11 @@ impl Model for Scenario {
     ghost coded = { edits_code };
 
     ghost view = { λ s. edit_set s.registers };
+
+    ghost use Rattle.std.specs.Prelude.{◌≡◌};
+    ghost use Rattle.road_scenario.specs.Counts.{greatest_count};
+
+    ghost invariant = { λ s. s.greatest ≡ greatest_count (edit_set s.registers) };
 }
 
 impl Scenario {
@@ -59,6 +68,7 @@ impl Scenario {
     {
         Scenario {
             registers: LatMap::empty(alloc),
+            greatest: 0,
             alloc,
         }
     }
@@ -99,9 +109,11 @@ impl Scenario {
         self.registers.known();
         let won = Greatest::Of((edit.stamp, edit.value));
         let none: RegistersByStep = LatMap::empty(self.alloc);
-        let steps = none.with(edit.step, &won)?;
+        let one = none.with(edit.step, &won)?;
+        let steps = Shared::of(self.alloc, one)?;
         Ok(Scenario {
             registers: self.registers.with(edit.object, &steps)?,
+            greatest: self.greatest.max(edit.stamp.count),
             alloc: self.alloc,
         })
     }
@@ -120,6 +132,7 @@ impl Scenario {
         other.registers.known();
         Ok(Scenario {
             registers: self.registers.joined(&other.registers)?,
+            greatest: self.greatest.max(other.greatest),
             alloc: self.alloc,
         })
     }
@@ -134,6 +147,7 @@ impl Scenario {
     {
         Ok(Scenario {
             registers: self.registers.copied()?,
+            greatest: self.greatest,
             alloc: self.alloc,
         })
     }
@@ -175,6 +189,17 @@ impl Scenario {
         Ok(settings)
     }
 
+    /// The first step after a step by which an edit is dated, a withdrawal too; none where there is no later one. The
+    /// settings of all steps before it are those of the step. It takes a look-up for each object and no memory.
+    pub fn next_date(&self, step: u32) -> Option<u32>
+        ensures date { result ≡ next_date self.now step }
+        ensures settings { (plan : Plan) (t : ℕ) → step ≤ t → IsBefore t result →
+            settings_of plan self.now t ≡ settings_of plan self.now step }
+    {
+        self.registers.known();
+        first_date_after(&self.registers, step)
+    }
+
     /// The least step of an object and step at which the numbers put here and in `other` differ: nothing is put where
     /// there is no edit or a withdrawal. Settings at earlier steps are the same
     /// (`laws::settings_stay_before_touched`). It takes no memory.
@@ -184,6 +209,18 @@ impl Scenario {
         self.registers.known();
         other.registers.known();
         first_change(&self.registers, &other.registers)
+    }
+
+    /// As [`Scenario::touched`], where the other scenario is this one with what is `taken` joined in: just the objects
+    /// and steps of what is taken are looked at. It takes no memory.
+    pub fn touched_by(&self, taken: &Scenario, joined: &Scenario) -> Option<u32>
+        requires { joined.now ≡ join self.now taken.now }
+        ensures { result ≡ touched self.now joined.now }
+    {
+        self.registers.known();
+        taken.registers.known();
+        joined.registers.known();
+        first_change_by(&self.registers, &taken.registers, &joined.registers)
     }
 
     /// The edits by object and step, each once.
@@ -207,8 +244,7 @@ impl Scenario {
         ensures every { (edits : Edits) → winners edits ≡ self.now → result ≡ greatest_count edits }
         ensures most { (plan : Plan) → AreInRange plan self.now → result ≤ GREATEST_COUNT }
     {
-        self.registers.known();
-        greatest_count_of(&self.registers)
+        self.greatest
     }
 
     /// The fault of the first faulty edit, in the order of `edits`; none where all edits are in the plan and its

@@ -19,7 +19,7 @@ pub(crate) fn put_all(
     ensures { OnOk result (settings.new ≡ walks.settings_with_last_numbers step settings.old registers.now) }
 {
     for (object, steps) in registers.iter() {
-        match last_put(steps, step) {
+        match last_put(steps.value(), step) {
             Some(number) => put(settings, *object, number)?,
             None => {}
         }
@@ -52,23 +52,23 @@ pub(crate) fn number_of(registers: &RegistersByObject, object: Object, step: u32
     ensures { result ≡ walks.last_number step (walks.registers_of_object (⟦<Object as Ord>⟧.cmp) registers.now object) }
 {
     match registers.get(object) {
-        Some(steps) => last_put(steps, step),
+        Some(steps) => last_put(steps.value(), step),
         None => None,
     }
 }
 
-// The last number put up to a step. The walk ends at the first later step.
+// The last number put up to a step. The walk goes back from there, past withdrawals alone.
 fn last_put(steps: &RegistersByStep, step: u32) -> Option<u32>
     ensures { result ≡ walks.last_number step steps.now }
 {
-    let mut number = None;
-    for (at, won) in steps.iter() {
-        if *at > step {
-            return number;
+    let mut earlier = steps.up_to(step);
+    while let Some((_, won)) = earlier.next_back() {
+        match number_put(won) {
+            Some(number) => return Some(number),
+            None => {}
         }
-        number = number_put(won).or(number);
     }
-    number
+    None
 }
 
 // The number that won: nothing where a withdrawal did.

@@ -6,6 +6,7 @@ ghost use Rattle.road_scenario.specs.Private.RegisterWalks as walks;
 
 use crate::scenario::{RegistersByObject, RegistersByStep};
 use crate::settings::number_put;
+use lattice_core::shared::Shared;
 use road_plan::Object;
 
 // The first step at which one of the registers puts a number and the other none or another.
@@ -22,13 +23,13 @@ fn changed(ours: &RegistersByObject, theirs: &RegistersByObject) -> Option<u32>
 {
     let mut first = None;
     for (object, steps) in ours.iter() {
-        first = earlier(first, changed_at(steps, theirs.get(*object)));
+        first = earlier(first, changed_at(steps.value(), theirs.get(*object)));
     }
     first
 }
 
 // The first step of an object at which the numbers put differ. The others may have no entry of the object.
-fn changed_at(steps: &RegistersByStep, others: Option<&RegistersByStep>) -> Option<u32>
+fn changed_at(steps: &RegistersByStep, others: Option<&Shared<RegistersByStep>>) -> Option<u32>
     ensures { result ≡ walks.first_change_at steps.now (unwrap_or (option_copied others.entry) []) }
 {
     for (step, won) in steps.iter() {
@@ -39,12 +40,46 @@ fn changed_at(steps: &RegistersByStep, others: Option<&RegistersByStep>) -> Opti
     None
 }
 
+// The first of the steps of taken registers at which ours and the joined ones put different numbers: look-ups for each
+// object and step that was taken.
+pub(crate) fn first_change_by(
+    ours: &RegistersByObject,
+    taken: &RegistersByObject,
+    joined: &RegistersByObject,
+) -> Option<u32>
+    ensures { result ≡ walks.first_change_where (⟦<Object as Ord>⟧.cmp) ours.now joined.now taken.now }
+{
+    let mut first = None;
+    for (object, steps) in taken.iter() {
+        let changed = changed_among(steps.value(), ours.get(*object), joined.get(*object));
+        first = earlier(first, changed);
+    }
+    first
+}
+
+// The first of some steps of an object at which the numbers put differ.
+fn changed_among(
+    steps: &RegistersByStep,
+    ours: Option<&Shared<RegistersByStep>>,
+    joined: Option<&Shared<RegistersByStep>>,
+) -> Option<u32>
+    ensures { result ≡ walks.first_change_among (unwrap_or (option_copied ours.entry) [])
+        (unwrap_or (option_copied joined.entry) []) steps.now }
+{
+    for (step, _) in steps.iter() {
+        if number_at(ours, *step) != number_at(joined, *step) {
+            return Some(*step);
+        }
+    }
+    None
+}
+
 // The number put at a step, if there are steps.
-fn number_at(steps: Option<&RegistersByStep>, step: u32) -> Option<u32>
+fn number_at(steps: Option<&Shared<RegistersByStep>>, step: u32) -> Option<u32>
     ensures { result ≡ walks.number_at_step (unwrap_or (option_copied steps.entry) []) step }
 {
     match steps {
-        Some(steps) => number_in(steps, step),
+        Some(steps) => number_in(steps.value(), step),
         None => None,
     }
 }
@@ -60,7 +95,7 @@ fn number_in(steps: &RegistersByStep, step: u32) -> Option<u32>
 }
 
 // The earlier of two steps, if there are any.
-fn earlier(first: Option<u32>, second: Option<u32>) -> Option<u32>
+pub(crate) fn earlier(first: Option<u32>, second: Option<u32>) -> Option<u32>
     ensures { result ≡ walks.earlier_step first second }
 {
     match (first, second) {

@@ -5,4 +5,3 @@ pub mod RunTotals
 pub mod BlockSteps
 pub mod SameRuns
 pub mod SheetBlocks
-pub mod CarriedSettings

@@ -1,19 +1,16 @@
 //! What a run carries from a step to the next, so that it is not made anew.
 
-ghost use Rattle.std.specs.Prelude.{◌≡◌, ◌<◌, ◌≤◌, ℕ, length, IfOk, IfSome};
+ghost use Rattle.std.specs.Prelude.{◌≡◌, ◌<◌, ◌≤◌, ℕ, IfOk, IfSome};
 ghost use Rattle.std.specs.Arc.{arc_value};
-ghost use Rattle.std.specs.List.{slice_index_or};
 ghost use Rattle.road_plan.specs.Plan.{Plan};
 ghost use Rattle.road_plan.specs.Settings.{Fits};
 ghost use Rattle.road_scenario.specs.Edits.{Edits};
 ghost use Rattle.road_scenario.specs.Faults.{AreInRange};
 ghost use Rattle.road_scenario.specs.Settings.{settings_of};
-ghost use Rattle.road_scenario.specs.declared.edit.Edit.{Edit};
 
-use lattice_core::lattice::Lattice;
 use road_ends::DrawnWords;
 use road_plan::{OutOfMemory, Plan, Settings};
-use road_scenario::{Edit, Scenario};
+use road_scenario::Scenario;
 use std::alloc::Global;
 use std::sync::Arc;
 
@@ -107,29 +104,24 @@ impl Carried {
         ensures fits { IfOk result (λ settings. Fits (arc_value plan.now) (arc_value settings)) }
         ensures carried { IsCarried (arc_value plan.now) scenario.now self.new }
     {
-        scenario.known();
         let settings = Arc::new(alloc, scenario.settings_at(alloc, plan, step)?)?;
         let shared = Arc::try_clone(&settings)?;
-        let until = next_date(&scenario.edits(alloc)?, step);
         self.settings = Some(InForce {
             settings,
             from: step,
-            until,
+            until: until(scenario, step),
         });
         Ok(shared)
     }
 }
 
-// The first step after a step by which one of these edits is dated; the greatest of all where there is none.
-fn next_date(edits: &[Edit], step: u32) -> u32
-    ensures { (k : ℕ) (d : Edit) → k < length edits.now → step < (slice_index_or edits.now k d).step →
-        result ≤ (slice_index_or edits.now k d).step }
+// Up to which step the settings of a step are in force: the greatest of all where no edit is dated after it.
+fn until(scenario: &Scenario, step: u32) -> u32
+    ensures { (plan : Plan) (t : ℕ) → step ≤ t → t < result →
+        settings_of plan scenario.now t ≡ settings_of plan scenario.now step }
 {
-    let mut next = u32::MAX;
-    for edit in edits {
-        if step < edit.step && edit.step < next {
-            next = edit.step;
-        }
+    match scenario.next_date(step) {
+        Some(date) => date,
+        None => u32::MAX,
     }
-    next
 }

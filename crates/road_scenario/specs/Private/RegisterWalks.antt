@@ -27,6 +27,11 @@ abbrev pub last_number : ℕ → RegistersByStep → Option ℕ
 last_number step [] = None
 last_number step (e ∷ es) = option_or (last_number step es) (entry_number step e)
 
+-- the last number that the registers of an object put
+abbrev pub last_number_of : RegistersByStep → Option ℕ
+last_number_of [] = None
+last_number_of (e ∷ es) = option_or (last_number_of es) (register_number e.1)
+
 -- all settings with one number put
 abbrev pub settings_with_number : Settings → Object → ℕ → Settings
 settings_with_number s (Limit zone) n = record s { limits = slice_set s.limits zone n }
@@ -60,6 +65,16 @@ earlier_step None y = y
 earlier_step (Some a) None = Some a
 earlier_step (Some a) (Some b) = Some (min a b)
 
+-- the first step of the registers of an object after a step
+abbrev pub first_step_after : ℕ → RegistersByStep → Option ℕ
+first_step_after step [] = None
+first_step_after step (e ∷ es) = cond (nat_lt step e.0) (Some e.0) (first_step_after step es)
+
+-- the first step of all registers after a step
+abbrev pub first_date_after : ℕ → RegistersByObject → Option ℕ
+first_date_after step [] = None
+first_date_after step (e ∷ es) = earlier_step (first_step_after step e.1) (first_date_after step es)
+
 -- the number that the registers of an object put at a step
 abbrev pub number_at_step : RegistersByStep → ℕ → Option ℕ
 number_at_step steps step = option_and_then register_number (find nat_cmp step steps)
@@ -69,6 +84,13 @@ abbrev pub first_change_at : RegistersByStep → RegistersByStep → Option ℕ
 first_change_at [] others = None
 first_change_at (e ∷ es) others =
     cond (option_eq nat_eq (register_number e.1) (number_at_step others e.0)) (first_change_at es others) (Some e.0)
+
+-- the first step of some registers of an object at which others of it put different numbers
+abbrev pub first_change_among : RegistersByStep → RegistersByStep → RegistersByStep → Option ℕ
+first_change_among ours theirs [] = None
+first_change_among ours theirs (e ∷ es) =
+    cond (option_eq nat_eq (number_at_step ours e.0) (number_at_step theirs e.0)) (first_change_among ours theirs es)
+    (Some e.0)
 
 module _ (cmp : Object → Object → Ordering) where
   -- the registers of an object, none where it has no entry
@@ -80,3 +102,10 @@ module _ (cmp : Object → Object → Ordering) where
   first_change [] others = None
   first_change (e ∷ es) others =
       earlier_step (first_change_at e.1 (registers_of_object others e.0)) (first_change es others)
+
+  -- the first step of some registers at which others put different numbers
+  abbrev pub first_change_where : RegistersByObject → RegistersByObject → RegistersByObject → Option ℕ
+  first_change_where ours theirs [] = None
+  first_change_where ours theirs (e ∷ es) =
+      earlier_step (first_change_among (registers_of_object ours e.0) (registers_of_object theirs e.0) e.1)
+      (first_change_where ours theirs es)

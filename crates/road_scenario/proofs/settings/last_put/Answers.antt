@@ -1,7 +1,17 @@
-use Rattle.road_scenario.specs.Private.RegisterWalks.{last_number}
-use Rattle.road_scenario.proofs.LastNumbers.{all_found}
+use Rattle.std.proofs.Common.{sym, ap, ◌∙◌}
+use Rattle.road_scenario.specs.Private.RegisterWalks.{last_number, last_number_of}
+use Rattle.road_scenario.proofs.LastNumbers.{last-up_to, last_found, last_further}
 use Rattle.road_scenario.proofs.settings.last_put.Goals as goal
 
-pub returns-then-at-step : goal.returns-then-at-step
-returns-then-at-step c =
-    all_found c.loop-at.at-iterator c.next.new.self c.args.step c.in-Some.at.now c.in-Some.won.now c.loop-at.number (last_number c.args.step c.args.steps.now) c.in-Some.ensures.steps c.if-at-step.true c.loop-at.invariant.rises c.loop-at.invariant.whole
+pub loop-won-init : goal.loop-won-init
+loop-won-init c = ap last_number_of c.up_to-earlier.ensures ∙ last-up_to c.args.step c.args.steps.now
+
+pub returns-in-Some-number_put : goal.returns-in-Some-number_put
+returns-in-Some-number_put c =
+    last_found c.loop-won.earlier c.next_back.new.self (c.in-Some.field-0-0.now, c.in-Some.won.now) c.number_put.result (last_number c.args.step c.args.steps.now) c.in-Some-number_put.number
+    c.in-Some.ensures.steps c.number_put.ensures (sym c.in-Some-number_put.is) c.loop-won.invariant
+
+pub loop-won-preserved : goal.loop-won-preserved
+loop-won-preserved c =
+    last_further c.loop-won.earlier c.next_back.new.self (c.in-Some.field-0-0.now, c.in-Some.won.now) c.number_put.result (last_number c.args.step c.args.steps.now)
+    c.in-Some.ensures.steps c.number_put.ensures (sym c.in-None.is) c.loop-won.invariant

@@ -1,14 +1,11 @@
 use Rattle.std.proofs.Common.{◌≡◌, ◌∙◌, Some, ap, sym, subst}
 use Rattle.std.specs.Arc.{arc_value}
-use Rattle.lattice_core.specs.Sets.{items}
 use Rattle.road_plan.specs.Plan.{Plan}
 use Rattle.road_plan.specs.Settings.{Settings, Fits}
 use Rattle.road_scenario.specs.Faults.{AreInRange}
 use Rattle.road_scenario.specs.Settings.{settings_of}
-use Rattle.road_scenario.specs.Winners.{winners}
 use Rattle.road_sheet.specs.Private.CarriedSettings.{AreInForce}
 use Rattle.road_sheet.specs.declared.carried.InForce.{InForce}
-use Rattle.road_sheet.proofs.CarriedSettings.{stay_in_force}
 use Rattle.road_sheet.proofs.carried.Carried.renewed.Goals as goal
 
 the_one : {a b : InForce} → Some a ≡ Some b → a ≡ b
@@ -18,13 +15,12 @@ pub returns-clause-carried : goal.returns-clause-carried
 returns-clause-carried c =
     let p = arc_value c.args.plan.now in
     let edits = c.args.scenario.now in
-    let listed = ap items c.known.ensures ∙ sym c.in_ok-edits.ensures.all ∙ sym c.deref-2.ensures.value in
     let made = sym (c.in_ok-settings.ensures.ok ∙ c.in_ok-settings_at.ensures.made ∙ ap (λ (q : Plan). settings_of q edits c.args.step) c.deref.ensures) in
     record {
       words = c.requires.carried.words;
       settings = λ kept is. subst (λ (k : InForce). AreInForce p edits (arc_value k.settings) k.from k.until) (the_one is) (record {
         fits = subst (λ (s : Settings). Fits p s) (sym c.in_ok-settings.ensures.ok) (subst (λ (q : Plan). Fits q c.in_ok-settings_at.field-0) c.deref.ensures c.in_ok-settings_at.ensures.fits);
-        in_force = λ t order early. stay_in_force p edits c.deref-2.result.now c.args.step t c.next_date-until.result listed c.next_date-until.ensures order early ∙ made;
+        in_force = λ t order early. c.until.ensures p t order early ∙ made;
       });
     }
 

@@ -1,0 +1,28 @@
+// The steps by which a scenario's edits are dated.
+
+ghost use Rattle.std.specs.Prelude.{◌≡◌};
+ghost use Rattle.road_scenario.specs.Private.RegisterWalks as walks;
+
+use crate::scenario::{RegistersByObject, RegistersByStep};
+use crate::touched::earlier;
+
+// The first date of all edits after a step: a look-up for each object.
+pub(crate) fn first_date_after(registers: &RegistersByObject, step: u32) -> Option<u32>
+    ensures { result ≡ walks.first_date_after step registers.now }
+{
+    let mut first = None;
+    for (_, steps) in registers.iter() {
+        first = earlier(first, first_step_after(steps.value(), step));
+    }
+    first
+}
+
+// The first of an object's dates after a step.
+fn first_step_after(steps: &RegistersByStep, step: u32) -> Option<u32>
+    ensures { result ≡ walks.first_step_after step steps.now }
+{
+    match steps.after(step).next() {
+        Some((at, _)) => Some(*at),
+        None => None,
+    }
+}
