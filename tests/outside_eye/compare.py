@@ -1,5 +1,5 @@
 #!/usr/bin/env python3
-"""Compares the program with the simulator of this folder, line by line, on the examples and on random scripts.
+"""Compares the program with the simulator of this folder, line by line, on the scripts written by hand and on random ones.
 
     tests/outside_eye/compare.py --program P --scripts 300 --seed 0
 """
@@ -16,7 +16,7 @@ from simulator import replies
 
 TOP = os.path.join(os.path.dirname(os.path.abspath(__file__)), "..", "..")
 PROGRAM = os.path.join(TOP, "crates", "road_lab", "out", "road_lab")
-EXAMPLES = os.path.join(TOP, "examples")
+FOLDERS = os.path.join(TOP, "examples"), os.path.join(TOP, "tests", "scripts")
 # A program that has not ended after so many seconds is killed.
 PATIENCE = 120
 SHOWN = 300
@@ -66,11 +66,12 @@ def kind_of(answer):
 
 
 def cases(scripts, seed):
-    """The name of each script, and the script: the examples, then for each seed a plan line alone and a script."""
-    for name in sorted(os.listdir(EXAMPLES)):
-        if name.endswith(".jsonl"):
-            with open(os.path.join(EXAMPLES, name), "rb") as example:
-                yield name, example.read()
+    """The name of each script, and the script: those written by hand, then for each seed a plan line alone and a script."""
+    for folder in FOLDERS:
+        for name in sorted(os.listdir(folder)):
+            if name.endswith(".jsonl"):
+                with open(os.path.join(folder, name), "rb") as stored:
+                    yield name, stored.read()
     for number in range(seed, seed + scripts):
         yield f"plan line of seed {number}", plan_line(number)
         yield f"script of seed {number}", script(number)

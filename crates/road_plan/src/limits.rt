@@ -26,7 +26,7 @@ pub const GREATEST_HORIZON: u32 = 65_536;
 pub const GREATEST_COUNT: u64 = 281_474_976_710_656;
 /// The least number of an imported edit's stamp: smaller ones are the replicas'.
 pub const FIRST_IMPORT_NUMBER: u16 = 64;
-/// The most reader sessions of one shared replica.
+/// The most sessions of one shared replica.
 pub const MOST_SESSIONS: u32 = 8;
 /// The most workers of a crew.
 pub const MOST_WORKERS: u32 = 16;

@@ -18,7 +18,7 @@ use Rattle.road_sheet.specs.Shown.{run_at, row_at, rows_at, total_at}
 use Rattle.road_sheet.specs.declared.faults.SheetFault.{SheetFault}
 use Rattle.road_sheet.specs.declared.faults.SheetFault.TheVariants.{NoDetector, Range, NotSimulated, OutOfMemory}
 
--- a plan, edits, and the horizon: the last step that is simulated
+-- a plan, edits, and the horizon: so many steps are simulated, and the road is known at each step from 0 to it
 pub record Sheet : Type 0 where
   pub plan : Plan
   pub edits : Edits
@@ -77,7 +77,7 @@ abbrev pub IsRefusalBy : Option SheetFault → SheetFault → Type 0
 IsRefusalBy (Some cause) fault = fault ≡ cause
 IsRefusalBy None fault = fault ≡ OutOfMemory
 
--- the input of the step after the horizon
+-- the input of the first step that is not simulated yet: it leads on from the road at the horizon
 abbrev pub next_input : Sheet → StepInput
 next_input s = input_of s.plan (settings_of s.plan s.edits s.horizon) s.horizon (state_of s s.horizon)
 

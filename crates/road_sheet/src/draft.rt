@@ -36,7 +36,7 @@ impl Model for Draft {
 }
 
 impl Draft {
-    /// The last step that is simulated so far.
+    /// How many steps are simulated so far: the road is known at each step from 0 to it.
     pub fn horizon(&self) -> u32
         ensures { result ≡ self.now.horizon }
     {

@@ -105,7 +105,7 @@ impl Sheet {
         &self.known.first
     }
 
-    /// The last step that is simulated.
+    /// How many steps are simulated: the road is known at each step from 0 to it.
     pub fn horizon(&self) -> u32
         ensures { result ≡ self.now.horizon }
     {
