@@ -1,5 +1,5 @@
 -- What `clap` makes of the words after the program's name, and the words of some command lines.
-use Rattle.std.proofs.Common.{◌≡◌, ◌≢◌, inl, inr, ℕ, List, length, [], ◌∷◌, true, false, Some, None, codes, refl, ap, sym, ◌∙◌}
+use Rattle.std.proofs.Common.{◌≡◌, ◌≢◌, inl, inr, ℕ, List, length, [], ◌∷◌, true, false, Some, codes, refl, ap, sym, ◌∙◌}
 use Rattle.std.proofs.Math.Dec.{eqb-suc-zero}
 use Rattle.clap.proofs.OnLiterals.{clap_on_literals}
 use Rattle.clap.specs.Simple.{on_top}
@@ -42,72 +42,16 @@ pub refused_with : (a : App) (words : List (List ℕ)) (error : Error) → a ≡
 unfolding are_accepted
 refused_with a words error is other has = ap (λ (x : App). is_empty (fault_of x words)) (sym is) ∙ by_kinds (fault_of a words) error other has
 
--- ---- worked command lines
-
-no_word : are_accepted [] ≡ true
-unfolding clap_on_literals are_accepted
-no_word = refl
-
-no_script : script_of [] ≡ None
-unfolding clap_on_literals script_of
-no_script = refl
+-- ---- worked command lines; `examples/process` has more
 
 a_path : script_of (codes "--script" ∷ codes "a.jsonl" ∷ []) ≡ Some (codes "a.jsonl")
 unfolding clap_on_literals script_of
 a_path = refl
 
-a_path_behind_an_equals_sign : script_of (codes "--script=a.jsonl" ∷ []) ≡ Some (codes "a.jsonl")
-unfolding clap_on_literals script_of
-a_path_behind_an_equals_sign = refl
-
 an_empty_path : script_of (codes "--script=" ∷ []) ≡ Some []
 unfolding clap_on_literals script_of
 an_empty_path = refl
 
-an_empty_path_is_accepted : are_accepted (codes "--script=" ∷ []) ≡ true
-unfolding clap_on_literals are_accepted
-an_empty_path_is_accepted = refl
-
-a_dash : script_of (codes "--script" ∷ codes "-" ∷ []) ≡ Some (codes "-")
-unfolding clap_on_literals script_of
-a_dash = refl
-
-two_dashes : are_accepted (codes "--" ∷ []) ≡ true
-unfolding clap_on_literals are_accepted
-two_dashes = refl
-
-two_dashes_and_no_script : script_of (codes "--" ∷ []) ≡ None
-unfolding clap_on_literals script_of
-two_dashes_and_no_script = refl
-
-no_path : are_accepted (codes "--script" ∷ []) ≡ false
-unfolding clap_on_literals are_accepted
-no_path = refl
-
 twice : are_accepted (codes "--script" ∷ codes "a" ∷ codes "--script" ∷ codes "a" ∷ []) ≡ false
 unfolding clap_on_literals are_accepted
 twice = refl
-
-an_abbreviation : are_accepted (codes "--scr" ∷ codes "a" ∷ []) ≡ false
-unfolding clap_on_literals are_accepted
-an_abbreviation = refl
-
-a_short_option : are_accepted (codes "-s" ∷ codes "a" ∷ []) ≡ false
-unfolding clap_on_literals are_accepted
-a_short_option = refl
-
-help : are_accepted (codes "--help" ∷ []) ≡ false
-unfolding clap_on_literals are_accepted
-help = refl
-
-short_help : are_accepted (codes "-h" ∷ []) ≡ false
-unfolding clap_on_literals are_accepted
-short_help = refl
-
-version : are_accepted (codes "--version" ∷ []) ≡ false
-unfolding clap_on_literals are_accepted
-version = refl
-
-another_word : are_accepted (codes "a.jsonl" ∷ []) ≡ false
-unfolding clap_on_literals are_accepted
-another_word = refl
