@@ -6,3 +6,4 @@ pub mod BlockSteps
 pub mod SameRuns
 pub mod SheetBlocks
 pub mod CarriedSettings
+pub mod SmallCars
