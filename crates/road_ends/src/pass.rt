@@ -177,7 +177,8 @@ fn block_ahead(blocks: &[u32], cell: u32, last: Block) -> Block
     requires named { IsNthOrNowhere (length blocks.now) last.reached (slice_index blocks.now last.reached) last.cell }
     ensures bound { result.reached ≤ length blocks.now }
     ensures parted { ArePartedAt blocks.now cell result.reached }
-    ensures named { IsNthOrNowhere (length blocks.now) result.reached (slice_index blocks.now result.reached) result.cell }
+    ensures named { IsNthOrNowhere (length blocks.now) result.reached (slice_index blocks.now result.reached)
+        result.cell }
 {
     if last.reached == 0 {
         return last;

@@ -5,3 +5,4 @@ pub mod RunTotals
 pub mod BlockSteps
 pub mod SameRuns
 pub mod SheetBlocks
+pub mod SmallCars

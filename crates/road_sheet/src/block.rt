@@ -5,7 +5,7 @@ ghost use Rattle.std.specs.List.{slice_index_or};
 ghost use Rattle.road_cells.specs.Cars.{cars_of};
 ghost use Rattle.road_detector.specs.Passes.{no_totals, passes_at, plus};
 
-use road_cells::Road;
+use crate::checkpoint::Checkpoint;
 use road_detector::{OutOfMemory, Totals, greatest_speed, passes_from};
 use road_ends::StepInput;
 use std::alloc::Global;
@@ -16,13 +16,17 @@ pub const BLOCK_STEPS: u32 = 64;
 /// The road at the first step of a block, and what each detector counts in the steps of the block that are simulated.
 #[derive(Drop)]
 pub struct Block {
-    pub(crate) start: Road,
+    pub(crate) start: Checkpoint,
     pub(crate) totals: Vec<Totals>,
 }
 
 impl Block {
     // A block of which no step is simulated.
-    pub(crate) fn begin(alloc: Global, start: Road, detectors: usize) -> Result<Block, OutOfMemory>
+    pub(crate) fn begin(
+        alloc: Global,
+        start: Checkpoint,
+        detectors: usize,
+    ) -> Result<Block, OutOfMemory>
         ensures start { IfOk result (λ block. block.start ≡ start) }
         ensures totals { IfOk result (λ block. block.totals.items ≡ replicate detectors no_totals) }
     {

@@ -16,6 +16,7 @@
 
 mod block;
 mod carried;
+mod checkpoint;
 mod draft;
 mod faults;
 mod sheet;

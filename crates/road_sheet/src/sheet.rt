@@ -12,6 +12,7 @@ ghost use Rattle.road_sheet.specs.Sheets.{IsRefusalBy, state_fault, totals_fault
 
 use crate::block::{BLOCK_STEPS, Block};
 use crate::carried::Carried;
+use crate::checkpoint::Checkpoint;
 use crate::draft::Draft;
 use crate::faults::SheetFault;
 use crate::simulation::{State, run_on, totals_on};
@@ -21,7 +22,7 @@ use lattice_core::lattice::Lattice;
 use road_cells::Road;
 use road_detector::Totals;
 use road_detector::laws::{cars_pass_one_by_one, totals_are_bounded};
-use road_ends::laws::runs_depend_on_earlier_settings;
+use road_ends::laws::{cars_stay_on_road, runs_depend_on_earlier_settings};
 use road_ends::{StepInput, enter_with, finish};
 use road_plan::{OutOfMemory, Plan};
 use road_scenario::Scenario;
@@ -78,7 +79,7 @@ impl Sheet {
     pub fn opening(alloc: Global, plan: Arc<Plan>) -> Result<Sheet, OutOfMemory>
         ensures { IfOk result (λ sheet. sheet ≡ opening_sheet (arc_value plan)) }
     {
-        let cut = Block::begin(alloc, Road::empty(alloc), plan.detectors().len())?;
+        let cut = Block::begin(alloc, Checkpoint::empty(alloc), plan.detectors().len())?;
         Ok(Sheet {
             plan,
             known: Both {
@@ -198,7 +199,7 @@ impl Sheet {
         ensures road { IfOk result (λ state. state.road ≡ state_of self.now step) }
         ensures carried { IsCarried self.now.plan self.now.edits carried.new }
     {
-        let start = self.block(block as usize).start.copied()?;
+        let start = self.block(block as usize).start.road(alloc)?;
         let first = block * BLOCK_STEPS;
         run_on(
             alloc,
@@ -378,7 +379,7 @@ impl Sheet {
         }) }
     {
         let start = &self.block(block as usize).start;
-        let last = start.copied()?;
+        let last = start.road(alloc)?;
         let cut = Block::begin(alloc, start.copied()?, self.plan.detectors().len())?;
         let whole = shared(alloc, &self.whole, block as usize)?;
         let plan = Arc::try_clone(&self.plan)?;
@@ -481,6 +482,17 @@ impl Sheet {
         self.known.second = Greatest::Of(horizon);
     }
 
+    // The road of the next step, as it is kept.
+    fn checkpoint(&self, alloc: Global, road: &Road) -> Result<Checkpoint, OutOfMemory>
+        requires within_limit { self.now.horizon < GREATEST_HORIZON }
+        requires road { road.now ≡ state_of self.now (self.now.horizon + 1) }
+        ensures { IfOk result (λ kept. kept ≡ road.now) }
+    {
+        self.plan.known();
+        cars_stay_on_road(&self.plan);
+        Checkpoint::of(alloc, road)
+    }
+
     // A step more that ends the block.
     fn step_to_end(
         &mut self,
@@ -497,7 +509,8 @@ impl Sheet {
         ensures unchanged { OnErr result (self.new ≡ self.old) }
     {
         let horizon = self.horizon() + 1;
-        let next = Block::begin(alloc, road.copied()?, self.plan.detectors().len())?;
+        let kept = self.checkpoint(alloc, &road)?;
+        let next = Block::begin(alloc, kept, self.plan.detectors().len())?;
         let start = self.cut.start.copied()?;
         let block = Arc::new(alloc, Block { start, totals })?;
         self.whole.push(block)?;

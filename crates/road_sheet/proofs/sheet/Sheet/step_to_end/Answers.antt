@@ -18,5 +18,5 @@ invariant_of-self-2 c =
     c.horizon-horizon.ensures
     (c.in_ok-next.ensures.totals ∙ ap (λ n. replicate n no_totals) (ap length c.detectors.ensures ∙ ap (λ (q : Plan). length q.detectors) (c.deref.ensures ∙ ap (λ (x : Sheet). x.plan) c.self.view_is)))
     c.in_ok-start.ensures
-    (c.in_ok-next.ensures.start ∙ c.in_ok-copied.ensures)
+    (c.in_ok-next.ensures.start ∙ c.in_ok-kept.ensures)
     (ap (map arc_value) c.in_ok-push.ensures.items ∙ map-append arc_value c.self.inside.whole.items (c.in_ok-block.block ∷ []) ∙ ap (λ (b : Block). map arc_value c.self.inside.whole.items ++ b ∷ []) c.in_ok-block.ensures.ok)

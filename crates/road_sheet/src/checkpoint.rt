@@ -1,0 +1,112 @@
+//! Roads that are kept.
+
+ghost use Rattle.std.specs.Prelude.{◌≡◌, [], map, IfOk};
+ghost use Rattle.road_cells.specs.Cars.{cars_of};
+ghost use Rattle.road_sheet.specs.Private.Checkpoints.{AreSmall, IsSmall, whole_car};
+
+use road_cells::{Car, Road};
+use road_plan::OutOfMemory;
+use std::alloc::Global;
+use std::marker::Model;
+
+/// A car of a checkpoint, in 8 bytes.
+#[derive(Clone, Copy, Debug, PartialEq, Eq)]
+struct KeptCar {
+    number: u32,
+    cell: u16,
+    speed: u8,
+}
+
+/// A road that is kept to go on from: its cars in 8 bytes each, in a list of exactly as many. Contracts see the road.
+#[derive(Drop)]
+pub(crate) struct Checkpoint {
+    cars: Vec<KeptCar>,
+}
+
+impl Model for Checkpoint {
+    ghost use Rattle.std.specs.Prelude.{map};
+    ghost use Rattle.road_cells.specs.Array.{Array};
+    ghost use Rattle.road_cells.specs.Cars.{AreRising, array_of};
+    ghost use Rattle.road_sheet.specs.Private.Checkpoints.{whole_car};
+
+    ghost Value = { Array };
+
+    ghost view = { λ kept. array_of (map whole_car kept.cars.items) };
+
+    ghost invariant = { λ kept. AreRising (map whole_car kept.cars.items) };
+}
+
+impl Checkpoint {
+    // The empty road. It takes no memory.
+    pub(crate) fn empty(alloc: Global) -> Checkpoint
+        ensures { result ≡ [] }
+    {
+        Checkpoint {
+            cars: Vec::new(alloc),
+        }
+    }
+
+    // A road of cars that fit, in one growth.
+    pub(crate) fn of(alloc: Global, road: &Road) -> Result<Checkpoint, OutOfMemory>
+        requires { AreSmall (cars_of road.now) }
+        ensures { IfOk result (λ kept. kept ≡ road.now) }
+    {
+        let cars = kept_cars(alloc, road.cars())?;
+        Ok(Checkpoint { cars })
+    }
+
+    // The same again, in one growth.
+    pub(crate) fn copied(&self) -> Result<Checkpoint, OutOfMemory>
+        ensures { IfOk result (λ kept. kept ≡ self.now) }
+    {
+        let cars = self.cars.clone()?;
+        Ok(Checkpoint { cars })
+    }
+
+    // The road, in one growth.
+    pub(crate) fn road(&self, alloc: Global) -> Result<Road, OutOfMemory>
+        ensures { IfOk result (λ road. road ≡ self.now) }
+    {
+        let cars = whole_cars(alloc, &self.cars)?;
+        Ok(Road::of(cars))
+    }
+}
+
+// Cars as they are kept.
+fn kept_cars(alloc: Global, cars: &[Car]) -> Result<Vec<KeptCar>, OutOfMemory>
+    requires { AreSmall cars.now }
+    ensures { IfOk result (λ kept. map whole_car kept.items ≡ cars.now) }
+{
+    let mut kept = Vec::with_capacity(alloc, cars.len())?;
+    for car in cars {
+        kept.push(kept_car(*car))?;
+    }
+    Ok(kept)
+}
+
+// A car as it is kept.
+fn kept_car(car: Car) -> KeptCar
+    requires { IsSmall car }
+    ensures { whole_car result ≡ car }
+{
+    KeptCar {
+        number: car.number as u32,
+        cell: car.cell as u16,
+        speed: car.speed,
+    }
+}
+
+// Kept cars as they were.
+fn whole_cars(alloc: Global, kept: &[KeptCar]) -> Result<Vec<Car>, OutOfMemory>
+    ensures { IfOk result (λ cars. cars.items ≡ map whole_car kept.now) }
+{
+    let mut cars = Vec::with_capacity(alloc, kept.len())?;
+    for car in kept {
+        cars.push(Car {
+            number: u64::from(car.number),
+            cell: u32::from(car.cell),
+            speed: car.speed,
+        })?;
+    }
+    Ok(cars)
+}
