@@ -52,7 +52,7 @@ pub fn grown<C: Crew>(
     sheet.known();
     winners_agree();
     let joined = sheet.scenario().joined(scenario)?;
-    let touched = sheet.scenario().touched(&joined);
+    let touched = sheet.scenario().touched_by(scenario, &joined);
     let keep = kept_step(sheet.horizon(), touched);
     let draft = sheet.draft_of(alloc, joined, keep)?;
     let sheet = simulated(alloc, draft, sheet.horizon().max(to), crew, meter)?;
