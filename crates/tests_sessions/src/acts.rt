@@ -11,7 +11,6 @@ use road_sessions::{Closed, Naming, Prepared, Receipt, Session, Shared, open};
 use road_sheet::Sheet;
 use std::alloc::Global;
 use std::sync::{Arc, Wait};
-use std::test::Fail;
 
 /// What a session does, and what it is answered.
 #[derive(Clone, Copy)]
@@ -96,20 +95,35 @@ fn acts<J: Naming, R: Wait + Drop, W: Wait>(
     session: &mut Session<J>,
     memory: &mut Memory<J>,
     act: Act,
-) -> Result<bool, Fail> {
+) -> bool {
     match act {
         Act::Write(write, wanted) => {
-            let (answer, receipt) = parts(written(rt, alloc, shared, session, write)?);
+            let (answer, receipt) = parts(written(rt, alloc, shared, session, write));
             memory.told = receipt;
-            Ok(answer == wanted)
+            answer == wanted
         }
-        Act::Hear => Ok(hears(session, memory.told.take())),
+        Act::Hear => hears(session, memory.told.take()),
         Act::Keep => {
-            memory.kept = Some(session.look(shared)?);
-            Ok(true)
+            memory.kept = session.look(shared).ok();
+            memory.kept.is_some()
         }
-        Act::KeptRun(run) => Ok(kept_shows(alloc, &memory.kept, run)),
-        shown => Ok(is_shown(alloc, shared, session, shown)),
+        Act::KeptRun(run) => kept_shows(alloc, &memory.kept, run),
+        shown => is_shown(alloc, shared, session, shown),
+    }
+}
+
+// Whether the session of a number that acts is answered so.
+fn one_acts<J: Naming, R: Wait + Drop, W: Wait>(
+    rt: &W,
+    alloc: Global,
+    shared: &Shared<J, R>,
+    sessions: &mut [Session<J>],
+    memory: &mut Memory<J>,
+    act: (usize, Act),
+) -> bool {
+    match sessions.get_mut(act.0) {
+        Some(session) => acts(rt, alloc, shared, session, memory, act.1),
+        None => false,
     }
 }
 
@@ -120,29 +134,27 @@ fn all_act<J: Naming, R: Wait + Drop, W: Wait>(
     shared: &Shared<J, R>,
     sessions: &mut [Session<J>],
     script: &Script,
-) -> Result<bool, Fail> {
+) -> bool {
     let mut memory = Memory {
         told: None,
         kept: None,
     };
-    for (number, act) in script.acts {
-        let Some(session) = sessions.get_mut(*number) else {
-            return Ok(false);
-        };
-        if !acts(rt, alloc, shared, session, &mut memory, *act)? {
-            return Ok(false);
-        }
+    let mut well = true;
+    for act in script.acts {
+        well = well && one_acts(rt, alloc, shared, sessions, &mut memory, *act);
     }
-    Ok(true)
+    well
 }
 
-// Whether what is left has this journal and these rows. The journal is read again where there was no memory.
-fn is_left(alloc: Global, closed: &Closed, script: &Script) -> Result<bool, Fail> {
-    let is_journal = match is_journal(alloc, &closed.journal, script.journal) {
-        Ok(answer) => answer,
-        Err(_) => is_journal(alloc, &closed.journal, script.journal)?,
-    };
-    Ok(is_journal && shows(alloc, &closed.sheet, script.rows))
+// Whether what is left has this journal and these rows.
+fn is_left(alloc: Global, closed: &Option<Closed>, script: &Script) -> bool {
+    match closed {
+        Some(closed) => {
+            is_journal(alloc, &closed.journal, script.journal)
+                && shows(alloc, &closed.sheet, script.rows)
+        }
+        None => false,
+    }
 }
 
 /// Whether a store that was just prepared goes as its script says; nothing where it could not be opened.
@@ -151,19 +163,15 @@ pub(crate) fn goes<J: Naming, R: Wait + Drop, W: Wait>(
     alloc: Global,
     prepared: Prepared<R>,
     script: &Script,
-) -> Result<Option<bool>, Fail>
+) -> Option<bool>
     requires book { prepared.book.seen.book ≡ J.book }
     requires replica { prepared.replica ≡ J.replica }
     requires ledger { (prepared.ledger.name ≡ J.name) × (prepared.ledger.parts ≡ J.parts) }
 {
     let Ok((shared, mut sessions)) = open::<J, R>(prepared) else {
-        return Ok(None);
+        return None;
     };
-    if !all_act(rt, alloc, &shared, sessions.as_mut_slice(), script)? {
-        return Ok(Some(false));
-    }
-    match closed(shared, sessions, script.closing) {
-        Some(closed) => Ok(Some(is_left(alloc, &closed, script)?)),
-        None => Ok(Some(false)),
-    }
+    let well = all_act(rt, alloc, &shared, sessions.as_mut_slice(), script);
+    let closed = closed(shared, sessions, script.closing);
+    Some(well && is_left(alloc, &closed, script))
 }

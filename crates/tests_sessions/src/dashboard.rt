@@ -78,10 +78,11 @@ fn all_work<J: Naming + Send + Sync, R: Wait + Drop + Send, W: Threads + Wait + 
     rt: &W,
     alloc: Global,
     shared: &Shared<J, R>,
-    sessions: [Session<J>; 3],
+    engineer: Session<J>,
+    told: Session<J>,
+    untold: Session<J>,
 ) -> Result<([Session<J>; 3], bool), Fail> {
     let letter = Mutex::new(None);
-    let [engineer, told, untold] = sessions;
     let (engineer, (told, untold)) = join(
         rt,
         || writes(rt, shared, engineer, &letter),
@@ -97,12 +98,6 @@ fn all_work<J: Naming + Send + Sync, R: Wait + Drop + Send, W: Threads + Wait + 
     Ok(([engineer?, told, untold], is_shown && rises))
 }
 
-// The three sessions of a store.
-fn three<J: Naming>(mut sessions: Vec<Session<J>>) -> Option<[Session<J>; 3]> {
-    let (third, second, first) = (sessions.pop()?, sessions.pop()?, sessions.pop()?);
-    Some([first, second, third])
-}
-
 // A store is opened, worked with and closed. What is left, where the dashboards saw what they should.
 fn day<J: Naming + Send + Sync, R: Wait + Drop + Send, W: Threads + Wait + Sync>(
     rt: &W,
@@ -113,9 +108,11 @@ fn day<J: Naming + Send + Sync, R: Wait + Drop + Send, W: Threads + Wait + Sync>
     requires replica { prepared.replica ≡ J.replica }
     requires ledger { (prepared.ledger.name ≡ J.name) × (prepared.ledger.parts ≡ J.parts) }
 {
-    let (shared, sessions) = open::<J, R>(prepared)?;
-    let sessions = three(sessions).ok_or("three sessions")?;
-    let (sessions, well) = all_work(rt, alloc, &shared, sessions)?;
+    let (shared, mut sessions) = open::<J, R>(prepared)?;
+    let untold = sessions.pop().ok_or("three sessions")?;
+    let told = sessions.pop().ok_or("three sessions")?;
+    let engineer = sessions.pop().ok_or("three sessions")?;
+    let (sessions, well) = all_work(rt, alloc, &shared, engineer, told, untold)?;
     match close(shared, Vec::from_array(alloc, sessions)?) {
         Ok(closed) if well => Ok(Some(closed)),
         _ => Ok(None),

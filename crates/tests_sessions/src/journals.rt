@@ -1,8 +1,8 @@
 //! Journals, and what is left when a store is closed.
 
-use road_scenario::Edit;
+use road_scenario::{Edit, Scenario};
 use road_sessions::{
-    CloseCause, CloseFault, Closed, Command, Entry, Naming, OutOfMemory, Session, Shared, close,
+    CloseCause, CloseFault, Closed, Command, Entry, Naming, Session, Shared, close,
 };
 use std::alloc::Global;
 use std::sync::Wait;
@@ -14,31 +14,35 @@ pub(crate) enum Line {
     Advanced(u32, u32),
 }
 
-// Whether an entry of a journal is this.
-fn is_line(alloc: Global, entry: &Entry, line: Line) -> Result<bool, OutOfMemory> {
+// Whether a scenario has just these edits.
+fn has_edits(alloc: Global, scenario: &Scenario, edits: &[Edit]) -> bool {
+    match scenario.edits(alloc) {
+        Ok(held) => held.as_slice() == edits,
+        Err(_) => false,
+    }
+}
+
+// Whether an entry of a journal is this. Its edits are listed again where there was no memory.
+fn is_line(alloc: Global, entry: &Entry, line: Line) -> bool {
     match (line, &entry.command) {
         (Line::Took(session, edits), Command::Take(taken)) => {
-            Ok(entry.session == session && taken.edits(alloc)?.as_slice() == edits)
+            entry.session == session
+                && (has_edits(alloc, taken, edits) || has_edits(alloc, taken, edits))
         }
         (Line::Advanced(session, to), Command::Advance(step)) => {
-            Ok(entry.session == session && *step == to)
+            entry.session == session && *step == to
         }
-        _ => Ok(false),
+        _ => false,
     }
 }
 
 /// Whether a journal has just these entries.
-pub(crate) fn is_journal(
-    alloc: Global,
-    journal: &[Entry],
-    lines: &[Line],
-) -> Result<bool, OutOfMemory> {
+pub(crate) fn is_journal(alloc: Global, journal: &[Entry], lines: &[Line]) -> bool {
+    let mut well = journal.len() == lines.len();
     for (entry, line) in journal.iter().zip(lines.iter()) {
-        if !is_line(alloc, entry, *line)? {
-            return Ok(false);
-        }
+        well = well && is_line(alloc, entry, *line);
     }
-    Ok(journal.len() == lines.len())
+    well
 }
 
 /// How the sessions of a store are given to be closed.
@@ -65,26 +69,20 @@ fn left<J: Naming, R: Wait + Drop>(
     }
 }
 
-// What is left, where all sessions are given only after one was missing.
+// What is left, where all sessions are given once one was missing.
 fn left_late<J: Naming, R: Wait + Drop>(
-    shared: Shared<J, R>,
-    sessions: Vec<Session<J>>,
+    fault: CloseFault<J, R>,
     late: Session<J>,
 ) -> Option<Closed> {
-    match close(shared, sessions) {
-        Ok(_closed) => None,
-        Err(fault) => {
-            let CloseFault {
-                cause,
-                shared,
-                mut sessions,
-            } = fault;
-            if cause != CloseCause::Missing || sessions.push(late).is_err() {
-                return None;
-            }
-            left(shared, sessions)
-        }
+    let CloseFault {
+        cause,
+        shared,
+        mut sessions,
+    } = fault;
+    if cause != CloseCause::Missing || sessions.push(late).is_err() {
+        return None;
     }
+    left(shared, sessions)
 }
 
 /// What is left of a store that is closed so.
@@ -100,5 +98,8 @@ pub(crate) fn closed<J: Naming, R: Wait + Drop>(
         return left(shared, sessions);
     }
     let late = sessions.pop()?;
-    left_late(shared, sessions, late)
+    match close(shared, sessions) {
+        Ok(_closed) => None,
+        Err(fault) => left_late(fault, late),
+    }
 }

@@ -218,10 +218,7 @@ pub(crate) const THREE: Script = Script {
                 Ok((0, Reply::Stamped(THIRD_FIRST))),
             ),
         ),
-        (
-            0,
-            Act::Write(Write::Advance(6), Ok((1, Reply::Horizon(6)))),
-        ),
+        (0, Act::Write(Write::Advance(6), Ok((1, Reply::Horizon(6))))),
         (
             1,
             Act::Write(

@@ -6,7 +6,6 @@ use road_sessions::{OpenFault, Prepared, prepare};
 use std::alloc::Global;
 use std::marker::Brand;
 use std::sync::{Arc, Wait};
-use std::test::Fail;
 use tests_plans::{FREE, plan_of};
 
 /// A replica of the free road, of this number, for so many sessions and writes.
@@ -29,44 +28,37 @@ pub(crate) fn opened_for<R: Wait + Drop>(
 }
 
 // Whether a store goes as its script says; nothing where it could not be opened.
-fn opens<R: Wait + Drop + Copy>(
-    rt: R,
-    alloc: Global,
-    script: &Script,
-) -> Result<Option<bool>, Fail> {
+fn opens<R: Wait + Drop + Copy>(rt: R, alloc: Global, script: &Script) -> Option<bool> {
     match opened_for(rt, alloc, script.number, script.sessions, script.limit) {
         Ok(prepared) => goes::<Brand, R, R>(&rt, alloc, prepared, script),
-        Err(_) => Ok(None),
+        Err(_) => None,
     }
 }
 
 // The same, tried again where there was no memory to open it.
-fn runs<R: Wait + Drop + Copy>(rt: R, alloc: Global, script: &Script) -> Result<bool, Fail> {
-    if let Some(good) = opens(rt, alloc, script)? {
-        return Ok(good);
+fn runs<R: Wait + Drop + Copy>(rt: R, alloc: Global, script: &Script) -> bool {
+    match opens(rt, alloc, script) {
+        Some(well) => well,
+        None => opens(rt, alloc, script) == Some(true),
     }
-    Ok(opens(rt, alloc, script)? == Some(true))
 }
 
 #[test]
-fn a_receipt_is_heard(rt: HostRuntime) -> Result<(), Fail> {
+fn a_receipt_is_heard(rt: HostRuntime) {
     for closing in CLOSINGS {
         let script = Script { closing, ..TOLD };
-        assert!(rt; runs(&rt, rt.alloc(), &script)?);
+        assert!(rt; runs(&rt, rt.alloc(), &script));
     }
-    Ok(())
 }
 
 #[test]
-fn worked_scripts(rt: HostRuntime) -> Result<(), Fail> {
+fn worked_scripts(rt: HostRuntime) {
     for script in [ALONE, WITHDRAWN, THREE] {
-        assert!(rt; runs(&rt, rt.alloc(), &script)?);
+        assert!(rt; runs(&rt, rt.alloc(), &script));
     }
-    Ok(())
 }
 
 #[test]
-fn a_kept_sheet_stays(rt: HostRuntime) -> Result<(), Fail> {
-    assert!(rt; runs(&rt, rt.alloc(), &KEPT)?);
-    Ok(())
+fn a_kept_sheet_stays(rt: HostRuntime) {
+    assert!(rt; runs(&rt, rt.alloc(), &KEPT));
 }

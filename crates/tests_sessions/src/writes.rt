@@ -4,11 +4,10 @@ use road_ends::Meter;
 use road_plan::Object;
 use road_replica::{ReplicaFault, Reply};
 use road_scenario::{Edit, Scenario};
-use road_sessions::{LookFault, Naming, Receipt, Session, Shared, WriteFault, Wrote};
+use road_sessions::{Naming, Receipt, Session, Shared, WriteFault, Wrote};
 use road_workers::Alone;
 use std::alloc::Global;
 use std::sync::Wait;
-use std::test::Fail;
 
 pub(crate) const LIMIT: Object = Object::Limit(0);
 
@@ -29,8 +28,22 @@ pub(crate) type Answer = Result<(u64, Reply), WriteFault>;
 /// Want of memory in a write.
 const WANT: WriteFault = WriteFault::Replica(ReplicaFault::OutOfMemory);
 
-/// A session writes.
-pub(crate) fn wrote<J: Naming, R: Wait + Drop, W: Wait>(
+// A session takes edits.
+fn took<J: Naming, R: Wait + Drop, W: Wait>(
+    rt: &W,
+    alloc: Global,
+    shared: &Shared<J, R>,
+    session: &mut Session<J>,
+    edits: &[Edit],
+) -> Result<Wrote<J>, WriteFault> {
+    match Scenario::of_edits(alloc, edits) {
+        Ok(edits) => session.take(rt, shared, &edits, &mut Alone, &mut Meter::new()),
+        Err(_) => Err(WANT),
+    }
+}
+
+// A session writes.
+fn wrote<J: Naming, R: Wait + Drop, W: Wait>(
     rt: &W,
     alloc: Global,
     shared: &Shared<J, R>,
@@ -46,10 +59,7 @@ pub(crate) fn wrote<J: Naming, R: Wait + Drop, W: Wait>(
             session.withdraw(rt, shared, object, step, &mut Alone, &mut meter)
         }
         Write::Advance(to) => session.advance(rt, shared, to, &mut Alone, &mut meter),
-        Write::Take(edits) => match Scenario::of_edits(alloc, edits) {
-            Ok(edits) => session.take(rt, shared, &edits, &mut Alone, &mut meter),
-            Err(_) => Err(WANT),
-        },
+        Write::Take(edits) => took(rt, alloc, shared, session, edits),
     }
 }
 
@@ -57,36 +67,26 @@ pub(crate) fn wrote<J: Naming, R: Wait + Drop, W: Wait>(
 fn shown<J: Naming, R: Wait + Drop>(
     shared: &Shared<J, R>,
     session: &mut Session<J>,
-) -> Result<(u32, u64), LookFault> {
-    let sheet = session.look(shared)?;
-    Ok((sheet.horizon(), sheet.scenario().greatest_count()))
-}
-
-// Whether a write found no memory.
-fn is_want<J: Naming>(wrote: &Result<Wrote<J>, WriteFault>) -> bool {
-    match wrote {
-        Ok(_) => false,
-        Err(fault) => *fault == WANT,
+) -> Option<(u32, u64)> {
+    match session.look(shared) {
+        Ok(sheet) => Some((sheet.horizon(), sheet.scenario().greatest_count())),
+        Err(_) => None,
     }
 }
 
-/// A session writes. Where there is no memory, it is shown what it was shown before, and writes again.
+/// A session writes. Where there is no memory, and it is shown what it was shown before, it writes again.
 pub(crate) fn written<J: Naming, R: Wait + Drop, W: Wait>(
     rt: &W,
     alloc: Global,
     shared: &Shared<J, R>,
     session: &mut Session<J>,
     write: Write,
-) -> Result<Result<Wrote<J>, WriteFault>, Fail> {
-    let before = shown(shared, session)?;
-    let first = wrote(rt, alloc, shared, session, write);
-    if !is_want(&first) {
-        return Ok(first);
+) -> Result<Wrote<J>, WriteFault> {
+    let before = shown(shared, session);
+    match wrote(rt, alloc, shared, session, write) {
+        Err(WANT) if shown(shared, session) == before => wrote(rt, alloc, shared, session, write),
+        answer => answer,
     }
-    if shown(shared, session)? != before {
-        return Err(Fail::new("a refused write is shown"));
-    }
-    Ok(wrote(rt, alloc, shared, session, write))
 }
 
 /// What a write was answered, and its receipt.
