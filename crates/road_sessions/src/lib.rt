@@ -4,14 +4,32 @@
 //! wrote. Once all is closed, the journal is exactly who wrote what.
 //!
 //! ```
-//! // A store for two sessions and up to 1,000 writes; each session may be moved to a thread of its own.
-//! let prepared = prepare(rt, alloc, plan, 0, 2, 1_000)?;
-//! let (shared, mut sessions) = open::<J, R>(prepared)?;
-//! let (mut dashboard, mut engineer) = (sessions.pop().context("two")?, sessions.pop().context("two")?);
-//! let wrote = engineer.edit(rt, &shared, Object::Limit(0), 70, 0, &mut Alone, &mut meter)?;
-//! // The dashboard is told, and from then on shown no less.
-//! dashboard.hear(wrote.receipt);
-//! let road = dashboard.state(alloc, &shared, 100)?;
+//! // A store for an engineer and two dashboards, each on a thread of its own, and up to 1,000 writes.
+//! let prepared = prepare(rt, alloc, plan, 0, 3, 1_000)?;
+//! let (shared, sessions) = open::<J, R>(prepared)?;
+//! let [mut engineer, mut told, mut untold] = three(sessions)?;
+//! let letter = Mutex::new(None);
+//! // The engineer blocks a cell from step 4 on, and leaves the receipt.
+//! let writes = || {
+//!     engineer.advance(rt, &shared, 6, &mut Alone, &mut Meter::new())?;
+//!     let wrote = engineer.edit(rt, &shared, Object::Block(8), 4, 1, &mut Alone, &mut Meter::new())?;
+//!     *letter.lock(rt) = Some(wrote.receipt);
+//!     Ok(engineer)
+//! };
+//! // A dashboard that has the receipt is shown no less; one that has none may be shown less.
+//! let looks = || {
+//!     told.hear(taken(rt, &letter));
+//!     let road = told.state(alloc, &shared, 6)?;
+//!     Ok((told, road))
+//! };
+//! let watches = || {
+//!     let sheet = untold.look(&shared)?;
+//!     Ok((untold, sheet))
+//! };
+//! let (engineer, (told, untold)) = join(rt, writes, || join(rt, looks, watches));
+//! // Once all sessions are given back, the journal is who wrote what: an advance and an edit of session 0.
+//! let sessions = Vec::from_array(alloc, [engineer?, told?.0, untold?.0])?;
+//! let closed = close(shared, sessions)?;
 //! ```
 #![tactic(auto)]
 

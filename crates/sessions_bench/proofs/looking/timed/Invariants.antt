@@ -1,0 +1,8 @@
+use Rattle.sessions_bench.proofs.looking.timed.Given as goal
+
+-- the store that was just prepared
+abbrev pub ghosts-all_done-J-Naming : goal.ghosts-all_done-J-Naming
+ghosts-all_done-J-Naming g a = record { book = a.prepared.book.seen.book; replica = a.prepared.replica }
+
+abbrev pub ghosts-all_done-J-Ledger : goal.ghosts-all_done-J-Ledger
+ghosts-all_done-J-Ledger g a = record { name = a.prepared.ledger.name; parts = a.prepared.ledger.parts }

@@ -1,0 +1,118 @@
+//! Looks and publishings, each session on a thread of its own.
+
+ghost use Rattle.std.specs.Prelude.{◌≡◌};
+
+use anyhow::Result;
+use road_ends::Meter;
+use road_plan::Plan;
+use road_sessions::{Naming, Prepared, Session, Shared, open, prepare};
+use road_workers::Alone;
+use std::alloc::Global;
+use std::marker::Brand;
+use std::sync::atomic::{AtomicU64, Ordering};
+use std::sync::{Arc, Wait};
+use std::thread::{Threads, map_vec};
+use std::time::{Clock, Instant};
+
+/// How often a session did what it was to do, and how long that took.
+#[derive(Clone, Copy)]
+pub(crate) struct Done {
+    pub(crate) times: u64,
+    pub(crate) nanoseconds: u128,
+}
+
+/// How often each does it, and the sessions that look and have not ended.
+#[derive(Drop)]
+struct Task {
+    looks: u32,
+    writes: u32,
+    looking: AtomicU64,
+}
+
+// A session looks.
+fn looks<J: Naming, R: Wait + Drop>(
+    shared: &Shared<J, R>,
+    session: &mut Session<J>,
+    task: &Task,
+) -> u64 {
+    let mut times = 0u64;
+    for _ in 0..task.looks {
+        if session.look(shared).is_ok() {
+            times = times.saturating_add(1);
+        }
+    }
+    task.looking.fetch_sub(1, Ordering::SeqCst);
+    times
+}
+
+// A session publishes as long as others look.
+fn publishes<J: Naming, R: Wait + Drop, W: Wait>(
+    rt: &W,
+    shared: &Shared<J, R>,
+    session: &mut Session<J>,
+    task: &Task,
+) -> u64 {
+    let mut times = 0u64;
+    for _ in 0..task.writes {
+        if task.looking.load(Ordering::SeqCst) == 0 {
+            break;
+        }
+        if session
+            .advance(rt, shared, 0, &mut Alone, &mut Meter::new())
+            .is_ok()
+        {
+            times = times.saturating_add(1);
+        }
+    }
+    times
+}
+
+// The first session publishes, each other one looks; and how long that took.
+fn works<J: Naming, R: Wait + Drop, W: Wait + Clock>(
+    rt: &W,
+    shared: &Shared<J, R>,
+    mut session: Session<J>,
+    task: &Task,
+) -> Option<Done> {
+    let start = Instant::now(rt).ok()?;
+    let times = if session.number() == 0 {
+        publishes(rt, shared, &mut session, task)
+    } else {
+        looks(shared, &mut session, task)
+    };
+    let nanoseconds = start.elapsed(rt).ok()?.as_nanos();
+    Some(Done { times, nanoseconds })
+}
+
+// What each session has done.
+fn all_done<J: Naming + Send + Sync, R: Wait + Drop + Send, W: Threads + Wait + Clock + Sync>(
+    rt: &W,
+    prepared: Prepared<R>,
+    task: &Task,
+) -> Result<Vec<Option<Done>>>
+    requires book { prepared.book.seen.book ≡ J.book }
+    requires replica { prepared.replica ≡ J.replica }
+    requires ledger { (prepared.ledger.name ≡ J.name) × (prepared.ledger.parts ≡ J.parts) }
+{
+    let (shared, sessions) = open::<J, R>(prepared)?;
+    Ok(map_vec(rt, sessions, &|session| works(rt, &shared, session, task))?)
+}
+
+/// What the writer and each of so many readers have done, the writer first; none where the clock could not be read.
+pub(crate) fn timed<W: Threads + Wait + Clock + Sync>(
+    rt: &W,
+    alloc: Global,
+    plan: Arc<Plan>,
+    readers: u32,
+    looks: u32,
+    writes: u32,
+) -> Result<Vec<Option<Done>>> {
+    let readers = readers.min(7);
+    let prepared = prepare(rt, alloc, plan, 0, readers + 1, 1_000_000)?;
+    let task = Task {
+        looks,
+        writes,
+        looking: AtomicU64::new(u64::from(readers)),
+    };
+    all_done::<Brand, _, _>(rt, prepared, &task)
+}

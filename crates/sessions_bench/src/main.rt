@@ -1,0 +1,76 @@
+//! Lets sessions work on threads of their own, on a free road of 12 cells.
+//!
+//! `sessions_bench merge WRITES RUNS`: eight sessions make WRITES writes each, an edit and an advance by turns, and look
+//! after each; RUNS times. It prints in how many runs the journal was the merge of their writes, and each look had the
+//! session's own.
+//!
+//! `sessions_bench looks READERS LOOKS WRITES`: 1 to 7 sessions make LOOKS looks each, while another one publishes again
+//! and again, at most WRITES times. It prints for each of them how often it did and the nanoseconds that it took, the
+//! writer first. Without words it does nothing.
+#![tactic(auto)]
+
+mod crowd;
+mod looking;
+mod merge;
+
+use crate::crowd::merges;
+use crate::looking::timed;
+use anyhow::{Context, Result};
+use road_plan::Plan;
+use std::alloc::Global;
+use std::env;
+use std::sync::{Arc, Wait};
+use std::thread::Threads;
+use std::time::Clock;
+use tests_plans::{FREE, plan_of};
+
+fn merge_all<R: Threads + Wait + Print + Sync>(
+    rt: &R,
+    alloc: Global,
+    plan: &Arc<Plan>,
+    writes: u32,
+    runs: u32,
+) -> Result<()> {
+    let mut good = 0u32;
+    for _ in 0..runs {
+        if merges(rt, alloc, Arc::try_clone(plan)?, writes)? {
+            good = good.saturating_add(1);
+        }
+    }
+    println!(rt; "{good} of {runs} journals are the merge of all writes")?;
+    Ok(())
+}
+
+fn time_looks<R: Threads + Wait + Clock + Print + Sync>(
+    rt: &R,
+    alloc: Global,
+    plan: Arc<Plan>,
+    readers: u32,
+    looks: u32,
+    writes: u32,
+) -> Result<()> {
+    for done in timed(rt, alloc, plan, readers, looks, writes)? {
+        let done = done.context("no clock")?;
+        println!(rt; "{} {}", done.times, done.nanoseconds)?;
+    }
+    Ok(())
+}
+
+fn main(rt: HostRuntime) -> Result<()> {
+    let mut words = env::args(&rt)?;
+    let Some(what) = words.nth(1) else {
+        return Ok(());
+    };
+    let mut numbers = Vec::new(rt.alloc());
+    for word in words {
+        numbers.push(word.parse::<u32>().context("no number")?)?;
+    }
+    let plan = Arc::new(rt.alloc(), plan_of(rt.alloc(), &FREE)?)?;
+    match (what.as_str(), numbers.as_slice()) {
+        ("merge", [writes, runs]) => merge_all(&rt, rt.alloc(), &plan, *writes, *runs),
+        ("looks", [readers, looks, writes]) => {
+            time_looks(&rt, rt.alloc(), plan, *readers, *looks, *writes)
+        }
+        _ => Ok(()),
+    }
+}

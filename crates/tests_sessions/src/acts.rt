@@ -1,0 +1,177 @@
+//! Sessions that act one after another, as a table says.
+
+ghost use Rattle.std.specs.Prelude.{◌≡◌};
+
+use crate::journals::{Closing, Line, closed, is_journal};
+use crate::questions::{
+    Cars, Count, Row, Run, looks, looks_run, shows, shows_all_cars, shows_counts, shows_run,
+};
+use crate::writes::{Answer, Write, parts, written};
+use road_sessions::{Closed, Naming, Prepared, Receipt, Session, Shared, open};
+use road_sheet::Sheet;
+use std::alloc::Global;
+use std::sync::{Arc, Wait};
+
+/// What a session does, and what it is answered.
+#[derive(Clone, Copy)]
+pub(crate) enum Act {
+    /// It writes.
+    Write(Write, Answer),
+    /// It is told the last write.
+    Hear,
+    /// It looks, and is shown a horizon and some rows.
+    Look(u32, &'static [Row]),
+    /// It looks, and keeps the sheet.
+    Keep,
+    /// The sheet that is kept shows a run.
+    KeptRun(Run),
+    /// It looks, and is shown a run.
+    LookRun(Run),
+    /// It asks for the cars of some steps.
+    Cars(&'static [Cars]),
+    /// It asks for some counts.
+    Counts(&'static [Count]),
+}
+
+/// A store of a replica on the free road: what its sessions do, its closing, the journal, and the rows of the last sheet.
+#[derive(Clone, Copy)]
+pub(crate) struct Script {
+    pub(crate) number: u32,
+    pub(crate) sessions: u32,
+    pub(crate) limit: u64,
+    pub(crate) acts: &'static [(usize, Act)],
+    pub(crate) closing: Closing,
+    pub(crate) journal: &'static [Line],
+    pub(crate) rows: &'static [Row],
+}
+
+/// What was told and kept so far.
+#[derive(Drop)]
+struct Memory<J: Naming> {
+    told: Option<Receipt<J>>,
+    kept: Option<Arc<Sheet>>,
+}
+
+// Whether a session is shown what a table says.
+fn is_shown<J: Naming, R: Wait + Drop>(
+    alloc: Global,
+    shared: &Shared<J, R>,
+    session: &mut Session<J>,
+    act: Act,
+) -> bool {
+    match act {
+        Act::Look(horizon, rows) => looks(alloc, shared, session, horizon, rows),
+        Act::LookRun(run) => looks_run(alloc, shared, session, run),
+        Act::Cars(asked) => shows_all_cars(alloc, shared, session, asked),
+        Act::Counts(asked) => shows_counts(alloc, shared, session, asked),
+        _ => true,
+    }
+}
+
+// Whether a kept sheet shows a run.
+fn kept_shows(alloc: Global, kept: &Option<Arc<Sheet>>, run: Run) -> bool {
+    match kept {
+        Some(sheet) => shows_run(alloc, sheet, run),
+        None => false,
+    }
+}
+
+// A session is told of the last write.
+fn hears<J: Naming>(session: &mut Session<J>, told: Option<Receipt<J>>) -> bool {
+    match told {
+        Some(receipt) => {
+            session.hear(receipt);
+            true
+        }
+        None => false,
+    }
+}
+
+// Whether a session that acts is answered so.
+fn acts<J: Naming, R: Wait + Drop, W: Wait>(
+    rt: &W,
+    alloc: Global,
+    shared: &Shared<J, R>,
+    session: &mut Session<J>,
+    memory: &mut Memory<J>,
+    act: Act,
+) -> bool {
+    match act {
+        Act::Write(write, wanted) => {
+            let (answer, receipt) = parts(written(rt, alloc, shared, session, write));
+            memory.told = receipt;
+            answer == wanted
+        }
+        Act::Hear => hears(session, memory.told.take()),
+        Act::Keep => {
+            memory.kept = session.look(shared).ok();
+            memory.kept.is_some()
+        }
+        Act::KeptRun(run) => kept_shows(alloc, &memory.kept, run),
+        shown => is_shown(alloc, shared, session, shown),
+    }
+}
+
+// Whether the session of a number that acts is answered so.
+fn one_acts<J: Naming, R: Wait + Drop, W: Wait>(
+    rt: &W,
+    alloc: Global,
+    shared: &Shared<J, R>,
+    sessions: &mut [Session<J>],
+    memory: &mut Memory<J>,
+    act: (usize, Act),
+) -> bool {
+    match sessions.get_mut(act.0) {
+        Some(session) => acts(rt, alloc, shared, session, memory, act.1),
+        None => false,
+    }
+}
+
+// Whether all sessions that act are answered so.
+fn all_act<J: Naming, R: Wait + Drop, W: Wait>(
+    rt: &W,
+    alloc: Global,
+    shared: &Shared<J, R>,
+    sessions: &mut [Session<J>],
+    script: &Script,
+) -> bool {
+    let mut memory = Memory {
+        told: None,
+        kept: None,
+    };
+    let mut well = true;
+    for act in script.acts {
+        well = well && one_acts(rt, alloc, shared, sessions, &mut memory, *act);
+    }
+    well
+}
+
+// Whether what is left has this journal and these rows.
+fn is_left(alloc: Global, closed: &Option<Closed>, script: &Script) -> bool {
+    match closed {
+        Some(closed) => {
+            is_journal(alloc, &closed.journal, script.journal)
+                && shows(alloc, &closed.sheet, script.rows)
+        }
+        None => false,
+    }
+}
+
+/// Whether a store that was just prepared goes as its script says; nothing where it could not be opened.
+pub(crate) fn goes<J: Naming, R: Wait + Drop, W: Wait>(
+    rt: &W,
+    alloc: Global,
+    prepared: Prepared<R>,
+    script: &Script,
+) -> Option<bool>
+    requires book { prepared.book.seen.book ≡ J.book }
+    requires replica { prepared.replica ≡ J.replica }
+    requires ledger { (prepared.ledger.name ≡ J.name) × (prepared.ledger.parts ≡ J.parts) }
+{
+    let Ok((shared, mut sessions)) = open::<J, R>(prepared) else {
+        return None;
+    };
+    let well = all_act(rt, alloc, &shared, sessions.as_mut_slice(), script);
+    let closed = closed(shared, sessions, script.closing);
+    Some(well && is_left(alloc, &closed, script))
+}

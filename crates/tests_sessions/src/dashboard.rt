@@ -1,0 +1,136 @@
+//! A caller's example: an engineer writes, and two dashboards look, each on a thread of its own.
+
+ghost use Rattle.std.specs.Prelude.{◌≡◌};
+
+use crate::questions::shows;
+use crate::worked::opened_for;
+use crate::writes::BLOCK;
+use road_ends::Meter;
+use road_sessions::{
+    Closed, LookFault, Naming, Prepared, Receipt, Session, Shared, WriteFault, close, open,
+};
+use road_workers::Alone;
+use std::alloc::Global;
+use std::marker::Brand;
+use std::sync::{Mutex, Wait};
+use std::test::Fail;
+use std::thread::{Threads, join, yield_now};
+
+/// Where a receipt lies until it is taken.
+type Letter<J> = Mutex<Option<Receipt<J>>>;
+
+// The engineer simulates up to step 6 and blocks the cell 8 from step 4 on, and leaves the receipt.
+fn writes<J: Naming, R: Wait + Drop, W: Wait>(
+    rt: &W,
+    shared: &Shared<J, R>,
+    mut session: Session<J>,
+    letter: &Letter<J>,
+) -> Result<Session<J>, WriteFault> {
+    let mut meter = Meter::new();
+    session.advance(rt, shared, 6, &mut Alone, &mut meter)?;
+    let wrote = session.edit(rt, shared, BLOCK, 4, 1, &mut Alone, &mut meter)?;
+    *letter.lock(rt) = Some(wrote.receipt);
+    Ok(session)
+}
+
+// The receipt, once it lies there.
+fn receipt<J: Naming, W: Wait>(rt: &W, letter: &Letter<J>) -> Receipt<J> {
+    for _ in rt.forever() {
+        let taken = letter.lock(rt).take();
+        if let Some(receipt) = taken {
+            return receipt;
+        }
+        yield_now();
+    }
+    unreachable!()
+}
+
+// The first dashboard waits for the receipt. From then on it is shown no less. It leaves the row of step 6.
+fn is_told<J: Naming, R: Wait + Drop, W: Wait>(
+    rt: &W,
+    alloc: Global,
+    shared: &Shared<J, R>,
+    mut session: Session<J>,
+    letter: &Letter<J>,
+) -> Result<(Session<J>, bool), LookFault> {
+    session.hear(receipt(rt, letter));
+    let sheet = session.look(shared)?;
+    Ok((session, shows(alloc, &sheet, &[(6, "0..2..10#...")])))
+}
+
+// The second one is told nothing. It may be shown less, but never less than before.
+fn watches<J: Naming, R: Wait + Drop>(
+    shared: &Shared<J, R>,
+    mut session: Session<J>,
+) -> Result<(Session<J>, bool), LookFault> {
+    let mut horizon = 0;
+    let mut rises = true;
+    for _ in 0..1_000 {
+        let sheet = session.look(shared)?;
+        rises = rises && sheet.horizon() >= horizon;
+        horizon = sheet.horizon();
+    }
+    Ok((session, rises))
+}
+
+// The engineer and the dashboards at work, each on a thread of its own; their sessions, and what the dashboards saw.
+fn all_work<J: Naming + Send + Sync, R: Wait + Drop + Send, W: Threads + Wait + Sync>(
+    rt: &W,
+    alloc: Global,
+    shared: &Shared<J, R>,
+    engineer: Session<J>,
+    told: Session<J>,
+    untold: Session<J>,
+) -> Result<([Session<J>; 3], bool), Fail> {
+    let letter = Mutex::new(None);
+    let (engineer, (told, untold)) = join(
+        rt,
+        || writes(rt, shared, engineer, &letter),
+        || {
+            join(
+                rt,
+                || is_told(rt, alloc, shared, told, &letter),
+                || watches(shared, untold),
+            )
+        },
+    );
+    let ((told, is_shown), (untold, rises)) = (told?, untold?);
+    Ok(([engineer?, told, untold], is_shown && rises))
+}
+
+// A store is opened, worked with and closed. What is left, where the dashboards saw what they should.
+fn day<J: Naming + Send + Sync, R: Wait + Drop + Send, W: Threads + Wait + Sync>(
+    rt: &W,
+    alloc: Global,
+    prepared: Prepared<R>,
+) -> Result<Option<Closed>, Fail>
+    requires book { prepared.book.seen.book ≡ J.book }
+    requires replica { prepared.replica ≡ J.replica }
+    requires ledger { (prepared.ledger.name ≡ J.name) × (prepared.ledger.parts ≡ J.parts) }
+{
+    let (shared, mut sessions) = open::<J, R>(prepared)?;
+    let untold = sessions.pop().ok_or("three sessions")?;
+    let told = sessions.pop().ok_or("three sessions")?;
+    let engineer = sessions.pop().ok_or("three sessions")?;
+    let (sessions, well) = all_work(rt, alloc, &shared, engineer, told, untold)?;
+    match close(shared, Vec::from_array(alloc, sessions)?) {
+        Ok(closed) if well => Ok(Some(closed)),
+        _ => Ok(None),
+    }
+}
+
+#[test]
+fn dashboards_look_while_an_engineer_writes(rt: HostRuntime) -> Result<(), Fail> {
+    let prepared = opened_for(&rt, rt.alloc(), 0, 3, 10)?;
+    let closed = day::<Brand, _, _>(&rt, rt.alloc(), prepared)?.ok_or("all went well")?;
+    let sessions: [u32; 2] = [0, 0];
+    assert!(rt;
+        closed
+            .journal
+            .iter()
+            .map(|entry| entry.session)
+            .eq(sessions)
+    );
+    assert!(rt; shows(rt.alloc(), &closed.sheet, &[(6, "0..2..10#...")]));
+    Ok(())
+}

@@ -1,0 +1,133 @@
+//! A look while a write holds the lock.
+
+ghost use Rattle.std.specs.Prelude.{◌≡◌};
+
+use crate::worked::opened_for;
+use crate::writes::{Answer, parts};
+use road_ends::{Meter, StepInput};
+use road_replica::Reply;
+use road_sessions::{Naming, Prepared, Session, Shared, open};
+use road_workers::{Alone, Crew, CrewFault};
+use std::alloc::Global;
+use std::marker::Brand;
+use std::sync::atomic::{AtomicBool, Ordering};
+use std::sync::{Arc, Wait};
+use std::test::Fail;
+use std::thread::{Threads, join, yield_now};
+
+/// How often a thread asks whether the other one has come so far.
+const TURNS: u32 = 1_000_000;
+
+// Whether a flag is set, before a thread has asked so often.
+fn comes(flag: &AtomicBool) -> bool {
+    for _ in 0..TURNS {
+        if flag.load(Ordering::SeqCst) {
+            return true;
+        }
+        yield_now();
+    }
+    false
+}
+
+/// At its first call it says that it was called and waits until somebody has looked; where nobody has, it answers
+/// `WorkersGone`. It computes all speeds by itself.
+#[derive(Drop)]
+struct Waiting<'a> {
+    called: &'a AtomicBool,
+    looked: &'a AtomicBool,
+    has_waited: bool,
+    gone: u64,
+}
+
+impl Crew for Waiting<'_> {
+    ghost gone = { λ crew. crew.gone };
+
+    fn speeds(&mut self, alloc: Global, input: &Arc<StepInput>) -> Result<Vec<u8>, CrewFault> {
+        if self.gone == 0 && !self.has_waited {
+            self.has_waited = true;
+            self.called.store(true, Ordering::SeqCst);
+            if !comes(self.looked) {
+                self.gone = 1;
+                return Err(CrewFault::WorkersGone);
+            }
+        }
+        Ok(input.speeds(alloc)?)
+    }
+}
+
+// A session advances to 9, by a crew that waits.
+fn advances<J: Naming, R: Wait + Drop, W: Wait>(
+    rt: &W,
+    shared: &Shared<J, R>,
+    session: &mut Session<J>,
+    called: &AtomicBool,
+    looked: &AtomicBool,
+) -> Answer {
+    let mut crew = Waiting {
+        called,
+        looked,
+        has_waited: false,
+        gone: 0,
+    };
+    let wrote = session.advance(rt, shared, 9, &mut crew, &mut Meter::new());
+    let (answer, _told) = parts(wrote);
+    answer
+}
+
+// The horizon that a session is shown once the crew was called.
+fn finds<J: Naming, R: Wait + Drop>(
+    shared: &Shared<J, R>,
+    session: &mut Session<J>,
+    called: &AtomicBool,
+    looked: &AtomicBool,
+) -> Option<u32> {
+    if !comes(called) {
+        return None;
+    }
+    let sheet = session.look(shared).ok()?;
+    looked.store(true, Ordering::SeqCst);
+    Some(sheet.horizon())
+}
+
+// What one session is answered and the other is shown meanwhile.
+fn both<J: Naming + Send + Sync, R: Wait + Drop + Send, W: Threads + Wait + Sync>(
+    rt: &W,
+    shared: &Shared<J, R>,
+    mut writer: Session<J>,
+    mut reader: Session<J>,
+) -> (Answer, Option<u32>) {
+    let called = AtomicBool::new(false);
+    let looked = AtomicBool::new(false);
+    join(
+        rt,
+        || advances(rt, shared, &mut writer, &called, &looked),
+        || finds(shared, &mut reader, &called, &looked),
+    )
+}
+
+// Whether a session that was told nothing finds the write that is done, while another one holds the lock.
+fn looks_meanwhile<J: Naming + Send + Sync, R: Wait + Drop + Send, W: Threads + Wait + Sync>(
+    rt: &W,
+    prepared: Prepared<R>,
+) -> Result<(Answer, Option<u32>), Fail>
+    requires book { prepared.book.seen.book ≡ J.book }
+    requires replica { prepared.replica ≡ J.replica }
+    requires ledger { (prepared.ledger.name ≡ J.name) × (prepared.ledger.parts ≡ J.parts) }
+{
+    let (shared, mut sessions) = open::<J, R>(prepared)?;
+    let reader = sessions.pop().ok_or("two sessions")?;
+    let mut writer = sessions.pop().ok_or("two sessions")?;
+    let first = writer.advance(rt, &shared, 6, &mut Alone, &mut Meter::new())?;
+    if first.place != 0 {
+        return Err(Fail::new("another place"));
+    }
+    Ok(both(rt, &shared, writer, reader))
+}
+
+#[test]
+fn a_look_takes_no_lock(rt: HostRuntime) -> Result<(), Fail> {
+    let prepared = opened_for(&rt, rt.alloc(), 0, 2, 10)?;
+    let (answer, found) = looks_meanwhile::<Brand, _, _>(&rt, prepared)?;
+    assert!(rt; answer == Ok((1, Reply::Horizon(9))) && found == Some(6));
+    Ok(())
+}

@@ -1,0 +1,232 @@
+//! What sessions are shown.
+
+use road_cells::Car;
+use road_sessions::{LookFault, Naming, Session, Shared};
+use road_sheet::simulation::{State, row_of};
+use road_sheet::{Sheet, SheetFault};
+use std::alloc::Global;
+use std::sync::Wait;
+
+/// A step, and the row that is shown there.
+pub(crate) type Row = (u32, &'static str);
+
+/// A detector and two steps, and the cars and speeds that it counts from one up to the other.
+pub(crate) type Count = ((u32, u32, u32), Result<(u32, u32), LookFault>);
+
+/// A step, and the cars that are there.
+pub(crate) type Cars = (u32, Result<&'static [Car], LookFault>);
+
+/// Want of memory in a question.
+const WANT: LookFault = LookFault::Sheet(SheetFault::OutOfMemory);
+
+// The row of a sheet at a step.
+fn row(alloc: Global, sheet: &Sheet, step: u32) -> Result<String, SheetFault> {
+    let road = sheet.state(alloc, step)?;
+    sheet.known();
+    let state = State { step, road };
+    Ok(row_of(alloc, sheet.plan(), sheet.scenario(), &state)?)
+}
+
+// The same, asked for again where there was no memory.
+fn row_again(alloc: Global, sheet: &Sheet, step: u32) -> Result<String, SheetFault> {
+    match row(alloc, sheet, step) {
+        Err(SheetFault::OutOfMemory) => row(alloc, sheet, step),
+        answer => answer,
+    }
+}
+
+/// Rows of the free road from step 0 up to a step, where the limit is 1 from another step on.
+#[derive(Clone, Copy)]
+pub(crate) struct Run {
+    pub(crate) slow_from: u32,
+    pub(crate) to: u32,
+}
+
+/// The rows of the free road, of which the last two go on by turns.
+const FREE_ROWS: [&str; 6] = [
+    "............",
+    ".1..........",
+    "0..2........",
+    ".1...2......",
+    "0..2...2....",
+    ".1...2...2..",
+];
+
+/// The rows after an even step from which on the limit is 1. The last two go on by turns.
+const SLOW_ROWS: [&str; 11] = [
+    "0..2...2....",
+    ".1..1...1...",
+    "0.1..1...1..",
+    ".1.1..1...1.",
+    "0.1.1..1....",
+    ".1.1.1..1...",
+    "0.1.1.1..1..",
+    ".1.1.1.1..1.",
+    "0.1.1.1.1...",
+    ".1.1.1.1.1..",
+    "0.1.1.1.1.1.",
+];
+
+// The row of this number, where the last two go on by turns.
+fn by_turns<'a>(rows: &[&'a str], number: usize) -> &'a str {
+    let behind = number.saturating_sub(rows.len());
+    let last = rows.len().saturating_sub(2);
+    let place = if number < rows.len() {
+        number
+    } else {
+        last.saturating_add(behind % 2)
+    };
+    match rows.get(place) {
+        Some(row) => *row,
+        None => "",
+    }
+}
+
+// The row of a run at a step.
+fn row_of_run(run: Run, step: u32) -> &'static str {
+    if step <= run.slow_from {
+        by_turns(FREE_ROWS.as_slice(), step as usize)
+    } else {
+        by_turns(
+            SLOW_ROWS.as_slice(),
+            step.saturating_sub(run.slow_from) as usize,
+        )
+    }
+}
+
+/// Whether a sheet shows all rows of a run.
+pub(crate) fn shows_run(alloc: Global, sheet: &Sheet, run: Run) -> bool {
+    for step in 0..=run.to {
+        if !shows(alloc, sheet, &[(step, row_of_run(run, step))]) {
+            return false;
+        }
+    }
+    sheet.horizon() == run.to
+}
+
+/// Whether a sheet shows these rows.
+pub(crate) fn shows(alloc: Global, sheet: &Sheet, rows: &[Row]) -> bool {
+    for (step, wanted) in rows {
+        let agrees = match row_again(alloc, sheet, *step) {
+            Ok(row) => row.as_str() == *wanted,
+            Err(_) => false,
+        };
+        if !agrees {
+            return false;
+        }
+    }
+    true
+}
+
+/// Whether a session that looks is shown this horizon and these rows.
+pub(crate) fn looks<J: Naming, R: Wait + Drop>(
+    alloc: Global,
+    shared: &Shared<J, R>,
+    session: &mut Session<J>,
+    horizon: u32,
+    rows: &[Row],
+) -> bool {
+    match session.look(shared) {
+        Ok(sheet) => sheet.horizon() == horizon && shows(alloc, &sheet, rows),
+        Err(_) => false,
+    }
+}
+
+/// Whether a session that looks is shown a run.
+pub(crate) fn looks_run<J: Naming, R: Wait + Drop>(
+    alloc: Global,
+    shared: &Shared<J, R>,
+    session: &mut Session<J>,
+    run: Run,
+) -> bool {
+    match session.look(shared) {
+        Ok(sheet) => shows_run(alloc, &sheet, run),
+        Err(_) => false,
+    }
+}
+
+// What a session is answered that asks for cars, where that is what a table says, or want of memory.
+fn has_cars<J: Naming, R: Wait + Drop>(
+    alloc: Global,
+    shared: &Shared<J, R>,
+    session: &mut Session<J>,
+    cars: Cars,
+) -> Result<bool, LookFault> {
+    let (step, wanted) = cars;
+    match (session.state(alloc, shared, step), wanted) {
+        (Ok(road), Ok(cars)) => Ok(road.cars() == cars),
+        (Err(fault), Err(wanted)) => Ok(fault == wanted),
+        (Err(fault), Ok(_)) => Err(fault),
+        (Ok(_), Err(_)) => Ok(false),
+    }
+}
+
+// Whether a session that asks for cars is answered so.
+fn shows_cars<J: Naming, R: Wait + Drop>(
+    alloc: Global,
+    shared: &Shared<J, R>,
+    session: &mut Session<J>,
+    cars: Cars,
+) -> bool {
+    match has_cars(alloc, shared, session, cars) {
+        Err(fault) if fault == WANT => has_cars(alloc, shared, session, cars) == Ok(true),
+        answer => answer == Ok(true),
+    }
+}
+
+// What a session is answered that asks for a count.
+fn counted<J: Naming, R: Wait + Drop>(
+    alloc: Global,
+    shared: &Shared<J, R>,
+    session: &mut Session<J>,
+    asked: (u32, u32, u32),
+) -> Result<(u32, u32), LookFault> {
+    let (detector, from, to) = asked;
+    let totals = session.totals(alloc, shared, detector, from, to)?;
+    Ok((totals.cars, totals.speeds))
+}
+
+// Whether a session that asks for a count is answered so.
+fn shows_count<J: Naming, R: Wait + Drop>(
+    alloc: Global,
+    shared: &Shared<J, R>,
+    session: &mut Session<J>,
+    count: Count,
+) -> bool {
+    let (asked, wanted) = count;
+    let mut answer = counted(alloc, shared, session, asked);
+    if answer == Err(WANT) {
+        answer = counted(alloc, shared, session, asked);
+    }
+    answer == wanted
+}
+
+/// Whether a session that asks for the cars of some steps is answered so.
+pub(crate) fn shows_all_cars<J: Naming, R: Wait + Drop>(
+    alloc: Global,
+    shared: &Shared<J, R>,
+    session: &mut Session<J>,
+    asked: &[Cars],
+) -> bool {
+    for cars in asked {
+        if !shows_cars(alloc, shared, session, *cars) {
+            return false;
+        }
+    }
+    true
+}
+
+/// Whether a session that asks for some counts is answered so.
+pub(crate) fn shows_counts<J: Naming, R: Wait + Drop>(
+    alloc: Global,
+    shared: &Shared<J, R>,
+    session: &mut Session<J>,
+    asked: &[Count],
+) -> bool {
+    for count in asked {
+        if !shows_count(alloc, shared, session, *count) {
+            return false;
+        }
+    }
+    true
+}

@@ -1,0 +1,290 @@
+//! Scripts of worked runs.
+
+use crate::acts::{Act, Script};
+use crate::journals::{Closing, Line};
+use crate::questions::{Cars, Count, Row, Run};
+use crate::writes::{BLOCK, LIMIT, Write};
+use road_cells::Car;
+use road_replica::{ReplicaFault, Reply};
+use road_scenario::{Edit, Stamp, Value};
+use road_sessions::{LookFault, WriteFault};
+use road_sheet::SheetFault;
+
+const FIRST_STAMP: Stamp = Stamp {
+    count: 1,
+    number: 0,
+};
+
+const SECOND_STAMP: Stamp = Stamp {
+    count: 2,
+    number: 0,
+};
+
+/// The cell 8 is blocked from step 4 on.
+const BLOCKED: Edit = Edit {
+    object: BLOCK,
+    step: 4,
+    stamp: FIRST_STAMP,
+    value: Value::Put(1),
+};
+
+/// That is withdrawn.
+const OPENED: Edit = Edit {
+    stamp: SECOND_STAMP,
+    value: Value::Withdrawn,
+    ..BLOCKED
+};
+
+/// The limit is 1 from step 64 on.
+const SLOW: Edit = Edit {
+    object: LIMIT,
+    step: 64,
+    ..BLOCKED
+};
+
+/// The rows of the free road from 4 to 6, and those with the cell blocked.
+const FREE_ROWS: &[Row] = &[
+    (4, "0..2...2...."),
+    (5, ".1...2...2.."),
+    (6, "0..2...2...."),
+];
+
+const BLOCKED_ROWS: &[Row] = &[
+    (4, "0..2...2#..."),
+    (5, ".1...2.0#..."),
+    (6, "0..2..10#..."),
+];
+
+const TO_SIX: Act = Act::Write(Write::Advance(6), Ok((0, Reply::Horizon(6))));
+
+const BLOCKS: Act = Act::Write(
+    Write::Edit(BLOCK, 4, 1),
+    Ok((1, Reply::Stamped(FIRST_STAMP))),
+);
+
+const FULL: Act = Act::Write(Write::Advance(7), Err(WriteFault::JournalFull));
+
+/// One session advances and blocks a cell, and tells the other one. The journal is full then.
+pub(crate) const TOLD: Script = Script {
+    number: 0,
+    sessions: 2,
+    limit: 2,
+    acts: &[
+        (0, TO_SIX),
+        (0, BLOCKS),
+        (1, Act::Hear),
+        (1, Act::Look(6, BLOCKED_ROWS)),
+        (0, Act::Look(6, BLOCKED_ROWS)),
+        (1, FULL),
+        (0, FULL),
+        (1, Act::Look(6, BLOCKED_ROWS)),
+    ],
+    closing: Closing::InOrder,
+    journal: &[Line::Advanced(0, 6), Line::Took(0, &[BLOCKED])],
+    rows: BLOCKED_ROWS,
+};
+
+/// The same store is closed in each way.
+pub(crate) const CLOSINGS: [Closing; 4] = [
+    Closing::InOrder,
+    Closing::LastFirst,
+    Closing::WithoutLast,
+    Closing::WithoutFirst,
+];
+
+/// The only session of a store.
+pub(crate) const ALONE: Script = Script {
+    sessions: 1,
+    limit: 1,
+    acts: &[
+        (0, Act::Look(0, &[(0, "............")])),
+        (0, TO_SIX),
+        (0, FULL),
+    ],
+    closing: Closing::WithoutLast,
+    journal: &[Line::Advanced(0, 6)],
+    rows: FREE_ROWS,
+    ..TOLD
+};
+
+/// The cars at step 6.
+const CARS: &[Car] = &[
+    Car {
+        number: 80,
+        cell: 0,
+        speed: 0,
+    },
+    Car {
+        number: 48,
+        cell: 3,
+        speed: 2,
+    },
+    Car {
+        number: 16,
+        cell: 7,
+        speed: 2,
+    },
+];
+
+const NOT_SIMULATED: LookFault = LookFault::Sheet(SheetFault::NotSimulated);
+
+const RANGE: LookFault = LookFault::Sheet(SheetFault::Range);
+
+const NO_DETECTOR: LookFault = LookFault::Sheet(SheetFault::NoDetector);
+
+const ASKED: &[Cars] = &[(6, Ok(CARS)), (0, Ok(&[])), (7, Err(NOT_SIMULATED))];
+
+/// The first car drives from cell 3 to 5 in step 2, the second one in step 4.
+const COUNTS: &[Count] = &[
+    ((0, 0, 3), Ok((1, 2))),
+    ((0, 0, 6), Ok((2, 4))),
+    ((0, 3, 6), Ok((1, 2))),
+    ((0, 2, 2), Ok((0, 0))),
+    ((0, 0, 7), Err(NOT_SIMULATED)),
+    ((0, 3, 2), Err(RANGE)),
+    ((1, 0, 6), Err(NO_DETECTOR)),
+];
+
+/// What is blocked and withdrawn does not come back with an older message; a refused write leaves no line.
+pub(crate) const WITHDRAWN: Script = Script {
+    sessions: 1,
+    limit: 10,
+    acts: &[
+        (0, TO_SIX),
+        (0, Act::Look(6, FREE_ROWS)),
+        (0, Act::Cars(ASKED)),
+        (0, Act::Counts(COUNTS)),
+        (0, BLOCKS),
+        (0, Act::Look(6, BLOCKED_ROWS)),
+        (
+            0,
+            Act::Write(
+                Write::Edit(LIMIT, 65_536, 1),
+                Err(WriteFault::Replica(ReplicaFault::Step)),
+            ),
+        ),
+        (
+            0,
+            Act::Write(
+                Write::Withdraw(BLOCK, 4),
+                Ok((2, Reply::Stamped(SECOND_STAMP))),
+            ),
+        ),
+        (0, Act::Look(6, FREE_ROWS)),
+        (
+            0,
+            Act::Write(Write::Take(&[BLOCKED]), Ok((3, Reply::Touched(None)))),
+        ),
+        (0, Act::Look(6, FREE_ROWS)),
+        (
+            0,
+            Act::Write(
+                Write::Advance(65_537),
+                Err(WriteFault::Replica(ReplicaFault::Horizon)),
+            ),
+        ),
+    ],
+    journal: &[
+        Line::Advanced(0, 6),
+        Line::Took(0, &[BLOCKED]),
+        Line::Took(0, &[OPENED]),
+        Line::Took(0, &[BLOCKED]),
+    ],
+    rows: FREE_ROWS,
+    ..TOLD
+};
+
+/// The stamps of a replica of number 3.
+const THIRD_FIRST: Stamp = Stamp {
+    count: 1,
+    number: 3,
+};
+
+const THIRD_SECOND: Stamp = Stamp {
+    count: 2,
+    number: 3,
+};
+
+/// Three sessions of replica 3 write: each line stands under its session, and the stamps are the replica's.
+pub(crate) const THREE: Script = Script {
+    number: 3,
+    sessions: 3,
+    limit: 3,
+    acts: &[
+        (
+            2,
+            Act::Write(
+                Write::Edit(BLOCK, 4, 1),
+                Ok((0, Reply::Stamped(THIRD_FIRST))),
+            ),
+        ),
+        (0, Act::Write(Write::Advance(6), Ok((1, Reply::Horizon(6))))),
+        (
+            1,
+            Act::Write(
+                Write::Withdraw(BLOCK, 4),
+                Ok((2, Reply::Stamped(THIRD_SECOND))),
+            ),
+        ),
+        (2, FULL),
+        (2, Act::Look(6, FREE_ROWS)),
+    ],
+    closing: Closing::LastFirst,
+    journal: &[
+        Line::Took(
+            2,
+            &[Edit {
+                stamp: THIRD_FIRST,
+                ..BLOCKED
+            }],
+        ),
+        Line::Advanced(0, 6),
+        Line::Took(
+            1,
+            &[Edit {
+                stamp: THIRD_SECOND,
+                ..OPENED
+            }],
+        ),
+    ],
+    rows: FREE_ROWS,
+};
+
+const FREE_RUN: Run = Run {
+    slow_from: 130,
+    to: 130,
+};
+
+const SLOW_RUN: Run = Run {
+    slow_from: 64,
+    to: 130,
+};
+
+/// A session keeps a sheet, which stays as it was while the other one changes its past.
+pub(crate) const KEPT: Script = Script {
+    limit: 10,
+    acts: &[
+        (
+            0,
+            Act::Write(Write::Advance(130), Ok((0, Reply::Horizon(130)))),
+        ),
+        (1, Act::Hear),
+        (1, Act::Keep),
+        (1, Act::KeptRun(FREE_RUN)),
+        (
+            0,
+            Act::Write(
+                Write::Edit(LIMIT, 64, 1),
+                Ok((1, Reply::Stamped(FIRST_STAMP))),
+            ),
+        ),
+        (1, Act::KeptRun(FREE_RUN)),
+        (1, Act::Hear),
+        (1, Act::LookRun(SLOW_RUN)),
+        (1, Act::KeptRun(FREE_RUN)),
+    ],
+    closing: Closing::LastFirst,
+    journal: &[Line::Advanced(0, 130), Line::Took(0, &[SLOW])],
+    rows: &[(129, ".1.1.1.1.1.."), (130, "0.1.1.1.1.1.")],
+    ..TOLD
+};

@@ -1,0 +1,64 @@
+//! Worked runs of sessions, one after another in one thread.
+
+use crate::acts::{Script, goes};
+use crate::scripts::{ALONE, CLOSINGS, KEPT, THREE, TOLD, WITHDRAWN};
+use road_sessions::{OpenFault, Prepared, prepare};
+use std::alloc::Global;
+use std::marker::Brand;
+use std::sync::{Arc, Wait};
+use tests_plans::{FREE, plan_of};
+
+/// A replica of the free road, of this number, for so many sessions and writes.
+pub(crate) fn opened_for<R: Wait + Drop>(
+    rt: R,
+    alloc: Global,
+    number: u32,
+    sessions: u32,
+    limit: u64,
+) -> Result<Prepared<R>, OpenFault> {
+    let Ok(plan) = plan_of(alloc, &FREE) else {
+        return Err(OpenFault::OutOfMemory);
+    };
+    let Ok(plan) = Arc::new(alloc, plan) else {
+        return Err(OpenFault::OutOfMemory);
+    };
+    let sessions = sessions.max(1).min(8);
+    let limit = limit.max(1).min(1_000_000);
+    prepare(rt, alloc, plan, number % 64, sessions, limit)
+}
+
+// Whether a store goes as its script says; nothing where it could not be opened.
+fn opens<R: Wait + Drop + Copy>(rt: R, alloc: Global, script: &Script) -> Option<bool> {
+    match opened_for(rt, alloc, script.number, script.sessions, script.limit) {
+        Ok(prepared) => goes::<Brand, R, R>(&rt, alloc, prepared, script),
+        Err(_) => None,
+    }
+}
+
+// The same, tried again where there was no memory to open it.
+fn runs<R: Wait + Drop + Copy>(rt: R, alloc: Global, script: &Script) -> bool {
+    match opens(rt, alloc, script) {
+        Some(well) => well,
+        None => opens(rt, alloc, script) == Some(true),
+    }
+}
+
+#[test]
+fn a_receipt_is_heard(rt: HostRuntime) {
+    for closing in CLOSINGS {
+        let script = Script { closing, ..TOLD };
+        assert!(rt; runs(&rt, rt.alloc(), &script));
+    }
+}
+
+#[test]
+fn worked_scripts(rt: HostRuntime) {
+    for script in [ALONE, WITHDRAWN, THREE] {
+        assert!(rt; runs(&rt, rt.alloc(), &script));
+    }
+}
+
+#[test]
+fn a_kept_sheet_stays(rt: HostRuntime) {
+    assert!(rt; runs(&rt, rt.alloc(), &KEPT));
+}

@@ -1,0 +1,100 @@
+//! Writes of sessions, as tables have them.
+
+use road_ends::Meter;
+use road_plan::Object;
+use road_replica::{ReplicaFault, Reply};
+use road_scenario::{Edit, Scenario};
+use road_sessions::{Naming, Receipt, Session, Shared, WriteFault, Wrote};
+use road_workers::Alone;
+use std::alloc::Global;
+use std::sync::Wait;
+
+pub(crate) const LIMIT: Object = Object::Limit(0);
+
+pub(crate) const BLOCK: Object = Object::Block(8);
+
+/// A write of a session.
+#[derive(Clone, Copy)]
+pub(crate) enum Write {
+    Edit(Object, u32, u32),
+    Withdraw(Object, u32),
+    Take(&'static [Edit]),
+    Advance(u32),
+}
+
+/// What a write is answered: its place in the journal and the reply.
+pub(crate) type Answer = Result<(u64, Reply), WriteFault>;
+
+/// Want of memory in a write.
+const WANT: WriteFault = WriteFault::Replica(ReplicaFault::OutOfMemory);
+
+// A session takes edits.
+fn took<J: Naming, R: Wait + Drop, W: Wait>(
+    rt: &W,
+    alloc: Global,
+    shared: &Shared<J, R>,
+    session: &mut Session<J>,
+    edits: &[Edit],
+) -> Result<Wrote<J>, WriteFault> {
+    match Scenario::of_edits(alloc, edits) {
+        Ok(edits) => session.take(rt, shared, &edits, &mut Alone, &mut Meter::new()),
+        Err(_) => Err(WANT),
+    }
+}
+
+// A session writes.
+fn wrote<J: Naming, R: Wait + Drop, W: Wait>(
+    rt: &W,
+    alloc: Global,
+    shared: &Shared<J, R>,
+    session: &mut Session<J>,
+    write: Write,
+) -> Result<Wrote<J>, WriteFault> {
+    let mut meter = Meter::new();
+    match write {
+        Write::Edit(object, step, value) => {
+            session.edit(rt, shared, object, step, value, &mut Alone, &mut meter)
+        }
+        Write::Withdraw(object, step) => {
+            session.withdraw(rt, shared, object, step, &mut Alone, &mut meter)
+        }
+        Write::Advance(to) => session.advance(rt, shared, to, &mut Alone, &mut meter),
+        Write::Take(edits) => took(rt, alloc, shared, session, edits),
+    }
+}
+
+// The horizon that a session is shown, and the greatest count among its edits.
+fn shown<J: Naming, R: Wait + Drop>(
+    shared: &Shared<J, R>,
+    session: &mut Session<J>,
+) -> Option<(u32, u64)> {
+    match session.look(shared) {
+        Ok(sheet) => Some((sheet.horizon(), sheet.scenario().greatest_count())),
+        Err(_) => None,
+    }
+}
+
+/// A session writes. Where there is no memory, and it is shown what it was shown before, it writes again.
+pub(crate) fn written<J: Naming, R: Wait + Drop, W: Wait>(
+    rt: &W,
+    alloc: Global,
+    shared: &Shared<J, R>,
+    session: &mut Session<J>,
+    write: Write,
+) -> Result<Wrote<J>, WriteFault> {
+    let before = shown(shared, session);
+    match wrote(rt, alloc, shared, session, write) {
+        Err(WANT) if shown(shared, session) == before => wrote(rt, alloc, shared, session, write),
+        answer => answer,
+    }
+}
+
+/// What a write was answered, and its receipt.
+pub(crate) fn parts<J: Naming>(
+    wrote: Result<Wrote<J>, WriteFault>,
+) -> (Answer, Option<Receipt<J>>) {
+    match wrote {
+        Ok(wrote) => (Ok((wrote.place, wrote.reply)), Some(wrote.receipt)),
+        Err(fault) => (Err(fault), None),
+    }
+}
