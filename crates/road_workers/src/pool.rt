@@ -9,6 +9,8 @@ ghost use Rattle.road_workers.specs.Private.Gathered.{AreGathered};
 
 mod gathering;
 mod job;
+#[cfg(test)]
+mod tests;
 mod working;
 
 use crate::crew::{Crew, gone_after};

@@ -1,0 +1,69 @@
+//! Steps by a crew, drawn as rows of text.
+
+use road_cells::Road;
+use road_ends::{EMPTY, STANDING, StepInput, enter, finish};
+use road_plan::{Plan, Settings};
+use road_workers::Crew;
+use std::alloc::Global;
+use std::process::Abort;
+use std::sync::Arc;
+use std::test::Fail;
+use tests_plans::{Parts, plan_of};
+
+/// The input of a step by the plan's own settings.
+pub(crate) fn input_of(
+    alloc: Global,
+    plan: &Arc<Plan>,
+    step: u32,
+    road: &Road,
+) -> Result<Arc<StepInput>, Fail> {
+    plan.known_own_settings();
+    let settings = Settings::of_plan(alloc, plan)?;
+    Ok(enter(alloc, plan, settings, step, road)?)
+}
+
+// The road after a step, with the speeds that a crew gives.
+fn stepped_by<C: Crew>(
+    crew: &mut C,
+    alloc: Global,
+    plan: &Arc<Plan>,
+    step: u32,
+    road: &Road,
+) -> Result<Road, Fail> {
+    let input = input_of(alloc, plan, step, road)?;
+    let speeds = crew.speeds(alloc, &input)?;
+    Ok(finish(alloc, &input, &speeds)?)
+}
+
+// The letter of a cell without blocks.
+fn letter_at(road: &Road, cell: u32) -> u8 {
+    match road.car_at(cell) {
+        Some(car) => STANDING.saturating_add(car.speed),
+        None => EMPTY,
+    }
+}
+
+// Whether a road is drawn as these letters, one for each cell.
+fn is_drawn_as(road: &Road, letters: &[u8]) -> bool {
+    (0u32..)
+        .zip(letters)
+        .all(|(cell, letter)| letter_at(road, cell) == *letter)
+}
+
+/// Steps a plan from the empty road by a crew, and compares the row after each step.
+pub(crate) fn gives<C: Crew>(
+    rt: &impl Abort,
+    alloc: Global,
+    crew: &mut C,
+    parts: &Parts,
+    rows: &[&str],
+) -> Result<(), Fail> {
+    let plan = Arc::new(alloc, plan_of(alloc, parts)?)?;
+    let mut road = Road::empty(alloc);
+    for (step, row) in (0u32..).zip(rows) {
+        road = stepped_by(crew, alloc, &plan, step, &road)?;
+        let is_right = is_drawn_as(&road, row.as_bytes());
+        assert!(rt; is_right, "after step {step}");
+    }
+    Ok(())
+}

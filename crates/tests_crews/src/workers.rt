@@ -1,0 +1,70 @@
+//! The worked rows by every crew, with few workers and with more than there are cars.
+
+ghost use Rattle.std.specs.Prelude.{◌<◌, ◌≤◌};
+
+use crate::rows::gives;
+use road_workers::{NoGate, Pool, Scoped};
+use std::alloc::Global;
+use std::process::Abort;
+use std::sync::Wait;
+use std::test::Fail;
+use std::thread::Threads;
+use tests_plans::{DENSE, HALF_SLOWED};
+
+/// The rows of the dense road after each step.
+const DENSE_ROWS: &[&str] = &[
+    "0...1.0...1.0..0...1.0...1......",
+    "0..00..1.00..1..1.00..1.0.1.....",
+];
+
+/// The rows of the road with one inlet after each step.
+const HALF_SLOWED_ROWS: &[&str] = &[
+    "0...........",
+    "0...........",
+    ".1..........",
+    "0.1.........",
+    "0...2.......",
+    ".1...1......",
+];
+
+// By workers whose threads are made for each call.
+fn scoped_gives<R: Threads + Wait + Abort>(rt: &R, alloc: Global, workers: u32) -> Result<(), Fail>
+    requires some { 0 < workers }
+    requires few { workers ≤ 16 }
+{
+    let mut crew = Scoped::new(rt, workers, Box::new(alloc, NoGate)?);
+    gives(rt, alloc, &mut crew, &DENSE, DENSE_ROWS)?;
+    gives(rt, alloc, &mut crew, &HALF_SLOWED, HALF_SLOWED_ROWS)
+}
+
+#[test]
+fn threads_made_for_each_call_give_the_worked_rows(rt: HostRuntime) -> Result<(), Fail> {
+    scoped_gives(&rt, rt.alloc(), 1)?;
+    scoped_gives(&rt, rt.alloc(), 2)?;
+    scoped_gives(&rt, rt.alloc(), 7)?;
+    scoped_gives(&rt, rt.alloc(), 16)
+}
+
+// By lasting workers.
+fn pool_gives<R: Threads + Wait + Abort + Clone + Drop + Send + 'static>(
+    rt: &R,
+    alloc: Global,
+    workers: u32,
+) -> Result<(), Fail>
+    requires some { 0 < workers }
+    requires few { workers ≤ 16 }
+{
+    let mut crew = Pool::start(rt.clone()?, alloc, workers)?;
+    gives(rt, alloc, &mut crew, &DENSE, DENSE_ROWS)?;
+    gives(rt, alloc, &mut crew, &HALF_SLOWED, HALF_SLOWED_ROWS)?;
+    crew.finish();
+    Ok(())
+}
+
+#[test]
+fn lasting_workers_give_the_worked_rows(rt: HostRuntime) -> Result<(), Fail> {
+    pool_gives(&rt, rt.alloc(), 1)?;
+    pool_gives(&rt, rt.alloc(), 2)?;
+    pool_gives(&rt, rt.alloc(), 7)?;
+    pool_gives(&rt, rt.alloc(), 16)
+}
