@@ -1,8 +1,7 @@
 -- Pieces of the list of cars, one for each worker.
-use Rattle.std.specs.Prelude.{ℕ, ◌+◌, ◌*◌, ◌/◌, List}
-use Rattle.road_ends.specs.Input.{StepInput, input_speeds_between}
+use Rattle.std.specs.Prelude.{ℕ, ◌+◌, ◌*◌, ◌/◌, List, length}
 use Rattle.road_cells.specs.Cars.{cars_of}
-use Rattle.std.specs.Prelude.{length}
+use Rattle.road_ends.specs.Input.{StepInput, input_speeds_between}
 
 -- where the piece of worker w begins, where n workers share m cars: by whole division, so that a piece may be empty
 abbrev pub piece_start : ℕ → ℕ → ℕ → ℕ

@@ -192,7 +192,8 @@ fn joined<'s, R: Threads>(
     requires nothing { whole.items ≡ [] }
     requires started { AreStartedFrom input.now workers 0 started.items }
     ensures { IfOk result (λ new. new.items
-        ≡ take (piece_start workers (length (cars_of input.now.road)) (vec_len started.entry)) (input_speeds input.now)) }
+        ≡ take (piece_start workers (length (cars_of input.now.road)) (vec_len started.entry))
+        (input_speeds input.now)) }
 {
     let mut whole = Ok(whole);
     for worker in started {

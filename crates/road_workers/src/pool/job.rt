@@ -26,7 +26,8 @@ pub(crate) struct Done {
     pub input: Arc<StepInput>,
     pub piece: Piece,
     pub answer: Answer,
-    ghost right: { IfOk answer (λ new. new.items ≡ input_speeds_between (arc_value input) piece.first piece.end) } by { Prim.hlevel props },
+    ghost right: { IfOk answer
+        (λ new. new.items ≡ input_speeds_between (arc_value input) piece.first piece.end) } by { Prim.hlevel props },
 }
 
 impl Job {
