@@ -19,20 +19,17 @@ pub(crate) const NO_ROW: u32 = u32::MAX;
 /// row's steps. Where there are more, as after calls for roads that do not follow one another, they are drawn anew.
 const MOST_ROWS: usize = 66_560;
 
-/// The upper 16 bits of a stream's words at the steps of the rows.
-#[derive(Drop)]
-struct WordRow {
-    stream: u64,
-    halves: [u16; ROW_WORDS],
-}
-
-/// Rows of the words of one kind, all for the same 64 steps.
+/// Rows of the words of one kind, all for the same 64 steps: of a stream's words at these steps the upper 16 bits.
+///
+/// The streams lie apart from the rows, so that to find whose a row is touches none of them.
 #[derive(Drop)]
 pub(crate) struct WordRows {
     pub(crate) kind: WordKind,
     pub(crate) first: u32,
-    rows: Vec<WordRow>,
-    ghost drawn: { AreRows kind first rows.items },
+    // Whose the rows are.
+    streams: Vec<u64>,
+    rows: Vec<[u16; ROW_WORDS]>,
+    ghost drawn: { AreRows kind first streams.items rows.items },
 }
 
 /// A half of a word, and the slot of its row.
@@ -50,6 +47,7 @@ impl WordRows {
         WordRows {
             kind,
             first: 0,
+            streams: Vec::new(alloc),
             rows: Vec::new(alloc),
         }
     }
@@ -62,7 +60,7 @@ impl WordRows {
     {
         let first = step - step % ROW_STEPS;
         if self.first != first {
-            self.rows.clear();
+            self.streams.clear();
             self.first = first;
         }
     }
@@ -83,8 +81,10 @@ impl WordRows {
         requires { self.now.first ≡ step - step % ROW_STEPS }
         ensures { IfSome result (λ half. half ≡ word self.now.kind stream step / 65536) }
     {
-        match self.rows.get(slot as usize) {
-            Some(row) if row.stream == stream => Some(row.halves[(step % ROW_STEPS) as usize]),
+        match self.streams.get(slot as usize) {
+            Some(found) if *found == stream => {
+                Some(self.rows[slot as usize][(step % ROW_STEPS) as usize])
+            }
             _ => None,
         }
     }
@@ -97,12 +97,14 @@ impl WordRows {
         ensures kind { self.new.kind ≡ self.old.kind }
     {
         self.turn_to(step);
-        if self.rows.len() >= MOST_ROWS {
-            self.rows.clear();
+        if self.streams.len() >= MOST_ROWS {
+            self.streams.clear();
         }
-        let slot = self.rows.len() as u32;
+        self.rows.truncate(self.streams.len());
+        let slot = self.streams.len() as u32;
         let halves = PlanWords::of_kind(self.kind).row(stream, self.first);
-        self.rows.push(WordRow { stream, halves })?;
+        self.rows.push(halves)?;
+        self.streams.push(stream)?;
         Ok(Drawn {
             half: halves[(step % ROW_STEPS) as usize],
             slot,

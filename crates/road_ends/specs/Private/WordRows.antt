@@ -1,12 +1,12 @@
 -- Rows of drawn words.
-use Rattle.std.specs.Prelude.{◌≡◌, ◌+◌, ◌/◌, ◌<◌, ℕ, List, slice_get, slice_index}
-use Rattle.std.specs.declared.option.Option.TheVariants.{Some}
+use Rattle.std.specs.Prelude.{◌≡◌, ◌+◌, ◌/◌, ◌<◌, ◌≤◌, ℕ, List, length, slice_index}
+use Rattle.std.specs.List.{slice_index_or}
 use Rattle.road_plan.specs.declared.parts.WordKind.{WordKind}
 use Rattle.road_words.specs.Words.{word}
 use Rattle.road_words.specs.declared.words.TheConstants.{ROW_WORDS}
-use Rattle.road_ends.specs.declared.rows.WordRow.{WordRow}
 
--- each row has the upper halves of its stream's words at the places from the first on
-abbrev pub AreRows : WordKind → ℕ → List WordRow → Type 0
-AreRows kind first rows = (k : ℕ) (row : WordRow) → slice_get rows k ≡ Some row → (i : ℕ) → i < ROW_WORDS
-    → slice_index row.halves i ≡ word kind row.stream (first + i) / 65536
+-- the row of each stream has the upper halves of its words at the places from the first on
+pub record AreRows (kind : WordKind) (first : ℕ) (streams : List ℕ) (rows : List (List ℕ)) : Type 0 where
+  pub within : length streams ≤ length rows
+  pub drawn : (k i : ℕ) (row : List ℕ) → k < length streams → i < ROW_WORDS
+      → slice_index (slice_index_or rows k row) i ≡ word kind (slice_index streams k) (first + i) / 65536
