@@ -1,4 +1,4 @@
-//! Names of replicas.
+//! Names of replicas and messages.
 
 ghost use Rattle.std.specs.Prelude.{◌≡◌, ◌==◌, length};
 ghost use Rattle.std.specs.List.{list_all, list_any};

@@ -123,8 +123,8 @@ fn line_end(bytes: &[u8]) -> Option<usize>
     bytes.iter().position(|x| *x == b'\n')
 }
 
-/// What has answered each whole line that came, and holds the rest. No more of a line is held than the longest one has,
-/// and no more than 64 KiB of replies wait to be written.
+/// A dialogue: each whole line that came is answered, and the bytes of the next one are held. No more of a line is held
+/// than the longest one has, and no more than 64 KiB of replies wait to be written.
 #[derive(Drop)]
 pub struct Dialogue {
     /// The laboratory, once the plan line is accepted.

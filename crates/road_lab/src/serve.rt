@@ -30,8 +30,9 @@ pub struct Served {
 /// # Errors
 ///
 /// `BadPlan` where the plan line is refused, `TooMany` where it is not and a byte stands past the limits: then the
-/// replies are written whole. `Read` and `Write` where the source or the sink failed, `WorkersGone` where the crew did,
-/// `OutOfMemory` where a growth was refused: then what was written begins the replies.
+/// replies are written whole. `Read` where the source failed: then the replies to all lines that were read whole are
+/// written. `Write` where the sink failed, `WorkersGone` where the crew did, `OutOfMemory` where a growth was refused:
+/// then what was written begins the replies.
 pub fn serve<R: Source, W: Sink, C: Crew>(
     alloc: Global,
     reader: &mut R,

@@ -107,7 +107,7 @@ abbrev pub outcome_by_number : Laboratory → Refusal → Option ℕ → (ℕ �
 outcome_by_number lab refusal None next = refusal_outcome lab refusal
 outcome_by_number lab refusal (Some number) next = next number
 
--- the refusal of a name for a new message: no two have one name
+-- the refusal of a name for a new message: no two messages have the same name
 abbrev pub name_refusal : Laboratory → List ℕ → Option Refusal
 name_refusal lab name = if is_some (number_of lab.message_names name) then Some refusals.NameTaken else None
 

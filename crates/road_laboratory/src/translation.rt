@@ -1,4 +1,4 @@
-//! Commands, replies and faults in the words of the layers that they pass between.
+//! The replica that a command names, which events keep its edits, and the world's replies and faults as the program's.
 
 ghost use Rattle.std.specs.Prelude.{◌≡◌};
 ghost use Rattle.road_format.specs.Views.{answer_view, command_view};

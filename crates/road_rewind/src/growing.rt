@@ -24,7 +24,7 @@ use std::alloc::Global;
 /// # Errors
 ///
 /// `WorkersGone` where the crew answers so, else `OutOfMemory` where a growth was refused. The meter has then counted
-/// no more than it would have.
+/// no more steps than a call that succeeds may.
 pub fn grown<C: Crew>(
     alloc: Global,
     sheet: &Sheet,
