@@ -9,5 +9,6 @@ pub mod DialogueCalls
 pub mod DialogueEnds
 pub mod RunEnds
 pub mod CommandLines
+pub mod WorkerCounts
 mod Examples
 mod PlanFaults

@@ -11,7 +11,9 @@ use Rattle.road_format.specs.Cut.{lines_of}
 use Rattle.road_lab.specs.Answers.{later_lines, answers, answers_within, is_plan_refused, is_plan_refused_within, has_more_lines, has_byte_past_limits, reply_count}
 use Rattle.road_lab.specs.Dialogue.{HasAnswered, HasFinished, Stands, StandsAtEnd}
 use Rattle.road_lab.specs.Failures.{RisesByOne}
-use Rattle.road_lab.specs.Faults.{early_fault, gone_after_call}
+use Rattle.road_workers.specs.declared.faults.CrewFault.{CrewFault}
+use Rattle.road_workers.specs.declared.faults.CrewFault.TheVariants as crew_faults
+use Rattle.road_lab.specs.Faults.{crew_fault, early_fault, gone_after_call}
 use Rattle.road_lab.specs.Run.{Run, run_answers, WritesAll, Ends, AnswersInput}
 use Rattle.road_lab.specs.StreamViews.{SourceView, SinkView, Stops}
 use Rattle.road_lab.specs.declared.dialogue.Dialogue.{Dialogue}
@@ -364,6 +366,15 @@ unopened lines limit sink = record {
 -- there was no memory to begin
 pub not_begun : (lines limit : ℕ) (source : SourceView) (sink : SinkView) → AnswersInput (run_of lines limit source source sink sink (Err faults.OutOfMemory))
 not_begun lines limit source sink = record {
+  input = [];
+  read = Consumes-nil source.remaining;
+  ends = record { stops = ((_, takes_none sink _), refl); reads_well = refl };
+}
+
+-- nor were there workers to begin
+pub not_manned : (lines limit : ℕ) (source : SourceView) (sink : SinkView) (failed : CrewFault) → AnswersInput (run_of lines limit source source sink sink (Err (crew_fault failed)))
+not_manned lines limit source sink crew_faults.OutOfMemory = not_begun lines limit source sink
+not_manned lines limit source sink crew_faults.WorkersGone = record {
   input = [];
   read = Consumes-nil source.remaining;
   ends = record { stops = ((_, takes_none sink _), refl); reads_well = refl };

@@ -1,22 +1,53 @@
--- What the words after the program's name say. `clap` reads them, as those of a command with one option.
-use Rattle.std.specs.Prelude.{ℕ, List, Bool, true, Option, Some, codes}
+-- What the words after the program's name say. `clap` reads them, as those of a command with two options.
+use Rattle.std.specs.Prelude.{ℕ, List, Bool, true, ◌&&◌, if◌then◌else◌, is_some, Option, Some, None, option_and_then, codes}
+use Rattle.std.specs.Option.{option_map_or}
+use Rattle.std.specs.Str.Parse.{digits_value, without_leading_plus}
 use Rattle.clap.specs.Simple.{on_top}
+use Rattle.clap.specs.ValueTests.{is_unsigned_in}
 use Rattle.clap.specs.Walk.{is_empty}
-use Rattle.clap.specs.Words.{App, Rule, fault_of, first_of, matches_of, new_app, new_rule, with_rule}
+use Rattle.clap.specs.Words.{App, Row, Rule, fault_of, first_of, matches_of, new_app, new_rule, with_rule}
+use Rattle.road_plan.specs.declared.limits.TheConstants.{MOST_WORKERS}
 
 -- the option `--script`, which takes a value
 abbrev pub script_rule : Rule
 script_rule = record (new_rule (codes "script")) { long = Some (codes "script") }
 
--- the program's command: this option, and no word for its own name
+-- the option `--workers`, which takes a value
+abbrev pub workers_rule : Rule
+workers_rule = record (new_rule (codes "workers")) { long = Some (codes "workers") }
+
+-- the program's command: these options, and no word for its own name
 abbrev pub command_line : App
 command_line =
-    with_rule (on_top (λ top. record top { no_binary_name = true }) (new_app (codes "road_lab"))) script_rule
+    with_rule (with_rule (on_top (λ top. record top { no_binary_name = true }) (new_app (codes "road_lab"))) script_rule)
+    workers_rule
 
--- whether the words are accepted
+-- whether `clap` reads the words
+unfoldable pub are_read : List (List ℕ) → Bool
+are_read words = is_empty (fault_of command_line words)
+
+-- what it finds in them
+unfoldable pub found_in : List (List ℕ) → List Row
+found_in words = matches_of command_line words
+
+-- the number of workers that a value names: in decimal digits, a plus before them or none, from 1 to 16
+unfoldable pub worker_count : List ℕ → Option ℕ
+worker_count text =
+    if is_unsigned_in 1 MOST_WORKERS text then Some (digits_value 10 (without_leading_plus text)) else None
+
+-- the value of `--workers`, where the words have it
+abbrev pub workers_value : List (List ℕ) → Option (List ℕ)
+workers_value words = first_of (codes "workers") (found_in words)
+
+-- whether the words are accepted: `clap` reads them, and a value of `--workers` names a number of workers
 unfoldable pub are_accepted : List (List ℕ) → Bool
-are_accepted words = is_empty (fault_of command_line words)
+are_accepted words =
+    are_read words && option_map_or (λ text. is_some (worker_count text)) (workers_value words) true
 
 -- the path of the script, where the words name one
 unfoldable pub script_of : List (List ℕ) → Option (List ℕ)
-script_of words = first_of (codes "script") (matches_of command_line words)
+script_of words = first_of (codes "script") (found_in words)
+
+-- the number of workers, where the words name one
+unfoldable pub workers_of : List (List ℕ) → Option ℕ
+workers_of words = option_and_then worker_count (workers_value words)

@@ -2,6 +2,8 @@
 use Rattle.std.specs.Prelude.{ℕ, ◌+◌, ◌-◌, ◌^◌, min, Result, Ok, Err}
 use Rattle.road_laboratory.specs.declared.faults.LaboratoryFault.{LaboratoryFault}
 use Rattle.road_laboratory.specs.declared.faults.LaboratoryFault.TheVariants as laboratory_faults
+use Rattle.road_workers.specs.declared.faults.CrewFault.{CrewFault}
+use Rattle.road_workers.specs.declared.faults.CrewFault.TheVariants as crew_faults
 use Rattle.road_lab.specs.declared.faults.EarlyEnd.{EarlyEnd}
 use Rattle.road_lab.specs.declared.faults.EarlyEnd.TheVariants as ends
 use Rattle.road_lab.specs.declared.faults.ServeFault.{ServeFault}
@@ -16,6 +18,11 @@ early_fault ends.TooMany = faults.TooMany
 abbrev pub unanswered_fault : LaboratoryFault → ServeFault
 unanswered_fault laboratory_faults.WorkersGone = faults.WorkersGone
 unanswered_fault laboratory_faults.OutOfMemory = faults.OutOfMemory
+
+-- the fault of a run whose crew could not be started
+abbrev pub crew_fault : CrewFault → ServeFault
+crew_fault crew_faults.WorkersGone = faults.WorkersGone
+crew_fault crew_faults.OutOfMemory = faults.OutOfMemory
 
 -- how often a crew has answered `WorkersGone` after a call with this result: the count is one more where that was the
 -- fault; one at the greatest u64 stays there

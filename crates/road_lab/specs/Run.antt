@@ -1,6 +1,7 @@
 -- A run, and what it promises.
 use Rattle.std.specs.Prelude.{◌≡◌, ℕ, List, Bool, true, false, Result, Ok, Err}
 use Rattle.std.specs.Io.KnownBytes.{Appends, Consumes, IsAtEnd}
+use Rattle.road_plan.specs.declared.limits.TheConstants.{MOST_LINES, MOST_BYTES}
 use Rattle.road_lab.specs.Answers.{answers_within, is_plan_refused_within, has_byte_past_limits, reply_count}
 use Rattle.road_lab.specs.Failures.{RisesByOne}
 use Rattle.road_lab.specs.StreamViews.{SourceView, SinkView, Stops}
@@ -18,6 +19,18 @@ pub record Run : Type 0 where
   pub sink_before : SinkView
   pub sink_after : SinkView
   pub result : Result Served ServeFault
+
+-- a run within the program's own limits
+abbrev pub program_run : SourceView → SourceView → SinkView → SinkView → Result Served ServeFault → Run
+program_run source_before source_after sink_before sink_after result = record {
+  lines = MOST_LINES;
+  bytes = MOST_BYTES;
+  source_before = source_before;
+  source_after = source_after;
+  sink_before = sink_before;
+  sink_after = sink_after;
+  result = result;
+}
 
 -- what is answered to this input
 abbrev pub run_answers : Run → List ℕ → List ℕ

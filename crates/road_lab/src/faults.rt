@@ -1,10 +1,11 @@
 //! How a run ends other than well.
 
 ghost use Rattle.std.specs.Prelude.{◌≡◌};
-ghost use Rattle.road_lab.specs.Faults.{early_fault, unanswered_fault};
+ghost use Rattle.road_lab.specs.Faults.{crew_fault, early_fault, unanswered_fault};
 ghost use Rattle.road_lab.specs.declared.faults.ServeFault.TheVariants.{OutOfMemory, Read, Write};
 
 use road_laboratory::LaboratoryFault;
+use road_workers::CrewFault;
 use std::alloc::{AllocError, AllocFailed};
 use thiserror::Error;
 
@@ -85,6 +86,17 @@ impl From<LaboratoryFault> for ServeFault {
         match failed {
             LaboratoryFault::WorkersGone => ServeFault::WorkersGone,
             LaboratoryFault::OutOfMemory => ServeFault::OutOfMemory,
+        }
+    }
+}
+
+impl From<CrewFault> for ServeFault {
+    ghost from_gives = { λ failed fault. fault ≡ crew_fault failed };
+
+    fn from(failed: CrewFault) -> ServeFault {
+        match failed {
+            CrewFault::WorkersGone => ServeFault::WorkersGone,
+            CrewFault::OutOfMemory => ServeFault::OutOfMemory,
         }
     }
 }

@@ -1,10 +1,9 @@
 //! Reads an input, and writes its replies.
 
 ghost use Rattle.std.specs.Prelude.{◌≡◌, ◌++◌, ℕ, List, length, min, take, true, None};
-ghost use Rattle.road_plan.specs.declared.limits.TheConstants.{MOST_LINES, MOST_BYTES};
 ghost use Rattle.road_lab.specs.Dialogue.{HasAnswered};
 ghost use Rattle.road_lab.specs.Faults.{gone_after_call};
-ghost use Rattle.road_lab.specs.Run.{AnswersInput};
+ghost use Rattle.road_lab.specs.Run.{AnswersInput, program_run};
 ghost use Rattle.road_lab.specs.StreamViews.{SinkView, source_view, sink_view};
 
 use crate::dialogue::Dialogue;
@@ -39,15 +38,8 @@ pub fn serve<R: Source, W: Sink, C: Crew>(
     writer: &mut W,
     crew: &mut C,
 ) -> Result<Served, ServeFault>
-    ensures answers { AnswersInput (record {
-      lines = MOST_LINES;
-      bytes = MOST_BYTES;
-      source_before = source_view R.Source reader.old;
-      source_after = source_view R.Source reader.new;
-      sink_before = sink_view W.Sink writer.old;
-      sink_after = sink_view W.Sink writer.new;
-      result = result;
-    }) }
+    ensures answers { AnswersInput (program_run (source_view R.Source reader.old) (source_view R.Source reader.new)
+        (sink_view W.Sink writer.old) (sink_view W.Sink writer.new) result) }
     ensures gone { C.gone crew.new ≡ gone_after_call result (C.gone crew.old) }
 {
     serve_within(alloc, reader, writer, crew, MOST_LINES, MOST_BYTES)

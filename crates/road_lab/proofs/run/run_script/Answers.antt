@@ -8,7 +8,7 @@ use Rattle.road_lab.proofs.run.run_script.Goals as goal
 pub returns-in-Err : goal.returns-in-Err
 returns-in-Err g c = (
   Err Read,
-  λ e. cc,
+  λ alone e. cc,
   unopened_source 0,
   unopened_source 1,
   record { status = c.after_fault.ensures; answers = unopened MOST_LINES MOST_BYTES (sink_view g.W.Sink c.args.writer.now) },
