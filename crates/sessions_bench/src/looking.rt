@@ -21,11 +21,18 @@ pub(crate) struct Done {
     pub(crate) nanoseconds: u128,
 }
 
-/// How often each does it, and the sessions that look and have not ended.
+/// How often readers look, how often the writer publishes at most, and how many steps more it has simulated each time.
+#[derive(Clone, Copy)]
+pub(crate) struct Work {
+    pub(crate) looks: u32,
+    pub(crate) writes: u32,
+    pub(crate) steps: u32,
+}
+
+/// What the sessions are to do, and how many that look have not ended.
 #[derive(Drop)]
 struct Task {
-    looks: u32,
-    writes: u32,
+    work: Work,
     looking: AtomicU64,
 }
 
@@ -36,7 +43,7 @@ fn looks<J: Naming, R: Wait + Drop>(
     task: &Task,
 ) -> u64 {
     let mut times = 0u64;
-    for _ in 0..task.looks {
+    for _ in 0..task.work.looks {
         if session.look(shared).is_ok() {
             times = times.saturating_add(1);
         }
@@ -53,12 +60,14 @@ fn publishes<J: Naming, R: Wait + Drop, W: Wait>(
     task: &Task,
 ) -> u64 {
     let mut times = 0u64;
-    for _ in 0..task.writes {
+    let mut to = 0u32;
+    for _ in 0..task.work.writes {
         if task.looking.load(Ordering::SeqCst) == 0 {
             break;
         }
+        to = to.saturating_add(task.work.steps);
         if session
-            .advance(rt, shared, 0, &mut Alone, &mut Meter::new())
+            .advance(rt, shared, to, &mut Alone, &mut Meter::new())
             .is_ok()
         {
             times = times.saturating_add(1);
@@ -104,14 +113,12 @@ pub(crate) fn timed<W: Threads + Wait + Clock + Sync>(
     alloc: Global,
     plan: Arc<Plan>,
     readers: u32,
-    looks: u32,
-    writes: u32,
+    work: Work,
 ) -> Result<Vec<Option<Done>>> {
     let readers = readers.min(7);
     let prepared = prepare(rt, alloc, plan, 0, readers + 1, 1_000_000)?;
     let task = Task {
-        looks,
-        writes,
+        work,
         looking: AtomicU64::new(u64::from(readers)),
     };
     all_done::<Brand, _, _>(rt, prepared, &task)

@@ -1,12 +1,13 @@
-//! Lets sessions work on threads of their own, on a free road of 12 cells.
+//! Lets sessions work on threads of their own, on a free road of 12 cells but where another is named.
 //!
 //! `sessions_bench merge WRITES RUNS`: eight sessions make WRITES writes each, an edit and an advance by turns, and look
 //! after each; RUNS times. It prints in how many runs the journal was the merge of their writes, and each look had the
 //! session's own.
 //!
-//! `sessions_bench looks READERS LOOKS WRITES`: 1 to 7 sessions make LOOKS looks each, while another one publishes again
-//! and again, at most WRITES times. It prints for each of them how often it did and the nanoseconds that it took, the
-//! writer first. Without words it does nothing.
+//! `sessions_bench looks READERS LOOKS WRITES`: 1 to 7 sessions make LOOKS looks each, while another one publishes the
+//! same road again and again, at most WRITES times. It prints for each of them how often it did and the nanoseconds that
+//! it took, the writer first. `sessions_bench steps READERS LOOKS WRITES` is the same on 8,192 cells with random
+//! slowing, where each write is one step more. Without words it does nothing.
 #![tactic(auto)]
 
 mod crowd;
@@ -14,15 +15,24 @@ mod looking;
 mod merge;
 
 use crate::crowd::merges;
-use crate::looking::timed;
+use crate::looking::{Work, timed};
 use anyhow::{Context, Result};
-use road_plan::Plan;
+use road_plan::{Plan, WordKind};
 use std::alloc::Global;
 use std::env;
 use std::sync::{Arc, Wait};
 use std::thread::Threads;
 use std::time::Clock;
-use tests_plans::{FREE, plan_of};
+use tests_plans::{FREE, Parts, plan_of};
+
+/// 8,192 cells with limit 5 and slowing chance one half, and an inlet at the first cell that always lets in.
+const LONG: Parts = Parts {
+    road: (8_192, 1, 8_192),
+    zones: &[(5, 32_768)],
+    inlets: &[(0, 65_536)],
+    detectors: &[],
+    words: WordKind::Seeded(7),
+};
 
 fn merge_all<R: Threads + Wait + Print + Sync>(
     rt: &R,
@@ -46,10 +56,9 @@ fn time_looks<R: Threads + Wait + Clock + Print + Sync>(
     alloc: Global,
     plan: Arc<Plan>,
     readers: u32,
-    looks: u32,
-    writes: u32,
+    work: Work,
 ) -> Result<()> {
-    for done in timed(rt, alloc, plan, readers, looks, writes)? {
+    for done in timed(rt, alloc, plan, readers, work)? {
         let done = done.context("no clock")?;
         println!(rt; "{} {}", done.times, done.nanoseconds)?;
     }
@@ -65,11 +74,20 @@ fn main(rt: HostRuntime) -> Result<()> {
     for word in words {
         numbers.push(word.parse::<u32>().context("no number")?)?;
     }
-    let plan = Arc::new(rt.alloc(), plan_of(rt.alloc(), &FREE)?)?;
+    let (parts, steps) = match what.as_str() {
+        "steps" => (LONG, 1),
+        _ => (FREE, 0),
+    };
+    let plan = Arc::new(rt.alloc(), plan_of(rt.alloc(), &parts)?)?;
     match (what.as_str(), numbers.as_slice()) {
         ("merge", [writes, runs]) => merge_all(&rt, rt.alloc(), &plan, *writes, *runs),
-        ("looks", [readers, looks, writes]) => {
-            time_looks(&rt, rt.alloc(), plan, *readers, *looks, *writes)
+        ("looks" | "steps", [readers, looks, writes]) => {
+            let work = Work {
+                looks: *looks,
+                writes: *writes,
+                steps,
+            };
+            time_looks(&rt, rt.alloc(), plan, *readers, work)
         }
         _ => Ok(()),
     }

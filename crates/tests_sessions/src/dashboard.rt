@@ -94,8 +94,12 @@ fn all_work<J: Naming + Send + Sync, R: Wait + Drop + Send, W: Threads + Wait + 
             )
         },
     );
-    let ((told, is_shown), (untold, rises)) = (told?, untold?);
-    Ok(([engineer?, told, untold], is_shown && rises))
+    match (engineer, told, untold) {
+        (Ok(engineer), Ok((told, is_shown)), Ok((untold, rises))) => {
+            Ok(([engineer, told, untold], is_shown && rises))
+        }
+        _ => Err(Fail::new("a write or a look was refused")),
+    }
 }
 
 // A store is opened, worked with and closed. What is left, where the dashboards saw what they should.
@@ -109,9 +113,13 @@ fn day<J: Naming + Send + Sync, R: Wait + Drop + Send, W: Threads + Wait + Sync>
     requires ledger { (prepared.ledger.name ≡ J.name) × (prepared.ledger.parts ≡ J.parts) }
 {
     let (shared, mut sessions) = open::<J, R>(prepared)?;
-    let untold = sessions.pop().ok_or("three sessions")?;
-    let told = sessions.pop().ok_or("three sessions")?;
-    let engineer = sessions.pop().ok_or("three sessions")?;
+    let (Some(untold), Some(told), Some(engineer)) = (
+        sessions.pop(),
+        sessions.pop(),
+        sessions.pop(),
+    ) else {
+        return Err(Fail::new("three sessions"));
+    };
     let (sessions, well) = all_work(rt, alloc, &shared, engineer, told, untold)?;
     match close(shared, Vec::from_array(alloc, sessions)?) {
         Ok(closed) if well => Ok(Some(closed)),

@@ -115,8 +115,9 @@ fn looks_meanwhile<J: Naming + Send + Sync, R: Wait + Drop + Send, W: Threads + 
     requires ledger { (prepared.ledger.name ≡ J.name) × (prepared.ledger.parts ≡ J.parts) }
 {
     let (shared, mut sessions) = open::<J, R>(prepared)?;
-    let reader = sessions.pop().ok_or("two sessions")?;
-    let mut writer = sessions.pop().ok_or("two sessions")?;
+    let (Some(reader), Some(mut writer)) = (sessions.pop(), sessions.pop()) else {
+        return Err(Fail::new("two sessions"));
+    };
     let first = writer.advance(rt, &shared, 6, &mut Alone, &mut Meter::new())?;
     if first.place != 0 {
         return Err(Fail::new("another place"));
