@@ -1,6 +1,8 @@
-//! Tests of crews of several workers.
+//! Tests of crews.
 #![tactic(auto)]
 
+#[cfg(test)]
+mod alone;
 #[cfg(test)]
 mod gates;
 #[cfg(test)]
