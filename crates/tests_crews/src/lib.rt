@@ -8,6 +8,8 @@ mod gates;
 #[cfg(test)]
 mod meetings;
 #[cfg(test)]
+mod refused;
+#[cfg(test)]
 mod rows;
 #[cfg(test)]
 mod workers;
