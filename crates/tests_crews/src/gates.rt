@@ -5,22 +5,25 @@ use std::alloc::AllocError;
 use std::sync::Arc;
 use std::sync::atomic::{AtomicBool, AtomicU32, Ordering};
 use std::thread;
+use std::time::{Clock, Duration};
 
-/// How often a worker looks for the other one.
-const TURNS: u32 = 1_000_000;
-
-/// Holds each of the workers 0 and 1 until the other has arrived, or the turns are used up.
+/// Holds each of the workers 0 and 1 until the other has arrived, or the turns are used up. A turn is a millisecond of
+/// sleep, so that a busy machine makes no turn long.
 #[derive(Drop)]
-pub(crate) struct Meeting {
+pub(crate) struct Meeting<R> {
+    rt: R,
+    turns: u32,
     has_first: AtomicBool,
     has_second: AtomicBool,
     missed: AtomicU32,
 }
 
-impl Meeting {
-    /// A gate at which nobody has arrived.
-    pub(crate) fn new() -> Meeting {
+impl<R: Clock> Meeting<R> {
+    /// A gate at which nobody has arrived. A worker looks for the other one in so many turns.
+    pub(crate) fn new(rt: R, turns: u32) -> Meeting<R> {
         Meeting {
+            rt,
+            turns,
             has_first: AtomicBool::new(false),
             has_second: AtomicBool::new(false),
             missed: AtomicU32::new(0),
@@ -38,7 +41,7 @@ impl Meeting {
     }
 }
 
-impl Gate for Meeting {
+impl<R: Clock> Gate for Meeting<R> {
     fn arrive(&self, worker: u32) {
         let own = if worker == 0 {
             &self.has_first
@@ -46,11 +49,11 @@ impl Gate for Meeting {
             &self.has_second
         };
         own.store(true, Ordering::SeqCst);
-        for _ in 0..TURNS {
+        for _ in 0..self.turns {
             if self.have_met() {
                 return;
             }
-            thread::yield_now();
+            thread::sleep(&self.rt, Duration::from_millis(1));
         }
         self.missed.fetch_add(1, Ordering::SeqCst);
     }
@@ -58,16 +61,16 @@ impl Gate for Meeting {
 
 /// A gate that a test shares with a crew.
 #[derive(Drop)]
-pub(crate) struct Shared(Arc<Meeting>);
+pub(crate) struct Shared<R>(Arc<Meeting<R>>);
 
-impl Shared {
+impl<R> Shared<R> {
     /// The same gate.
-    pub(crate) fn of(meeting: &Arc<Meeting>) -> Result<Shared, AllocError> {
+    pub(crate) fn of(meeting: &Arc<Meeting<R>>) -> Result<Shared<R>, AllocError> {
         Ok(Shared(Arc::try_clone(meeting)?))
     }
 }
 
-impl Gate for Shared {
+impl<R: Clock> Gate for Shared<R> {
     fn arrive(&self, worker: u32) {
         self.0.arrive(worker);
     }

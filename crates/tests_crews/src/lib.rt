@@ -1,10 +1,14 @@
-//! Tests of crews of several workers.
+//! Tests of crews.
 #![tactic(auto)]
 
+#[cfg(test)]
+mod alone;
 #[cfg(test)]
 mod gates;
 #[cfg(test)]
 mod meetings;
+#[cfg(test)]
+mod refused;
 #[cfg(test)]
 mod rows;
 #[cfg(test)]

@@ -9,23 +9,7 @@ use std::process::Abort;
 use std::sync::Wait;
 use std::test::Fail;
 use std::thread::Threads;
-use tests_plans::{DENSE, HALF_SLOWED};
-
-/// The rows of the dense road after each step.
-const DENSE_ROWS: &[&str] = &[
-    "0...1.0...1.0..0...1.0...1......",
-    "0..00..1.00..1..1.00..1.0.1.....",
-];
-
-/// The rows of the road with one inlet after each step.
-const HALF_SLOWED_ROWS: &[&str] = &[
-    "0...........",
-    "0...........",
-    ".1..........",
-    "0.1.........",
-    "0...2.......",
-    ".1...1......",
-];
+use tests_plans::{DENSE, DENSE_ROWS, HALF_SLOWED, HALF_SLOWED_ROWS};
 
 // By workers whose threads are made for each call.
 fn scoped_gives<R: Threads + Wait + Abort>(rt: &R, alloc: Global, workers: u32) -> Result<(), Fail>

@@ -1,4 +1,4 @@
-//! Plans and cars that the crates of tests share.
+//! Plans, their worked rows, and cars that the crates of tests share.
 #![tactic(auto)]
 
 ghost use Rattle.std.specs.Prelude.{◌≡◌};
@@ -38,6 +38,16 @@ pub const HALF_SLOWED: Parts = Parts {
     ..FREE
 };
 
+/// The rows of this road after each step from the first on.
+pub const HALF_SLOWED_ROWS: &[&str] = &[
+    "0...........",
+    "0...........",
+    ".1..........",
+    "0.1.........",
+    "0...2.......",
+    ".1...1......",
+];
+
 /// Nine inlets on 32 cells that always let in, limit 2, slowing chance one half by steady words.
 pub const DENSE: Parts = Parts {
     road: (32, 1, 32),
@@ -56,6 +66,12 @@ pub const DENSE: Parts = Parts {
     detectors: &[],
     words: WordKind::Steady,
 };
+
+/// The rows of this road after each step from the first on.
+pub const DENSE_ROWS: &[&str] = &[
+    "0...1.0...1.0..0...1.0...1......",
+    "0..00..1.00..1..1.00..1.0.1.....",
+];
 
 /// These parts, with memory of their own.
 ///

@@ -1,9 +1,10 @@
 //! A crew that fails, and what it leaves.
 
-use crate::replicas::{BLOCK, Entry, LIMIT, Write, holds, replica_after, shows, written};
+use crate::replicas::{BLOCK, Entry, LIMIT, Write, holds, opened, replica_after, shows, written};
+use road_detector::Totals;
 use road_ends::{Meter, StepInput};
-use road_replica::ReplicaFault;
-use road_scenario::Value;
+use road_replica::{Replica, ReplicaFault, Reply};
+use road_scenario::{Stamp, Value};
 use road_workers::{Crew, CrewFault};
 use std::alloc::Global;
 use std::sync::Arc;
@@ -68,6 +69,117 @@ fn lost_workers_leave_the_replica(rt: HostRuntime) -> Result<(), Fail> {
         for calls in 0..6 {
             assert!(&rt; leaves_it(rt.alloc(), write, calls)?);
         }
+    }
+    Ok(())
+}
+
+/// A run to step 6, and then the late edit that closes a cell of it. Each computes six steps.
+const RUN: [(Write, Reply); 2] = [
+    (Write::Advance(6), Reply::Horizon(6)),
+    (Write::Edit(BLOCK, 4, 1), Reply::Stamped(FIRST_STAMP)),
+];
+
+const FIRST_STAMP: Stamp = Stamp {
+    count: 1,
+    number: 0,
+};
+
+/// What a replica holds and shows: its edits, its rows from step 0 to its horizon, and what its detector counted.
+struct Shown {
+    held: &'static [Entry],
+    rows: &'static [&'static str],
+    totals: Totals,
+}
+
+/// What it is before each write of the run, and after the last one.
+const STAGES: [Shown; 3] = [
+    Shown {
+        held: &[],
+        rows: &["............"],
+        totals: Totals { cars: 0, speeds: 0 },
+    },
+    Shown {
+        held: &[],
+        rows: &[
+            "............",
+            ".1..........",
+            "0..2........",
+            ".1...2......",
+            "0..2...2....",
+            ".1...2...2..",
+            "0..2...2....",
+        ],
+        totals: Totals { cars: 2, speeds: 4 },
+    },
+    Shown {
+        held: &[(BLOCK, 4, (1, 0), Value::Put(1))],
+        rows: &[
+            "............",
+            ".1..........",
+            "0..2........",
+            ".1...2......",
+            "0..2...2#...",
+            ".1...2.0#...",
+            "0..2..10#...",
+        ],
+        totals: Totals { cars: 2, speeds: 4 },
+    },
+];
+
+// Whether a replica holds and shows just this.
+fn is_at(alloc: Global, replica: &Replica, stage: &Shown) -> Result<bool, Fail> {
+    let horizon = replica.sheet().horizon();
+    let rows = replica.rows(alloc, 0, horizon)?;
+    Ok(
+        rows.iter()
+            .map(String::as_str)
+            .eq(stage.rows.iter().copied())
+            && replica.totals(alloc, 0, 0, horizon)? == stage.totals
+            && holds(alloc, replica, stage.held)?,
+    )
+}
+
+// Whether a write is answered so, where the crew may fail once before it: the replica is then as it was, and the same
+// write is answered as if the crew had not failed.
+fn is_answered(
+    alloc: Global,
+    replica: &mut Replica,
+    crew: &mut Failing,
+    (write, wanted): (Write, Reply),
+    stage: &Shown,
+) -> Result<bool, Fail> {
+    let before = crew.gone;
+    let mut meter = Meter::new();
+    let mut answer = written(alloc, replica, write, crew, &mut meter);
+    if crew.gone != before {
+        let is_kept = answer == Err(ReplicaFault::WorkersGone) && is_at(alloc, replica, stage)?;
+        if !is_kept {
+            return Ok(false);
+        }
+        answer = written(alloc, replica, write, crew, &mut meter);
+    }
+    Ok(answer == Ok(wanted))
+}
+
+// Whether the run is answered as ever by a crew that fails after some calls, once.
+fn is_run(alloc: Global, calls: u64) -> Result<bool, Fail> {
+    let mut replica = opened(alloc, 0)?;
+    let mut crew = Failing {
+        calls_left: calls,
+        gone: 0,
+    };
+    for (step, stage) in RUN.iter().zip(&STAGES) {
+        if !is_answered(alloc, &mut replica, &mut crew, *step, stage)? {
+            return Ok(false);
+        }
+    }
+    Ok(crew.gone == 1 && is_at(alloc, &replica, &STAGES[2])?)
+}
+
+#[test]
+fn a_run_and_its_late_edit_outlive_a_worker_lost_at_any_call(rt: HostRuntime) -> Result<(), Fail> {
+    for calls in 0..12 {
+        assert!(&rt; is_run(rt.alloc(), calls)?, "after {calls} calls");
     }
     Ok(())
 }

@@ -1,8 +1,6 @@
-//! Tests of whole steps, of detectors and rows, and of crews.
+//! Tests of whole steps, of detectors and rows.
 #![tactic(auto)]
 
-#[cfg(test)]
-mod crews;
 #[cfg(test)]
 mod detector;
 #[cfg(test)]

@@ -1,0 +1,70 @@
+//! Runs of the dense road, each by a crew of its own.
+
+ghost use Rattle.std.specs.Prelude.{◌<◌, ◌≤◌};
+
+use anyhow::Result;
+use road_ends::Meter;
+use road_plan::Plan;
+use road_replica::Replica;
+use road_workers::{Crew, NoGate, Pool, Scoped};
+use std::alloc::Global;
+use std::sync::{Arc, Wait};
+use std::thread::Threads;
+use tests_plans::DENSE_ROWS;
+
+// Whether a crew takes the road through its worked rows.
+fn gives<C: Crew>(alloc: Global, plan: &Arc<Plan>, crew: &mut C) -> Result<bool> {
+    let mut replica = Replica::open(alloc, Arc::try_clone(plan)?, 0)?;
+    let last = DENSE_ROWS.len() as u32;
+    replica.advance(alloc, last, crew, &mut Meter::new())?;
+    let rows = replica.rows(alloc, 1, last)?;
+    Ok(
+        rows.iter()
+            .map(String::as_str)
+            .eq(DENSE_ROWS.iter().copied()),
+    )
+}
+
+/// How many of some runs give the worked rows, each by a new crew of threads made for each step.
+pub(crate) fn runs_by_threads<R: Threads + Wait>(
+    rt: &R,
+    alloc: Global,
+    plan: &Arc<Plan>,
+    workers: u32,
+    runs: u32,
+) -> Result<u32>
+    requires some { 0 < workers }
+    requires few { workers ≤ 16 }
+{
+    let mut good = 0u32;
+    for _ in 0..runs {
+        let mut crew = Scoped::new(rt, workers, Box::new(alloc, NoGate)?);
+        if gives(alloc, plan, &mut crew)? {
+            good = good.saturating_add(1);
+        }
+    }
+    Ok(good)
+}
+
+/// How many of some runs give the worked rows, each by a new crew of lasting workers.
+pub(crate) fn runs_by_pools<R: Threads + Wait + Clone + Drop + Send + 'static>(
+    rt: &R,
+    alloc: Global,
+    plan: &Arc<Plan>,
+    workers: u32,
+    runs: u32,
+) -> Result<u32>
+    requires some { 0 < workers }
+    requires few { workers ≤ 16 }
+{
+    let mut good = 0u32;
+    for _ in 0..runs {
+        let mut crew = Pool::start(rt.clone()?, alloc, workers)?;
+        let is_good = gives(alloc, plan, &mut crew);
+        crew.finish();
+        if is_good? {
+            good = good.saturating_add(1);
+        }
+    }
+    Ok(good)
+}
