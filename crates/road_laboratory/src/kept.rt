@@ -14,7 +14,9 @@ use std::sync::Arc;
 /// for each car that could move in them, and for each inlet.
 #[derive(Drop)]
 pub struct KeptRun {
+    /// The state.
     pub state: State,
+    /// The plan's words, of which some are drawn.
     pub words: DrawnWords,
 }
 
@@ -33,7 +35,8 @@ impl KeptRun {
 
     // Other edits are in force: the state is given up. The words are the plan's still, since no edit changes them.
     pub fn restart(&mut self, alloc: Global)
-        ensures { (before after : Sheet) → before.plan ≡ after.plan → IsKeptOf before self.old → IsKeptOf after self.new }
+        ensures { (before after : Sheet) → before.plan ≡ after.plan →
+            IsKeptOf before self.old → IsKeptOf after self.new }
     {
         self.state = State::opening(alloc);
     }
