@@ -70,8 +70,8 @@ impl Dice {
     }
 }
 
-// Whether a sheet shows the states that the run from step zero has, which goes on from each to the next; both by words
-// that are kept, and the sheet by words of its own too.
+// Whether a sheet shows the states that the run from step zero has, which goes on from each to the next; both by the same
+// words, which are kept.
 fn states_agree(alloc: Global, sheet: &Sheet) -> Result<bool, Fail> {
     sheet.known();
     let mut words = DrawnWords::of(alloc, sheet.plan());
@@ -86,9 +86,7 @@ fn states_agree(alloc: Global, sheet: &Sheet) -> Result<bool, Fail> {
             step,
             &mut words,
         )?;
-        let shown = sheet.state(alloc, step)?;
-        let again = sheet.state_with(alloc, step, &mut words)?;
-        if shown.cars() != last.road.cars() || again.cars() != last.road.cars() {
+        if sheet.state_with(alloc, step, &mut words)?.cars() != last.road.cars() {
             return Ok(false);
         }
     }
