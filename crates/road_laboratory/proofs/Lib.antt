@@ -1,4 +1,4 @@
 pub mod WinnersSuffice
-pub mod KeptStates
+pub mod KeptRuns
 pub mod Numbered
 pub mod Outcomes

@@ -1,25 +1,24 @@
--- What holds of a laboratory, and of the last states that are kept of its replicas.
-use Rattle.std.specs.Prelude.{◌≡◌, ℕ, List, [], length}
+-- What holds of a laboratory, and of what is kept of the runs of its replicas.
+use Rattle.std.specs.Prelude.{◌≡◌, ℕ, List, length}
 use Rattle.std.specs.List.{slice_get}
 use Rattle.std.specs.declared.option.Option.TheVariants.{Some}
-use Rattle.road_sheet.specs.Sheets.{state_of}
-use Rattle.road_sheet.specs.declared.simulation.State.{State}
+use Rattle.road_sheet.specs.Sheets.{Sheet, state_of}
 use Rattle.road_world.specs.Answers.{sheet_at}
 use Rattle.road_world.specs.Events.{World, world_of_winners}
+use Rattle.road_laboratory.specs.declared.kept.KeptRun.{KeptRun}
 
--- the empty road of step 0
-pub record IsOpening (state : State) : Type 0 where
-  pub step : state.step ≡ 0
-  pub road : state.road ≡ []
+-- what is kept of the run that a sheet shows: a state of it, and words of its plan
+pub record IsKeptOf (sheet : Sheet) (kept : KeptRun) : Type 0 where
+  pub run : kept.state.road ≡ state_of sheet kept.state.step
+  pub words : kept.words ≡ sheet.plan.words
 
--- each state is one of the run of its replica
-abbrev pub AreStates : World → List State → Type 0
-AreStates w last =
-    (r : ℕ) (state : State) → slice_get last r ≡ Some state → state.road ≡ state_of (sheet_at w r) state.step
+-- of each replica something of its run is kept
+abbrev pub AreKeptOf : World → List KeptRun → Type 0
+AreKeptOf w runs = (r : ℕ) (kept : KeptRun) → slice_get runs r ≡ Some kept → IsKeptOf (sheet_at w r) kept
 
--- each name has a replica, and each replica a state of its run; replicas and messages have winners alone
-pub record IsKept (names : List (List ℕ)) (w : World) (last : List State) : Type 0 where
+-- each name has a replica, and of each replica something is kept; replicas and messages have winners alone
+pub record IsKept (names : List (List ℕ)) (w : World) (runs : List KeptRun) : Type 0 where
   pub replicas : length w.replicas ≡ length names
   pub winners : world_of_winners w ≡ w
-  pub each : length last ≡ length names
-  pub states : AreStates w last
+  pub each : length runs ≡ length names
+  pub kept : AreKeptOf w runs

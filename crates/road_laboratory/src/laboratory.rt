@@ -1,18 +1,20 @@
 //! A world with names, and its answers to commands.
 
 ghost use Rattle.std.specs.Prelude.{◌≡◌, ◌<◌, ◌≤◌, ◌++◌, ◌∷◌, [], IfNone, IfOk, IfSome, None, OnErr, OnOk, Some, length, ℕ};
+ghost use Rattle.std.specs.Arc.{arc_value};
 ghost use Rattle.std.specs.List.{All, IsDistinct, slice_get};
 ghost use Rattle.std.specs.Str.{bytes_eq};
 ghost use Rattle.lattice_core.specs.Sets.{items};
 ghost use Rattle.road_plan.specs.declared.limits.TheConstants.{MOST_REPLICAS};
 ghost use Rattle.road_delta.specs.Deltas as deltas;
+ghost use Rattle.road_sheet.specs.Sheets.{Sheet};
 ghost use Rattle.road_world.specs.Answers.{IsAnswer, fault_at_replica, gone_after_answer, heads_wanted_fault};
 ghost use Rattle.road_world.specs.Answers.{replica_number, reply_to_event, sheet_at};
 ghost use Rattle.road_world.specs.Events.{asked_heads, world_after_event};
 ghost use Rattle.road_world.specs.declared.faults.WorldFault.TheVariants.{NoMessage};
 ghost use Rattle.road_format.specs.Replies as replies;
 ghost use Rattle.road_format.specs.Views.{answer_view, command_view, plan_line_view, texts};
-ghost use Rattle.road_laboratory.specs.Keeping.{IsOpening};
+ghost use Rattle.road_laboratory.specs.Keeping.{IsKeptOf};
 ghost use Rattle.road_laboratory.specs.Laboratory.{answer_to, beyond_outcome, change_outcome, edits_held, gone_after};
 ghost use Rattle.road_laboratory.specs.Laboratory.{heads_outcome, import_outcome, laboratory_after};
 ghost use Rattle.road_laboratory.specs.Laboratory.{laboratory_of_winners, number_of, opening_laboratory, outcome_at};
@@ -21,6 +23,7 @@ ghost use Rattle.road_laboratory.specs.Private.Changes.{reply_answer};
 ghost use Rattle.road_laboratory.specs.Private.Questions.{answer_to_question};
 
 use crate::faults::LaboratoryFault;
+use crate::kept::KeptRun;
 use crate::names::Names;
 use crate::question::Question;
 use crate::translation::{answer_of, fault_by, keeps_edits, name_of, refusal_of};
@@ -28,10 +31,9 @@ use crate::view::answer;
 use road_delta::{Head, beyond, heads_of};
 use road_ends::Meter;
 use road_format::{Answer, Command, PlanLine, Refusal};
-use road_plan::OutOfMemory;
+use road_plan::{OutOfMemory, Plan};
 use road_replica::Reply;
 use road_scenario::Edit;
-use road_sheet::simulation::State;
 use road_workers::Crew;
 use road_world::{Event, Message, World, WorldFault};
 use std::alloc::Global;
@@ -39,13 +41,13 @@ use std::marker::Model;
 use std::sync::Arc;
 
 /// A world whose replicas and messages have names. Of each replica the last state that was computed for a question is
-/// kept too, until the replica's edits change.
+/// kept too, until the replica's edits change, and the words that were drawn for it: some 140 bytes for each of its cars.
 #[derive(Drop)]
 pub struct Laboratory {
     replicas: Names,
     messages: Names,
     world: World,
-    last: Vec<State>,
+    runs: Vec<KeptRun>,
     meter: Meter,
 }
 
@@ -65,7 +67,7 @@ impl Model for Laboratory {
       world = lab.world;
     } };
 
-    ghost invariant = { λ lab. IsKept lab.replicas lab.world lab.last.items };
+    ghost invariant = { λ lab. IsKept lab.replicas lab.world lab.runs.items };
 }
 
 impl Laboratory {
@@ -82,13 +84,13 @@ impl Laboratory {
         let replicas = Names::of(alloc, line.names)?;
         let count = replicas.len();
         let plan = Arc::new(alloc, line.plan)?;
+        let runs = opening_runs(alloc, &plan, count)?;
         let world = World::open(alloc, plan, count as u32)?;
-        let last = opening_states(alloc, count)?;
         Ok(Laboratory {
             replicas,
             messages: Names::none(alloc),
             world,
-            last,
+            runs,
             meter: Meter::new(),
         })
     }
@@ -227,8 +229,8 @@ impl Laboratory {
         let Some(replica) = self.world.replica(at) else {
             return Ok(Answer::Refused(Refusal::NoReplica));
         };
-        let last = &mut self.last[at as usize];
-        Ok(answer(alloc, replica.sheet(), last, question)?)
+        let kept = &mut self.runs[at as usize];
+        Ok(answer(alloc, replica.sheet(), kept, question)?)
     }
 
     // ---- changes
@@ -489,20 +491,21 @@ impl Laboratory {
     {
         let reply = self.world.apply(alloc, event, crew, &mut self.meter)?;
         if !keeps_edits(event) {
-            self.last[event.replica() as usize] = State::opening(alloc);
+            self.runs[event.replica() as usize].restart(alloc);
         }
         Ok(reply)
     }
 }
 
-// The states of replicas before any command: empty roads.
-fn opening_states(alloc: Global, count: usize) -> Result<Vec<State>, OutOfMemory>
-    ensures each { IfOk result (λ states. length states.items ≡ count) }
-    ensures empty { IfOk result (λ states. All IsOpening states.items) }
+// What is kept of the runs of replicas before any command.
+fn opening_runs(alloc: Global, plan: &Arc<Plan>, count: usize) -> Result<Vec<KeptRun>, OutOfMemory>
+    ensures each { IfOk result (λ runs. length runs.items ≡ count) }
+    ensures kept { IfOk result (λ runs. (sheet : Sheet) → sheet.plan ≡ arc_value plan.now →
+        All (IsKeptOf sheet) runs.items) }
 {
-    let mut states = Vec::with_capacity(alloc, count)?;
+    let mut runs = Vec::with_capacity(alloc, count)?;
     for made in 0..count {
-        states.push(State::opening(alloc))?;
+        runs.push(KeptRun::opening(alloc, plan))?;
     }
-    Ok(states)
+    Ok(runs)
 }

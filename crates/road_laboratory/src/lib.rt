@@ -13,6 +13,7 @@
 #![tactic(auto)]
 
 mod faults;
+mod kept;
 mod laboratory;
 mod names;
 mod question;

@@ -1,15 +1,18 @@
-//! What a replica shows: its sheet, and the last state of its road that was computed. A question goes on from the nearest
-//! state that is known, so questions at rising steps compute no step twice.
+//! What a replica shows: its sheet, and what is kept of its run. A question goes on from the nearest state that is known,
+//! by the words that are drawn, so questions at rising steps compute no step twice and draw no word twice.
 
 ghost use Rattle.std.specs.Prelude.{◌≡◌, ◌<◌, ◌≤◌, IfOk, length, map};
 ghost use Rattle.road_sheet.specs.Sheets.{state_of, total_of};
 ghost use Rattle.road_format.specs.Views.{answer_view, car_view};
+ghost use Rattle.road_laboratory.specs.Keeping.{IsKeptOf};
 ghost use Rattle.road_laboratory.specs.Laboratory.{cars_answer, cars_of_state, cells_answer, count_answer, diagram_answer, scenario_answer};
 ghost use Rattle.road_laboratory.specs.Private.Questions.{answer_to_question};
 
+use crate::kept::KeptRun;
 use crate::question::Question;
 use road_cells::Car;
 use road_detector::Totals;
+use road_ends::DrawnWords;
 use road_format::{Answer, Refusal};
 use road_plan::OutOfMemory;
 use road_plan::limits::MOST_ROWS;
@@ -21,54 +24,54 @@ use std::alloc::Global;
 // takes two blocks' steps at most, and the state after it one.
 const MOST_COUNTED_STEPS: u32 = 3 * BLOCK_STEPS;
 
-// What a question is answered. The last state becomes the one that was computed last for it.
+// What a question is answered. What is kept becomes the state that was computed last for it, and the words drawn.
 pub fn answer(
     alloc: Global,
     sheet: &Sheet,
-    last: &mut State,
+    kept: &mut KeptRun,
     question: Question,
 ) -> Result<Answer, OutOfMemory>
-    requires { last.old.road ≡ state_of sheet.now last.old.step }
+    requires { IsKeptOf sheet.now kept.old }
     ensures answer { IfOk result (λ answer. answer_view answer ≡ answer_to_question sheet.now question) }
-    ensures run { last.new.road ≡ state_of sheet.now last.new.step }
+    ensures kept { IsKeptOf sheet.now kept.new }
 {
     match question {
-        Question::Cells { step } => cells(alloc, sheet, last, step),
-        Question::Cars { step } => cars(alloc, sheet, last, step),
-        Question::Count { detector, from, to } => count(alloc, sheet, last, detector, from, to),
-        Question::Diagram { from, to } => diagram(alloc, sheet, last, from, to),
+        Question::Cells { step } => cells(alloc, sheet, kept, step),
+        Question::Cars { step } => cars(alloc, sheet, kept, step),
+        Question::Count { detector, from, to } => count(alloc, sheet, kept, detector, from, to),
+        Question::Diagram { from, to } => diagram(alloc, sheet, kept, from, to),
         Question::Scenario => scenario(alloc, sheet),
     }
 }
 
 // The row of a step.
-fn cells(alloc: Global, sheet: &Sheet, last: &mut State, step: u32) -> Result<Answer, OutOfMemory>
-    requires { last.old.road ≡ state_of sheet.now last.old.step }
+fn cells(alloc: Global, sheet: &Sheet, kept: &mut KeptRun, step: u32) -> Result<Answer, OutOfMemory>
+    requires { IsKeptOf sheet.now kept.old }
     ensures answer { IfOk result (λ answer. answer_view answer ≡ cells_answer sheet.now step) }
-    ensures run { last.new.road ≡ state_of sheet.now last.new.step }
+    ensures kept { IsKeptOf sheet.now kept.new }
 {
     if sheet.horizon() < step {
         return Ok(Answer::Refused(Refusal::NotSimulated));
     }
     sheet.known();
-    let state = state_near(alloc, sheet, last, step)?;
+    let state = state_near(alloc, sheet, kept, step)?;
     let row = row_of(alloc, sheet.plan(), sheet.scenario(), &state)?;
-    *last = state;
+    kept.state = state;
     Ok(Answer::Cells(row))
 }
 
 // The cars of a step.
-fn cars(alloc: Global, sheet: &Sheet, last: &mut State, step: u32) -> Result<Answer, OutOfMemory>
-    requires { last.old.road ≡ state_of sheet.now last.old.step }
+fn cars(alloc: Global, sheet: &Sheet, kept: &mut KeptRun, step: u32) -> Result<Answer, OutOfMemory>
+    requires { IsKeptOf sheet.now kept.old }
     ensures answer { IfOk result (λ answer. answer_view answer ≡ cars_answer sheet.now step) }
-    ensures run { last.new.road ≡ state_of sheet.now last.new.step }
+    ensures kept { IsKeptOf sheet.now kept.new }
 {
     if sheet.horizon() < step {
         return Ok(Answer::Refused(Refusal::NotSimulated));
     }
-    let state = state_near(alloc, sheet, last, step)?;
+    let state = state_near(alloc, sheet, kept, step)?;
     let cars = cars_in(&state)?;
-    *last = state;
+    kept.state = state;
     Ok(Answer::Cars(cars))
 }
 
@@ -83,14 +86,14 @@ fn cars_in(state: &State) -> Result<Vec<Car>, OutOfMemory>
 fn count(
     alloc: Global,
     sheet: &Sheet,
-    last: &mut State,
+    kept: &mut KeptRun,
     detector: u32,
     from: u32,
     to: u32,
 ) -> Result<Answer, OutOfMemory>
-    requires { last.old.road ≡ state_of sheet.now last.old.step }
+    requires { IsKeptOf sheet.now kept.old }
     ensures answer { IfOk result (λ answer. answer_view answer ≡ count_answer sheet.now detector from to) }
-    ensures run { last.new.road ≡ state_of sheet.now last.new.step }
+    ensures kept { IsKeptOf sheet.now kept.new }
 {
     if detector as usize >= sheet.plan().detectors().len() {
         return Ok(Answer::Refused(Refusal::NoDetector));
@@ -101,8 +104,8 @@ fn count(
     if sheet.horizon() < to {
         return Ok(Answer::Refused(Refusal::NotSimulated));
     }
-    let (totals, state) = totals_near(alloc, sheet, last, detector, from, to)?;
-    *last = state;
+    let (totals, state) = totals_near(alloc, sheet, kept, detector, from, to)?;
+    kept.state = state;
     Ok(Answer::Counted {
         cars: totals.cars,
         speeds: totals.speeds,
@@ -113,13 +116,13 @@ fn count(
 fn diagram(
     alloc: Global,
     sheet: &Sheet,
-    last: &mut State,
+    kept: &mut KeptRun,
     from: u32,
     to: u32,
 ) -> Result<Answer, OutOfMemory>
-    requires { last.old.road ≡ state_of sheet.now last.old.step }
+    requires { IsKeptOf sheet.now kept.old }
     ensures answer { IfOk result (λ answer. answer_view answer ≡ diagram_answer sheet.now from to) }
-    ensures run { last.new.road ≡ state_of sheet.now last.new.step }
+    ensures kept { IsKeptOf sheet.now kept.new }
 {
     if from > to || to - from >= MOST_ROWS {
         return Ok(Answer::Refused(Refusal::Range));
@@ -128,9 +131,16 @@ fn diagram(
         return Ok(Answer::Refused(Refusal::NotSimulated));
     }
     sheet.known();
-    let first = state_near(alloc, sheet, last, from)?;
-    let (rows, state) = rows_between(alloc, sheet.plan(), sheet.scenario(), first, to)?;
-    *last = state;
+    let first = state_near(alloc, sheet, kept, from)?;
+    let (rows, state) = rows_between(
+        alloc,
+        sheet.plan(),
+        sheet.scenario(),
+        first,
+        to,
+        &mut kept.words,
+    )?;
+    kept.state = state;
     Ok(Answer::Rows(rows))
 }
 
@@ -143,19 +153,34 @@ fn scenario(alloc: Global, sheet: &Sheet) -> Result<Answer, OutOfMemory>
 }
 
 // The state at a step: from the last one where that is the nearest before it, and else from what the sheet keeps, the
-// road at the first step of each block and at the horizon.
-fn state_near(alloc: Global, sheet: &Sheet, last: &State, step: u32) -> Result<State, OutOfMemory>
-    requires run { last.now.road ≡ state_of sheet.now last.now.step }
+// road at the first step of each block and at the horizon. Words drawn for another way through the block are let go then.
+fn state_near(
+    alloc: Global,
+    sheet: &Sheet,
+    kept: &mut KeptRun,
+    step: u32,
+) -> Result<State, OutOfMemory>
+    requires kept { IsKeptOf sheet.now kept.old }
     requires simulated { step ≤ sheet.now.horizon }
     ensures step { IfOk result (λ state. state.step ≡ step) }
     ensures road { IfOk result (λ state. state.road ≡ state_of sheet.now step) }
+    ensures kept { IsKeptOf sheet.now kept.new }
 {
-    let is_nearest = last.step <= step && step - last.step <= step % BLOCK_STEPS;
+    let last = &kept.state;
+    let is_nearest = last.step <= step && step - last.step < step % BLOCK_STEPS;
     if is_nearest && step < sheet.horizon() {
         sheet.known();
-        return state_at(alloc, sheet.plan(), sheet.scenario(), last, step);
+        return state_at(
+            alloc,
+            sheet.plan(),
+            sheet.scenario(),
+            last,
+            step,
+            &mut kept.words,
+        );
     }
-    match sheet.state(alloc, step) {
+    kept.words = DrawnWords::of(alloc, sheet.plan());
+    match sheet.state_with(alloc, step, &mut kept.words) {
         Ok(road) => Ok(State { step, road }),
         Err(_) => Err(OutOfMemory),
     }
@@ -165,26 +190,35 @@ fn state_near(alloc: Global, sheet: &Sheet, last: &State, step: u32) -> Result<S
 fn totals_near(
     alloc: Global,
     sheet: &Sheet,
-    last: &State,
+    kept: &mut KeptRun,
     detector: u32,
     from: u32,
     to: u32,
 ) -> Result<(Totals, State), OutOfMemory>
-    requires run { last.now.road ≡ state_of sheet.now last.now.step }
+    requires kept { IsKeptOf sheet.now kept.old }
     requires in_plan { detector < length sheet.now.plan.detectors }
     requires order { from ≤ to }
     requires simulated { to ≤ sheet.now.horizon }
     ensures totals { IfOk result (λ seen. seen.0 ≡ total_of sheet.now detector from to) }
     ensures road { IfOk result (λ seen. seen.1.road ≡ state_of sheet.now seen.1.step) }
+    ensures kept { IsKeptOf sheet.now kept.new }
 {
     if to - from <= MOST_COUNTED_STEPS {
         sheet.known();
-        let first = state_near(alloc, sheet, last, from)?;
-        return totals_between(alloc, sheet.plan(), sheet.scenario(), first, detector, to);
+        let first = state_near(alloc, sheet, kept, from)?;
+        return totals_between(
+            alloc,
+            sheet.plan(),
+            sheet.scenario(),
+            first,
+            detector,
+            to,
+            &mut kept.words,
+        );
     }
     let Ok(totals) = sheet.totals(alloc, detector, from, to) else {
         return Err(OutOfMemory);
     };
-    let state = state_near(alloc, sheet, last, to)?;
+    let state = state_near(alloc, sheet, kept, to)?;
     Ok((totals, state))
 }

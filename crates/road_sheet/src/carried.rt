@@ -1,4 +1,4 @@
-//! What a run carries from a step to the next, so that it is not made anew.
+//! The settings that a run carries from a step to the next, so that they are not made anew.
 
 ghost use Rattle.std.specs.Prelude.{◌≡◌, ◌<◌, ◌≤◌, ℕ, IfOk, IfSome};
 ghost use Rattle.std.specs.Arc.{arc_value};
@@ -8,7 +8,6 @@ ghost use Rattle.road_scenario.specs.Edits.{Edits};
 ghost use Rattle.road_scenario.specs.Faults.{AreInRange};
 ghost use Rattle.road_scenario.specs.Settings.{settings_of};
 
-use road_ends::DrawnWords;
 use road_plan::{OutOfMemory, Plan, Settings};
 use road_scenario::Scenario;
 use std::alloc::Global;
@@ -35,29 +34,24 @@ impl InForce {
     }
 }
 
-/// What a run carries from a step to the next: words that are drawn, and the last settings.
+/// The settings that a run carries from a step to the next: those that it made last, if any.
 #[derive(Drop)]
-pub(crate) struct Carried {
-    pub(crate) words: DrawnWords,
-    settings: Option<InForce>,
+pub(crate) struct CarriedSettings {
+    last: Option<InForce>,
 }
 
-impl Carried {
-    ghost use Rattle.road_sheet.specs.Private.CarriedSettings.{IsCarried};
+impl CarriedSettings {
+    ghost use Rattle.road_sheet.specs.Private.CarriedSettings.{AreCarried};
 
-    // What a run by these edits carries before its first step: nothing. It takes no memory.
-    pub(crate) fn of(alloc: Global, plan: &Arc<Plan>, scenario: &Scenario) -> Carried
-        ensures { IsCarried (arc_value plan.now) scenario.now result }
+    // Before the first step there are none.
+    pub(crate) fn none() -> CarriedSettings
+        ensures { (plan : Plan) (edits : Edits) → AreCarried plan edits result }
     {
-        let _ = scenario;
-        Carried {
-            words: DrawnWords::of(alloc, plan),
-            settings: None,
-        }
+        CarriedSettings { last: None }
     }
 
     // The settings of a step: the last ones where no edit is dated since, and else made anew.
-    pub(crate) fn settings(
+    pub(crate) fn at(
         &mut self,
         alloc: Global,
         plan: &Arc<Plan>,
@@ -65,11 +59,11 @@ impl Carried {
         step: u32,
     ) -> Result<Arc<Settings>, OutOfMemory>
         requires fits { AreInRange (arc_value plan.now) scenario.now }
-        requires carried { IsCarried (arc_value plan.now) scenario.now self.old }
+        requires carried { AreCarried (arc_value plan.now) scenario.now self.old }
         ensures settings { IfOk result (λ settings.
             arc_value settings ≡ settings_of (arc_value plan.now) scenario.now step) }
         ensures fits { IfOk result (λ settings. Fits (arc_value plan.now) (arc_value settings)) }
-        ensures carried { IsCarried (arc_value plan.now) scenario.now self.new }
+        ensures carried { AreCarried (arc_value plan.now) scenario.now self.new }
     {
         if let Some(settings) = self.kept(step)? {
             return Ok(settings);
@@ -79,11 +73,11 @@ impl Carried {
 
     // The last settings, where they are in force at a step.
     fn kept(&self, step: u32) -> Result<Option<Arc<Settings>>, OutOfMemory>
-        ensures { (plan : Plan) (edits : Edits) → IsCarried plan edits self.now → IfOk result (λ found.
+        ensures { (plan : Plan) (edits : Edits) → AreCarried plan edits self.now → IfOk result (λ found.
             IfSome found (λ settings. (arc_value settings ≡ settings_of plan edits step)
             × Fits plan (arc_value settings))) }
     {
-        match &self.settings {
+        match &self.last {
             Some(kept) => kept.at(step),
             None => Ok(None),
         }
@@ -98,15 +92,15 @@ impl Carried {
         step: u32,
     ) -> Result<Arc<Settings>, OutOfMemory>
         requires fits { AreInRange (arc_value plan.now) scenario.now }
-        requires carried { IsCarried (arc_value plan.now) scenario.now self.old }
+        requires carried { AreCarried (arc_value plan.now) scenario.now self.old }
         ensures settings { IfOk result (λ settings.
             arc_value settings ≡ settings_of (arc_value plan.now) scenario.now step) }
         ensures fits { IfOk result (λ settings. Fits (arc_value plan.now) (arc_value settings)) }
-        ensures carried { IsCarried (arc_value plan.now) scenario.now self.new }
+        ensures carried { AreCarried (arc_value plan.now) scenario.now self.new }
     {
         let settings = Arc::new(alloc, scenario.settings_at(alloc, plan, step)?)?;
         let shared = Arc::try_clone(&settings)?;
-        self.settings = Some(InForce {
+        self.last = Some(InForce {
             settings,
             from: step,
             until: until(scenario, step),

@@ -4,9 +4,9 @@ ghost use Rattle.road_plan.specs.declared.limits.TheConstants.{GREATEST_HORIZON}
 ghost use Rattle.road_ends.specs.Input.{input_speeds};
 ghost use Rattle.road_sheet.specs.Sheets.{next_input, sheet_after_step};
 
-use crate::carried::Carried;
+use crate::carried::CarriedSettings;
 use crate::sheet::Sheet;
-use road_ends::StepInput;
+use road_ends::{DrawnWords, StepInput};
 use road_plan::OutOfMemory;
 use std::alloc::Global;
 use std::marker::Model;
@@ -16,10 +16,12 @@ use std::sync::Arc;
 #[derive(Drop)]
 pub struct Draft {
     pub(crate) sheet: Sheet,
-    pub(crate) carried: Carried,
+    pub(crate) settings: CarriedSettings,
+    pub(crate) words: DrawnWords,
 }
 
 impl Model for Draft {
+    ghost use Rattle.std.specs.Prelude.{◌≡◌};
     ghost use Rattle.std.specs.Coded.{codes};
     ghost use Rattle.road_scenario.specs.Instances.EditOrder.{edits_code};
     ghost use Rattle.road_sheet.specs.Sheets.{Sheet};
@@ -30,9 +32,9 @@ impl Model for Draft {
 
     ghost view = { λ d. d.sheet };
 
-    ghost use Rattle.road_sheet.specs.Private.CarriedSettings.{IsCarried};
+    ghost use Rattle.road_sheet.specs.Private.CarriedSettings.{AreCarried};
 
-    ghost invariant = { λ d. IsCarried d.sheet.plan d.sheet.edits d.carried };
+    ghost invariant = { λ d. AreCarried d.sheet.plan d.sheet.edits d.settings × (d.words ≡ d.sheet.plan.words) };
 }
 
 impl Draft {
@@ -52,7 +54,8 @@ impl Draft {
         ensures input { IfOk result (λ input. arc_value input ≡ next_input self.old) }
         ensures unchanged { self.new ≡ self.old }
     {
-        self.sheet.next_input(alloc, &mut self.carried)
+        self.sheet
+            .next_input(alloc, &mut self.settings, &mut self.words)
     }
 
     /// One step more, from its input and the new speeds of its cars.

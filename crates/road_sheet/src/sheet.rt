@@ -11,11 +11,11 @@ ghost use Rattle.road_sheet.specs.Sheets.{IsSheet, opening_sheet, state_of, tota
 ghost use Rattle.road_sheet.specs.Sheets.{IsRefusalBy, state_fault, totals_fault};
 
 use crate::block::{BLOCK_STEPS, Block};
-use crate::carried::Carried;
+use crate::carried::CarriedSettings;
 use crate::checkpoint::Checkpoint;
 use crate::draft::Draft;
 use crate::faults::SheetFault;
-use crate::simulation::{State, run_on, totals_on};
+use crate::simulation::{State, run_on, totals_between};
 use lattice_core::both::Both;
 use lattice_core::greatest::Greatest;
 use lattice_core::lattice::Lattice;
@@ -23,7 +23,7 @@ use road_cells::Road;
 use road_detector::Totals;
 use road_detector::laws::{cars_pass_one_by_one, totals_are_bounded};
 use road_ends::laws::{cars_stay_on_road, runs_depend_on_earlier_settings};
-use road_ends::{StepInput, enter_with, finish};
+use road_ends::{DrawnWords, StepInput, enter_with, finish};
 use road_plan::{OutOfMemory, Plan};
 use road_scenario::Scenario;
 use road_scenario::laws::settings_stay_before_touched;
@@ -69,7 +69,7 @@ impl Model for Sheet {
 }
 
 impl Sheet {
-    ghost use Rattle.road_sheet.specs.Private.CarriedSettings.{IsCarried};
+    ghost use Rattle.road_sheet.specs.Private.CarriedSettings.{AreCarried};
 
     /// The sheet without edits, of which no step is simulated.
     ///
@@ -134,10 +134,33 @@ impl Sheet {
         ensures accepted { IfOk result (λ _. state_fault self.now step ≡ None) }
         ensures refused { IfErr result (λ fault. IsRefusalBy (state_fault self.now step) fault) }
     {
+        let mut words = DrawnWords::of(alloc, &self.plan);
+        self.state_with(alloc, step, &mut words)
+    }
+
+    /// The road at a step, as [`Sheet::state`], by words that whoever asks keeps: what is drawn for it serves to go on from
+    /// there. The words must be the plan's.
+    ///
+    /// # Errors
+    ///
+    /// `NotSimulated` where the step is above the horizon, else `OutOfMemory` where a growth was refused. The words are the
+    /// plan's as before.
+    pub fn state_with(
+        &self,
+        alloc: Global,
+        step: u32,
+        words: &mut DrawnWords,
+    ) -> Result<Road, SheetFault>
+        requires words { words.old ≡ self.now.plan.words }
+        ensures state { IfOk result (λ road. road ≡ state_of self.now step) }
+        ensures accepted { IfOk result (λ _. state_fault self.now step ≡ None) }
+        ensures refused { IfErr result (λ fault. IsRefusalBy (state_fault self.now step) fault) }
+        ensures unchanged { words.new ≡ words.old }
+    {
         if self.horizon() < step {
             return Err(SheetFault::NotSimulated);
         }
-        Ok(self.road_at(alloc, step)?)
+        Ok(self.road_at(alloc, step, words)?)
     }
 
     /// What a detector counts in the steps from one up to another, that one not among them. The steps of the blocks
@@ -171,16 +194,17 @@ impl Sheet {
     }
 
     // The road at a step.
-    fn road_at(&self, alloc: Global, step: u32) -> Result<Road, OutOfMemory>
+    fn road_at(&self, alloc: Global, step: u32, words: &mut DrawnWords) -> Result<Road, OutOfMemory>
         requires simulated { step ≤ self.now.horizon }
-        ensures { IfOk result (λ road. road ≡ state_of self.now step) }
+        requires words { words.old ≡ self.now.plan.words }
+        ensures road { IfOk result (λ road. road ≡ state_of self.now step) }
+        ensures unchanged { words.new ≡ words.old }
     {
         if step == self.horizon() {
             return self.last.copied();
         }
         let block = step / BLOCK_STEPS;
-        let mut carried = self.carried(alloc);
-        let state = self.state_in(alloc, block, step, &mut carried)?;
+        let state = self.state_in(alloc, block, step, words)?;
         Ok(state.road)
     }
 
@@ -190,26 +214,20 @@ impl Sheet {
         alloc: Global,
         block: u32,
         step: u32,
-        carried: &mut Carried,
+        words: &mut DrawnWords,
     ) -> Result<State, OutOfMemory>
         requires begun { BLOCK_STEPS * block ≤ step }
         requires simulated { step ≤ self.now.horizon }
-        requires carried { IsCarried self.now.plan self.now.edits carried.old }
+        requires words { words.old ≡ self.now.plan.words }
         ensures step { IfOk result (λ state. state.step ≡ step) }
         ensures road { IfOk result (λ state. state.road ≡ state_of self.now step) }
-        ensures carried { IsCarried self.now.plan self.now.edits carried.new }
+        ensures unchanged { words.new ≡ words.old }
     {
-        let start = self.block(block as usize).start.road(alloc)?;
-        let first = block * BLOCK_STEPS;
-        run_on(
-            alloc,
-            &self.plan,
-            &self.known.first,
-            first,
-            start,
-            step,
-            carried,
-        )
+        let first = State {
+            step: block * BLOCK_STEPS,
+            road: self.block(block as usize).start.road(alloc)?,
+        };
+        run_on(alloc, &self.plan, &self.known.first, first, step, words)
     }
 
     // A block.
@@ -273,16 +291,16 @@ impl Sheet {
         if from == first && to == end {
             return Ok(self.block(block as usize).totals[detector as usize]);
         }
-        let mut carried = self.carried(alloc);
-        let state = self.state_in(alloc, block, from, &mut carried)?;
-        let (totals, _) = totals_on(
+        let mut words = DrawnWords::of(alloc, &self.plan);
+        let state = self.state_in(alloc, block, from, &mut words)?;
+        let (totals, _) = totals_between(
             alloc,
             &self.plan,
             &self.known.first,
             state,
             detector,
             to,
-            &mut carried,
+            &mut words,
         )?;
         Ok(totals)
     }
@@ -334,8 +352,12 @@ impl Sheet {
         } else {
             self.cut_back(alloc, joined, keep / BLOCK_STEPS)?
         };
-        let carried = sheet.carried(alloc);
-        Ok(Draft { sheet, carried })
+        let words = DrawnWords::of(alloc, &self.plan);
+        Ok(Draft {
+            sheet,
+            settings: CarriedSettings::none(),
+            words,
+        })
     }
 
     // The sheet with other edits, which give the same run up to the horizon.
@@ -396,34 +418,23 @@ impl Sheet {
         })
     }
 
-    // What a run by this sheet's edits carries before its first step: nothing. It takes no memory.
-    fn carried(&self, alloc: Global) -> Carried
-        ensures { IsCarried self.now.plan self.now.edits result }
-    {
-        Carried::of(alloc, &self.plan, &self.known.first)
-    }
-
     // The input of the next step.
     pub(crate) fn next_input(
         &self,
         alloc: Global,
-        carried: &mut Carried,
+        settings: &mut CarriedSettings,
+        words: &mut DrawnWords,
     ) -> Result<Arc<StepInput>, OutOfMemory>
-        requires carried { IsCarried self.now.plan self.now.edits carried.old }
+        requires carried { AreCarried self.now.plan self.now.edits settings.old }
+        requires words { words.old ≡ self.now.plan.words }
         ensures input { IfOk result (λ input. arc_value input ≡ next_input self.now) }
-        ensures carried { IsCarried self.now.plan self.now.edits carried.new }
+        ensures carried { AreCarried self.now.plan self.now.edits settings.new }
+        ensures unchanged { words.new ≡ words.old }
     {
         self.known();
         let step = self.horizon();
-        let settings = carried.settings(alloc, &self.plan, &self.known.first, step)?;
-        enter_with(
-            alloc,
-            &self.plan,
-            settings,
-            step,
-            &self.last,
-            &mut carried.words,
-        )
+        let settings = settings.at(alloc, &self.plan, &self.known.first, step)?;
+        enter_with(alloc, &self.plan, settings, step, &self.last, words)
     }
 
     // A step more. What can fail for memory is done before the sheet is changed.

@@ -1,4 +1,7 @@
 //! What is seen of a road's run by the settings that edits give: states, rows and counts, computed step by step.
+//!
+//! Whoever asks hands in words of the plan and may keep them: what is drawn for the steps round the last one serves the next
+//! question too, whatever the edits.
 
 ghost use Rattle.std.specs.Prelude.{◌≡◌, IfOk, ◌≤◌, ◌<◌, ◌+◌, [], length, map, string_bytes};
 ghost use Rattle.std.specs.Arc.{arc_value};
@@ -6,14 +9,14 @@ ghost use Rattle.road_plan.specs.declared.limits.TheConstants.{GREATEST_HORIZON}
 ghost use Rattle.road_scenario.specs.Faults.{AreInRange};
 ghost use Rattle.road_scenario.specs.Settings.{settings_of};
 ghost use Rattle.road_ends.specs.Input.{input_of, input_speeds};
-ghost use Rattle.road_sheet.specs.Private.CarriedSettings.{IsCarried};
+ghost use Rattle.road_sheet.specs.Private.CarriedSettings.{AreCarried};
 ghost use Rattle.road_sheet.specs.Shown.{run_at, row_at, rows_at, total_at};
 
-use crate::carried::Carried;
+use crate::carried::CarriedSettings;
 use road_cells::Road;
 use road_detector::laws::{cars_have_digits, cars_pass_one_by_one, totals_are_bounded};
 use road_detector::{Totals, passes, row_text};
-use road_ends::{Stepped, step_with};
+use road_ends::{DrawnWords, Stepped, step_with};
 use road_plan::{OutOfMemory, Plan};
 use road_scenario::Scenario;
 use std::alloc::Global;
@@ -39,58 +42,69 @@ impl State {
             road: Road::empty(alloc),
         }
     }
+
+    // The same state once more.
+    fn copied(&self) -> Result<State, OutOfMemory>
+        ensures step { IfOk result (λ state. state.step ≡ self.now.step) }
+        ensures road { IfOk result (λ state. state.road ≡ self.now.road) }
+    {
+        Ok(State {
+            step: self.step,
+            road: self.road.copied()?,
+        })
+    }
 }
 
 /// The state at a step of the run by these edits. It goes on from the last state, where that is not after the step, and
-/// else begins at step 0.
+/// else begins at step 0. The words must be the plan's.
+///
+/// # Errors
+///
+/// `OutOfMemory` where a growth was refused, or the settings can have no more owners. The words are the plan's as before.
 pub fn state_at(
     alloc: Global,
     plan: &Arc<Plan>,
     scenario: &Scenario,
     last: &State,
     step: u32,
+    words: &mut DrawnWords,
 ) -> Result<State, OutOfMemory>
     requires fits { AreInRange (arc_value plan.now) scenario.now }
     requires run { last.now.road ≡ run_at (arc_value plan.now) scenario.now last.now.step }
+    requires words { words.old ≡ (arc_value plan.now).words }
     ensures step { IfOk result (λ state. state.step ≡ step) }
     ensures road { IfOk result (λ state. state.road ≡ run_at (arc_value plan.now) scenario.now step) }
+    ensures unchanged { words.new ≡ words.old }
 {
-    let mut carried = Carried::of(alloc, plan, scenario);
     if last.step <= step {
-        let road = last.road.copied()?;
-        return run_on(alloc, plan, scenario, last.step, road, step, &mut carried);
+        let first = last.copied()?;
+        return run_on(alloc, plan, scenario, first, step, words);
     }
-    run_on(
-        alloc,
-        plan,
-        scenario,
-        0,
-        Road::empty(alloc),
-        step,
-        &mut carried,
-    )
+    run_on(alloc, plan, scenario, State::opening(alloc), step, words)
 }
 
-// The state at a step, from the road of a step that is not later.
+// The state at a step, from one that is not later.
 pub(crate) fn run_on(
     alloc: Global,
     plan: &Arc<Plan>,
     scenario: &Scenario,
-    from: u32,
-    mut road: Road,
+    first: State,
     step: u32,
-    carried: &mut Carried,
+    words: &mut DrawnWords,
 ) -> Result<State, OutOfMemory>
     requires fits { AreInRange (arc_value plan.now) scenario.now }
-    requires before { from ≤ step }
-    requires run { road ≡ run_at (arc_value plan.now) scenario.now from }
-    requires carried { IsCarried (arc_value plan.now) scenario.now carried.old }
+    requires before { first.step ≤ step }
+    requires run { first.road ≡ run_at (arc_value plan.now) scenario.now first.step }
+    requires words { words.old ≡ (arc_value plan.now).words }
     ensures step { IfOk result (λ state. state.step ≡ step) }
     ensures road { IfOk result (λ state. state.road ≡ run_at (arc_value plan.now) scenario.now step) }
-    ensures carried { IsCarried (arc_value plan.now) scenario.now carried.new }
+    ensures unchanged { words.new ≡ words.old }
 {
+    let from = first.step;
+    let mut road = first.road;
+    let mut settings = CarriedSettings::none();
     for now in from..step {
-        let stepped = next(alloc, plan, scenario, now, &road, carried)?;
+        let stepped = next(alloc, plan, scenario, now, &road, &mut settings, words)?;
         road = stepped.road;
     }
     Ok(State { step, road })
@@ -103,19 +117,22 @@ fn next(
     scenario: &Scenario,
     step: u32,
     road: &Road,
-    carried: &mut Carried,
+    settings: &mut CarriedSettings,
+    words: &mut DrawnWords,
 ) -> Result<Stepped, OutOfMemory>
     requires fits { AreInRange (arc_value plan.now) scenario.now }
     requires run { road.now ≡ run_at (arc_value plan.now) scenario.now step }
-    requires carried { IsCarried (arc_value plan.now) scenario.now carried.old }
+    requires carried { AreCarried (arc_value plan.now) scenario.now settings.old }
+    requires words { words.old ≡ (arc_value plan.now).words }
     ensures input { IfOk result (λ done. arc_value done.input
         ≡ input_of (arc_value plan.now) (settings_of (arc_value plan.now) scenario.now step) step road.now) }
     ensures speeds { IfOk result (λ done. done.speeds.items ≡ input_speeds (arc_value done.input)) }
     ensures road { IfOk result (λ done. done.road ≡ run_at (arc_value plan.now) scenario.now (step + 1)) }
-    ensures carried { IsCarried (arc_value plan.now) scenario.now carried.new }
+    ensures carried { AreCarried (arc_value plan.now) scenario.now settings.new }
+    ensures unchanged { words.new ≡ words.old }
 {
-    let settings = carried.settings(alloc, plan, scenario, step)?;
-    let stepped = step_with(alloc, plan, settings, step, road, &mut carried.words)?;
+    let settings = settings.at(alloc, plan, scenario, step)?;
+    let stepped = step_with(alloc, plan, settings, step, road, words)?;
     Ok(stepped)
 }
 
@@ -137,29 +154,44 @@ pub fn row_of(
 }
 
 /// The rows of the states from a step to another, both of them, and the last of these states. It goes on from a state
-/// at the first step.
+/// at the first step. The words must be the plan's.
+///
+/// # Errors
+///
+/// `OutOfMemory` where a growth was refused, or the settings can have no more owners. The words are the plan's as before.
 pub fn rows_between(
     alloc: Global,
     plan: &Arc<Plan>,
     scenario: &Scenario,
     first: State,
     to: u32,
+    words: &mut DrawnWords,
 ) -> Result<(Vec<String>, State), OutOfMemory>
     requires fits { AreInRange (arc_value plan.now) scenario.now }
     requires before { first.step ≤ to }
     requires horizon { to ≤ GREATEST_HORIZON }
     requires run { first.road ≡ run_at (arc_value plan.now) scenario.now first.step }
+    requires words { words.old ≡ (arc_value plan.now).words }
     ensures rows { IfOk result (λ seen. map string_bytes seen.0.items
         ≡ rows_at (arc_value plan.now) scenario.now first.step to) }
     ensures road { IfOk result (λ seen. seen.1.road ≡ run_at (arc_value plan.now) scenario.now seen.1.step) }
+    ensures unchanged { words.new ≡ words.old }
 {
     let from = first.step;
     let mut state = first;
-    let mut carried = Carried::of(alloc, plan, scenario);
+    let mut settings = CarriedSettings::none();
     let mut rows = Vec::new(alloc);
     rows.push(row_of(alloc, plan, scenario, &state)?)?;
     for step in from..to {
-        let stepped = next(alloc, plan, scenario, step, &state.road, &mut carried)?;
+        let stepped = next(
+            alloc,
+            plan,
+            scenario,
+            step,
+            &state.road,
+            &mut settings,
+            words,
+        )?;
         state = State {
             step: step + 1,
             road: stepped.road,
@@ -169,7 +201,12 @@ pub fn rows_between(
     Ok((rows, state))
 }
 
-/// What a detector counts in the steps from that of a state up to another, and the state after them.
+/// What a detector counts in the steps from that of a state up to another, and the state after them. The words must be
+/// the plan's.
+///
+/// # Errors
+///
+/// `OutOfMemory` where a growth was refused, or the settings can have no more owners. The words are the plan's as before.
 pub fn totals_between(
     alloc: Global,
     plan: &Arc<Plan>,
@@ -177,45 +214,26 @@ pub fn totals_between(
     first: State,
     detector: u32,
     to: u32,
+    words: &mut DrawnWords,
 ) -> Result<(Totals, State), OutOfMemory>
     requires fits { AreInRange (arc_value plan.now) scenario.now }
     requires in_plan { detector < length (arc_value plan.now).detectors }
     requires before { first.step ≤ to }
     requires horizon { to ≤ GREATEST_HORIZON }
     requires run { first.road ≡ run_at (arc_value plan.now) scenario.now first.step }
+    requires words { words.old ≡ (arc_value plan.now).words }
     ensures totals { IfOk result (λ seen. seen.0 ≡ total_at (arc_value plan.now) scenario.now detector first.step to) }
     ensures road { IfOk result (λ seen. seen.1.road ≡ run_at (arc_value plan.now) scenario.now seen.1.step) }
-{
-    let mut carried = Carried::of(alloc, plan, scenario);
-    totals_on(alloc, plan, scenario, first, detector, to, &mut carried)
-}
-
-// The same, by what is carried from the steps before.
-pub(crate) fn totals_on(
-    alloc: Global,
-    plan: &Arc<Plan>,
-    scenario: &Scenario,
-    first: State,
-    detector: u32,
-    to: u32,
-    carried: &mut Carried,
-) -> Result<(Totals, State), OutOfMemory>
-    requires fits { AreInRange (arc_value plan.now) scenario.now }
-    requires in_plan { detector < length (arc_value plan.now).detectors }
-    requires before { first.step ≤ to }
-    requires horizon { to ≤ GREATEST_HORIZON }
-    requires run { first.road ≡ run_at (arc_value plan.now) scenario.now first.step }
-    requires carried { IsCarried (arc_value plan.now) scenario.now carried.old }
-    ensures totals { IfOk result (λ seen. seen.0 ≡ total_at (arc_value plan.now) scenario.now detector first.step to) }
-    ensures road { IfOk result (λ seen. seen.1.road ≡ run_at (arc_value plan.now) scenario.now seen.1.step) }
+    ensures unchanged { words.new ≡ words.old }
 {
     let from = first.step;
     let mut road = first.road;
     let mut totals = Totals { cars: 0, speeds: 0 };
+    let mut settings = CarriedSettings::none();
     cars_pass_one_by_one(plan);
     totals_are_bounded(plan);
     for step in from..to {
-        let stepped = next(alloc, plan, scenario, step, &road, carried)?;
+        let stepped = next(alloc, plan, scenario, step, &road, &mut settings, words)?;
         let passed = passes(&stepped.input, &stepped.speeds, detector);
         totals = totals.plus(passed);
         road = stepped.road;

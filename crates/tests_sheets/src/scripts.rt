@@ -1,7 +1,9 @@
 //! Scripts of edits and advances at steps round the ends of blocks: each state and each total against a run from step zero.
+//! One script in two has steady words, each other one seeded words of its own.
 
 use crate::sheets::{grow, opening};
 use road_detector::Totals;
+use road_ends::DrawnWords;
 use road_plan::{Object, WordKind};
 use road_scenario::{Edit, Stamp, Value};
 use road_sheet::Sheet;
@@ -13,7 +15,7 @@ use tests_plans::Parts;
 /// How many scripts are run.
 const SCRIPTS: u64 = 20;
 
-/// Two zones, two inlets and two detectors, with chances between never and always.
+/// Two zones, two inlets and two detectors, with chances between never and always. The words are another script's.
 const MIXED: Parts = Parts {
     road: (24, 2, 12),
     zones: &[(3, 9_000), (2, 20_000)],
@@ -47,14 +49,14 @@ impl Dice {
         STEPS.get(place).copied().unwrap_or(0)
     }
 
-    // An edit, one in seven a withdrawal.
+    // An edit of any object of the plan, one in seven a withdrawal.
     fn edit(&mut self, count: u64) -> Edit {
-        let (object, number) = match self.below(6) {
-            0 => (Object::Limit(0), self.below(4)),
-            1 => (Object::Slow(1), self.below(65_537)),
+        let (object, number) = match self.below(5) {
+            0 => (Object::Limit(self.below(2)), self.below(10)),
+            1 => (Object::Slow(self.below(2)), self.below(65_537)),
             2 => (Object::Block(self.below(24)), self.below(2)),
-            3 => (Object::Inflow(1), self.below(65_537)),
-            _ => (Object::Watch(0), self.below(2)),
+            3 => (Object::Inflow(self.below(2)), self.below(65_537)),
+            _ => (Object::Watch(self.below(2)), self.below(2)),
         };
         Edit {
             object,
@@ -68,12 +70,27 @@ impl Dice {
     }
 }
 
-// Whether a sheet shows the state at a step that the run from step zero has.
-fn state_agrees(alloc: Global, sheet: &Sheet, step: u32) -> Result<bool, Fail> {
+// Whether a sheet shows the states that the run from step zero has, which goes on from each to the next; both by the same
+// words, which are kept.
+fn states_agree(alloc: Global, sheet: &Sheet) -> Result<bool, Fail> {
     sheet.known();
-    let opening = State::opening(alloc);
-    let computed = state_at(alloc, sheet.plan(), sheet.scenario(), &opening, step)?;
-    Ok(sheet.state(alloc, step)?.cars() == computed.road.cars())
+    let mut words = DrawnWords::of(alloc, sheet.plan());
+    let mut last = State::opening(alloc);
+    for place in STEPS {
+        let step = (*place).min(sheet.horizon());
+        last = state_at(
+            alloc,
+            sheet.plan(),
+            sheet.scenario(),
+            &last,
+            step,
+            &mut words,
+        )?;
+        if sheet.state_with(alloc, step, &mut words)?.cars() != last.road.cars() {
+            return Ok(false);
+        }
+    }
+    Ok(true)
 }
 
 // What a detector counts up to a step, computed from step zero.
@@ -82,8 +99,16 @@ fn totals_from_zero(alloc: Global, sheet: &Sheet, detector: u32, to: u32) -> Res
     if to > 65_536 || sheet.plan().detectors().len() <= detector as usize {
         return Err(Fail::new("no such step, or no such detector"));
     }
-    let opening = State::opening(alloc);
-    let (totals, _) = totals_between(alloc, sheet.plan(), sheet.scenario(), opening, detector, to)?;
+    let mut words = DrawnWords::of(alloc, sheet.plan());
+    let (totals, _) = totals_between(
+        alloc,
+        sheet.plan(),
+        sheet.scenario(),
+        State::opening(alloc),
+        detector,
+        to,
+        &mut words,
+    )?;
     Ok(totals)
 }
 
@@ -106,10 +131,8 @@ fn totals_agree(
 
 // Whether a sheet agrees with the run from step zero: its states, and what a detector counts from a random step to another.
 fn sheet_agrees(alloc: Global, sheet: &Sheet, dice: &mut Dice) -> Result<bool, Fail> {
-    for step in STEPS {
-        if !state_agrees(alloc, sheet, (*step).min(sheet.horizon()))? {
-            return Ok(false);
-        }
+    if !states_agree(alloc, sheet)? {
+        return Ok(false);
     }
     let to = dice.step().min(sheet.horizon());
     let from = dice.step().min(to);
@@ -132,7 +155,11 @@ fn grown_at_random(
 fn script_agrees(alloc: Global, seed: u64) -> Result<bool, Fail> {
     let mut dice = Dice { seed };
     let mut agreed = true;
-    let mut sheet = opening(alloc, &MIXED)?;
+    let words = match seed % 2 {
+        0 => WordKind::Steady,
+        _ => WordKind::Seeded(seed),
+    };
+    let mut sheet = opening(alloc, &Parts { words, ..MIXED })?;
     for count in 1..6 {
         sheet = grown_at_random(alloc, &sheet, &mut dice, count)?;
         agreed = agreed && sheet_agrees(alloc, &sheet, &mut dice)?;

@@ -1,5 +1,5 @@
 -- Cars in few bytes.
-use Rattle.std.specs.Prelude.{◌<◌, ◌^◌, ℕ, List}
+use Rattle.std.specs.Prelude.{◌<◌, ◌^◌, List}
 use Rattle.std.specs.List.{All}
 use Rattle.road_cells.specs.declared.car.Car.{Car}
 use Rattle.road_sheet.specs.declared.checkpoint.KeptCar.{KeptCar}

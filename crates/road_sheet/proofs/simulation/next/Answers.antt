@@ -1,4 +1,3 @@
-use Rattle.std.proofs.Common.{◌∙◌}
 use Rattle.std.specs.Arc.{arc_value}
 use Rattle.road_sheet.proofs.RunStates.{step_more}
 use Rattle.road_sheet.proofs.simulation.next.Goals as goal
@@ -7,9 +6,3 @@ pub returns-clause-road : goal.returns-clause-road
 returns-clause-road c =
     step_more (arc_value c.args.plan.now) c.args.scenario.now (arc_value c.in_ok-settings.settings) c.args.step c.args.road.now _
     c.in_ok-settings.ensures.settings c.requires.run c.in_ok-stepped.ensures.road
-
-pub returns-clause-carried : goal.returns-clause-carried
-returns-clause-carried c = record { words = c.in_ok-stepped.ensures.unchanged ∙ c.in_ok-settings.ensures.carried.words; settings = c.in_ok-settings.ensures.carried.settings }
-
-pub returns-in_err-stepped-clause-carried : goal.returns-in_err-stepped-clause-carried
-returns-in_err-stepped-clause-carried c = record { words = c.in_err-stepped.ensures.unchanged ∙ c.in_ok-settings.ensures.carried.words; settings = c.in_ok-settings.ensures.carried.settings }

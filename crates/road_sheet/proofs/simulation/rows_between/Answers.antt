@@ -10,4 +10,5 @@ loop-step-preserved c = (
   ap (λ (rows : List (String Global)). map string_bytes rows) c.in_ok-push-2.ensures.items
       ∙ one_row_more (arc_value c.args.plan.now) c.args.scenario.now c.args.first.step c.loop-step.step c.loop-step.rows.items c.in_ok-row_of-2.field-0 c.loop-step.auto.step c.loop-step.invariant.2 c.in_ok-row_of-2.ensures,
   c.in_ok-stepped.ensures.carried,
+  c.in_ok-stepped.ensures.unchanged ∙ c.loop-step.invariant.4,
 )

@@ -1,6 +1,6 @@
 use Rattle.std.proofs.Common.{◌≡◌, map, string_bytes}
 use Rattle.std.specs.Arc.{arc_value}
-use Rattle.road_sheet.specs.Private.CarriedSettings.{IsCarried}
+use Rattle.road_sheet.specs.Private.CarriedSettings.{AreCarried}
 use Rattle.road_sheet.specs.Shown.{rows_at}
 use Rattle.road_sheet.specs.Shown.{run_at}
 use Rattle.road_sheet.proofs.simulation.rows_between.Given as goal
@@ -11,4 +11,5 @@ invariant-loop-step l =
     (l.state.step ≡ l.step)
     × (l.state.road ≡ run_at (arc_value l.plan) l.scenario l.step)
     × (map string_bytes l.rows.items ≡ rows_at (arc_value l.plan) l.scenario l.from l.step)
-    × IsCarried (arc_value l.plan) l.scenario l.carried
+    × AreCarried (arc_value l.plan) l.scenario l.settings
+    × (l.words ≡ l.fn.words)

@@ -1,6 +1,6 @@
 use Rattle.std.proofs.Common.{◌≡◌}
 use Rattle.std.specs.Arc.{arc_value}
-use Rattle.road_sheet.specs.Private.CarriedSettings.{IsCarried}
+use Rattle.road_sheet.specs.Private.CarriedSettings.{AreCarried}
 use Rattle.road_sheet.specs.Shown.{run_at}
 use Rattle.road_sheet.proofs.simulation.run_on.Given as goal
 
@@ -8,5 +8,6 @@ use Rattle.road_sheet.proofs.simulation.run_on.Given as goal
 abbrev pub invariant-loop-now : goal.invariant-loop-now
 invariant-loop-now l = record {
   road : l.road ≡ run_at (arc_value l.plan) l.scenario l.now;
-  carried : IsCarried (arc_value l.plan) l.scenario l.carried;
+  carried : AreCarried (arc_value l.plan) l.scenario l.settings;
+  words : l.words ≡ l.fn.words;
 }

@@ -1,12 +1,10 @@
-use Rattle.std.proofs.Common.{◌≡◌, ◌∙◌, ap, sym, subst}
+use Rattle.std.proofs.Common.{◌≡◌, ◌∙◌, ap}
 use Rattle.std.specs.Arc.{arc_value}
 use Rattle.std.proofs.lemmas.Result.{IfOk-weaker}
 use Rattle.road_plan.specs.Plan.{Plan}
 use Rattle.road_ends.specs.Input.{input_of}
 use Rattle.road_scenario.specs.Edits.{Edits}
 use Rattle.road_scenario.specs.Settings.{settings_of}
-use Rattle.road_sheet.specs.Private.CarriedSettings.{IsCarried}
-use Rattle.road_sheet.specs.declared.carried.Carried.{Carried}
 use Rattle.road_sheet.specs.Sheets.{Sheet, next_input, state_of}
 use Rattle.road_sheet.proofs.RunStates.{next_is}
 use Rattle.road_sheet.proofs.sheet.Sheet.next_input.Goals as goal
@@ -21,9 +19,3 @@ returns-clause-input c =
     let last = c.self.invariant.last ∙ ap (λ (x : Sheet). state_of x x.horizon) c.self.view_is in
     IfOk-weaker c.enter_with.result (λ input. arc_value input ≡ input_of (arc_value c.self.inside.plan) (arc_value c.in_ok-settings.settings) c.horizon-step.result c.self.inside.last) (λ input. arc_value input ≡ next_input s)
     (λ input is. is ∙ next_is s (arc_value c.self.inside.plan) (arc_value c.in_ok-settings.settings) c.horizon-step.result c.self.inside.last plan settings c.horizon-step.ensures last) c.enter_with.ensures.input
-
-pub returns-clause-carried : goal.returns-clause-carried
-returns-clause-carried c =
-    let kept = c.in_ok-settings.ensures.carried in
-    let after : Carried = record { words = c.enter_with.new.words; settings = c.settings.new.self.settings } in
-    subst (λ (x : Sheet). IsCarried x.plan x.edits after) c.self.view_is (record { words = c.enter_with.ensures.unchanged ∙ kept.words; settings = kept.settings })

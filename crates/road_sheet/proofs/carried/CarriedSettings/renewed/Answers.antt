@@ -6,7 +6,7 @@ use Rattle.road_scenario.specs.Faults.{AreInRange}
 use Rattle.road_scenario.specs.Settings.{settings_of}
 use Rattle.road_sheet.specs.Private.CarriedSettings.{AreInForce}
 use Rattle.road_sheet.specs.declared.carried.InForce.{InForce}
-use Rattle.road_sheet.proofs.carried.Carried.renewed.Goals as goal
+use Rattle.road_sheet.proofs.carried.CarriedSettings.renewed.Goals as goal
 
 the_one : {a b : InForce} → Some a ≡ Some b → a ≡ b
 the_one h = cc
@@ -17,8 +17,7 @@ returns-clause-carried c =
     let edits = c.args.scenario.now in
     let made = sym (c.in_ok-settings.ensures.ok ∙ c.in_ok-settings_at.ensures.made ∙ ap (λ (q : Plan). settings_of q edits c.args.step) c.deref.ensures) in
     record {
-      words = c.requires.carried.words;
-      settings = λ kept is. subst (λ (k : InForce). AreInForce p edits (arc_value k.settings) k.from k.until) (the_one is) (record {
+      last = λ kept is. subst (λ (k : InForce). AreInForce p edits (arc_value k.settings) k.from k.until) (the_one is) (record {
         fits = subst (λ (s : Settings). Fits p s) (sym c.in_ok-settings.ensures.ok) (subst (λ (q : Plan). Fits q c.in_ok-settings_at.field-0) c.deref.ensures c.in_ok-settings_at.ensures.fits);
         in_force = λ t order early. c.until.ensures p t order early ∙ made;
       });

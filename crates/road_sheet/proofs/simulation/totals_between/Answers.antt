@@ -3,7 +3,7 @@ use Rattle.std.specs.Arc.{arc_value}
 use Rattle.road_scenario.specs.Settings.{settings_of}
 use Rattle.road_detector.specs.Laws.{PassOneByOne, BoundTotals}
 use Rattle.road_sheet.proofs.RunTotals.{passed_is, cars_fit, speeds_fit, counted_more}
-use Rattle.road_sheet.proofs.simulation.totals_on.Goals as goal
+use Rattle.road_sheet.proofs.simulation.totals_between.Goals as goal
 
 pub plus-totals-requires-clause-cars : goal.plus-totals-requires-clause-cars
 plus-totals-requires-clause-cars c =
@@ -38,4 +38,5 @@ loop-step-preserved c =
       c.in_ok-stepped.ensures.road,
       c.plus-totals.ensures ∙ counted_more p (settings_of p edits) c.args.detector c.args.first.step c.loop-step.step c.loop-step.totals c.passes-passed.result c.loop-step.auto.step c.loop-step.invariant.1 passed,
       c.in_ok-stepped.ensures.carried,
+      c.in_ok-stepped.ensures.unchanged ∙ c.loop-step.invariant.3,
     )

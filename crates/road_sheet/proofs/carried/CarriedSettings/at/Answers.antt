@@ -1,5 +1,5 @@
 use Rattle.std.specs.Arc.{arc_value}
-use Rattle.road_sheet.proofs.carried.Carried.settings.Goals as goal
+use Rattle.road_sheet.proofs.carried.CarriedSettings.at.Goals as goal
 
 pub returns-in-Some-clause-settings : goal.returns-in-Some-clause-settings
 returns-in-Some-clause-settings c =

@@ -1,24 +1,25 @@
--- The last states that are kept of a laboratory's replicas, and what an event makes of them.
+-- What is kept of the runs of a laboratory's replicas, and what an event makes of it.
 use Rattle.std.proofs.Common.{◌≡◌, ◌≢◌, ◌<◌, ℕ, zero, suc, List, [], ◌∷◌, length, Some, true, refl, ap, sym, subst, ◌∙◌, arith}
 use Rattle.std.specs.Prelude.{slice_set}
 use Rattle.std.specs.List.{All, slice_get, slice_index_or}
 use Rattle.std.proofs.lemmas.List.{get_or-set_other, length-map, length-replicate, length-set}
 use Rattle.std.proofs.lemmas.List.Elements.{All-head, All-tail}
+use Rattle.std.proofs.lemmas.Option.{slice_get_read}
 use Rattle.road_plan.specs.Plan.{Plan}
 use Rattle.road_scenario.specs.Edits.{Edits}
 use Rattle.road_scenario.specs.Winners.{winners}
 use Rattle.road_sheet.specs.Shown.{run_at}
-use Rattle.road_sheet.specs.Sheets.{state_of}
-use Rattle.road_sheet.specs.declared.simulation.State.{State}
+use Rattle.road_sheet.specs.Sheets.{Sheet}
 use Rattle.road_world.proofs.EventLists.{plan-after_events, replicas-after_event}
 use Rattle.road_world.proofs.WinnersSuffice.{opening_world-of_winners, replica-of_winners, world-again}
 use Rattle.road_world.specs.Answers.{replica_number, sheet_at}
 use Rattle.road_world.specs.Events.{World, WorldReplica, opening_replica, opening_world, replica_at, replica_of_winners, world_after_event, world_of_winners}
 use Rattle.road_world.specs.declared.event.Event.{Event}
 use Rattle.road_world.specs.declared.event.Event.TheVariants.{Edit, Withdraw, Import, Send, Heads, Beyond, Take, Advance}
-use Rattle.road_laboratory.specs.Keeping.{IsKept, IsOpening}
+use Rattle.road_laboratory.specs.Keeping.{IsKept, IsKeptOf}
 use Rattle.road_laboratory.specs.Laboratory.{Laboratory, laboratory_of_winners}
 use Rattle.road_laboratory.specs.Private.Changes.{keeps_edits}
+use Rattle.road_laboratory.specs.declared.kept.KeptRun.{KeptRun}
 
 -- ---- lists of which one element is set
 
@@ -84,17 +85,15 @@ won_edits v w q won same =
     ap (λ (x : WorldReplica). x.edits) (replica-of_winners v q) ∙ ap winners same
     ∙ sym (ap (λ (x : WorldReplica). x.edits) (replica-of_winners w q)) ∙ ap (λ (u : World). (replica_at u q).edits) won
 
--- ---- states
+-- ---- what is kept of one run
 
--- a state of the run of one plan and edits is one of the run of the same
-same_state : (v w : World) (q : ℕ) (state : State) → v.plan ≡ w.plan → SameEdits v w q → state.road ≡ state_of (sheet_at w q) state.step → state.road ≡ state_of (sheet_at v q) state.step
-same_state v w q state plan same is =
-    is ∙ ap (λ (p : Plan). run_at p (replica_at w q).edits state.step) (sym plan)
-    ∙ ap (λ (es : Edits). run_at v.plan es state.step) (sym same)
-
--- the empty road of step 0 is one of every run
-opening_state : (w : World) (q : ℕ) (state : State) → IsOpening state → state.road ≡ state_of (sheet_at w q) state.step
-opening_state w q state is = is.road ∙ sym (ap (λ (step : ℕ). state_of (sheet_at w q) step) is.step)
+-- of the run of one plan and edits, it is so of the run of the same
+same_run : (v w : World) (q : ℕ) (kept : KeptRun) → v.plan ≡ w.plan → SameEdits v w q → IsKeptOf (sheet_at w q) kept → IsKeptOf (sheet_at v q) kept
+same_run v w q kept plan same is = record {
+  run = is.run ∙ ap (λ (p : Plan). run_at p (replica_at w q).edits kept.state.step) (sym plan)
+      ∙ ap (λ (es : Edits). run_at v.plan es kept.state.step) (sym same);
+  words = is.words ∙ ap (λ (p : Plan). p.words) (sym plan);
+}
 
 -- an event keeps the plan
 plan_kept : (e : Event) (w : World) → (world_after_event e w).plan ≡ w.plan
@@ -104,55 +103,60 @@ plan_kept e w = plan-after_events (e ∷ []) w
 as_many : (e : Event) (w : World) → length (world_of_winners (world_after_event e w)).replicas ≡ length w.replicas
 as_many e w = length-map (world_after_event e w).replicas replica_of_winners ∙ replicas-after_event e w
 
--- ---- what is kept
+-- ---- what is kept of all
+
+-- what is kept of a replica's run, as it is read
+pub kept_read : (names : List (List ℕ)) (w : World) (runs : List KeptRun) (r : ℕ) (run : KeptRun) (sheet : Sheet) → IsKept names w runs → r < length runs → run ≡ slice_index_or runs r run → sheet ≡ sheet_at w r → IsKeptOf sheet run
+kept_read names w runs r run sheet kept below is same =
+    subst (λ (s : Sheet). IsKeptOf s run) (sym same) (kept.kept r run (slice_get_read runs (length runs) r run refl below is))
 
 -- after an event that keeps edits
-pub kept_on : (names : List (List ℕ)) (w v : World) (last : List State) (e : Event) → IsKept names w last → v ≡ world_of_winners (world_after_event e w) → keeps_edits e ≡ true → IsKept names v last
-kept_on names w v last e kept is keeps =
-    let after : IsKept names (world_of_winners (world_after_event e w)) last = record {
+pub kept_on : (names : List (List ℕ)) (w v : World) (runs : List KeptRun) (e : Event) → IsKept names w runs → v ≡ world_of_winners (world_after_event e w) → keeps_edits e ≡ true → IsKept names v runs
+kept_on names w v runs e kept is keeps =
+    let after : IsKept names (world_of_winners (world_after_event e w)) runs = record {
       replicas = as_many e w ∙ kept.replicas;
       winners = world-again (world_after_event e w);
       each = kept.each;
-      states = λ q state at. same_state (world_of_winners (world_after_event e w)) w q state (plan_kept e w)
-          (won_edits (world_after_event e w) w q kept.winners (edits_kept e w q keeps)) (kept.states q state at);
+      kept = λ q run at. same_run (world_of_winners (world_after_event e w)) w q run (plan_kept e w)
+          (won_edits (world_after_event e w) w q kept.winners (edits_kept e w q keeps)) (kept.kept q run at);
     } in
-    subst (λ (u : World). IsKept names u last) (sym is) after
+    subst (λ (u : World). IsKept names u runs) (sym is) after
 
--- after any event, where the state of its replica is given up
-pub kept_but_one : (names : List (List ℕ)) (w v : World) (last : List State) (e : Event) (r : ℕ) (new : State) → IsKept names w last → v ≡ world_of_winners (world_after_event e w) → r ≡ replica_number e → IsOpening new
-    → IsKept names v (slice_set last r new)
-kept_but_one names w v last e r new kept is here opens =
+-- after any event, where what is kept of its replica's run becomes something of every run of the plan
+pub kept_but_one : (names : List (List ℕ)) (w v : World) (runs : List KeptRun) (e : Event) (r : ℕ) (old new : KeptRun) → IsKept names w runs → v ≡ world_of_winners (world_after_event e w) → r ≡ replica_number e
+    → r < length runs → old ≡ slice_index_or runs r old → ((before after : Sheet) → before.plan ≡ after.plan → IsKeptOf before old → IsKeptOf after new) → IsKept names v (slice_set runs r new)
+kept_but_one names w v runs e r old new kept is here below was restarts =
     let u : World = world_of_winners (world_after_event e w) in
-    let Shows : ℕ → State → Type 0 = λ q state. state.road ≡ state_of (sheet_at u q) state.step in
-    let after : IsKept names u (slice_set last (replica_number e) new) = record {
+    let at_first : IsKeptOf (sheet_at w r) old = kept_read names w runs r old (sheet_at w r) kept below was refl in
+    let after : IsKept names u (slice_set runs r new) = record {
       replicas = as_many e w ∙ kept.replicas;
       winners = world-again (world_after_event e w);
-      each = length-set last (replica_number e) new ∙ kept.each;
-      states = set_each Shows last (replica_number e) new (opening_state u (replica_number e) new opens)
-          (λ q state other at. same_state u w q state (plan_kept e w) (won_edits (world_after_event e w) w q kept.winners (others_kept e w q other)) (kept.states q state at));
+      each = length-set runs r new ∙ kept.each;
+      kept = set_each (λ q run. IsKeptOf (sheet_at u q) run) runs r new (restarts (sheet_at w r) (sheet_at u r) (sym (plan_kept e w)) at_first)
+          (λ q run other at. same_run u w q run (plan_kept e w) (won_edits (world_after_event e w) w q kept.winners (others_kept e w q (λ h. other (h ∙ sym here)))) (kept.kept q run at));
     } in
-    let moved : IsKept names v (slice_set last (replica_number e) new) = subst (λ (x : World). IsKept names x (slice_set last (replica_number e) new)) (sym is) after in
-    subst (λ (n : ℕ). IsKept names v (slice_set last n new)) (sym here) moved
+    subst (λ (x : World). IsKept names x (slice_set runs r new)) (sym is) after
 
--- after a question, whose state is one of the run
-pub kept_shown : (names : List (List ℕ)) (w : World) (last : List State) (r : ℕ) (new : State) → IsKept names w last → new.road ≡ state_of (sheet_at w r) new.step → IsKept names w (slice_set last r new)
-kept_shown names w last r new kept is = record {
+-- after a question, from which something of the run is kept
+pub kept_shown : (names : List (List ℕ)) (w : World) (runs : List KeptRun) (r : ℕ) (new : KeptRun) (sheet : Sheet) → IsKept names w runs → sheet ≡ sheet_at w r → IsKeptOf sheet new → IsKept names w (slice_set runs r new)
+kept_shown names w runs r new sheet kept same is = record {
   replicas = kept.replicas;
   winners = kept.winners;
-  each = length-set last r new ∙ kept.each;
-  states = set_each (λ q state. state.road ≡ state_of (sheet_at w q) state.step) last r new is (λ q state other at. kept.states q state at);
+  each = length-set runs r new ∙ kept.each;
+  kept = set_each (λ q run. IsKeptOf (sheet_at w q) run) runs r new (subst (λ (s : Sheet). IsKeptOf s new) same is) (λ q run other at. kept.kept q run at);
 }
 
 -- before any command
-pub kept_opening : (names : List (List ℕ)) (plan : Plan) (w : World) (last : List State) (count : ℕ) → w ≡ opening_world plan count → count ≡ length names → length last ≡ count → All IsOpening last → IsKept names w last
-kept_opening names plan w last count is named each opening =
-    let first : IsKept names (opening_world plan count) last = record {
+pub kept_opening : (names : List (List ℕ)) (plan : Plan) (w : World) (runs : List KeptRun) (count : ℕ) → w ≡ opening_world plan count → count ≡ length names → length runs ≡ count
+    → ((sheet : Sheet) → sheet.plan ≡ plan → All (IsKeptOf sheet) runs) → IsKept names w runs
+kept_opening names plan w runs count is named each opening =
+    let first : IsKept names (opening_world plan count) runs = record {
       replicas = length-replicate count opening_replica ∙ named;
       winners = opening_world-of_winners plan count;
       each = each ∙ named;
-      states = λ q state at. opening_state (opening_world plan count) q state (all_at IsOpening last q state opening at);
+      kept = λ q run at. all_at (IsKeptOf (sheet_at (opening_world plan count) q)) runs q run (opening (sheet_at (opening_world plan count) q) refl) at;
     } in
-    subst (λ (u : World). IsKept names u last) (sym is) first
+    subst (λ (u : World). IsKept names u runs) (sym is) first
 
 -- ---- what the laboratory's view says
 
@@ -160,7 +164,7 @@ kept_opening names plan w last count is named each opening =
 abbrev pub laboratory_with : List (List ℕ) → List (List ℕ) → World → Laboratory
 laboratory_with names messages w = record { replica_names = names; message_names = messages; world = w }
 
-module _ (names messages : List (List ℕ)) (w : World) (last : List State) (lab : Laboratory) (view_is : laboratory_with names messages w ≡ lab) (kept : IsKept names w last) where
+module _ (names messages : List (List ℕ)) (w : World) (runs : List KeptRun) (lab : Laboratory) (view_is : laboratory_with names messages w ≡ lab) (kept : IsKept names w runs) where
   -- its edits have won
   pub known_winners : laboratory_of_winners lab ≡ lab
   known_winners = ap laboratory_of_winners (sym view_is) ∙ ap (laboratory_with names messages) kept.winners ∙ view_is
@@ -175,7 +179,7 @@ module _ (names messages : List (List ℕ)) (w : World) (last : List State) (lab
   replica_below r below =
       let same : length names ≡ length lab.replica_names = ap (λ (l : Laboratory). length l.replica_names) view_is in omega (arith, same, kept.replicas, below)
 
-  -- and of a state
-  pub state_below : (r : ℕ) → r < length lab.replica_names → r < length last
-  state_below r below =
+  -- and of what is kept of a run
+  pub run_below : (r : ℕ) → r < length lab.replica_names → r < length runs
+  run_below r below =
       let same : length names ≡ length lab.replica_names = ap (λ (l : Laboratory). length l.replica_names) view_is in omega (arith, same, kept.each, below)
