@@ -1,5 +1,6 @@
 -- What the words after the program's name say. `clap` reads them, as those of a command with two options.
-use Rattle.std.specs.Prelude.{ℕ, List, Bool, true, ◌&&◌, if◌then◌else◌, is_some, Option, Some, None, option_and_then, codes}
+use Rattle.std.specs.Prelude.{ℕ, List, Bool, true, ◌&&◌, if◌then◌else◌, codes}
+use Rattle.std.specs.Prelude.{Option, Some, None, is_some, option_and_then}
 use Rattle.std.specs.Option.{option_map_or}
 use Rattle.std.specs.Str.Parse.{digits_value, without_leading_plus}
 use Rattle.clap.specs.Simple.{on_top}
@@ -19,8 +20,8 @@ workers_rule = record (new_rule (codes "workers")) { long = Some (codes "workers
 -- the program's command: these options, and no word for its own name
 abbrev pub command_line : App
 command_line =
-    with_rule (with_rule (on_top (λ top. record top { no_binary_name = true }) (new_app (codes "road_lab"))) script_rule)
-    workers_rule
+    with_rule (with_rule (on_top (λ top. record top { no_binary_name = true })
+    (new_app (codes "road_lab"))) script_rule) workers_rule
 
 -- whether `clap` reads the words
 unfoldable pub are_read : List (List ℕ) → Bool
