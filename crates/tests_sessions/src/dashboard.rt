@@ -16,44 +16,57 @@ use std::sync::{Mutex, Wait};
 use std::test::Fail;
 use std::thread::{Threads, join, yield_now};
 
-/// Where a receipt lies until it is taken.
-type Letter<J> = Mutex<Option<Receipt<J>>>;
+/// What the engineer tells of the day: its last receipt, or why a write was refused.
+type News<J> = Result<Receipt<J>, WriteFault>;
 
-// The engineer simulates up to step 6 and blocks the cell 8 from step 4 on, and leaves the receipt.
+/// Where the news lie until they are taken.
+type Letter<J> = Mutex<Option<News<J>>>;
+
+// The engineer simulates up to step 6 and blocks the cell 8 from step 4 on.
 fn writes<J: Naming, R: Wait + Drop, W: Wait>(
+    rt: &W,
+    shared: &Shared<J, R>,
+    session: &mut Session<J>,
+) -> News<J> {
+    let mut meter = Meter::new();
+    session.advance(rt, shared, 6, &mut Alone, &mut meter)?;
+    let wrote = session.edit(rt, shared, BLOCK, 4, 1, &mut Alone, &mut meter)?;
+    Ok(wrote.receipt)
+}
+
+// It does so, and leaves the news.
+fn works<J: Naming, R: Wait + Drop, W: Wait>(
     rt: &W,
     shared: &Shared<J, R>,
     mut session: Session<J>,
     letter: &Letter<J>,
-) -> Result<Session<J>, WriteFault> {
-    let mut meter = Meter::new();
-    session.advance(rt, shared, 6, &mut Alone, &mut meter)?;
-    let wrote = session.edit(rt, shared, BLOCK, 4, 1, &mut Alone, &mut meter)?;
-    *letter.lock(rt) = Some(wrote.receipt);
-    Ok(session)
+) -> Session<J> {
+    let news = writes(rt, shared, &mut session);
+    *letter.lock(rt) = Some(news);
+    session
 }
 
-// The receipt, once it lies there.
-fn receipt<J: Naming, W: Wait>(rt: &W, letter: &Letter<J>) -> Receipt<J> {
+// The news, once they lie there.
+fn news<J: Naming, W: Wait>(rt: &W, letter: &Letter<J>) -> News<J> {
     for _ in rt.forever() {
         let taken = letter.lock(rt).take();
-        if let Some(receipt) = taken {
-            return receipt;
+        if let Some(news) = taken {
+            return news;
         }
         yield_now();
     }
     unreachable!()
 }
 
-// The first dashboard waits for the receipt. From then on it is shown no less. It leaves the row of step 6.
+// The first dashboard waits for the news. From then on it is shown no less. It leaves the row of step 6.
 fn is_told<J: Naming, R: Wait + Drop, W: Wait>(
     rt: &W,
     alloc: Global,
     shared: &Shared<J, R>,
     mut session: Session<J>,
     letter: &Letter<J>,
-) -> Result<(Session<J>, bool), LookFault> {
-    session.hear(receipt(rt, letter));
+) -> Result<(Session<J>, bool), Fail> {
+    session.hear(news(rt, letter)?);
     let sheet = session.look(shared)?;
     Ok((session, shows(alloc, &sheet, &[(6, "0..2..10#...")])))
 }
@@ -85,7 +98,7 @@ fn all_work<J: Naming + Send + Sync, R: Wait + Drop + Send, W: Threads + Wait + 
     let letter = Mutex::new(None);
     let (engineer, (told, untold)) = join(
         rt,
-        || writes(rt, shared, engineer, &letter),
+        || works(rt, shared, engineer, &letter),
         || {
             join(
                 rt,
@@ -94,12 +107,9 @@ fn all_work<J: Naming + Send + Sync, R: Wait + Drop + Send, W: Threads + Wait + 
             )
         },
     );
-    match (engineer, told, untold) {
-        (Ok(engineer), Ok((told, is_shown)), Ok((untold, rises))) => {
-            Ok(([engineer, told, untold], is_shown && rises))
-        }
-        _ => Err(Fail::new("a write or a look was refused")),
-    }
+    let (told, is_shown) = told?;
+    let (untold, rises) = untold?;
+    Ok(([engineer, told, untold], is_shown && rises))
 }
 
 // A store is opened, worked with and closed. What is left, where the dashboards saw what they should.

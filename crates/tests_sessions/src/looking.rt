@@ -129,6 +129,7 @@ fn looks_meanwhile<J: Naming + Send + Sync, R: Wait + Drop + Send, W: Threads + 
 fn a_look_takes_no_lock(rt: HostRuntime) -> Result<(), Fail> {
     let prepared = opened_for(&rt, rt.alloc(), 0, 2, 10)?;
     let (answer, found) = looks_meanwhile::<Brand, _, _>(&rt, prepared)?;
-    assert!(rt; answer == Ok((1, Reply::Horizon(9))) && found == Some(6));
+    let wrote = answer?;
+    assert!(rt; wrote == (1, Reply::Horizon(9)) && found == Some(6));
     Ok(())
 }
