@@ -12,4 +12,6 @@ mod refused;
 #[cfg(test)]
 mod rows;
 #[cfg(test)]
+mod sameness;
+#[cfg(test)]
 mod workers;

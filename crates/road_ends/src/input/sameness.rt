@@ -111,9 +111,24 @@ fn are_same_flags(flags: &[bool], other: &[bool]) -> bool
     flags == other
 }
 
-// Whether these cars are the same.
+// Whether these cars are the same. A loop of its own takes less time for each car than `==` of the lists does.
 fn are_same_cars(cars: &[Car], other: &[Car]) -> bool
     ensures { IsTrue result ↔ (cars.now ≡ other.now) }
 {
-    cars == other
+    if cars.len() != other.len() {
+        return false;
+    }
+    for place in 0..cars.len() {
+        if !is_same_car(&cars[place], &other[place]) {
+            return false;
+        }
+    }
+    true
+}
+
+// Whether two cars are the same.
+fn is_same_car(car: &Car, other: &Car) -> bool
+    ensures { IsTrue result ↔ (car.now ≡ other.now) }
+{
+    car.number == other.number && car.cell == other.cell && car.speed == other.speed
 }
