@@ -16,7 +16,7 @@ use road_ends::DrawnWords;
 use road_format::{Answer, Refusal};
 use road_plan::OutOfMemory;
 use road_plan::limits::MOST_ROWS;
-use road_sheet::simulation::{State, row_of, rows_between, state_at, totals_between};
+use road_sheet::simulation::{State, row_of, rows_with, state_with, totals_with};
 use road_sheet::{BLOCK_STEPS, Sheet};
 use std::alloc::Global;
 
@@ -132,7 +132,7 @@ fn diagram(
     }
     sheet.known();
     let first = state_near(alloc, sheet, kept, from)?;
-    let (rows, state) = rows_between(
+    let (rows, state) = rows_with(
         alloc,
         sheet.plan(),
         sheet.scenario(),
@@ -170,7 +170,7 @@ fn state_near(
     let is_nearest = last.step <= step && step - last.step < step % BLOCK_STEPS;
     if is_nearest && step < sheet.horizon() {
         sheet.known();
-        return state_at(
+        return state_with(
             alloc,
             sheet.plan(),
             sheet.scenario(),
@@ -206,7 +206,7 @@ fn totals_near(
     if to - from <= MOST_COUNTED_STEPS {
         sheet.known();
         let first = state_near(alloc, sheet, kept, from)?;
-        return totals_between(
+        return totals_with(
             alloc,
             sheet.plan(),
             sheet.scenario(),

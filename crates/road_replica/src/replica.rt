@@ -21,7 +21,7 @@ use crate::faults::{ReplicaFault, arrived_fault, made_fault, question_fault, wri
 use road_cells::Road;
 use road_delta::{Heads, beyond, heads_of};
 use road_detector::Totals;
-use road_ends::{DrawnWords, Meter};
+use road_ends::Meter;
 use road_plan::limits::{FIRST_IMPORT_NUMBER, GREATEST_HORIZON, MOST_ROWS};
 use road_plan::{Object, OutOfMemory, Plan};
 use road_rewind::{Grown, grown};
@@ -492,15 +492,7 @@ impl Replica {
         self.known();
         let road = self.state(alloc, from)?;
         let first = State { step: from, road };
-        let mut words = DrawnWords::of(alloc, self.sheet.plan());
-        let (rows, _) = rows_between(
-            alloc,
-            self.sheet.plan(),
-            self.sheet.scenario(),
-            first,
-            to,
-            &mut words,
-        )?;
+        let (rows, _) = rows_between(alloc, self.sheet.plan(), self.sheet.scenario(), first, to)?;
         Ok(rows)
     }
 }

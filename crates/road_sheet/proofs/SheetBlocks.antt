@@ -1,5 +1,5 @@
 -- The blocks of a sheet: one step more, cut back, and the same run by other edits.
-use Rattle.std.proofs.Common.{◌≡◌, ◌≢◌, ◌≤◌, ◌<◌, ◌+◌, ◌*◌, ◌/◌, ◌%◌, ◌∙◌, ◌⊎◌, inl, inr, ℕ, zero, suc, List, [], ◌∷◌, ◌++◌, length, map, take, replicate, min, Some, ap, sym, subst, arith, refl}
+use Rattle.std.proofs.Common.{◌≡◌, ◌≢◌, ◌≤◌, ◌<◌, ◌+◌, ◌*◌, ◌/◌, ◌%◌, ◌^◌, ◌∙◌, ◌⊎◌, inl, inr, ℕ, zero, suc, List, [], ◌∷◌, ◌++◌, length, map, take, replicate, min, Some, ap, sym, subst, arith, refl}
 use Rattle.std.proofs.lemmas.List.{get_or-replicate, length-replicate, length-take-le, length_push}
 use Rattle.std.proofs.lemmas.Option.{slice_get_within, slice_get_read, slice_get-map}
 use Rattle.std.specs.Option.{option_map}
@@ -7,17 +7,19 @@ use Rattle.std.specs.List.{slice_get, slice_index_or}
 use Rattle.road_plan.specs.Plan.{Plan}
 use Rattle.road_plan.specs.declared.limits.TheConstants.{GREATEST_HORIZON}
 use Rattle.road_cells.specs.Array.{Array}
+use Rattle.road_ends.specs.Input.{StepInput, input_speeds}
 use Rattle.road_scenario.specs.Edits.{Edits}
 use Rattle.road_scenario.specs.Faults.{AreInRange}
 use Rattle.road_scenario.specs.Settings.{settings_of}
 use Rattle.road_scenario.specs.Winners.{AreWinners}
-use Rattle.road_detector.specs.Passes.{no_totals, passes, plus}
+use Rattle.road_detector.specs.Laws.{PassOneByOne, BoundTotals}
+use Rattle.road_detector.specs.Passes.{no_totals, passes, passes_at, plus}
 use Rattle.road_detector.specs.declared.counts.Totals.{Totals}
 use Rattle.road_sheet.specs.Private.Blocks.{AreTotals, IsBlock, IsRunOf, GiveSameRun}
-use Rattle.road_sheet.specs.Sheets.{Sheet, IsSheet, sheet_after_step}
+use Rattle.road_sheet.specs.Sheets.{Sheet, IsSheet, next_input, sheet_after_step}
 use Rattle.road_sheet.specs.Shown.{run_at}
 use Rattle.road_sheet.specs.declared.block.Block.{Block}
-use Rattle.road_sheet.proofs.RunTotals.{none_yet, total_more}
+use Rattle.road_sheet.proofs.RunTotals.{cars_fit, none_yet, passed_next, speeds_fit, total_more}
 
 -- ---- blocks
 
@@ -126,11 +128,48 @@ ends_block s now h whole more cut new begun last road is view early next totals 
     → begun.totals.items ≡ replicate (length x.plan.detectors) no_totals → IsRunOf (record { plan = s.plan; edits = s.edits; horizon = h + 1 }) more begun road) view
     (λ e n t o k z. subst (λ (u : ℕ). IsRunOf (record { plan = s.plan; edits = s.edits; horizon = u + 1 }) more begun road) (sym k) (step_to_end s whole more cut new begun last road is e n start t first z all o)) early next totals on same zeros
 
+-- a step within the block, by the sheet that contracts see
+pub stays_in_block : (s now : Sheet) (h : ℕ) (whole : List Block) (cut new : Block) (last road : Array) → IsRunOf s whole cut last → s ≡ now → now.horizon < GREATEST_HORIZON → road ≡ run_at now.plan now.edits (now.horizon + 1)
+    → AreTotals now.plan now.edits (64 * (now.horizon / 64)) (now.horizon + 1) new.totals.items → (now.horizon + 1) % 64 ≢ 0 → h ≡ now.horizon → new.start ≡ cut.start → IsRunOf (record { plan = s.plan; edits = s.edits; horizon = h + 1 }) whole new road
+stays_in_block s now h whole cut new last road is view early next totals off same start =
+    subst
+    (λ (x : Sheet). x.horizon < GREATEST_HORIZON → road ≡ run_at x.plan x.edits (x.horizon + 1) → AreTotals x.plan x.edits (64 * (x.horizon / 64)) (x.horizon + 1) new.totals.items → (x.horizon + 1) % 64 ≢ 0 → h ≡ x.horizon
+    → IsRunOf (record { plan = s.plan; edits = s.edits; horizon = h + 1 }) whole new road) view
+    (λ e n t o k. subst (λ (u : ℕ). IsRunOf (record { plan = s.plan; edits = s.edits; horizon = u + 1 }) whole new road) (sym k) (step_within s whole cut new last road is e n start t o)) early next totals off same
+
 -- the totals of the cut block
 pub cut_totals : (s t : Sheet) (whole : List Block) (cut : Block) (last : Array) → IsRunOf s whole cut last → s ≡ t → AreTotals t.plan t.edits (64 * (t.horizon / 64)) t.horizon cut.totals.items
 cut_totals s t whole cut last is same =
     subst (λ (x : Sheet). AreTotals x.plan x.edits (64 * (x.horizon / 64)) x.horizon cut.totals.items) same
     (subst (λ n. AreTotals s.plan s.edits n s.horizon cut.totals.items) (sym (cut_start (length whole) s.horizon is.begun is.not_ended)) is.cut.totals)
+
+-- ---- what the detectors have counted with the next step
+
+-- the cars fit
+pub next_cars_fit : (s t : Sheet) (whole : List Block) (cut : Block) (last : Array) (input : StepInput) (speeds : List ℕ) (xs : List Totals) → IsRunOf s whole cut last → s ≡ t → BoundTotals s.plan → PassOneByOne s.plan → t.horizon < GREATEST_HORIZON
+    → input ≡ next_input t → speeds ≡ input_speeds input → xs ≡ cut.totals.items → (d : ℕ) → d < length xs → (slice_index_or xs d no_totals).cars + (passes_at input speeds d).cars < 2 ^ 32
+next_cars_fit s t whole cut last input speeds xs is same bounded alone early at new kept d below =
+    let counted = subst (AreTotals t.plan t.edits (64 * (t.horizon / 64)) t.horizon) (sym kept) (cut_totals s t whole cut last is same) in
+    let plan = ap (λ (x : Sheet). x.plan) same in
+    cars_fit t.plan (settings_of t.plan t.edits) d (64 * (t.horizon / 64)) t.horizon (slice_index_or xs d no_totals) (passes_at input speeds d) (subst BoundTotals plan bounded) (subst PassOneByOne plan alone) (omega (arith, early))
+    (counted.counted d (omega (arith, counted.each, below))) (passed_next t input speeds d at new)
+
+-- their speeds fit
+pub next_speeds_fit : (s t : Sheet) (whole : List Block) (cut : Block) (last : Array) (input : StepInput) (speeds : List ℕ) (xs : List Totals) → IsRunOf s whole cut last → s ≡ t → BoundTotals s.plan → PassOneByOne s.plan → t.horizon < GREATEST_HORIZON
+    → input ≡ next_input t → speeds ≡ input_speeds input → xs ≡ cut.totals.items → (d : ℕ) → d < length xs → (slice_index_or xs d no_totals).speeds + (passes_at input speeds d).speeds < 2 ^ 32
+next_speeds_fit s t whole cut last input speeds xs is same bounded alone early at new kept d below =
+    let counted = subst (AreTotals t.plan t.edits (64 * (t.horizon / 64)) t.horizon) (sym kept) (cut_totals s t whole cut last is same) in
+    let plan = ap (λ (x : Sheet). x.plan) same in
+    speeds_fit t.plan (settings_of t.plan t.edits) d (64 * (t.horizon / 64)) t.horizon (slice_index_or xs d no_totals) (passes_at input speeds d) (subst BoundTotals plan bounded) (subst PassOneByOne plan alone) (omega (arith, early))
+    (counted.counted d (omega (arith, counted.each, below))) (passed_next t input speeds d at new)
+
+-- they are the totals up to the step after it
+pub counted_next : (s t : Sheet) (whole : List Block) (cut : Block) (last : Array) (input : StepInput) (speeds : List ℕ) (xs ys : List Totals) → IsRunOf s whole cut last → s ≡ t → input ≡ next_input t → speeds ≡ input_speeds input → xs ≡ cut.totals.items
+    → length ys ≡ length xs → ((d : ℕ) → d < length xs → slice_index_or ys d no_totals ≡ plus (slice_index_or xs d no_totals) (passes_at input speeds d)) → AreTotals t.plan t.edits (64 * (t.horizon / 64)) (t.horizon + 1) ys
+counted_next s t whole cut last input speeds xs ys is same at new kept many more =
+    let counted = subst (AreTotals t.plan t.edits (64 * (t.horizon / 64)) t.horizon) (sym kept) (cut_totals s t whole cut last is same) in
+    counted_more t.plan t.edits (64 * (t.horizon / 64)) t.horizon xs ys (omega arith) counted many
+    (λ d below. more d below ∙ ap (plus (slice_index_or xs d no_totals)) (passed_next t input speeds d at new))
 
 -- ---- other edits with the same run
 

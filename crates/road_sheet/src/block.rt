@@ -44,34 +44,28 @@ impl Block {
         Ok(Block { start, totals })
     }
 
-    // What each detector has counted after a step more.
-    pub(crate) fn totals_after(
-        &self,
-        alloc: Global,
-        input: &StepInput,
-        speeds: &[u8],
-    ) -> Result<Vec<Totals>, OutOfMemory>
+    // Counts a step more. It takes no memory.
+    pub(crate) fn count(&mut self, input: &StepInput, speeds: &[u8])
         requires one_each { length speeds.now ≡ length (cars_of input.now.road) }
-        requires each { length self.now.totals.items ≡ length input.now.plan.detectors }
-        requires cars { (d : ℕ) → d < length self.now.totals.items →
-            (slice_index_or self.now.totals.items d no_totals).cars + (passes_at input.now speeds.now d).cars < 2 ^ 32 }
-        requires speeds { (d : ℕ) → d < length self.now.totals.items →
-            (slice_index_or self.now.totals.items d no_totals).speeds
+        requires each { length self.old.totals.items ≡ length input.now.plan.detectors }
+        requires cars { (d : ℕ) → d < length self.old.totals.items →
+            (slice_index_or self.old.totals.items d no_totals).cars + (passes_at input.now speeds.now d).cars < 2 ^ 32 }
+        requires speeds { (d : ℕ) → d < length self.old.totals.items →
+            (slice_index_or self.old.totals.items d no_totals).speeds
             + (passes_at input.now speeds.now d).speeds < 2 ^ 32 }
-        ensures each { IfOk result (λ totals. length totals.items ≡ length self.now.totals.items) }
-        ensures totals { IfOk result (λ totals. (d : ℕ) → d < length self.now.totals.items →
-            slice_index_or totals.items d no_totals
-            ≡ plus (slice_index_or self.now.totals.items d no_totals) (passes_at input.now speeds.now d)) }
+        ensures start { self.new.start ≡ self.old.start }
+        ensures each { length self.new.totals.items ≡ length self.old.totals.items }
+        ensures totals { (d : ℕ) → d < length self.old.totals.items →
+            slice_index_or self.new.totals.items d no_totals
+            ≡ plus (slice_index_or self.old.totals.items d no_totals) (passes_at input.now speeds.now d) }
     {
         input.known();
         let greatest = greatest_speed(speeds);
         let mut before = 0;
-        let mut totals = Vec::with_capacity(alloc, self.totals.len())?;
         for detector in 0..self.totals.len() {
             let passed = passes_from(input, speeds, detector as u32, greatest, before);
-            totals.push(self.totals[detector].plus(passed.totals))?;
+            self.totals[detector] = self.totals[detector].plus(passed.totals);
             before = passed.before;
         }
-        Ok(totals)
     }
 }

@@ -15,7 +15,7 @@ use crate::carried::CarriedSettings;
 use crate::checkpoint::Checkpoint;
 use crate::draft::Draft;
 use crate::faults::SheetFault;
-use crate::simulation::{State, run_on, totals_between};
+use crate::simulation::{State, run_on, totals_with};
 use lattice_core::both::Both;
 use lattice_core::greatest::Greatest;
 use lattice_core::lattice::Lattice;
@@ -293,7 +293,7 @@ impl Sheet {
         }
         let mut words = DrawnWords::of(alloc, &self.plan);
         let state = self.state_in(alloc, block, from, &mut words)?;
-        let (totals, _) = totals_between(
+        let (totals, _) = totals_with(
             alloc,
             &self.plan,
             &self.known.first,
@@ -451,44 +451,26 @@ impl Sheet {
         ensures unchanged { OnErr result (self.new ≡ self.old) }
     {
         let road = finish(alloc, input, speeds)?;
-        let totals = self.totals_after(alloc, input, speeds)?;
         if (self.horizon() + 1) % BLOCK_STEPS == 0 {
-            return self.step_to_end(alloc, road, totals);
+            return self.step_to_end(alloc, input, speeds, road);
         }
-        self.step_within(road, totals);
+        self.step_within(input, speeds, road);
         Ok(())
     }
 
-    // What each detector counts in the block that the horizon cuts, with a step more.
-    fn totals_after(
-        &self,
-        alloc: Global,
-        input: &StepInput,
-        speeds: &[u8],
-    ) -> Result<Vec<Totals>, OutOfMemory>
-        requires input { input.now ≡ next_input self.now }
-        requires speeds { speeds.now ≡ input_speeds input.now }
-        requires within_limit { self.now.horizon < GREATEST_HORIZON }
-        ensures { IfOk result (λ totals. AreTotals self.now.plan self.now.edits
-            (BLOCK_STEPS * (self.now.horizon / BLOCK_STEPS)) (self.now.horizon + 1) totals.items) }
-    {
-        cars_pass_one_by_one(&self.plan);
-        totals_are_bounded(&self.plan);
-        let totals = self.cut.totals_after(alloc, input, speeds)?;
-        Ok(totals)
-    }
-
     // A step more that does not end the block.
-    fn step_within(&mut self, road: Road, totals: Vec<Totals>)
+    fn step_within(&mut self, input: &StepInput, speeds: &[u8], road: Road)
+        requires input { input.now ≡ next_input self.old }
+        requires speeds { speeds.now ≡ input_speeds input.now }
         requires within_limit { self.old.horizon < GREATEST_HORIZON }
         requires within_block { (self.old.horizon + 1) % BLOCK_STEPS ≢ 0 }
         requires road { road ≡ state_of self.old (self.old.horizon + 1) }
-        requires totals { AreTotals self.old.plan self.old.edits
-            (BLOCK_STEPS * (self.old.horizon / BLOCK_STEPS)) (self.old.horizon + 1) totals.items }
         ensures { self.new ≡ sheet_after_step self.old }
     {
+        cars_pass_one_by_one(&self.plan);
+        totals_are_bounded(&self.plan);
         let horizon = self.horizon() + 1;
-        self.cut.totals = totals;
+        self.cut.count(input, speeds);
         self.last = road;
         self.known.second = Greatest::Of(horizon);
     }
@@ -504,26 +486,30 @@ impl Sheet {
         Checkpoint::of(alloc, road)
     }
 
-    // A step more that ends the block.
+    // A step more that ends the block. What can fail for memory is done before the sheet is changed.
     fn step_to_end(
         &mut self,
         alloc: Global,
+        input: &StepInput,
+        speeds: &[u8],
         road: Road,
-        totals: Vec<Totals>,
     ) -> Result<(), OutOfMemory>
+        requires input { input.now ≡ next_input self.old }
+        requires speeds { speeds.now ≡ input_speeds input.now }
         requires within_limit { self.old.horizon < GREATEST_HORIZON }
         requires at_end { (self.old.horizon + 1) % BLOCK_STEPS ≡ 0 }
         requires road { road ≡ state_of self.old (self.old.horizon + 1) }
-        requires totals { AreTotals self.old.plan self.old.edits
-            (BLOCK_STEPS * (self.old.horizon / BLOCK_STEPS)) (self.old.horizon + 1) totals.items }
         ensures grown { OnOk result (self.new ≡ sheet_after_step self.old) }
         ensures unchanged { OnErr result (self.new ≡ self.old) }
     {
+        cars_pass_one_by_one(&self.plan);
+        totals_are_bounded(&self.plan);
         let horizon = self.horizon() + 1;
         let kept = self.checkpoint(alloc, &road)?;
         let next = Block::begin(alloc, kept, self.plan.detectors().len())?;
-        let start = self.cut.start.copied()?;
-        let block = Arc::new(alloc, Block { start, totals })?;
+        let mut ended = self.cut.copied()?;
+        ended.count(input, speeds);
+        let block = Arc::new(alloc, ended)?;
         self.whole.push(block)?;
         self.cut = next;
         self.last = road;

@@ -1,6 +1,6 @@
 //! What is seen of a road's run by the settings that edits give: states, rows and counts, computed step by step.
 //!
-//! Whoever asks hands in words of the plan and may keep them: what is drawn for the steps round the last one serves the next
+//! Who asks often hands in words of the plan and keeps them: what is drawn for the steps round the last one serves the next
 //! question too, whatever the edits.
 
 ghost use Rattle.std.specs.Prelude.{◌≡◌, IfOk, ◌≤◌, ◌<◌, ◌+◌, [], length, map, string_bytes};
@@ -56,12 +56,33 @@ impl State {
 }
 
 /// The state at a step of the run by these edits. It goes on from the last state, where that is not after the step, and
-/// else begins at step 0. The words must be the plan's.
+/// else begins at step 0.
+///
+/// # Errors
+///
+/// `OutOfMemory` where a growth was refused, or the settings can have no more owners.
+pub fn state_at(
+    alloc: Global,
+    plan: &Arc<Plan>,
+    scenario: &Scenario,
+    last: &State,
+    step: u32,
+) -> Result<State, OutOfMemory>
+    requires fits { AreInRange (arc_value plan.now) scenario.now }
+    requires run { last.now.road ≡ run_at (arc_value plan.now) scenario.now last.now.step }
+    ensures step { IfOk result (λ state. state.step ≡ step) }
+    ensures road { IfOk result (λ state. state.road ≡ run_at (arc_value plan.now) scenario.now step) }
+{
+    let mut words = DrawnWords::of(alloc, plan);
+    state_with(alloc, plan, scenario, last, step, &mut words)
+}
+
+/// The state at a step, as [`state_at`], by words that whoever asks keeps. The words must be the plan's.
 ///
 /// # Errors
 ///
 /// `OutOfMemory` where a growth was refused, or the settings can have no more owners. The words are the plan's as before.
-pub fn state_at(
+pub fn state_with(
     alloc: Global,
     plan: &Arc<Plan>,
     scenario: &Scenario,
@@ -154,12 +175,37 @@ pub fn row_of(
 }
 
 /// The rows of the states from a step to another, both of them, and the last of these states. It goes on from a state
-/// at the first step. The words must be the plan's.
+/// at the first step.
+///
+/// # Errors
+///
+/// `OutOfMemory` where a growth was refused, or the settings can have no more owners.
+pub fn rows_between(
+    alloc: Global,
+    plan: &Arc<Plan>,
+    scenario: &Scenario,
+    first: State,
+    to: u32,
+) -> Result<(Vec<String>, State), OutOfMemory>
+    requires fits { AreInRange (arc_value plan.now) scenario.now }
+    requires before { first.step ≤ to }
+    requires horizon { to ≤ GREATEST_HORIZON }
+    requires run { first.road ≡ run_at (arc_value plan.now) scenario.now first.step }
+    ensures rows { IfOk result (λ seen. map string_bytes seen.0.items
+        ≡ rows_at (arc_value plan.now) scenario.now first.step to) }
+    ensures road { IfOk result (λ seen. seen.1.road ≡ run_at (arc_value plan.now) scenario.now seen.1.step) }
+{
+    let mut words = DrawnWords::of(alloc, plan);
+    rows_with(alloc, plan, scenario, first, to, &mut words)
+}
+
+/// The rows of some states and the last of these, as [`rows_between`], by words that whoever asks keeps. The words must be
+/// the plan's.
 ///
 /// # Errors
 ///
 /// `OutOfMemory` where a growth was refused, or the settings can have no more owners. The words are the plan's as before.
-pub fn rows_between(
+pub fn rows_with(
     alloc: Global,
     plan: &Arc<Plan>,
     scenario: &Scenario,
@@ -201,13 +247,38 @@ pub fn rows_between(
     Ok((rows, state))
 }
 
-/// What a detector counts in the steps from that of a state up to another, and the state after them. The words must be
-/// the plan's.
+/// What a detector counts in the steps from that of a state up to another, and the state after them.
+///
+/// # Errors
+///
+/// `OutOfMemory` where a growth was refused, or the settings can have no more owners.
+pub fn totals_between(
+    alloc: Global,
+    plan: &Arc<Plan>,
+    scenario: &Scenario,
+    first: State,
+    detector: u32,
+    to: u32,
+) -> Result<(Totals, State), OutOfMemory>
+    requires fits { AreInRange (arc_value plan.now) scenario.now }
+    requires in_plan { detector < length (arc_value plan.now).detectors }
+    requires before { first.step ≤ to }
+    requires horizon { to ≤ GREATEST_HORIZON }
+    requires run { first.road ≡ run_at (arc_value plan.now) scenario.now first.step }
+    ensures totals { IfOk result (λ seen. seen.0 ≡ total_at (arc_value plan.now) scenario.now detector first.step to) }
+    ensures road { IfOk result (λ seen. seen.1.road ≡ run_at (arc_value plan.now) scenario.now seen.1.step) }
+{
+    let mut words = DrawnWords::of(alloc, plan);
+    totals_with(alloc, plan, scenario, first, detector, to, &mut words)
+}
+
+/// What a detector counts in some steps and the state after them, as [`totals_between`], by words that whoever asks keeps.
+/// The words must be the plan's.
 ///
 /// # Errors
 ///
 /// `OutOfMemory` where a growth was refused, or the settings can have no more owners. The words are the plan's as before.
-pub fn totals_between(
+pub fn totals_with(
     alloc: Global,
     plan: &Arc<Plan>,
     scenario: &Scenario,

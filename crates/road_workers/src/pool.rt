@@ -11,6 +11,7 @@ mod gathering;
 mod job;
 #[cfg(test)]
 mod tests;
+mod waiting;
 mod working;
 
 use crate::crew::{Crew, gone_after};
@@ -19,6 +20,7 @@ use crate::gate::{Gate, NoGate};
 use crate::piece::{Answer, Piece, cars_in};
 use crate::pool::gathering::{is_taken, places_for, put_together};
 use crate::pool::job::{Done, Job};
+use crate::pool::waiting::stay_awake;
 use crate::pool::working::work;
 use crossbeam_channel::{Receiver, SendError, Sender, bounded};
 use road_ends::{OutOfMemory, StepInput};
@@ -284,6 +286,7 @@ fn take_result<R: Wait>(
     ensures gathered { AreGathered input.now places.new.items }
 {
     for _ in rt.forever() {
+        stay_awake(results);
         let Ok(done) = results.recv(rt) else {
             return Err(CrewFault::WorkersGone);
         };

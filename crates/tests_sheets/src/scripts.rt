@@ -7,7 +7,7 @@ use road_ends::DrawnWords;
 use road_plan::{Object, WordKind};
 use road_scenario::{Edit, Stamp, Value};
 use road_sheet::Sheet;
-use road_sheet::simulation::{State, state_at, totals_between};
+use road_sheet::simulation::{State, state_with, totals_between};
 use std::alloc::Global;
 use std::test::Fail;
 use tests_plans::Parts;
@@ -78,7 +78,7 @@ fn states_agree(alloc: Global, sheet: &Sheet) -> Result<bool, Fail> {
     let mut last = State::opening(alloc);
     for place in STEPS {
         let step = (*place).min(sheet.horizon());
-        last = state_at(
+        last = state_with(
             alloc,
             sheet.plan(),
             sheet.scenario(),
@@ -99,7 +99,6 @@ fn totals_from_zero(alloc: Global, sheet: &Sheet, detector: u32, to: u32) -> Res
     if to > 65_536 || sheet.plan().detectors().len() <= detector as usize {
         return Err(Fail::new("no such step, or no such detector"));
     }
-    let mut words = DrawnWords::of(alloc, sheet.plan());
     let (totals, _) = totals_between(
         alloc,
         sheet.plan(),
@@ -107,7 +106,6 @@ fn totals_from_zero(alloc: Global, sheet: &Sheet, detector: u32, to: u32) -> Res
         State::opening(alloc),
         detector,
         to,
-        &mut words,
     )?;
     Ok(totals)
 }

@@ -2,6 +2,7 @@
 
 use crate::gate::Gate;
 use crate::pool::job::{Done, Job};
+use crate::pool::waiting::stay_awake;
 use crossbeam_channel::{Receiver, SendError, Sender};
 use std::alloc::Global;
 use std::sync::{Arc, Wait};
@@ -16,6 +17,7 @@ pub(crate) fn work<R: Wait, G: Gate>(
     results: &Sender<Done>,
 ) {
     for _ in rt.forever() {
+        stay_awake(jobs);
         let Ok(job) = jobs.recv(rt) else {
             return;
         };

@@ -1,22 +1,33 @@
-use Rattle.std.proofs.Common.{◌∙◌, ◌∷◌, [], ◌++◌, ap, map, length, replicate}
+use Rattle.std.proofs.Common.{◌∙◌, ◌∷◌, [], ◌++◌, ap, map, length, replicate, subst}
 use Rattle.std.proofs.lemmas.List.{map-append}
 use Rattle.std.specs.Arc.{arc_value}
+use Rattle.road_detector.specs.Laws.{PassOneByOne, BoundTotals}
 use Rattle.road_detector.specs.Passes.{no_totals}
 use Rattle.road_plan.specs.Plan.{Plan}
 use Rattle.road_sheet.specs.Sheets.{Sheet}
 use Rattle.road_sheet.specs.declared.block.Block.{Block}
-use Rattle.road_sheet.proofs.SheetBlocks.{ends_block}
+use Rattle.road_sheet.proofs.SheetBlocks.{counted_next, ends_block, next_cars_fit, next_speeds_fit}
 use Rattle.road_sheet.proofs.sheet.Sheet.step_to_end.Goals as goal
 
-pub invariant_of-self : goal.invariant_of-self
-invariant_of-self c = rw c.in_err-push.ensures.items c.self.invariant
+pub count-requires-clause-cars : goal.count-requires-clause-cars
+count-requires-clause-cars c =
+    next_cars_fit _ c.args.self.now _ c.self.inside.cut _ c.args.input.now c.args.speeds.now c.in_ok-ended.ended.totals.items c.self.invariant c.self.view_is (subst BoundTotals c.deref-2.ensures c.totals_are_bounded.ensures)
+    (subst PassOneByOne c.deref.ensures c.cars_pass_one_by_one.ensures) c.requires.within_limit c.requires.input c.requires.speeds c.in_ok-ended.ensures.totals
+
+pub count-requires-clause-speeds : goal.count-requires-clause-speeds
+count-requires-clause-speeds c =
+    next_speeds_fit _ c.args.self.now _ c.self.inside.cut _ c.args.input.now c.args.speeds.now c.in_ok-ended.ended.totals.items c.self.invariant c.self.view_is (subst BoundTotals c.deref-2.ensures c.totals_are_bounded.ensures)
+    (subst PassOneByOne c.deref.ensures c.cars_pass_one_by_one.ensures) c.requires.within_limit c.requires.input c.requires.speeds c.in_ok-ended.ensures.totals
 
 pub invariant_of-self-2 : goal.invariant_of-self-2
 invariant_of-self-2 c =
-    let block : Block = record { start = c.in_ok-start.start; totals = c.args.totals } in
-    ends_block _ c.args.self.now c.horizon-horizon.result (map arc_value c.self.inside.whole.items) (map arc_value c.push.new.self.items) c.self.inside.cut block c.in_ok-next.next _ c.args.road c.self.invariant c.self.view_is c.requires.within_limit c.requires.road c.requires.totals c.requires.at_end
-    c.horizon-horizon.ensures
-    (c.in_ok-next.ensures.totals ∙ ap (λ n. replicate n no_totals) (ap length c.detectors.ensures ∙ ap (λ (q : Plan). length q.detectors) (c.deref.ensures ∙ ap (λ (x : Sheet). x.plan) c.self.view_is)))
-    c.in_ok-start.ensures
+    let ended = c.count.new.self in
+    let counted =
+        counted_next _ c.args.self.now _ c.self.inside.cut _ c.args.input.now c.args.speeds.now c.in_ok-ended.ended.totals.items ended.totals.items c.self.invariant c.self.view_is c.requires.input c.requires.speeds c.in_ok-ended.ensures.totals
+        c.count.ensures.each c.count.ensures.totals in
+    ends_block _ c.args.self.now c.horizon-horizon.result (map arc_value c.self.inside.whole.items) (map arc_value c.push.new.self.items) c.self.inside.cut ended c.in_ok-next.next _ c.args.road c.self.invariant c.self.view_is c.requires.within_limit c.requires.road
+    counted c.requires.at_end c.horizon-horizon.ensures
+    (c.in_ok-next.ensures.totals ∙ ap (λ n. replicate n no_totals) (ap length c.detectors.ensures ∙ ap (λ (q : Plan). length q.detectors) (c.deref-3.ensures ∙ ap (λ (x : Sheet). x.plan) c.self.view_is)))
+    (c.count.ensures.start ∙ c.in_ok-ended.ensures.start)
     (c.in_ok-next.ensures.start ∙ c.in_ok-kept.ensures)
     (ap (map arc_value) c.in_ok-push.ensures.items ∙ map-append arc_value c.self.inside.whole.items (c.in_ok-block.block ∷ []) ∙ ap (λ (b : Block). map arc_value c.self.inside.whole.items ++ b ∷ []) c.in_ok-block.ensures.ok)
