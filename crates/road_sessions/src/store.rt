@@ -93,6 +93,15 @@ impl<J: Naming> Absorb<Published<J>> for Published<J> {
         *self = operation.again()?;
         Ok(())
     }
+
+    fn absorb_second(
+        &mut self,
+        operation: Published<J>,
+        _other: &Published<J>,
+    ) -> Result<(), Published<J>> {
+        *self = operation;
+        Ok(())
+    }
 }
 
 /// The rule of the store: what a reader has found begins what is published.

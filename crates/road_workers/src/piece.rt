@@ -1,11 +1,12 @@
 //! Pieces of the list of cars, one for each worker.
 
-ghost use Rattle.std.specs.Prelude.{◌≡◌, ◌≢◌, ℕ, ◌+◌, ◌<◌, ◌≤◌, List, length, slice_range, take, IfOk};
+ghost use Rattle.std.specs.Prelude.{◌≡◌, ◌≢◌, ℕ, ◌+◌, ◌<◌, ◌≤◌, List, [], length, slice_range, take, IfOk};
 ghost use Rattle.road_plan.specs.declared.limits.TheConstants.{GREATEST_LENGTH, MOST_WORKERS};
 ghost use Rattle.road_cells.specs.Cars.{cars_of};
 ghost use Rattle.road_workers.specs.Pieces.{piece_start};
 
 use road_ends::{OutOfMemory, StepInput};
+use std::alloc::Global;
 
 /// The speeds of a piece, or want of memory.
 pub(crate) type Answer = Result<Vec<u8>, OutOfMemory>;
@@ -47,6 +48,17 @@ pub(crate) fn cars_in(input: &StepInput) -> usize
     input.road().cars().len()
 }
 
+/// A list for the speeds of all workers, empty. Those of one worker alone are not put into it but stand for it, so it has
+/// no room then.
+pub(crate) fn list_for(alloc: Global, workers: u32, cars: usize) -> Result<Vec<u8>, OutOfMemory>
+    ensures { IfOk result (λ whole. whole.items ≡ []) }
+{
+    if workers == 1 {
+        return Ok(Vec::new(alloc));
+    }
+    Vec::with_capacity(alloc, cars)
+}
+
 /// The speeds of a piece behind those of the pieces before it.
 #[tactic(auto, using(crate::proofs::PiecesInOrder::take_piece))]
 pub(crate) fn appended(whole: Answer, piece: Answer) -> Answer
@@ -56,6 +68,9 @@ pub(crate) fn appended(whole: Answer, piece: Answer) -> Answer
 {
     let mut whole = whole?;
     let piece = piece?;
+    if whole.is_empty() && whole.capacity() == 0 {
+        return Ok(piece);
+    }
     whole.extend_from_slice(&piece)?;
     Ok(whole)
 }

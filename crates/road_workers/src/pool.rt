@@ -17,7 +17,7 @@ mod working;
 use crate::crew::{Crew, gone_after};
 use crate::faults::CrewFault;
 use crate::gate::{Gate, NoGate};
-use crate::piece::{Answer, Piece, cars_in};
+use crate::piece::{Answer, Piece, cars_in, list_for};
 use crate::pool::gathering::{is_taken, places_for, put_together};
 use crate::pool::job::{Done, Job};
 use crate::pool::waiting::stay_awake;
@@ -161,7 +161,7 @@ fn start_workers<
     ensures { vec_len started.new ≤ workers }
 {
     for worker in 0..workers {
-        match start_worker(rt, alloc, worker, gate, results) {
+        match start_worker(rt, alloc, worker, workers, gate, results) {
             Ok(new) => {
                 if started.push(new).is_err() {
                     return CrewFault::OutOfMemory;
@@ -173,7 +173,7 @@ fn start_workers<
     CrewFault::WorkersGone
 }
 
-// Starts a worker.
+// Starts a worker, one of so many.
 fn start_worker<
     R: Threads + Wait + Clone + Drop + Send + 'static,
     G: Gate + Drop + Send + Sync + 'static,
@@ -181,6 +181,7 @@ fn start_worker<
     rt: &R,
     alloc: Global,
     worker: u32,
+    workers: u32,
     gate: &Arc<G>,
     results: &Sender<Done>,
 ) -> Result<Worker, CrewFault> {
@@ -190,7 +191,7 @@ fn start_worker<
     let their_rt = rt.clone()?;
     let started = thread::spawn(
         rt,
-        move || work(&their_rt, alloc, worker, &*gate, &theirs, &results),
+        move || work(&their_rt, alloc, worker, workers, &*gate, &theirs, &results),
     );
     match started {
         Ok(thread) => Ok(Worker { jobs, thread }),
@@ -221,7 +222,7 @@ fn speeds_by<R: Wait>(
 {
     let count = workers.len() as u32;
     let cars = cars_in(input);
-    let whole = Vec::with_capacity(alloc, cars)?;
+    let whole = list_for(alloc, count, cars)?;
     let mut places = places_for(alloc, count, input)?;
     let (jobs, sent) = send_jobs(rt, input, workers, cars);
     for _ in 0..jobs {
@@ -286,7 +287,7 @@ fn take_result<R: Wait>(
     ensures gathered { AreGathered input.now places.new.items }
 {
     for _ in rt.forever() {
-        stay_awake(results);
+        stay_awake(results, places.len() as u32);
         let Ok(done) = results.recv(rt) else {
             return Err(CrewFault::WorkersGone);
         };

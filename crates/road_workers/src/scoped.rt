@@ -12,7 +12,7 @@ ghost use Rattle.road_workers.specs.Private.Started.{AreStartedFrom};
 use crate::crew::{Crew, gone_after};
 use crate::faults::CrewFault;
 use crate::gate::Gate;
-use crate::piece::{Answer, Piece, appended, cars_in};
+use crate::piece::{Answer, Piece, appended, cars_in, list_for};
 use road_ends::{OutOfMemory, StepInput};
 use std::alloc::Global;
 use std::marker::Model;
@@ -105,7 +105,7 @@ fn speeds_by<R: Threads + Wait>(
             requires { (0 < workers) × (workers ≤ MOST_WORKERS) }
             ensures { IfOk result (λ new. new.items ≡ input_speeds input.entry.now) }
         {
-            let whole = Vec::with_capacity(alloc, cars_in(input))?;
+            let whole = list_for(alloc, workers, cars_in(input))?;
             let started = start_workers(scope, alloc, input, workers, gate)?;
             let count = started.len();
             let whole = joined(rt, whole, started, input, workers);

@@ -7,15 +7,19 @@
 //! `sessions_bench looks READERS LOOKS WRITES`: 1 to 7 sessions make LOOKS looks each, while another one publishes the
 //! same road again and again, at most WRITES times. It prints for each of them how often it did and the nanoseconds that
 //! it took, the writer first. `sessions_bench steps READERS LOOKS WRITES` is the same on 8,192 cells with random
-//! slowing, where each write is one step more. Without words it does nothing.
+//! slowing, where each write is one step more, and `sessions_bench advances READERS LOOKS WRITES` on the 12 cells.
+//!
+//! `sessions_bench bare LOOKS WRITES`: the same of one reader and a writer of `left_right` with nothing of this repository
+//! between them, which publishes a number. Without words it does nothing.
 #![tactic(auto)]
 
+mod bare;
 mod crowd;
 mod looking;
 mod merge;
 
 use crate::crowd::merges;
-use crate::looking::{Work, timed};
+use crate::looking::{Done, Work, timed};
 use anyhow::{Context, Result};
 use road_plan::{Plan, WordKind};
 use std::alloc::Global;
@@ -58,8 +62,13 @@ fn time_looks<R: Threads + Wait + Clock + Print + Sync>(
     readers: u32,
     work: Work,
 ) -> Result<()> {
-    for done in timed(rt, alloc, plan, readers, work)? {
-        let done = done.context("no clock")?;
+    print_all(rt, timed(rt, alloc, plan, readers, work)?.as_slice())
+}
+
+// A line for each.
+fn print_all<R: Print>(rt: &R, all: &[Option<Done>]) -> Result<()> {
+    for done in all {
+        let done = (*done).context("no clock")?;
         println!(rt; "{} {}", done.times, done.nanoseconds)?;
     }
     Ok(())
@@ -76,12 +85,17 @@ fn main(rt: HostRuntime) -> Result<()> {
     }
     let (parts, steps) = match what.as_str() {
         "steps" => (LONG, 1),
+        "advances" => (FREE, 1),
         _ => (FREE, 0),
     };
     let plan = Arc::new(rt.alloc(), plan_of(rt.alloc(), &parts)?)?;
     match (what.as_str(), numbers.as_slice()) {
         ("merge", [writes, runs]) => merge_all(&rt, rt.alloc(), &plan, *writes, *runs),
-        ("looks" | "steps", [readers, looks, writes]) => {
+        ("bare", [looks, writes]) => {
+            let done = bare::timed(&rt, rt.alloc(), *looks, *writes)?;
+            print_all(&rt, done.as_slice())
+        }
+        ("looks" | "advances" | "steps", [readers, looks, writes]) => {
             let work = Work {
                 looks: *looks,
                 writes: *writes,

@@ -12,12 +12,13 @@ pub(crate) fn work<R: Wait, G: Gate>(
     rt: &R,
     alloc: Global,
     worker: u32,
+    workers: u32,
     gate: &G,
     jobs: &Receiver<Job>,
     results: &Sender<Done>,
 ) {
     for _ in rt.forever() {
-        stay_awake(jobs);
+        stay_awake(jobs, workers);
         let Ok(job) = jobs.recv(rt) else {
             return;
         };

@@ -1,4 +1,4 @@
-use Rattle.std.proofs.Common.{◌∙◌, subst, refl}
+use Rattle.std.proofs.Common.{subst, refl}
 use Rattle.road_detector.specs.Laws.{PassOneByOne, BoundTotals}
 use Rattle.road_sheet.proofs.SheetBlocks.{counted_next, next_cars_fit, next_speeds_fit, stays_in_block}
 use Rattle.road_sheet.proofs.sheet.Sheet.step_within.Goals as goal

@@ -1,0 +1,90 @@
+//! Looks at a number that `left_right` publishes, with nothing of this repository in between.
+
+ghost use Rattle.std.specs.Prelude.{max};
+
+use crate::looking::Done;
+use anyhow::Result;
+use left_right::{Absorb, ReadHandle, WriteHandle, new};
+use std::alloc::{AllocError, Global};
+use std::sync::Wait;
+use std::sync::atomic::{AtomicBool, Ordering};
+use std::thread::{Threads, join};
+use std::time::{Clock, Instant};
+
+/// The greatest number that was written.
+#[derive(Clone, Copy, Default, Drop)]
+struct Greatest(u64);
+
+impl Absorb<u64> for Greatest {
+    type State = u64;
+
+    ghost state = { λ greatest. greatest.0 };
+
+    ghost applied = { max };
+
+    ghost never_fails = { Unit {0} };
+
+    fn absorb_first(&mut self, operation: &u64, _other: &Greatest) -> Result<(), AllocError> {
+        self.0 = self.0.max(*operation);
+        Ok(())
+    }
+}
+
+// A reader looks so often, and says when it has ended. The looks that were let in are counted.
+fn looks<C: Clock>(
+    rt: &C,
+    reader: &mut ReadHandle<Greatest>,
+    count: u32,
+    has_ended: &AtomicBool,
+) -> Option<Done> {
+    let start = Instant::now(rt).ok()?;
+    let mut times = 0u64;
+    for _ in 0..count {
+        if let Some(greatest) = reader.enter() {
+            times = times.saturating_add(1).max(greatest.0);
+        }
+    }
+    has_ended.store(true, Ordering::SeqCst);
+    let nanoseconds = start.elapsed(rt).ok()?.as_nanos();
+    Some(Done { times, nanoseconds })
+}
+
+// The writer publishes at most so often, and until the reader has ended.
+fn publishes<C: Clock, R: Wait + Drop>(
+    rt: &C,
+    writer: &mut WriteHandle<Greatest, u64, R>,
+    count: u32,
+    has_ended: &AtomicBool,
+) -> Option<Done> {
+    let start = Instant::now(rt).ok()?;
+    let mut times = 0u64;
+    for _ in 0..count {
+        if has_ended.load(Ordering::SeqCst)
+            || writer.append(0).is_err()
+            || writer.publish().is_err()
+        {
+            break;
+        }
+        times = times.saturating_add(1);
+    }
+    let nanoseconds = start.elapsed(rt).ok()?.as_nanos();
+    Some(Done { times, nanoseconds })
+}
+
+/// What a writer of a number and one reader have done, each on a thread of its own, the writer first; none where the clock
+/// could not be read.
+pub(crate) fn timed<W: Threads + Wait + Clock + Clone + Drop + Sync>(
+    rt: &W,
+    alloc: Global,
+    count: u32,
+    writes: u32,
+) -> Result<[Option<Done>; 2]> {
+    let (mut writer, mut reader) = new::<Greatest, u64, _, _>(alloc, rt.clone()?, 1)?;
+    let has_ended = AtomicBool::new(false);
+    let (looked, published) = join(
+        rt,
+        || looks(rt, &mut reader, count, &has_ended),
+        || publishes(rt, &mut writer, writes, &has_ended),
+    );
+    Ok([published, looked])
+}
