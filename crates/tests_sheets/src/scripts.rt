@@ -7,7 +7,7 @@ use road_ends::DrawnWords;
 use road_plan::{Object, WordKind};
 use road_scenario::{Edit, Stamp, Value};
 use road_sheet::Sheet;
-use road_sheet::simulation::{State, state_with, totals_between};
+use road_sheet::simulation::{State, state_at, totals_between};
 use std::alloc::Global;
 use std::test::Fail;
 use tests_plans::Parts;
@@ -70,22 +70,15 @@ impl Dice {
     }
 }
 
-// Whether a sheet shows the states that the run from step zero has, which goes on from each to the next; both by the same
-// words, which are kept.
+// Whether a sheet shows the states that the run from step zero has, which goes on from each to the next; the sheet by words
+// that are kept.
 fn states_agree(alloc: Global, sheet: &Sheet) -> Result<bool, Fail> {
     sheet.known();
     let mut words = DrawnWords::of(alloc, sheet.plan());
     let mut last = State::opening(alloc);
     for place in STEPS {
         let step = (*place).min(sheet.horizon());
-        last = state_with(
-            alloc,
-            sheet.plan(),
-            sheet.scenario(),
-            &last,
-            step,
-            &mut words,
-        )?;
+        last = state_at(alloc, sheet.plan(), sheet.scenario(), &last, step)?;
         if sheet.state_with(alloc, step, &mut words)?.cars() != last.road.cars() {
             return Ok(false);
         }
