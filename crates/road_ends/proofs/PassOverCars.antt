@@ -1,9 +1,10 @@
 -- What the pass over the cars computes.
-use Rattle.std.specs.Prelude.{◌≡◌, ℕ, ◌+◌, ◌/◌, ◌<◌, ◌≤◌, ◌||◌, ◌-◌, min, Bool, true, suc, List, ◌∷◌, length, drop, is_some, slice_index, slice_range, slice_set}
+use Rattle.std.specs.Prelude.{◌≡◌, ℕ, ◌+◌, ◌*◌, ◌/◌, ◌<◌, ◌≤◌, ◌||◌, ◌-◌, min, Bool, true, suc, List, [], length, is_some, slice_index, slice_range}
 use Rattle.std.proofs.Common.{sym, ap, ◌∙◌, arith, refl, inl, inr}
 use Rattle.std.proofs.lemmas.Bool.{cases_lt}
 use Rattle.std.specs.List.Sorted.{IsNonDecreasing}
-use Rattle.std.proofs.lemmas.List.{drop-set, drop_more, get_or-map, length-map}
+use Rattle.std.proofs.Math.Nat.{div-lt_iff_lt-mul, div-mul-le_self}
+use Rattle.std.proofs.lemmas.List.{ext_get_or, get_or-map, length-map}
 use Rattle.std.proofs.lemmas.List.Edits.{length-between, get_or-between}
 use Rattle.road_plan.specs.Plan.{Plan, zone_of}
 use Rattle.road_plan.specs.Settings.{Settings, Fits}
@@ -21,7 +22,8 @@ use Rattle.road_rules.proofs.MotionOfCars.{cell_at-end}
 use Rattle.road_rules.specs.Speeds.{wanted, slowed, has_event}
 use Rattle.road_ends.specs.Speed.{gap, speed, speeds, nth_car}
 use Rattle.road_ends.specs.Private.KeptHalves.{AreHalves, IsHeldUp}
-use Rattle.road_ends.specs.Private.PassPlaces.{IsNthOrNowhere, AreOfZone}
+use Rattle.road_ends.specs.Private.PassPlaces.{IsNthOrNowhere, AreOfZone, wanted_before}
+use Rattle.road_ends.proofs.KeptColumns.{no_halves}
 use Rattle.road_ends.proofs.StepByCars.{gap-free_cells}
 
 -- no cell is free where the first one is taken
@@ -43,6 +45,23 @@ pub before_next : (a : Array) (k next : ℕ) → length a ≤ 65536 → k < leng
 before_next a k next long below is = elim (cases_lt (k + 1) (length (cars_of a))) as (λ _. cell_at (cars_of a) k < next) [
   | inl more ↦ let rise = rise-at 0 (cars_of a) k (k + 1) (rise-cars_from 0 a) (omega arith) more in let here = is.here more in omega arith
   | inr last ↦ let end = cell_at-end 0 a k below in let far = is.none last in omega arith
+]
+
+-- a cell that is not before the first cell of a zone is not of a zone before it
+pub zone_from : (width c zone : ℕ) → 0 < width → zone * width ≤ c → zone ≤ c / width
+zone_from width c zone wide from = elim (cases_lt (c / width) zone) as (λ _. zone ≤ c / width) [
+  | inl less ↦ let before : c < zone * width = (div-lt_iff_lt-mul {k = width} {x = c} {y = zone} wide).0 less in absurd (omega arith)
+  | inr more ↦ more
+]
+
+-- a cell that is not behind another is not of a zone behind its zone
+pub zone_up_to : (width c end : ℕ) → 0 < width → c ≤ end → c / width ≤ end / width
+zone_up_to width c end wide to = elim (cases_lt (end / width) (c / width)) as (λ _. c / width ≤ end / width) [
+  | inl less ↦
+      let before : end < c / width * width = (div-lt_iff_lt-mul {k = width} {x = end} {y = c / width} wide).0 less in
+      let most = div-mul-le_self c width in
+      absurd (omega arith)
+  | inr more ↦ more
 ]
 
 -- a cell lies before the next block
@@ -139,20 +158,44 @@ module _ (p : Plan) (s : Settings) (t : ℕ) (a : Array) where
   pub speed_each : length (speeds p s t a) ≡ length (cars_of a)
   speed_each = length-map (cars_of a) (λ car. speed p s t a car.cell (vehicle_of car))
 
-  -- the speeds of a piece that are listed from its far end, and the one before them
-  pub one_speed_before_in : (new : List ℕ) (first end k v : ℕ) → first ≤ k → k < end → end ≤ length (cars_of a) → length new ≡ end - first
-      → v ≡ speed p s t a (nth_car (cars_of a) k).cell (vehicle_of (nth_car (cars_of a) k))
-      → drop ((k - first) + 1) new ≡ drop ((k - first) + 1) (slice_range (speeds p s t a) first end)
-      → drop (k - first) (slice_set new (k - first) v) ≡ drop (k - first) (slice_range (speeds p s t a) first end)
-  one_speed_before_in new first end k v after before within long is rest =
-      let all = speeds p s t a in
-      let at = k - first in
-      let same : first + at ≡ k = omega arith in
-      let below : k < length (cars_of a) = omega arith in
+  -- the k-th of them
+  pub speed_at : (k : ℕ) → k < length (cars_of a) → slice_index (speeds p s t a) k ≡ speed p s t a (nth_car (cars_of a) k).cell (vehicle_of (nth_car (cars_of a) k))
+  speed_at k below = get_or-map (λ car. speed p s t a car.cell (vehicle_of car)) (cars_of a) k (record { number = 0; cell = 0; speed = 0 }) 0 below
+
+  -- the speeds of a piece, read one by one
+  pub speeds_of_piece : (new : List ℕ) (first end : ℕ) → first ≤ end → end ≤ length (cars_of a) → length new ≡ end - first
+      → ((k : ℕ) → first ≤ k → k < end → slice_index new (k - first) ≡ slice_index (speeds p s t a) k)
+      → new ≡ slice_range (speeds p s t a) first end
+  speeds_of_piece new first end order within long are =
       let each = speed_each in
-      let size = length-between all first end (omega arith) in
-      let here = get_or-between all first end at 0 (omega arith) ∙ ap (λ i. slice_index all i) same
-      ∙ get_or-map (λ car. speed p s t a car.cell (vehicle_of car)) (cars_of a) k (record { number = 0; cell = 0; speed = 0 }) 0 below in
-      drop-set new at v (omega arith)
-      ∙ (λ i. (is ∙ sym here) i ∷ rest i)
-      ∙ sym (drop_more (slice_range all first end) at 0 (omega arith))
+      let size = length-between (speeds p s t a) first end (omega arith) in
+      ext_get_or 0 new (slice_range (speeds p s t a) first end) (omega arith)
+      (λ i below. let back : (first + i) - first ≡ i = omega arith in
+      ap (slice_index new) (sym back) ∙ are (first + i) (omega arith) (omega arith) ∙ sym (get_or-between (speeds p s t a) first end i 0 (omega arith)))
+
+  -- a car of a stretch has the limit, the chance and the next block of the car at its front, and the speed by them is that of the definition
+  pub stretch_speed : (words : ℕ → ℕ → ℕ) (cars : List Car) (halves : List ℕ) (k front reached block start limit chance low v : ℕ) → Fits p s → length a ≤ p.cells → p.cells ≤ 65536 → IsNonDecreasing s.blocks
+      → AreHalves p.words t a halves → ((stream step : ℕ) → words stream step ≡ word p.words stream step) → cars ≡ cars_of a → k < front → front < length (cars_of a)
+      → ArePartedAt s.blocks (cell_at (cars_of a) front) reached → IsNthOrNowhere (length s.blocks) reached (slice_index s.blocks reached) block
+      → ((c : ℕ) → start ≤ c → c ≤ cell_at (cars_of a) front → AreOfZone s.limits s.chances (zone_of p c) limit chance)
+      → start ≤ low → ((i : ℕ) → i < reached → slice_index s.blocks i ≤ low) → low ≤ cell_at (cars_of a) k
+      → (front ≤ length halves → (word : ℕ) → (0 < wanted_before cars limit (cell_at cars (k + 1)) block k → slice_index halves k ≡ word / 65536)
+      → v ≡ slowed (wanted_before cars limit (cell_at cars (k + 1)) block k) (has_event word chance))
+      → (length halves < front → v ≡ slowed (wanted_before cars limit (cell_at cars (k + 1)) block k) (has_event (words (nth_car cars k).number t) chance))
+      → v ≡ speed p s t a (nth_car (cars_of a) k).cell (vehicle_of (nth_car (cars_of a) k))
+  stretch_speed words cars halves k front reached block start limit chance low v fits long short rising are named all behind below parted is_block alike from_zone from_blocks from by_half by_word =
+      let cell = cell_at (cars_of a) k in
+      let order = rise-at 0 (cars_of a) k front (rise-cars_from 0 a) behind below in
+      let parted_here : ArePartedAt s.blocks cell reached = record {
+        reached = λ i before inside. let low_block = from_blocks i before in omega arith;
+        ahead = λ i after inside. let far = parted.ahead i after inside in omega arith;
+      } in
+      let is_next : IsNthOrNowhere (length (cars_of a)) (k + 1) (cell_at (cars_of a) (k + 1)) (cell_at cars (k + 1)) =
+      record { here = λ _. ap (λ (cs : List Car). cell_at cs (k + 1)) all; none = λ past. absurd (omega arith) } in
+      let of_zone = alike cell (omega arith) (omega arith) in
+      elim (cases_lt (length halves) front) as (λ _. v ≡ speed p s t a (nth_car (cars_of a) k).cell (vehicle_of (nth_car (cars_of a) k))) [
+        | inl none ↦ pass_speed words cars [] k reached (cell_at cars (k + 1)) block (zone_of p cell) limit chance v fits long short rising (no_halves p.words t a [] refl) named all (omega arith) parted_here is_next is_block refl of_zone
+            (λ inside. absurd (omega arith)) (λ _. by_word none)
+        | inr more ↦ pass_speed words cars halves k reached (cell_at cars (k + 1)) block (zone_of p cell) limit chance v fits long short rising are named all (omega arith) parted_here is_next is_block refl of_zone
+            (λ _. by_half more) (λ past. absurd (omega arith))
+      ]

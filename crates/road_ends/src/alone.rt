@@ -1,14 +1,14 @@
 ghost use Rattle.std.specs.Prelude.{◌≡◌, ◌+◌, min, IfOk, OnOk, OnErr};
 ghost use Rattle.std.specs.Arc.{arc_value};
 ghost use Rattle.road_plan.specs.Settings.{Fits};
-ghost use Rattle.road_ends.specs.Input.{input_next, input_of, input_speeds};
+ghost use Rattle.road_ends.specs.Input.{input_of, input_speeds};
 ghost use Rattle.road_ends.specs.Run.{road_after_step};
 
 use crate::OutOfMemory;
 use crate::drawn::DrawnWords;
 use crate::input::{StepInput, enter, enter_with};
 use crate::meter::Meter;
-use crate::step::finish;
+use crate::step::{finish, finish_with};
 use road_cells::Road;
 use road_plan::{Plan, Settings};
 use std::alloc::Global;
@@ -49,9 +49,14 @@ pub fn step_alone(
     ensures kept { OnErr result (meter.new ≡ meter.old) }
 {
     let input = enter(alloc, plan, settings, step, road)?;
-    let done = step_of(alloc, input)?;
+    let speeds = input.speeds(alloc)?;
+    let road = finish(alloc, &input, &speeds)?;
     meter.tick();
-    Ok(done)
+    Ok(Stepped {
+        input,
+        speeds,
+        road,
+    })
 }
 
 /// One step of the road, as [`step_alone`], of a run whose words are drawn for 64 steps at once. The words must be the
@@ -80,17 +85,8 @@ pub fn step_with(
     ensures unchanged { words.new ≡ words.old }
 {
     let input = enter_with(alloc, plan, settings, step, road, words)?;
-    step_of(alloc, input)
-}
-
-// The step of an input.
-fn step_of(alloc: Global, input: Arc<StepInput>) -> Result<Stepped, OutOfMemory>
-    ensures input { IfOk result (λ done. done.input ≡ input) }
-    ensures speeds { IfOk result (λ done. done.speeds.items ≡ input_speeds (arc_value input)) }
-    ensures road { IfOk result (λ done. done.road ≡ input_next (arc_value input)) }
-{
     let speeds = input.speeds(alloc)?;
-    let road = finish(alloc, &input, &speeds)?;
+    let road = finish_with(alloc, &input, &speeds, words)?;
     Ok(Stepped {
         input,
         speeds,

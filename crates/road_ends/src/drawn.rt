@@ -1,15 +1,18 @@
-ghost use Rattle.std.specs.Prelude.{◌≡◌, ℕ, ◌-◌, ◌<◌, ◌≤◌, ◌/◌, ◌%◌, length, slice_index, IsTrue, IfOk, IfSome};
+ghost use Rattle.std.specs.Prelude.{◌≡◌, ℕ, [], ◌-◌, ◌<◌, ◌≤◌, ◌/◌, ◌%◌, length, slice_index, IsTrue, IfOk, IfSome};
 ghost use Rattle.road_words.specs.Words.{word};
 ghost use Rattle.road_ends.specs.Entries.{inlet_stream};
 ghost use Rattle.road_ends.specs.Private.KeptHalves.{AreHalves, IsHalf, IsHeldUp};
 
 use crate::OutOfMemory;
+use crate::input::StepInput;
 use crate::rows::{NO_ROW, ROW_STEPS, WordRows};
 use road_cells::{Car, Road};
 use road_plan::Plan;
 use road_plan::limits::MOST_INLETS;
 use std::alloc::Global;
 use std::marker::Model;
+use std::mem;
+use std::sync::Arc;
 
 /// The stream of the first inlet's words; the others follow it.
 const FIRST_INLET_STREAM: u64 = 1 << 63;
@@ -18,13 +21,17 @@ const FIRST_INLET_STREAM: u64 = 1 << 63;
 /// that is open, the upper halves of its words. Contracts see where the words come from: they are those of the
 /// plan whatever is kept.
 ///
-/// It serves a run whose steps follow one another. After any other step it draws anew.
+/// It serves a run whose steps follow one another. After any other step it draws anew. It also keeps the memory of two
+/// roads that the run no longer needs, for the next ones: see [`DrawnWords::reuse`].
 #[derive(Drop)]
 pub struct DrawnWords {
     rows: WordRows,
     // For each car of the last step, in order, the slot of its row.
     cars: Vec<u32>,
     inlets: [u32; MOST_INLETS],
+    // The memory of roads that are no longer needed: of the last one, and of the one before it.
+    spare: Vec<Car>,
+    further: Vec<Car>,
 }
 
 impl Model for DrawnWords {
@@ -44,7 +51,37 @@ impl DrawnWords {
             rows: WordRows::of(alloc, plan.words()),
             cars: Vec::new(alloc),
             inlets: [NO_ROW; MOST_INLETS],
+            spare: Vec::new(alloc),
+            further: Vec::new(alloc),
         }
+    }
+
+    /// Keeps the memory of a road that is no longer needed, for that of a step to come. It takes no memory.
+    pub fn reuse(&mut self, road: Road)
+        ensures { self.new ≡ self.old }
+    {
+        self.further = mem::replace(&mut self.spare, road.into_cars());
+    }
+
+    /// Keeps the memory of a step's road before its motion, as [`DrawnWords::reuse`], where nobody else needs the input.
+    pub fn reuse_input(&mut self, input: Arc<StepInput>)
+        ensures { self.new ≡ self.old }
+    {
+        match Arc::try_unwrap(input) {
+            Ok(input) => self.reuse(input.into_road()),
+            Err(_) => {}
+        }
+    }
+
+    // A list without cars, in memory that is kept where there is some.
+    pub(crate) fn list(&mut self, alloc: Global) -> Vec<Car>
+        ensures empty { result.items ≡ [] }
+        ensures unchanged { self.new ≡ self.old }
+    {
+        let further = mem::replace(&mut self.further, Vec::new(alloc));
+        let mut cars = mem::replace(&mut self.spare, further);
+        cars.clear();
+        cars
     }
 
     // The road has so many cars before the next step's entries: those of the last step but for the ones that left, at

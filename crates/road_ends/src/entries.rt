@@ -16,7 +16,7 @@ use std::alloc::Global;
 
 // The road with the cars that enter at a step: at each inlet whose cell is empty and not blocked, and whose word has
 // its event under the inflow chance. Cars past the road's end are left out. The cars between two inlets are copied as
-// they are, in one growth for all.
+// they are, in one growth for all, or in the memory of a road before.
 #[inline(never)]
 pub(crate) fn entered(
     alloc: Global,
@@ -34,7 +34,8 @@ pub(crate) fn entered(
 {
     plan.known();
     words.follow(road.cars().len())?;
-    let mut cars = Vec::with_capacity(alloc, road.cars().len() + plan.inlets().len())?;
+    let mut cars = words.list(alloc);
+    cars.reserve(road.cars().len() + plan.inlets().len())?;
     let mut cell = 0;
     while cell < plan.length() {
         let inlet = next_inlet(plan.inlets(), cell, plan.length());

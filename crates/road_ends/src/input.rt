@@ -62,6 +62,14 @@ impl StepInput {
         &self.road
     }
 
+    // The road, where the rest is no longer needed. It takes no memory.
+    pub(crate) fn into_road(self) -> Road
+        ensures { result ≡ self.road }
+    {
+        let StepInput { road, .. } = self;
+        road
+    }
+
     /// The plan.
     pub fn plan(&self) -> &Plan
         ensures { result.now ≡ self.now.plan }

@@ -34,4 +34,4 @@ pub use letters::{BLOCKED, EMPTY, STANDING};
 pub use meter::Meter;
 /// Want of memory, answered only where a growth was refused.
 pub use std::alloc::AllocError as OutOfMemory;
-pub use step::{finish, leave};
+pub use step::{finish, finish_with, leave};

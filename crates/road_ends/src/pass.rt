@@ -7,12 +7,15 @@ ghost use Rattle.road_cells.specs.Cars.{cars_of, cell_at};
 ghost use Rattle.road_cells.specs.Gap.{ArePartedAt};
 ghost use Rattle.road_cells.specs.declared.car.TheConstants.{GREATEST_SPEED};
 ghost use Rattle.road_rules.specs.Speeds.{has_event, slowed, wanted};
-ghost use Rattle.road_ends.specs.Speed.{speeds};
+ghost use Rattle.road_ends.specs.Speed.{nth_car, speeds};
 ghost use Rattle.road_ends.specs.Private.KeptHalves.{AreHalves};
-ghost use Rattle.road_ends.specs.Private.PassPlaces.{IsNthOrNowhere, AreOfZone};
+ghost use Rattle.road_ends.specs.Private.PassPlaces.{IsNthOrNowhere, AreOfZone, wanted_before};
+
+mod stretch;
 
 use crate::OutOfMemory;
 use crate::chance::{slowed_by_chance, slowed_by_half};
+use crate::pass::stretch::{first_car, first_cell, slow_by_halves, slow_by_words, wish};
 use road_cells::{Car, GREATEST_SPEED, Road, reached_blocks_below};
 use road_plan::{Plan, Settings};
 use road_rules::wanted;
@@ -29,7 +32,7 @@ struct Cursor {
     next: u32,
     /// The blocked cell in front.
     block: Block,
-    /// The zone where the car stands.
+    /// The zones behind the car in front, as far as they are alike.
     zone: Zone,
 }
 
@@ -40,10 +43,9 @@ struct Block {
     cell: u32,
 }
 
-/// A zone, its first cell, its speed limit and its slowing chance.
+/// Zones side by side with the same speed limit and slowing chance, from the one where a car stands down: their first cell.
 #[derive(Clone, Copy)]
 struct Zone {
-    index: usize,
     start: u32,
     limit: u32,
     chance: u32,
@@ -68,9 +70,9 @@ pub(crate) fn speeds(
 }
 
 // The new speeds of the cars at the places from `first` to before `end`, in the order of the cars. It is one pass over
-// these cars from their far end, in one growth. The next car, the next blocked cell, and the zone's limit and chance come
-// with the pass, so that nothing is searched or looked up for a car; a word is drawn only where no half of it is given and
-// it can change a speed; and a zone is divided out only where it changes.
+// these cars from their far end, in one growth, and from stretch to stretch: the first car of each finds its zone and the
+// next blocked cell, and the cars behind it in the stretch share them, so that nothing is looked up for them.
+// A word is drawn only where no half of it is given and it can change a speed.
 #[inline(never)]
 pub(crate) fn speeds_between(
     alloc: Global,
@@ -97,15 +99,61 @@ pub(crate) fn speeds_between(
     let chances = settings.chances();
     let blocks = settings.blocks();
     let mut new = vec![in alloc; 0; end - first]?;
-    let mut cursor = far_end(limits, chances, blocks, cell_at(cars, end));
-    for place in (first..end).rev() {
+    let mut cursor = far_end(blocks, cell_at(cars, end));
+    let mut place = end;
+    while place > first {
+        place -= 1;
         let car = cars[place];
         cursor.zone = zone_at(width, limits, chances, car.cell, cursor.zone);
         cursor.block = block_ahead(blocks, car.cell, cursor.block);
         new[place - first] = new_speed(&words, step, car, halves, place, cursor);
-        cursor.next = car.cell;
+        let from = first_car(road, first_cell(blocks, cursor), first, place);
+        speeds_behind(
+            &words, step, cars, halves, cursor, first, from, place, &mut new,
+        );
+        place = from;
+        cursor.next = cars[place].cell;
     }
     Ok(new)
+}
+
+// The new speeds of the cars of a stretch at the places `from` to before `to`, in a list whose first car is at the place
+// `first`; the car at `to` is in front of them.
+#[inline(always)]
+fn speeds_behind(
+    words: &PlanWords,
+    step: u32,
+    cars: &[Car],
+    halves: &[u16],
+    cursor: Cursor,
+    first: usize,
+    from: usize,
+    to: usize,
+    new: &mut [u8],
+)
+    requires order { from ≤ to }
+    requires front { to < length cars.now }
+    requires apart { (k : ℕ) → from ≤ k → k < to → cell_at cars.now k < min (cell_at cars.now (k + 1)) cursor.block.cell }
+    requires from { first ≤ from }
+    requires room { to - first ≤ length new.old }
+    ensures long { length new.new ≡ length new.old }
+    ensures rest { (k : ℕ) → to ≤ k → slice_index new.new (k - first) ≡ slice_index new.old (k - first) }
+    ensures by_half { to ≤ length halves.now → (k : ℕ) → from ≤ k → k < to →
+        let wished = wanted_before cars.now cursor.zone.limit (cell_at cars.now (k + 1)) cursor.block.cell k in
+        (word : ℕ) → (0 < wished → slice_index halves.now k ≡ word / 65536)
+        → slice_index new.new (k - first) ≡ slowed wished (has_event word cursor.zone.chance) }
+    ensures by_word { length halves.now < to → (k : ℕ) → from ≤ k → k < to →
+        let wished = wanted_before cars.now cursor.zone.limit (cell_at cars.now (k + 1)) cursor.block.cell k in
+        let word = ⟦<PlanWords as Words>⟧.word_of words.now (nth_car cars.now k).number step in
+        slice_index new.new (k - first) ≡ slowed wished (has_event word cursor.zone.chance) }
+{
+    wish(cars, cursor, first, from, to, new);
+    let chance = cursor.zone.chance;
+    if to <= halves.len() {
+        slow_by_halves(halves, chance, first, from, to, new);
+    } else {
+        slow_by_words(words, step, cars, chance, first, from, to, new);
+    }
 }
 
 // The cell of a car, or a cell past all roads where there is no such car.
@@ -118,16 +166,12 @@ fn cell_at(cars: &[Car], place: usize) -> u32
     }
 }
 
-// Where the pass begins: in front is a car at most, and no blocked cell counts as reached yet.
-fn far_end(limits: &[u32], chances: &[u32], blocks: &[u32], next: u32) -> Cursor
-    requires limits { 0 < length limits.now }
-    requires chances { 0 < length chances.now }
+// Where the pass begins: in front is a car at most, no blocked cell counts as reached yet, and no zone is looked up.
+fn far_end(blocks: &[u32], next: u32) -> Cursor
     ensures next { result.next ≡ next }
     ensures reached { result.block.reached ≡ length blocks.now }
     ensures block { result.block.cell ≡ NOWHERE }
-    ensures zone { result.zone.index ≡ 0 }
-    ensures start { result.zone.start ≡ 0 }
-    ensures of_zone { AreOfZone limits.now chances.now result.zone.index result.zone.limit result.zone.chance }
+    ensures zone { result.zone.start ≡ NOWHERE }
 {
     Cursor {
         next,
@@ -136,36 +180,49 @@ fn far_end(limits: &[u32], chances: &[u32], blocks: &[u32], next: u32) -> Cursor
             cell: NOWHERE,
         },
         zone: Zone {
-            index: 0,
-            start: 0,
-            limit: limits[0],
-            chance: chances[0],
+            start: NOWHERE,
+            limit: 0,
+            chance: 0,
         },
     }
 }
 
-// The zone of a cell. Most cells lie in the zone of the cell before.
+// The zone of a cell, with those before it that are alike: looked up where the cell lies before the last ones.
 #[inline(always)]
 fn zone_at(width: u32, limits: &[u32], chances: &[u32], cell: u32, last: Zone) -> Zone
     requires wide { 0 < width }
     requires limits { cell / width < length limits.now }
     requires chances { cell / width < length chances.now }
-    requires start { last.start ≡ last.index * width }
-    requires of_zone { AreOfZone limits.now chances.now last.index last.limit last.chance }
-    ensures zone { result.index ≡ cell / width }
-    ensures start { result.start ≡ result.index * width }
-    ensures of_zone { AreOfZone limits.now chances.now result.index result.limit result.chance }
+    requires last { (c : ℕ) → last.start ≤ c → c ≤ cell
+        → AreOfZone limits.now chances.now (c / width) last.limit last.chance }
+    ensures start { result.start ≤ cell }
+    ensures alike { (c : ℕ) → result.start ≤ c → c ≤ cell
+        → AreOfZone limits.now chances.now (c / width) result.limit result.chance }
 {
-    if last.start <= cell && cell - last.start < width {
+    if last.start <= cell {
         return last;
     }
-    let index = cell / width;
+    let zone = (cell / width) as usize;
     Zone {
-        index: index as usize,
-        start: index * width,
-        limit: limits[index as usize],
-        chance: chances[index as usize],
+        start: first_alike(limits, chances, zone) as u32 * width,
+        limit: limits[zone],
+        chance: chances[zone],
     }
+}
+
+// The first of the zones up to a zone that have its speed limit and its slowing chance, one beside the other.
+fn first_alike(limits: &[u32], chances: &[u32], zone: usize) -> usize
+    requires limits { zone < length limits.now }
+    requires chances { zone < length chances.now }
+    ensures up_to { result ≤ zone }
+    ensures alike { (z : ℕ) → result ≤ z → z ≤ zone
+        → AreOfZone limits.now chances.now z (slice_index limits.now zone) (slice_index chances.now zone) }
+{
+    let mut first = zone;
+    while first > 0 && limits[first - 1] == limits[zone] && chances[first - 1] == chances[zone] {
+        first -= 1;
+    }
+    first
 }
 
 // The first blocked cell in front of a cell that is not in front of where the pass stood.

@@ -4,10 +4,11 @@ ghost use Rattle.road_ends.specs.Input.{input_next, input_speeds};
 ghost use Rattle.road_ends.specs.Run.{road_before_exit};
 
 use crate::OutOfMemory;
+use crate::drawn::DrawnWords;
 use crate::input::StepInput;
 use road_cells::Road;
 use road_plan::Plan;
-use road_rules::moved;
+use road_rules::{moved, moved_in_place};
 use std::alloc::Global;
 
 /// The road without the cars in its deleted zone or past it. It takes no memory.
@@ -35,5 +36,27 @@ pub fn finish(alloc: Global, input: &StepInput, speeds: &[u8]) -> Result<Road, O
 {
     input.known();
     let moved = moved(alloc, input.road(), speeds)?;
+    Ok(leave(input.plan(), moved))
+}
+
+/// The road after a step, as [`finish`], in memory that these words keep where there is some.
+///
+/// # Errors
+///
+/// `OutOfMemory` where the growth of the new road is refused. The words are as before.
+pub fn finish_with(
+    alloc: Global,
+    input: &StepInput,
+    speeds: &[u8],
+    words: &mut DrawnWords,
+) -> Result<Road, OutOfMemory>
+    requires { speeds.now ≡ input_speeds input.now }
+    ensures step { IfOk result (λ later. later ≡ input_next input.now) }
+    ensures unchanged { words.new ≡ words.old }
+{
+    input.known();
+    let mut cars = words.list(alloc);
+    cars.extend_from_slice(input.road().cars())?;
+    let moved = moved_in_place(Road::of(cars), speeds);
     Ok(leave(input.plan(), moved))
 }

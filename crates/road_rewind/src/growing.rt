@@ -102,7 +102,11 @@ fn one_step<C: Crew>(alloc: Global, draft: &mut Draft, crew: &mut C) -> Result<(
 {
     let input = draft.input(alloc)?;
     match crew.speeds(alloc, &input) {
-        Ok(speeds) => Ok(draft.push(alloc, &input, &speeds)?),
+        Ok(speeds) => {
+            draft.push(alloc, &input, &speeds)?;
+            draft.reuse(input);
+            Ok(())
+        }
         Err(fault) => Err(growth_fault(fault)),
     }
 }

@@ -26,21 +26,21 @@ pub fn moved(alloc: Global, road: &Road, speeds: &[u8]) -> Result<Road, OutOfMem
     if road.cars().is_empty() {
         return Ok(Road::empty(alloc));
     }
-    moved_cars(road, speeds)
+    Ok(moved_in_place(road.copied()?, speeds))
 }
 
-// The same, one car after the other in a copy of the road.
-fn moved_cars(road: &Road, speeds: &[u8]) -> Result<Road, OutOfMemory>
-    requires low { length road.now ≤ 65536 }
-    requires may { MayMove road.now speeds.now }
-    ensures motion { IfOk result (λ moved. moved ≡ array_after_motion_at speeds.now road.now) }
-    ensures cars { IfOk result (λ moved. cars_of moved ≡ cars_after_motion speeds.now (cars_of road.now)) }
+/// Rule 4 as [`moved`], on the list of cars that the road kept. It takes no memory.
+pub fn moved_in_place(road: Road, speeds: &[u8]) -> Road
+    requires low { length road ≤ 65536 }
+    requires may { MayMove road speeds.now }
+    ensures motion { result ≡ array_after_motion_at speeds.now road }
+    ensures cars { cars_of result ≡ cars_after_motion speeds.now (cars_of road) }
 {
-    let mut cars = road.copied()?.into_cars();
+    let mut cars = road.into_cars();
     for place in 0..cars.len() {
         advance(&mut cars[place], speeds[place]);
     }
-    Ok(Road::of(cars))
+    Road::of(cars)
 }
 
 // A car drives.

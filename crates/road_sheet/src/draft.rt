@@ -75,7 +75,14 @@ impl Draft {
         ensures grown { OnOk result (self.new ≡ sheet_after_step self.old) }
         ensures unchanged { OnErr result (self.new ≡ self.old) }
     {
-        self.sheet.grow(alloc, input, speeds)
+        self.sheet.grow(alloc, input, speeds, &mut self.words)
+    }
+
+    /// Keeps the memory of a step's input for the next ones, where nobody else needs it.
+    pub fn reuse(&mut self, input: Arc<StepInput>)
+        ensures { self.new ≡ self.old }
+    {
+        self.words.reuse_input(input);
     }
 
     /// The sheet.

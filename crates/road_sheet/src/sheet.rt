@@ -23,12 +23,13 @@ use road_cells::Road;
 use road_detector::Totals;
 use road_detector::laws::{cars_pass_one_by_one, totals_are_bounded};
 use road_ends::laws::{cars_stay_on_road, runs_depend_on_earlier_settings};
-use road_ends::{DrawnWords, StepInput, enter_with, finish};
+use road_ends::{DrawnWords, StepInput, enter_with, finish_with};
 use road_plan::{OutOfMemory, Plan};
 use road_scenario::Scenario;
 use road_scenario::laws::settings_stay_before_touched;
 use std::alloc::Global;
 use std::marker::Model;
+use std::mem;
 use std::sync::Arc;
 
 /// A scenario, a horizon, and the run so far: it shows the road at each step up to the horizon, and what the
@@ -443,23 +444,27 @@ impl Sheet {
         alloc: Global,
         input: &StepInput,
         speeds: &[u8],
+        words: &mut DrawnWords,
     ) -> Result<(), OutOfMemory>
         requires input { input.now ≡ next_input self.old }
         requires speeds { speeds.now ≡ input_speeds input.now }
         requires within_limit { self.old.horizon < GREATEST_HORIZON }
         ensures grown { OnOk result (self.new ≡ sheet_after_step self.old) }
         ensures unchanged { OnErr result (self.new ≡ self.old) }
+        ensures words { words.new ≡ words.old }
     {
-        let road = finish(alloc, input, speeds)?;
-        if (self.horizon() + 1) % BLOCK_STEPS == 0 {
-            return self.step_to_end(alloc, input, speeds, road);
-        }
-        self.step_within(input, speeds, road);
+        let road = finish_with(alloc, input, speeds, words)?;
+        let last = if (self.horizon() + 1) % BLOCK_STEPS == 0 {
+            self.step_to_end(alloc, input, speeds, road)?
+        } else {
+            self.step_within(input, speeds, road)
+        };
+        words.reuse(last);
         Ok(())
     }
 
-    // A step more that does not end the block.
-    fn step_within(&mut self, input: &StepInput, speeds: &[u8], road: Road)
+    // A step more that does not end the block; what comes back is the road before it.
+    fn step_within(&mut self, input: &StepInput, speeds: &[u8], road: Road) -> Road
         requires input { input.now ≡ next_input self.old }
         requires speeds { speeds.now ≡ input_speeds input.now }
         requires within_limit { self.old.horizon < GREATEST_HORIZON }
@@ -471,8 +476,9 @@ impl Sheet {
         totals_are_bounded(&self.plan);
         let horizon = self.horizon() + 1;
         self.cut.count(input, speeds);
-        self.last = road;
+        let last = mem::replace(&mut self.last, road);
         self.known.second = Greatest::Of(horizon);
+        last
     }
 
     // The road of the next step, as it is kept.
@@ -486,14 +492,15 @@ impl Sheet {
         Checkpoint::of(alloc, road)
     }
 
-    // A step more that ends the block. What can fail for memory is done before the sheet is changed.
+    // A step more that ends the block; what comes back is the road before it. What can fail for memory is done before the
+    // sheet is changed.
     fn step_to_end(
         &mut self,
         alloc: Global,
         input: &StepInput,
         speeds: &[u8],
         road: Road,
-    ) -> Result<(), OutOfMemory>
+    ) -> Result<Road, OutOfMemory>
         requires input { input.now ≡ next_input self.old }
         requires speeds { speeds.now ≡ input_speeds input.now }
         requires within_limit { self.old.horizon < GREATEST_HORIZON }
@@ -512,9 +519,9 @@ impl Sheet {
         let block = Arc::new(alloc, ended)?;
         self.whole.push(block)?;
         self.cut = next;
-        self.last = road;
+        let last = mem::replace(&mut self.last, road);
         self.known.second = Greatest::Of(horizon);
-        Ok(())
+        Ok(last)
     }
 }
 

@@ -20,6 +20,7 @@ use road_ends::{DrawnWords, Stepped, step_with};
 use road_plan::{OutOfMemory, Plan};
 use road_scenario::Scenario;
 use std::alloc::Global;
+use std::mem;
 use std::sync::Arc;
 
 /// A road at a step.
@@ -126,7 +127,13 @@ pub(crate) fn run_on(
     let mut settings = CarriedSettings::none();
     for now in from..step {
         let stepped = next(alloc, plan, scenario, now, &road, &mut settings, words)?;
-        road = stepped.road;
+        let Stepped {
+            input,
+            road: later,
+            ..
+        } = stepped;
+        words.reuse_input(input);
+        words.reuse(mem::replace(&mut road, later));
     }
     Ok(State { step, road })
 }

@@ -1,5 +1,10 @@
 -- Where a pass over the cars stands.
-use Rattle.std.specs.Prelude.{◌≡◌, ℕ, ◌<◌, ◌≤◌, List, slice_index}
+use Rattle.std.specs.Prelude.{◌≡◌, ℕ, ◌+◌, ◌-◌, ◌<◌, ◌≤◌, List, min, slice_index}
+use Rattle.road_cells.specs.Cars.{cell_at}
+use Rattle.road_cells.specs.declared.car.TheConstants.{GREATEST_SPEED}
+use Rattle.road_cells.specs.declared.car.Car.{Car}
+use Rattle.road_rules.specs.Speeds.{wanted}
+use Rattle.road_ends.specs.Speed.{nth_car}
 use Rattle.road_ends.specs.declared.pass.TheConstants.{NOWHERE}
 
 -- of n cells this is the k-th, or a cell past all roads where there is none
@@ -11,3 +16,8 @@ pub record IsNthOrNowhere (n k kth c : ℕ) : Type 0 where
 pub record AreOfZone (limits chances : List ℕ) (zone limit chance : ℕ) : Type 0 where
   pub limit_is : limit ≡ slice_index limits zone
   pub chance_is : chance ≡ slice_index chances zone
+
+-- what the k-th car wants by rules 1 and 2 where the next car and the next blocked cell are at these cells
+abbrev pub wanted_before : List Car → ℕ → ℕ → ℕ → ℕ → ℕ
+wanted_before cars limit next block k =
+    wanted (nth_car cars k).speed limit (min GREATEST_SPEED (min next block - (cell_at cars k + 1)))

@@ -1,5 +1,6 @@
-use Rattle.std.proofs.Common.{◌≡◌, ℕ, ◌*◌, ◌<◌, ◌≤◌, length, drop}
-use Rattle.std.specs.Prelude.{◌-◌, slice_index, slice_range}
+use Rattle.std.proofs.Common.{◌≡◌, ℕ, ◌<◌, ◌≤◌, length}
+use Rattle.road_plan.specs.Plan.{zone_of}
+use Rattle.std.specs.Prelude.{◌-◌, slice_index}
 use Rattle.road_cells.specs.Cars.{cars_of, cell_at}
 use Rattle.road_ends.specs.Speed.{speeds}
 use Rattle.road_ends.specs.Private.PassPlaces.{IsNthOrNowhere, AreOfZone}
@@ -10,11 +11,13 @@ invariant-loop-place l = record {
   one_each : length l.new.items ≡ l.end - l.first;
   from_first : l.first ≤ l.place;
   to_end : l.place ≤ l.end;
-  done : drop (l.place - l.first) l.new.items ≡ drop (l.place - l.first) (slice_range (speeds l.plan l.settings l.step l.road) l.first l.end);
+  done : (k : ℕ) → l.place ≤ k → k < l.end → slice_index l.new.items (k - l.first) ≡ slice_index (speeds l.plan l.settings l.step l.road) k;
   next : IsNthOrNowhere (length (cars_of l.road)) l.place (cell_at (cars_of l.road) l.place) l.cursor.next;
   reached : l.cursor.block.reached ≤ length l.settings.blocks;
   ahead : (i : ℕ) → l.cursor.block.reached ≤ i → i < length l.settings.blocks → (k : ℕ) → k < l.place → cell_at (cars_of l.road) k < slice_index l.settings.blocks i;
   block : IsNthOrNowhere (length l.settings.blocks) l.cursor.block.reached (slice_index l.settings.blocks l.cursor.block.reached) l.cursor.block.cell;
-  start : l.cursor.zone.start ≡ l.cursor.zone.index * l.plan.width;
-  of_zone : AreOfZone l.settings.limits l.settings.chances l.cursor.zone.index l.cursor.zone.limit l.cursor.zone.chance;
+  alike : (k : ℕ) → k < l.place → (c : ℕ) → l.cursor.zone.start ≤ c → c ≤ cell_at (cars_of l.road) k → AreOfZone l.settings.limits l.settings.chances (zone_of l.plan c) l.cursor.zone.limit l.cursor.zone.chance;
 }
+
+abbrev pub decreases-loop-place : goal.decreases-loop-place
+decreases-loop-place l = l.place

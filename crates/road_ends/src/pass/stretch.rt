@@ -1,0 +1,123 @@
+//! The cars of a stretch: cells of zones that are alike, none of which is blocked but the first, so that one speed limit, one
+//! slowing chance and one blocked cell in front hold for all of them. The loops here go from car to car without a branch, so
+//! that a compiler can take several cars at once.
+
+ghost use Rattle.std.specs.Prelude.{◌≡◌, ℕ, ◌+◌, ◌-◌, ◌/◌, ◌≤◌, ◌<◌, length, min, slice_index};
+ghost use Rattle.std.specs.List.Sorted.{IsNonDecreasing};
+ghost use Rattle.road_cells.specs.Cars.{cars_of, cell_at};
+ghost use Rattle.road_rules.specs.Speeds.{has_event, slowed};
+ghost use Rattle.road_ends.specs.Speed.{nth_car};
+ghost use Rattle.road_ends.specs.Private.PassPlaces.{wanted_before};
+
+use crate::chance::{slowed_by_chance, slowed_by_half};
+use crate::pass::{Cursor, free_between};
+use road_cells::{Car, Road};
+use road_rules::wanted;
+use road_words::{PlanWords, Words};
+
+// The first cell of the stretch where the pass stands: of its zones, and not before a blocked cell that is not in front.
+pub(super) fn first_cell(blocks: &[u32], cursor: Cursor) -> u32
+    requires bound { cursor.block.reached ≤ length blocks.now }
+    requires rising { IsNonDecreasing blocks.now }
+    ensures zone { cursor.zone.start ≤ result }
+    ensures reached { (i : ℕ) → i < cursor.block.reached → slice_index blocks.now i ≤ result }
+{
+    if cursor.block.reached == 0 {
+        return cursor.zone.start;
+    }
+    blocks[cursor.block.reached - 1].max(cursor.zone.start)
+}
+
+// The place of the first car that does not stand before a cell, among those from the place `first` to before `end`; or
+// `end` where all of them stand before it.
+pub(super) fn first_car(road: &Road, cell: u32, first: usize, end: usize) -> usize
+    requires order { first ≤ end }
+    requires within { end ≤ length (cars_of road.now) }
+    ensures from { first ≤ result }
+    ensures to { result ≤ end }
+    ensures behind { (k : ℕ) → result ≤ k → k < end → cell ≤ cell_at (cars_of road.now) k }
+{
+    if first == end || road.cars()[end - 1].cell < cell {
+        return end;
+    }
+    road.cars_before(cell).max(first).min(end)
+}
+
+// Rules 1 and 2 for the cars at the places `from` to before `to`, in a list whose first car is at the place `first`.
+pub(super) fn wish(
+    cars: &[Car],
+    cursor: Cursor,
+    first: usize,
+    from: usize,
+    to: usize,
+    new: &mut [u8],
+)
+    requires order { from ≤ to }
+    requires front { to < length cars.now }
+    requires apart { (k : ℕ) → from ≤ k → k < to → cell_at cars.now k < min (cell_at cars.now (k + 1)) cursor.block.cell }
+    requires from { first ≤ from }
+    requires room { to - first ≤ length new.old }
+    ensures long { length new.new ≡ length new.old }
+    ensures rest { (k : ℕ) → to ≤ k → slice_index new.new (k - first) ≡ slice_index new.old (k - first) }
+    ensures wanted { (k : ℕ) → from ≤ k → k < to →
+        slice_index new.new (k - first) ≡ wanted_before cars.now cursor.zone.limit (cell_at cars.now (k + 1)) cursor.block.cell k }
+{
+    for place in from..to {
+        let car = cars[place];
+        let next = cars[place + 1].cell;
+        let free = free_between(car.cell, next.min(cursor.block.cell));
+        new[place - first] = wanted(car.speed, cursor.zone.limit, free);
+    }
+}
+
+// Rule 3 for the same cars, by the halves of their words.
+pub(super) fn slow_by_halves(
+    halves: &[u16],
+    chance: u32,
+    first: usize,
+    from: usize,
+    to: usize,
+    new: &mut [u8],
+)
+    requires order { from ≤ to }
+    requires halves { to ≤ length halves.now }
+    requires from { first ≤ from }
+    requires room { to - first ≤ length new.old }
+    ensures long { length new.new ≡ length new.old }
+    ensures rest { (k : ℕ) → to ≤ k → slice_index new.new (k - first) ≡ slice_index new.old (k - first) }
+    ensures slowed { (k : ℕ) → from ≤ k → k < to → (word : ℕ)
+        → (0 < slice_index new.old (k - first) → slice_index halves.now k ≡ word / 65536)
+        → slice_index new.new (k - first) ≡ slowed (slice_index new.old (k - first)) (has_event word chance) }
+{
+    for place in from..to {
+        new[place - first] = slowed_by_half(halves[place], new[place - first], chance);
+    }
+}
+
+// Rule 3 for the same cars, by their words.
+pub(super) fn slow_by_words(
+    words: &PlanWords,
+    step: u32,
+    cars: &[Car],
+    chance: u32,
+    first: usize,
+    from: usize,
+    to: usize,
+    new: &mut [u8],
+)
+    requires order { from ≤ to }
+    requires cars { to ≤ length cars.now }
+    requires from { first ≤ from }
+    requires room { to - first ≤ length new.old }
+    ensures long { length new.new ≡ length new.old }
+    ensures rest { (k : ℕ) → to ≤ k → slice_index new.new (k - first) ≡ slice_index new.old (k - first) }
+    ensures slowed { (k : ℕ) → from ≤ k → k < to →
+        slice_index new.new (k - first) ≡ slowed (slice_index new.old (k - first))
+        (has_event (⟦<PlanWords as Words>⟧.word_of words.now (nth_car cars.now k).number step) chance) }
+{
+    for place in from..to {
+        let number = cars[place].number;
+        let wished = new[place - first];
+        new[place - first] = slowed_by_chance(words, number, u64::from(step), wished, chance);
+    }
+}
