@@ -4,6 +4,7 @@ ghost use Rattle.road_ends.specs.Entries.{inlet_stream};
 ghost use Rattle.road_ends.specs.Private.KeptHalves.{AreHalves, IsHalf, IsHeldUp};
 
 use crate::OutOfMemory;
+use crate::columns::Columns;
 use crate::input::StepInput;
 use crate::rows::{NO_ROW, ROW_STEPS, WordRows};
 use road_cells::{Car, Road};
@@ -32,6 +33,8 @@ pub struct DrawnWords {
     // The memory of roads that are no longer needed: of the last one, and of the one before it.
     spare: Vec<Car>,
     further: Vec<Car>,
+    // The memory of the last step's columns.
+    columns: Columns,
 }
 
 impl Model for DrawnWords {
@@ -53,6 +56,7 @@ impl DrawnWords {
             inlets: [NO_ROW; MOST_INLETS],
             spare: Vec::new(alloc),
             further: Vec::new(alloc),
+            columns: Columns::empty(alloc),
         }
     }
 
@@ -68,9 +72,27 @@ impl DrawnWords {
         ensures { self.new ≡ self.old }
     {
         match Arc::try_unwrap(input) {
-            Ok(input) => self.reuse(input.into_road()),
+            Ok(input) => {
+                let (road, columns) = input.into_parts();
+                self.columns = columns;
+                self.reuse(road);
+            }
             Err(_) => {}
         }
+    }
+
+    // Columns of no car, in memory that is kept where there is some.
+    pub(crate) fn no_columns(&mut self, alloc: Global) -> Columns
+        ensures cells { result.cells.items ≡ [] }
+        ensures speeds { result.speeds.items ≡ [] }
+        ensures halves { result.halves.items ≡ [] }
+        ensures unchanged { self.new ≡ self.old }
+    {
+        let mut columns = mem::replace(&mut self.columns, Columns::empty(alloc));
+        columns.cells.clear();
+        columns.speeds.clear();
+        columns.halves.clear();
+        columns
     }
 
     // A list without cars, in memory that is kept where there is some.
@@ -117,51 +139,53 @@ impl DrawnWords {
         Ok(drawn.half)
     }
 
-    // The upper halves of the words of a road's cars at a step, in one growth and as many rows as are not drawn yet.
+    // Writes the upper halves of the words of a road's cars at a step into a column, in one growth and as many rows as are
+    // not drawn yet.
     #[inline(never)]
-    pub(crate) fn halves(
+    pub(crate) fn write_halves(
         &mut self,
-        alloc: Global,
         road: &Road,
         step: u32,
-    ) -> Result<Vec<u16>, OutOfMemory>
-        ensures halves { IfOk result (λ halves. AreHalves self.old step road.now halves.items) }
+        column: &mut Vec<u16>,
+    ) -> Result<(), OutOfMemory>
+        ensures halves { IfOk result (λ _. AreHalves self.old step road.now column.new.items) }
         ensures unchanged { self.new ≡ self.old }
     {
         let cars = road.cars();
         self.cars.resize(cars.len(), NO_ROW)?;
-        halves_of(alloc, &mut self.rows, &mut self.cars, cars, step)
+        write_halves(&mut self.rows, &mut self.cars, cars, step, column)
     }
 }
 
-// The upper halves of the words of cars at a step, by their slots. Where a row is not drawn yet it is, and has its slot
-// then.
+// Writes the upper halves of the words of cars at a step into a column, by their slots. Where a row is not drawn yet it is,
+// and has its slot then.
 #[inline(always)]
-fn halves_of(
-    alloc: Global,
+fn write_halves(
     rows: &mut WordRows,
     slots: &mut [u32],
     cars: &[Car],
     step: u32,
-) -> Result<Vec<u16>, OutOfMemory>
+    column: &mut Vec<u16>,
+) -> Result<(), OutOfMemory>
     requires { length slots.old ≡ length cars.now }
-    ensures halves { IfOk result (λ halves. (k : ℕ) → k < length halves.items →
-        IsHalf rows.old.kind step cars.now k (slice_index halves.items k)) }
+    ensures halves { IfOk result (λ _. (k : ℕ) → k < length column.new.items →
+        IsHalf rows.old.kind step cars.now k (slice_index column.new.items k)) }
     ensures kind { rows.new.kind ≡ rows.old.kind }
 {
     rows.turn_to(step);
-    let mut halves = vec![in alloc; 0; cars.len()]?;
+    column.clear();
+    column.resize(cars.len(), 0)?;
     let mut place = 0;
     while place < cars.len() {
-        place = filled(rows, slots, cars, step, place, &mut halves);
+        place = filled(rows, slots, cars, step, place, column);
         if place < cars.len() {
             let drawn = rows.draw(cars[place].number, step)?;
             slots[place] = drawn.slot;
-            halves[place] = drawn.half;
+            column[place] = drawn.half;
             place += 1;
         }
     }
-    Ok(halves)
+    Ok(())
 }
 
 // Writes the upper halves of the words of cars at a step, from a place on, as far as their rows are drawn: the place of

@@ -3,13 +3,14 @@ ghost use Rattle.std.specs.Arc.{arc_value};
 ghost use Rattle.road_plan.specs.Plan.{IsWithinLimits};
 ghost use Rattle.road_plan.specs.Settings.{Fits};
 ghost use Rattle.road_ends.specs.Input.{input_of, input_speeds};
-ghost use Rattle.road_ends.specs.Private.KeptHalves.{AreHalves};
+ghost use Rattle.road_ends.specs.Private.KeptHalves.{AreColumns, AreHalves};
 
 mod pieces;
 mod sameness;
 
 use crate::OutOfMemory;
 use crate::chance::is_open;
+use crate::columns::{Columns, write_cells, write_speeds};
 use crate::drawn::DrawnWords;
 use crate::entries::entered;
 use crate::pass::speeds;
@@ -26,8 +27,8 @@ pub struct StepInput {
     settings: Arc<Settings>,
     step: u32,
     road: Road,
-    // The upper halves of the cars' words in this step, one for each, or none at all.
-    halves: Vec<u16>,
+    // None where no chance leaves a slowing to the cars' words.
+    columns: Columns,
 }
 
 impl Model for StepInput {
@@ -35,7 +36,7 @@ impl Model for StepInput {
     ghost use Rattle.std.specs.Arc.{arc_value};
     ghost use Rattle.road_plan.specs.Settings.{Fits};
     ghost use Rattle.road_ends.specs.Input.{StepInput};
-    ghost use Rattle.road_ends.specs.Private.KeptHalves.{AreHalves};
+    ghost use Rattle.road_ends.specs.Private.KeptHalves.{AreColumns, AreHalves};
 
     ghost Value = { StepInput };
 
@@ -44,7 +45,8 @@ impl Model for StepInput {
 
     ghost invariant = { λ input. Fits (arc_value input.plan) (arc_value input.settings)
         × (length input.road ≤ (arc_value input.plan).cells)
-        × AreHalves (arc_value input.plan).words input.step input.road input.halves.items };
+        × AreHalves (arc_value input.plan).words input.step input.road input.columns.halves.items
+        × AreColumns input.road input.columns.cells.items input.columns.speeds.items };
 }
 
 impl StepInput {
@@ -62,12 +64,10 @@ impl StepInput {
         &self.road
     }
 
-    // The road, where the rest is no longer needed. It takes no memory.
-    pub(crate) fn into_road(self) -> Road
-        ensures { result ≡ self.road }
-    {
-        let StepInput { road, .. } = self;
-        road
+    // The road and the columns, where the rest is no longer needed. It takes no memory.
+    pub(crate) fn into_parts(self) -> (Road, Columns) {
+        let StepInput { road, columns, .. } = self;
+        (road, columns)
     }
 
     /// The plan.
@@ -100,7 +100,7 @@ impl StepInput {
             &self.settings,
             step,
             &self.road,
-            &self.halves,
+            &self.columns,
         )
     }
 
@@ -139,7 +139,7 @@ pub fn enter(
         settings,
         step,
         road,
-        halves: Vec::new(alloc),
+        columns: Columns::empty(alloc),
     };
     Ok(Arc::new(alloc, input)?)
 }
@@ -164,32 +164,38 @@ pub fn enter_with(
         ≡ input_of (arc_value plan.now) (arc_value settings) step road.now) }
     ensures unchanged { words.new ≡ words.old }
 {
+    plan.known();
     let road = entered(alloc, plan, &settings, step, road, words)?;
-    let halves = halves_of(alloc, settings.chances(), step, &road, words)?;
+    let columns = columns_of(alloc, settings.chances(), step, &road, words)?;
     let plan = Arc::try_clone(plan)?;
     let input = StepInput {
         plan,
         settings,
         step,
         road,
-        halves,
+        columns,
     };
     Ok(Arc::new(alloc, input)?)
 }
 
-// The upper halves of the words of a road's cars at a step; none where no chance leaves a slowing to them.
-fn halves_of(
+// The columns of a road's cars at a step; none where no chance leaves a slowing to the cars' words.
+fn columns_of(
     alloc: Global,
     chances: &[u32],
     step: u32,
     road: &Road,
     words: &mut DrawnWords,
-) -> Result<Vec<u16>, OutOfMemory>
-    ensures halves { IfOk result (λ halves. AreHalves words.old step road.now halves.items) }
+) -> Result<Columns, OutOfMemory>
+    requires { length road.now ≤ 65536 }
+    ensures halves { IfOk result (λ columns. AreHalves words.old step road.now columns.halves.items) }
+    ensures columns { IfOk result (λ columns. AreColumns road.now columns.cells.items columns.speeds.items) }
     ensures unchanged { words.new ≡ words.old }
 {
+    let mut columns = words.no_columns(alloc);
     if chances.iter().any(|chance| is_open(*chance)) {
-        return words.halves(alloc, road, step);
+        write_cells(road.cars(), &mut columns.cells)?;
+        write_speeds(road.cars(), &mut columns.speeds)?;
+        words.write_halves(road, step, &mut columns.halves)?;
     }
-    Ok(Vec::new(alloc))
+    Ok(columns)
 }

@@ -17,6 +17,7 @@
 
 mod alone;
 mod chance;
+mod columns;
 mod drawn;
 mod entries;
 mod input;

@@ -8,13 +8,14 @@ ghost use Rattle.road_cells.specs.Gap.{ArePartedAt};
 ghost use Rattle.road_cells.specs.declared.car.TheConstants.{GREATEST_SPEED};
 ghost use Rattle.road_rules.specs.Speeds.{has_event, slowed, wanted};
 ghost use Rattle.road_ends.specs.Speed.{nth_car, speeds};
-ghost use Rattle.road_ends.specs.Private.KeptHalves.{AreHalves};
+ghost use Rattle.road_ends.specs.Private.KeptHalves.{AreColumns, AreHalves};
 ghost use Rattle.road_ends.specs.Private.PassPlaces.{IsNthOrNowhere, AreOfZone, wanted_before};
 
 mod stretch;
 
 use crate::OutOfMemory;
 use crate::chance::{slowed_by_chance, slowed_by_half};
+use crate::columns::Columns;
 use crate::pass::stretch::{first_car, first_cell, slow_by_halves, slow_by_words, wish};
 use road_cells::{Car, GREATEST_SPEED, Road, reached_blocks_below};
 use road_plan::{Plan, Settings};
@@ -58,15 +59,16 @@ pub(crate) fn speeds(
     settings: &Settings,
     step: u32,
     road: &Road,
-    halves: &[u16],
+    columns: &Columns,
 ) -> Result<Vec<u8>, OutOfMemory>
     requires fits { Fits plan.now settings.now }
     requires on_road { length road.now ≤ plan.now.cells }
-    requires halves { AreHalves plan.now.words step road.now halves.now }
+    requires halves { AreHalves plan.now.words step road.now columns.now.halves.items }
+    requires columns { AreColumns road.now columns.now.cells.items columns.now.speeds.items }
     ensures { IfOk result (λ new. new.items ≡ speeds plan.now settings.now step road.now) }
 {
     let count = road.cars().len();
-    Ok(speeds_between(alloc, plan, settings, step, road, halves, 0, count)?)
+    Ok(speeds_between(alloc, plan, settings, step, road, columns, 0, count)?)
 }
 
 // The new speeds of the cars at the places from `first` to before `end`, in the order of the cars. It is one pass over
@@ -80,13 +82,14 @@ pub(crate) fn speeds_between(
     settings: &Settings,
     step: u32,
     road: &Road,
-    halves: &[u16],
+    columns: &Columns,
     first: usize,
     end: usize,
 ) -> Result<Vec<u8>, OutOfMemory>
     requires fits { Fits plan.now settings.now }
     requires on_road { length road.now ≤ plan.now.cells }
-    requires halves { AreHalves plan.now.words step road.now halves.now }
+    requires halves { AreHalves plan.now.words step road.now columns.now.halves.items }
+    requires columns { AreColumns road.now columns.now.cells.items columns.now.speeds.items }
     requires order { first ≤ end }
     requires within { end ≤ length (cars_of road.now) }
     ensures { IfOk result (λ new. new.items ≡ slice_range (speeds plan.now settings.now step road.now) first end) }
@@ -106,10 +109,10 @@ pub(crate) fn speeds_between(
         let car = cars[place];
         cursor.zone = zone_at(width, limits, chances, car.cell, cursor.zone);
         cursor.block = block_ahead(blocks, car.cell, cursor.block);
-        new[place - first] = new_speed(&words, step, car, halves, place, cursor);
+        new[place - first] = new_speed(&words, step, car, &columns.halves, place, cursor);
         let from = first_car(road, first_cell(blocks, cursor), first, place);
         speeds_behind(
-            &words, step, cars, halves, cursor, first, from, place, &mut new,
+            &words, step, cars, columns, cursor, first, from, place, &mut new,
         );
         place = from;
         cursor.next = cars[place].cell;
@@ -124,7 +127,7 @@ fn speeds_behind(
     words: &PlanWords,
     step: u32,
     cars: &[Car],
-    halves: &[u16],
+    columns: &Columns,
     cursor: Cursor,
     first: usize,
     from: usize,
@@ -134,23 +137,27 @@ fn speeds_behind(
     requires order { from ≤ to }
     requires front { to < length cars.now }
     requires apart { (k : ℕ) → from ≤ k → k < to → cell_at cars.now k < min (cell_at cars.now (k + 1)) cursor.block.cell }
+    requires cells { (k : ℕ) → k < length columns.now.cells.items
+        → slice_index columns.now.cells.items k ≡ cell_at cars.now k }
+    requires speeds { (k : ℕ) → k < length columns.now.speeds.items
+        → slice_index columns.now.speeds.items k ≡ (nth_car cars.now k).speed }
     requires from { first ≤ from }
     requires room { to - first ≤ length new.old }
     ensures long { length new.new ≡ length new.old }
     ensures rest { (k : ℕ) → to ≤ k → slice_index new.new (k - first) ≡ slice_index new.old (k - first) }
-    ensures by_half { to ≤ length halves.now → (k : ℕ) → from ≤ k → k < to →
+    ensures by_half { to ≤ length columns.now.halves.items → (k : ℕ) → from ≤ k → k < to →
         let wished = wanted_before cars.now cursor.zone.limit (cell_at cars.now (k + 1)) cursor.block.cell k in
-        (word : ℕ) → (0 < wished → slice_index halves.now k ≡ word / 65536)
+        (word : ℕ) → (0 < wished → slice_index columns.now.halves.items k ≡ word / 65536)
         → slice_index new.new (k - first) ≡ slowed wished (has_event word cursor.zone.chance) }
-    ensures by_word { length halves.now < to → (k : ℕ) → from ≤ k → k < to →
+    ensures by_word { length columns.now.halves.items < to → (k : ℕ) → from ≤ k → k < to →
         let wished = wanted_before cars.now cursor.zone.limit (cell_at cars.now (k + 1)) cursor.block.cell k in
         let word = ⟦<PlanWords as Words>⟧.word_of words.now (nth_car cars.now k).number step in
         slice_index new.new (k - first) ≡ slowed wished (has_event word cursor.zone.chance) }
 {
-    wish(cars, cursor, first, from, to, new);
+    wish(cars, columns, cursor, first, from, to, new);
     let chance = cursor.zone.chance;
-    if to <= halves.len() {
-        slow_by_halves(halves, chance, first, from, to, new);
+    if to <= columns.halves.len() {
+        slow_by_halves(&columns.halves, chance, first, from, to, new);
     } else {
         slow_by_words(words, step, cars, chance, first, from, to, new);
     }

@@ -1,4 +1,5 @@
--- The upper halves of the words that decide whether cars are slowed.
+-- What is kept of the cars of a step beside their list: the upper halves of the words that decide whether they are slowed, their
+-- cells and their speeds.
 use Rattle.std.specs.Prelude.{◌≡◌, ◌+◌, ◌/◌, ◌<◌, ℕ, List, length, slice_index}
 use Rattle.road_plan.specs.declared.parts.WordKind.{WordKind}
 use Rattle.road_words.specs.Words.{word}
@@ -18,3 +19,8 @@ IsHalf kind t cars k half = ¬ (IsHeldUp cars k) → half ≡ word kind (nth_car
 -- such halves of the first cars of an array: of all of them, or of none
 pub record AreHalves (kind : WordKind) (t : ℕ) (a : Array) (halves : List ℕ) : Type 0 where
   pub each : (k : ℕ) → k < length halves → IsHalf kind t (cars_of a) k (slice_index halves k)
+
+-- the cells and the speeds of the first cars of an array: of all of them, or of none
+pub record AreColumns (a : Array) (cells speeds : List ℕ) : Type 0 where
+  pub cell_each : (k : ℕ) → k < length cells → slice_index cells k ≡ cell_at (cars_of a) k
+  pub speed_each : (k : ℕ) → k < length speeds → slice_index speeds k ≡ (nth_car (cars_of a) k).speed

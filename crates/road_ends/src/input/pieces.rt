@@ -34,7 +34,7 @@ impl StepInput {
             &self.settings,
             step,
             &self.road,
-            &self.halves,
+            &self.columns,
             first,
             end,
         )

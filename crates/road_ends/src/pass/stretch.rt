@@ -5,15 +5,20 @@
 ghost use Rattle.std.specs.Prelude.{◌≡◌, ℕ, ◌+◌, ◌-◌, ◌/◌, ◌≤◌, ◌<◌, length, min, slice_index};
 ghost use Rattle.std.specs.List.Sorted.{IsNonDecreasing};
 ghost use Rattle.road_cells.specs.Cars.{cars_of, cell_at};
-ghost use Rattle.road_rules.specs.Speeds.{has_event, slowed};
+ghost use Rattle.road_cells.specs.declared.car.TheConstants.{GREATEST_SPEED};
+ghost use Rattle.road_rules.specs.Speeds.{has_event, slowed, wanted};
 ghost use Rattle.road_ends.specs.Speed.{nth_car};
 ghost use Rattle.road_ends.specs.Private.PassPlaces.{wanted_before};
 
 use crate::chance::{slowed_by_chance, slowed_by_half};
+use crate::columns::Columns;
 use crate::pass::{Cursor, free_between};
-use road_cells::{Car, Road};
+use road_cells::{Car, GREATEST_SPEED, Road};
 use road_rules::wanted;
 use road_words::{PlanWords, Words};
+
+/// The greatest number of a column.
+const GREATEST_NARROW: u32 = 65_535;
 
 // The first cell of the stretch where the pass stands: of its zones, and not before a blocked cell that is not in front.
 pub(super) fn first_cell(blocks: &[u32], cursor: Cursor) -> u32
@@ -43,15 +48,48 @@ pub(super) fn first_car(road: &Road, cell: u32, first: usize, end: usize) -> usi
     road.cars_before(cell).max(first).min(end)
 }
 
-// Rules 1 and 2 for the cars at the places `from` to before `to`, in a list whose first car is at the place `first`.
+// Rules 1 and 2 for the cars at the places `from` to before `to`, in a list whose first car is at the place `first`: by the
+// columns, where there are some.
 pub(super) fn wish(
     cars: &[Car],
+    columns: &Columns,
     cursor: Cursor,
     first: usize,
     from: usize,
     to: usize,
     new: &mut [u8],
 )
+    requires order { from ≤ to }
+    requires front { to < length cars.now }
+    requires apart { (k : ℕ) → from ≤ k → k < to → cell_at cars.now k < min (cell_at cars.now (k + 1)) cursor.block.cell }
+    requires cells { (k : ℕ) → k < length columns.now.cells.items
+        → slice_index columns.now.cells.items k ≡ cell_at cars.now k }
+    requires speeds { (k : ℕ) → k < length columns.now.speeds.items
+        → slice_index columns.now.speeds.items k ≡ (nth_car cars.now k).speed }
+    requires from { first ≤ from }
+    requires room { to - first ≤ length new.old }
+    ensures long { length new.new ≡ length new.old }
+    ensures rest { (k : ℕ) → to ≤ k → slice_index new.new (k - first) ≡ slice_index new.old (k - first) }
+    ensures wanted { (k : ℕ) → from ≤ k → k < to →
+        slice_index new.new (k - first) ≡ wanted_before cars.now cursor.zone.limit (cell_at cars.now (k + 1)) cursor.block.cell k }
+{
+    if to < columns.cells.len() && to <= columns.speeds.len() {
+        wish_by_columns(
+            &columns.cells,
+            &columns.speeds,
+            cursor,
+            first,
+            from,
+            to,
+            new,
+        );
+    } else {
+        wish_by_cars(cars, cursor, first, from, to, new);
+    }
+}
+
+// The same, by the list of cars.
+fn wish_by_cars(cars: &[Car], cursor: Cursor, first: usize, from: usize, to: usize, new: &mut [u8])
     requires order { from ≤ to }
     requires front { to < length cars.now }
     requires apart { (k : ℕ) → from ≤ k → k < to → cell_at cars.now k < min (cell_at cars.now (k + 1)) cursor.block.cell }
@@ -67,6 +105,39 @@ pub(super) fn wish(
         let next = cars[place + 1].cell;
         let free = free_between(car.cell, next.min(cursor.block.cell));
         new[place - first] = wanted(car.speed, cursor.zone.limit, free);
+    }
+}
+
+// The same, by the columns of the cars' cells and speeds.
+fn wish_by_columns(
+    cells: &[u16],
+    speeds: &[u8],
+    cursor: Cursor,
+    first: usize,
+    from: usize,
+    to: usize,
+    new: &mut [u8],
+)
+    requires order { from ≤ to }
+    requires front { to < length cells.now }
+    requires speeds { to ≤ length speeds.now }
+    requires apart { (k : ℕ) → from ≤ k → k < to
+        → slice_index cells.now k < min (slice_index cells.now (k + 1)) cursor.block.cell }
+    requires from { first ≤ from }
+    requires room { to - first ≤ length new.old }
+    ensures long { length new.new ≡ length new.old }
+    ensures rest { (k : ℕ) → to ≤ k → slice_index new.new (k - first) ≡ slice_index new.old (k - first) }
+    ensures wanted { (k : ℕ) → from ≤ k → k < to → slice_index new.new (k - first)
+        ≡ wanted (slice_index speeds.now k) cursor.zone.limit
+        (min GREATEST_SPEED (min (slice_index cells.now (k + 1)) cursor.block.cell - (slice_index cells.now k + 1))) }
+{
+    let limit = cursor.zone.limit.min(GREATEST_NARROW) as u16;
+    let block = cursor.block.cell.min(GREATEST_NARROW) as u16;
+    for place in from..to {
+        let next = cells[place + 1].min(block);
+        let free = (next - cells[place] - 1).min(u16::from(GREATEST_SPEED));
+        let faster = u16::from(speeds[place]) + 1;
+        new[place - first] = faster.min(limit).min(free) as u8;
     }
 }
 
