@@ -2,7 +2,7 @@
 use Rattle.std.proofs.Common.{◌≡◌, ℕ, List, [], ap, length, arith}
 use Rattle.road_plan.specs.declared.parts.WordKind.{WordKind}
 use Rattle.road_cells.specs.Array.{Array}
-use Rattle.road_ends.specs.Private.KeptHalves.{AreColumns, AreHalves}
+use Rattle.road_ends.specs.Private.StepColumns.{AreColumns, AreHalves}
 
 -- there may be none
 pub no_halves : (kind : WordKind) (t : ℕ) (a : Array) (halves : List ℕ) → halves ≡ [] → AreHalves kind t a halves

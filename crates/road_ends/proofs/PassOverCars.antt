@@ -21,7 +21,7 @@ use Rattle.road_cells.specs.declared.car.Car.{Car}
 use Rattle.road_rules.proofs.MotionOfCars.{cell_at-end}
 use Rattle.road_rules.specs.Speeds.{wanted, slowed, has_event}
 use Rattle.road_ends.specs.Speed.{gap, speed, speeds, nth_car}
-use Rattle.road_ends.specs.Private.KeptHalves.{AreHalves, IsHeldUp}
+use Rattle.road_ends.specs.Private.StepColumns.{AreHalves, IsHeldUp}
 use Rattle.road_ends.specs.Private.PassPlaces.{IsNthOrNowhere, AreOfZone, wanted_before}
 use Rattle.road_ends.proofs.KeptColumns.{no_halves}
 use Rattle.road_ends.proofs.StepByCars.{gap-free_cells}

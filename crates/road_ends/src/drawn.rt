@@ -1,7 +1,7 @@
 ghost use Rattle.std.specs.Prelude.{◌≡◌, ℕ, [], ◌-◌, ◌<◌, ◌≤◌, ◌/◌, ◌%◌, length, slice_index, IsTrue, IfOk, IfSome};
 ghost use Rattle.road_words.specs.Words.{word};
 ghost use Rattle.road_ends.specs.Entries.{inlet_stream};
-ghost use Rattle.road_ends.specs.Private.KeptHalves.{AreHalves, IsHalf, IsHeldUp};
+ghost use Rattle.road_ends.specs.Private.StepColumns.{AreHalves, IsHalf, IsHeldUp};
 
 use crate::OutOfMemory;
 use crate::columns::Columns;

@@ -3,7 +3,7 @@ ghost use Rattle.std.specs.Arc.{arc_value};
 ghost use Rattle.road_plan.specs.Plan.{IsWithinLimits};
 ghost use Rattle.road_plan.specs.Settings.{Fits};
 ghost use Rattle.road_ends.specs.Input.{input_of, input_speeds};
-ghost use Rattle.road_ends.specs.Private.KeptHalves.{AreColumns, AreHalves};
+ghost use Rattle.road_ends.specs.Private.StepColumns.{AreColumns, AreHalves};
 
 mod pieces;
 mod sameness;
@@ -36,7 +36,7 @@ impl Model for StepInput {
     ghost use Rattle.std.specs.Arc.{arc_value};
     ghost use Rattle.road_plan.specs.Settings.{Fits};
     ghost use Rattle.road_ends.specs.Input.{StepInput};
-    ghost use Rattle.road_ends.specs.Private.KeptHalves.{AreColumns, AreHalves};
+    ghost use Rattle.road_ends.specs.Private.StepColumns.{AreColumns, AreHalves};
 
     ghost Value = { StepInput };
 

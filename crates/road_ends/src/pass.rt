@@ -8,7 +8,7 @@ ghost use Rattle.road_cells.specs.Gap.{ArePartedAt};
 ghost use Rattle.road_cells.specs.declared.car.TheConstants.{GREATEST_SPEED};
 ghost use Rattle.road_rules.specs.Speeds.{has_event, slowed, wanted};
 ghost use Rattle.road_ends.specs.Speed.{nth_car, speeds};
-ghost use Rattle.road_ends.specs.Private.KeptHalves.{AreColumns, AreHalves};
+ghost use Rattle.road_ends.specs.Private.StepColumns.{AreColumns, AreHalves};
 ghost use Rattle.road_ends.specs.Private.PassPlaces.{IsNthOrNowhere, AreOfZone, wanted_before};
 
 mod stretch;
@@ -16,7 +16,7 @@ mod stretch;
 use crate::OutOfMemory;
 use crate::chance::{slowed_by_chance, slowed_by_half};
 use crate::columns::Columns;
-use crate::pass::stretch::{first_car, first_cell, slow_by_halves, slow_by_words, wish};
+use crate::pass::stretch::{first_car, first_cell, slow_by_halves, slow_by_words, write_wanted};
 use road_cells::{Car, GREATEST_SPEED, Road, reached_blocks_below};
 use road_plan::{Plan, Settings};
 use road_rules::wanted;
@@ -154,7 +154,10 @@ fn speeds_behind(
         let word = ⟦<PlanWords as Words>⟧.word_of words.now (nth_car cars.now k).number step in
         slice_index new.new (k - first) ≡ slowed wished (has_event word cursor.zone.chance) }
 {
-    wish(cars, columns, cursor, first, from, to, new);
+    if from == to {
+        return;
+    }
+    write_wanted(cars, columns, cursor, first, from, to, new);
     let chance = cursor.zone.chance;
     if to <= columns.halves.len() {
         slow_by_halves(&columns.halves, chance, first, from, to, new);

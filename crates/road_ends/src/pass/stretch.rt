@@ -17,6 +17,9 @@ use road_cells::{Car, GREATEST_SPEED, Road};
 use road_rules::wanted;
 use road_words::{PlanWords, Words};
 
+/// Fewer cars than these are computed one by one.
+const FEW: usize = 8;
+
 /// The greatest number of a column.
 const GREATEST_NARROW: u32 = 65_535;
 
@@ -34,7 +37,7 @@ pub(super) fn first_cell(blocks: &[u32], cursor: Cursor) -> u32
 }
 
 // The place of the first car that does not stand before a cell, among those from the place `first` to before `end`; or
-// `end` where all of them stand before it.
+// `end` where all of them stand before it, and where they are too few to be taken together.
 pub(super) fn first_car(road: &Road, cell: u32, first: usize, end: usize) -> usize
     requires order { first ≤ end }
     requires within { end ≤ length (cars_of road.now) }
@@ -42,7 +45,7 @@ pub(super) fn first_car(road: &Road, cell: u32, first: usize, end: usize) -> usi
     ensures to { result ≤ end }
     ensures behind { (k : ℕ) → result ≤ k → k < end → cell ≤ cell_at (cars_of road.now) k }
 {
-    if first == end || road.cars()[end - 1].cell < cell {
+    if end - first < FEW || road.cars()[end - 1].cell < cell {
         return end;
     }
     road.cars_before(cell).max(first).min(end)
@@ -50,7 +53,7 @@ pub(super) fn first_car(road: &Road, cell: u32, first: usize, end: usize) -> usi
 
 // Rules 1 and 2 for the cars at the places `from` to before `to`, in a list whose first car is at the place `first`: by the
 // columns, where there are some.
-pub(super) fn wish(
+pub(super) fn write_wanted(
     cars: &[Car],
     columns: &Columns,
     cursor: Cursor,
@@ -74,7 +77,7 @@ pub(super) fn wish(
         slice_index new.new (k - first) ≡ wanted_before cars.now cursor.zone.limit (cell_at cars.now (k + 1)) cursor.block.cell k }
 {
     if to < columns.cells.len() && to <= columns.speeds.len() {
-        wish_by_columns(
+        write_wanted_by_columns(
             &columns.cells,
             &columns.speeds,
             cursor,
@@ -84,12 +87,19 @@ pub(super) fn wish(
             new,
         );
     } else {
-        wish_by_cars(cars, cursor, first, from, to, new);
+        write_wanted_by_cars(cars, cursor, first, from, to, new);
     }
 }
 
 // The same, by the list of cars.
-fn wish_by_cars(cars: &[Car], cursor: Cursor, first: usize, from: usize, to: usize, new: &mut [u8])
+fn write_wanted_by_cars(
+    cars: &[Car],
+    cursor: Cursor,
+    first: usize,
+    from: usize,
+    to: usize,
+    new: &mut [u8],
+)
     requires order { from ≤ to }
     requires front { to < length cars.now }
     requires apart { (k : ℕ) → from ≤ k → k < to → cell_at cars.now k < min (cell_at cars.now (k + 1)) cursor.block.cell }
@@ -109,7 +119,7 @@ fn wish_by_cars(cars: &[Car], cursor: Cursor, first: usize, from: usize, to: usi
 }
 
 // The same, by the columns of the cars' cells and speeds.
-fn wish_by_columns(
+fn write_wanted_by_columns(
     cells: &[u16],
     speeds: &[u8],
     cursor: Cursor,

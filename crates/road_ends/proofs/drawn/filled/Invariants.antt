@@ -1,5 +1,5 @@
 use Rattle.std.proofs.Common.{◌≡◌, ◌<◌, ◌≤◌, ℕ, length, slice_index}
-use Rattle.road_ends.specs.Private.KeptHalves.{IsHalf}
+use Rattle.road_ends.specs.Private.StepColumns.{IsHalf}
 use Rattle.road_ends.proofs.drawn.filled.Given as goal
 
 -- the halves of the cars so far

@@ -12,7 +12,7 @@ use Rattle.road_rules.proofs.MotionOfCars.{cell_at-end}
 use Rattle.road_plan.specs.Plan.{zone_of}
 use Rattle.road_words.specs.PlanWords.{source_word}
 use Rattle.road_ends.specs.Speed.{speeds}
-use Rattle.road_ends.specs.Private.KeptHalves.{AreHalves}
+use Rattle.road_ends.specs.Private.StepColumns.{AreHalves}
 use Rattle.road_ends.specs.Private.PassPlaces.{IsNthOrNowhere, AreOfZone}
 use Rattle.road_ends.proofs.StepByCars.{not_falling, zone_in_plan}
 use Rattle.road_ends.proofs.PassOverCars.{before_next, before_block, pass_speed, speed_at, speeds_of_piece, stretch_speed}

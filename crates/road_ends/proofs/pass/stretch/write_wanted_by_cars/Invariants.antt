@@ -1,7 +1,7 @@
 use Rattle.std.proofs.Common.{◌≡◌, ◌+◌, ◌-◌, ◌<◌, ◌≤◌, ℕ, length, slice_index}
 use Rattle.road_cells.specs.Cars.{cell_at}
 use Rattle.road_ends.specs.Private.PassPlaces.{wanted_before}
-use Rattle.road_ends.proofs.pass.stretch.wish_by_cars.Given as goal
+use Rattle.road_ends.proofs.pass.stretch.write_wanted_by_cars.Given as goal
 
 -- what the cars so far want
 abbrev pub invariant-loop-place : goal.invariant-loop-place

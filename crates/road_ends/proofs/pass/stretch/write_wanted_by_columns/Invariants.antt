@@ -2,7 +2,7 @@ use Rattle.std.proofs.Common.{◌≡◌, ◌+◌, ◌-◌, ◌<◌, ◌≤◌, �
 use Rattle.std.specs.Prelude.{min}
 use Rattle.road_cells.specs.declared.car.TheConstants.{GREATEST_SPEED}
 use Rattle.road_rules.specs.Speeds.{wanted}
-use Rattle.road_ends.proofs.pass.stretch.wish_by_columns.Given as goal
+use Rattle.road_ends.proofs.pass.stretch.write_wanted_by_columns.Given as goal
 
 -- what the cars so far want
 abbrev pub invariant-loop-place : goal.invariant-loop-place
