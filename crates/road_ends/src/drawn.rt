@@ -18,6 +18,9 @@ use std::sync::Arc;
 /// The stream of the first inlet's words; the others follow it.
 const FIRST_INLET_STREAM: u64 = 1 << 63;
 
+/// The memory of a road of fewer cars is not kept: to get it anew takes less.
+const WORTH_KEEPING: usize = 64;
+
 /// The words of a plan's cars and inlets, drawn for 64 steps at once: for each car that can move, and for each inlet
 /// that is open, the upper halves of its words. Contracts see where the words come from: they are those of the
 /// plan whatever is kept.
@@ -33,8 +36,8 @@ pub struct DrawnWords {
     // The memory of roads that are no longer needed: of the last one, and of the one before it.
     spare: Vec<Car>,
     further: Vec<Car>,
-    // The memory of the last step's columns.
-    columns: Columns,
+    // The last step's columns, for their memory.
+    columns: Option<Box<Columns>>,
 }
 
 impl Model for DrawnWords {
@@ -56,43 +59,47 @@ impl DrawnWords {
             inlets: [NO_ROW; MOST_INLETS],
             spare: Vec::new(alloc),
             further: Vec::new(alloc),
-            columns: Columns::empty(alloc),
+            columns: None,
         }
     }
 
-    /// Keeps the memory of a road that is no longer needed, for that of a step to come. It takes no memory.
+    /// Keeps the memory of a road that is no longer needed, for that of a step to come, unless it has few cars. It takes no
+    /// memory.
     pub fn reuse(&mut self, road: Road)
         ensures { self.new ≡ self.old }
     {
-        self.further = mem::replace(&mut self.spare, road.into_cars());
+        if road.cars().len() >= WORTH_KEEPING {
+            self.further = mem::replace(&mut self.spare, road.into_cars());
+        }
     }
 
     /// Keeps the memory of a step's road before its motion, as [`DrawnWords::reuse`], where nobody else needs the input.
     pub fn reuse_input(&mut self, input: Arc<StepInput>)
         ensures { self.new ≡ self.old }
     {
+        if input.road().cars().len() < WORTH_KEEPING {
+            return;
+        }
         match Arc::try_unwrap(input) {
             Ok(input) => {
                 let (road, columns) = input.into_parts();
-                self.columns = columns;
+                if columns.is_some() {
+                    self.columns = columns;
+                }
                 self.reuse(road);
             }
             Err(_) => {}
         }
     }
 
-    // Columns of no car, in memory that is kept where there is some.
-    pub(crate) fn no_columns(&mut self, alloc: Global) -> Columns
-        ensures cells { result.cells.items ≡ [] }
-        ensures speeds { result.speeds.items ≡ [] }
-        ensures halves { result.halves.items ≡ [] }
-        ensures unchanged { self.new ≡ self.old }
+    // Columns to write to: those that are kept, where there are some.
+    pub(crate) fn columns(&mut self, alloc: Global) -> Result<Box<Columns>, OutOfMemory>
+        ensures { self.new ≡ self.old }
     {
-        let mut columns = mem::replace(&mut self.columns, Columns::empty(alloc));
-        columns.cells.clear();
-        columns.speeds.clear();
-        columns.halves.clear();
-        columns
+        match mem::replace(&mut self.columns, None) {
+            Some(columns) => Ok(columns),
+            None => Ok(Box::new(alloc, Columns::empty(alloc))?),
+        }
     }
 
     // A list without cars, in memory that is kept where there is some.

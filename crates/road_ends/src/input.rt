@@ -1,5 +1,6 @@
-ghost use Rattle.std.specs.Prelude.{◌≡◌, ◌≤◌, length, IfOk};
+ghost use Rattle.std.specs.Prelude.{◌≡◌, ◌≤◌, length, IfOk, IfSome};
 ghost use Rattle.std.specs.Arc.{arc_value};
+ghost use Rattle.std.specs.Box.{box_value};
 ghost use Rattle.road_plan.specs.Plan.{IsWithinLimits};
 ghost use Rattle.road_plan.specs.Settings.{Fits};
 ghost use Rattle.road_ends.specs.Input.{input_of, input_speeds};
@@ -28,12 +29,13 @@ pub struct StepInput {
     step: u32,
     road: Road,
     // None where no chance leaves a slowing to the cars' words.
-    columns: Columns,
+    columns: Option<Box<Columns>>,
 }
 
 impl Model for StepInput {
-    ghost use Rattle.std.specs.Prelude.{◌≤◌, length};
+    ghost use Rattle.std.specs.Prelude.{◌≤◌, length, IfSome};
     ghost use Rattle.std.specs.Arc.{arc_value};
+    ghost use Rattle.std.specs.Box.{box_value};
     ghost use Rattle.road_plan.specs.Settings.{Fits};
     ghost use Rattle.road_ends.specs.Input.{StepInput};
     ghost use Rattle.road_ends.specs.Private.StepColumns.{AreColumns, AreHalves};
@@ -45,8 +47,9 @@ impl Model for StepInput {
 
     ghost invariant = { λ input. Fits (arc_value input.plan) (arc_value input.settings)
         × (length input.road ≤ (arc_value input.plan).cells)
-        × AreHalves (arc_value input.plan).words input.step input.road input.columns.halves.items
-        × AreColumns input.road input.columns.cells.items input.columns.speeds.items };
+        × IfSome input.columns (λ columns.
+        AreHalves (arc_value input.plan).words input.step input.road (box_value columns).halves.items
+        × AreColumns input.road (box_value columns).cells.items (box_value columns).speeds.items) };
 }
 
 impl StepInput {
@@ -65,7 +68,7 @@ impl StepInput {
     }
 
     // The road and the columns, where the rest is no longer needed. It takes no memory.
-    pub(crate) fn into_parts(self) -> (Road, Columns) {
+    pub(crate) fn into_parts(self) -> (Road, Option<Box<Columns>>) {
         let StepInput { road, columns, .. } = self;
         (road, columns)
     }
@@ -89,19 +92,19 @@ impl StepInput {
     /// # Errors
     ///
     /// `OutOfMemory` where their growth is refused.
+    #[tactic(auto, using(crate::proofs::KeptColumns::no_halves, crate::proofs::KeptColumns::no_columns))]
     pub fn speeds(&self, alloc: Global) -> Result<Vec<u8>, OutOfMemory>
         ensures { IfOk result (λ new. new.items ≡ input_speeds self.now) }
     {
         self.known();
-        let step = self.step;
-        speeds(
-            alloc,
-            &self.plan,
-            &self.settings,
-            step,
-            &self.road,
-            &self.columns,
-        )
+        let (plan, settings, road) = (&self.plan, &self.settings, &self.road);
+        match &self.columns {
+            Some(columns) => speeds(alloc, plan, settings, self.step, road, columns),
+            None => {
+                let none = Columns::empty(alloc);
+                speeds(alloc, plan, settings, self.step, road, &none)
+            }
+        }
     }
 
     /// Tells a proof that the settings fit the plan, and that all cars stand on the road. It does nothing.
@@ -139,7 +142,7 @@ pub fn enter(
         settings,
         step,
         road,
-        columns: Columns::empty(alloc),
+        columns: None,
     };
     Ok(Arc::new(alloc, input)?)
 }
@@ -185,17 +188,20 @@ fn columns_of(
     step: u32,
     road: &Road,
     words: &mut DrawnWords,
-) -> Result<Columns, OutOfMemory>
+) -> Result<Option<Box<Columns>>, OutOfMemory>
     requires { length road.now ≤ 65536 }
-    ensures halves { IfOk result (λ columns. AreHalves words.old step road.now columns.halves.items) }
-    ensures columns { IfOk result (λ columns. AreColumns road.now columns.cells.items columns.speeds.items) }
+    ensures halves { IfOk result (λ found. IfSome found (λ columns.
+        AreHalves words.old step road.now (box_value columns).halves.items)) }
+    ensures columns { IfOk result (λ found. IfSome found (λ columns.
+        AreColumns road.now (box_value columns).cells.items (box_value columns).speeds.items)) }
     ensures unchanged { words.new ≡ words.old }
 {
-    let mut columns = words.no_columns(alloc);
-    if chances.iter().any(|chance| is_open(*chance)) {
-        write_cells(road.cars(), &mut columns.cells)?;
-        write_speeds(road.cars(), &mut columns.speeds)?;
-        words.write_halves(road, step, &mut columns.halves)?;
+    if !chances.iter().any(|chance| is_open(*chance)) {
+        return Ok(None);
     }
-    Ok(columns)
+    let mut columns = words.columns(alloc)?;
+    write_cells(road.cars(), &mut columns.cells)?;
+    write_speeds(road.cars(), &mut columns.speeds)?;
+    words.write_halves(road, step, &mut columns.halves)?;
+    Ok(Some(columns))
 }

@@ -5,6 +5,7 @@ ghost use Rattle.road_cells.specs.Cars.{cars_of};
 ghost use Rattle.road_ends.specs.Input.{input_speeds_between};
 
 use crate::OutOfMemory;
+use crate::columns::Columns;
 use crate::input::StepInput;
 use crate::pass::speeds_between;
 use std::alloc::Global;
@@ -16,6 +17,7 @@ impl StepInput {
     /// # Errors
     ///
     /// `OutOfMemory` where their growth is refused.
+    #[tactic(auto, using(crate::proofs::KeptColumns::no_halves, crate::proofs::KeptColumns::no_columns))]
     pub fn speeds_between(
         &self,
         alloc: Global,
@@ -27,16 +29,15 @@ impl StepInput {
         ensures { IfOk result (λ new. new.items ≡ input_speeds_between self.now first end) }
     {
         self.known();
-        let step = self.step;
-        speeds_between(
-            alloc,
-            &self.plan,
-            &self.settings,
-            step,
-            &self.road,
-            &self.columns,
-            first,
-            end,
-        )
+        let (plan, settings, road) = (&self.plan, &self.settings, &self.road);
+        match &self.columns {
+            Some(columns) => {
+                speeds_between(alloc, plan, settings, self.step, road, columns, first, end)
+            }
+            None => {
+                let none = Columns::empty(alloc);
+                speeds_between(alloc, plan, settings, self.step, road, &none, first, end)
+            }
+        }
     }
 }

@@ -16,6 +16,5 @@ invariant_of-input c =
     let on_road = subst (λ a. length a ≤ p.cells) (sym moving) (length-array p.cells (λ c'. option_or (vehicle_at c.args.road.now c') (entry_at p c.args.settings c.args.step c'))) in (
       subst (λ (p : Plan). Fits p (arc_value c.in_ok-settings.settings)) (sym c.in_ok-plan.ensures) (subst (λ (s : Settings). Fits p s) (sym c.in_ok-settings.ensures.ok) c.requires.fits),
       subst (λ (p : Plan). length c.in_ok-road.road ≤ p.cells) (sym c.in_ok-plan.ensures) on_road,
-      no_halves _ _ _ _ c.empty.ensures.halves,
-      no_columns _ _ _ c.empty.ensures.cells c.empty.ensures.speeds,
+      tt,
     )
