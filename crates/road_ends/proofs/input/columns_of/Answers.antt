@@ -1,4 +1,4 @@
-use Rattle.std.proofs.Common.{◌≤◌, ◌<◌, ap, arith, length}
+use Rattle.std.proofs.Common.{ap, arith, length}
 use Rattle.road_cells.specs.Cars.{cell_at}
 use Rattle.road_rules.proofs.MotionOfCars.{cell_at-end}
 use Rattle.road_ends.proofs.input.columns_of.Goals as goal

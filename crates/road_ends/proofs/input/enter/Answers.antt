@@ -6,7 +6,6 @@ use Rattle.road_plan.specs.Settings.{Settings, Fits}
 use Rattle.road_cells.specs.Array.{vehicle_at}
 use Rattle.road_cells.proofs.ArrayPlaces.{length-array}
 use Rattle.road_ends.specs.Entries.{entry_at, road_with_entries}
-use Rattle.road_ends.proofs.KeptColumns.{no_columns, no_halves}
 use Rattle.road_ends.proofs.input.enter.Goals as goal
 
 pub invariant_of-input : goal.invariant_of-input

@@ -1,4 +1,4 @@
-use Rattle.std.proofs.Common.{◌≤◌, ap, arith, length}
+use Rattle.std.proofs.Common.{ap, arith}
 use Rattle.road_plan.specs.Plan.{Plan}
 use Rattle.road_ends.proofs.input.enter_with.Goals as goal
 

@@ -1,4 +1,4 @@
-use Rattle.std.proofs.Common.{◌≡◌, ◌≤◌, ℕ, slice_index}
+use Rattle.std.proofs.Common.{◌≤◌, ℕ, slice_index}
 use Rattle.road_ends.specs.Private.PassPlaces.{AreOfZone}
 use Rattle.road_ends.proofs.pass.first_alike.Given as goal
 

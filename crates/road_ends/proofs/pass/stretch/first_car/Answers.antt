@@ -1,4 +1,4 @@
-use Rattle.std.proofs.Common.{◌≤◌, ◌<◌, arith}
+use Rattle.std.proofs.Common.{arith}
 use Rattle.road_cells.specs.Cars.{cars_of}
 use Rattle.road_cells.proofs.CarLists.{rise-cars_from}
 use Rattle.road_cells.proofs.CarsBefore.{before-at}
