@@ -34,7 +34,8 @@ impl Columns {
 // Writes the cells of cars into a column.
 pub(crate) fn write_cells(cars: &[Car], column: &mut Vec<u16>) -> Result<(), OutOfMemory>
     requires { (k : ℕ) → k < length cars.now → cell_at cars.now k < 65536 }
-    ensures { IfOk result (λ _. (k : ℕ) → k < length column.new.items → slice_index column.new.items k ≡ cell_at cars.now k) }
+    ensures { IfOk result (λ _. (k : ℕ) → k < length column.new.items
+        → slice_index column.new.items k ≡ cell_at cars.now k) }
 {
     column.clear();
     column.resize(cars.len(), 0)?;

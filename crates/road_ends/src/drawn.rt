@@ -18,9 +18,6 @@ use std::sync::Arc;
 /// The stream of the first inlet's words; the others follow it.
 const FIRST_INLET_STREAM: u64 = 1 << 63;
 
-/// The memory of a road of fewer cars is not kept: to get it anew takes less.
-const WORTH_KEEPING: usize = 64;
-
 /// The words of a plan's cars and inlets, drawn for 64 steps at once: for each car that can move, and for each inlet
 /// that is open, the upper halves of its words. Contracts see where the words come from: they are those of the
 /// plan whatever is kept.
@@ -63,23 +60,17 @@ impl DrawnWords {
         }
     }
 
-    /// Keeps the memory of a road that is no longer needed, for that of a step to come, unless it has few cars. It takes no
-    /// memory.
+    /// Keeps the memory of a road that is no longer needed, for that of a step to come. It takes no memory.
     pub fn reuse(&mut self, road: Road)
         ensures { self.new ≡ self.old }
     {
-        if road.cars().len() >= WORTH_KEEPING {
-            self.further = mem::replace(&mut self.spare, road.into_cars());
-        }
+        self.further = mem::replace(&mut self.spare, road.into_cars());
     }
 
     /// Keeps the memory of a step's road before its motion, as [`DrawnWords::reuse`], where nobody else needs the input.
     pub fn reuse_input(&mut self, input: Arc<StepInput>)
         ensures { self.new ≡ self.old }
     {
-        if input.road().cars().len() < WORTH_KEEPING {
-            return;
-        }
         match Arc::try_unwrap(input) {
             Ok(input) => {
                 let (road, columns) = input.into_parts();

@@ -136,7 +136,8 @@ fn speeds_behind(
 )
     requires order { from ≤ to }
     requires front { to < length cars.now }
-    requires apart { (k : ℕ) → from ≤ k → k < to → cell_at cars.now k < min (cell_at cars.now (k + 1)) cursor.block.cell }
+    requires apart { (k : ℕ) → from ≤ k → k < to
+        → cell_at cars.now k < min (cell_at cars.now (k + 1)) cursor.block.cell }
     requires cells { (k : ℕ) → k < length columns.now.cells.items
         → slice_index columns.now.cells.items k ≡ cell_at cars.now k }
     requires speeds { (k : ℕ) → k < length columns.now.speeds.items

@@ -1,5 +1,5 @@
--- What is kept of the cars of a step beside their list: the upper halves of the words that decide whether they are slowed, their
--- cells and their speeds.
+-- What is kept of the cars of a step beside their list: their cells, their speeds, and the upper halves of the words
+-- that decide whether they are slowed.
 use Rattle.std.specs.Prelude.{◌≡◌, ◌+◌, ◌/◌, ◌<◌, ℕ, List, length, slice_index}
 use Rattle.road_plan.specs.declared.parts.WordKind.{WordKind}
 use Rattle.road_words.specs.Words.{word}

@@ -64,7 +64,8 @@ pub(super) fn write_wanted(
 )
     requires order { from ≤ to }
     requires front { to < length cars.now }
-    requires apart { (k : ℕ) → from ≤ k → k < to → cell_at cars.now k < min (cell_at cars.now (k + 1)) cursor.block.cell }
+    requires apart { (k : ℕ) → from ≤ k → k < to
+        → cell_at cars.now k < min (cell_at cars.now (k + 1)) cursor.block.cell }
     requires cells { (k : ℕ) → k < length columns.now.cells.items
         → slice_index columns.now.cells.items k ≡ cell_at cars.now k }
     requires speeds { (k : ℕ) → k < length columns.now.speeds.items
@@ -74,7 +75,8 @@ pub(super) fn write_wanted(
     ensures long { length new.new ≡ length new.old }
     ensures rest { (k : ℕ) → to ≤ k → slice_index new.new (k - first) ≡ slice_index new.old (k - first) }
     ensures wanted { (k : ℕ) → from ≤ k → k < to →
-        slice_index new.new (k - first) ≡ wanted_before cars.now cursor.zone.limit (cell_at cars.now (k + 1)) cursor.block.cell k }
+        slice_index new.new (k - first)
+        ≡ wanted_before cars.now cursor.zone.limit (cell_at cars.now (k + 1)) cursor.block.cell k }
 {
     if to < columns.cells.len() && to <= columns.speeds.len() {
         write_wanted_by_columns(
@@ -102,13 +104,15 @@ fn write_wanted_by_cars(
 )
     requires order { from ≤ to }
     requires front { to < length cars.now }
-    requires apart { (k : ℕ) → from ≤ k → k < to → cell_at cars.now k < min (cell_at cars.now (k + 1)) cursor.block.cell }
+    requires apart { (k : ℕ) → from ≤ k → k < to
+        → cell_at cars.now k < min (cell_at cars.now (k + 1)) cursor.block.cell }
     requires from { first ≤ from }
     requires room { to - first ≤ length new.old }
     ensures long { length new.new ≡ length new.old }
     ensures rest { (k : ℕ) → to ≤ k → slice_index new.new (k - first) ≡ slice_index new.old (k - first) }
     ensures wanted { (k : ℕ) → from ≤ k → k < to →
-        slice_index new.new (k - first) ≡ wanted_before cars.now cursor.zone.limit (cell_at cars.now (k + 1)) cursor.block.cell k }
+        slice_index new.new (k - first)
+        ≡ wanted_before cars.now cursor.zone.limit (cell_at cars.now (k + 1)) cursor.block.cell k }
 {
     for place in from..to {
         let car = cars[place];
