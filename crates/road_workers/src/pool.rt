@@ -20,7 +20,7 @@ use crate::gate::{Gate, NoGate};
 use crate::piece::{Answer, Piece, cars_in, list_for};
 use crate::pool::gathering::{is_taken, places_for, put_together};
 use crate::pool::job::{Done, Job};
-use crate::pool::waiting::stay_awake;
+use crate::pool::waiting::{looks_of, stay_awake};
 use crate::pool::working::work;
 use crossbeam_channel::{Receiver, SendError, Sender, bounded};
 use road_ends::{OutOfMemory, StepInput};
@@ -45,6 +45,8 @@ pub struct Pool<R> {
     workers: Vec<Worker>,
     // It has room for a result of each worker.
     results: Receiver<Done>,
+    // How often a thread of the crew looks for a message before it sleeps.
+    looks: u32,
     is_broken: bool,
     gone: u64,
 }
@@ -91,7 +93,8 @@ impl<R: Threads + Wait + Clone + Drop + Send + 'static> Pool<R> {
     {
         let mut started = Vec::with_capacity(alloc, workers as usize)?;
         let (done, results) = bounded(alloc, workers as usize)?;
-        let fault = start_workers(&rt, alloc, workers, &gate, &done, &mut started);
+        let looks = looks_of(&rt, workers);
+        let fault = start_workers(&rt, alloc, workers, looks, &gate, &done, &mut started);
         drop(done);
         if started.len() < workers as usize {
             finish_workers(&rt, started);
@@ -101,6 +104,7 @@ impl<R: Threads + Wait + Clone + Drop + Send + 'static> Pool<R> {
             rt,
             workers: started,
             results,
+            looks,
             is_broken: false,
             gone: 0,
         })
@@ -112,6 +116,7 @@ impl<R: Threads + Wait + Clone + Drop + Send + 'static> Pool<R> {
             rt,
             workers,
             results: _,
+            looks: _,
             is_broken: _,
             gone: _,
         } = self;
@@ -132,6 +137,7 @@ impl<R: Wait> Crew for Pool<R> {
                 input,
                 self.workers.as_slice(),
                 &self.results,
+                self.looks,
             )
         };
         self.is_broken = matches!(answer, Err(CrewFault::WorkersGone));
@@ -153,6 +159,7 @@ fn start_workers<
     rt: &R,
     alloc: Global,
     workers: u32,
+    looks: u32,
     gate: &Arc<G>,
     results: &Sender<Done>,
     started: &mut Vec<Worker>,
@@ -161,7 +168,7 @@ fn start_workers<
     ensures { vec_len started.new ≤ workers }
 {
     for worker in 0..workers {
-        match start_worker(rt, alloc, worker, workers, gate, results) {
+        match start_worker(rt, alloc, worker, looks, gate, results) {
             Ok(new) => {
                 if started.push(new).is_err() {
                     return CrewFault::OutOfMemory;
@@ -173,7 +180,7 @@ fn start_workers<
     CrewFault::WorkersGone
 }
 
-// Starts a worker, one of so many.
+// Starts a worker, who looks so often for a job before he sleeps.
 fn start_worker<
     R: Threads + Wait + Clone + Drop + Send + 'static,
     G: Gate + Drop + Send + Sync + 'static,
@@ -181,7 +188,7 @@ fn start_worker<
     rt: &R,
     alloc: Global,
     worker: u32,
-    workers: u32,
+    looks: u32,
     gate: &Arc<G>,
     results: &Sender<Done>,
 ) -> Result<Worker, CrewFault> {
@@ -191,7 +198,7 @@ fn start_worker<
     let their_rt = rt.clone()?;
     let started = thread::spawn(
         rt,
-        move || work(&their_rt, alloc, worker, workers, &*gate, &theirs, &results),
+        move || work(&their_rt, alloc, worker, looks, &*gate, &theirs, &results),
     );
     match started {
         Ok(thread) => Ok(Worker { jobs, thread }),
@@ -215,6 +222,7 @@ fn speeds_by<R: Wait>(
     input: &Arc<StepInput>,
     workers: &[Worker],
     results: &Receiver<Done>,
+    looks: u32,
 ) -> Result<Vec<u8>, CrewFault>
     requires some { 0 < length workers.now }
     requires few { length workers.now ≤ MOST_WORKERS }
@@ -226,7 +234,7 @@ fn speeds_by<R: Wait>(
     let mut places = places_for(alloc, count, input)?;
     let (jobs, sent) = send_jobs(rt, input, workers, cars);
     for _ in 0..jobs {
-        take_result(rt, results, &mut places, input, cars)?;
+        take_result(rt, results, looks, &mut places, input, cars)?;
     }
     sent?;
     put_together(whole, places, input)
@@ -275,6 +283,7 @@ fn send_job<R: Wait>(
 fn take_result<R: Wait>(
     rt: &R,
     results: &Receiver<Done>,
+    looks: u32,
     places: &mut Vec<Option<Answer>>,
     input: &StepInput,
     cars: usize,
@@ -287,7 +296,7 @@ fn take_result<R: Wait>(
     ensures gathered { AreGathered input.now places.new.items }
 {
     for _ in rt.forever() {
-        stay_awake(results, places.len() as u32);
+        stay_awake(results, looks);
         let Ok(done) = results.recv(rt) else {
             return Err(CrewFault::WorkersGone);
         };

@@ -7,18 +7,18 @@ use crossbeam_channel::{Receiver, SendError, Sender};
 use std::alloc::Global;
 use std::sync::{Arc, Wait};
 
-/// What a worker does until its channel of jobs is closed, or nobody takes results.
+/// What a worker does until its channel of jobs is closed, or nobody takes results. It looks so often for a job before it sleeps.
 pub(crate) fn work<R: Wait, G: Gate>(
     rt: &R,
     alloc: Global,
     worker: u32,
-    workers: u32,
+    looks: u32,
     gate: &G,
     jobs: &Receiver<Job>,
     results: &Sender<Done>,
 ) {
     for _ in rt.forever() {
-        stay_awake(jobs, workers);
+        stay_awake(jobs, looks);
         let Ok(job) = jobs.recv(rt) else {
             return;
         };
