@@ -4,16 +4,17 @@ ghost use Rattle.road_cells.specs.Cars.{AreRising};
 
 use crate::rows::input_of;
 use road_cells::{Car, Road};
-use road_ends::StepInput;
+use road_ends::{DrawnWords, StepInput, enter_with};
+use road_plan::Settings;
 use std::alloc::Global;
 use std::sync::Arc;
 use std::test::Fail;
-use tests_plans::{FREE, Parts, plan_of};
+use tests_plans::{HALF_SLOWED, Parts, plan_of};
 
-/// The free road where nobody enters.
+/// The free road with slowing chance one half, where nobody enters.
 const CLOSED: Parts = Parts {
     inlets: &[(0, 0)],
-    ..FREE
+    ..HALF_SLOWED
 };
 
 const FIRST: Car = Car {
@@ -44,44 +45,66 @@ const OTHER_CELL: &[Car] = &[FIRST, Car { cell: 8, ..SECOND }];
 
 const OTHER_SPEED: &[Car] = &[FIRST, Car { speed: 2, ..SECOND }];
 
-// The input of a step with these cars.
-fn input_with(alloc: Global, step: u32, cars: &[Car]) -> Result<Arc<StepInput>, Fail>
+// The input of a step with these cars, that of a run which draws its words before it needs them, or that of a single step.
+// The first has columns of its cars, the second has none.
+fn input_with(
+    alloc: Global,
+    step: u32,
+    cars: &[Car],
+    is_of_run: bool,
+) -> Result<Arc<StepInput>, Fail>
     requires { AreRising cars.now }
 {
     let plan = Arc::new(alloc, plan_of(alloc, &CLOSED)?)?;
-    input_of(alloc, &plan, step, &Road::of(cars.to_vec(alloc)?))
+    let road = Road::of(cars.to_vec(alloc)?);
+    if !is_of_run {
+        return input_of(alloc, &plan, step, &road);
+    }
+    plan.known_own_settings();
+    let settings = Arc::new(alloc, Settings::of_plan(alloc, &plan)?)?;
+    let mut words = DrawnWords::of(alloc, &plan);
+    Ok(enter_with(alloc, &plan, settings, step, &road, &mut words)?)
 }
+
+/// With columns or without, of the first input and of the second.
+const KINDS: [(bool, bool); 4] = [(false, false), (false, true), (true, false), (true, true)];
 
 #[test]
 fn an_input_is_the_same_as_another_of_its_step_and_cars(rt: HostRuntime) -> Result<(), Fail> {
     let alloc = rt.alloc();
-    let input = input_with(alloc, 3, BOTH)?;
-    let again = input_with(alloc, 3, BOTH)?;
-    let later = input_with(alloc, 4, BOTH)?;
-    assert!(rt; input.same(&again));
-    assert!(rt; !input.same(&later));
+    for (ours, theirs) in KINDS {
+        let input = input_with(alloc, 3, BOTH, ours)?;
+        let again = input_with(alloc, 3, BOTH, theirs)?;
+        let later = input_with(alloc, 4, BOTH, theirs)?;
+        assert!(rt; input.same(&again));
+        assert!(rt; !input.same(&later));
+    }
     Ok(())
 }
 
 #[test]
 fn inputs_differ_where_a_car_is_missing(rt: HostRuntime) -> Result<(), Fail> {
     let alloc = rt.alloc();
-    let input = input_with(alloc, 3, BOTH)?;
-    let shorter = input_with(alloc, 3, ALONE)?;
-    assert!(rt; !input.same(&shorter));
-    assert!(rt; !shorter.same(&input));
+    for (ours, theirs) in KINDS {
+        let input = input_with(alloc, 3, BOTH, ours)?;
+        let shorter = input_with(alloc, 3, ALONE, theirs)?;
+        assert!(rt; !input.same(&shorter));
+        assert!(rt; !shorter.same(&input));
+    }
     Ok(())
 }
 
 #[test]
 fn inputs_differ_by_each_part_of_a_car(rt: HostRuntime) -> Result<(), Fail> {
     let alloc = rt.alloc();
-    let input = input_with(alloc, 3, BOTH)?;
-    let number = input_with(alloc, 3, OTHER_NUMBER)?;
-    let cell = input_with(alloc, 3, OTHER_CELL)?;
-    let speed = input_with(alloc, 3, OTHER_SPEED)?;
-    assert!(rt; !input.same(&number));
-    assert!(rt; !input.same(&cell));
-    assert!(rt; !input.same(&speed));
+    for (ours, theirs) in KINDS {
+        let input = input_with(alloc, 3, BOTH, ours)?;
+        let number = input_with(alloc, 3, OTHER_NUMBER, theirs)?;
+        let cell = input_with(alloc, 3, OTHER_CELL, theirs)?;
+        let speed = input_with(alloc, 3, OTHER_SPEED, theirs)?;
+        assert!(rt; !input.same(&number));
+        assert!(rt; !input.same(&cell));
+        assert!(rt; !input.same(&speed));
+    }
     Ok(())
 }
