@@ -6,7 +6,6 @@ use Rattle.std.proofs.lemmas.Bool.Decides.{Decides-eqb, Decides-and, Decides-lik
 use Rattle.std.proofs.lemmas.List.{ext_get_or}
 use Rattle.road_cells.specs.Array.{Array}
 use Rattle.road_cells.specs.Cars.{cars_of}
-use Rattle.road_cells.specs.declared.car.Car.{Car}
 use Rattle.road_ends.specs.Speed.{nth_car}
 use Rattle.road_ends.specs.Private.StepColumns.{AreColumns}
 use mathlib.Core.Bool.{beq}

@@ -1,4 +1,4 @@
-use Rattle.std.proofs.Common.{◌≡◌, ◌<◌, ℕ, length, get_or, IsTrue}
+use Rattle.std.proofs.Common.{◌≡◌, ◌<◌, ℕ, get_or, IsTrue}
 use Rattle.road_ends.proofs.input.sameness.are_same_speeds.Given as goal
 
 -- whether they are the same so far
