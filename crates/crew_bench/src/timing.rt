@@ -76,19 +76,17 @@ pub(crate) fn time_alone<R: Clock + Print>(rt: &R, alloc: Global, task: &Task) -
     Ok(())
 }
 
-/// Times each crew, one after the other, and that as often as the task says.
+/// Times the crews in turn, as often as the task says: the crew of one each time before the two of so many workers.
 pub(crate) fn time_all<R: Threads + Wait + Clock + Print + Clone + Drop + Send + 'static>(
     rt: &R,
     alloc: Global,
     task: &Task,
 ) -> Result<()> {
     for _ in 0..task.turns {
-        time(rt, alloc, task, "alone", 1, &mut Alone)?;
         for workers in [1, 2, 4] {
-            time_threads(rt, alloc, task, workers)?;
-        }
-        for workers in [1, 2, 4] {
+            time(rt, alloc, task, "alone", 1, &mut Alone)?;
             time_pool(rt, alloc, task, workers)?;
+            time_threads(rt, alloc, task, workers)?;
         }
     }
     Ok(())
