@@ -83,11 +83,11 @@ impl<W: io::Write + Drop> Sink for StdSink<W> {
     fn write(&mut self, piece: &[u8]) -> Result<usize, WriteFailed> {
         self.flushed = false;
         match self.writer.write(piece) {
-            Ok(count) if count > 0 => Ok(count),
-            _ => {
+            Ok(0) | Err(_) => {
                 self.failures = self.failures.saturating_add(1);
                 Err(WriteFailed)
             }
+            Ok(count) => Ok(count),
         }
     }
 

@@ -256,19 +256,22 @@ fn replicas_exchange_edits(rt: HostRuntime) -> Result<(), Fail> {
 /// The limits that are put, one at each step.
 const LIMITS: u32 = 2_900;
 
+// The limit that is put at a step, with this count.
+fn limit_at(step: u32, count: u64) -> Edit {
+    Edit {
+        object: LIMIT,
+        step,
+        stamp: Stamp { count, number: 0 },
+        value: Value::Put(1),
+    }
+}
+
 // A limit put at each step, the last step first: at even steps with one count and at odd steps with another.
 fn limits(alloc: Global, even: u64, odd: u64) -> Result<Vec<Edit>, OutOfMemory> {
     let mut edits = Vec::new(alloc);
     for step in (0..LIMITS).rev() {
         let count = if step % 2 == 0 { even } else { odd };
-        let stamp = Stamp { count, number: 0 };
-        let value = Value::Put(1);
-        edits.push(Edit {
-            object: LIMIT,
-            step,
-            stamp,
-            value,
-        })?;
+        edits.push(limit_at(step, count))?;
     }
     Ok(edits)
 }
