@@ -1,6 +1,6 @@
 //! Reads an input, and writes its replies.
 
-ghost use Rattle.std.specs.Prelude.{◌≡◌, ◌++◌, ℕ, List, length, min, take, true, None};
+ghost use Rattle.std.specs.Prelude.{◌≡◌, ◌++◌, ℕ, List, [], length, min, take, true, None};
 ghost use Rattle.road_lab.specs.Dialogue.{HasAnswered};
 ghost use Rattle.road_lab.specs.Faults.{gone_after_call};
 ghost use Rattle.road_lab.specs.Run.{AnswersInput, program_run};
@@ -70,6 +70,36 @@ pub fn serve_within<R: Source, W: Sink, C: Crew>(
     ensures gone { C.gone crew.new ≡ gone_after_call result (C.gone crew.old) }
 {
     let mut dialogue = Dialogue::new(alloc, lines);
+    answer_input(alloc, reader, writer, crew, &mut dialogue, lines, bytes)
+}
+
+// Reads an input to its end into a dialogue to which nothing has come, and writes the replies.
+//
+// The dialogue is lent: each way out of the function that owns it drops it, and for each such drop the prover goes
+// through all that a laboratory holds.
+fn answer_input<R: Source, W: Sink, C: Crew>(
+    alloc: Global,
+    reader: &mut R,
+    writer: &mut W,
+    crew: &mut C,
+    dialogue: &mut Dialogue,
+    lines: u32,
+    bytes: u64,
+) -> Result<Served, ServeFault>
+    requires none_came { (first : SinkView) → HasAnswered lines [] first first dialogue.old }
+    requires going { dialogue.old.over ≡ None }
+    requires none_wait { dialogue.old.waiting.items ≡ [] }
+    ensures answers { AnswersInput (record {
+      lines = lines;
+      bytes = bytes;
+      source_before = source_view R.Source reader.old;
+      source_after = source_view R.Source reader.new;
+      sink_before = sink_view W.Sink writer.old;
+      sink_after = sink_view W.Sink writer.new;
+      result = result;
+    }) }
+    ensures gone { C.gone crew.new ≡ gone_after_call result (C.gone crew.old) }
+{
     let mut buffer = [0u8; PIECE];
     let mut room = bytes;
     loop {

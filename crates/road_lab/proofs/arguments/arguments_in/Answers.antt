@@ -1,8 +1,7 @@
-use Rattle.std.proofs.Common.{◌≡◌, Err, Some, None, sym, ◌∙◌}
+use Rattle.std.proofs.Common.{Some, None, sym, ◌∙◌}
 use Rattle.std.proofs.lemmas.Result.{err_from_is_err_and}
 use Rattle.clap.specs.Words.{found_of, rows_of}
 use Rattle.road_format.specs.Views.{texts}
-use Rattle.road_lab.specs.declared.arguments.ArgumentFault.TheVariants.{Refused}
 use Rattle.road_lab.proofs.CommandLines.{IsRead, accepted_alone, accepted_with, no_workers, path_found, refused_count, refused_words, some_workers, workers_found}
 use Rattle.road_lab.proofs.arguments.arguments_in.Goals as goal
 

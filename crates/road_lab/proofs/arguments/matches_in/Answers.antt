@@ -1,6 +1,6 @@
 use Rattle.std.proofs.Common.{rules, ◌≡◌, ◌∙◌, ap, ap₂}
 use Rattle.clap.specs.Simple.{app_of_fields}
-use Rattle.clap.specs.Words.{App, app_of, is_simple, is_simple_and_free, rule_of, with_rule}
+use Rattle.clap.specs.Words.{app_of, is_simple, is_simple_and_free, rule_of, with_rule}
 use Rattle.road_format.specs.Views.{texts}
 use Rattle.road_lab.specs.Arguments.{command_line, script_rule, workers_rule}
 use Rattle.road_lab.proofs.CommandLines.{found_by, free_line, named_less, read_by, simple_line, unread_by}

@@ -2,21 +2,21 @@ use Rattle.std.proofs.Common.{◌<◌, ◌∙◌, length, refl, sym, arith}
 use Rattle.std.proofs.lemmas.Result.{err_from_is_err_and}
 use Rattle.road_lab.specs.StreamViews.{source_view, sink_view}
 use Rattle.road_lab.proofs.RunEnds.{at_first, ReadMore, read_on, unread, stopped, over, early_gone, past, stopped_at_end, refused_at_end, ended_well}
-use Rattle.road_lab.proofs.serve.serve_within.Goals as goal
+use Rattle.road_lab.proofs.serve.answer_input.Goals as goal
 
-pub loop-dialogue-init : goal.loop-dialogue-init
-loop-dialogue-init g c = let new = c.new-dialogue.ensures in (at_first c.args.lines c.args.bytes _ _ c.new-dialogue.result (new.none_came _) new.going new.none_wait, refl)
+pub loop-count-init : goal.loop-count-init
+loop-count-init g c = (at_first c.args.lines c.args.bytes _ _ _ (c.requires.none_came _) c.requires.going c.requires.none_wait, refl)
 
 pub returns-in_err-count-clause-answers : goal.returns-in_err-count-clause-answers
 returns-in_err-count-clause-answers g c =
     let p = err_from_is_err_and c.from_residual.result c.from_residual.ensures.1 in
-    let l = c.loop-dialogue in
+    let l = c.loop-count in
     rw (p.1, p.2) (unread c.args.lines c.args.bytes l.room _ (source_view g.R.Source l.reader) (source_view g.R.Source c.read.new.self) _ _ l.dialogue l.invariant.0 c.in_err-count.ensures.bytes c.in_err-count.ensures.failed)
 
 pub returns-in_err-finish-clause-answers : goal.returns-in_err-finish-clause-answers
 returns-in_err-finish-clause-answers g c =
     let p = err_from_is_err_and c.from_residual-in_err-finish.result c.from_residual-in_err-finish.ensures.1 in
-    let l = c.loop-dialogue in
+    let l = c.loop-count in
     let e = c.in_ok-count.ensures in
     let s1 = source_view g.R.Source l.reader in
     let s2 = source_view g.R.Source c.read.new.self in
@@ -27,7 +27,7 @@ returns-in_err-finish-clause-answers g c =
 pub returns-in_err-take-clause-answers : goal.returns-in_err-take-clause-answers
 returns-in_err-take-clause-answers g c =
     let p = err_from_is_err_and c.from_residual-in_err-take.result c.from_residual-in_err-take.ensures.1 in
-    let l = c.loop-dialogue in
+    let l = c.loop-count in
     let e = c.in_ok-count.ensures in
     let s1 = source_view g.R.Source l.reader in
     let s2 = source_view g.R.Source c.read.new.self in
@@ -38,7 +38,7 @@ returns-in_err-take-clause-answers g c =
 
 pub returns-in-Some-over-clause-answers : goal.returns-in-Some-over-clause-answers
 returns-in-Some-over-clause-answers g c =
-    let l = c.loop-dialogue in
+    let l = c.loop-count in
     let e = c.in_ok-count.ensures in
     let s1 = source_view g.R.Source l.reader in
     let s2 = source_view g.R.Source c.read.new.self in
@@ -50,12 +50,12 @@ returns-in-Some-over-clause-answers g c =
 
 pub returns-in-Some-over-clause-gone : goal.returns-in-Some-over-clause-gone
 returns-in-Some-over-clause-gone g c =
-    c.in_ok-take.ensures.gone ∙ c.loop-dialogue.invariant.1
+    c.in_ok-take.ensures.gone ∙ c.loop-count.invariant.1
     ∙ sym (early_gone c.in-Some-over.end c.fault-in-Some-over.result (g.C.Crew.gone c.args.crew.now) c.fault-in-Some-over.ensures)
 
 pub returns-then-within-count-clause-answers : goal.returns-then-within-count-clause-answers
 returns-then-within-count-clause-answers g c =
-    let l = c.loop-dialogue in
+    let l = c.loop-count in
     let e = c.in_ok-count.ensures in
     let s1 = source_view g.R.Source l.reader in
     let s2 = source_view g.R.Source c.read.new.self in
@@ -64,9 +64,9 @@ returns-then-within-count-clause-answers g c =
     past c.args.lines c.args.bytes l.room c.in_ok-count.count c.fitting-within.result _ s1 s2 _ _ k2 l.dialogue c.take.new.self c.read.new.piece l.invariant.0 more c.if-count-eq0.false c.fitting-within.ensures c.if-within-count.true
     (c.in_ok-take.ensures.answered c.args.lines l.invariant.0.input _ l.invariant.0.answered) c.in_ok-take.ensures.none_wait c.in_ok-take.ensures.flushed c.in_default-over.is
 
-pub loop-dialogue-preserved : goal.loop-dialogue-preserved
-loop-dialogue-preserved g c =
-    let l = c.loop-dialogue in
+pub loop-count-preserved : goal.loop-count-preserved
+loop-count-preserved g c =
+    let l = c.loop-count in
     let e = c.in_ok-count.ensures in
     let s1 = source_view g.R.Source l.reader in
     let s2 = source_view g.R.Source c.read.new.self in
@@ -80,7 +80,7 @@ loop-dialogue-preserved g c =
 -- the end of the input: the plan line was refused
 pub returns-in-Some-clause-answers : goal.returns-in-Some-clause-answers
 returns-in-Some-clause-answers g c =
-    let l = c.loop-dialogue in
+    let l = c.loop-count in
     let e = c.in_ok-count.ensures in
     let s1 = source_view g.R.Source l.reader in
     let s2 = source_view g.R.Source c.read.new.self in
@@ -93,7 +93,7 @@ returns-in-Some-clause-answers g c =
 -- it was accepted
 pub returns-then-count-eq0-clause-answers : goal.returns-then-count-eq0-clause-answers
 returns-then-count-eq0-clause-answers g c =
-    let l = c.loop-dialogue in
+    let l = c.loop-count in
     let e = c.in_ok-count.ensures in
     let s1 = source_view g.R.Source l.reader in
     let s2 = source_view g.R.Source c.read.new.self in

@@ -1,14 +1,14 @@
 use Rattle.std.proofs.Common.{◌≡◌}
 use Rattle.road_lab.specs.StreamViews.{source_view, sink_view}
 use Rattle.road_lab.proofs.RunEnds.{SoFar}
-use Rattle.road_lab.proofs.serve.serve_within.Given as goal
+use Rattle.road_lab.proofs.serve.answer_input.Given as goal
 
 -- some input was read and answered, and no call failed; no worker has gone
-abbrev pub invariant-loop-dialogue : goal.invariant-loop-dialogue
-invariant-loop-dialogue g l =
+abbrev pub invariant-loop-count : goal.invariant-loop-count
+invariant-loop-count g l =
     SoFar l.lines l.bytes l.room (source_view g.R.Source l.initial.reader) (source_view g.R.Source l.reader)
     (sink_view g.W.Sink l.initial.writer) (sink_view g.W.Sink l.writer) l.dialogue
     × (g.C.Crew.gone l.crew ≡ g.C.Crew.gone l.initial.crew)
 
-abbrev pub decreases-loop-dialogue : goal.decreases-loop-dialogue
-decreases-loop-dialogue g l = l.room
+abbrev pub decreases-loop-count : goal.decreases-loop-count
+decreases-loop-count g l = l.room
