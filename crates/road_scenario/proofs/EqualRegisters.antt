@@ -24,8 +24,10 @@ use Rattle.road_scenario.specs.Winners.{has_no_edit}
 use Rattle.road_scenario.specs.Registers.{Register, RegistersByStep, RegistersByObject, edit_with, edits_from_register, object_edits, edit_list, edit_set}
 use Rattle.road_scenario.specs.Private.RegisterWalks.{registers_of_object}
 use Rattle.road_scenario.specs.Winners.{join}
-use Rattle.road_scenario.proofs.RisingEdits.{object_cmp, AreRegistersByStep, AreRegisters, is_less, items-edit_set}
-use Rattle.road_scenario.proofs.JoinedRegisters.{object_total, steps_join, steps_laws, maps_join, proper-joined, edit_set-joined}
+use Rattle.road_scenario.specs.Instances.RegisterLattice.{AreRegistersByStep}
+use Rattle.road_scenario.proofs.RisingEdits.{object_cmp, AreRegisters, is_less, items-edit_set}
+use Rattle.road_scenario.specs.Instances.RegisterLattice.{steps_join, steps_laws}
+use Rattle.road_scenario.proofs.JoinedRegisters.{object_total, maps_join, proper-joined, edit_set-joined}
 use Rattle.road_scenario.proofs.LastNumbers.{is_one, itself, other_above, steps_here, steps_there}
 use Rattle.road_scenario.proofs.WalkedSettings.{same}
 

@@ -34,7 +34,8 @@ use Rattle.road_scenario.specs.Edits.{Edits, Rank, edit_cmp, is_exceeded_by, edi
 use Rattle.road_scenario.specs.Instances.EditOrder.{edit_total, edit_exact, exceeds_strict, winners_laws, number_pair_total, number_triple_total, ordered_values, stamp_exact, value_exact}
 use Rattle.road_scenario.specs.Winners.{winners, join}
 use Rattle.road_scenario.specs.Registers.{Register, RegistersByStep, RegistersByObject, edit_with, edits_from_register, object_edits, edit_list, edit_set}
-use Rattle.road_scenario.proofs.RisingEdits.{object_cmp, AreRegistersByStep, AreRegisters, winners-edit_set}
+use Rattle.road_scenario.specs.Instances.RegisterLattice.{AreRegistersByStep, ordered_won, steps_join, steps_laws, won_cmp, won_exact, won_join, won_laws, won_total}
+use Rattle.road_scenario.proofs.RisingEdits.{object_cmp, AreRegisters, winners-edit_set}
 
 -- ---- sets of one edit
 
@@ -131,29 +132,8 @@ winners-edit_list (x ∷ m) = winners-append (object_edits x.0 x.1) (edit_list m
 
 -- ---- joining maps joins what they hold
 
-abbrev won_cmp : Stamp × Value → Stamp × Value → Ordering
-won_cmp x y = ordering_then (derived_stamp.ghosts.cmp x.0 y.0) (derived_value.ghosts.cmp x.1 y.1)
-
-abbrev rank_of : Stamp × Value → Rank
-rank_of w = (stamp_key w.0, value_key w.1)
-
-ordered_won : (x y : Stamp × Value) → won_cmp x y ≡ number_triple_cmp (rank_of x) (rank_of y)
-ordered_won x y = ap (ordering_then (number_pair_cmp (stamp_key x.0) (stamp_key y.0))) (ordered_values x.1 y.1)
-
 pub object_total : IsTotalOrder object_cmp
 object_total = total_by order_key object_cmp number_pair_cmp ordered number_pair_total
-
-won_total : IsTotalOrder won_cmp
-won_total = total_by rank_of won_cmp number_triple_cmp ordered_won number_triple_total
-
-won_exact : IsExact won_cmp
-won_exact = exact_pair derived_stamp.ghosts.cmp derived_value.ghosts.cmp stamp_exact value_exact
-
-abbrev pub won_join : Register → Register → Register
-won_join = greatest_join won_cmp
-
-pub won_laws : LatticeLaws (λ (_ : Register). Unit {0}) won_join is_nothing
-won_laws = greatest_laws won_cmp won_total won_exact
 
 greater : (o : Object) (step : ℕ) (v w : Stamp × Value) → won_cmp v w ≡ Less → is_exceeded_by (edit_with o step v) (edit_with o step w) ≡ true
 greater o step v w l = and_from _ _ (ap is_eq (tied_itself number_triple_total (edit_place (edit_with o step v)))) (ap is_lt (sym (ordered_won v w) ∙ l))
@@ -170,12 +150,6 @@ won_joins o step (Of v) (Of w) p q =
       | Equal ↦ λ l. sym (ap (λ x. join (single a) (single (edit_with o step x))) (sym (won_exact v w l)) ∙ join-of-one a)
       | Greater ↦ λ l. sym (join-over a b (greater o step w v (won_total.antisymm w v ∙ ap ordering_reverse l)))
     ] refl
-
-abbrev pub steps_join : RegistersByStep → RegistersByStep → RegistersByStep
-steps_join = map_join nat_cmp won_join is_nothing
-
-pub steps_laws : LatticeLaws AreRegistersByStep steps_join is_empty
-steps_laws = map_laws nat_cmp nat_cmp_total exact_nat (λ _. Unit {0}) won_join is_nothing won_laws
 
 steps_joins : (o : Object) (m n : RegistersByStep) → AreRegistersByStep m → AreRegistersByStep n → joined_at o (steps_join m n) ≡ join (joined_at o m) (joined_at o n)
 steps_joins o m n p q = fold-map_join nat_cmp nat_cmp_total exact_nat (λ _. Unit {0}) won_join is_nothing won_laws join empty edits_join (won_at o) (won_joins o) m n p q

@@ -29,7 +29,8 @@ use Rattle.road_scenario.specs.Touched.{IsBefore}
 use Rattle.road_scenario.specs.Winners.{winners}
 use Rattle.road_scenario.specs.Private.RegisterWalks.{earlier_step, first_step_after, first_date_after}
 use Rattle.road_scenario.proofs.EditMembers.{IsIn, passing_in}
-use Rattle.road_scenario.proofs.RisingEdits.{AreRegistersByStep, AreRegisters}
+use Rattle.road_scenario.specs.Instances.RegisterLattice.{AreRegistersByStep}
+use Rattle.road_scenario.proofs.RisingEdits.{AreRegisters}
 use Rattle.road_scenario.proofs.SettingsBeforeTouched.{before_each}
 use Rattle.road_scenario.proofs.SettingsOfRegisters.{winners-items}
 use Rattle.road_scenario.proofs.TouchedSteps.{AllLater, steps_of_edits, least-append, later_object_edits, later_kept, first_least, filter-same}

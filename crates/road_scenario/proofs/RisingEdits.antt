@@ -24,13 +24,11 @@ use Rattle.road_scenario.specs.declared.edit.Edit.{Edit}
 use Rattle.road_scenario.specs.Edits.{Edits, edit_cmp, is_exceeded_by, edit_place, edit_rank, number_pair_cmp, number_triple_cmp}
 use Rattle.road_scenario.specs.Instances.EditOrder.{edit_total, edit_exact, exceeds_strict, number_pair_total, number_triple_total}
 use Rattle.road_scenario.specs.Winners.{winners}
+use Rattle.road_scenario.specs.Instances.RegisterLattice.{AreRegistersByStep}
 use Rattle.road_scenario.specs.Registers.{RegistersByStep, RegistersByObject, edit_with, edits_from_register, object_edits, edit_list, edit_set}
 
 abbrev pub object_cmp : Object → Object → Ordering
 object_cmp = derived.ghosts.cmp
-
-abbrev pub AreRegistersByStep : RegistersByStep → Type 0
-AreRegistersByStep = IsProperMap nat_cmp (λ _. Unit {0}) is_nothing
 
 abbrev pub AreRegisters : RegistersByObject → Type 0
 AreRegisters = IsProperMap object_cmp AreRegistersByStep is_empty

@@ -20,7 +20,8 @@ use Rattle.road_scenario.specs.Registers.{Register, RegistersByStep, RegistersBy
 use Rattle.road_scenario.specs.Settings.{setting, setting_in, settings_in, settings_of}
 use Rattle.road_scenario.specs.Winners.{winners}
 use Rattle.road_scenario.specs.Private.RegisterWalks.{last_number, registers_of_object, settings_with_last_numbers}
-use Rattle.road_scenario.proofs.RisingEdits.{object_cmp, AreRegistersByStep, AreRegisters, items-edit_set, winners-edit_set}
+use Rattle.road_scenario.specs.Instances.RegisterLattice.{AreRegistersByStep}
+use Rattle.road_scenario.proofs.RisingEdits.{object_cmp, AreRegisters, items-edit_set, winners-edit_set}
 use Rattle.road_scenario.proofs.EditRanges.{in_range-faultless}
 use Rattle.road_scenario.proofs.FirstFaults.{first-append, none_of_both, in_range}
 use Rattle.road_scenario.proofs.WalkedSettings.{AreInPlan, setting-edit_list, puts-settings}

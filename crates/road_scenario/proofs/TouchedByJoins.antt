@@ -31,10 +31,12 @@ use Rattle.road_scenario.specs.Winners.{join}
 use Rattle.road_scenario.specs.Private.RegisterWalks.{number_at_step, first_change_among, first_change_where, earlier_step, registers_of_object, register_number}
 use Rattle.road_scenario.proofs.EditMembers.{IsIn, none_in, first_in, later_in, in_front, in_back, kept_in, passing_in}
 use Rattle.road_scenario.proofs.EqualRegisters.{same_edit_set}
-use Rattle.road_scenario.proofs.JoinedRegisters.{object_total, won_join, won_laws, steps_join, steps_laws, maps_join, proper-joined, edit_set-joined}
+use Rattle.road_scenario.specs.Instances.RegisterLattice.{won_join, won_laws, steps_join, steps_laws}
+use Rattle.road_scenario.proofs.JoinedRegisters.{object_total, maps_join, proper-joined, edit_set-joined}
 use Rattle.road_scenario.proofs.LastNumbers.{is_one, steps_here, steps_there}
 use Rattle.road_scenario.proofs.PutNumbers.{edit_of_number}
-use Rattle.road_scenario.proofs.RisingEdits.{object_cmp, AreRegistersByStep, AreRegisters}
+use Rattle.road_scenario.specs.Instances.RegisterLattice.{AreRegistersByStep}
+use Rattle.road_scenario.proofs.RisingEdits.{object_cmp, AreRegisters}
 use Rattle.road_scenario.proofs.SettingsBeforeTouched.{least_later}
 use Rattle.road_scenario.proofs.SettingsOfRegisters.{winners-items}
 use Rattle.road_scenario.proofs.TouchedSteps.{AllLater, steps_of_edits, least-append, later_object_edits, later_kept, first_least, put_found}

@@ -30,7 +30,8 @@ use Rattle.road_scenario.specs.Instances.EditOrder.{edit_total, edit_exact, numb
 use Rattle.road_scenario.specs.Registers.{Register, RegistersByStep, RegistersByObject, edit_with, edits_from_register, object_edits, edit_list, edit_set}
 use Rattle.road_scenario.specs.Touched.{put_number_at, has_other_number, touched, touched_in}
 use Rattle.road_scenario.specs.Private.RegisterWalks.{number_at_step, first_change_at, first_change, earlier_step, registers_of_object, register_number}
-use Rattle.road_scenario.proofs.RisingEdits.{object_cmp, place_cmp, AreRegistersByStep, AreRegisters, is_less, rising_edit_list, below-each}
+use Rattle.road_scenario.specs.Instances.RegisterLattice.{AreRegistersByStep}
+use Rattle.road_scenario.proofs.RisingEdits.{object_cmp, place_cmp, AreRegisters, is_less, rising_edit_list, below-each}
 use Rattle.road_scenario.proofs.LastNumbers.{is_one, other_above, steps_here, steps_there}
 use Rattle.road_scenario.proofs.WalkedSettings.{same}
 use Rattle.road_scenario.proofs.SettingsOfRegisters.{winners-items}

@@ -3,7 +3,7 @@
 ghost use Rattle.std.specs.Prelude.{◌≡◌};
 ghost use Rattle.road_scenario.specs.Private.RegisterWalks as walks;
 
-use crate::scenario::{RegistersByObject, RegistersByStep};
+use crate::registers::{RegistersByObject, RegistersByStep};
 use crate::touched::earlier;
 
 // The first date of all edits after a step: a look-up for each object.

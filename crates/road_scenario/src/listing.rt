@@ -6,7 +6,7 @@ ghost use Rattle.road_scenario.specs.Registers.{edits_from_register, edit_list, 
 
 use crate::edit::Edit;
 use crate::faults::EditFault;
-use crate::scenario::{RegistersByObject, RegistersByStep, Won};
+use crate::registers::{RegistersByObject, RegistersByStep, Won};
 use lattice_core::greatest::Greatest;
 use road_plan::{Object, OutOfMemory, Plan};
 use std::alloc::Global;

@@ -12,27 +12,18 @@ ghost use Rattle.road_scenario.specs.Touched.{IsBefore, touched};
 ghost use Rattle.road_scenario.specs.Winners.{join, winners};
 
 use crate::dates::first_date_after;
-use crate::edit::{Edit, Stamp, Value};
+use crate::edit::Edit;
 use crate::faults::EditFault;
 use crate::listing::{all_edits, fault_of_first};
+use crate::registers::{RegistersByObject, RegistersByStep};
 use crate::settings::{number_of, put_all};
 use crate::touched::{first_change, first_change_by};
-use lattice_core::greatest::Greatest;
 use lattice_core::lattice::Lattice;
 use lattice_core::map::LatMap;
 use lattice_core::shared::Shared;
 use road_plan::{Object, OutOfMemory, Plan, Settings};
 use std::alloc::Global;
 use std::marker::Model;
-
-/// What won at an object and step: the value put by the greatest stamp, and of equal stamps the greatest value.
-pub type Won = Greatest<(Stamp, Value)>;
-
-// The registers of one object, each with its step.
-pub(crate) type RegistersByStep = LatMap<u32, Won>;
-
-// All registers, each object with its own, which scenarios share as long as nothing is joined in for the object.
-pub(crate) type RegistersByObject = LatMap<Object, Shared<RegistersByStep>>;
 
 /// The winners of the edits that came. Contracts see the set of them.
 #[derive(Drop)]
@@ -107,9 +98,7 @@ impl Scenario {
             IfOk result (λ new. AreInRange plan new) }
     {
         self.registers.known();
-        let won = Greatest::Of((edit.stamp, edit.value));
-        let none: RegistersByStep = LatMap::empty(self.alloc);
-        let one = none.with(edit.step, &won)?;
+        let one = RegistersByStep::of(self.alloc, edit.step, edit.stamp, edit.value)?;
         let steps = Shared::of(self.alloc, one)?;
         Ok(Scenario {
             registers: self.registers.with(edit.object, &steps)?,

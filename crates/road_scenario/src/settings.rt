@@ -5,7 +5,7 @@ ghost use Rattle.std.specs.List.{AllByRecursion};
 ghost use Rattle.road_scenario.specs.Private.RegisterWalks as walks;
 
 use crate::edit::Value;
-use crate::scenario::{RegistersByObject, RegistersByStep, Won};
+use crate::registers::{RegistersByObject, RegistersByStep, Won};
 use lattice_core::greatest::Greatest;
 use road_plan::{Object, OutOfMemory, Settings};
 

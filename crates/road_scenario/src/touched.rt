@@ -4,7 +4,7 @@ ghost use Rattle.std.specs.Prelude.{◌≡◌, []};
 ghost use Rattle.std.specs.Option.{option_copied, unwrap_or};
 ghost use Rattle.road_scenario.specs.Private.RegisterWalks as walks;
 
-use crate::scenario::{RegistersByObject, RegistersByStep};
+use crate::registers::{RegistersByObject, RegistersByStep};
 use crate::settings::number_put;
 use lattice_core::shared::Shared;
 use road_plan::Object;

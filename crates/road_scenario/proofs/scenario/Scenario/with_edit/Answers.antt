@@ -1,6 +1,4 @@
 use Rattle.std.proofs.Common.{◌≡◌, max, sym, ap, subst, ◌∙◌, [], ◌∷◌}
-use Rattle.std.specs.Ordering.{nat_cmp}
-use Rattle.lattice_core.specs.Greatest.{is_nothing}
 use Rattle.lattice_core.specs.Map.{is_empty, map_with}
 use Rattle.lattice_core.specs.Sets.{from_list}
 use Rattle.lattice_core.specs.declared.greatest.Greatest.TheVariants.{Of}
@@ -12,13 +10,14 @@ use Rattle.road_scenario.specs.Edits.{Edits}
 use Rattle.road_scenario.specs.Registers.{RegistersByObject, RegistersByStep, edit_set}
 use Rattle.road_scenario.proofs.EditRanges.{in_range-join, in_range-one}
 use Rattle.road_scenario.proofs.GreatestCounts.{greatest_count-join, greatest_count-one}
-use Rattle.road_scenario.proofs.JoinedRegisters.{edit_set-with, steps_join, won_join}
+use Rattle.road_scenario.specs.Instances.RegisterLattice.{steps_join}
+use Rattle.road_scenario.proofs.JoinedRegisters.{edit_set-with}
 use Rattle.road_scenario.proofs.RisingEdits.{AreRegisters, object_cmp}
 use Rattle.road_scenario.proofs.scenario.Scenario.with_edit.Goals as goal
 
--- the edit joined in
+-- the register of the edit
 abbrev one : Edit → RegistersByStep
-one e = map_with nat_cmp won_join is_nothing [] e.step (Of (e.stamp, e.value))
+one e = (e.step, Of (e.stamp, e.value)) ∷ []
 
 made : (m new : RegistersByObject) (steps : RegistersByStep) (edits : Edits) (e : Edit) → AreRegisters m → edit_set m ≡ edits → steps ≡ one e → new ≡ map_with object_cmp steps_join is_empty m e.object steps
     → edit_set new ≡ join edits (from_list (e ∷ []))
@@ -27,7 +26,7 @@ made m new steps edits e are view is joined = ap edit_set joined ∙ edit_set-wi
 pub invariant_of-result : goal.invariant_of-result
 invariant_of-result c =
     let e = c.args.edit.now in
-    let is = c.in_ok-steps.ensures ∙ c.in_ok-one.ensures ∙ ap (λ m. map_with nat_cmp won_join is_nothing m e.step (Of (e.stamp, e.value))) c.empty-none.ensures in
+    let is = c.in_ok-steps.ensures ∙ c.in_ok-one.ensures in
     c.max.ensures
     ∙ (λ i. max ((c.self.invariant ∙ ap greatest_count c.self.view_is) i) (sym (greatest_count-one e) i))
     ∙ sym (ap greatest_count (made c.self.inside.registers c.in_ok-with.field-0 c.in_ok-steps.steps c.args.self.now e c.known.ensures c.self.view_is is c.in_ok-with.ensures) ∙ greatest_count-join c.args.self.now (from_list (e ∷ [])))
@@ -35,7 +34,7 @@ invariant_of-result c =
 pub returns-clause-winners : goal.returns-clause-winners
 returns-clause-winners c =
     let e = c.args.edit.now in
-    let is = c.in_ok-steps.ensures ∙ c.in_ok-one.ensures ∙ ap (λ m. map_with nat_cmp won_join is_nothing m e.step (Of (e.stamp, e.value))) c.empty-none.ensures in
+    let is = c.in_ok-steps.ensures ∙ c.in_ok-one.ensures in
     made c.self.inside.registers c.in_ok-with.field-0 c.in_ok-steps.steps c.args.self.now e c.known.ensures c.self.view_is is c.in_ok-with.ensures
 
 pub returns-clause-fits : goal.returns-clause-fits

@@ -1,3 +1,6 @@
+//! Late edits, one after another.
+
+use anyhow::Result;
 use road_ends::Meter;
 use road_plan::limits::GREATEST_HORIZON;
 use road_plan::{Object, OutOfMemory, Plan};
@@ -60,8 +63,8 @@ fn push(numbers: &mut Vec<u64>, number: u64) -> Result<(), OutOfMemory> {
     Ok(numbers.push(number)?)
 }
 
-/// How many steps are computed for a run up to a horizon, and then for each late edit; none where the horizon is too great.
-pub fn steps_of(
+// How many steps are computed for a run up to a horizon, and then for each late edit; none where the horizon is too great.
+fn steps_of(
     alloc: Global,
     plan: Arc<Plan>,
     horizon: u32,
@@ -77,4 +80,19 @@ pub fn steps_of(
         push(&mut steps, done.steps)?;
     }
     Ok(steps)
+}
+
+/// Writes how many steps are computed for a run up to a horizon, and then for each late edit; nothing where the horizon is
+/// too great.
+pub(crate) fn tell<R: Print>(
+    rt: &R,
+    alloc: Global,
+    plan: Arc<Plan>,
+    horizon: u32,
+    edits: u32,
+) -> Result<()> {
+    for steps in &steps_of(alloc, plan, horizon, edits)? {
+        println!(rt; "{steps}")?;
+    }
+    Ok(())
 }

@@ -10,7 +10,7 @@ use road_workers::{Crew, NoGate, Pool, Scoped};
 use std::alloc::Global;
 use std::sync::{Arc, Wait};
 use std::thread::Threads;
-use tests_plans::DENSE_ROWS;
+use tests_plans::{DENSE, DENSE_ROWS, plan_of};
 
 // Whether a crew takes the road through its worked rows.
 fn gives<C: Crew>(alloc: Global, plan: &Arc<Plan>, crew: &mut C) -> Result<bool> {
@@ -25,8 +25,8 @@ fn gives<C: Crew>(alloc: Global, plan: &Arc<Plan>, crew: &mut C) -> Result<bool>
     )
 }
 
-/// How many of some runs give the worked rows, each by a new crew of threads made for each step.
-pub(crate) fn runs_by_threads<R: Threads + Wait>(
+// How many of some runs give the worked rows, each by a new crew of threads made for each step.
+fn runs_by_threads<R: Threads + Wait>(
     rt: &R,
     alloc: Global,
     plan: &Arc<Plan>,
@@ -46,8 +46,8 @@ pub(crate) fn runs_by_threads<R: Threads + Wait>(
     Ok(good)
 }
 
-/// How many of some runs give the worked rows, each by a new crew of lasting workers.
-pub(crate) fn runs_by_pools<R: Threads + Wait + Clone + Drop + Send + 'static>(
+// How many of some runs give the worked rows, each by a new crew of lasting workers.
+fn runs_by_pools<R: Threads + Wait + Clone + Drop + Send + 'static>(
     rt: &R,
     alloc: Global,
     plan: &Arc<Plan>,
@@ -67,4 +67,21 @@ pub(crate) fn runs_by_pools<R: Threads + Wait + Clone + Drop + Send + 'static>(
         }
     }
     Ok(good)
+}
+
+/// Lets 1 to 16 workers take the road through its worked rows, so many times by each kind of crew, and writes how often
+/// they gave them.
+pub(crate) fn run<R: Threads + Wait + Print + Clone + Drop + Send + 'static>(
+    rt: &R,
+    alloc: Global,
+    workers: u32,
+    runs: u32,
+) -> Result<()> {
+    let plan = Arc::new(alloc, plan_of(alloc, &DENSE)?)?;
+    let workers = workers.clamp(1, 16);
+    let by_threads = runs_by_threads(rt, alloc, &plan, workers, runs)?;
+    println!(rt; "{by_threads} of {runs} runs by threads made for each step gave the worked rows")?;
+    let by_pools = runs_by_pools(rt, alloc, &plan, workers, runs)?;
+    println!(rt; "{by_pools} of {runs} runs by lasting workers gave the worked rows")?;
+    Ok(())
 }

@@ -1,5 +1,8 @@
+//! Steps of a road, timed beside the random words that they draw.
+
 ghost use Rattle.std.specs.Arc.{arc_value};
 
+use anyhow::Result;
 use road_cells::Road;
 use road_ends::{Meter, OutOfMemory, StepInput, step_alone};
 use road_plan::limits::CERTAIN;
@@ -7,9 +10,34 @@ use road_plan::{Plan, Settings};
 use road_words::{PlanWords, Words};
 use std::alloc::Global;
 use std::sync::Arc;
+use std::time::{Clock, Instant};
 
-/// Steps the empty road with the plan's own settings, and gives the number of cars moved, each counted once a step.
-pub fn stepped(alloc: Global, plan: &Arc<Plan>, steps: u32) -> Result<u64, OutOfMemory> {
+/// How often the same is timed.
+const RUNS: u32 = 5;
+
+/// Times steps, and then the drawing of as many words as they drew, and writes a line for each run of both.
+pub(crate) fn time<R: Clock + Print>(
+    rt: &R,
+    alloc: Global,
+    plan: &Arc<Plan>,
+    steps: u32,
+) -> Result<()> {
+    let words = words_of(alloc, plan, steps)?;
+    let source = PlanWords::of(plan);
+    for _ in 0..RUNS {
+        let start = Instant::now(rt)?;
+        let cars = stepped(alloc, plan, steps)?;
+        let stepping = start.elapsed(rt)?.as_nanos();
+        let start = Instant::now(rt)?;
+        let mixed = drawn(&source, words);
+        let drawing = start.elapsed(rt)?.as_nanos();
+        println!(rt; "{steps} {cars} {words} {stepping} {drawing} {mixed}")?;
+    }
+    Ok(())
+}
+
+// Steps the empty road with the plan's own settings, and gives the number of cars moved, each counted once a step.
+fn stepped(alloc: Global, plan: &Arc<Plan>, steps: u32) -> Result<u64, OutOfMemory> {
     let mut meter = Meter::new();
     let mut road = Road::empty(alloc);
     let mut cars = 0u64;
@@ -22,8 +50,8 @@ pub fn stepped(alloc: Global, plan: &Arc<Plan>, steps: u32) -> Result<u64, OutOf
     Ok(cars)
 }
 
-/// The number of words that these steps draw.
-pub fn words_of(alloc: Global, plan: &Arc<Plan>, steps: u32) -> Result<u64, OutOfMemory> {
+// The number of words that these steps draw.
+fn words_of(alloc: Global, plan: &Arc<Plan>, steps: u32) -> Result<u64, OutOfMemory> {
     let mut meter = Meter::new();
     let mut road = Road::empty(alloc);
     let mut words = 0u64;
@@ -72,8 +100,8 @@ fn is_open(chance: u32) -> bool {
     0 < chance && chance < CERTAIN
 }
 
-/// Draws so many words, of streams and places as steps ask for them, and mixes them.
-pub fn drawn(source: &PlanWords, words: u64) -> u32 {
+// Draws so many words, of streams and places as steps ask for them, and mixes them.
+fn drawn(source: &PlanWords, words: u64) -> u32 {
     let mut mixed = 0;
     for place in 0..words {
         mixed ^= source.word(place % 1_024 * 16, place / 1_024);

@@ -1,0 +1,7 @@
+use Rattle.std.proofs.Common.{ap, ◌∙◌}
+use Rattle.std.specs.FinMap.Entries.{find}
+use Rattle.std.specs.Ordering.{nat_cmp}
+use Rattle.road_scenario.proofs.registers.RegistersByStep.get.Goals as goal
+
+pub returns : goal.returns
+returns c = c.get.ensures.value ∙ ap (find nat_cmp c.args.step) c.self.view_is
