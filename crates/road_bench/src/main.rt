@@ -34,10 +34,7 @@ use std::{env, io};
 fn plan(rt: &HostRuntime) -> Result<Arc<Plan>> {
     let script = io::read_to_string(rt.alloc(), rt.stdin())?;
     let line = script.lines().next().context("no plan line")?;
-    Ok(Arc::new(
-        rt.alloc(),
-        read_plan(rt.alloc(), line.as_bytes())?.plan,
-    )?)
+    Ok(Arc::new(rt.alloc(), read_plan(rt.alloc(), line.as_bytes())?.plan)?)
 }
 
 fn main(rt: HostRuntime) -> Result<()> {
@@ -53,7 +50,13 @@ fn main(rt: HostRuntime) -> Result<()> {
         ("steps", [steps]) => stepping::time(&rt, rt.alloc(), &plan(&rt)?, *steps),
         ("late", [horizon, edits]) => late::tell(&rt, rt.alloc(), plan(&rt)?, *horizon, *edits),
         ("crews", [steps, turns]) => crews::time_all(&rt, rt.alloc(), &plan(&rt)?, *steps, *turns),
-        ("alone", [steps, turns]) => crews::time_alone(&rt, rt.alloc(), &plan(&rt)?, *steps, *turns),
+        ("alone", [steps, turns]) => crews::time_alone(
+            &rt,
+            rt.alloc(),
+            &plan(&rt)?,
+            *steps,
+            *turns,
+        ),
         ("runs", [workers, runs]) => dense::run(&rt, rt.alloc(), *workers, *runs),
         _ => Ok(()),
     }
