@@ -57,11 +57,11 @@ fn is_shown<J: Naming, R: Wait + Drop>(
     alloc: Global,
     shared: &Shared<J, R>,
     session: &mut Session<J>,
-    act: Act,
+    act: &Act,
 ) -> bool {
     match act {
-        Act::Look(horizon, rows) => looks(alloc, shared, session, horizon, rows),
-        Act::LookRun(run) => looks_run(alloc, shared, session, run),
+        Act::Look(horizon, rows) => looks(alloc, shared, session, *horizon, rows),
+        Act::LookRun(run) => looks_run(alloc, shared, session, *run),
         Act::Cars(asked) => shows_all_cars(alloc, shared, session, asked),
         Act::Counts(asked) => shows_counts(alloc, shared, session, asked),
         _ => true,
@@ -94,20 +94,20 @@ fn acts<J: Naming, R: Wait + Drop, W: Wait>(
     shared: &Shared<J, R>,
     session: &mut Session<J>,
     memory: &mut Memory<J>,
-    act: Act,
+    act: &Act,
 ) -> bool {
     match act {
         Act::Write(write, wanted) => {
             let (answer, receipt) = parts(written(rt, alloc, shared, session, write));
             memory.told = receipt;
-            answer == wanted
+            answer == *wanted
         }
         Act::Hear => hears(session, memory.told.take()),
         Act::Keep => {
             memory.kept = session.look(shared).ok();
             memory.kept.is_some()
         }
-        Act::KeptRun(run) => kept_shows(alloc, &memory.kept, run),
+        Act::KeptRun(run) => kept_shows(alloc, &memory.kept, *run),
         shown => is_shown(alloc, shared, session, shown),
     }
 }
@@ -119,10 +119,10 @@ fn one_acts<J: Naming, R: Wait + Drop, W: Wait>(
     shared: &Shared<J, R>,
     sessions: &mut [Session<J>],
     memory: &mut Memory<J>,
-    act: (usize, Act),
+    act: &(usize, Act),
 ) -> bool {
     match sessions.get_mut(act.0) {
-        Some(session) => acts(rt, alloc, shared, session, memory, act.1),
+        Some(session) => acts(rt, alloc, shared, session, memory, &act.1),
         None => false,
     }
 }
@@ -141,7 +141,7 @@ fn all_act<J: Naming, R: Wait + Drop, W: Wait>(
     };
     let mut well = true;
     for act in script.acts {
-        well = well && one_acts(rt, alloc, shared, sessions, &mut memory, *act);
+        well = well && one_acts(rt, alloc, shared, sessions, &mut memory, act);
     }
     well
 }

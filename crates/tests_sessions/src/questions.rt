@@ -145,20 +145,16 @@ pub(crate) fn looks_run<J: Naming, R: Wait + Drop>(
     }
 }
 
-// What a session is answered that asks for cars, where that is what a table says, or want of memory.
+// Whether a session that asks for the cars of a step is shown these.
 fn has_cars<J: Naming, R: Wait + Drop>(
     alloc: Global,
     shared: &Shared<J, R>,
     session: &mut Session<J>,
-    cars: Cars,
+    step: u32,
+    wanted: &[Car],
 ) -> Result<bool, LookFault> {
-    let (step, wanted) = cars;
-    match (session.state(alloc, shared, step), wanted) {
-        (Ok(road), Ok(cars)) => Ok(road.cars() == cars),
-        (Err(fault), Err(wanted)) => Ok(fault == wanted),
-        (Err(fault), Ok(_)) => Err(fault),
-        (Ok(_), Err(_)) => Ok(false),
-    }
+    let road = session.state(alloc, shared, step)?;
+    Ok(road.cars() == wanted)
 }
 
 // Whether a session that asks for cars is answered so.
@@ -166,12 +162,17 @@ fn shows_cars<J: Naming, R: Wait + Drop>(
     alloc: Global,
     shared: &Shared<J, R>,
     session: &mut Session<J>,
-    cars: Cars,
+    cars: &Cars,
 ) -> bool {
-    match has_cars(alloc, shared, session, cars) {
-        Err(fault) if fault == WANT => has_cars(alloc, shared, session, cars) == Ok(true),
-        answer => answer == Ok(true),
+    let (wanted, told): (&[Car], _) = match cars.1 {
+        Ok(wanted) => (wanted, Ok(true)),
+        Err(fault) => (&[], Err(fault)),
+    };
+    let mut answer = has_cars(alloc, shared, session, cars.0, wanted);
+    if answer == Err(WANT) {
+        answer = has_cars(alloc, shared, session, cars.0, wanted);
     }
+    answer == told
 }
 
 // What a session is answered that asks for a count.
@@ -209,7 +210,7 @@ pub(crate) fn shows_all_cars<J: Naming, R: Wait + Drop>(
     asked: &[Cars],
 ) -> bool {
     for cars in asked {
-        if !shows_cars(alloc, shared, session, *cars) {
+        if !shows_cars(alloc, shared, session, cars) {
             return false;
         }
     }

@@ -48,17 +48,17 @@ fn wrote<J: Naming, R: Wait + Drop, W: Wait>(
     alloc: Global,
     shared: &Shared<J, R>,
     session: &mut Session<J>,
-    write: Write,
+    write: &Write,
 ) -> Result<Wrote<J>, WriteFault> {
     let mut meter = Meter::new();
     match write {
         Write::Edit(object, step, value) => {
-            session.edit(rt, shared, object, step, value, &mut Alone, &mut meter)
+            session.edit(rt, shared, *object, *step, *value, &mut Alone, &mut meter)
         }
         Write::Withdraw(object, step) => {
-            session.withdraw(rt, shared, object, step, &mut Alone, &mut meter)
+            session.withdraw(rt, shared, *object, *step, &mut Alone, &mut meter)
         }
-        Write::Advance(to) => session.advance(rt, shared, to, &mut Alone, &mut meter),
+        Write::Advance(to) => session.advance(rt, shared, *to, &mut Alone, &mut meter),
         Write::Take(edits) => took(rt, alloc, shared, session, edits),
     }
 }
@@ -80,7 +80,7 @@ pub(crate) fn written<J: Naming, R: Wait + Drop, W: Wait>(
     alloc: Global,
     shared: &Shared<J, R>,
     session: &mut Session<J>,
-    write: Write,
+    write: &Write,
 ) -> Result<Wrote<J>, WriteFault> {
     let before = shown(shared, session);
     match wrote(rt, alloc, shared, session, write) {
