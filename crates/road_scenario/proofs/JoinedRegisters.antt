@@ -1,8 +1,7 @@
 -- Joining a scenario's maps joins the sets of edits that they hold.
 use Rattle.std.specs.Prelude.{◌≡◌, ℕ, Bool, true, false, cond, ◌&&◌, ◌||◌, List, [], ◌∷◌, ◌++◌, refl}
-use Rattle.std.specs.declared.cmp.Ordering.{Ordering}
 use Rattle.std.specs.declared.cmp.Ordering.TheVariants.{Less, Equal, Greater}
-use Rattle.std.specs.Ordering.{nat_cmp, ordering_then, ordering_reverse, eq_by_cmp, is_eq, is_lt}
+use Rattle.std.specs.Ordering.{nat_cmp, ordering_reverse, eq_by_cmp, is_eq, is_lt}
 use Rattle.std.specs.Cmp.{IsTotalOrder, Equal-is, tied_itself, nat_cmp_total, both_ways}
 use Rattle.std.specs.List.{list_any}
 use Rattle.std.proofs.Common.{sym, ap, ◌∙◌, inl, inr}
@@ -11,15 +10,12 @@ use Rattle.std.proofs.lemmas.List.Folds.{list_any-append}
 use Rattle.road_scenario.proofs.NoEdits.{winners-empty}
 use Rattle.lattice_core.proofs.GreatestElements.{any_by}
 use Rattle.lattice_core.specs.declared.greatest.Greatest.TheVariants.{Nothing, Of}
-use Rattle.lattice_core.specs.Exact.{IsExact}
-use Rattle.lattice_core.specs.Instances.ExactOrders.{exact_nat, exact_pair, total_by}
+use Rattle.lattice_core.specs.Instances.ExactOrders.{exact_nat, total_by}
 use Rattle.lattice_core.specs.Fold.{fold_join, IsJoin}
 use Rattle.lattice_core.proofs.FoldedMaps.{fold-map_with, fold-map_join}
-use Rattle.lattice_core.specs.Greatest.{is_nothing, greatest_join}
-use Rattle.lattice_core.specs.Instances.GreaterValues.{greatest_laws}
-use Rattle.lattice_core.specs.Lattice.{LatticeLaws}
+use Rattle.lattice_core.specs.Greatest.{is_nothing}
 use Rattle.lattice_core.specs.Map.{IsHeld, map_with, map_join, is_empty}
-use Rattle.lattice_core.specs.Instances.JoinedMaps.{map_laws, proper-map_join, proper-map_with}
+use Rattle.lattice_core.specs.Instances.JoinedMaps.{proper-map_join, proper-map_with}
 use Rattle.lattice_core.specs.Sets.{empty, union, retain, contains, items, from_list}
 use Rattle.lattice_core.proofs.SetElements.{from_list-empty, contains-empty, contains-from_list, contains-items, contains-retain, contains-union, same_set}
 use Rattle.road_plan.specs.Objects.{order_key}
@@ -28,10 +24,8 @@ use Rattle.road_plan.specs.declared.object.Object.{Object}
 use Rattle.road_scenario.specs.declared.edit.Stamp.{Stamp}
 use Rattle.road_scenario.specs.declared.edit.Value.{Value}
 use Rattle.road_scenario.specs.declared.edit.Edit.{Edit}
-use Rattle.road_scenario.specs.contracts.edit.ValueOrd.TheImpl as derived_value
-use Rattle.road_scenario.specs.contracts.edit.StampOrd.TheImpl as derived_stamp
-use Rattle.road_scenario.specs.Edits.{Edits, Rank, edit_cmp, is_exceeded_by, edit_place, number_pair_cmp, number_triple_cmp, stamp_key, value_key}
-use Rattle.road_scenario.specs.Instances.EditOrder.{edit_total, edit_exact, exceeds_strict, winners_laws, number_pair_total, number_triple_total, ordered_values, stamp_exact, value_exact}
+use Rattle.road_scenario.specs.Edits.{Edits, edit_cmp, is_exceeded_by, edit_place, number_pair_cmp}
+use Rattle.road_scenario.specs.Instances.EditOrder.{edit_total, edit_exact, exceeds_strict, winners_laws, number_pair_total, number_triple_total}
 use Rattle.road_scenario.specs.Winners.{winners, join}
 use Rattle.road_scenario.specs.Registers.{Register, RegistersByStep, RegistersByObject, edit_with, edits_from_register, object_edits, edit_list, edit_set}
 use Rattle.road_scenario.specs.Instances.RegisterLattice.{AreRegistersByStep, ordered_won, steps_join, steps_laws, won_cmp, won_exact, won_join, won_laws, won_total}

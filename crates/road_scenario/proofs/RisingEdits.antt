@@ -10,7 +10,6 @@ use Rattle.std.proofs.Common.{sym, ap, subst, ◌∙◌, inl, inr}
 use Rattle.std.proofs.lemmas.Bool.{true≢false, or_cases, and_left, or_from}
 use Rattle.lattice_core.specs.Instances.TestAnswers.{first_of_both, second_of_both}
 use Rattle.lattice_core.specs.declared.greatest.Greatest.TheVariants.{Nothing, Of}
-use Rattle.lattice_core.specs.Greatest.{is_nothing}
 use Rattle.lattice_core.specs.Map.{IsHeld, IsProperMap, is_empty}
 use Rattle.lattice_core.specs.Sets.{is_below, is_rising, items, contains, from_list}
 use Rattle.lattice_core.proofs.SetElements.{contains-items, contains-retain, same_set, items-from_list}
