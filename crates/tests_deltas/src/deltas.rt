@@ -1,7 +1,7 @@
 //! Exchanges worked out by hand, and one of many edits.
 
 use road_delta::{Head, beyond, heads_of};
-use road_plan::Object;
+use road_plan::{Object, Plan};
 use road_scenario::{Edit, OutOfMemory, Scenario, Stamp, Value};
 use std::alloc::Global;
 use std::process::Abort;
@@ -230,25 +230,64 @@ const EXCHANGES: &[Exchange] = &[
     },
 ];
 
-// The edits that one replica sends another, and whether they make of its edits what all would.
-fn exchanged(alloc: Global, exchange: &Exchange) -> Result<(Scenario, bool), OutOfMemory> {
+// What one replica sends another that tells its heads.
+fn sent(alloc: Global, asking: &Scenario, asked: &Scenario) -> Result<Scenario, OutOfMemory> {
+    let heads = heads_of(alloc, asking)?;
+    beyond(alloc, asked, &heads)
+}
+
+// Whether a replica tells these heads.
+fn tells(alloc: Global, asking: &Scenario, heads: &[Head]) -> Result<bool, OutOfMemory> {
+    Ok(heads_of(alloc, asking)?.list() == heads)
+}
+
+// What one holds that has taken what the other holds.
+fn joined_edits(
+    alloc: Global,
+    ours: &Scenario,
+    theirs: &Scenario,
+) -> Result<Vec<Edit>, OutOfMemory> {
+    ours.joined(theirs)?.edits(alloc)
+}
+
+// Whether what is sent makes of the edits of one replica what all that the other holds would.
+fn is_enough(
+    alloc: Global,
+    asking: &Scenario,
+    asked: &Scenario,
+    sent: &Scenario,
+) -> Result<bool, OutOfMemory> {
+    let by_sent = joined_edits(alloc, asking, sent)?;
+    let by_all = joined_edits(alloc, asking, asked)?;
+    Ok(by_sent == by_all)
+}
+
+// Whether one replica sends another these edits, which fit the plan, and no more are wanted.
+fn sends(
+    alloc: Global,
+    plan: &Plan,
+    asking: &Scenario,
+    asked: &Scenario,
+    edits: &[Edit],
+) -> Result<bool, OutOfMemory> {
+    let sent = sent(alloc, asking, asked)?;
+    let is_sent = sent.fits(plan).is_none() && sent.edits(alloc)?.as_slice() == edits;
+    Ok(is_sent && is_enough(alloc, asking, asked, &sent)?)
+}
+
+// Whether an exchange goes as it should.
+fn goes(alloc: Global, plan: &Plan, exchange: &Exchange) -> Result<bool, OutOfMemory> {
     let asking = Scenario::of_edits(alloc, exchange.asking)?;
     let asked = Scenario::of_edits(alloc, exchange.asked)?;
-    let heads = heads_of(alloc, &asking)?;
-    let sent = beyond(alloc, &asked, &heads)?;
-    let by_sent = asking.joined(&sent)?.edits(alloc)?;
-    let by_all = asking.joined(&asked)?.edits(alloc)?;
-    Ok((sent, heads.list() == exchange.heads && by_sent == by_all))
+    Ok(tells(alloc, &asking, exchange.heads)?
+        && sends(alloc, plan, &asking, &asked, exchange.sent)?)
 }
 
 #[test]
 fn replicas_exchange_edits(rt: HostRuntime) -> Result<(), Fail> {
     let plan = plan_of(rt.alloc(), &FREE)?;
     for exchange in EXCHANGES {
-        let (sent, is_all) = exchanged(rt.alloc(), exchange)?;
-        let edits = sent.edits(rt.alloc())?;
-        assert_eq!(rt; edits.as_slice(), exchange.sent, "{exchange:?}");
-        assert!(rt; is_all && sent.fits(&plan).is_none(), "{exchange:?}");
+        assert!(rt; goes(rt.alloc(), &plan, exchange)?, "{exchange:?}");
     }
     Ok(())
 }
@@ -276,13 +315,22 @@ fn limits(alloc: Global, even: u64, odd: u64) -> Result<Vec<Edit>, OutOfMemory> 
     Ok(edits)
 }
 
+// What one replica sends another that tells its heads, as edits.
+fn edits_sent(
+    alloc: Global,
+    asking: &[Edit],
+    asked: &[Edit],
+) -> Result<Vec<Edit>, OutOfMemory> {
+    let asking = Scenario::of_edits(alloc, asking)?;
+    let asked = Scenario::of_edits(alloc, asked)?;
+    sent(alloc, &asking, &asked)?.edits(alloc)
+}
+
 #[test]
 fn half_of_many_edits_is_sent(rt: HostRuntime) -> Result<(), Fail> {
-    let asking = Scenario::of_edits(rt.alloc(), &limits(rt.alloc(), 3, 1)?)?;
-    let asked = Scenario::of_edits(rt.alloc(), &limits(rt.alloc(), 2, 2)?)?;
-    let heads = heads_of(rt.alloc(), &asking)?;
-    assert_eq!(rt; heads.list().len(), 2_900);
-    let sent = beyond(rt.alloc(), &asked, &heads)?.edits(rt.alloc())?;
+    let asking = limits(rt.alloc(), 3, 1)?;
+    let asked = limits(rt.alloc(), 2, 2)?;
+    let sent = edits_sent(rt.alloc(), &asking, &asked)?;
     assert_eq!(rt; sent.len(), 1_450);
     assert!(rt;
         sent.iter()
