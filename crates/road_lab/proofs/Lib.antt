@@ -1,3 +1,4 @@
+-- Lemmas of lines and replies as bytes come, of the ends of runs and of the program's words, and worked examples.
 pub mod Options
 pub mod ByteParts
 pub mod CutBytes

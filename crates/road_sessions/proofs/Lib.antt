@@ -1,3 +1,4 @@
+-- Lemmas of histories, of the book and the store that keep them, of what sessions write, and of the closing.
 pub mod Beginnings
 pub mod Appending
 pub mod StoreRule

@@ -1,3 +1,4 @@
+-- Journals, what is asked of a replica, sessions, their looks and the closing of a store, in reading order.
 pub mod Journals
 pub mod Writes
 pub mod Seats

@@ -1,3 +1,4 @@
+-- The code counts the fields as the definition does.
 use Rattle.std.proofs.Common.{ℕ, ◌==◌, sym, ap, ◌∙◌}
 use Rattle.serde_json.specs.View.{view}
 use Rattle.road_format.specs.Fields.{has_members}

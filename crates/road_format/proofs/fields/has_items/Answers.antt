@@ -1,3 +1,4 @@
+-- The code counts the items as the definition does.
 use Rattle.std.proofs.Common.{ℕ, List, ◌==◌, length, sym, ap, ◌∙◌}
 use Rattle.serde_json.specs.declared.value.Value.{Value}
 use Rattle.road_format.specs.Fields.{has_count}

@@ -1,3 +1,4 @@
+-- What the loop keeps that reads the items of a list as texts.
 use Rattle.std.proofs.Common.{◌≡◌, drop}
 use Rattle.serde_json.specs.View.{items_view}
 use Rattle.serde_json.specs.Find.{as_str}

@@ -1,3 +1,4 @@
+-- Each call has one name less.
 use Rattle.std.proofs.Common.{length}
 use Rattle.road_format.proofs.names.+are_different.Given as goal
 

@@ -1,3 +1,4 @@
+-- What the loop keeps that writes cars.
 use Rattle.std.proofs.Common.{◌≡◌, ◌++◌, map, drop}
 use Rattle.serde_json.specs.View.{view}
 use Rattle.road_format.specs.Replies.{car_data}

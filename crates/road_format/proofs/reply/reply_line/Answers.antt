@@ -1,3 +1,4 @@
+-- The value's text and a newline are the reply.
 use Rattle.std.proofs.Common.{string_bytes}
 use Rattle.serde_json.specs.View.{view}
 use Rattle.road_format.specs.Views.{answer_view}

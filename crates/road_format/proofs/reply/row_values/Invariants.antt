@@ -1,3 +1,4 @@
+-- What the loop keeps that writes rows.
 use Rattle.std.proofs.Common.{◌≡◌, ◌++◌, map, drop}
 use Rattle.serde_json.specs.Data.{string}
 use Rattle.serde_json.specs.View.{view}

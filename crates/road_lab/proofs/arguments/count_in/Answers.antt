@@ -1,3 +1,4 @@
+-- A text names a number of workers where it is parsed to 1 to 16, and else none.
 use Rattle.std.proofs.Common.{◌∙◌, inl, inr, sym, arith}
 use Rattle.road_lab.proofs.WorkerCounts.{counted_parse, uncounted_parse, unparsed}
 use Rattle.road_lab.proofs.arguments.count_in.Goals as goal

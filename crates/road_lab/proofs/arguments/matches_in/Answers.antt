@@ -1,3 +1,4 @@
+-- The command that `clap` is given is the one of the definition.
 use Rattle.std.proofs.Common.{rules, ◌≡◌, ◌∙◌, ap, ap₂}
 use Rattle.clap.specs.Simple.{app_of_fields}
 use Rattle.clap.specs.Words.{app_of, is_simple, is_simple_and_free, rule_of, with_rule}

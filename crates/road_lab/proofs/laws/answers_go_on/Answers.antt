@@ -1,3 +1,4 @@
+-- What was answered stays, as more bytes come.
 use Rattle.road_lab.proofs.AnswersGrow as grow
 use Rattle.road_lab.proofs.laws.answers_go_on.Goals as goal
 

@@ -1,3 +1,4 @@
+-- Want of memory for the words ends the program before it has read or written anything.
 use Rattle.std.proofs.Common.{Err, refl}
 use Rattle.road_plan.specs.declared.limits.TheConstants.{MOST_LINES, MOST_BYTES}
 use Rattle.road_lab.specs.StreamViews.{source_view, sink_view}

@@ -1,3 +1,4 @@
+-- A crew that does not start ends the program before it has read or written anything.
 use Rattle.std.proofs.Common.{Err, sym, subst}
 use Rattle.road_plan.specs.declared.limits.TheConstants.{MOST_LINES, MOST_BYTES}
 use Rattle.road_lab.specs.Run.{AnswersInput, program_run}

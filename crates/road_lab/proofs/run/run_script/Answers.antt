@@ -1,3 +1,4 @@
+-- A script that cannot be opened is as a source of which the first read fails.
 use Rattle.std.proofs.Common.{Err}
 use Rattle.road_plan.specs.declared.limits.TheConstants.{MOST_LINES, MOST_BYTES}
 use Rattle.road_lab.specs.StreamViews.{sink_view}

@@ -1,3 +1,4 @@
+-- Each way out of the loop that reads an input ends the run as it promises.
 use Rattle.std.proofs.Common.{◌<◌, ◌∙◌, length, refl, sym, arith}
 use Rattle.std.proofs.lemmas.Result.{err_from_is_err_and}
 use Rattle.road_lab.specs.StreamViews.{source_view, sink_view}

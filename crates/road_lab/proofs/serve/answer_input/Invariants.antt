@@ -1,3 +1,4 @@
+-- What the loop keeps that reads an input piece by piece.
 use Rattle.std.proofs.Common.{◌≡◌}
 use Rattle.road_lab.specs.StreamViews.{source_view, sink_view}
 use Rattle.road_lab.proofs.RunEnds.{SoFar}

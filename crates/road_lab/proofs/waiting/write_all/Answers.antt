@@ -1,3 +1,4 @@
+-- Each write takes the next bytes, and one that fails leaves a front of them.
 use Rattle.std.proofs.Common.{arith, ◌∙◌, length-drop}
 use Rattle.std.proofs.Math.Seq.{take-add}
 use Rattle.std.proofs.KnownBytes.{Appends-kept, Appends-trans}

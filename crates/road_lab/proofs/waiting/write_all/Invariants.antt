@@ -1,3 +1,4 @@
+-- What the loop keeps that writes bytes until all are taken.
 use Rattle.std.proofs.Common.{◌≡◌, ◌≤◌, ◌-◌, take, length}
 use Rattle.std.specs.Io.KnownBytes.{Appends}
 use Rattle.road_lab.proofs.waiting.write_all.Given as goal

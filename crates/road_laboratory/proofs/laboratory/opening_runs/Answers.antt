@@ -1,3 +1,4 @@
+-- One run more, of which nothing is computed.
 use Rattle.std.proofs.Common.{◌+◌, ◌∙◌, length, List, ap, sym, subst}
 use Rattle.std.specs.List.{All}
 use Rattle.std.proofs.lemmas.List.{length-append}

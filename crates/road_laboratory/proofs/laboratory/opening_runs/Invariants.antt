@@ -1,3 +1,4 @@
+-- What the loop keeps that makes a run for each replica.
 use Rattle.std.proofs.Common.{◌≡◌, length}
 use Rattle.std.specs.Arc.{arc_value}
 use Rattle.std.specs.List.{All}

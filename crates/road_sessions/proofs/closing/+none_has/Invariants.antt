@@ -1,3 +1,4 @@
+-- Each call has one session less.
 use Rattle.std.proofs.Common.{length}
 use Rattle.road_sessions.proofs.closing.+none_has.Given as goal
 

@@ -1,3 +1,4 @@
+-- All shares of the ledger count as many writes as the journal has entries, so it is just what the sessions wrote.
 use Rattle.std.proofs.Common.{◌≡◌, List, length, sym, ap, subst, arith, refl}
 use Rattle.road_sessions.specs.Closings.{AreApart, Brings, IsJust, made_by}
 use Rattle.road_sessions.specs.Journals.{Each}

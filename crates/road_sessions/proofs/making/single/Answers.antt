@@ -1,3 +1,4 @@
+-- The scenario of one edit has just that edit, and fits where the edit does.
 use Rattle.std.proofs.Common.{refl}
 use Rattle.road_replica.proofs.GrownSheets.{scenario_of_one}
 use Rattle.road_sessions.proofs.making.single.Goals as goal

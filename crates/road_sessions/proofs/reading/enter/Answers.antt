@@ -1,3 +1,4 @@
+-- The rule of the store lets a reader look.
 use Rattle.road_sessions.proofs.StoreRule.{may_look}
 use Rattle.road_sessions.proofs.reading.enter.Goals as goal
 

@@ -1,3 +1,4 @@
+-- What was found goes on from what the session had seen, with a sheet or without one.
 use Rattle.std.proofs.Common.{◌≡◌, ap, inl, inr, refl, subst, sym}
 use Rattle.std.specs.Prelude.{IfSome}
 use Rattle.std.specs.Arc.{arc_value}

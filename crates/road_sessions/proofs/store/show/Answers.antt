@@ -1,3 +1,4 @@
+-- What is published next is the given history, which goes on from the published one.
 use Rattle.std.proofs.Common.{◌≡◌, ◌∙◌, List, sym, subst}
 use mathlib.Core.List.{IsPrefix}
 use Rattle.road_sessions.specs.declared.entry.Entry.{Entry}

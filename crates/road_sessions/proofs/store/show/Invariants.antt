@@ -1,3 +1,4 @@
+-- What the loop keeps that publishes again and again: nothing is published yet.
 use Rattle.std.proofs.Common.{◌≡◌, drop}
 use Rattle.road_sessions.proofs.store.show.Given as goal
 

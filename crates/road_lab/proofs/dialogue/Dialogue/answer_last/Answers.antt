@@ -1,3 +1,4 @@
+-- The end of the input: a last line without a newline, no line at all, or nothing left to answer.
 use Rattle.std.proofs.Common.{◌≡◌, ◌++◌, ℕ, List, true, false, Some, IsSome, is_some, refl, ap, string_bytes}
 use Rattle.std.proofs.lemmas.Result.{err_from_is_err_and}
 use Rattle.road_lab.specs.StreamViews.{sink_view}

@@ -1,3 +1,4 @@
+-- A new dialogue has answered the empty input.
 use Rattle.std.proofs.Common.{refl}
 use Rattle.road_lab.proofs.DialogueSteps.{nothing_came}
 use Rattle.road_lab.proofs.dialogue.Dialogue.new.Goals as goal

@@ -1,3 +1,4 @@
+-- What the loop keeps that takes the bytes line by line.
 use Rattle.std.proofs.Common.{◌≡◌, ◌≤◌, ◌-◌, ◌++◌, ℕ, List, take, length}
 use Rattle.road_lab.specs.Dialogue.{HasAnswered}
 use Rattle.road_lab.specs.StreamViews.{SinkView, sink_view}

@@ -1,3 +1,4 @@
+-- What is kept of the runs still holds after an event: where it keeps the edits, and where a run begins anew.
 use Rattle.std.proofs.Common.{◌∙◌, arith, sym}
 use Rattle.road_laboratory.proofs.KeptRuns.{kept_but_one, kept_on, run_below}
 use Rattle.road_laboratory.proofs.laboratory.Laboratory.apply.Goals as goal

@@ -1,3 +1,4 @@
+-- What is kept of a replica's run belongs to its sheet, before a question and after it.
 use Rattle.std.proofs.Common.{◌∙◌}
 use Rattle.road_laboratory.proofs.KeptRuns.{kept_read, kept_shown, run_below}
 use Rattle.road_laboratory.proofs.laboratory.Laboratory.ask.Goals as goal

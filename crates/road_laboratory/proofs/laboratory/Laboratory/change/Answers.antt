@@ -1,3 +1,4 @@
+-- A change that the world refuses for a named cause is answered so, and leaves the laboratory as it was.
 use Rattle.std.proofs.Common.{◌∙◌, ◌<◌, ℕ, ap, sym, subst}
 use Rattle.road_world.specs.Answers.{replica_number, reply_to_event}
 use Rattle.road_laboratory.proofs.Outcomes.{refused_answer}

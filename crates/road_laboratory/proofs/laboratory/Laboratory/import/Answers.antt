@@ -1,3 +1,4 @@
+-- The import of copied edits leaves what the import of the edits does.
 use Rattle.std.proofs.Common.{◌≡◌, OnOk, rules, subst}
 use Rattle.lattice_core.specs.Sets.{from_list}
 use Rattle.road_laboratory.proofs.Outcomes.{import_is}

@@ -1,3 +1,4 @@
+-- What is kept of the runs holds before any command.
 use Rattle.std.specs.Arc.{arc_value}
 use Rattle.road_laboratory.proofs.KeptRuns.{kept_opening}
 use Rattle.road_laboratory.proofs.laboratory.Laboratory.open.Goals as goal

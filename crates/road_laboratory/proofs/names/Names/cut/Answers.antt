@@ -1,3 +1,4 @@
+-- The first texts of the set are the first names.
 use Rattle.road_laboratory.proofs.Numbered.{texts_cut}
 use Rattle.road_laboratory.proofs.names.Names.cut.Goals as goal
 

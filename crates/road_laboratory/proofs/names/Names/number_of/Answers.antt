@@ -1,3 +1,4 @@
+-- A name's place in the set is its place among the texts.
 use Rattle.std.proofs.Common.{◌∙◌, sym, ap, string_bytes}
 use Rattle.std.specs.List.{position}
 use Rattle.std.specs.Str.{bytes_eq}

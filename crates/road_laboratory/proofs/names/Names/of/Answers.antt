@@ -1,3 +1,4 @@
+-- A name that is put into the set is one of those to come, and new.
 use Rattle.road_laboratory.proofs.Numbered.{put_next}
 use Rattle.road_laboratory.proofs.names.Names.of.Goals as goal
 

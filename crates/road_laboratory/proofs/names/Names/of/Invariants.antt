@@ -1,3 +1,4 @@
+-- What the loop keeps that puts names into the set.
 use Rattle.std.proofs.Common.{◌≡◌, ◌++◌}
 use Rattle.road_laboratory.proofs.names.Names.of.Given as goal
 

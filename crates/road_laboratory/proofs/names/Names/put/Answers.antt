@@ -1,3 +1,4 @@
+-- A new name is the last of the set.
 use Rattle.road_laboratory.proofs.Numbered.{put_last}
 use Rattle.road_laboratory.proofs.names.Names.put.Goals as goal
 

@@ -1,3 +1,4 @@
+-- The exchange of the length writes the entry at the end of what was seen, and the history stays legal.
 use Rattle.std.proofs.Common.{◌≡◌, ◌∙◌, List, [], ◌∷◌, ◌++◌, ap, arith, length, length-append, subst, sym}
 use Rattle.road_sessions.specs.Journals.{IsLegal}
 use Rattle.road_sessions.specs.declared.entry.Entry.{Entry}

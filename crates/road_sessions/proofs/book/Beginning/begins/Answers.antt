@@ -1,3 +1,4 @@
+-- Of two beginnings of one history the shorter begins the longer.
 use Rattle.std.proofs.Common.{◌≤◌, List, ap, arith, length, subst}
 use mathlib.Core.List.{IsPrefix}
 use Rattle.road_sessions.specs.declared.entry.Entry.{Entry}

@@ -1,3 +1,4 @@
+-- Two histories that begin each other are one.
 use Rattle.std.proofs.Common.{◌≤◌, ◌<◌, Bool, length, subst}
 use Rattle.std.specs.Prelude.{MatchBool}
 use Rattle.road_sessions.proofs.Beginnings.{begins_whole}

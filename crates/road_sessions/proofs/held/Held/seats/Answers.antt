@@ -1,3 +1,4 @@
+-- The store takes a newcomer, and the next session is fresh and has the next number.
 use Rattle.std.proofs.Common.{◌≡◌, ◌+◌, ◌++◌, [], ◌∷◌, length, length-append, arith}
 use Rattle.road_sessions.specs.Seats.{Seat}
 use Rattle.road_sessions.proofs.SessionWrites.{fresh_more}

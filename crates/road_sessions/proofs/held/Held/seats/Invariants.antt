@@ -1,3 +1,4 @@
+-- What the loop keeps that makes the sessions: they are fresh, and a part of the ledger is left for each one to come.
 use Rattle.std.proofs.Common.{◌≡◌, ◌+◌, length}
 use Rattle.road_sessions.specs.Seats.{AreFresh}
 use Rattle.road_sessions.proofs.held.Held.seats.Given as goal

@@ -1,3 +1,4 @@
+-- What a session has seen begins the journal, so its accepted write is one of a legal history.
 use Rattle.std.proofs.Common.{◌≡◌, ◌∙◌, List, subst, sym}
 use mathlib.Core.List.{IsPrefix}
 use Rattle.left_right.specs.Sides.{view}

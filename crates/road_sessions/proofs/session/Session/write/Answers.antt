@@ -1,3 +1,4 @@
+-- After an accepted write a session is as sessions are, and its share counts one write more.
 use Rattle.std.proofs.Common.{◌∙◌, arith}
 use Rattle.left_right.specs.Sides.{view as view_at}
 use Rattle.road_sessions.specs.Seats.{Seat, seat}
