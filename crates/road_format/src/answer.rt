@@ -1,3 +1,5 @@
+//! What is answered to a line.
+
 use crate::refusal::Refusal;
 use road_cells::Car;
 use road_delta::Head;

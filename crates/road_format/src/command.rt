@@ -1,3 +1,5 @@
+//! What a line after the first asks of the laboratory.
+
 use road_plan::Object;
 use road_scenario::Edit;
 

@@ -1,3 +1,5 @@
+//! The JSON value that a line is.
+
 ghost use Rattle.std.specs.Prelude.{◌≡◌, ◌<◌, length, IfOk, OnErr, option_map};
 ghost use Rattle.serde_json.specs.View.{view};
 ghost use Rattle.road_format.specs.Reading.{value_of};

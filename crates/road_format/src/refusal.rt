@@ -1,3 +1,5 @@
+//! The named causes for which a line or a command is refused.
+
 ghost use Rattle.std.specs.Prelude.{◌≡◌};
 ghost use Rattle.road_format.specs.Refusals.{text_of};
 

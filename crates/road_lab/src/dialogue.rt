@@ -274,7 +274,13 @@ impl Dialogue {
         }
     }
 
-    /// Takes the next bytes of the input: writes the reply to each line that they end, and flushes.
+    /// Takes the next bytes of the input: writes the reply to each line that they end, and flushes. A dialogue that is
+    /// over answers nothing more.
+    ///
+    /// # Errors
+    ///
+    /// `Write` where the sink failed, `WorkersGone` where the crew did, `OutOfMemory` where a growth was refused. What
+    /// was written then begins the replies.
     pub fn take<W: Sink, C: Crew>(
         &mut self,
         alloc: Global,
@@ -326,7 +332,11 @@ impl Dialogue {
     }
 
     /// The input has ended: writes the reply to a last line without a newline, or to an input without a line, and
-    /// flushes.
+    /// flushes. The dialogue must not be over.
+    ///
+    /// # Errors
+    ///
+    /// As for `take`.
     pub fn finish<W: Sink, C: Crew>(
         &mut self,
         alloc: Global,

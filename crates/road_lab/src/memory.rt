@@ -62,7 +62,7 @@ pub struct MemorySource<'a> {
 }
 
 impl<'a> MemorySource<'a> {
-    /// The source of these bytes.
+    /// The source of these bytes. Its step is above 0.
     pub fn new(bytes: &'a [u8], step: usize, failing: Failing) -> MemorySource<'a>
         requires { 0 < step }
         ensures remaining { ⟦<MemorySource<'a> as Source>⟧.remaining result ≡ Some bytes.now }

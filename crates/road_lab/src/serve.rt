@@ -13,7 +13,7 @@ use road_plan::limits::{MOST_BYTES, MOST_LINES};
 use road_workers::Crew;
 use std::alloc::Global;
 
-/// How many bytes are read at once, at most.
+// How many bytes are read at once, at most.
 const PIECE: usize = 16_384;
 
 /// A run that went well.

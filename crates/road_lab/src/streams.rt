@@ -17,8 +17,12 @@ pub trait Source {
     /// How many reads failed, at most 2^64 - 1.
     ghost failures: { Self → ℕ };
 
-    /// Reads the next bytes to the front of the piece, and gives their number: 0 is the end of input. A read that
-    /// fails takes none of the bytes that are left.
+    /// Reads the next bytes to the front of the piece, which is not empty, and gives their number: 0 is the end of
+    /// input.
+    ///
+    /// # Errors
+    ///
+    /// `ReadFailed` where the source could not be read. It takes none of the bytes that are left then.
     fn read(&mut self, piece: &mut [u8]) -> Result<usize, ReadFailed>
         requires { 0 < length piece.old }
         ensures within { IfOk result (λ n. n ≤ length piece.new) }
@@ -41,8 +45,11 @@ pub trait Sink {
     /// How many calls failed, at most 2^64 - 1.
     ghost failures: { Self → ℕ };
 
-    /// Takes bytes from the front of the piece, and gives their number. A sink that would take none has failed, and a
-    /// call that fails takes none.
+    /// Takes bytes from the front of the piece, which is not empty, and gives their number.
+    ///
+    /// # Errors
+    ///
+    /// `WriteFailed` where the sink takes none of them.
     fn write(&mut self, piece: &[u8]) -> Result<usize, WriteFailed>
         requires { 0 < length piece.now }
         ensures some { IfOk result (λ n. 0 < n) }
@@ -53,6 +60,10 @@ pub trait Sink {
         ensures failed { OnErr result (RisesByOne (failures self.old) (failures self.new)) };
 
     /// Passes on all that was taken.
+    ///
+    /// # Errors
+    ///
+    /// `WriteFailed` where that could not be done. What was taken stays taken.
     fn flush(&mut self) -> Result<(), WriteFailed>
         ensures bytes { Keeps (contents self.old) (contents self.new) }
         ensures flushed { flushed self.new ≡ is_ok result }

@@ -14,18 +14,18 @@ use std::io;
 use std::sync::Arc;
 use std::test::Fail;
 
-/// A road of 12 cells without slowing, and three replicas.
+// A road of 12 cells without slowing, and three replicas.
 const FREE_ROAD: &str =
     r#"{"detectors":[5],"exit":1,"inlets":[[0,65536]],"length":12,"replicas":["A","B","C"],"words":7,"zone":12,"zones":[[2,0]]}
 "#;
 
-/// A sink with room for 1,000 bytes, so that none of its writes wants memory.
+// A sink with room for 1,000 bytes, so that none of its writes wants memory.
 fn sink(alloc: Global) -> Result<MemorySink, OutOfMemory> {
     let bytes = Vec::with_capacity(alloc, 1000)?;
     Ok(MemorySink::new(bytes, 1000, Failing::Never, Failing::Never))
 }
 
-/// How a run ended. Want of memory ends the test in its place.
+// How a run ended. Want of memory ends the test in its place.
 fn end_of(ended: Result<Served, ServeFault>) -> Result<Result<Served, ServeFault>, OutOfMemory> {
     match ended {
         Err(ServeFault::OutOfMemory) => Err(AllocError),
@@ -33,7 +33,7 @@ fn end_of(ended: Result<Served, ServeFault>) -> Result<Result<Served, ServeFault
     }
 }
 
-/// Three commands on the free road, in 90 bytes.
+// Three commands on the free road, in 90 bytes.
 const COMMANDS: &str = r#"{"advance":{"at":"A","to":1}}
 {"advance":{"at":"A","to":1}}
 {"advance":{"at":"A","to":1}}
@@ -41,9 +41,9 @@ const COMMANDS: &str = r#"{"advance":{"at":"A","to":1}}
 
 const REPLIES: &str = "{\"open\":3}\n{\"horizon\":1}\n{\"horizon\":1}\n{\"horizon\":1}\n";
 
-/// So many lines and bytes at most; how many bytes a read gives, and which reads fail; how many bytes the writer takes,
-/// and which of its writes and flushes fail; how the run ends, and how many bytes of the replies it has written, where
-/// that is said.
+// So many lines and bytes at most; how many bytes a read gives, and which reads fail; how many bytes the writer takes,
+// and which of its writes and flushes fail; how the run ends, and how many bytes of the replies it has written, where
+// that is said.
 type Run = (
     (u32, u64),
     (usize, Failing),
@@ -56,7 +56,7 @@ const ALL: Failing = Failing::Never;
 
 const WHOLE: &str = "Ok(Served { lines: 3 })";
 
-/// The plan line has 121 bytes, and the input 211.
+// The plan line has 121 bytes, and the input 211.
 const RUNS: [Run; 13] = [
     ((3, 1000), (7, ALL), (1000, ALL, ALL), WHOLE, Some(53)),
     ((3, 211), (7, ALL), (1000, ALL, ALL), WHOLE, Some(53)),
@@ -161,7 +161,7 @@ fn limits_and_faults(rt: HostRuntime) -> Result<(), Fail> {
     Ok(())
 }
 
-/// Answers `WorkersGone` once, after some calls, and computes all other speeds by itself.
+// Answers `WorkersGone` once, after some calls, and computes all other speeds by itself.
 #[derive(Clone, Copy, Debug)]
 struct Leaving {
     calls_left: u64,
@@ -181,13 +181,13 @@ impl Crew for Leaving {
     }
 }
 
-/// Six steps, an edit for which they are all taken again, and six steps of another replica.
+// Six steps, an edit for which they are all taken again, and six steps of another replica.
 const STEPS: &str = r#"{"advance":{"at":"A","to":6}}
 {"edit":{"at":"A","object":["block",8],"step":4,"value":1}}
 {"advance":{"at":"B","to":6}}
 "#;
 
-/// How many calls of the crew succeed, the status, and how many bytes of the replies are written.
+// How many calls of the crew succeed, the status, and how many bytes of the replies are written.
 const WORKERS: [(u64, u8, usize); 6] = [
     (0, 7, 11),
     (5, 7, 11),
@@ -223,7 +223,7 @@ fn workers_that_leave(rt: HostRuntime) -> Result<(), Fail> {
     Ok(())
 }
 
-/// A writer that holds what it took until it is flushed, counts its flushes and fails one of them.
+// A writer that holds what it took until it is flushed, counts its flushes and fails one of them.
 #[derive(Drop)]
 struct Holding {
     held: usize,
@@ -250,7 +250,7 @@ impl io::Write for Holding {
     }
 }
 
-/// A reader of three bytes whose second call fails.
+// A reader of three bytes whose second call fails.
 #[derive(Drop)]
 struct Faltering {
     calls: u32,

@@ -9,7 +9,7 @@ ghost use Rattle.road_lab.specs.StreamViews.{sink_view, TakesAllBut, TakesFront,
 use crate::faults::{ServeFault, WriteFailed};
 use crate::streams::Sink;
 
-/// How many bytes of replies wait at most.
+// How many bytes of replies wait at most.
 const MOST_WAITING: usize = 65_536;
 
 // Writes all these bytes.
@@ -29,6 +29,11 @@ fn write_all<W: Sink>(writer: &mut W, bytes: &[u8]) -> Result<(), WriteFailed>
 }
 
 /// Puts a reply behind those that wait. Where it would be too much for them, they are written, and then the reply is.
+///
+/// # Errors
+///
+/// `Write` where the sink failed, `OutOfMemory` where a growth was refused. What was written then begins what waited
+/// and the reply.
 pub fn put<W: Sink>(waiting: &mut Vec<u8>, writer: &mut W, reply: &[u8]) -> Result<(), ServeFault>
     ensures ok { OnOk result (TakesAllBut (sink_view W.Sink writer.old) (sink_view W.Sink writer.new)
         (waiting.old.items ++ reply.now) waiting.new.items) }
@@ -48,6 +53,10 @@ pub fn put<W: Sink>(waiting: &mut Vec<u8>, writer: &mut W, reply: &[u8]) -> Resu
 }
 
 /// Writes what waits, and flushes it.
+///
+/// # Errors
+///
+/// `WriteFailed` where a write or the flush failed. What was written then begins what waited.
 pub fn flush<W: Sink>(waiting: &mut Vec<u8>, writer: &mut W) -> Result<(), WriteFailed>
     ensures all { OnOk result (Appends (W.contents writer.old) (W.contents writer.new) waiting.old.items) }
     ensures flushed { OnOk result (W.flushed writer.new ≡ true) }

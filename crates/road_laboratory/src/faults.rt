@@ -1,3 +1,5 @@
+//! Why a command is not answered at all.
+
 ghost use Rattle.std.specs.Prelude.{◌≡◌};
 ghost use Rattle.road_laboratory.specs.declared.faults.LaboratoryFault.TheVariants.{OutOfMemory};
 

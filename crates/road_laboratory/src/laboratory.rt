@@ -71,7 +71,8 @@ impl Model for Laboratory {
 }
 
 impl Laboratory {
-    /// The laboratory of a plan line, before any command. No step is simulated.
+    /// The laboratory of a plan line, before any command. No step is simulated. The line has at most 64 names, all
+    /// different, as every line that `read_plan` accepts.
     ///
     /// # Errors
     ///

@@ -1,3 +1,5 @@
+//! The questions that a replica's sheet answers.
+
 /// What a replica is asked. It depends on the replica's sheet alone.
 #[derive(Clone, Copy)]
 pub enum Question {

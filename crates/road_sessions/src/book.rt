@@ -68,14 +68,14 @@ pub struct EmptyBook {
 }
 
 impl EmptyBook {
-    /// A book of its own.
+    // A book of its own.
     pub(crate) fn new() -> EmptyBook {
         let (seen, mut pen, _unused) = Seen::open(Start::alone(), 0, 0);
         let word = Word::tracked(0, &mut pen);
         EmptyBook { word, seen }
     }
 
-    /// The book of a store: its length, and a value that has seen none of its history.
+    // The book of a store: its length, and a value that has seen none of its history.
     pub(crate) fn of_store<J: Naming>(self) -> (Length<J>, Beginning<J>)
         requires { self.seen.book ≡ J.book }
         ensures { result.1 ≡ [] }
@@ -128,21 +128,21 @@ impl<J: Naming> Model for Beginning<J> {
 }
 
 impl<J: Naming> Beginning<J> {
-    /// How many entries it has.
+    // How many entries it has.
     pub(crate) fn count(&self) -> u64
         ensures { result ≡ length self.now }
     {
         self.count
     }
 
-    /// That it is legal. It is a fact for proofs: the call does nothing.
+    // That it is legal. It is a fact for proofs: the call does nothing.
     pub(crate) fn known(&self)
         ensures { IsLegal J.replica self.now }
     {
         let _ = &self.seen;
     }
 
-    /// Another value that has seen as much.
+    // Another value that has seen as much.
     pub(crate) fn again(&self) -> Beginning<J>
         ensures { result ≡ self.now }
     {
@@ -153,7 +153,7 @@ impl<J: Naming> Beginning<J> {
         }
     }
 
-    /// Whether it is no longer than the other. The shorter one begins the longer.
+    // Whether it is no longer than the other. The shorter one begins the longer.
     pub(crate) fn begins(&self, other: &Beginning<J>) -> bool
         ensures begins { MatchBool result (IsPrefix self.now other.now) (IsPrefix other.now self.now) }
         ensures length { MatchBool result (length self.now ≤ length other.now) (length other.now < length self.now) }
@@ -167,14 +167,14 @@ impl<J: Naming> Beginning<J> {
         }
     }
 
-    /// Whether the two have seen as much, and so the same.
+    // Whether the two have seen as much, and so the same.
     pub(crate) fn is_same(&self, other: &Beginning<J>) -> bool
         ensures { IsTrue result → self.now ≡ other.now }
     {
         self.begins(other) && other.begins(self)
     }
 
-    /// Writes an entry behind all that it has seen, and says so; it does not where the history is longer.
+    // Writes an entry behind all that it has seen, and says so; it does not where the history is longer.
     pub(crate) fn append(&mut self, length_word: &Length<J>, entry: &Entry) -> bool
         requires room { length self.old < 2 ^ 62 }
         requires allowed { IsAllowed J.replica.sheet.plan (command_of entry.now.command) }

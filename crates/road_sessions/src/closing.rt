@@ -1,3 +1,4 @@
+//! The closing of a store.
 ghost use Rattle.std.specs.Prelude.{◌≡◌, ◌≢◌, ◌+◌, IfErr, IfOk, IsTrue, MatchBool, MatchResult, length};
 ghost use Rattle.std.specs.Arc.{arc_value};
 ghost use Rattle.road_sessions.specs.Closings.{AreAll, AreApart, Brings, IsCloseRefusal, IsJust, made_by};

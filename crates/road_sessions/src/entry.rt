@@ -1,3 +1,5 @@
+//! The lines of a journal.
+
 use road_scenario::Scenario;
 
 /// The most writes that a journal has room for.

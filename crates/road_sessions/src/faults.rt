@@ -1,3 +1,4 @@
+//! Why a call of a store or a session is refused.
 ghost use Rattle.std.specs.Prelude.{◌≡◌};
 ghost use Rattle.road_sessions.specs.declared.faults.OpenFault.TheVariants as openings;
 ghost use Rattle.road_sessions.specs.declared.faults.WriteFault.TheVariants as writes;

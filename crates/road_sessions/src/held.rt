@@ -86,7 +86,7 @@ impl<J: Naming, R: Wait + Drop> Drop for Held<J, R> {
 }
 
 impl<J: Naming, R: Wait + Drop> Held<J, R> {
-    /// With an empty journal; the opening sheet is published.
+    // With an empty journal; the opening sheet is published.
     pub(crate) fn new(
         rt: R,
         alloc: Global,
@@ -240,8 +240,8 @@ impl<J: Naming, R: Wait + Drop> Held<J, R> {
         Ok(())
     }
 
-    /// The write of a session, of which `seen` is what it has seen and `reader` its place in the store. Where it is
-    /// accepted, the session has seen the history that it ends, and has found it in the store.
+    // The write of a session, of which `seen` is what it has seen and `reader` its place in the store. Where it is
+    // accepted, the session has seen the history that it ends, and has found it in the store.
     pub(crate) fn serve<C: Crew>(
         &mut self,
         session: u32,
@@ -273,7 +273,7 @@ impl<J: Naming, R: Wait + Drop> Held<J, R> {
         Ok((place, reply))
     }
 
-    /// The sessions of a store that was just opened, numbered from 0.
+    // The sessions of a store that was just opened, numbered from 0.
     pub(crate) fn seats(&self, mut whole: Share<J>) -> Result<Vec<Session<J>>, OpenFault>
         requires empty { self.now.journal.items ≡ [] }
         requires whole { (whole.parts ≡ self.now.sessions) × (whole.amount ≡ 0) }
@@ -293,7 +293,7 @@ impl<J: Naming, R: Wait + Drop> Held<J, R> {
         Ok(seats)
     }
 
-    /// The sheet and the journal, without the store.
+    // The sheet and the journal, without the store.
     pub(crate) fn taken(self) -> (Arc<Sheet>, Vec<Entry>)
         ensures journal { result.1 ≡ self.journal }
         ensures sheet { arc_value result.0 ≡ (replay J.replica result.1.items).sheet }

@@ -17,7 +17,7 @@ use road_scenario::{Edit, Scenario, Value};
 use road_workers::Crew;
 use std::alloc::Global;
 
-/// The named cause for which a replica refuses a wish; none where it does not, but for lost workers or want of memory.
+// The named cause for which a replica refuses a wish; none where it does not, but for lost workers or want of memory.
 pub(crate) fn wish_fault(replica: &Replica, wish: &Wish<'_>) -> Option<ReplicaFault>
     ensures { result ≡ wish_fault wish.now replica.now }
 {
@@ -30,7 +30,7 @@ pub(crate) fn wish_fault(replica: &Replica, wish: &Wish<'_>) -> Option<ReplicaFa
     }
 }
 
-/// A replica does what is wished. The answer is the command that it comes to, and the reply.
+// A replica does what is wished. The answer is the command that it comes to, and the reply.
 pub(crate) fn made<C: Crew>(
     alloc: Global,
     replica: &mut Replica,

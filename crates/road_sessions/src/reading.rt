@@ -46,7 +46,7 @@ fn enter_here<J: Naming>(reader: &mut StoreReader<J>) -> Option<Found<J>>
     replace_with(reader, (), |reader, ()| enter(reader))
 }
 
-/// A session looks: it enters the store, and what is published there becomes what it has seen.
+// A session looks: it enters the store, and what is published there becomes what it has seen.
 pub(crate) fn look<J: Naming>(
     _number: u32,
     seen: &mut Beginning<J>,
@@ -110,9 +110,9 @@ fn enter_after_write<J: Naming, R: Wait>(
     }
 }
 
-/// A session's reader enters the store at the end of its write, which is published. The writer's lock is held, so nobody
-/// else has published since, and the store lets its readers in while its writer lives. Were it not so, it would wait
-/// for ever.
+// A session's reader enters the store at the end of its write, which is published. The writer's lock is held, so nobody
+// else has published since, and the store lets its readers in while its writer lives. Were it not so, it would wait
+// for ever.
 pub(crate) fn own<J: Naming, R: Wait>(rt: &R, reader: &mut StoreReader<J>, written: &Beginning<J>)
     ensures { EntersAfterWrite (view reader.old.place) written.now (view reader.new.place) }
 {

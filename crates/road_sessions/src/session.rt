@@ -1,3 +1,4 @@
+//! Sessions: their writes under the lock, and their looks without it.
 ghost use Rattle.std.specs.Prelude.{◌≡◌, ◌⊎◌, [], IsTrue, MatchResult, None, length};
 ghost use Rattle.std.specs.Arc.{arc_value};
 ghost use mathlib.Core.List.{IsPrefix};
@@ -87,7 +88,7 @@ impl<J: Naming> Model for Session<J> {
 }
 
 impl<J: Naming> Session<J> {
-    /// A session that has seen and written nothing.
+    // A session that has seen and written nothing.
     pub(crate) fn new(
         number: u32,
         seen: Beginning<J>,

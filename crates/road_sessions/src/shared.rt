@@ -1,3 +1,4 @@
+//! How a store is prepared and opened, and what its sessions share.
 ghost use Rattle.std.specs.Prelude.{◌≡◌, ◌<◌, ◌≤◌, [], IfOk, length};
 ghost use Rattle.std.specs.Arc.{arc_value};
 ghost use Rattle.road_plan.specs.declared.limits.TheConstants.{MOST_REPLICAS, MOST_SESSIONS};
@@ -104,7 +105,11 @@ pub fn open<J: Naming, R: Wait + Drop>(
     Ok((shared, sessions))
 }
 
-/// What [`open`] puts under the lock, and the sessions.
+/// What [`open`] puts under the lock, and the sessions, of what was prepared for the name `J`.
+///
+/// # Errors
+///
+/// As for [`open`].
 pub fn opened<J: Naming, R: Wait + Drop>(
     prepared: Prepared<R>,
 ) -> Result<(Held<J, R>, Vec<Session<J>>), OpenFault>

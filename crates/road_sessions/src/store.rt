@@ -43,7 +43,7 @@ impl<J: Naming> Model for Published<J> {
 }
 
 impl<J: Naming> Published<J> {
-    /// A sheet, and the history that leaves it.
+    // A sheet, and the history that leaves it.
     pub(crate) fn new(sheet: Arc<Sheet>, history: Beginning<J>) -> Published<J>
         requires { arc_value sheet ≡ (replay J.replica history).sheet }
         ensures { result ≡ history }
@@ -51,21 +51,21 @@ impl<J: Naming> Published<J> {
         Published { sheet, history }
     }
 
-    /// Its sheet.
+    // Its sheet.
     pub(crate) fn sheet(&self) -> &Arc<Sheet>
         ensures { arc_value result.now ≡ (replay J.replica self.now).sheet }
     {
         &self.sheet
     }
 
-    /// Its history.
+    // Its history.
     pub(crate) fn history(&self) -> &Beginning<J>
         ensures { result.now ≡ self.now }
     {
         &self.history
     }
 
-    /// The same once more. It is refused where the sheet can have no owner more.
+    // The same once more. It is refused where the sheet can have no owner more.
     pub(crate) fn again(&self) -> Result<Published<J>, AllocError>
         ensures { IfOk result (λ same. same ≡ self.now) }
     {
@@ -187,7 +187,7 @@ fn show<J: Naming, R: Wait>(
     unreachable!()
 }
 
-/// Publishes a sheet with its history, in place of what is published or pending. It returns once that is done.
+// Publishes a sheet with its history, in place of what is published or pending. It returns once that is done.
 pub(crate) fn publish<J: Naming, R: Wait>(
     rt: &R,
     writer: StoreWriter<J>,

@@ -1,3 +1,5 @@
+//! What the store knows of a reader.
+
 use crate::entry::Entry;
 use std::collections::LinkedList;
 

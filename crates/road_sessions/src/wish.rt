@@ -1,3 +1,5 @@
+//! What a session may ask of the replica.
+
 use road_plan::Object;
 use road_scenario::Scenario;
 
