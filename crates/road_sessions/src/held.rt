@@ -133,8 +133,9 @@ impl<J: Naming, R: Wait + Drop> Held<J, R> {
         }
     }
 
-    /// The write of a session. Where it is accepted, its command stands at the end of the journal, readers see its
-    /// sheet, and the session's share of the ledger is one more. The answer is its place in the journal, and the reply.
+    /// The write of a session, whose share of the ledger has a part. Where it is accepted, its command stands at the end
+    /// of the journal, readers see its sheet, and the share is one more. The answer is its place in the journal, and the
+    /// reply.
     ///
     /// # Errors
     ///
