@@ -1,6 +1,6 @@
 //! Commands that take edits from outside, and those that make messages and take them.
 
-ghost use Rattle.std.specs.Prelude.{◌≡◌, IfOk, codes, option_map, string_bytes};
+ghost use Rattle.std.specs.Prelude.{◌≡◌, IfOk, option_map, string_bytes};
 ghost use Rattle.serde_json.specs.View.{view};
 ghost use Rattle.road_format.specs.CommandGrammar as grammar;
 ghost use Rattle.road_format.specs.Fields as spec_fields;
@@ -32,51 +32,6 @@ pub(crate) fn import_in(
     Ok(Some(Command::Import { at, edits }))
 }
 
-// The `send` at a replica, of exactly its fields.
-pub(crate) fn send_in(
-    alloc: Global,
-    at: String,
-    fields: &Value,
-) -> Result<Option<Command>, OutOfMemory>
-    ensures { IfOk result (λ command. option_map command_view command
-        ≡ option_map (grammar.Send (string_bytes at)) (grammar.only_name (codes "name") (view fields.now))) }
-{
-    let Some(name) = only_name(alloc, "name", fields)? else {
-        return Ok(None);
-    };
-    Ok(Some(Command::Send { at, name }))
-}
-
-// The `heads` at a replica, of exactly its fields.
-pub(crate) fn heads_in(
-    alloc: Global,
-    at: String,
-    fields: &Value,
-) -> Result<Option<Command>, OutOfMemory>
-    ensures { IfOk result (λ command. option_map command_view command
-        ≡ option_map (grammar.Heads (string_bytes at)) (grammar.only_name (codes "name") (view fields.now))) }
-{
-    let Some(name) = only_name(alloc, "name", fields)? else {
-        return Ok(None);
-    };
-    Ok(Some(Command::Heads { at, name }))
-}
-
-// The `take` at a replica, of exactly its fields.
-pub(crate) fn take_in(
-    alloc: Global,
-    at: String,
-    fields: &Value,
-) -> Result<Option<Command>, OutOfMemory>
-    ensures { IfOk result (λ command. option_map command_view command
-        ≡ option_map (grammar.Take (string_bytes at)) (grammar.only_name (codes "message") (view fields.now))) }
-{
-    let Some(message) = only_name(alloc, "message", fields)? else {
-        return Ok(None);
-    };
-    Ok(Some(Command::Take { at, message }))
-}
-
 // The `beyond` at a replica, of exactly its fields.
 #[tactic(auto, unfolding(crate::specs::CommandGrammar::beyond_in))]
 pub(crate) fn beyond_in(
@@ -100,7 +55,11 @@ pub(crate) fn beyond_in(
 }
 
 // The name at this field, of an object that has exactly this field and `at`.
-fn only_name(alloc: Global, field: &str, fields: &Value) -> Result<Option<String>, OutOfMemory>
+pub(crate) fn only_name(
+    alloc: Global,
+    field: &str,
+    fields: &Value,
+) -> Result<Option<String>, OutOfMemory>
     ensures { IfOk result (λ name. option_map string_bytes name ≡ grammar.only_name field.now (view fields.now)) }
 {
     if !has_fields(2, fields) {
