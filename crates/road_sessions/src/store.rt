@@ -13,6 +13,7 @@ use crossbeam_utils::rule::{Outcome, Protocol};
 use left_right::Absorb;
 use left_right::reader::Reader;
 use left_right::writer::Writer;
+use road_plan::OutOfMemory;
 use road_sheet::Sheet;
 use std::alloc::AllocError;
 use std::marker::Model;
@@ -66,7 +67,7 @@ impl<J: Naming> Published<J> {
     }
 
     // The same once more. It is refused where the sheet can have no owner more.
-    pub(crate) fn again(&self) -> Result<Published<J>, AllocError>
+    pub(crate) fn again(&self) -> Result<Published<J>, OutOfMemory>
         ensures { IfOk result (λ same. same ≡ self.now) }
     {
         let sheet = Arc::try_clone(&self.sheet)?;
