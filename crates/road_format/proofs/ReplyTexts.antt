@@ -1,6 +1,6 @@
 -- No text of a JSON value has a newline, so a reply has none before its end.
 use Rattle.std.proofs.Common.{◌≡◌, ◌≢◌, ◌==◌, ◌||◌, ◌/◌, ◌%◌, ◌+◌, ℕ, zero, suc, List, [], ◌∷◌, ◌++◌, Bool, true, false, cond, refl, ap, sym, ◌∙◌, arith, nat_lt, decimal, pos, negsuc}
-use Rattle.std.proofs.lemmas.Bool.{eqb-true, ne_eqb, true≢false}
+use Rattle.std.proofs.lemmas.Bool.{eqb-false, eqb-true, ne_eqb, true≢false}
 use Rattle.std.proofs.lemmas.List.Elements.{All-nil, All-cons, All-append, All-head, All-tail}
 use Rattle.std.specs.Char.{digit_char}
 use Rattle.std.specs.Fmt.{digits, digits_onto, digit_glyph}
@@ -19,6 +19,10 @@ IsPlain text = HasNoNewline text
 plain_cons : (x : ℕ) (xs : List ℕ) → x ≢ newline → IsPlain xs → IsPlain (x ∷ xs)
 unfolding IsPlain
 plain_cons x xs other plain = All-cons (λ byte. byte ≢ newline) x xs other plain
+
+-- where it is told by computing that the byte is no newline
+behind : (x : ℕ) (xs : List ℕ) → (x == newline) ≡ false → IsPlain xs → IsPlain (x ∷ xs)
+behind x xs other = plain_cons x xs (eqb-false x newline other)
 
 plain_append : (xs ys : List ℕ) → IsPlain xs → IsPlain ys → IsPlain (xs ++ ys)
 unfolding IsPlain
@@ -44,17 +48,17 @@ either xs ys false one other = other
 -- ---- escapes
 
 or_cases_of : (x : ℕ) (a b : Bool) → (x == 34) ≡ a → (x == 92) ≡ b → (a || b) ≡ true → x ≢ newline
-or_cases_of x true b ha hb h e = let t : x ≡ 34 = eqb-true x 34 ha in cc
-or_cases_of x false true ha hb h e = let t : x ≡ 92 = eqb-true x 92 hb in cc
+or_cases_of x true b ha hb h e = eqb-false 34 newline refl (sym (eqb-true x 34 ha) ∙ e)
+or_cases_of x false true ha hb h e = eqb-false 92 newline refl (sym (eqb-true x 92 hb) ∙ e)
 or_cases_of x false false ha hb h e = cc
 
 short : (a b c d e : Bool) → cond a 98 (cond b 102 (cond c 110 (cond d 114 (cond e 116 0)))) ≢ newline
-short true b c d e h = cc
-short false true c d e h = cc
-short false false true d e h = cc
-short false false false true e h = cc
-short false false false false true h = cc
-short false false false false false h = cc
+short true b c d e = eqb-false 98 newline refl
+short false true c d e = eqb-false 102 newline refl
+short false false true d e = eqb-false 110 newline refl
+short false false false true e = eqb-false 114 newline refl
+short false false false false true = eqb-false 116 newline refl
+short false false false false false = eqb-false 0 newline refl
 
 letter_at : (x y : ℕ) (q : Bool) → (q ≡ true → x ≢ newline) → y ≢ newline → cond q x y ≢ newline
 letter_at x y true quoted other = quoted refl
@@ -76,9 +80,9 @@ char_plain d = glyph d (nat_lt d 10)
 -- a newline has a short escape
 escaped : (x : ℕ) (a b : Bool) → nat_lt 0 (escape_letter x) ≡ a
     → IsPlain (cond a (92 ∷ escape_letter x ∷ []) (cond b (92 ∷ 117 ∷ 48 ∷ 48 ∷ digit_char (x / 16) ∷ digit_char (x % 16) ∷ []) (x ∷ [])))
-escaped x true b h = plain_cons 92 _ (λ e. cc) (plain_cons (escape_letter x) [] (letter_plain x) plain_nil)
+escaped x true b h = behind 92 _ refl (plain_cons (escape_letter x) [] (letter_plain x) plain_nil)
 escaped x false true h =
-    plain_cons 92 _ (λ e. cc) (plain_cons 117 _ (λ e. cc) (plain_cons 48 _ (λ e. cc) (plain_cons 48 _ (λ e. cc)
+    behind 92 _ refl (behind 117 _ refl (behind 48 _ refl (behind 48 _ refl
     (plain_cons (digit_char (x / 16)) _ (char_plain (x / 16)) (plain_cons (digit_char (x % 16)) [] (char_plain (x % 16)) plain_nil)))))
 escaped x false false h = plain_cons x [] (λ e. true≢false (sym (ap (λ y. nat_lt 0 (escape_letter y)) e) ∙ h)) plain_nil
 
@@ -91,7 +95,7 @@ escape_plain [] = plain_nil
 escape_plain (x ∷ xs) = plain_append (escape_byte x) (escape xs) (escape_byte_plain x) (escape_plain xs)
 
 quoted_plain : (xs : List ℕ) → IsPlain (quoted xs)
-quoted_plain xs = plain_cons 34 (escape xs ++ 34 ∷ []) (λ e. cc) (plain_append (escape xs) (34 ∷ []) (escape_plain xs) (plain_cons 34 [] (λ e. cc) plain_nil))
+quoted_plain xs = behind 34 (escape xs ++ 34 ∷ []) refl (plain_append (escape xs) (34 ∷ []) (escape_plain xs) (behind 34 [] refl plain_nil))
 
 digits_plain : (k n : ℕ) (acc : List ℕ) → IsPlain acc → IsPlain (digits_onto k 10 false n acc)
 digits_plain zero n acc plain = plain
@@ -106,20 +110,20 @@ decimal_plain n = digits_plain 64 n [] plain_nil
 number_plain : (n : Num) → IsPlain (number_text n)
 number_plain (unsigned n) = decimal_plain n
 number_plain (negative (pos n)) = decimal_plain n
-number_plain (negative (negsuc n)) = plain_cons 45 _ (λ e. cc) (decimal_plain (suc n))
+number_plain (negative (negsuc n)) = behind 45 _ refl (decimal_plain (suc n))
 number_plain (float x) = plain_nil
 
 -- ---- every value's text
 
 null_plain : IsPlain (compact_text null)
-null_plain = plain_cons 110 _ (λ e. cc) (plain_cons 117 _ (λ e. cc) (plain_cons 108 _ (λ e. cc) (plain_cons 108 [] (λ e. cc) plain_nil)))
+null_plain = behind 110 _ refl (behind 117 _ refl (behind 108 _ refl (behind 108 [] refl plain_nil)))
 
 boolean_plain : (b : Bool) → IsPlain (compact_text (boolean b))
-boolean_plain true = plain_cons 116 _ (λ e. cc) (plain_cons 114 _ (λ e. cc) (plain_cons 117 _ (λ e. cc) (plain_cons 101 [] (λ e. cc) plain_nil)))
-boolean_plain false = plain_cons 102 _ (λ e. cc) (plain_cons 97 _ (λ e. cc) (plain_cons 108 _ (λ e. cc) (plain_cons 115 _ (λ e. cc) (plain_cons 101 [] (λ e. cc) plain_nil))))
+boolean_plain true = behind 116 _ refl (behind 114 _ refl (behind 117 _ refl (behind 101 [] refl plain_nil)))
+boolean_plain false = behind 102 _ refl (behind 97 _ refl (behind 108 _ refl (behind 115 _ refl (behind 101 [] refl plain_nil))))
 
 behind_comma : (later : Bool) (xs : List ℕ) → IsPlain xs → IsPlain (comma_if later ++ xs)
-behind_comma true xs plain = plain_cons 44 xs (λ e. cc) plain
+behind_comma true xs plain = behind 44 xs refl plain
 behind_comma false xs plain = plain
 
 mutual
@@ -128,17 +132,17 @@ mutual
   text_plain (boolean b) = boolean_plain b
   text_plain (number n) = number_plain n
   text_plain (string s) = quoted_plain s
-  text_plain (array ds) = plain_cons 91 _ (λ e. cc) (items_plain false ds)
-  text_plain (object ms) = plain_cons 123 _ (λ e. cc) (members_plain false ms)
+  text_plain (array ds) = behind 91 _ refl (items_plain false ds)
+  text_plain (object ms) = behind 123 _ refl (members_plain false ms)
 
   items_plain : (later : Bool) (ds : Items) → IsPlain (items_text later ds)
-  items_plain later no_items = plain_cons 93 [] (λ e. cc) plain_nil
+  items_plain later no_items = behind 93 [] refl plain_nil
   items_plain later (item d ds) = behind_comma later _ (plain_append (compact_text d) _ (text_plain d) (items_plain true ds))
 
   members_plain : (later : Bool) (ms : Members) → IsPlain (members_text later ms)
-  members_plain later no_members = plain_cons 125 [] (λ e. cc) plain_nil
+  members_plain later no_members = behind 125 [] refl plain_nil
   members_plain later (member k d ms) =
-      behind_comma later _ (plain_append (quoted k) _ (quoted_plain k) (plain_cons 58 _ (λ e. cc) (plain_append (compact_text d) _ (text_plain d) (members_plain true ms))))
+      behind_comma later _ (plain_append (quoted k) _ (quoted_plain k) (behind 58 _ refl (plain_append (compact_text d) _ (text_plain d) (members_plain true ms))))
 
 pub replies_are_lines : RepliesAreLines
 unfolding reply

@@ -5,7 +5,7 @@ ghost use Rattle.road_cells.specs.Cars.{AreRising};
 use crate::rows::input_of;
 use road_cells::{Car, Road};
 use road_ends::{DrawnWords, StepInput, enter_with};
-use road_plan::Settings;
+use road_plan::{Plan, Settings};
 use std::alloc::Global;
 use std::sync::Arc;
 use std::test::Fail;
@@ -45,8 +45,21 @@ const OTHER_CELL: &[Car] = &[FIRST, Car { cell: 8, ..SECOND }];
 
 const OTHER_SPEED: &[Car] = &[FIRST, Car { speed: 2, ..SECOND }];
 
-// The input of a step with these cars, that of a run which draws its words before it needs them, or that of a single step.
-// The first has columns of its cars, the second has none.
+// The input of a step of a run, which draws its words before it needs them.
+fn input_of_run(
+    alloc: Global,
+    plan: &Arc<Plan>,
+    step: u32,
+    road: &Road,
+) -> Result<Arc<StepInput>, Fail> {
+    plan.known_own_settings();
+    let settings = Arc::new(alloc, Settings::of_plan(alloc, plan)?)?;
+    let mut words = DrawnWords::of(alloc, plan);
+    Ok(enter_with(alloc, plan, settings, step, road, &mut words)?)
+}
+
+// The input of a step with these cars, that of a run or that of a single step. The first has columns of its cars, the
+// second has none.
 fn input_with(
     alloc: Global,
     step: u32,
@@ -57,54 +70,53 @@ fn input_with(
 {
     let plan = Arc::new(alloc, plan_of(alloc, &CLOSED)?)?;
     let road = Road::of(cars.to_vec(alloc)?);
-    if !is_of_run {
-        return input_of(alloc, &plan, step, &road);
+    if is_of_run {
+        input_of_run(alloc, &plan, step, &road)
+    } else {
+        input_of(alloc, &plan, step, &road)
     }
-    plan.known_own_settings();
-    let settings = Arc::new(alloc, Settings::of_plan(alloc, &plan)?)?;
-    let mut words = DrawnWords::of(alloc, &plan);
-    Ok(enter_with(alloc, &plan, settings, step, &road, &mut words)?)
 }
 
 /// With columns or without, of the first input and of the second.
 const KINDS: [(bool, bool); 4] = [(false, false), (false, true), (true, false), (true, true)];
 
+// Whether the input of step 3 with both cars is the same as another one, and that one as it.
+fn are_same(
+    alloc: Global,
+    (ours, theirs): (bool, bool),
+    step: u32,
+    cars: &[Car],
+) -> Result<(bool, bool), Fail>
+    requires { AreRising cars.now }
+{
+    let input = input_with(alloc, 3, BOTH, ours)?;
+    let other = input_with(alloc, step, cars, theirs)?;
+    Ok((input.same(&other), other.same(&input)))
+}
+
 #[test]
 fn an_input_is_the_same_as_another_of_its_step_and_cars(rt: HostRuntime) -> Result<(), Fail> {
-    let alloc = rt.alloc();
-    for (ours, theirs) in KINDS {
-        let input = input_with(alloc, 3, BOTH, ours)?;
-        let again = input_with(alloc, 3, BOTH, theirs)?;
-        let later = input_with(alloc, 4, BOTH, theirs)?;
-        assert!(rt; input.same(&again));
-        assert!(rt; !input.same(&later));
+    for kinds in KINDS {
+        assert!(rt; are_same(rt.alloc(), kinds, 3, BOTH)? == (true, true));
+        assert!(rt; are_same(rt.alloc(), kinds, 4, BOTH)? == (false, false));
     }
     Ok(())
 }
 
 #[test]
 fn inputs_differ_where_a_car_is_missing(rt: HostRuntime) -> Result<(), Fail> {
-    let alloc = rt.alloc();
-    for (ours, theirs) in KINDS {
-        let input = input_with(alloc, 3, BOTH, ours)?;
-        let shorter = input_with(alloc, 3, ALONE, theirs)?;
-        assert!(rt; !input.same(&shorter));
-        assert!(rt; !shorter.same(&input));
+    for kinds in KINDS {
+        assert!(rt; are_same(rt.alloc(), kinds, 3, ALONE)? == (false, false));
     }
     Ok(())
 }
 
 #[test]
 fn inputs_differ_by_each_part_of_a_car(rt: HostRuntime) -> Result<(), Fail> {
-    let alloc = rt.alloc();
-    for (ours, theirs) in KINDS {
-        let input = input_with(alloc, 3, BOTH, ours)?;
-        let number = input_with(alloc, 3, OTHER_NUMBER, theirs)?;
-        let cell = input_with(alloc, 3, OTHER_CELL, theirs)?;
-        let speed = input_with(alloc, 3, OTHER_SPEED, theirs)?;
-        assert!(rt; !input.same(&number));
-        assert!(rt; !input.same(&cell));
-        assert!(rt; !input.same(&speed));
+    for kinds in KINDS {
+        assert!(rt; are_same(rt.alloc(), kinds, 3, OTHER_NUMBER)? == (false, false));
+        assert!(rt; are_same(rt.alloc(), kinds, 3, OTHER_CELL)? == (false, false));
+        assert!(rt; are_same(rt.alloc(), kinds, 3, OTHER_SPEED)? == (false, false));
     }
     Ok(())
 }

@@ -46,21 +46,26 @@ const WRITES: [Write; 5] = [
     Write::Advance(12),
 ];
 
-// Whether a replica is as it was after a write whose crew fails after some calls.
-fn leaves_it(alloc: Global, write: Write, calls: u64) -> Result<bool, Fail> {
-    let mut replica = replica_after(alloc, 0, &BEFORE)?;
+// Whether a replica is left as it was by a write whose crew fails after some calls.
+fn is_left(alloc: Global, replica: &mut Replica, write: Write, calls: u64) -> Result<bool, Fail> {
     let mut crew = Failing {
         calls_left: calls,
         gone: 0,
     };
     let mut meter = Meter::new();
-    let answer = written(alloc, &mut replica, write, &mut crew, &mut meter);
+    let answer = written(alloc, replica, write, &mut crew, &mut meter);
     Ok(
         answer == Err(ReplicaFault::WorkersGone)
             && (meter.ticks(), crew.gone, replica.sheet().horizon()) == (calls, 1, 6)
-            && holds(alloc, &replica, &HELD)?
-            && shows(alloc, &replica, 6, "0.1.1..1....")?,
+            && holds(alloc, replica, &HELD)?
+            && shows(alloc, replica, 6, "0.1.1..1....")?,
     )
+}
+
+// Whether a replica of the free road with the lower limit is.
+fn leaves_it(alloc: Global, write: Write, calls: u64) -> Result<bool, Fail> {
+    let mut replica = replica_after(alloc, 0, &BEFORE)?;
+    is_left(alloc, &mut replica, write, calls)
 }
 
 #[test]
@@ -74,7 +79,7 @@ fn lost_workers_leave_the_replica(rt: HostRuntime) -> Result<(), Fail> {
 }
 
 /// A run to step 6, and then the late edit that closes a cell of it. Each computes six steps.
-const RUN: [(Write, Reply); 2] = [
+const RUN: &[(Write, Reply)] = &[
     (Write::Advance(6), Reply::Horizon(6)),
     (Write::Edit(BLOCK, 4, 1), Reply::Stamped(FIRST_STAMP)),
 ];
@@ -91,8 +96,8 @@ struct Shown {
     totals: Totals,
 }
 
-/// What it is before each write of the run, and after the last one.
-const STAGES: [Shown; 3] = [
+/// What it is before each write of the run.
+const STAGES: &[Shown] = &[
     Shown {
         held: &[],
         rows: &["............"],
@@ -111,20 +116,22 @@ const STAGES: [Shown; 3] = [
         ],
         totals: Totals { cars: 2, speeds: 4 },
     },
-    Shown {
-        held: &[(BLOCK, 4, (1, 0), Value::Put(1))],
-        rows: &[
-            "............",
-            ".1..........",
-            "0..2........",
-            ".1...2......",
-            "0..2...2#...",
-            ".1...2.0#...",
-            "0..2..10#...",
-        ],
-        totals: Totals { cars: 2, speeds: 4 },
-    },
 ];
+
+/// What it is after the last one.
+const LAST_STAGE: Shown = Shown {
+    held: &[(BLOCK, 4, (1, 0), Value::Put(1))],
+    rows: &[
+        "............",
+        ".1..........",
+        "0..2........",
+        ".1...2......",
+        "0..2...2#...",
+        ".1...2.0#...",
+        "0..2..10#...",
+    ],
+    totals: Totals { cars: 2, speeds: 4 },
+};
 
 // Whether a replica holds and shows just this.
 fn is_at(alloc: Global, replica: &Replica, stage: &Shown) -> Result<bool, Fail> {
@@ -161,19 +168,24 @@ fn is_answered(
     Ok(answer == Ok(wanted))
 }
 
-// Whether the run is answered as ever by a crew that fails after some calls, once.
+// Whether the run of a replica is answered as ever by a crew that fails once.
+fn is_run_by(alloc: Global, replica: &mut Replica, crew: &mut Failing) -> Result<bool, Fail> {
+    for (step, stage) in RUN.iter().zip(STAGES) {
+        if !is_answered(alloc, replica, crew, *step, stage)? {
+            return Ok(false);
+        }
+    }
+    Ok(crew.gone == 1 && is_at(alloc, replica, &LAST_STAGE)?)
+}
+
+// Whether that of a new replica is, by a crew that fails after some calls.
 fn is_run(alloc: Global, calls: u64) -> Result<bool, Fail> {
     let mut replica = opened(alloc, 0)?;
     let mut crew = Failing {
         calls_left: calls,
         gone: 0,
     };
-    for (step, stage) in RUN.iter().zip(&STAGES) {
-        if !is_answered(alloc, &mut replica, &mut crew, *step, stage)? {
-            return Ok(false);
-        }
-    }
-    Ok(crew.gone == 1 && is_at(alloc, &replica, &STAGES[2])?)
+    is_run_by(alloc, &mut replica, &mut crew)
 }
 
 #[test]

@@ -3,8 +3,10 @@
 use crate::replicas::{BLOCK, Entry, LIMIT, Write, holds, opened, replica_after};
 use road_delta::Head;
 use road_ends::Meter;
-use road_scenario::{Stamp, Value};
+use road_replica::{OutOfMemory, Replica, ReplicaFault};
+use road_scenario::{Scenario, Stamp, Value};
 use road_workers::Alone;
+use std::alloc::Global;
 use std::test::Fail;
 
 /// What the second replica took of the first.
@@ -55,28 +57,59 @@ const JOINED: [Entry; 3] = [
     (BLOCK, 4, (2, 0), Value::Put(1)),
 ];
 
+// Whether a replica asks by these heads.
+fn asks(alloc: Global, replica: &Replica, heads: &[Head]) -> Result<bool, ReplicaFault> {
+    Ok(replica.heads(alloc)?.list() == heads)
+}
+
+// What one replica answers to the heads of another.
+fn answer(alloc: Global, asked: &Replica, asking: &Replica) -> Result<Scenario, ReplicaFault> {
+    let heads = asking.heads(alloc)?;
+    asked.beyond(alloc, &heads)
+}
+
+// Whether a replica that takes a scenario again and again is touched so, and then holds these edits.
+fn takes(
+    alloc: Global,
+    replica: &mut Replica,
+    sent: &Scenario,
+    touched: &[Option<u32>],
+    held: &[Entry],
+) -> Result<bool, OutOfMemory> {
+    for step in touched {
+        if replica.take(alloc, sent, &mut Alone, &mut Meter::new()) != Ok(*step) {
+            return Ok(false);
+        }
+    }
+    holds(alloc, replica, held)
+}
+
+// Whether a replica asks as it should, and takes what the other one sends it.
+fn is_answered(alloc: Global, asked: &Replica, mut asking: Replica) -> Result<bool, Fail> {
+    let sent = answer(alloc, asked, &asking)?;
+    Ok(
+        asks(alloc, &asking, &ASKED)?
+            && takes(alloc, &mut asking, &sent, &[Some(5), None], &JOINED)?,
+    )
+}
+
 #[test]
 fn a_replica_is_sent_what_it_lacks(rt: HostRuntime) -> Result<(), Fail> {
     let first = replica_after(rt.alloc(), 0, &FIRST)?;
-    let mut second = replica_after(rt.alloc(), 1, &SECOND)?;
-    let heads = second.heads(rt.alloc())?;
-    assert!(&rt; heads.list() == ASKED.as_slice());
-    let sent = first.beyond(rt.alloc(), &heads)?;
-    for touched in [Some(5), None] {
-        let taken = second.take(rt.alloc(), &sent, &mut Alone, &mut Meter::new());
-        assert!(&rt; taken == Ok(touched));
-    }
-    assert!(&rt; holds(rt.alloc(), &second, &JOINED)?);
+    let second = replica_after(rt.alloc(), 1, &SECOND)?;
+    assert!(&rt; is_answered(rt.alloc(), &first, second)?);
     Ok(())
+}
+
+// Whether a new replica takes the whole message of another.
+fn is_told(alloc: Global, message: &Scenario) -> Result<bool, Fail> {
+    let mut replica = opened(alloc, 2)?;
+    Ok(takes(alloc, &mut replica, message, &[Some(4)], &SENT)?)
 }
 
 #[test]
 fn a_message_holds_all(rt: HostRuntime) -> Result<(), Fail> {
-    let first = replica_after(rt.alloc(), 2, &[Write::Take(&SENT)])?;
-    let mut third = opened(rt.alloc(), 2)?;
-    let message = first.message()?;
-    let taken = third.take(rt.alloc(), &message, &mut Alone, &mut Meter::new());
-    assert!(&rt; taken == Ok(Some(4)));
-    assert!(&rt; holds(rt.alloc(), &third, &SENT)?);
+    let message = replica_after(rt.alloc(), 2, &[Write::Take(&SENT)])?.message()?;
+    assert!(&rt; is_told(rt.alloc(), &message)?);
     Ok(())
 }

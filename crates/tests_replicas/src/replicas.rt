@@ -51,6 +51,30 @@ pub(crate) fn edits_of(alloc: Global, entries: &[Entry]) -> Result<Vec<Edit>, Ou
     Ok(edits)
 }
 
+// What an import is answered.
+fn imported<C: Crew>(
+    alloc: Global,
+    replica: &mut Replica,
+    entries: &[Entry],
+    crew: &mut C,
+    meter: &mut Meter,
+) -> Result<Reply, ReplicaFault> {
+    let edits = edits_of(alloc, entries)?;
+    Ok(Reply::Touched(replica.import(alloc, &edits, crew, meter)?))
+}
+
+// What a replica is answered that takes edits.
+fn taken<C: Crew>(
+    alloc: Global,
+    replica: &mut Replica,
+    entries: &[Entry],
+    crew: &mut C,
+    meter: &mut Meter,
+) -> Result<Reply, ReplicaFault> {
+    let scenario = Scenario::of_edits(alloc, &edits_of(alloc, entries)?)?;
+    Ok(Reply::Touched(replica.take(alloc, &scenario, crew, meter)?))
+}
+
 /// What a write is answered.
 pub(crate) fn written<C: Crew>(
     alloc: Global,
@@ -59,23 +83,17 @@ pub(crate) fn written<C: Crew>(
     crew: &mut C,
     meter: &mut Meter,
 ) -> Result<Reply, ReplicaFault> {
-    Ok(match write {
-        Write::Edit(object, step, value) => {
-            Reply::Stamped(replica.edit(alloc, object, step, value, crew, meter)?)
-        }
-        Write::Withdraw(object, step) => {
-            Reply::Stamped(replica.withdraw(alloc, object, step, crew, meter)?)
-        }
-        Write::Import(entries) => {
-            let edits = edits_of(alloc, entries)?;
-            Reply::Touched(replica.import(alloc, &edits, crew, meter)?)
-        }
-        Write::Take(entries) => {
-            let taken = Scenario::of_edits(alloc, &edits_of(alloc, entries)?)?;
-            Reply::Touched(replica.take(alloc, &taken, crew, meter)?)
-        }
-        Write::Advance(to) => Reply::Horizon(replica.advance(alloc, to, crew, meter)?),
-    })
+    match write {
+        Write::Edit(object, step, value) => Ok(Reply::Stamped(replica.edit(
+            alloc, object, step, value, crew, meter,
+        )?)),
+        Write::Withdraw(object, step) => Ok(Reply::Stamped(replica.withdraw(
+            alloc, object, step, crew, meter,
+        )?)),
+        Write::Import(entries) => imported(alloc, replica, entries, crew, meter),
+        Write::Take(entries) => taken(alloc, replica, entries, crew, meter),
+        Write::Advance(to) => Ok(Reply::Horizon(replica.advance(alloc, to, crew, meter)?)),
+    }
 }
 
 /// A replica of the free road after some writes that it accepts, with a crew of one.

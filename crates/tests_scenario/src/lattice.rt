@@ -87,13 +87,34 @@ fn holds(
     Ok(all.as_slice() == entries && map.keys().count() == entries.len())
 }
 
+// What two maps of these puts join to.
+fn joined_map(
+    alloc: Global,
+    ours: &[Entry],
+    theirs: &[Entry],
+) -> Result<LatMap<u32, Register>, OutOfMemory> {
+    let map = map_of(alloc, theirs)?;
+    map_of(alloc, ours)?.joined(&map)
+}
+
+// Whether two maps of these puts join to one that holds these entries.
+fn map_joins_to(
+    alloc: Global,
+    ours: &[Entry],
+    theirs: &[Entry],
+    entries: &[Entry],
+) -> Result<bool, OutOfMemory> {
+    let both = joined_map(alloc, ours, theirs)?;
+    holds(alloc, &both, entries)
+}
+
 #[test]
 fn maps_join_key_by_key(rt: HostRuntime) -> Result<(), Fail> {
     for (ours, theirs, entries) in MERGES {
-        let a = map_of(rt.alloc(), ours)?;
-        let b = map_of(rt.alloc(), theirs)?;
-        let both = a.joined(&b)?;
-        assert!(rt; holds(rt.alloc(), &both, entries)?, "{ours:?} {theirs:?}");
+        assert!(rt;
+            map_joins_to(rt.alloc(), ours, theirs, entries)?,
+            "{ours:?} {theirs:?}"
+        );
     }
     Ok(())
 }
@@ -106,15 +127,27 @@ fn replica(alloc: Global, puts: &[Entry], horizon: Greatest<u32>) -> Result<Repl
     })
 }
 
+// Whether two replicas that are advanced to 6 and to nothing merge to one of these entries that is advanced to 6.
+fn merge_to(
+    alloc: Global,
+    ours: &[Entry],
+    theirs: &[Entry],
+    entries: &[Entry],
+) -> Result<bool, OutOfMemory> {
+    let a = replica(alloc, ours, Greatest::Of(6))?;
+    let b = replica(alloc, theirs, Greatest::Nothing)?;
+    let both = replica(alloc, entries, Greatest::Of(6))?;
+    joins_to(&a, &b, &both)
+}
+
 #[test]
 fn replicas_merge(rt: HostRuntime) -> Result<(), Fail> {
-    let none = replica(rt.alloc(), &[], Greatest::Nothing)?;
-    assert!(rt; none.is_bottom());
+    assert!(rt; replica(rt.alloc(), &[], Greatest::Nothing)?.is_bottom());
     for (ours, theirs, entries) in MERGES {
-        let a = replica(rt.alloc(), ours, Greatest::Of(6))?;
-        let b = replica(rt.alloc(), theirs, Greatest::Nothing)?;
-        let both = replica(rt.alloc(), entries, Greatest::Of(6))?;
-        assert!(rt; joins_to(&a, &b, &both)?, "{ours:?} {theirs:?}");
+        assert!(rt;
+            merge_to(rt.alloc(), ours, theirs, entries)?,
+            "{ours:?} {theirs:?}"
+        );
     }
     Ok(())
 }

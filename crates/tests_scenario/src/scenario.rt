@@ -255,34 +255,38 @@ const MERGES: &[Merge] = &[
     },
 ];
 
-// The scenario of a replica before and after the edits come.
-fn merged(alloc: Global, merge: &Merge) -> Result<(Scenario, Scenario), OutOfMemory> {
-    let before = scenario(alloc, merge.held)?;
-    let other = scenario(alloc, merge.come)?;
-    let after = before.joined(&other)?;
-    Ok((before, after))
-}
-
 // Whether a copy of a scenario lists just these edits, in this order.
 fn lists(alloc: Global, scenario: &Scenario, edits: &[Edit]) -> Result<bool, OutOfMemory> {
     let listed = scenario.copied()?.edits(alloc)?;
     Ok(listed.as_slice() == edits)
 }
 
-// The edits of a row come to a replica.
-fn comes(rt: &impl Abort, alloc: Global, merge: &Merge) -> Result<(), OutOfMemory> {
-    let (before, after) = merged(alloc, merge)?;
-    let are_listed = lists(alloc, &after, merge.listed)?;
-    let is_bound = before.at_most(&after) && after.greatest_count() == merge.count;
-    let is_touched = before.touched(&after) == merge.touched;
-    assert!(rt; are_listed && is_bound && is_touched, "{merge:?}");
-    Ok(())
+// Whether a replica was left so by the edits that came.
+fn is_left(
+    alloc: Global,
+    merge: &Merge,
+    before: &Scenario,
+    after: &Scenario,
+) -> Result<bool, OutOfMemory> {
+    Ok(
+        lists(alloc, after, merge.listed)?
+            && before.at_most(after)
+            && after.greatest_count() == merge.count
+            && before.touched(after) == merge.touched,
+    )
+}
+
+// Whether the edits of a row come to a replica as they should.
+fn comes(alloc: Global, merge: &Merge) -> Result<bool, OutOfMemory> {
+    let before = scenario(alloc, merge.held)?;
+    let after = before.joined(&scenario(alloc, merge.come)?)?;
+    is_left(alloc, merge, &before, &after)
 }
 
 #[test]
 fn edits_come_to_a_replica(rt: HostRuntime) -> Result<(), Fail> {
     for merge in MERGES {
-        comes(&rt, rt.alloc(), merge)?;
+        assert!(rt; comes(rt.alloc(), merge)?, "{merge:?}");
     }
     Ok(())
 }
@@ -365,15 +369,18 @@ fn limit_at(rt: &impl Abort, scenario: &Scenario, plan: &Plan, step: u32) -> u32
     scenario.setting(plan, LIMIT, step)
 }
 
+// Looks at the limits of a scenario at some steps.
+fn look_at_limits(rt: &impl Abort, scenario: &Scenario, plan: &Plan, limits: &[u32; 4]) {
+    for (step, limit) in [2, 4, 5, 65_535].iter().zip(limits) {
+        assert_eq!(rt; limit_at(rt, scenario, plan, *step), *limit, "step {step}");
+    }
+}
+
 #[test]
 fn an_earlier_put_acts_on(rt: HostRuntime) -> Result<(), Fail> {
     let plan = plan_of(rt.alloc(), &FREE)?;
     for (edits, limits) in LIMITS {
-        let made = scenario(rt.alloc(), edits)?;
-        for (step, limit) in [2, 4, 5, 65_535].iter().zip(limits) {
-            let is = limit_at(&rt, &made, &plan, *step);
-            assert_eq!(rt; is, *limit, "step {step}, {edits:?}");
-        }
+        look_at_limits(&rt, &scenario(rt.alloc(), edits)?, &plan, limits);
     }
     Ok(())
 }
@@ -507,18 +514,39 @@ fn have(settings: &Settings, numbers: &Numbers) -> bool {
         && settings.watched() == numbers.watched
 }
 
+// Whether a scenario acts so at a step.
+fn acts(
+    alloc: Global,
+    plan: &Plan,
+    scenario: &Scenario,
+    step: u32,
+    numbers: &Numbers,
+) -> Result<bool, OutOfMemory> {
+    if scenario.fits(plan).is_some() {
+        return Ok(false);
+    }
+    let settings = scenario.settings_at(alloc, plan, step)?;
+    Ok(have(&settings, numbers) && settings.fits(plan))
+}
+
+// Looks at what a scenario does at some steps.
+fn look_at_settings(
+    rt: &impl Abort,
+    alloc: Global,
+    plan: &Plan,
+    scenario: &Scenario,
+) -> Result<(), OutOfMemory> {
+    for (step, numbers) in SETTINGS {
+        assert!(rt; acts(alloc, plan, scenario, *step, numbers)?, "step {step}");
+    }
+    Ok(())
+}
+
 #[test]
 fn edits_of_all_kinds_act(rt: HostRuntime) -> Result<(), Fail> {
     let plan = plan_of(rt.alloc(), &FREE)?;
     let made = scenario(rt.alloc(), ALL_KINDS)?;
-    assert!(rt; made.fits(&plan).is_none());
-    for (step, numbers) in SETTINGS {
-        let settings = made.settings_at(rt.alloc(), &plan, *step)?;
-        assert!(rt;
-            have(&settings, numbers) && settings.fits(&plan),
-            "step {step}"
-        );
-    }
+    look_at_settings(&rt, rt.alloc(), &plan, &made)?;
     Ok(())
 }
 

@@ -1,6 +1,6 @@
 //! The free road: worked rows, cars and counts, and how many steps each growth of its sheets computes.
 
-use crate::sheets::{grow, opening};
+use crate::sheets::{Trial, grow, opening};
 use road_cells::Car;
 use road_plan::Object;
 use road_scenario::{Edit, Stamp, Value};
@@ -248,19 +248,28 @@ const EXAMPLES: &[Example] = &[
     },
 ];
 
-// The sheet that has grown so; none where a growth touches another step, or the meter or the crew counts other steps.
-fn grown_so(alloc: Global, growths: &[Growth]) -> Result<Option<Sheet>, Fail> {
+// The sheet that a growth leaves, where it touches that step, and the meter and the crew count those steps.
+fn grown_by(alloc: Global, sheet: &Sheet, growth: &Growth) -> Result<Sheet, Fail> {
+    let Trial {
+        sheet,
+        touched,
+        steps,
+        calls,
+    } = grow(alloc, sheet, growth.edits, growth.to)?;
+    if (touched, steps, calls) == (growth.touched, growth.steps, growth.steps) {
+        Ok(sheet)
+    } else {
+        Err(Fail::new("another step is touched, or other steps are counted"))
+    }
+}
+
+// The sheet of the free road that has grown so.
+fn grown_so(alloc: Global, growths: &[Growth]) -> Result<Sheet, Fail> {
     let mut sheet = opening(alloc, &FREE)?;
     for growth in growths {
-        let trial = grow(alloc, &sheet, growth.edits, growth.to)?;
-        if (trial.touched, trial.steps, trial.calls)
-            != (growth.touched, growth.steps, growth.steps)
-        {
-            return Ok(None);
-        }
-        sheet = trial.sheet;
+        sheet = grown_by(alloc, &sheet, growth)?;
     }
-    Ok(Some(sheet))
+    Ok(sheet)
 }
 
 // The row of a sheet at a step.
@@ -309,10 +318,8 @@ fn sheet_agrees(alloc: Global, sheet: &Sheet, example: &Example) -> Result<bool,
 
 // Whether a sheet grows and shows what an example says.
 fn example_agrees(alloc: Global, example: &Example) -> Result<bool, Fail> {
-    match grown_so(alloc, example.growths)? {
-        Some(sheet) => sheet_agrees(alloc, &sheet, example),
-        None => Ok(false),
-    }
+    let sheet = grown_so(alloc, example.growths)?;
+    sheet_agrees(alloc, &sheet, example)
 }
 
 #[test]

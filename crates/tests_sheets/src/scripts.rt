@@ -142,20 +142,31 @@ fn grown_at_random(
     Ok(grow(alloc, sheet, some, dice.step())?.sheet)
 }
 
+// A sheet grows at random. Whether it agrees with the run from step zero then.
+fn goes_on(alloc: Global, sheet: &mut Sheet, dice: &mut Dice, count: u64) -> Result<bool, Fail> {
+    *sheet = grown_at_random(alloc, sheet, dice, count)?;
+    sheet_agrees(alloc, sheet, dice)
+}
+
+// Whether it agrees each time.
+fn all_agree(alloc: Global, sheet: &mut Sheet, seed: u64) -> Result<bool, Fail> {
+    let mut dice = Dice { seed };
+    for count in 1..6 {
+        if !goes_on(alloc, sheet, &mut dice, count)? {
+            return Ok(false);
+        }
+    }
+    Ok(true)
+}
+
 // Whether all sheets of a script agree with the run from step zero.
 fn script_agrees(alloc: Global, seed: u64) -> Result<bool, Fail> {
-    let mut dice = Dice { seed };
-    let mut agreed = true;
     let words = match seed % 2 {
         0 => WordKind::Steady,
         _ => WordKind::Seeded(seed),
     };
     let mut sheet = opening(alloc, &Parts { words, ..MIXED })?;
-    for count in 1..6 {
-        sheet = grown_at_random(alloc, &sheet, &mut dice, count)?;
-        agreed = agreed && sheet_agrees(alloc, &sheet, &mut dice)?;
-    }
-    Ok(agreed)
+    all_agree(alloc, &mut sheet, seed)
 }
 
 #[test]

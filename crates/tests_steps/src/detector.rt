@@ -85,6 +85,22 @@ const COUNTS: &[Count] = &[
     },
 ];
 
+// What the first detector counts in a step, and the road after it.
+fn step_counted(
+    rt: &impl Abort,
+    alloc: Global,
+    plan: &Arc<Plan>,
+    step: u32,
+    road: &Road,
+    on: bool,
+) -> Result<(Totals, Road), AllocError> {
+    let input = input_of(rt, alloc, plan, step, road, on)?;
+    let speeds = input.speeds(alloc)?;
+    let counts = counted(rt, &input, &speeds, 0);
+    let later = finish(alloc, &input, &speeds)?;
+    Ok((counts, later))
+}
+
 // What the detector of the free road counts.
 fn total(
     rt: &impl Abort,
@@ -96,14 +112,12 @@ fn total(
     let mut totals = Totals { cars: 0, speeds: 0 };
     for step in 0..count.steps.1 {
         let on = step < count.off.0 || count.off.1 <= step;
-        let input = input_of(rt, alloc, plan, step, &road, on)?;
-        let speeds = input.speeds(alloc)?;
+        let (counts, later) = step_counted(rt, alloc, plan, step, &road, on)?;
         if count.steps.0 <= step {
-            let counts = counted(rt, &input, &speeds, 0);
             totals.cars = totals.cars.saturating_add(counts.cars);
             totals.speeds = totals.speeds.saturating_add(counts.speeds);
         }
-        road = finish(alloc, &input, &speeds)?;
+        road = later;
     }
     Ok(totals)
 }

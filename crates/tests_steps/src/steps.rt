@@ -3,7 +3,7 @@
 use crate::plain;
 use crate::rows::row_of;
 use road_cells::{Car, Road};
-use road_ends::{Meter, enter, finish, step_alone};
+use road_ends::{Meter, StepInput, enter, finish, step_alone};
 use road_plan::{Plan, Settings, WordKind};
 use std::alloc::{AllocError, Global};
 use std::process::Abort;
@@ -322,18 +322,32 @@ const STEADY: Parts = Parts {
     words: WordKind::Steady,
 };
 
-// The cars after step 1 of a road with these cars.
-fn after_step_one(alloc: Global, parts: &Parts, cars: &[Car]) -> Result<Vec<Car>, Fail> {
-    let plan = Arc::new(alloc, plan_of(alloc, parts)?)?;
+// The input of step 1 on a road.
+fn input_of_step_one(
+    alloc: Global,
+    plan: &Arc<Plan>,
+    road: &Road,
+) -> Result<Arc<StepInput>, AllocError> {
     plan.known_own_settings();
-    let settings = Settings::of_plan(alloc, &plan)?;
-    let road = match cars {
-        [] => Road::empty(alloc),
-        [car, ..] => Road::of(vec![in alloc; *car]?),
-    };
-    let input = enter(alloc, &plan, settings, 1, &road)?;
+    let settings = Settings::of_plan(alloc, plan)?;
+    enter(alloc, plan, settings, 1, road)
+}
+
+// The cars after a step with this input.
+fn cars_after(alloc: Global, input: &Arc<StepInput>) -> Result<Vec<Car>, AllocError> {
     let speeds = input.speeds(alloc)?;
-    Ok(finish(alloc, &input, &speeds)?.into_cars())
+    Ok(finish(alloc, input, &speeds)?.into_cars())
+}
+
+// The cars after step 1 of a road with one car, or with none.
+fn after_step_one(alloc: Global, parts: &Parts, car: Option<Car>) -> Result<Vec<Car>, Fail> {
+    let plan = Arc::new(alloc, plan_of(alloc, parts)?)?;
+    let road = match car {
+        None => Road::empty(alloc),
+        Some(car) => Road::of(vec![in alloc; car]?),
+    };
+    let input = input_of_step_one(alloc, &plan, &road)?;
+    Ok(cars_after(alloc, &input)?)
 }
 
 #[test]
@@ -346,7 +360,7 @@ fn lets_in_by_the_words_of_each_inlet(rt: HostRuntime) -> Result<(), Fail> {
         (&[(20, 0), (5, 0), (10, 0), (0, 65_536)], &[car(19, 1, 1)]),
     ];
     for (inlets, want) in table {
-        let cars = after_step_one(rt.alloc(), &Parts { inlets, ..STEADY }, &[])?;
+        let cars = after_step_one(rt.alloc(), &Parts { inlets, ..STEADY }, None)?;
         assert!(rt; cars.as_slice() == want, "{inlets:?}");
     }
     Ok(())
@@ -362,7 +376,7 @@ fn slows_by_the_word_of_the_car(rt: HostRuntime) -> Result<(), Fail> {
         (&[(5, 65_536)], car(16, 10, 3)),
     ];
     for (zones, want) in table {
-        let cars = after_step_one(rt.alloc(), &Parts { zones, ..STEADY }, &[car(16, 7, 3)])?;
+        let cars = after_step_one(rt.alloc(), &Parts { zones, ..STEADY }, Some(car(16, 7, 3)))?;
         assert!(rt; cars.as_slice() == [want].as_slice(), "{zones:?}");
     }
     Ok(())

@@ -1,10 +1,10 @@
 //! A crew that fails in one event.
 
-use crate::worlds::{Answer, BLOCK, answers, shows};
+use crate::worlds::{Answer, BLOCK, all_show, answers};
 use road_ends::{Meter, StepInput};
 use road_replica::{ReplicaFault, Reply};
 use road_workers::{Crew, CrewFault};
-use road_world::{Event, WorldFault, play};
+use road_world::{Event, Played, WorldFault, play};
 use std::alloc::Global;
 use std::sync::Arc;
 use std::test::Fail;
@@ -49,16 +49,25 @@ const ANSWERED: [Answer; 4] = [
     Ok(Reply::Horizon(6)),
 ];
 
+// The world of two replicas after the events, by a crew that fails once.
+fn played(alloc: Global, crew: &mut Failing) -> Result<Played, Fail> {
+    let plan = Arc::new(alloc, plan_of(alloc, &FREE)?)?;
+    Ok(play(alloc, plan, 2, &EVENTS, crew, &mut Meter::new())?)
+}
+
 #[test]
 fn lost_workers_cost_one_event(rt: HostRuntime) -> Result<(), Fail> {
-    let plan = Arc::new(rt.alloc(), plan_of(rt.alloc(), &FREE)?)?;
     let mut crew = Failing {
         calls_left: 8,
         gone: 0,
     };
-    let played = play(rt.alloc(), plan, 2, &EVENTS, &mut crew, &mut Meter::new())?;
+    let played = played(rt.alloc(), &mut crew)?;
     answers(&rt, &played, &ANSWERED);
     assert_eq!(&rt; crew.gone, 1);
-    shows(&rt, rt.alloc(), &played.world, 0, &[(6, "0..2...2....")])?;
-    shows(&rt, rt.alloc(), &played.world, 1, &[(6, "0..2...2....")])
+    all_show(
+        &rt,
+        rt.alloc(),
+        &played.world,
+        &[(0, &[(6, "0..2...2....")]), (1, &[(6, "0..2...2....")])],
+    )
 }

@@ -5,8 +5,9 @@ use crate::worlds::{A1, A2, Answer, B3, BLOCK, LIMIT, answers, played};
 use road_ends::Meter;
 use road_replica::{ReplicaFault, Reply};
 use road_workers::Alone;
-use road_world::{Event, World, WorldFault};
+use road_world::{Event, Played, World, WorldFault};
 use std::alloc::Global;
+use std::process::Abort;
 use std::sync::Arc;
 use std::test::Fail;
 use tests_plans::{FREE, plan_of};
@@ -51,30 +52,38 @@ const EXCHANGED: [Answer; 9] = [
     Ok(Reply::Touched(Some(4))),
 ];
 
-// What the events are answered where one of them did not happen: that one is given want of memory.
+// What a world answers the events where one of them does not happen: that one is given want of memory.
+fn replies_of(alloc: Global, world: &mut World, left_out: usize) -> Result<Vec<Answer>, Fail> {
+    let mut replies = Vec::new(alloc);
+    for (place, event) in EXCHANGE.iter().enumerate() {
+        let reply = if place == left_out {
+            WANT
+        } else {
+            world.apply(alloc, event, &mut Alone, &mut Meter::new())
+        };
+        replies.push(reply)?;
+    }
+    Ok(replies)
+}
+
+// What a new world does.
 fn replies_without(alloc: Global, left_out: usize) -> Result<Vec<Answer>, Fail> {
     let plan = Arc::new(alloc, plan_of(alloc, &FREE)?)?;
     let mut world = World::open(alloc, plan, 3)?;
-    let mut replies = Vec::new(alloc);
-    for (place, event) in EXCHANGE.iter().enumerate() {
-        if place == left_out {
-            replies.push(WANT)?;
-        } else {
-            replies.push(world.apply(alloc, event, &mut Alone, &mut Meter::new()))?;
-        }
+    replies_of(alloc, &mut world, left_out)
+}
+
+// That the others are answered as if an event that found no memory had not been.
+fn others_are_answered(rt: &impl Abort, alloc: Global, played: &Played) -> Result<(), Fail> {
+    match played.replies.iter().position(|reply| *reply == WANT) {
+        None => answers(rt, played, &EXCHANGED),
+        Some(place) => answers(rt, played, &replies_without(alloc, place)?),
     }
-    Ok(replies)
+    Ok(())
 }
 
 #[test]
 fn the_others_answer_as_if_it_had_not_been(rt: HostRuntime) -> Result<(), Fail> {
     let played = played(rt.alloc(), &EXCHANGE)?;
-    match played.replies.iter().position(|reply| *reply == WANT) {
-        None => answers(&rt, &played, &EXCHANGED),
-        Some(place) => {
-            let expected = replies_without(rt.alloc(), place)?;
-            answers(&rt, &played, &expected);
-        }
-    }
-    Ok(())
+    others_are_answered(&rt, rt.alloc(), &played)
 }

@@ -1,6 +1,8 @@
 //! Worked lists of events.
 
-use crate::worlds::{A1, A2, A3, Answer, B2, B3, BLOCK, LIMIT, answers, holds, played, shows};
+use crate::worlds::{
+    A1, A2, A3, Answer, B2, B3, BLOCK, LIMIT, all_hold, all_show, answers, holds, played, shows,
+};
 use road_delta::Head;
 use road_replica::Reply;
 use road_scenario::{Edit, Value};
@@ -30,9 +32,16 @@ const TURNS_ANSWERED: [Answer; 6] = [
 fn refused_events_are_skipped(rt: HostRuntime) -> Result<(), Fail> {
     let played = played(rt.alloc(), &TURNS)?;
     answers(&rt, &played, &TURNS_ANSWERED);
-    shows(&rt, rt.alloc(), &played.world, 0, &[(6, "0..2...2....")])?;
-    shows(&rt, rt.alloc(), &played.world, 1, &[(3, ".1...2......")])?;
-    shows(&rt, rt.alloc(), &played.world, 2, &[(0, "............")])
+    all_show(
+        &rt,
+        rt.alloc(),
+        &played.world,
+        &[
+            (0, &[(6, "0..2...2....")]),
+            (1, &[(3, ".1...2......")]),
+            (2, &[(0, "............")]),
+        ],
+    )
 }
 
 const WITHDRAWN: [Event; 5] = [
@@ -207,12 +216,13 @@ fn a_replica_is_sent_what_it_lacks(rt: HostRuntime) -> Result<(), Fail> {
     let played = played(rt.alloc(), &ASKED)?;
     answers(&rt, &played, &ASKED_ANSWERED);
     asks(&rt, &played.world, 1, &HEADS);
-    holds(
+    all_hold(
         &rt,
         rt.alloc(),
         &played.world,
-        1,
-        &[CLOSED, CLOSED_LATER, BLOCKED],
-    )?;
-    holds(&rt, rt.alloc(), &played.world, 2, &[CLOSED_LATER, BLOCKED])
+        &[
+            (1, &[CLOSED, CLOSED_LATER, BLOCKED]),
+            (2, &[CLOSED_LATER, BLOCKED]),
+        ],
+    )
 }

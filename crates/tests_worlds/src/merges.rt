@@ -2,8 +2,9 @@
 
 use crate::worlds::{B1, BLOCK, C1, LIMIT, holds, played, shows};
 use road_scenario::{Edit, Value};
-use road_world::Event;
+use road_world::{Event, World};
 use std::alloc::Global;
+use std::process::Abort;
 use std::test::Fail;
 
 /// Every order of three messages, twice.
@@ -66,19 +67,30 @@ fn take(events: &mut Vec<Event>, at: u32, order: &[u64]) -> Result<(), Fail> {
     Ok(())
 }
 
+// The events of three replicas that take the messages in these orders.
+fn exchanged(alloc: Global, first: usize) -> Result<Vec<Event>, Fail> {
+    let mut events = apart(alloc)?;
+    for at in 0..3 {
+        let order = &ORDERS[(first % 6 + at) % 6];
+        take(&mut events, at as u32, order)?;
+    }
+    Ok(events)
+}
+
+// That all replicas of a world hold the same edits and show the same rows.
+fn agree(rt: &impl Abort, alloc: Global, world: &World) -> Result<(), Fail> {
+    for number in 0..3 {
+        holds(rt, alloc, world, number, &AGREED)?;
+        shows(rt, alloc, world, number, &ROWS)?;
+    }
+    Ok(())
+}
+
 #[test]
 fn replicas_agree_in_every_order(rt: HostRuntime) -> Result<(), Fail> {
     for first in 0..6 {
-        let mut events = apart(rt.alloc())?;
-        for at in 0..3 {
-            let order = &ORDERS[(first + at) % 6];
-            take(&mut events, at as u32, order)?;
-        }
-        let played = played(rt.alloc(), &events)?;
-        for number in 0..3 {
-            holds(&rt, rt.alloc(), &played.world, number, &AGREED)?;
-            shows(&rt, rt.alloc(), &played.world, number, &ROWS)?;
-        }
+        let events = exchanged(rt.alloc(), first)?;
+        agree(&rt, rt.alloc(), &played(rt.alloc(), &events)?.world)?;
     }
     Ok(())
 }

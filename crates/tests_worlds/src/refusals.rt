@@ -1,6 +1,6 @@
 //! Refused events: each leaves the world as it was.
 
-use crate::worlds::{Answer, BLOCK, LIMIT, answers, holds, played, shows};
+use crate::worlds::{Answer, BLOCK, LIMIT, all_hold, answers, holds, played, shows};
 use road_plan::Object;
 use road_replica::{ReplicaFault, Reply};
 use road_scenario::{Edit, Stamp, Value};
@@ -168,8 +168,11 @@ fn imports_come_in_any_order_and_all_or_none(rt: HostRuntime) -> Result<(), Fail
     let events = imports(rt.alloc())?;
     let played = played(rt.alloc(), &events)?;
     answers(&rt, &played, &IMPORTS_ANSWERED);
-    holds(&rt, rt.alloc(), &played.world, 0, &[THREE])?;
-    holds(&rt, rt.alloc(), &played.world, 1, &[THREE])?;
-    holds(&rt, rt.alloc(), &played.world, 2, &[])?;
-    shows(&rt, rt.alloc(), &played.world, 2, &[(0, "............")])
+    shows(&rt, rt.alloc(), &played.world, 2, &[(0, "............")])?;
+    all_hold(
+        &rt,
+        rt.alloc(),
+        &played.world,
+        &[(0, &[THREE]), (1, &[THREE]), (2, &[])],
+    )
 }

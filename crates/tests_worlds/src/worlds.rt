@@ -98,3 +98,32 @@ pub(crate) fn holds(
     assert!(rt; replica.scenario().edits(alloc)?.as_slice() == edits);
     Ok(())
 }
+
+/// Steps, and the rows that a replica shows there.
+pub(crate) type Rows<'a> = &'a [(u32, &'a str)];
+
+/// That replicas of a world show these rows.
+pub(crate) fn all_show(
+    rt: &impl Abort,
+    alloc: Global,
+    world: &World,
+    shown: &[(u32, Rows<'_>)],
+) -> Result<(), Fail> {
+    for (number, rows) in shown {
+        shows(rt, alloc, world, *number, rows)?;
+    }
+    Ok(())
+}
+
+/// That the edits that won at replicas of a world are these.
+pub(crate) fn all_hold(
+    rt: &impl Abort,
+    alloc: Global,
+    world: &World,
+    held: &[(u32, &[Edit])],
+) -> Result<(), Fail> {
+    for (number, edits) in held {
+        holds(rt, alloc, world, *number, edits)?;
+    }
+    Ok(())
+}
