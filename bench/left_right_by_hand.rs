@@ -1,7 +1,7 @@
 //! Looks of one reader beside an idle writer and beside one that publishes, in plain Rust, with nothing proved and nothing of
 //! this repository: what the figures of `bench/sessions` are to be held against on a machine.
 //!
-//!     rustc -O bench/left_right_by_hand.rs -o /tmp/left_right_by_hand && /tmp/left_right_by_hand
+//!     mkdir -p out && rustc -O bench/left_right_by_hand.rs -o out/left_right_by_hand && out/left_right_by_hand
 //!
 //! A look is one of three: it loads a word that the writer stores, the least that any look at what is published can do; it
 //! reads a number by left-right, with an epoch and two copies; or it takes a counted pointer by left-right, as a look of a
