@@ -4,7 +4,6 @@ use Rattle.std.specs.Prelude.{nat_lt, cond}
 use Rattle.std.specs.List.{position, position_or_len}
 use Rattle.std.proofs.lemmas.Bool.{ltb-true, ltb-false, eqb-true}
 use Rattle.road_format.specs.Cut.{newline, Pieces, pieces_with_byte_in_line, pieces_with_byte, pieces_of}
-use Rattle.road_format.proofs.CutLines.{joined_pieces, pieces_of-append}
 
 -- no newline is in it
 abbrev pub IsLine : List ℕ → Type 0
@@ -38,10 +37,6 @@ ended_at x (line ∷ lines, rest) false e = rw e refl
 pub cut-newline : (a : List ℕ) → pieces_of (a ++ newline ∷ []) ≡ ((pieces_of a).0 ++ (pieces_of a).1 ∷ [], [])
 cut-newline [] = refl
 cut-newline (x ∷ a) = ap (pieces_with_byte x) (cut-newline a) ∙ ended_at x (pieces_of a) (x == newline) refl
-
--- bytes behind the last newline
-pub cut-clear : (a b : List ℕ) → (pieces_of a).1 ≡ [] → pieces_of (a ++ b) ≡ ((pieces_of a).0 ++ (pieces_of b).0, (pieces_of b).1)
-cut-clear a b clear = pieces_of-append a b ∙ ap (λ (r : List ℕ). joined_pieces (pieces_of a) (pieces_of (r ++ b))) clear
 
 -- ---- where the first line of bytes ends
 

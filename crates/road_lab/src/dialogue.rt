@@ -24,7 +24,7 @@ use road_laboratory::{Laboratory, LaboratoryFault};
 use road_plan::OutOfMemory;
 use road_plan::limits::LONGEST_LINE;
 use road_workers::Crew;
-use std::alloc::{AllocError, Global};
+use std::alloc::Global;
 
 // What a line says as the first one.
 fn first_line(
@@ -43,7 +43,7 @@ fn first_line(
         Ok(line) => Ok(Ok(line)),
         Err(fault) => match fault.refusal() {
             Some(refusal) => Ok(Err(refusal)),
-            None => Err(AllocError),
+            None => Err(OutOfMemory),
         },
     }
 }
@@ -63,7 +63,7 @@ fn later_line(
         Ok(command) => Ok(Ok(command)),
         Err(fault) => match fault.refusal() {
             Some(refusal) => Ok(Err(refusal)),
-            None => Err(AllocError),
+            None => Err(OutOfMemory),
         },
     }
 }

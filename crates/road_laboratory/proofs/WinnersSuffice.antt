@@ -31,7 +31,7 @@ use Rattle.road_format.specs.Replies as replies
 use Rattle.road_format.specs.Replies.{Answer, Delta, Sent}
 use Rattle.road_format.specs.declared.refusal.Refusal.{Refusal}
 use Rattle.road_format.specs.declared.refusal.Refusal.TheVariants as refusals
-use Rattle.road_laboratory.specs.Laboratory.{Laboratory, Outcome, answer_to, cars_answer, cars_of_state, cells_answer, change_outcome, count_answer, counted, diagram_answer, edits_held, import_outcome, laboratory_after, laboratory_of_winners, name_refusal, number_of, outcome, outcome_at, replica_name, scenario_answer, message_outcome, question_outcome, question_answer, outcome_unless, outcome_by_number, world_refusal}
+use Rattle.road_laboratory.specs.Laboratory.{Laboratory, Outcome, answer_to, cars_answer, cars_of_state, cells_answer, change_outcome, count_answer, diagram_answer, edits_held, import_outcome, laboratory_after, laboratory_of_winners, name_refusal, number_of, outcome, outcome_at, replica_name, scenario_answer, totals_answer, message_outcome, question_outcome, question_answer, outcome_unless, outcome_by_number, world_refusal}
 
 -- ---- outcomes, as far as winners go
 
@@ -50,10 +50,6 @@ laboratory_with names messages w = record { replica_names = names; message_names
 -- an outcome by its
 abbrev outcome_with : Answer → List (List ℕ) → List (List ℕ) → World → Outcome
 outcome_with answer names messages w = record { answer = answer; after = laboratory_with names messages w }
-
--- a laboratory of winners is that of its own
-pub laboratory-again : (lab : Laboratory) → laboratory_of_winners (laboratory_of_winners lab) ≡ laboratory_of_winners lab
-laboratory-again lab = ap (laboratory_with lab.replica_names lab.message_names) (world-again lab.world)
 
 -- outcomes are alike that have the same answer, the same names, and worlds of the same winners
 alike : (a b : Answer) (names messages : List (List ℕ)) (v w : World) → a ≡ b → world_of_winners v ≡ world_of_winners w → Alike (outcome_with a names messages v) (outcome_with b names messages w)
@@ -140,7 +136,7 @@ cars_alike s step =
 
 count_alike : (s : Sheet) (detector from to : ℕ) → count_answer (sheet_of_winners s) detector from to ≡ count_answer s detector from to
 count_alike s detector from to =
-    ap (λ (c : Course). question_answer (totals_fault s detector from to) (counted (total s.plan c detector from to))) (same_course s)
+    ap (λ (c : Course). question_answer (totals_fault s detector from to) (totals_answer (total s.plan c detector from to))) (same_course s)
 
 diagram_alike : (s : Sheet) (from to : ℕ) → diagram_answer (sheet_of_winners s) from to ≡ diagram_answer s from to
 unfolding row_at

@@ -200,13 +200,13 @@ abbrev pub cars_answer : Sheet → ℕ → Answer
 cars_answer sheet step = question_answer (state_fault sheet step) (replies.Cars (cars_of_state (state_of sheet step)))
 
 -- cars and the sum of their speeds, as an answer
-abbrev pub counted : Totals → Answer
-counted totals = Counted totals.cars totals.speeds
+abbrev pub totals_answer : Totals → Answer
+totals_answer totals = Counted totals.cars totals.speeds
 
 -- what a detector counts in the steps from one up to another
 abbrev pub count_answer : Sheet → ℕ → ℕ → ℕ → Answer
 count_answer sheet detector from to =
-    question_answer (totals_fault sheet detector from to) (counted (total_of sheet detector from to))
+    question_answer (totals_fault sheet detector from to) (totals_answer (total_of sheet detector from to))
 
 -- the rows of the steps from one to another, both of them
 abbrev pub diagram_answer : Sheet → ℕ → ℕ → Answer

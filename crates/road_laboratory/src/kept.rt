@@ -24,7 +24,7 @@ impl KeptRun {
     ghost use Rattle.road_laboratory.specs.Keeping.{IsKeptOf};
 
     // Of a run of which nothing is computed yet: the empty road of step 0. It takes no memory.
-    pub fn opening(alloc: Global, plan: &Arc<Plan>) -> KeptRun
+    pub(crate) fn opening(alloc: Global, plan: &Arc<Plan>) -> KeptRun
         ensures { (sheet : Sheet) → sheet.plan ≡ arc_value plan.now → IsKeptOf sheet result }
     {
         KeptRun {
@@ -34,7 +34,7 @@ impl KeptRun {
     }
 
     // Other edits are in force: the state is given up. The words are the plan's still, since no edit changes them.
-    pub fn restart(&mut self, alloc: Global)
+    pub(crate) fn restart(&mut self, alloc: Global)
         ensures { (before after : Sheet) → before.plan ≡ after.plan →
             IsKeptOf before self.old → IsKeptOf after self.new }
     {

@@ -11,7 +11,7 @@ use road_replica::{ReplicaFault, Reply};
 use road_world::{Event, WorldFault};
 
 // The name of a command's replica.
-pub fn name_of(command: &Command) -> &str
+pub(crate) fn name_of(command: &Command) -> &str
     ensures { result.now ≡ laboratory.replica_name (command_view command.now) }
 {
     match command {
@@ -32,7 +32,7 @@ pub fn name_of(command: &Command) -> &str
 }
 
 // Whether an event leaves the edits of its replica as they were.
-pub fn keeps_edits(event: &Event) -> bool
+pub(crate) fn keeps_edits(event: &Event) -> bool
     ensures { result ≡ changes.keeps_edits event.now }
 {
     match event {
@@ -48,7 +48,7 @@ pub fn keeps_edits(event: &Event) -> bool
 }
 
 // What a change is answered, by the world's reply.
-pub fn answer_of(reply: Reply) -> Answer
+pub(crate) fn answer_of(reply: Reply) -> Answer
     ensures { answer_view result ≡ changes.reply_answer reply }
 {
     match reply {
@@ -60,7 +60,7 @@ pub fn answer_of(reply: Reply) -> Answer
 }
 
 // How a refusal of the world is answered; none where there is no named cause.
-pub fn refusal_of(fault: WorldFault) -> Option<Refusal>
+pub(crate) fn refusal_of(fault: WorldFault) -> Option<Refusal>
     ensures { result ≡ laboratory.world_refusal fault }
 {
     match fault {
@@ -91,7 +91,7 @@ fn replica_refusal(fault: ReplicaFault) -> Option<Refusal>
 }
 
 // The fault of the laboratory, where the world refuses an event for no named cause.
-pub fn fault_by(fault: WorldFault) -> LaboratoryFault
+pub(crate) fn fault_by(fault: WorldFault) -> LaboratoryFault
     ensures { result ≡ changes.fault_by fault }
 {
     match fault {

@@ -25,7 +25,7 @@ use std::alloc::Global;
 const MOST_COUNTED_STEPS: u32 = 3 * BLOCK_STEPS;
 
 // What a question is answered. What is kept becomes the state that was computed last for it, and the words drawn.
-pub fn answer(
+pub(crate) fn answer(
     alloc: Global,
     sheet: &Sheet,
     kept: &mut KeptRun,

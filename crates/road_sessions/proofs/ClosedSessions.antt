@@ -4,7 +4,7 @@ use Rattle.std.specs.Prelude.{nat_eq, if◌then◌else◌}
 use native.Mathlib.Decide.{ℕ_discrete}
 use Rattle.road_sessions.specs.declared.entry.Entry.{Entry}
 use Rattle.road_sessions.specs.Journals.{AreOf, Each, Rise, Stand, Write, writes_from, writes_of}
-use Rattle.road_sessions.specs.Closings.{AreApart, Brings, IsJust, IsTold, made_by}
+use Rattle.road_sessions.specs.Closings.{AreApart, Brings, IsJust, IsTold, write_count}
 use Rattle.road_sessions.specs.Seats.{Seat}
 
 -- ---- one session: it has no fewer entries in the journal than writes that stand there
@@ -115,25 +115,25 @@ few_entries place (e ∷ es) ss apart = let rest = few_entries (place + 1) es ss
 
 -- ---- both together
 
-many_entries : (journal : List Entry) (ss : List Seat) → Each (Brings journal) ss → made_by ss ≤ entries_of 0 journal ss
+many_entries : (journal : List Entry) (ss : List Seat) → Each (Brings journal) ss → write_count ss ≤ entries_of 0 journal ss
 many_entries journal [] bring = omega arith
 many_entries journal (s ∷ ss) bring =
     let rest = many_entries journal ss bring.1 in
     let first = (covers s.number 0 journal s.view.own bring.0.0 bring.0.1 (from_zero journal s.view.own bring.0.2)).0 in omega arith
 
-all_told : (journal : List Entry) (ss : List Seat) → Each (Brings journal) ss → entries_of 0 journal ss ≤ made_by ss → Each (IsTold journal) ss
+all_told : (journal : List Entry) (ss : List Seat) → Each (Brings journal) ss → entries_of 0 journal ss ≤ write_count ss → Each (IsTold journal) ss
 all_told journal [] bring few = tt
 all_told journal (s ∷ ss) bring few =
     let many = many_entries journal ss bring.1 in
     let c = covers s.number 0 journal s.view.own bring.0.0 bring.0.1 (from_zero journal s.view.own bring.0.2) in
     let first = c.0 in
     let short : length (writes_of s.number journal) ≤ length s.view.own = omega arith in
-    let others : entries_of 0 journal ss ≤ made_by ss = omega arith in
+    let others : entries_of 0 journal ss ≤ write_count ss = omega arith in
     ((c.1 short, bring.0.3), all_told journal ss bring.1 others)
 
-pub just : (journal : List Entry) (ss : List Seat) → AreApart ss → Each (Brings journal) ss → length journal ≡ made_by ss → IsJust journal ss
+pub just : (journal : List Entry) (ss : List Seat) → AreApart ss → Each (Brings journal) ss → length journal ≡ write_count ss → IsJust journal ss
 just journal ss apart bring count = let few = few_entries 0 journal ss apart in (count, all_told journal ss bring (omega arith))
 
-pub made_by_one_more : (ss : List Seat) (s : Seat) → made_by (ss ++ s ∷ []) ≡ made_by ss + length s.view.own
-made_by_one_more [] s = omega arith
-made_by_one_more (t ∷ ss) s = let rest = made_by_one_more ss s in omega arith
+pub write_count_one_more : (ss : List Seat) (s : Seat) → write_count (ss ++ s ∷ []) ≡ write_count ss + length s.view.own
+write_count_one_more [] s = omega arith
+write_count_one_more (t ∷ ss) s = let rest = write_count_one_more ss s in omega arith

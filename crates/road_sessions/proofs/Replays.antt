@@ -1,6 +1,5 @@
--- Journals with one entry more: the replica that they leave, its plan, and that they stay legal.
+-- Journals with one entry more: the plan of the replica that they leave, and that they stay legal.
 use Rattle.std.proofs.Common.{◌≡◌, ◌∙◌, List, [], ◌∷◌, ◌++◌, refl, sym, subst}
-use Rattle.std.proofs.lemmas.List.Sums.{fold-append}
 use Rattle.road_plan.specs.Plan.{Plan}
 use Rattle.road_sheet.specs.Commands as commands
 use Rattle.road_sheet.specs.Commands.{IsAllowed, IsHistoryFrom, sheet_after}
@@ -8,9 +7,6 @@ use Rattle.road_sheet.specs.Sheets.{Sheet}
 use Rattle.road_replica.specs.Replicas.{Replica, replica_after}
 use Rattle.road_sessions.specs.declared.entry.Entry.{Entry}
 use Rattle.road_sessions.specs.Journals.{IsLegal, command_of, replay, with_sheets}
-
-pub replay_more : (r : Replica) (journal : List Entry) (e : Entry) → replay r (journal ++ e ∷ []) ≡ replica_after (command_of e.command) (replay r journal)
-replay_more r journal e = fold-append (λ (q : Replica) (e : Entry). replica_after (command_of e.command) q) r journal (e ∷ [])
 
 -- no command changes the plan
 plan_after : (command : commands.Command) (s : Sheet) → (sheet_after command s).plan ≡ s.plan

@@ -7,12 +7,11 @@ use Rattle.road_replica.specs.declared.reply.Reply.{Reply}
 use Rattle.road_sessions.specs.declared.entry.Entry.{Entry}
 use Rattle.road_sessions.specs.declared.view.View.{View}
 use Rattle.road_sessions.specs.declared.wish.Wish.{Wish}
-use Rattle.road_sessions.specs.Closings.{Brings}
 use Rattle.road_sessions.specs.Journals.{AreOf, Each, IsLegal, Rise, Stand, Write, entry, replay}
 use Rattle.road_sessions.specs.Looks.{HasEntered}
 use Rattle.road_sessions.specs.Private.Stores.{EntersAfterWrite, EntersToLook, last_from}
 use Rattle.road_sessions.specs.Seats.{AreFresh, IsSeat, IsWrite, Seat, newcomer, seat}
-use Rattle.road_sessions.specs.Writes.{reply_to, wished}
+use Rattle.road_sessions.specs.Writes.{reply_to, wish_command}
 use Rattle.road_sessions.proofs.Beginnings.{each_of_both, got_last, stand_later}
 
 -- ---- a write
@@ -30,7 +29,7 @@ own_more own front after e place is at =
     ap (λ (w : List Write). own ++ w) last
 
 pub is_write : (r : Replica) (session : ℕ) (wish : Wish) (seen front after : List Entry) (v w : View) (place : ℕ) (reply : Reply) → IsPrefix seen front
-    → after ≡ front ++ entry session (wished wish (replay r front)) ∷ [] → IsLegal r after → place ≡ length front → reply ≡ reply_to wish (replay r front) → EntersAfterWrite v after w
+    → after ≡ front ++ entry session (wish_command wish (replay r front)) ∷ [] → IsLegal r after → place ≡ length front → reply ≡ reply_to wish (replay r front) → EntersAfterWrite v after w
     → IsWrite r wish (seat session seen v) place reply (seat session after w)
 is_write r session wish seen front after v w place reply before is legal at answer enters = record {
   front = front;
@@ -41,7 +40,7 @@ is_write r session wish seen front after v w place reply before is legal at answ
   reply_is = answer;
   found = ap (λ (u : View). u.found) enters.1;
   later = subst (λ (u : View). IsPrefix v.found u.found) (sym enters.1) enters.0;
-  own = ap (λ (u : View). u.own) enters.1 ∙ own_more v.own front after (entry session (wished wish (replay r front))) place is at;
+  own = ap (λ (u : View). u.own) enters.1 ∙ own_more v.own front after (entry session (wish_command wish (replay r front))) place is at;
   number = refl;
   entered = ap (λ (u : View). u.entered) enters.1;
 }
@@ -58,7 +57,7 @@ rise_more (w ∷ ws) place e rise low =
 -- after an accepted write a session meets what every session meets
 pub seat_after_write : (r : Replica) (wish : Wish) (s t : Seat) (place : ℕ) (reply : Reply) → IsWrite r wish s place reply t → IsSeat r s → IsSeat r t
 seat_after_write r wish s t place reply w is =
-    let e = entry s.number (wished wish (replay r w.front)) in
+    let e = entry s.number (wish_command wish (replay r w.front)) in
     let stood : Stand s.view.own w.front = stand_later s.view.own s.seen w.front w.before is.standing in
     let stands : Stand s.view.own t.seen = stand_later s.view.own w.front t.seen (e ∷ [], sym w.seen) stood in
     let low : Each (λ (u : Write). u.0 < place) s.view.own = subst (λ (n : ℕ). Each (λ (u : Write). u.0 < n) s.view.own) (sym w.place_is) (all_before s.view.own w.front stood) in
@@ -74,7 +73,7 @@ seat_after_write r wish s t place reply w is =
 
 pub one_more_write : (r : Replica) (wish : Wish) (s t : Seat) (place : ℕ) (reply : Reply) → IsWrite r wish s place reply t → length t.view.own ≡ length s.view.own + 1
 one_more_write r wish s t place reply w =
-    ap (λ (o : List Write). length o) w.own ∙ (let n = length-append s.view.own ((place, entry s.number (wished wish (replay r w.front))) ∷ []) in omega arith)
+    ap (λ (o : List Write). length o) w.own ∙ (let n = length-append s.view.own ((place, entry s.number (wish_command wish (replay r w.front))) ∷ []) in omega arith)
 
 -- ---- a look, and what was told
 
@@ -101,7 +100,7 @@ has_entered r session seen after published v w grows legal enters is =
       number = refl;
     }
 
--- ---- opening and closing
+-- ---- opening
 
 fresh_from : (n : ℕ) (ss : List Seat) → AreFresh n ss → AreFresh n (ss ++ seat (n + length ss) [] newcomer ∷ [])
 fresh_from n [] fresh = (ap (λ (k : ℕ). seat k [] newcomer) (omega arith), tt)
@@ -113,7 +112,3 @@ pub fresh_more : (ss : List Seat) (n : ℕ) (s : Seat) → AreFresh 0 ss → len
 fresh_more ss n s fresh at is =
     let next : 0 + length ss ≡ n = omega arith in
     subst (λ (t : Seat). AreFresh 0 (ss ++ t ∷ [])) (ap (λ (k : ℕ). seat k [] newcomer) next ∙ sym is) (fresh_from 0 ss fresh)
-
--- what a session brings to the closing
-pub brings : (r : Replica) (journal : List Entry) (s : Seat) → IsSeat r s → IsPrefix s.seen journal → Brings journal s
-brings r journal s is begins = (is.rising, is.own, stand_later s.view.own s.seen journal begins is.standing, begins)

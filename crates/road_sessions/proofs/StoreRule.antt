@@ -25,9 +25,6 @@ admits_newcomer published views rule seat v at = ⊎_elim (rule seat v)
     (λ (new : newcomer ≡ v). subst (λ (u : View). IsPrefix u.found published) new (published, refl))
     (at_snoc views newcomer v seat at)
 
-pub opens : (published : List Entry) → FoundBegins published (newcomer ∷ [])
-opens published = admits_newcomer published [] (λ seat v at. absurd (cc (at)))
-
 pub may_look : (seat : ℕ) (v : View) → Turns FoundBegins seat v (λ published. published) (λ v before after w. EntersToLook v after w)
 may_look seat v published views rule at =
     let w = view_of published v.own (v.entered + 1) in

@@ -17,9 +17,9 @@ abbrev pub AreAll : ℕ → List Seat → Type 0
 AreAll count ss = (length ss ≡ count) × AreApart ss
 
 -- how many writes they made together
-abbrev pub made_by : List Seat → ℕ
-made_by [] = 0
-made_by (s ∷ ss) = length s.view.own + made_by ss
+abbrev pub write_count : List Seat → ℕ
+write_count [] = 0
+write_count (s ∷ ss) = length s.view.own + write_count ss
 
 -- the journal's entries of a session's number are that session's writes, each once, at their places and in order, and
 -- what the session has seen begins the journal
@@ -28,7 +28,7 @@ IsTold journal s = (writes_of s.number journal ≡ s.view.own) × IsPrefix s.see
 
 -- the journal is just what these sessions wrote
 abbrev pub IsJust : List Entry → List Seat → Type 0
-IsJust journal ss = (length journal ≡ made_by ss) × Each (IsTold journal) ss
+IsJust journal ss = (length journal ≡ write_count ss) × Each (IsTold journal) ss
 
 -- what is known of a session whose history begins the journal: its writes stand there, at rising places
 abbrev pub Brings : List Entry → Seat → Type 0

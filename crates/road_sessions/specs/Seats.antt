@@ -7,7 +7,7 @@ use Rattle.road_sessions.specs.declared.entry.Entry.{Entry}
 use Rattle.road_sessions.specs.declared.view.View.{View}
 use Rattle.road_sessions.specs.declared.wish.Wish.{Wish}
 use Rattle.road_sessions.specs.Journals.{IsLegal, Write, Stand, AreOf, Rise, entry, replay}
-use Rattle.road_sessions.specs.Writes.{wished, reply_to}
+use Rattle.road_sessions.specs.Writes.{wish_command, reply_to}
 
 -- what the store knows of a reader: the history that was published when it last entered, its own writes, and how often
 -- it has entered to look
@@ -46,12 +46,12 @@ AreFresh n (s ∷ ss) = (s ≡ seat n [] newcomer) × AreFresh (n + 1) ss
 pub record IsWrite (r : Replica) (wish : Wish) (s : Seat) (place : ℕ) (reply : Reply) (t : Seat) : Type 0 where
   pub front : List Entry
   pub before : IsPrefix s.seen front
-  pub seen : t.seen ≡ front ++ entry s.number (wished wish (replay r front)) ∷ []
+  pub seen : t.seen ≡ front ++ entry s.number (wish_command wish (replay r front)) ∷ []
   pub legal : IsLegal r t.seen
   pub place_is : place ≡ length front
   pub reply_is : reply ≡ reply_to wish (replay r front)
   pub found : t.view.found ≡ t.seen
   pub later : IsPrefix s.view.found t.view.found
-  pub own : t.view.own ≡ s.view.own ++ (place, entry s.number (wished wish (replay r front))) ∷ []
+  pub own : t.view.own ≡ s.view.own ++ (place, entry s.number (wish_command wish (replay r front))) ∷ []
   pub number : t.number ≡ s.number
   pub entered : t.view.entered ≡ s.view.entered

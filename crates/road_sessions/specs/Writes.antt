@@ -22,11 +22,11 @@ use Rattle.road_sessions.specs.declared.faults.WriteFault.TheVariants.{JournalFu
 use Rattle.road_sessions.specs.Journals.{command_of, replay}
 
 -- the command that a wish comes to at a replica: an edit that the replica makes is journalled as the taking of it
-abbrev pub wished : Wish → Replica → Command
-wished (Take edits) r = commands.Take edits.now
-wished (Advance to) r = commands.Advance to
-wished (Edit object step value) r = commands.Take (single_edit (edit_made r object step (Put value)))
-wished (Withdraw object step) r = commands.Take (single_edit (edit_made r object step Withdrawn))
+abbrev pub wish_command : Wish → Replica → Command
+wish_command (Take edits) r = commands.Take edits.now
+wish_command (Advance to) r = commands.Advance to
+wish_command (Edit object step value) r = commands.Take (single_edit (edit_made r object step (Put value)))
+wish_command (Withdraw object step) r = commands.Take (single_edit (edit_made r object step Withdrawn))
 
 -- the answer to it: the touched step, the horizon, or the fresh stamp
 abbrev pub reply_to : Wish → Replica → Reply
@@ -37,7 +37,7 @@ reply_to (Withdraw object step) r = Stamped (edit_made r object step Withdrawn).
 
 -- what was wished is done: it came to this command, was answered so, and left this replica
 pub record IsMade (wish : Wish) (r : Replica) (command : Command) (reply : Reply) (after : Replica) : Type 0 where
-  pub command_is : command ≡ wished wish r
+  pub command_is : command ≡ wish_command wish r
   pub allowed : IsAllowed r.sheet.plan (command_of command)
   pub reply_is : reply ≡ reply_to wish r
   pub after_is : after ≡ replica_after (command_of command) r

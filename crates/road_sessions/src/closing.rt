@@ -1,7 +1,7 @@
 //! The closing of a store.
 ghost use Rattle.std.specs.Prelude.{◌≡◌, ◌≢◌, ◌+◌, IfErr, IfOk, IsTrue, MatchBool, MatchResult, length};
 ghost use Rattle.std.specs.Arc.{arc_value};
-ghost use Rattle.road_sessions.specs.Closings.{AreAll, AreApart, Brings, IsCloseRefusal, IsJust, made_by};
+ghost use Rattle.road_sessions.specs.Closings.{AreAll, AreApart, Brings, IsCloseRefusal, IsJust, write_count};
 ghost use Rattle.road_sessions.specs.Journals.{Each, replay};
 
 use crate::book::Beginning;
@@ -125,10 +125,10 @@ fn all_bring<J: Naming>(sessions: &[Session<J>], history: &Beginning<J>) -> bool
 }
 
 // Their shares of the ledger, beside this one.
-#[tactic(auto, using(crate::proofs::ClosedSessions::made_by_one_more))]
+#[tactic(auto, using(crate::proofs::ClosedSessions::write_count_one_more))]
 fn shares<J: Naming>(mut sessions: Vec<Session<J>>, mut all: Share<J>) -> Share<J>
     ensures { (result.parts ≡ all.parts + length sessions.items)
-        × (result.amount ≡ all.amount + made_by sessions.items) }
+        × (result.amount ≡ all.amount + write_count sessions.items) }
 {
     match sessions.pop() {
         None => all,

@@ -5,12 +5,12 @@ ghost use Rattle.left_right.specs.Sides.{view};
 ghost use Rattle.road_sheet.specs.Commands.{IsAllowed};
 ghost use Rattle.road_replica.specs.Refusals as refusals;
 ghost use Rattle.road_replica.specs.Replicas.{replica_after};
-ghost use Rattle.road_replica.specs.declared.faults.ReplicaFault.TheVariants.{OutOfMemory};
+ghost use Rattle.road_replica.specs.declared.faults.ReplicaFault.TheVariants as replica_faults;
 ghost use Rattle.road_sessions.specs.declared.entry.TheConstants.{MOST_WRITES};
 ghost use Rattle.road_sessions.specs.Journals.{command_of, entry, replay};
 ghost use Rattle.road_sessions.specs.Seats.{AreFresh, IsWrite, seat};
-ghost use Rattle.road_sessions.specs.Writes.{IsMade, IsWriteRefusal, gone_after_fault, reply_to, wish_fault, wished};
-ghost use Rattle.road_sessions.specs.Writes.{write_fault};
+ghost use Rattle.road_sessions.specs.Writes.{IsMade, IsWriteRefusal, gone_after_fault, reply_to, wish_fault};
+ghost use Rattle.road_sessions.specs.Writes.{wish_command, write_fault};
 
 use crate::book::{Beginning, Length};
 use crate::entry::Entry;
@@ -24,10 +24,11 @@ use crate::wish::Wish;
 use core::mem::replace_with;
 use left_right::Absorb;
 use road_ends::Meter;
+use road_plan::OutOfMemory;
 use road_replica::{Replica, ReplicaFault, Reply};
 use road_sheet::Sheet;
 use road_workers::Crew;
-use std::alloc::{AllocError, Global};
+use std::alloc::Global;
 use std::sync::ledger::{Book, Share};
 use std::sync::{Arc, Wait};
 
@@ -85,6 +86,39 @@ impl<J: Naming, R: Wait + Drop> Drop for Held<J, R> {
     }
 }
 
+// What is published of the replica that an entry more leaves. The entry stands at the end of the journal then; where
+// that is refused, the journal is as it was.
+fn noted<J: Naming>(
+    replica: &Replica,
+    history: &Beginning<J>,
+    length_word: &Length<J>,
+    journal: &mut Vec<Entry>,
+    entry: Entry,
+) -> Result<Published<J>, ReplicaFault>
+    requires same { history.now ≡ journal.old.items }
+    requires room { length journal.old.items < MOST_WRITES }
+    requires allowed { IsAllowed J.replica.sheet.plan (command_of entry.command) }
+    requires after { replica.now ≡ replica_after (command_of entry.command) (replay J.replica journal.old.items) }
+    ensures history { IfOk result (λ next. next ≡ journal.old.items ++ entry ∷ []) }
+    ensures journal { OnOk result (journal.new.items ≡ journal.old.items ++ entry ∷ []) }
+    ensures unchanged { OnErr result (journal.new.items ≡ journal.old.items) }
+    ensures refused { IfErr result (λ fault. fault ≡ replica_faults.OutOfMemory) }
+{
+    let sheet = Arc::try_clone(replica.sheet())?;
+    let place = journal.len();
+    let Ok(()) = journal.push(entry) else {
+        return Err(ReplicaFault::OutOfMemory);
+    };
+    let mut longer = history.again();
+    // Nobody else writes to the history while the lock is held, so it is no longer than what is published. No contract
+    // says so, and the refusal stands here.
+    if !longer.append(length_word, &journal[place]) {
+        journal.pop();
+        return Err(ReplicaFault::OutOfMemory);
+    }
+    Ok(Published::new(sheet, longer))
+}
+
 impl<J: Naming, R: Wait + Drop> Held<J, R> {
     // With an empty journal; the opening sheet is published.
     pub(crate) fn new(
@@ -124,12 +158,12 @@ impl<J: Naming, R: Wait + Drop> Held<J, R> {
     }
 
     // The writer's queue gets its memory, so that no write has to wait for it. What it is given is published already.
-    pub(crate) fn warm(&mut self, published: Published<J>) -> Result<(), AllocError>
+    pub(crate) fn warm(&mut self, published: Published<J>) -> Result<(), OutOfMemory>
         ensures { self.new.journal ≡ self.old.journal }
     {
         match self.writer.append(published) {
             Ok(()) => Ok(()),
-            Err(_refused) => Err(AllocError),
+            Err(_refused) => Err(OutOfMemory),
         }
     }
 
@@ -151,7 +185,7 @@ impl<J: Naming, R: Wait + Drop> Held<J, R> {
     ) -> Result<(u64, Reply), WriteFault>
         requires { 0 < mine.old.parts }
         ensures journal { OnOk result (self.new.journal.items ≡ self.old.journal.items
-            ++ entry session (wished wish.now (replay J.replica self.old.journal.items)) ∷ []) }
+            ++ entry session (wish_command wish.now (replay J.replica self.old.journal.items)) ∷ []) }
         ensures reply { IfOk result (λ wrote. (wrote.0 ≡ length self.old.journal.items)
             × (wrote.1 ≡ reply_to wish.now (replay J.replica self.old.journal.items))) }
         ensures accepted { IfOk result
@@ -216,26 +250,20 @@ impl<J: Naming, R: Wait + Drop> Held<J, R> {
             × (self.new.replica ≡ self.old.replica)
             × (self.new.writer.desk.shown.value ≡ self.old.writer.desk.shown.value)) }
         ensures limit { self.new.limit ≡ self.old.limit }
-        ensures refused { IfErr result (λ fault. fault ≡ OutOfMemory) }
+        ensures refused { IfErr result (λ fault. fault ≡ replica_faults.OutOfMemory) }
         ensures share { (mine.new.parts ≡ mine.old.parts) × MatchResult result
             (λ _. mine.new.amount ≡ mine.old.amount + 1) (λ _. mine.new.amount ≡ mine.old.amount) }
     {
-        let sheet = Arc::try_clone(replica.sheet())?;
-        let place = self.journal.len();
-        let Ok(()) = self.journal.push(entry) else {
-            return Err(ReplicaFault::OutOfMemory);
-        };
-        let mut history = self.history.again();
-        // Nobody else writes to the history while the lock is held, so it is no longer than what is published. No
-        // contract says so, and the refusal stands here.
-        if !history.append(&self.length_word, &self.journal[place]) {
-            self.journal.pop();
-            return Err(ReplicaFault::OutOfMemory);
-        }
-        let next = Published::new(sheet, history.again());
+        let Held {
+            length_word,
+            history,
+            journal,
+            ..
+        } = self;
+        let next = noted(&replica, history, length_word, journal, entry)?;
+        self.history = next.history().again();
         let Held { rt, writer, .. } = self;
         replace_with(writer, (), |writer, ()| (publish(rt, writer, next), ()));
-        self.history = history;
         self.replica = replica;
         self.accepted.add(mine, 1);
         Ok(())
@@ -292,6 +320,21 @@ impl<J: Naming, R: Wait + Drop> Held<J, R> {
             };
         }
         Ok(seats)
+    }
+
+    // The sessions of a store that was just opened, once the writer's queue has its memory.
+    pub(crate) fn seated(
+        &mut self,
+        published: Published<J>,
+        whole: Share<J>,
+    ) -> Result<Vec<Session<J>>, OpenFault>
+        requires empty { self.old.journal.items ≡ [] }
+        requires whole { (whole.parts ≡ J.parts) × (whole.amount ≡ 0) }
+        ensures seats { IfOk result (λ seats. (length seats.items ≡ J.parts) × AreFresh 0 seats.items) }
+        ensures journal { self.new.journal ≡ self.old.journal }
+    {
+        self.warm(published)?;
+        self.seats(whole)
     }
 
     // The sheet and the journal, without the store.

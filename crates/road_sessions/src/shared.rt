@@ -3,10 +3,10 @@ ghost use Rattle.std.specs.Prelude.{◌≡◌, ◌<◌, ◌≤◌, [], IfOk, len
 ghost use Rattle.std.specs.Arc.{arc_value};
 ghost use Rattle.road_plan.specs.declared.limits.TheConstants.{MOST_REPLICAS, MOST_SESSIONS};
 ghost use Rattle.road_sessions.specs.declared.entry.TheConstants.{MOST_WRITES};
-ghost use Rattle.road_sessions.specs.Journals.{opening_replica};
+ghost use Rattle.road_sessions.specs.Journals.{opening_replica, replay};
 ghost use Rattle.road_sessions.specs.Seats.{AreFresh};
 
-use crate::book::EmptyBook;
+use crate::book::{Beginning, EmptyBook};
 use crate::faults::OpenFault;
 use crate::held::Held;
 use crate::naming::Naming;
@@ -16,6 +16,7 @@ use left_right::Absorb;
 use left_right::writer::Writer;
 use road_plan::Plan;
 use road_replica::Replica;
+use road_sheet::Sheet;
 use std::alloc::Global;
 use std::sync::ledger::Blank;
 use std::sync::{Arc, Mutex, Wait};
@@ -130,13 +131,7 @@ pub fn opened<J: Naming, R: Wait + Drop>(
         ledger,
     } = prepared;
     let (length_word, history) = book.of_store::<J>();
-    let sheet = Arc::try_clone(replica.sheet())?;
-    let published = Published::new(sheet, history.again());
-    let first = published.again()?;
-    let second = published.again()?;
-    let Ok(writer) = new_store(alloc, first, second, sessions) else {
-        return Err(OpenFault::OutOfMemory);
-    };
+    let (writer, published) = store_of(alloc, replica.sheet(), &history, sessions)?;
     let (accepted, mut whole) = ledger.open::<J>();
     let spare = whole.empty();
     let mut held = Held::new(
@@ -151,9 +146,27 @@ pub fn opened<J: Naming, R: Wait + Drop>(
         accepted,
         spare,
     );
-    held.warm(published)?;
-    let seats = held.seats(whole)?;
+    let seats = held.seated(published, whole)?;
     Ok((held, seats))
+}
+
+// A store with room for so many readers, which shows a sheet and the history that leaves it; and the two once more.
+fn store_of<J: Naming>(
+    alloc: Global,
+    sheet: &Arc<Sheet>,
+    history: &Beginning<J>,
+    readers: u32,
+) -> Result<(StoreWriter<J>, Published<J>), OpenFault>
+    requires left { arc_value sheet.now ≡ (replay J.replica history.now).sheet }
+    requires readers { (0 < readers) × (readers ≤ MOST_SESSIONS) }
+    ensures { IfOk result (λ made. made.0.desk.shown.value ≡ history.now) }
+{
+    let sheet = Arc::try_clone(sheet)?;
+    let published = Published::new(sheet, history.again());
+    let first = published.again()?;
+    let second = published.again()?;
+    let writer = new_store(alloc, first, second, readers)?;
+    Ok((writer, published))
 }
 
 // A store with room for so many readers, which shows one of these; both are the same.

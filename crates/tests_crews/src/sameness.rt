@@ -83,14 +83,14 @@ const KINDS: [(bool, bool); 4] = [(false, false), (false, true), (true, false), 
 // Whether the input of step 3 with both cars is the same as another one, and that one as it.
 fn are_same(
     alloc: Global,
-    (ours, theirs): (bool, bool),
+    kinds: (bool, bool),
     step: u32,
     cars: &[Car],
 ) -> Result<(bool, bool), Fail>
     requires { AreRising cars.now }
 {
-    let input = input_with(alloc, 3, BOTH, ours)?;
-    let other = input_with(alloc, step, cars, theirs)?;
+    let input = input_with(alloc, 3, BOTH, kinds.0)?;
+    let other = input_with(alloc, step, cars, kinds.1)?;
     Ok((input.same(&other), other.same(&input)))
 }
 

@@ -2,7 +2,7 @@
 use Rattle.std.proofs.Common.{◌≡◌, ◌∙◌, List, [], ◌∷◌, ◌++◌, ap, arith, length, length-append, subst, sym}
 use Rattle.road_sessions.specs.Journals.{IsLegal}
 use Rattle.road_sessions.specs.declared.entry.Entry.{Entry}
-use Rattle.road_sessions.proofs.Appending.{may_append}
+use Rattle.road_sessions.proofs.AppendedEntries.{may_append}
 use Rattle.road_sessions.proofs.Replays.{legal_more}
 use Rattle.road_sessions.proofs.book.Beginning.append.Goals as goal
 
