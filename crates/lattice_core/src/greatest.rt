@@ -1,3 +1,5 @@
+//! The lattice of the greatest value that came.
+
 ghost use Rattle.std.specs.Prelude.{◌≡◌, IfOk, IsOk};
 ghost use Rattle.lattice_core.specs.Greatest.{greater_of};
 
