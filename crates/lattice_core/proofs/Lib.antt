@@ -1,3 +1,4 @@
+-- Lemmas on maps to a lattice, on sets and on their greatest elements.
 pub mod MapLoops
 pub mod MapJoins
 pub mod MapOrder

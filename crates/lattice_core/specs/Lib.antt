@@ -1,3 +1,4 @@
+-- Lattices, their maps, and sets with their greatest elements, in reading order.
 pub mod Exact
 pub mod Lattice
 pub mod Greatest

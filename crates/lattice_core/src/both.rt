@@ -1,3 +1,5 @@
+//! Pairs of lattices, joined part by part.
+
 use crate::OutOfMemory;
 use crate::lattice::Lattice;
 

@@ -1,3 +1,5 @@
+//! The lattice of the greatest value that came.
+
 ghost use Rattle.std.specs.Prelude.{◌≡◌, IfOk, IsOk};
 ghost use Rattle.lattice_core.specs.Greatest.{greater_of};
 
@@ -25,7 +27,11 @@ impl<T: Exact> Lattice for Greatest<T> {
 
     ghost laws = { greatest_laws T.cmp T.total T.exact };
 
-    /// The greater of the two, or the one that there is. It takes no memory, and answers no error.
+    /// The greater of the two, or the one that there is. It takes no memory.
+    ///
+    /// # Errors
+    ///
+    /// None.
     fn joined(&self, other: &Self) -> Result<Self, OutOfMemory>
         ensures made { IfOk result (λ joined. joined ≡ greatest_join T.cmp self.now other.now) }
         ensures grows_nothing { IsOk result }
@@ -37,7 +43,11 @@ impl<T: Exact> Lattice for Greatest<T> {
         })
     }
 
-    /// The same. It takes no memory, and answers no error.
+    /// The same value. It takes no memory.
+    ///
+    /// # Errors
+    ///
+    /// None.
     fn copied(&self) -> Result<Self, OutOfMemory>
         ensures made { IfOk result (λ copy. copy ≡ self.now) }
         ensures grows_nothing { IsOk result }

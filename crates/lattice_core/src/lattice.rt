@@ -1,3 +1,5 @@
+//! What a join semilattice gives and keeps.
+
 ghost use Rattle.std.specs.Prelude.{◌≡◌, ◌↔◌, Bool, IfOk, IsTrue};
 ghost use Rattle.lattice_core.specs.Lattice.{LatticeLaws};
 

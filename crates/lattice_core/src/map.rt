@@ -1,3 +1,5 @@
+//! Maps to a lattice, joined key by key.
+
 ghost use Rattle.std.specs.Prelude.{◌≡◌, ◌↔◌, [], IfOk, IfSome, IsOk, IsTrue, T};
 ghost use Rattle.std.specs.Option.{option_copied};
 ghost use Rattle.std.specs.FinMap.Entries.{find, is_sorted, put};
@@ -157,6 +159,10 @@ impl<K: Exact, V: Lattice> Lattice for LatMap<K, V> {
     ghost laws = { map_laws K.cmp K.total K.exact V.is_proper V.join V.is_least V.laws };
 
     /// The join key by key. It takes no memory where neither map has an entry.
+    ///
+    /// # Errors
+    ///
+    /// `OutOfMemory` where a growth was refused. Both maps are then as before.
     fn joined(&self, other: &Self) -> Result<Self, OutOfMemory>
         ensures made { IfOk result (λ joined. joined ≡ map_join K.cmp V.join V.is_least self.now other.now) }
         ensures grows_nothing { self.now ≡ [] → other.now ≡ [] → IsOk result }
@@ -172,6 +178,10 @@ impl<K: Exact, V: Lattice> Lattice for LatMap<K, V> {
     }
 
     /// A copy of each entry. It takes no memory where there is none.
+    ///
+    /// # Errors
+    ///
+    /// `OutOfMemory` where a growth was refused.
     fn copied(&self) -> Result<Self, OutOfMemory>
         ensures made { IfOk result (λ copy. copy ≡ self.now) }
         ensures grows_nothing { self.now ≡ [] → IsOk result }

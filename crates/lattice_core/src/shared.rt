@@ -1,3 +1,5 @@
+//! Values of a lattice that their copies share.
+
 ghost use Rattle.std.specs.Prelude.{◌≡◌, IfOk};
 
 use crate::OutOfMemory;
@@ -53,11 +55,19 @@ impl<V: Lattice> Lattice for Shared<V> {
     ghost laws = { V.laws };
 
     /// The join of the two values, which no copy shares.
+    ///
+    /// # Errors
+    ///
+    /// `OutOfMemory` where a growth was refused. Both are then as before.
     fn joined(&self, other: &Self) -> Result<Self, OutOfMemory> {
         Shared::of(self.alloc, self.value.joined(&other.value)?)
     }
 
-    /// The same value, shared. It is refused where the value can have no owner more.
+    /// The same value, shared.
+    ///
+    /// # Errors
+    ///
+    /// `OutOfMemory` where the value can have no owner more.
     fn copied(&self) -> Result<Self, OutOfMemory> {
         let value = Arc::try_clone(&self.value)?;
         Ok(Shared {

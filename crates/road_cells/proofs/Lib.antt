@@ -1,3 +1,4 @@
+-- Lemmas on arrays, their cars and the cells in front of them, and worked examples.
 pub mod CellsAhead
 pub mod CarSearch
 pub mod BlockSearch

@@ -1,3 +1,5 @@
+//! Blocked cells: whether a cell is one, and how many are not in front of it.
+
 ghost use Rattle.std.specs.Prelude.{◌≡◌, ℕ, ◌<◌, ◌≤◌, length, slice_index};
 ghost use Rattle.std.specs.List.Sorted.{IsNonDecreasing};
 ghost use Rattle.road_cells.specs.Gap.{is_blocked, ArePartedAt};
@@ -20,7 +22,8 @@ pub fn reached_blocks(blocks: &[u32], cell: u32) -> usize
 }
 
 /// How many of the blocked cells, which rise, are not in front of a cell, where those from the `most`-th on are: a walk
-/// down from there, for callers that go over falling cells. It takes no memory.
+/// down from there, for callers that go over falling cells. `most` is at most the number of blocked cells. It takes no
+/// memory.
 pub fn reached_blocks_below(blocks: &[u32], cell: u32, most: usize) -> usize
     requires rising { IsNonDecreasing blocks.now }
     requires bound { most ≤ length blocks.now }

@@ -1,3 +1,5 @@
+//! Cars, and how fast they are at most.
+
 /// The greatest speed of a car, in cells per step. No car looks further ahead than it could drive at this speed.
 pub const GREATEST_SPEED: u8 = 9;
 

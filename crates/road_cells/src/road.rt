@@ -1,3 +1,5 @@
+//! The road: its cars, and the free cells in front of each.
+
 ghost use Rattle.std.specs.Prelude.{◌≡◌, ℕ, ◌+◌, ◌<◌, ◌≤◌, ◌-◌, min, [], length, map, is_some, IfOk};
 ghost use Rattle.std.specs.List.{range_with_len};
 ghost use Rattle.std.specs.List.Sorted.{IsNonDecreasing};
@@ -86,7 +88,8 @@ impl Road {
         self.cars.partition_point(|car| car.cell < cell)
     }
 
-    /// The cars at the cells from `from` on and before `to`. They are found by two binary searches.
+    /// The cars at the cells from `from` on and before `to`, where `from` is at most `to`. They are found by two binary
+    /// searches.
     pub fn between(&self, from: u32, to: u32) -> &[Car]
         requires { from ≤ to }
         ensures { result.now ≡ cars_from from (map (vehicle_at self.now) (range_with_len from (to - from))) }
@@ -111,9 +114,9 @@ impl Road {
         self.gap_to(place, blocks, reached_blocks(blocks, cell))
     }
 
-    /// The free cells in front of a car, as [`Road::gap`], where it is known how many of the blocked cells are not in
-    /// front of it: the first `reached`. Nothing is searched.
-    pub fn gap_to(&self, place: usize, blocks: &[u32], reached: usize) -> u8
+    // The free cells in front of a car, where it is known how many of the blocked cells are not in front of it: the
+    // first `reached`. Nothing is searched.
+    fn gap_to(&self, place: usize, blocks: &[u32], reached: usize) -> u8
         requires car { place < length (cars_of self.now) }
         requires rising { IsNonDecreasing blocks.now }
         requires parted { ArePartedAt blocks.now (cell_at (cars_of self.now) place) reached }

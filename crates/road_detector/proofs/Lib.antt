@@ -1,3 +1,4 @@
+-- Lemmas on cars that pass a site and on rows of text, and worked examples.
 pub mod CarsPassing
 pub mod MarkedRow
 pub mod CarsPassOneByOne

@@ -1,3 +1,5 @@
+//! What detectors count in a step.
+
 ghost use Rattle.std.specs.Prelude.{◌≡◌, ℕ, ◌<◌, ◌≤◌, ◌+◌, ◌^◌, length, slice_index};
 ghost use Rattle.road_plan.specs.declared.limits.TheConstants.{GREATEST_LENGTH};
 ghost use Rattle.road_cells.specs.Cars.{cars_before, cars_of};
@@ -6,7 +8,7 @@ ghost use Rattle.road_detector.specs.Passes.{totals_of, drives, passes_at, plus}
 use road_cells::Road;
 use road_ends::StepInput;
 
-/// Among how many cars a site is looked for before it is searched.
+// Among how many cars a site is looked for before it is searched.
 const NEAR: usize = 16;
 
 /// What a detector has counted.
@@ -19,8 +21,8 @@ pub struct Totals {
 }
 
 impl Totals {
-    /// These totals and those of further steps, in one. No sum of a run overflows up to step 65,536
-    /// ([`crate::laws::totals_are_bounded`]). It takes no memory.
+    /// These totals and those of further steps, in one. Both sums must be below 2^32, as those of a run are up to step
+    /// 65,536 ([`crate::laws::totals_are_bounded`]). It takes no memory.
     pub fn plus(self, later: Totals) -> Totals
         requires cars { self.cars + later.cars < 2 ^ 32 }
         requires speeds { self.speeds + later.speeds < 2 ^ 32 }
@@ -36,9 +38,9 @@ impl Totals {
 /// What a detector counts in a step: the cars that stand before its site and come to it or past it, those that are then
 /// deleted too, and the sum of their new speeds. Nothing where the detector is off.
 ///
-/// `speeds` has one speed for each car, in the order of the cars, and may be any speeds. The cars before the site are
-/// found by one search; only those from which the greatest of the speeds can reach it are looked at. It takes no
-/// memory.
+/// The plan must have the detector. `speeds` has one speed for each car, in the order of the cars, and may be any
+/// speeds. The cars before the site are found by one search; only those from which the greatest of the speeds can reach
+/// it are looked at. It takes no memory.
 pub fn passes(input: &StepInput, speeds: &[u8], detector: u32) -> Totals
     requires one_each { length speeds.now ≡ length (cars_of input.now.road) }
     requires in_plan { detector < length input.now.plan.detectors }
@@ -67,10 +69,10 @@ pub struct Passed {
     pub before: usize,
 }
 
-/// What a detector counts in a step, as [`passes`], where it is known that no speed is above `greatest`, in cells per
-/// step: only the cars from which such a speed can reach the site are looked at. About as many cars as `near` stand
-/// before the site: where it is a few less, as after a detector that is a little before this one, nothing is searched.
-/// It takes no memory.
+/// What a detector of the plan counts in a step, as [`passes`], where it is known that no speed is above `greatest`, in
+/// cells per step: only the cars from which such a speed can reach the site are looked at. `speeds` has one speed for
+/// each car. About as many cars as `near` stand before the site: where it is a few less, as after a detector that is a
+/// little before this one, nothing is searched. It takes no memory.
 pub fn passes_from(
     input: &StepInput,
     speeds: &[u8],

@@ -1,3 +1,5 @@
+//! The road as a row of text.
+
 ghost use Rattle.std.specs.Prelude.{◌≡◌, ◌<◌, ℕ, length, slice_index, IfOk};
 ghost use Rattle.std.specs.String.{string_bytes};
 ghost use Rattle.road_cells.specs.Cars.{AreRising, cars_of, vehicle_among};
@@ -12,8 +14,8 @@ use road_ends::{BLOCKED, EMPTY, STANDING};
 use std::alloc::Global;
 
 /// The road as a row of text, with one letter for each of its `length` cells: a car's speed as a digit, else `#` where
-/// the cell is blocked, else `.`. A speed above 9 would have no digit. Blocked cells and cars at or past `length` are
-/// not drawn.
+/// the cell is blocked, else `.`. No speed may be above 9, which would have no digit. Blocked cells and cars at or past
+/// `length` are not drawn.
 ///
 /// It goes over the blocked cells once, in whatever order they are, and over the cars once, in one growth.
 ///

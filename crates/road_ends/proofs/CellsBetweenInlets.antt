@@ -36,7 +36,7 @@ nobody_enters p s t a c none = ap (option_or (vehicle_at a c)) (ap (admitted_car
     nobody (Some v) = refl
 
 -- numbers, one part after another
-range_with_len-append : (a m n : ℕ) → range_with_len a (m + n) ≡ range_with_len a m ++ range_with_len (a + m) n
+pub range_with_len-append : (a m n : ℕ) → range_with_len a (m + n) ≡ range_with_len a m ++ range_with_len (a + m) n
 range_with_len-append a zero n = let all : 0 + n ≡ n = omega arith in let here : a ≡ a + 0 = omega arith in ap (range_with_len a) all ∙ ap (λ k. range_with_len k n) here
 range_with_len-append a (suc m) n =
     let all : suc m + n ≡ suc (m + n) = omega arith in

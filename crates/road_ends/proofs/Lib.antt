@@ -1,3 +1,4 @@
+-- Lemmas on steps and runs, and worked examples.
 pub mod NoCollision
 pub mod WhereCarsComeFrom
 pub mod CarNumbers

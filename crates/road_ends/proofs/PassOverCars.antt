@@ -1,5 +1,5 @@
 -- What the pass over the cars computes.
-use Rattle.std.specs.Prelude.{◌≡◌, ℕ, ◌+◌, ◌*◌, ◌/◌, ◌<◌, ◌≤◌, ◌||◌, ◌-◌, min, Bool, true, suc, List, [], length, is_some, slice_index, slice_range}
+use Rattle.std.specs.Prelude.{◌≡◌, ℕ, ◌+◌, ◌*◌, ◌/◌, ◌<◌, ◌≤◌, ◌||◌, ◌-◌, min, List, [], length, is_some, slice_index, slice_range}
 use Rattle.std.proofs.Common.{sym, ap, ◌∙◌, arith, refl, inl, inr}
 use Rattle.std.proofs.lemmas.Bool.{cases_lt}
 use Rattle.std.specs.List.Sorted.{IsNonDecreasing}
@@ -15,7 +15,7 @@ use Rattle.road_cells.specs.Gap.{free_before, free_cells, is_blocked, is_taken, 
 use Rattle.road_cells.proofs.CarLists.{rise-cars_from, vehicle_among-cars_from}
 use Rattle.road_cells.proofs.CarPlaces.{rise-at, vehicle_among-at}
 use Rattle.road_cells.proofs.CellsAhead.{free_to_next, free_to_none, free_to_point, free_to_end}
-use Rattle.road_cells.proofs.FreeCells.{free_before-or, free_before-same}
+use Rattle.road_cells.proofs.FreeCells.{free_before-or, free_before-same, free_before-taken}
 use Rattle.road_cells.specs.declared.car.TheConstants.{GREATEST_SPEED}
 use Rattle.road_cells.specs.declared.car.Car.{Car}
 use Rattle.road_rules.proofs.MotionOfCars.{cell_at-end}
@@ -26,18 +26,13 @@ use Rattle.road_ends.specs.Private.PassPlaces.{IsNthOrNowhere, AreOfZone, wanted
 use Rattle.road_ends.proofs.KeptColumns.{no_halves}
 use Rattle.road_ends.proofs.StepByCars.{gap-free_cells}
 
--- no cell is free where the first one is taken
-first_taken : (test : ℕ → Bool) (c n : ℕ) → test c ≡ true → free_before test c (suc n) ≡ 0
-unfolding free_before
-first_taken test c n taken = rw taken refl
-
 -- a car that is held up has no free cell in front of it
 held_up : (blocks : List ℕ) (a : Array) (k : ℕ) → IsHeldUp (cars_of a) k → free_cells blocks a (cell_at (cars_of a) k) ≡ 0
 held_up blocks a k held =
     let ahead = cell_at (cars_of a) (k + 1) in
     let zero_more : 0 + ahead ≡ ahead = omega arith in
     let stands = sym (vehicle_among-cars_from 0 ahead a) ∙ ap (λ c. vehicle_among c (cars_of a)) zero_more ∙ vehicle_among-at 0 (cars_of a) (k + 1) (record { number = 0; cell = 0; speed = 0 }) (rise-cars_from 0 a) held.0 in
-    first_taken (is_taken blocks a) (cell_at (cars_of a) k + 1) 8
+    free_before-taken (is_taken blocks a) (cell_at (cars_of a) k + 1) 8
     (ap (λ c. is_some (vehicle_at a c) || is_blocked blocks c) (sym held.1) ∙ ap (λ v. is_some v || is_blocked blocks ahead) stands)
 
 -- a car stands before the next one

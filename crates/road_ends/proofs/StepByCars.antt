@@ -1,7 +1,7 @@
--- What the program computes.
+-- The step of an array is that of its cars.
 use Rattle.std.specs.Prelude.{◌≡◌, ℕ, zero, suc, ◌+◌, ◌-◌, ◌*◌, ◌/◌, ◌<◌, ◌≤◌, ◌&&◌, ◌||◌, true, false, cond, List, [], ◌∷◌, ◌++◌, length, map, take, is_some, nat_eq, nat_lt, slice_index, refl}
-use Rattle.std.specs.List.{slice_index_or, range_with_len}
-use Rattle.std.specs.List.Sorted.{IsStrictlyIncreasing, IsNonDecreasing, IsPartitionedBy, IsPartitionPoint}
+use Rattle.std.specs.List.{range_with_len}
+use Rattle.std.specs.List.Sorted.{IsStrictlyIncreasing, IsNonDecreasing, IsPartitionPoint}
 use Rattle.std.specs.Option.{option_map}
 use Rattle.std.specs.declared.option.Option.{Option}
 use Rattle.std.specs.declared.option.Option.TheVariants.{None, Some}
@@ -184,17 +184,6 @@ module _ (f : ℕ → Option Vehicle) (n : ℕ) where
   pub all_left : cars_left 0 ≡ cars_from 0 (map f (range_with_len 0 n))
   unfolding cars_left
   all_left = let all : n - 0 ≡ n = omega arith in ap (λ k. cars_from 0 (map f (range_with_len 0 k))) all
-
--- cars in rising cells are parted by a cell
-pub cars_parted : (cars : List Car) (end : ℕ) → AreRising cars → IsPartitionedBy (λ car. nat_lt car.cell end) cars
-cars_parted cars end rise i j d le below before = elim (cases_lt i j) as (λ _. nat_lt (slice_index_or cars i d).cell end ≡ true) [
-  | inl lt ↦
-      let order = rise-at 0 cars i j rise lt below in
-      let low : cell_at cars i ≡ (slice_index_or cars i d).cell = ap (λ car. car.cell) (get_or_default cars i (car_of 0 (record { number = 0; speed = 0 })) d (omega arith)) in
-      let high : cell_at cars j ≡ (slice_index_or cars j d).cell = ap (λ car. car.cell) (get_or_default cars j (car_of 0 (record { number = 0; speed = 0 })) d below) in
-      grind (arith, nat_tests)
-  | inr ge ↦ let same : i ≡ j = omega arith in ap (λ k. nat_lt (slice_index_or cars k d).cell end) same ∙ before
-]
 
 -- the cars before the deleted zone make the array without those in it
 pub left-take : (p : Plan) (a : Array) (cars : List Car) (n : ℕ) → cars ≡ cars_of a → AreRising cars

@@ -1,3 +1,4 @@
+-- Steps and runs of a plan, in reading order.
 pub mod Entries
 pub mod Speed
 pub mod Run

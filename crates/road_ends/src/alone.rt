@@ -1,3 +1,5 @@
+//! The whole step, computed by one caller.
+
 ghost use Rattle.std.specs.Prelude.{◌≡◌, ◌+◌, min, IfOk, OnOk, OnErr};
 ghost use Rattle.std.specs.Arc.{arc_value};
 ghost use Rattle.road_plan.specs.Settings.{Fits};
@@ -25,8 +27,8 @@ pub struct Stepped {
     pub road: Road,
 }
 
-/// One step of the road, computed by this one caller: entries, speeds, motion, deletion. The meter counts it once it
-/// is computed.
+/// One step of the road, computed by this one caller: entries, speeds, motion, deletion. The settings must fit the
+/// plan. The meter counts the step once it is computed.
 ///
 /// # Errors
 ///
@@ -59,8 +61,8 @@ pub fn step_alone(
     })
 }
 
-/// One step of the road, as [`step_alone`], of a run whose words are drawn for 64 steps at once. The words must be the
-/// plan's. No meter counts it.
+/// One step of the road, as [`step_alone`], of a run whose words are drawn for 64 steps at once. The settings must fit
+/// the plan, and the words must be the plan's. No meter counts it.
 ///
 /// # Errors
 ///

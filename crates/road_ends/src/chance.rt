@@ -1,3 +1,5 @@
+//! The events of chances: whether a car enters, and whether one is slowed.
+
 ghost use Rattle.std.specs.Prelude.{◌≡◌, ◌<◌, ◌/◌, ℕ, IfOk};
 ghost use Rattle.road_plan.specs.declared.limits.TheConstants.{MOST_INLETS};
 ghost use Rattle.road_rules.specs.Speeds.{has_event, slowed};
@@ -35,7 +37,8 @@ pub(crate) fn has_inflow(
     Ok(u32::from(half) < chance)
 }
 
-// Whether the word at a place of a stream has its event under a chance. It is drawn only where the chance leaves that open.
+// Whether the word at a place of a stream has its event under a chance. It is drawn only where the chance leaves that
+// open.
 fn has_event(words: &PlanWords, stream: u64, place: u64, chance: u32) -> bool
     ensures { result ≡ has_event (⟦<PlanWords as Words>⟧.word_of words.now stream place) chance }
 {

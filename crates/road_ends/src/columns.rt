@@ -8,7 +8,8 @@ use crate::OutOfMemory;
 use road_cells::Car;
 use std::alloc::Global;
 
-/// The cars' cells, their speeds, and the upper halves of their words in this step: one each for each car, or none at all.
+// The cars' cells, their speeds, and the upper halves of their words in this step: one each for each car, or none at
+// all.
 #[derive(Drop)]
 pub(crate) struct Columns {
     pub(crate) cells: Vec<u16>,

@@ -1,3 +1,5 @@
+//! The words of a run, drawn for 64 steps at once.
+
 ghost use Rattle.std.specs.Prelude.{◌≡◌, ℕ, [], ◌-◌, ◌<◌, ◌≤◌, ◌/◌, ◌%◌, length, slice_index, IsTrue, IfOk, IfSome};
 ghost use Rattle.road_words.specs.Words.{word};
 ghost use Rattle.road_ends.specs.Entries.{inlet_stream};
@@ -15,7 +17,7 @@ use std::marker::Model;
 use std::mem;
 use std::sync::Arc;
 
-/// The stream of the first inlet's words; the others follow it.
+// The stream of the first inlet's words; the others follow it.
 const FIRST_INLET_STREAM: u64 = 1 << 63;
 
 /// The words of a plan's cars and inlets, drawn for 64 steps at once: for each car that can move, and for each inlet
@@ -67,7 +69,8 @@ impl DrawnWords {
         self.further = mem::replace(&mut self.spare, road.into_cars());
     }
 
-    /// Keeps the memory of a step's road before its motion, as [`DrawnWords::reuse`], where nobody else needs the input.
+    /// Keeps the memory of a step's road before its motion, as [`DrawnWords::reuse`], where nobody else needs the
+    /// input.
     pub fn reuse_input(&mut self, input: Arc<StepInput>)
         ensures { self.new ≡ self.old }
     {
@@ -137,8 +140,8 @@ impl DrawnWords {
         Ok(drawn.half)
     }
 
-    // Writes the upper halves of the words of a road's cars at a step into a column, in one growth and as many rows as are
-    // not drawn yet.
+    // Writes the upper halves of the words of a road's cars at a step into a column, in one growth and as many rows as
+    // are not drawn yet.
     #[inline(never)]
     pub(crate) fn write_halves(
         &mut self,
@@ -155,8 +158,8 @@ impl DrawnWords {
     }
 }
 
-// Writes the upper halves of the words of cars at a step into a column, by their slots. Where a row is not drawn yet it is,
-// and has its slot then.
+// Writes the upper halves of the words of cars at a step into a column, by their slots. Where a row is not drawn yet it
+// is, and has its slot then.
 #[inline(always)]
 fn write_halves(
     rows: &mut WordRows,

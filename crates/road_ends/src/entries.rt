@@ -1,3 +1,5 @@
+//! The cars that enter the road at its inlets in a step.
+
 ghost use Rattle.std.specs.Prelude.{◌≡◌, ℕ, ◌≤◌, ◌<◌, length, nat_eq, None, IfOk};
 ghost use Rattle.std.specs.List.{position};
 ghost use Rattle.std.specs.Option.{option_map, option_or};

@@ -1,3 +1,5 @@
+//! The input of a step, and the speeds of its cars.
+
 ghost use Rattle.std.specs.Prelude.{◌≡◌, ◌≤◌, length, IfOk, IfSome};
 ghost use Rattle.std.specs.Arc.{arc_value};
 ghost use Rattle.std.specs.Box.{box_value};
@@ -117,7 +119,8 @@ impl StepInput {
     }
 }
 
-/// The input of a step: the road with the cars that enter in it, beside the plan, the settings and the step.
+/// The input of a step: the road with the cars that enter in it, beside the plan, the settings and the step. The
+/// settings must fit the plan.
 ///
 /// # Errors
 ///
@@ -147,7 +150,8 @@ pub fn enter(
     Ok(Arc::new(alloc, input)?)
 }
 
-/// The input of a step, as [`enter`], of a run whose words are drawn for 64 steps at once. The words must be the plan's.
+/// The input of a step, as [`enter`], of a run whose words are drawn for 64 steps at once. The settings must fit the
+/// plan, and the words must be the plan's.
 ///
 /// # Errors
 ///

@@ -1,5 +1,5 @@
-//! Laws of every step of a plan, from any road whose cars are on it, and of every run, for every course of settings. The
-//! functions do nothing when they run: each law is its function's contract.
+//! Laws of every step of a plan, from any road whose cars are on it, and of every run, for every course of settings.
+//! The functions do nothing when they run: each law is its function's contract.
 
 ghost use Rattle.road_ends.specs.Laws.{HoldsInEachStep, KeepBelowGreatestSpeed, NeverCollide, ArriveAlone, KeepOrder, StopAtBlocks};
 ghost use Rattle.road_ends.specs.Laws.{HaveOwnNumbers, StayOnRoad, DependOnEarlierSettings};

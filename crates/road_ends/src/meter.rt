@@ -1,3 +1,5 @@
+//! The count of computed steps.
+
 ghost use Rattle.std.specs.Prelude.{◌≡◌, ◌+◌, min};
 
 use std::marker::Model;

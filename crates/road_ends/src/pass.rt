@@ -23,28 +23,29 @@ use road_rules::wanted;
 use road_words::{PlanWords, Words};
 use std::alloc::Global;
 
-/// A cell past all roads, in place of that of a car or a block that is not there.
+// A cell past all roads, in place of that of a car or a block that is not there.
 const NOWHERE: u32 = u32::MAX;
 
-/// What the pass keeps from a car to the next one behind it.
+// What the pass keeps from a car to the next one behind it.
 #[derive(Clone, Copy)]
 struct Cursor {
-    /// The cell of the car in front.
+    // The cell of the car in front.
     next: u32,
-    /// The blocked cell in front.
+    // The blocked cell in front.
     block: Block,
-    /// The zones behind the car in front, as far as they are alike.
+    // The zones behind the car in front, as far as they are alike.
     zone: Zone,
 }
 
-/// The first blocked cell in front of a cell, and how many of them are not in front of it.
+// The first blocked cell in front of a cell, and how many of them are not in front of it.
 #[derive(Clone, Copy)]
 struct Block {
     reached: usize,
     cell: u32,
 }
 
-/// Zones side by side with the same speed limit and slowing chance, from the one where a car stands down: their first cell.
+// Zones side by side with the same speed limit and slowing chance, from the one where a car stands down: their first
+// cell.
 #[derive(Clone, Copy)]
 struct Zone {
     start: u32,
@@ -72,9 +73,9 @@ pub(crate) fn speeds(
 }
 
 // The new speeds of the cars at the places from `first` to before `end`, in the order of the cars. It is one pass over
-// these cars from their far end, in one growth, and from stretch to stretch: the first car of each finds its zone and the
-// next blocked cell, and the cars behind it in the stretch share them, so that nothing is looked up for them.
-// A word is drawn only where no half of it is given and it can change a speed.
+// these cars from their far end, in one growth, and from stretch to stretch: the first car of each finds its zone and
+// the next blocked cell, and the cars behind it in the stretch share them, so that nothing is looked up for them. A
+// word is drawn only where no half of it is given and it can change a speed.
 #[inline(never)]
 pub(crate) fn speeds_between(
     alloc: Global,
@@ -120,8 +121,8 @@ pub(crate) fn speeds_between(
     Ok(new)
 }
 
-// The new speeds of the cars of a stretch at the places `from` to before `to`, in a list whose first car is at the place
-// `first`; the car at `to` is in front of them.
+// The new speeds of the cars of a stretch at the places `from` to before `to`, in a list whose first car is at the
+// place `first`; the car at `to` is in front of them.
 #[inline(always)]
 fn speeds_behind(
     words: &PlanWords,

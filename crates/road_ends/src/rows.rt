@@ -9,19 +9,19 @@ use road_plan::WordKind;
 use road_words::{PlanWords, ROW_WORDS};
 use std::alloc::Global;
 
-/// The steps of a row's words.
+// The steps of a row's words.
 pub(crate) const ROW_STEPS: u32 = ROW_WORDS as u32;
 
-/// A slot of no row.
+// A slot of no row.
 pub(crate) const NO_ROW: u32 = u32::MAX;
 
-/// How many rows are kept at most: one for each cell of the longest road, and one for each car that can enter it in a
-/// row's steps. Where there are more, as after calls for roads that do not follow one another, they are drawn anew.
+// How many rows are kept at most: one for each cell of the longest road, and one for each car that can enter it in a
+// row's steps. Where there are more, as after calls for roads that do not follow one another, they are drawn anew.
 const MOST_ROWS: usize = 66_560;
 
-/// Rows of the words of one kind, all for the same 64 steps: of a stream's words at these steps the upper 16 bits.
-///
-/// The streams lie apart from the rows, so that to find whose a row is touches none of them.
+// Rows of the words of one kind, all for the same 64 steps: of a stream's words at these steps the upper 16 bits.
+//
+// The streams lie apart from the rows, so that to find whose a row is touches none of them.
 #[derive(Drop)]
 pub(crate) struct WordRows {
     pub(crate) kind: WordKind,
@@ -32,7 +32,7 @@ pub(crate) struct WordRows {
     ghost drawn: { AreRows kind first streams.items rows.items },
 }
 
-/// A half of a word, and the slot of its row.
+// A half of a word, and the slot of its row.
 #[derive(Clone, Copy)]
 pub(crate) struct Drawn {
     pub(crate) half: u16,

@@ -1,3 +1,5 @@
+//! The road after a step: motion, then deletion.
+
 ghost use Rattle.std.specs.Prelude.{◌≡◌, IfOk};
 ghost use Rattle.road_rules.specs.Motion.{array_after_motion_at};
 ghost use Rattle.road_ends.specs.Input.{input_next, input_speeds};
@@ -23,7 +25,8 @@ pub fn leave(plan: &Plan, road: Road) -> Road
     Road::of(cars)
 }
 
-/// The road after a step, from its input and the new speeds of its cars: motion, then deletion.
+/// The road after a step, from its input and the new speeds of its cars: motion, then deletion. The speeds must be
+/// those that [`StepInput::speeds`] gives.
 ///
 /// # Errors
 ///
@@ -39,7 +42,8 @@ pub fn finish(alloc: Global, input: &StepInput, speeds: &[u8]) -> Result<Road, O
     Ok(leave(input.plan(), moved))
 }
 
-/// The road after a step, as [`finish`], in memory that these words keep where there is some.
+/// The road after a step, as [`finish`], in memory that these words keep where there is some. The speeds must be those
+/// that [`StepInput::speeds`] gives.
 ///
 /// # Errors
 ///

@@ -1,3 +1,4 @@
+-- Plans, settings and objects, in reading order.
 pub mod Plan
 pub mod Settings
 pub mod Refusals

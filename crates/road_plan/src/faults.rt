@@ -1,3 +1,5 @@
+//! Why plans are refused.
+
 use crate::limits::{
     CERTAIN, GREATEST_EXIT, GREATEST_LENGTH, GREATEST_LIMIT, LEAST_LENGTH, MOST_DETECTORS,
     MOST_INLETS, MOST_ZONES,

@@ -1,6 +1,6 @@
-//! The plan of a road: its length, its zones, inlets and detectors, and where its random words come from. `Plan` is within
-//! the limits of the laboratory (`limits`), `Settings` are all settings of a road at one step, and `Object` is what an
-//! edit sets.
+//! The plan of a road: its length, its zones, inlets and detectors, and where its random words come from. `Plan` is
+//! within the limits of the laboratory (`limits`), `Settings` are all settings of a road at one step, and `Object` is
+//! what an edit sets.
 //!
 //! ```rust
 //! use road_plan::{Object, Plan, PlanParts, Settings, WordKind};

@@ -1,10 +1,13 @@
+//! What edits set: where it exists, what it takes, and what it is by default.
+
 ghost use Rattle.std.specs.Prelude.{◌≡◌, true};
 ghost use Rattle.road_plan.specs.Objects as objects;
 
 use crate::limits::{CERTAIN, GREATEST_LIMIT};
 use crate::plan::Plan;
 
-/// What an edit sets, by the index of its zone, cell, inlet or detector, counted from 0. Objects are ordered by their kinds in the order below, then by their indexes.
+/// What an edit sets, by the index of its zone, cell, inlet or detector, counted from 0. Objects are ordered by their
+/// kinds in the order below, then by their indexes.
 #[derive(Clone, Copy, Debug, PartialEq, Eq, PartialOrd, Ord)]
 pub enum Object {
     /// The speed limit of a zone, in cells per step.
@@ -44,7 +47,8 @@ impl Object {
         }
     }
 
-    /// What it is where nothing is put: the plan's number, no block, and a detector that is on. The plan has the object.
+    /// What it is where nothing is put: the plan's number, no block, and a detector that is on. The plan must have the
+    /// object.
     pub fn default(self, plan: &Plan) -> u32
         requires { objects.in_plan plan.now self ≡ true }
         ensures { result ≡ objects.default plan.now self }

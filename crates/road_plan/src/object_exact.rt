@@ -1,3 +1,5 @@
+//! The order of objects tells them apart.
+
 use crate::object::Object;
 use lattice_core::exact::Exact;
 

@@ -1,3 +1,5 @@
+//! What a plan is made of.
+
 /// Where random words come from.
 #[derive(Clone, Copy, Debug, PartialEq, Eq)]
 pub enum WordKind {

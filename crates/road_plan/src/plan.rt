@@ -1,3 +1,5 @@
+//! Plans within the limits of the laboratory.
+
 ghost use Rattle.std.specs.Prelude.{◌≡◌, IfOk, IfErr, IsOk, Some, None};
 ghost use Rattle.road_plan.specs.Plan.{plan_of, IsWithinLimits};
 ghost use Rattle.road_plan.specs.Settings.{Fits, defaults};

@@ -1,2 +1,3 @@
+-- The four rules, in reading order.
 pub mod Speeds
 pub mod Motion

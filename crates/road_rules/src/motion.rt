@@ -1,3 +1,5 @@
+//! Rule 4, the motion of all cars.
+
 ghost use Rattle.std.specs.Prelude.{◌≡◌, ◌≤◌, [], length, IfOk, IsOk};
 ghost use Rattle.road_rules.specs.Motion.{array_after_motion_at, MayMove, car_after_motion, cars_after_motion};
 ghost use Rattle.road_cells.specs.Cars.{cars_of};
@@ -9,9 +11,8 @@ use std::alloc::Global;
 /// Rule 4 of 1992, motion: all cars advance at once, each by as many cells as its new speed.
 ///
 /// `speeds` has one speed for each car, in the order of [`Road::cars`], each at most 9 and at most the free cells
-/// before
-/// the next car. No cell is above 65,535. Cars past the end of a road are not taken off. It is one pass in one growth,
-/// and none where no car is on the road.
+/// before the next car. No cell is above 65,535. Cars past the end of a road are not taken off. It is one pass in one
+/// growth, and none where no car is on the road.
 ///
 /// # Errors
 ///
@@ -29,7 +30,7 @@ pub fn moved(alloc: Global, road: &Road, speeds: &[u8]) -> Result<Road, OutOfMem
     Ok(moved_in_place(road.copied()?, speeds))
 }
 
-/// Rule 4 as [`moved`], on the list of cars that the road kept. It takes no memory.
+/// Rule 4 as [`moved`], under the same conditions, on the list of cars that the road kept. It takes no memory.
 pub fn moved_in_place(road: Road, speeds: &[u8]) -> Road
     requires low { length road ≤ 65536 }
     requires may { MayMove road speeds.now }

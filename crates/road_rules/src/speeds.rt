@@ -1,3 +1,5 @@
+//! Rules 1 to 3, on the speed of one car.
+
 ghost use Rattle.std.specs.Prelude.{◌≡◌, ◌-◌, ◌<◌, ◌≤◌};
 ghost use Rattle.road_rules.specs.Speeds.{wanted, speed_after_acceleration, speed_after_braking, has_event, slowed};
 

@@ -1,6 +1,7 @@
 -- The numbers from one up to another, parted or one more.
 use Rattle.std.proofs.Common.{◌≡◌, ◌≤◌, ◌+◌, ◌-◌, ◌∙◌, ℕ, zero, suc, List, [], ◌∷◌, ◌++◌, ap, arith}
 use Rattle.std.specs.List.{range_with_len}
+use Rattle.road_ends.proofs.CellsBetweenInlets.{range_with_len-append}
 
 range-suc : (a n : ℕ) → range_with_len a (suc n) ≡ range_with_len a n ++ (a + n) ∷ []
 range-suc a zero = let here : a ≡ a + 0 = omega arith in ap (λ (k : ℕ). k ∷ []) here
@@ -14,15 +15,8 @@ range-to a b before =
     let last : a + (b - a) ≡ b = omega arith in
     ap (range_with_len a) count ∙ range-suc a (b - a) ∙ ap (λ (k : ℕ). range_with_len a (b - a) ++ k ∷ []) last
 
-range_append : (a n m : ℕ) → range_with_len a (n + m) ≡ range_with_len a n ++ range_with_len (a + n) m
-range_append a zero m = let here : a ≡ a + 0 = omega arith in let none : zero + m ≡ m = omega arith in ap (range_with_len a) none ∙ ap (λ (k : ℕ). range_with_len k m) here
-range_append a (suc n) m =
-    let more : suc n + m ≡ suc (n + m) = omega arith in
-    let there : (a + 1) + n ≡ a + suc n = omega arith in
-    ap (range_with_len a) more ∙ ap (λ (ks : List ℕ). a ∷ ks) (range_append (a + 1) n m ∙ ap (λ (k : ℕ). range_with_len (a + 1) n ++ range_with_len k m) there)
-
 pub range-append : (a m b : ℕ) → a ≤ m → m ≤ b → range_with_len a (b - a) ≡ range_with_len a (m - a) ++ range_with_len m (b - m)
 range-append a m b before after =
     let count : b - a ≡ (m - a) + (b - m) = omega arith in
     let there : a + (m - a) ≡ m = omega arith in
-    ap (range_with_len a) count ∙ range_append a (m - a) (b - m) ∙ ap (λ (k : ℕ). range_with_len a (m - a) ++ range_with_len k (b - m)) there
+    ap (range_with_len a) count ∙ range_with_len-append a (m - a) (b - m) ∙ ap (λ (k : ℕ). range_with_len a (m - a) ++ range_with_len k (b - m)) there

@@ -1,3 +1,4 @@
+-- Lemmas on words and their rows, and worked examples.
 pub mod WordSizes
 pub mod RowsOfWords
 mod Examples

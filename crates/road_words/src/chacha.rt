@@ -1,3 +1,5 @@
+//! The words of a seeded ChaCha8 generator.
+
 ghost use Rattle.std.specs.Prelude.{◌≡◌, ◌<◌, ◌+◌, ◌/◌, ℕ, slice_index};
 ghost use Rattle.road_words.specs.Words.{seeded_word};
 

@@ -1,3 +1,5 @@
+//! The words that a plan names, of either kind.
+
 ghost use Rattle.std.specs.Prelude.{◌≡◌, ◌<◌, ◌+◌, ◌/◌, ℕ, slice_index};
 ghost use Rattle.road_words.specs.Words.{word};
 

@@ -1,3 +1,5 @@
+//! Words by a plain formula.
+
 ghost use Rattle.std.specs.Prelude.{◌≡◌, ◌<◌, ◌+◌, ◌/◌, ℕ, slice_index};
 
 use crate::words::{ROW_WORDS, Words};

@@ -1,3 +1,5 @@
+//! Sources of random words.
+
 ghost use Rattle.std.specs.Prelude.{◌≡◌, ℕ};
 
 /// How many words, one after another in a stream, are drawn at once.

@@ -1,1 +1,2 @@
+-- Lemmas on the pieces of workers.
 pub mod PiecesInOrder

@@ -1,3 +1,5 @@
+//! The crew of one.
+
 ghost use Rattle.std.specs.Prelude.{◌≡◌, ◌≢◌, IfOk, Err};
 ghost use Rattle.std.specs.Arc.{arc_value};
 ghost use Rattle.road_ends.specs.Input.{input_speeds};

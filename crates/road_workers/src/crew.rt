@@ -1,3 +1,5 @@
+//! What a crew gives, and how it counts the answers that a worker has gone.
+
 ghost use Rattle.std.specs.Prelude.{◌≡◌, ℕ, IfOk};
 ghost use Rattle.std.specs.Arc.{arc_value};
 ghost use Rattle.road_ends.specs.Input.{input_speeds};
@@ -24,7 +26,7 @@ pub trait Crew {
         ensures gone { gone self.new ≡ gone_after result (gone self.old) };
 }
 
-/// A crew's count of answers `WorkersGone` after one more answer.
+// A crew's count of answers `WorkersGone` after one more answer.
 pub(crate) fn gone_after<T>(answer: &Result<T, CrewFault>, gone: u64) -> u64
     ensures { result ≡ gone_after answer.now gone }
 {

@@ -1,3 +1,5 @@
+//! Why crews give no speeds.
+
 ghost use Rattle.std.specs.Prelude.{◌≡◌};
 ghost use Rattle.road_workers.specs.declared.faults.CrewFault.TheVariants.{OutOfMemory};
 

@@ -1,3 +1,5 @@
+//! Gates, which workers pass before they compute.
+
 /// What each worker passes before it computes its piece, for a program that watches its workers.
 pub trait Gate {
     /// A worker, numbered from 0, is about to compute its piece, which may be empty.

@@ -8,10 +8,10 @@ ghost use Rattle.road_workers.specs.Pieces.{piece_start};
 use road_ends::{OutOfMemory, StepInput};
 use std::alloc::Global;
 
-/// The speeds of a piece, or want of memory.
+// The speeds of a piece, or want of memory.
 pub(crate) type Answer = Result<Vec<u8>, OutOfMemory>;
 
-/// A piece of the list of cars: the places from `first` to before `end`.
+// A piece of the list of cars: the places from `first` to before `end`.
 #[derive(Clone, Copy, Debug, PartialEq, Eq)]
 pub(crate) struct Piece {
     pub first: usize,
@@ -19,7 +19,7 @@ pub(crate) struct Piece {
 }
 
 impl Piece {
-    /// The piece of a worker, numbered from 0, by whole division. It may be empty.
+    // The piece of a worker, numbered from 0, by whole division. It may be empty.
     pub fn of(worker: u32, workers: u32, cars: usize) -> Piece
         requires worker { worker < workers }
         requires workers { workers ≤ MOST_WORKERS }
@@ -38,7 +38,7 @@ impl Piece {
     }
 }
 
-/// How many cars a step has; there are at most as many as cells.
+// How many cars a step has; there are at most as many as cells.
 #[tactic(auto, using(crate::proofs::PiecesInOrder::few_cars))]
 pub(crate) fn cars_in(input: &StepInput) -> usize
     ensures count { result ≡ length (cars_of input.now.road) }
@@ -48,8 +48,8 @@ pub(crate) fn cars_in(input: &StepInput) -> usize
     input.road().cars().len()
 }
 
-/// A list for the speeds of all workers, empty. Those of one worker alone are not put into it but stand for it, so it has
-/// no room then.
+// A list for the speeds of all workers, empty. Those of one worker alone are not put into it but stand for it, so it
+// has no room then.
 pub(crate) fn list_for(alloc: Global, workers: u32, cars: usize) -> Result<Vec<u8>, OutOfMemory>
     ensures { IfOk result (λ whole. whole.items ≡ []) }
 {
@@ -59,7 +59,7 @@ pub(crate) fn list_for(alloc: Global, workers: u32, cars: usize) -> Result<Vec<u
     Vec::with_capacity(alloc, cars)
 }
 
-/// The speeds of a piece behind those of the pieces before it.
+// The speeds of a piece behind those of the pieces before it.
 #[tactic(auto, using(crate::proofs::PiecesInOrder::take_piece))]
 pub(crate) fn appended(whole: Answer, piece: Answer) -> Answer
     ensures { (all : List ℕ) (first end : ℕ) → first ≤ end → IfOk whole (λ front. front.items ≡ take first all)

@@ -30,7 +30,7 @@ use std::sync::{Arc, Wait};
 use std::thread;
 use std::thread::{JoinHandle, Threads};
 
-/// A worker: the end of its channel of jobs, which has room for one, and its thread.
+// A worker: the end of its channel of jobs, which has room for one, and its thread.
 #[derive(Drop)]
 struct Worker {
     jobs: Sender<Job>,
@@ -76,7 +76,7 @@ impl<R: Threads + Wait + Clone + Drop + Send + 'static> Pool<R> {
         Pool::start_gated(rt, alloc, workers, no_gate(alloc)?)
     }
 
-    /// Starts a crew, as [`Pool::start`], each worker of which passes the gate before it computes a piece.
+    /// Starts a crew of 1 to 16 workers, as [`Pool::start`], each of which passes the gate before it computes a piece.
     ///
     /// # Errors
     ///

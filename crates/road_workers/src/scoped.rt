@@ -70,7 +70,7 @@ impl<R: Threads + Wait> Crew for Scoped<R> {
     }
 }
 
-/// That a thread gives the speeds of a piece, where it finds memory.
+// That a thread gives the speeds of a piece, where it finds memory.
 #[derive(Clone, Copy)]
 struct SpeedsOf<'a> {
     input: &'a StepInput,

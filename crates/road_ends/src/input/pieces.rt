@@ -11,8 +11,8 @@ use crate::pass::speeds_between;
 use std::alloc::Global;
 
 impl StepInput {
-    /// The new speeds of the cars at the places from `first` to before `end`, in their order. It is one pass over these
-    /// cars alone, which reads the whole road.
+    /// The new speeds of the cars at the places from `first` to before `end`, in their order, where `first` is at most
+    /// `end`, and `end` at most the number of cars. It is one pass over these cars alone, which reads the whole road.
     ///
     /// # Errors
     ///

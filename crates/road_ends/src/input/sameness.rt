@@ -33,8 +33,8 @@ fn have_same_roads(input: &StepInput, other: &StepInput) -> bool
     }
 }
 
-// Whether two roads have the same cars in the same cells. Columns of all their cars are compared in place of the cars, since
-// the compiler compares many of their numbers at once.
+// Whether two roads have the same cars in the same cells. Columns of all their cars are compared in place of the cars,
+// since the compiler compares many of their numbers at once.
 #[tactic(auto, using(crate::proofs::SameInputs::same_by_columns))]
 fn is_same_by_columns(road: &Road, columns: &Columns, other: &Road, others: &Columns) -> bool
     requires ours { AreColumns road.now columns.now.cells.items columns.now.speeds.items }

@@ -1,6 +1,6 @@
-//! The cars of a stretch: cells of zones that are alike, none of which is blocked but the first, so that one speed limit, one
-//! slowing chance and one blocked cell in front hold for all of them. The loops here go from car to car without a branch, so
-//! that a compiler can take several cars at once.
+//! The cars of a stretch: cells of zones that are alike, none of which is blocked but the first, so that one speed
+//! limit, one slowing chance and one blocked cell in front hold for all of them. The loops here go from car to car
+//! without a branch, so that a compiler can take several cars at once.
 
 ghost use Rattle.std.specs.Prelude.{◌≡◌, ℕ, ◌+◌, ◌-◌, ◌/◌, ◌≤◌, ◌<◌, length, min, slice_index};
 ghost use Rattle.std.specs.List.Sorted.{IsNonDecreasing};
@@ -17,13 +17,14 @@ use road_cells::{Car, GREATEST_SPEED, Road};
 use road_rules::wanted;
 use road_words::{PlanWords, Words};
 
-/// Fewer cars than these are computed one by one.
+// Fewer cars than these are computed one by one.
 const FEW: usize = 8;
 
-/// The greatest number of a column.
+// The greatest number of a column.
 const GREATEST_NARROW: u32 = 65_535;
 
-// The first cell of the stretch where the pass stands: of its zones, and not before a blocked cell that is not in front.
+// The first cell of the stretch where the pass stands: of its zones, and not before a blocked cell that is not in
+// front.
 pub(super) fn first_cell(blocks: &[u32], cursor: Cursor) -> u32
     requires bound { cursor.block.reached ≤ length blocks.now }
     requires rising { IsNonDecreasing blocks.now }
@@ -51,8 +52,8 @@ pub(super) fn first_car(road: &Road, cell: u32, first: usize, end: usize) -> usi
     road.cars_before(cell).max(first).min(end)
 }
 
-// Rules 1 and 2 for the cars at the places `from` to before `to`, in a list whose first car is at the place `first`: by the
-// columns, where there are some.
+// Rules 1 and 2 for the cars at the places `from` to before `to`, in a list whose first car is at the place `first`: by
+// the columns, where there are some.
 pub(super) fn write_wanted(
     cars: &[Car],
     columns: &Columns,

@@ -14,7 +14,7 @@ use crate::pool::job::Done;
 use road_ends::{OutOfMemory, StepInput};
 use std::alloc::Global;
 
-/// One place for each worker, none of which has answered yet.
+// One place for each worker, none of which has answered yet.
 pub(crate) fn places_for(
     alloc: Global,
     workers: u32,
@@ -30,8 +30,8 @@ pub(crate) fn places_for(
     Ok(places)
 }
 
-/// Takes a result where its input is the one asked and its piece is still missing: it drops doubles and strangers.
-/// Whether it took it.
+// Takes a result where its input is the one asked and its piece is still missing: it drops doubles and strangers.
+// Whether it took it.
 pub(crate) fn is_taken(
     places: &mut Vec<Option<Answer>>,
     done: Done,
@@ -77,7 +77,7 @@ fn missing_place(places: &[Option<Answer>], piece: Piece, cars: usize) -> Option
     None
 }
 
-/// The speeds of all workers, one behind the other in the list `whole`. Where one has not answered, it has gone.
+// The speeds of all workers, one behind the other in the list `whole`. Where one has not answered, it has gone.
 pub(crate) fn put_together(
     whole: Vec<u8>,
     places: Vec<Option<Answer>>,

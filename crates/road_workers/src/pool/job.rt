@@ -11,7 +11,7 @@ use road_ends::StepInput;
 use std::alloc::Global;
 use std::sync::Arc;
 
-/// The piece of a step that a worker is to compute.
+// The piece of a step that a worker is to compute.
 #[derive(Drop)]
 pub(crate) struct Job {
     input: Arc<StepInput>,
@@ -20,7 +20,7 @@ pub(crate) struct Job {
     ghost within: { piece.end ≤ length (cars_of (arc_value input).road) },
 }
 
-/// A piece of a step with what a worker answered: its speeds, which are those of the definition, or want of memory.
+// A piece of a step with what a worker answered: its speeds, which are those of the definition, or want of memory.
 #[derive(Drop)]
 pub(crate) struct Done {
     pub input: Arc<StepInput>,
@@ -31,7 +31,7 @@ pub(crate) struct Done {
 }
 
 impl Job {
-    /// The job of a piece.
+    // The job of a piece.
     pub fn new(input: Arc<StepInput>, piece: Piece) -> Job
         requires order { piece.first ≤ piece.end }
         requires within { piece.end ≤ length (cars_of (arc_value input).road) }
@@ -39,7 +39,7 @@ impl Job {
         Job { input, piece }
     }
 
-    /// Computes the piece.
+    // Computes the piece.
     pub fn done(self, alloc: Global) -> Done {
         let Job { input, piece } = self;
         let answer = input.speeds_between(alloc, piece.first, piece.end);

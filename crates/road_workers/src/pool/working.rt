@@ -7,7 +7,8 @@ use crossbeam_channel::{Receiver, SendError, Sender};
 use std::alloc::Global;
 use std::sync::{Arc, Wait};
 
-/// What a worker does until its channel of jobs is closed, or nobody takes results. It looks so often for a job before it sleeps.
+// What a worker does until its channel of jobs is closed, or nobody takes results. It looks so often for a job before
+// it sleeps.
 pub(crate) fn work<R: Wait, G: Gate>(
     rt: &R,
     alloc: Global,

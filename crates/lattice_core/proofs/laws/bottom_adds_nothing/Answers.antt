@@ -1,3 +1,4 @@
+-- A join is the bottom only where both values are.
 use Rattle.std.proofs.Common.{ap, ◌∙◌}
 use Rattle.lattice_core.proofs.laws.bottom_adds_nothing.Goals as goal
 

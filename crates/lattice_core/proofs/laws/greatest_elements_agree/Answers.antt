@@ -1,3 +1,4 @@
+-- The greatest elements of unions agree, for every order that tells values apart.
 use Rattle.lattice_core.proofs.GreatestElements.{tops_laws}
 use Rattle.lattice_core.proofs.laws.greatest_elements_agree.Goals as goal
 

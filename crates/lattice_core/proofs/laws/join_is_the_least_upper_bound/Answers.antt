@@ -1,3 +1,4 @@
+-- A join is above both values, and below each value that is.
 use Rattle.std.proofs.Common.{sym, ap, ◌∙◌}
 use Rattle.lattice_core.proofs.laws.join_is_the_least_upper_bound.Goals as goal
 

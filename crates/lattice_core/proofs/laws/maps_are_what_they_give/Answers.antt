@@ -1,3 +1,4 @@
+-- Maps that give the same are the same, and joins give joins.
 use Rattle.lattice_core.specs.Instances.JoinedMaps.{same_maps, find-map_join}
 use Rattle.lattice_core.proofs.laws.maps_are_what_they_give.Goals as goal
 

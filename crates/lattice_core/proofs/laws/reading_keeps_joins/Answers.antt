@@ -1,3 +1,4 @@
+-- The join of two maps is read as the join of the two.
 use Rattle.lattice_core.proofs.FoldedMaps.{fold-map_join}
 use Rattle.lattice_core.proofs.laws.reading_keeps_joins.Goals as goal
 

@@ -1,3 +1,4 @@
+-- An insertion puts the entry in its place.
 use Rattle.std.proofs.Common.{◌∙◌}
 use Rattle.lattice_core.proofs.MapLoops.{insert_entry-put}
 use Rattle.lattice_core.proofs.map.put_in.Goals as goal

@@ -1,3 +1,4 @@
+-- A binary search finds exactly the blocked cells.
 use Rattle.std.proofs.Common.{◌∙◌}
 use Rattle.road_cells.proofs.BlockSearch.{searched}
 use Rattle.road_cells.proofs.blocks.is_blocked.Goals as goal

@@ -1,3 +1,4 @@
+-- The walk down the blocks, as far as they are in front of the cell.
 use Rattle.std.proofs.Common.{ℕ, ◌<◌, ◌≤◌, length}
 use Rattle.std.specs.Prelude.{slice_index}
 use Rattle.road_cells.proofs.blocks.reached_blocks_below.Given as goal

@@ -1,3 +1,4 @@
+-- The cells up to the next block, or as many as a car looks at.
 use Rattle.std.proofs.Common.{sym, ap, ◌+◌, ◌-◌, ◌∙◌, arith, min}
 use Rattle.road_cells.specs.declared.car.TheConstants.{GREATEST_SPEED}
 use Rattle.road_cells.proofs.CellsAhead.{free_to_point, free_to_end}

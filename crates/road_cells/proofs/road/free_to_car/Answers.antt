@@ -1,3 +1,4 @@
+-- The cells up to the next car, or as many as a car looks at.
 use Rattle.std.proofs.Common.{sym, ap, ◌+◌, ◌-◌, ◌∙◌, arith, min}
 use Rattle.road_cells.specs.Cars.{cell_at}
 use Rattle.road_cells.proofs.CarPlaces.{rise-at}

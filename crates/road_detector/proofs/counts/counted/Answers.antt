@@ -1,3 +1,4 @@
+-- A count from the site backward has the cars that pass, and no sum overflows.
 use Rattle.std.proofs.Common.{◌≡◌, ◌+◌, ◌-◌, ◌<◌, ◌≤◌, ◌∙◌, sym, ap, arith, length, drop, sum}
 use Rattle.std.specs.Prelude.{slice_index}
 use Rattle.road_cells.specs.Cars.{cell_at, cars_before}

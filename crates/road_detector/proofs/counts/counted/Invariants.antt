@@ -1,3 +1,4 @@
+-- The loop that counts cars from the site backward.
 use Rattle.std.proofs.Common.{◌≡◌, ◌+◌, ◌*◌, ◌≤◌, length, drop, sum}
 use Rattle.road_cells.specs.Cars.{cars_before}
 use Rattle.road_detector.specs.Passes.{drives, passing_speeds}

@@ -1,3 +1,4 @@
+-- The loop that looks for the greatest speed.
 use Rattle.std.proofs.Common.{ℕ, ◌<◌, ◌≤◌}
 use Rattle.std.specs.Prelude.{slice_index}
 use Rattle.road_detector.proofs.counts.greatest_speed.Given as goal

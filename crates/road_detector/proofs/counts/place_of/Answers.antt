@@ -1,3 +1,4 @@
+-- The place that is looked for is that of the first car which does not stand before the site.
 use Rattle.std.proofs.Common.{◌≡◌, ◌-◌, ◌<◌, ◌≤◌, ◌∙◌, inl, inr, ℕ, List, ap, arith, length}
 use Rattle.std.proofs.lemmas.Bool.{cases_lt}
 use Rattle.road_cells.specs.Cars.{AreRising, cars_before, cell_at}

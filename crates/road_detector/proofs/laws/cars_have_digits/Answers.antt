@@ -1,3 +1,4 @@
+-- The speeds of a run's cars are digits.
 use Rattle.road_ends.specs.Run.{run}
 use Rattle.road_detector.proofs.MarkedRow.{have_digits}
 use Rattle.road_detector.proofs.laws.cars_have_digits.Goals as goal

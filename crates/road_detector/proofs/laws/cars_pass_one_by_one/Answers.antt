@@ -1,3 +1,4 @@
+-- At most one car passes a site in one step.
 use Rattle.road_detector.proofs.CarsPassOneByOne.{one_by_one}
 use Rattle.road_detector.proofs.laws.cars_pass_one_by_one.Goals as goal
 

@@ -1,3 +1,4 @@
+-- A total has at most one car for each step.
 use Rattle.std.proofs.Common.{◌-◌}
 use Rattle.road_detector.proofs.CarsPassOneByOne.{bounded}
 use Rattle.road_detector.proofs.laws.totals_are_bounded.Goals as goal

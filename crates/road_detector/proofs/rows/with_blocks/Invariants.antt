@@ -1,3 +1,4 @@
+-- The loop that marks blocks.
 use Rattle.std.proofs.Common.{◌≡◌, ℕ, ◌<◌, length, drop}
 use Rattle.std.specs.Prelude.{slice_index}
 use Rattle.road_cells.specs.Gap.{is_blocked}

@@ -1,3 +1,4 @@
+-- The loop that marks cars.
 use Rattle.std.proofs.Common.{◌≡◌, ℕ, ◌<◌, length, drop}
 use Rattle.std.specs.Prelude.{slice_index}
 use Rattle.road_cells.specs.Cars.{vehicle_among}

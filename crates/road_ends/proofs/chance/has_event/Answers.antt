@@ -1,3 +1,4 @@
+-- A certain chance comes whatever the word.
 use Rattle.road_words.proofs.WordSizes.{source_word-small}
 use Rattle.road_words.specs.PlanWords.{source_word}
 use Rattle.road_ends.proofs.ChanceEvents.{certain}

@@ -1,3 +1,4 @@
+-- A certain inflow comes whatever the word.
 use Rattle.road_words.proofs.WordSizes.{word-small}
 use Rattle.road_words.specs.Words.{word}
 use Rattle.road_ends.specs.Entries.{inlet_stream}

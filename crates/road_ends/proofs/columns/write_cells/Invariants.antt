@@ -1,3 +1,4 @@
+-- The loop that writes the cells of cars.
 use Rattle.std.proofs.Common.{◌≡◌, ◌<◌, ℕ, length, slice_index}
 use Rattle.road_cells.specs.Cars.{cell_at}
 use Rattle.road_ends.proofs.columns.write_cells.Given as goal

@@ -1,3 +1,4 @@
+-- The loop that writes the speeds of cars.
 use Rattle.std.proofs.Common.{◌≡◌, ◌<◌, ℕ, length, slice_index}
 use Rattle.road_ends.specs.Speed.{nth_car}
 use Rattle.road_ends.proofs.columns.write_speeds.Given as goal

@@ -1,3 +1,4 @@
+-- The loop that writes the halves of drawn rows.
 use Rattle.std.proofs.Common.{◌≡◌, ◌<◌, ◌≤◌, ℕ, length, slice_index}
 use Rattle.road_ends.specs.Private.StepColumns.{IsHalf}
 use Rattle.road_ends.proofs.drawn.filled.Given as goal

@@ -1,3 +1,4 @@
+-- The loop that writes halves, and draws rows where they are missing.
 use Rattle.std.proofs.Common.{◌≡◌, ◌-◌, ◌%◌, ◌<◌, ◌≤◌, ℕ, length, slice_index}
 use Rattle.road_ends.specs.Private.StepColumns.{IsHalf}
 use Rattle.road_ends.specs.declared.rows.TheConstants.{ROW_STEPS}

@@ -1,3 +1,4 @@
+-- The cars up to the next inlet and the one there are those of the road with its entries.
 use Rattle.std.proofs.Common.{ℕ, Vec, Global, ◌≡◌, ◌+◌, ◌∙◌, ◌++◌, ◌<◌, ◌≤◌, sym, ap, subst, arith, length, map}
 use Rattle.std.specs.List.{position, range_with_len}
 use Rattle.std.specs.Prelude.{nat_eq, None}

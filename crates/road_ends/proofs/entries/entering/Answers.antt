@@ -1,3 +1,4 @@
+-- The blocks of settings that fit rise.
 use Rattle.road_ends.proofs.StepByCars.{not_falling}
 use Rattle.road_ends.proofs.entries.entering.Goals as goal
 

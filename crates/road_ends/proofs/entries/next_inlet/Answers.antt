@@ -1,3 +1,4 @@
+-- No inlet is before the one that is found.
 use Rattle.std.proofs.Common.{◌≤◌, arith}
 use Rattle.std.specs.List.{slice_index_or}
 use Rattle.road_ends.proofs.CellsBetweenInlets.{no_inlet}

@@ -1,3 +1,4 @@
+-- The loop that looks for the next inlet.
 use Rattle.std.proofs.Common.{ℕ, ◌<◌, ◌≤◌}
 use Rattle.std.specs.List.{slice_index_or}
 use Rattle.road_ends.proofs.entries.next_inlet.Given as goal

@@ -1,3 +1,4 @@
+-- The cells of a road's cars fit into a column.
 use Rattle.std.proofs.Common.{ap, arith, length}
 use Rattle.road_cells.specs.Cars.{cell_at}
 use Rattle.road_rules.proofs.MotionOfCars.{cell_at-end}

@@ -1,3 +1,4 @@
+-- The settings of the input fit its plan, and its cars are on the road.
 use Rattle.std.proofs.Common.{◌≤◌, ◌∙◌, ap, sym, subst, length}
 use Rattle.std.specs.Arc.{arc_value}
 use Rattle.std.specs.Option.{option_or}

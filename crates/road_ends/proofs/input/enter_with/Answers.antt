@@ -1,3 +1,4 @@
+-- The road with its entries is short enough for columns.
 use Rattle.std.proofs.Common.{ap, arith}
 use Rattle.road_plan.specs.Plan.{Plan}
 use Rattle.road_ends.proofs.input.enter_with.Goals as goal

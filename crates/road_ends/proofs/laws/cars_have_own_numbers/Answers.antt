@@ -1,3 +1,4 @@
+-- No number is twice on the road of a run.
 use Rattle.road_ends.proofs.CarNumbers.{have_own_numbers}
 use Rattle.road_ends.proofs.laws.cars_have_own_numbers.Goals as goal
 

@@ -1,3 +1,4 @@
+-- Cars keep their order in each step.
 use Rattle.road_ends.proofs.NoCollision.{keep_order}
 use Rattle.road_ends.proofs.laws.cars_keep_order.Goals as goal
 

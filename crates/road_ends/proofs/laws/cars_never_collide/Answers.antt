@@ -1,3 +1,4 @@
+-- A car stays behind the cell of the next one.
 use Rattle.road_ends.proofs.NoCollision.{never_collide}
 use Rattle.road_ends.proofs.laws.cars_never_collide.Goals as goal
 

@@ -1,3 +1,4 @@
+-- The walk down the zones that are alike.
 use Rattle.std.proofs.Common.{◌≤◌, ℕ, slice_index}
 use Rattle.road_ends.specs.Private.PassPlaces.{AreOfZone}
 use Rattle.road_ends.proofs.pass.first_alike.Given as goal

@@ -1,3 +1,4 @@
+-- The pass stands where its calls ask it to, and gives the speeds of one stretch more.
 use Rattle.std.proofs.Common.{rules, ◌≡◌, ◌+◌, ◌-◌, ◌/◌, ◌<◌, ◌≤◌, ◌∙◌, List, ℕ, sym, ap, subst, refl, arith, length, drop, inl, inr}
 use Rattle.std.proofs.Math.Seq.{take-append_seam}
 use Rattle.std.proofs.lemmas.Bool.{cases_lt}

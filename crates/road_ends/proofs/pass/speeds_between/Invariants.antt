@@ -1,3 +1,4 @@
+-- The pass from car to car, from the far end on.
 use Rattle.std.proofs.Common.{◌≡◌, ℕ, ◌<◌, ◌≤◌, length}
 use Rattle.road_plan.specs.Plan.{zone_of}
 use Rattle.std.specs.Prelude.{◌-◌, slice_index}

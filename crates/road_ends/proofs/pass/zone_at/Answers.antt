@@ -1,3 +1,4 @@
+-- The cells from the first of the zones that are alike up to the car's are of such zones.
 use Rattle.std.proofs.Common.{◌/◌}
 use Rattle.road_ends.proofs.PassOverCars.{zone_from, zone_up_to}
 use Rattle.road_ends.proofs.pass.zone_at.Goals as goal

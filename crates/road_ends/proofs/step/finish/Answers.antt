@@ -1,3 +1,4 @@
+-- The cars may move by their new speeds, and the road after motion and deletion is the next one.
 use Rattle.std.proofs.Common.{◌∙◌, sym, subst, ap}
 use Rattle.road_rules.specs.Motion.{MayMove, array_after_motion_at}
 use Rattle.road_ends.specs.Run.{road_before_exit}

@@ -1,3 +1,4 @@
+-- The copied cars may move by their new speeds, and the road after motion and deletion is the next one.
 use Rattle.std.proofs.Common.{◌≡◌, ◌∙◌, ◌++◌, sym, subst, ap, List}
 use Rattle.road_cells.specs.Cars.{array_of}
 use Rattle.road_cells.specs.declared.car.Car.{Car}

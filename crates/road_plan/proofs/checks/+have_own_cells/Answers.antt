@@ -1,3 +1,4 @@
+-- Whether the inlets' cells differ, by the first inlet and the others.
 use Rattle.std.proofs.Common.{refl}
 use Rattle.road_plan.proofs.InletCells.{cells_differ}
 use Rattle.road_plan.proofs.checks.+have_own_cells.Goals as goal

@@ -1,3 +1,4 @@
+-- The search for two inlets at one cell ends.
 use Rattle.std.proofs.Common.{length}
 use Rattle.road_plan.proofs.checks.+have_own_cells.Given as goal
 

@@ -1,3 +1,4 @@
+-- The cells so far rise.
 use Rattle.std.proofs.Common.{ℕ, ◌+◌, ◌<◌}
 use Rattle.std.specs.Prelude.{slice_index}
 use Rattle.road_plan.proofs.settings.do_rise.Given as goal

@@ -1,3 +1,4 @@
+-- The loop that advances the cars.
 use Rattle.std.proofs.Common.{◌≡◌, ◌≤◌, length}
 use Rattle.road_cells.specs.Cars.{cars_of}
 use Rattle.road_rules.proofs.MotionLoop.{driven}

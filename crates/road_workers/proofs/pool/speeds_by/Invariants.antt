@@ -1,3 +1,4 @@
+-- The loop that takes a result for each job.
 use Rattle.std.proofs.Common.{◌≡◌, length, vec_len}
 use Rattle.std.specs.Arc.{arc_value}
 use Rattle.road_workers.specs.Private.Gathered.{AreGathered}

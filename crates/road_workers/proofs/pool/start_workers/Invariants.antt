@@ -1,3 +1,4 @@
+-- The loop that starts the workers of a pool.
 use Rattle.std.proofs.Common.{◌≡◌, vec_len}
 use Rattle.road_workers.proofs.pool.start_workers.Given as goal
 

@@ -1,3 +1,4 @@
+-- The loop that waits for a result of this step.
 use Rattle.std.proofs.Common.{◌≡◌, vec_len}
 use Rattle.road_workers.specs.Private.Gathered.{AreGathered}
 use Rattle.road_workers.proofs.pool.take_result.Given as goal

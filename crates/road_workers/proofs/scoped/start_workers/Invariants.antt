@@ -1,3 +1,4 @@
+-- The loop that starts the workers of a call.
 use Rattle.std.proofs.Common.{◌≡◌, vec_len}
 use Rattle.road_workers.specs.Private.Started.{AreStartedFrom}
 use Rattle.road_workers.proofs.scoped.start_workers.Given as goal

@@ -1,3 +1,4 @@
+-- An entry at another key is copied, and one at the key is left out.
 use Rattle.std.proofs.Common.{sym, subst, T, ap, ◌∙◌}
 use Rattle.std.specs.FinMap.Entries.{is_sorted}
 use Rattle.std.specs.Ordering.{is_ne}

@@ -1,3 +1,4 @@
+-- The loop that copies the entries at other keys.
 use Rattle.std.proofs.Common.{◌≡◌, ◌++◌}
 use Rattle.lattice_core.specs.Private.EntryLists.{other_entries}
 use Rattle.lattice_core.proofs.map.LatMap.copied_others.Given as goal

@@ -1,3 +1,4 @@
+-- The loop that fills in the entries that are missing.
 use Rattle.std.proofs.Common.{◌≡◌}
 use Rattle.lattice_core.specs.Private.EntryLists.{left_union}
 use Rattle.lattice_core.proofs.map.LatMap.fill.Given as goal

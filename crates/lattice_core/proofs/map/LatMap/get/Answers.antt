@@ -1,3 +1,4 @@
+-- What a look-up finds is the value at the key, and no bottom.
 use Rattle.std.proofs.Common.{◌∙◌, ap}
 use Rattle.std.specs.FinMap.Entries.{find}
 use Rattle.lattice_core.proofs.MapJoins.{held-found}

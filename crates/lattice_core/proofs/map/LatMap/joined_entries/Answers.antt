@@ -1,3 +1,4 @@
+-- One entry more is joined with what the other map has at its key.
 use Rattle.std.proofs.Common.{ap, subst, T, ◌∙◌}
 use Rattle.std.specs.FinMap.Entries.{is_sorted, find}
 use Rattle.lattice_core.specs.Private.EntryLists.{join_with_option}

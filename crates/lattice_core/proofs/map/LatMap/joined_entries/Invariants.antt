@@ -1,3 +1,4 @@
+-- The loop that joins entries with those of another map.
 use Rattle.std.proofs.Common.{◌≡◌, ◌++◌}
 use Rattle.lattice_core.specs.Private.EntryLists.{joined_entries}
 use Rattle.lattice_core.proofs.map.LatMap.joined_entries.Given as goal

@@ -1,3 +1,4 @@
+-- The map with a value joined in: unchanged by a bottom, else with the joined value at the key.
 use Rattle.std.proofs.Common.{◌≡◌, ◌∙◌, ap, sym}
 use Rattle.std.specs.FinMap.Entries.{put}
 use Rattle.std.specs.Option.{option_copied}

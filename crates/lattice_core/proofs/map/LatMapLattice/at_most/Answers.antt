@@ -1,3 +1,4 @@
+-- Each entry is up to the other map's exactly where the map is at most the other one.
 use Rattle.std.proofs.Common.{◌≡◌, refl, ◌∙◌, ap, sym, subst}
 use Rattle.std.proofs.lemmas.Bool.{true≢false}
 use Rattle.std.specs.FinMap.Entries.{find}

@@ -1,3 +1,4 @@
+-- The loop that asks each entry.
 use Rattle.lattice_core.proofs.MapOrder.{AreUpTo}
 use Rattle.lattice_core.proofs.map.LatMapLattice.at_most.Given as goal
 

@@ -1,3 +1,4 @@
+-- One entry more is copied.
 use Rattle.std.proofs.Common.{subst, T}
 use Rattle.std.specs.FinMap.Entries.{is_sorted}
 use Rattle.lattice_core.proofs.MapLoops.{copied_turn}

@@ -1,3 +1,4 @@
+-- The loop that copies the entries.
 use Rattle.std.proofs.Common.{◌≡◌, ◌++◌}
 use Rattle.lattice_core.proofs.map.LatMapLattice.copied.Given as goal
 

@@ -1,3 +1,4 @@
+-- Entries joined and filled in are the join of the maps.
 use Rattle.std.proofs.Common.{◌≡◌, ◌∙◌, ap, sym, subst}
 use Rattle.lattice_core.specs.Map.{IsProperMap, map_join}
 use Rattle.lattice_core.specs.Instances.JoinedMaps.{proper-map_join}

@@ -1,3 +1,4 @@
+-- The cars between two cells, as the part of the list that was found.
 use Rattle.std.proofs.Common.{rules, ◌≤◌, ◌-◌, ◌∙◌, arith, take, drop}
 use Rattle.road_cells.proofs.CarsBetween.{found_between, before-le}
 use Rattle.road_cells.proofs.road.Road.between.Goals as goal

@@ -1,3 +1,4 @@
+-- A binary search counts the cars before a cell.
 use Rattle.std.proofs.Common.{rules, of_calls, ◌∙◌, ap, sym, subst, nat_lt}
 use Rattle.std.specs.List.{count_by}
 use Rattle.std.specs.List.Sorted.{IsPartitionedBy}

@@ -1,3 +1,4 @@
+-- The cars of the array that cars make are these cars.
 use Rattle.road_cells.proofs.CarLists.{cars_of-array_of}
 use Rattle.road_cells.proofs.road.Road.of.Goals as goal
 

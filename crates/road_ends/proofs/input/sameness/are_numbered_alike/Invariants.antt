@@ -1,3 +1,4 @@
+-- The loop that compares the numbers of cars.
 use Rattle.std.proofs.Common.{◌≡◌, ◌<◌, ℕ, length, IsTrue}
 use Rattle.road_ends.specs.Speed.{nth_car}
 use Rattle.road_ends.proofs.input.sameness.are_numbered_alike.Given as goal

@@ -1,3 +1,4 @@
+-- Lists of cars that are the same at each place are the same.
 use Rattle.std.proofs.Common.{refl, arith}
 use Rattle.std.proofs.lemmas.List.{ext_get_or}
 use Rattle.road_cells.specs.declared.car.Car.{Car}

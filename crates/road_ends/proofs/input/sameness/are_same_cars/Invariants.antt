@@ -1,3 +1,4 @@
+-- The loop that compares cars.
 use Rattle.std.proofs.Common.{◌≡◌, ◌<◌, ℕ, length, get_or}
 use Rattle.road_cells.specs.declared.car.Car.{Car}
 use Rattle.road_ends.proofs.input.sameness.are_same_cars.Given as goal

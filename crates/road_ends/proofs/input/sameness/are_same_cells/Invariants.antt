@@ -1,3 +1,4 @@
+-- The loop that compares cells.
 use Rattle.std.proofs.Common.{◌≡◌, ◌<◌, ℕ, get_or, IsTrue}
 use Rattle.road_ends.proofs.input.sameness.are_same_cells.Given as goal
 

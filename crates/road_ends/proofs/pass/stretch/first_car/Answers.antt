@@ -1,3 +1,4 @@
+-- The cars behind the place that is found do not stand before the cell.
 use Rattle.std.proofs.Common.{arith}
 use Rattle.road_cells.specs.Cars.{cars_of}
 use Rattle.road_cells.proofs.CarLists.{rise-cars_from}

@@ -1,3 +1,4 @@
+-- The loop that slows cars by the halves of their words.
 use Rattle.std.proofs.Common.{◌≡◌, ◌-◌, ◌/◌, ◌<◌, ◌≤◌, ℕ, length, slice_index}
 use Rattle.road_rules.specs.Speeds.{has_event, slowed}
 use Rattle.road_ends.proofs.pass.stretch.slow_by_halves.Given as goal

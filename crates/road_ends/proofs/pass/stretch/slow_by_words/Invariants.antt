@@ -1,3 +1,4 @@
+-- The loop that slows cars by their words.
 use Rattle.std.proofs.Common.{◌≡◌, ◌-◌, ◌<◌, ◌≤◌, ℕ, length, slice_index}
 use Rattle.road_rules.specs.Speeds.{has_event, slowed}
 use Rattle.road_words.specs.PlanWords.{source_word}

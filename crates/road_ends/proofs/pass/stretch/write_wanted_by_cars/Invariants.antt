@@ -1,3 +1,4 @@
+-- The loop that writes what cars want, by their list.
 use Rattle.std.proofs.Common.{◌≡◌, ◌+◌, ◌-◌, ◌<◌, ◌≤◌, ℕ, length, slice_index}
 use Rattle.road_cells.specs.Cars.{cell_at}
 use Rattle.road_ends.specs.Private.PassPlaces.{wanted_before}

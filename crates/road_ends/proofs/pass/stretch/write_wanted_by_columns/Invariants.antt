@@ -1,3 +1,4 @@
+-- The loop that writes what cars want, by the columns.
 use Rattle.std.proofs.Common.{◌≡◌, ◌+◌, ◌-◌, ◌<◌, ◌≤◌, ℕ, length, slice_index}
 use Rattle.std.specs.Prelude.{min}
 use Rattle.road_cells.specs.declared.car.TheConstants.{GREATEST_SPEED}

@@ -1,3 +1,4 @@
+-- The derived order of objects is that by kind and index.
 use Rattle.road_plan.specs.Instances.ObjectOrder.{ordered}
 use Rattle.road_plan.proofs.object.Object.known_order.Goals as goal
 

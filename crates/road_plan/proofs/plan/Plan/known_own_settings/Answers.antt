@@ -1,3 +1,4 @@
+-- The plan's own settings fit it.
 use Rattle.std.proofs.Common.{refl}
 use Rattle.road_plan.specs.Settings.{defaults}
 use Rattle.road_plan.proofs.OwnSettings.{own_settings_fit}

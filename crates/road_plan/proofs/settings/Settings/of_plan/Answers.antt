@@ -1,3 +1,4 @@
+-- The settings that are made are the plan's own, and fit it.
 use Rattle.std.proofs.Common.{rules}
 use Rattle.road_plan.proofs.OwnSettings.{own_settings_fit}
 use Rattle.road_plan.proofs.settings.Settings.of_plan.Goals as goal

@@ -1,3 +1,4 @@
+-- One word more is drawn, and the generator moves to the next place.
 use Rattle.std.proofs.Common.{◌≡◌, ◌<◌, ◌+◌, ◌/◌, ◌%◌, ◌^◌, ◌∙◌, ℕ, ap, arith, length}
 use Rattle.std.proofs.lemmas.List.{length-set}
 use Rattle.rand_chacha.specs.ChaCha.{ChaCha, word_at}

@@ -1,3 +1,4 @@
+-- The loop that draws a row of seeded words.
 use Rattle.std.proofs.Common.{◌≡◌, ◌<◌, ◌+◌, ◌/◌, ℕ, length, slice_index}
 use Rattle.rand_chacha.specs.ChaCha.{key_of}
 use Rattle.road_words.specs.Words.{chacha_word}

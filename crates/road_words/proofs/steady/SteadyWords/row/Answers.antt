@@ -1,3 +1,4 @@
+-- One steady word more is written.
 use Rattle.std.proofs.Common.{◌<◌, ◌+◌, ◌/◌, ◌∙◌, ap, arith, length}
 use Rattle.std.proofs.lemmas.List.{length-set}
 use Rattle.road_words.specs.Words.{steady_word}

@@ -1,3 +1,4 @@
+-- The loop that writes a row of steady words.
 use Rattle.std.proofs.Common.{◌≡◌, ◌<◌, ◌+◌, ◌/◌, ℕ, length, slice_index}
 use Rattle.road_words.specs.Words.{steady_word}
 use Rattle.road_words.proofs.steady.SteadyWords.row.Given as goal

@@ -1,3 +1,4 @@
+-- The loop that makes a place for each worker.
 use Rattle.std.proofs.Common.{◌≡◌, ◌<◌, ℕ, vec_len, slice_index_or}
 use Rattle.std.specs.declared.option.Option.TheVariants.{None}
 use Rattle.road_workers.proofs.pool.gathering.places_for.Given as goal

@@ -1,3 +1,4 @@
+-- The speeds of all workers are those of all cars.
 use Rattle.std.proofs.Common.{arith, ◌≡◌, ◌∙◌, ap, length, take, vec_len}
 use Rattle.road_cells.specs.Cars.{cars_of}
 use Rattle.road_ends.specs.Input.{input_speeds}
