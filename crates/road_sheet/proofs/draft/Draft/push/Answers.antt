@@ -1,4 +1,4 @@
--- What is the next input of a draft is so of its sheet.
+-- An input of the draft's next step is one of its sheet's.
 use Rattle.std.proofs.Common.{◌∙◌, ap, sym}
 use Rattle.road_sheet.specs.Sheets.{next_input}
 use Rattle.road_sheet.proofs.draft.Draft.push.Goals as goal
