@@ -5,7 +5,7 @@ use Rattle.std.specs.declared.cmp.Ordering.{Ordering}
 use Rattle.std.specs.declared.cmp.Ordering.TheVariants.{Less, Equal, Greater}
 use Rattle.std.specs.Ordering.{is_eq, is_lt, ordering_then}
 use Rattle.std.proofs.Common.{arith, ap, subst, ◌∙◌}
-use Rattle.lattice_core.specs.Instances.TestAnswers.{first_of_both, second_of_both}
+use Rattle.lattice_core.specs.Instances.TestAnswers.{first_of_both, second_of_both, less_by_T}
 use Rattle.lattice_core.specs.Sets.{contains, items, is_below, is_rising}
 use Rattle.lattice_core.proofs.SetElements.{contains-items, items_rise}
 use Rattle.road_scenario.specs.declared.edit.Edit.{Edit}
@@ -13,7 +13,7 @@ use Rattle.road_scenario.specs.Edits.{Edits, edit_cmp, is_exceeded_by, edit_plac
 use Rattle.road_scenario.specs.Instances.EditOrder.{winners_laws}
 use Rattle.road_scenario.specs.Winners.{winners}
 use Rattle.road_scenario.proofs.EditMembers.{IsIn, first_in, later_in}
-use Rattle.road_scenario.proofs.RisingEdits.{both, is_less}
+use Rattle.road_scenario.proofs.RisingEdits.{both}
 use Rattle.road_delta.specs.declared.heads.Head.{Head}
 use Rattle.road_delta.specs.Deltas.{head_of, head_place, heads, AreRising}
 
@@ -52,7 +52,7 @@ rising-heads s won = heads_rise (items s) (items_rise s) (λ e f i j.
 module _ {K : Type 0} (R : K → K → Ordering) where
   below-at : (k : K) (ks : List K) (j : ℕ) (d : K) → T (is_below R k ks) → j < length ks → R k (slice_index_or ks j d) ≡ Less
   below-at k [] j d h inside = absurd (omega arith)
-  below-at k (x ∷ ks) zero d h inside = is_less _ (first_of_both (is_lt (R k x)) _ h)
+  below-at k (x ∷ ks) zero d h inside = less_by_T _ (first_of_both (is_lt (R k x)) _ h)
   below-at k (x ∷ ks) (suc j) d h inside = below-at k ks j d (second_of_both (is_lt (R k x)) _ h) (omega arith)
 
   -- of two elements of a rising list the later one is greater

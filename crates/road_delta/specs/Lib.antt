@@ -1,1 +1,2 @@
+-- What heads and deltas are.
 pub mod Deltas

@@ -1,3 +1,5 @@
+//! The edits of a scenario that are beyond heads, so new to whoever sent these.
+
 ghost use Rattle.std.specs.Prelude.{◌≡◌, IfOk};
 ghost use Rattle.road_plan.specs.Plan.{Plan};
 ghost use Rattle.road_scenario.specs.Faults.{AreInRange};

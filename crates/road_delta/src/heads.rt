@@ -1,3 +1,5 @@
+//! The heads of a scenario: of each edit that it holds the object, the step and the stamp.
+
 ghost use Rattle.std.specs.Prelude.{◌≡◌, IfOk};
 ghost use Rattle.road_delta.specs.Deltas.{AreRising, head_of, heads};
 

@@ -1,2 +1,3 @@
+-- What replicas are, what their calls make of them, and for which causes these are refused.
 pub mod Replicas
 pub mod Refusals

@@ -1,3 +1,5 @@
+//! The causes for which a replica refuses a call, and the names that causes of the layers below have here.
+
 ghost use Rattle.std.specs.Prelude.{◌≡◌};
 ghost use Rattle.road_replica.specs.Refusals as refusals;
 ghost use Rattle.road_replica.specs.declared.faults.ReplicaFault.TheVariants.{OutOfMemory};

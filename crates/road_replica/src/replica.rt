@@ -1,3 +1,5 @@
+//! A replica: its writes, the messages that it makes and takes, and what it shows of its run.
+
 ghost use Rattle.std.specs.Prelude.{◌≡◌, ◌<◌, ◌≤◌, ◌-◌, max, IfErr, IfNone, IfOk};
 ghost use Rattle.std.specs.Prelude.{MatchResult, None, OnErr, OnOk, map, string_bytes, true};
 ghost use Rattle.std.specs.Arc.{arc_value};

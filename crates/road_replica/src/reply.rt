@@ -1,3 +1,5 @@
+//! What is answered to those who write to a replica or tell it something.
+
 use road_scenario::Stamp;
 
 /// What is answered to a write, or to the making of a message.

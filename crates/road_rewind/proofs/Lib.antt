@@ -1,1 +1,2 @@
+-- Lemmas about the steps that a growth computes.
 pub mod StepCounts

@@ -1,3 +1,5 @@
+//! How a sheet grows by edits and steps: it keeps what no edit touches, and simulates the rest.
+
 ghost use Rattle.std.specs.Prelude.{◌≡◌, ◌≤◌, ◌<◌, ◌-◌, max, IfOk, OnOk, OnErr, MatchResult};
 ghost use Rattle.road_plan.specs.declared.limits.TheConstants.{GREATEST_HORIZON};
 ghost use Rattle.road_scenario.specs.Faults.{AreInRange};

@@ -1,3 +1,5 @@
+//! A grown sheet, and the first step that its new edits touched.
+
 use road_sheet::Sheet;
 
 /// A sheet that has grown.

@@ -13,7 +13,7 @@ use Rattle.lattice_core.specs.declared.greatest.Greatest.TheVariants.{Nothing, O
 use Rattle.lattice_core.specs.Greatest.{is_nothing}
 use Rattle.lattice_core.specs.Map.{IfHeld, IsHeld, is_empty}
 use Rattle.lattice_core.specs.Instances.JoinedMaps.{good_at, same_maps}
-use Rattle.lattice_core.specs.Instances.TestAnswers.{first_of_both, second_of_both}
+use Rattle.lattice_core.specs.Instances.TestAnswers.{first_of_both, second_of_both, less_by_T}
 use Rattle.lattice_core.specs.Sets.{items, empty}
 use Rattle.lattice_core.proofs.SetElements.{items-empty}
 use Rattle.road_plan.specs.Instances.ObjectOrder.{object_exact}
@@ -25,7 +25,7 @@ use Rattle.road_scenario.specs.Registers.{Register, RegistersByStep, RegistersBy
 use Rattle.road_scenario.specs.Private.RegisterWalks.{registers_of_object}
 use Rattle.road_scenario.specs.Winners.{join}
 use Rattle.road_scenario.specs.Instances.RegisterLattice.{AreRegistersByStep}
-use Rattle.road_scenario.proofs.RisingEdits.{object_cmp, AreRegisters, is_less, items-edit_set}
+use Rattle.road_scenario.proofs.RisingEdits.{object_cmp, AreRegisters, items-edit_set}
 use Rattle.road_scenario.specs.Instances.RegisterLattice.{steps_join, steps_laws}
 use Rattle.road_scenario.proofs.JoinedRegisters.{object_total, maps_join, proper-joined, edit_set-joined}
 use Rattle.road_scenario.proofs.LastNumbers.{is_one, itself, other_above, steps_here, steps_there}
@@ -55,7 +55,7 @@ none_above : (o : Object) (m : RegistersByObject) → T (below_all object_cmp o 
 none_above o [] h = refl
 none_above o (e ∷ m) h =
     filter-append (is_of o) (object_edits e.0 e.1) (edit_list m)
-    ∙ (λ i. none_of o e.0 e.1 (other_above o e.0 (is_less _ (first_of_both _ _ h))) i ++ none_above o m (second_of_both _ _ h) i)
+    ∙ (λ i. none_of o e.0 e.1 (other_above o e.0 (less_by_T _ (first_of_both _ _ h))) i ++ none_above o m (second_of_both _ _ h) i)
 
 of_object : (m : RegistersByObject) → T (is_sorted object_cmp m) → (o : Object) → filter (is_of o) (edit_list m) ≡ object_edits o (registers_of_object object_cmp m o)
 of_object [] s o = refl

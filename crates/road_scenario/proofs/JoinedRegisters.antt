@@ -98,7 +98,8 @@ joined_at o = fold_join join empty (won_at o)
 abbrev all_joined : RegistersByObject → Edits
 all_joined = fold_join join empty joined_at
 
-from_list-append : (es fs : List Edit) → from_list {R = edit_cmp} (es ++ fs) ≡ union (from_list es) (from_list fs)
+-- the set of two lists, one after the other
+pub from_list-append : (es fs : List Edit) → from_list {R = edit_cmp} (es ++ fs) ≡ union (from_list es) (from_list fs)
 from_list-append es fs = same_set edit_total edit_exact _ _ (λ q.
     contains-from_list edit_total (es ++ fs) q ∙ list_any-append (eq_by_cmp edit_cmp q) es fs
     ∙ sym (contains-union edit_total (from_list es) (from_list fs) q ∙ (λ i. contains-from_list edit_total es q i || contains-from_list edit_total fs q i)))

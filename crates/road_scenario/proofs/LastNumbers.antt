@@ -4,7 +4,7 @@ use Rattle.std.specs.declared.cmp.Ordering.{Ordering}
 use Rattle.std.specs.declared.cmp.Ordering.TheVariants.{Less, Equal, Greater}
 use Rattle.std.specs.declared.option.Option.{Option}
 use Rattle.std.specs.declared.option.Option.TheVariants.{None, Some}
-use Rattle.std.specs.List.{filter}
+use Rattle.std.specs.List.{AllByRecursion, filter}
 use Rattle.std.specs.Option.{option_or, unwrap_or, option_and_then}
 use Rattle.std.specs.Ordering.{nat_cmp, ordering_reverse, eq_by_cmp, is_eq, is_lt}
 use Rattle.std.specs.Cmp.{tied_itself, Equal-is}
@@ -14,7 +14,7 @@ use Rattle.std.proofs.lemmas.Bool.{true≢false}
 use Rattle.std.proofs.lemmas.Bool.Decides.{nat_tests}
 use Rattle.std.proofs.Math.Bool.{or-true}
 use Rattle.std.proofs.lemmas.List.Elements.{filter-append}
-use Rattle.lattice_core.specs.Instances.TestAnswers.{first_of_both, second_of_both}
+use Rattle.lattice_core.specs.Instances.TestAnswers.{first_of_both, second_of_both, less_by_T}
 use Rattle.lattice_core.specs.declared.greatest.Greatest.TheVariants.{Nothing, Of}
 use Rattle.lattice_core.specs.Map.{entries_up_to}
 use Rattle.road_plan.specs.Objects.{order_key, object_order}
@@ -28,7 +28,7 @@ use Rattle.road_scenario.specs.Instances.EditOrder.{number_pair_total}
 use Rattle.road_scenario.specs.Registers.{Register, RegistersByStep, RegistersByObject, edit_with, edits_from_register, object_edits, edit_list}
 use Rattle.road_scenario.specs.Settings.{is_put_up_to, latest_edit}
 use Rattle.road_scenario.specs.Private.RegisterWalks.{register_number, entry_number, last_number, last_number_of, registers_of_object}
-use Rattle.road_scenario.proofs.RisingEdits.{object_cmp, is_less}
+use Rattle.road_scenario.proofs.RisingEdits.{object_cmp}
 
 -- whether two objects are the same
 abbrev pub is_one : Object → Object → Bool
@@ -89,11 +89,10 @@ none_of_other o p step (s ∷ steps) h = elim s.1 as (λ w. filter (is_put_up_to
 ]
 
 -- each of these edits is dated later
-abbrev AllLater : ℕ → List Edit → Type 0
-AllLater step [] = Unit {0}
-AllLater step (e ∷ es) = (step < e.step) × AllLater step es
+abbrev pub AllLater : ℕ → List Edit → Type 0
+AllLater step = AllByRecursion (λ e. step < e.step)
 
-is_later : (a b : ℕ) → nat_cmp a b ≡ Less → a < b
+pub is_later : (a b : ℕ) → nat_cmp a b ≡ Less → a < b
 is_later a b e = grind (arith, nat_tests)
 
 later_chosen : (o : Object) (step a : ℕ) (steps : RegistersByStep) → T (below_all nat_cmp a steps) → AllLater a (chosen o step o steps)
@@ -103,12 +102,12 @@ later_chosen o step a (s ∷ steps) h =
     elim s.1 as (λ w. AllLater a (filter (is_put_up_to o step) (edits_from_register o s.0 w (object_edits o steps)))) [
       | Nothing ↦ rest
       | Of w ↦ elim (is_put_up_to o step (edit_with o s.0 w)) as (λ b. AllLater a (cond b (edit_with o s.0 w ∷ chosen o step o steps) (chosen o step o steps))) [
-        | true ↦ (is_later a s.0 (is_less _ (first_of_both (is_lt (nat_cmp a s.0)) _ h)), rest)
+        | true ↦ (is_later a s.0 (less_by_T _ (first_of_both (is_lt (nat_cmp a s.0)) _ h)), rest)
         | false ↦ rest
       ]
     ]
 
-is_below : (a b : ℕ) → a < b → nat_lt a b ≡ true
+pub is_below : (a b : ℕ) → a < b → nat_lt a b ≡ true
 is_below a b l = grind (arith, nat_tests)
 
 latest-first : (e : Edit) (es : List Edit) → AllLater e.step es → latest_edit (e ∷ es) ≡ option_or (latest_edit es) (Some e)
@@ -206,7 +205,7 @@ pub none_above : (o : Object) (step : ℕ) (m : RegistersByObject) → T (below_
 none_above o step [] h = refl
 none_above o step (e ∷ m) h =
     filter-append (is_put_up_to o step) (object_edits e.0 e.1) (edit_list m)
-    ∙ (λ i. none_of_other o e.0 step e.1 (other_above o e.0 (is_less _ (first_of_both (is_lt (object_cmp o e.0)) _ h))) i ++ none_above o step m (second_of_both (is_lt (object_cmp o e.0)) _ h) i)
+    ∙ (λ i. none_of_other o e.0 step e.1 (other_above o e.0 (less_by_T _ (first_of_both (is_lt (object_cmp o e.0)) _ h))) i ++ none_above o step m (second_of_both (is_lt (object_cmp o e.0)) _ h) i)
 
 -- the two tests of objects agree
 pub same_tests : (o p : Object) → eq_by_cmp object_cmp o p ≡ is_one p o

@@ -1,3 +1,4 @@
+-- Lemmas about edits, the registers that hold them, and what these give.
 pub mod EditMembers
 pub mod RisingEdits
 pub mod JoinedRegisters

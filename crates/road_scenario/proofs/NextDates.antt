@@ -33,7 +33,8 @@ use Rattle.road_scenario.specs.Instances.RegisterLattice.{AreRegistersByStep}
 use Rattle.road_scenario.proofs.RisingEdits.{AreRegisters}
 use Rattle.road_scenario.proofs.SettingsBeforeTouched.{before_each}
 use Rattle.road_scenario.proofs.SettingsOfRegisters.{winners-items}
-use Rattle.road_scenario.proofs.TouchedSteps.{AllLater, steps_of_edits, least-append, later_object_edits, later_kept, first_least, filter-same}
+use Rattle.road_scenario.proofs.LastNumbers.{AllLater, is_below}
+use Rattle.road_scenario.proofs.TouchedSteps.{steps_of_edits, least-append, later_object_edits, later_kept, first_least, filter-same}
 
 -- ---- one object
 
@@ -101,9 +102,6 @@ next_date-edit_set m are step = ap (λ es. reduce min (steps_of_edits (filter (i
 -- a date is up to both steps or after both, where none lies between
 same_side : (date from t : ℕ) → from ≤ t → (from < date → t < date) → nat_le date from ≡ nat_le date t
 same_side date from t order after = grind (arith, nat_tests)
-
-is_below : (a b : ℕ) → a < b → nat_lt a b ≡ true
-is_below a b l = grind (arith, nat_tests)
 
 -- settings stay up to the next date
 pub settings_stay : (p : Plan) (edits : Edits) (from t : ℕ) → from ≤ t → IsBefore t (next_date edits from) → settings_of p edits t ≡ settings_of p edits from

@@ -1,14 +1,14 @@
 -- What a scenario's maps hold, as one list: it rises by object and step, so each edit of it is a winner.
 use Rattle.std.specs.Prelude.{◌≡◌, ℕ, Bool, true, false, not, ◌&&◌, T, List, [], ◌∷◌, ◌++◌, refl}
 use Rattle.std.specs.declared.cmp.Ordering.{Ordering}
-use Rattle.std.specs.declared.cmp.Ordering.TheVariants.{Less, Equal, Greater}
+use Rattle.std.specs.declared.cmp.Ordering.TheVariants.{Less, Equal}
 use Rattle.std.specs.Ordering.{nat_cmp, ordering_then, ordering_reverse, eq_by_cmp, is_eq, is_lt}
 use Rattle.std.specs.Cmp.{Equal-is, tied_itself}
 use Rattle.std.specs.FinMap.Entries.{below_all, is_sorted}
 use Rattle.std.specs.List.{AllByRecursion, list_any}
 use Rattle.std.proofs.Common.{sym, ap, subst, ◌∙◌, inl, inr}
 use Rattle.std.proofs.lemmas.Bool.{true≢false, or_cases, and_left, or_from}
-use Rattle.lattice_core.specs.Instances.TestAnswers.{first_of_both, second_of_both}
+use Rattle.lattice_core.specs.Instances.TestAnswers.{first_of_both, second_of_both, less_by_T}
 use Rattle.lattice_core.specs.declared.greatest.Greatest.TheVariants.{Nothing, Of}
 use Rattle.lattice_core.specs.Map.{IsHeld, IsProperMap, is_empty}
 use Rattle.lattice_core.specs.Sets.{is_below, is_rising, items, contains, from_list}
@@ -42,11 +42,6 @@ pub both : (a b : Bool) → T a → T b → T (a && b)
 both true b p q = q
 both false b p q = p
 
-pub is_less : (r : Ordering) → T (is_lt r) → r ≡ Less
-is_less Less p = refl
-is_less Equal p = absurd p
-is_less Greater p = absurd p
-
 pub less : (r : Ordering) → r ≡ Less → T (is_lt r)
 less r e = subst (λ x. T (is_lt x)) (sym e) tt
 
@@ -67,7 +62,7 @@ module _ {K : Type 0} (R : K → K → Ordering) where
   pub below-each : (exact : (x y : K) → R x y ≡ Equal → x ≡ y) (S : K → K → Ordering) (x q : K) (ks : List K) → T (is_below S x ks) → list_any (eq_by_cmp R q) ks ≡ true → S x q ≡ Less
   below-each exact S x q [] p h = absurd (true≢false (sym h))
   below-each exact S x q (k ∷ ks) p h = elim (or_cases (eq_by_cmp R q k) _ h) as (λ _. S x q ≡ Less) [
-    | inl t ↦ ap (S x) (exact q k ((Equal-is (R q k)).0 t)) ∙ is_less _ (first_of_both (is_lt (S x k)) _ p)
+    | inl t ↦ ap (S x) (exact q k ((Equal-is (R q k)).0 t)) ∙ less_by_T _ (first_of_both (is_lt (S x k)) _ p)
     | inr t ↦ below-each exact S x q ks (second_of_both (is_lt (S x k)) _ p) t
   ]
 
@@ -91,7 +86,7 @@ below_object e p (s ∷ steps) l = elim s.1 as (λ w. T (is_below place_cmp e (e
 
 below_edit_list : (e : Edit) (m : RegistersByObject) → T (below_all object_cmp e.object m) → T (is_below place_cmp e (edit_list m))
 below_edit_list e [] h = tt
-below_edit_list e (x ∷ m) h = below-append place_cmp e (object_edits x.0 x.1) (edit_list m) (below_object e x.0 x.1 (is_less _ (first_of_both (is_lt (object_cmp e.object x.0)) _ h))) (below_edit_list e m (second_of_both (is_lt (object_cmp e.object x.0)) _ h))
+below_edit_list e (x ∷ m) h = below-append place_cmp e (object_edits x.0 x.1) (edit_list m) (below_object e x.0 x.1 (less_by_T _ (first_of_both (is_lt (object_cmp e.object x.0)) _ h))) (below_edit_list e m (second_of_both (is_lt (object_cmp e.object x.0)) _ h))
 
 each_below : (o : Object) (steps : RegistersByStep) (m : RegistersByObject) → T (below_all object_cmp o m) → EachBelow place_cmp (object_edits o steps) (edit_list m)
 each_below o [] m h = tt
@@ -106,7 +101,7 @@ below_steps o s v (x ∷ steps) h =
     let rest = below_steps o s v steps (second_of_both (is_lt (nat_cmp s x.0)) _ h) in
     elim x.1 as (λ w. T (is_below place_cmp (edit_with o s v) (edits_from_register o x.0 w (object_edits o steps)))) [
       | Nothing ↦ rest
-      | Of w ↦ both _ _ (less _ (step_less o s x.0 v w (is_less _ (first_of_both (is_lt (nat_cmp s x.0)) _ h)))) rest
+      | Of w ↦ both _ _ (less _ (step_less o s x.0 v w (less_by_T _ (first_of_both (is_lt (nat_cmp s x.0)) _ h)))) rest
     ]
 
 pub rising_at : (o : Object) (steps : RegistersByStep) → T (is_sorted nat_cmp steps) → T (is_rising place_cmp (object_edits o steps))
@@ -124,7 +119,7 @@ rising_edit_list (x ∷ m) h k =
     rising-append place_cmp (object_edits x.0 x.1) (edit_list m) (rising_at x.0 x.1 k.0.0.rises) (rising_edit_list m (second_of_both (below_all object_cmp x.0 m) _ h) k.1) (each_below x.0 x.1 m (first_of_both (below_all object_cmp x.0 m) _ h))
 
 by_edit : (e f : Edit) → T (is_lt (place_cmp e f)) → T (is_lt (edit_cmp e f))
-by_edit e f p = less _ (ap (λ r. ordering_then r (number_triple_cmp (edit_rank e) (edit_rank f))) (is_less (place_cmp e f) p))
+by_edit e f p = less _ (ap (λ r. ordering_then r (number_triple_cmp (edit_rank e) (edit_rank f))) (less_by_T (place_cmp e f) p))
 
 below_edits : (e : Edit) (es : List Edit) → T (is_below place_cmp e es) → T (is_below edit_cmp e es)
 below_edits e [] p = tt
@@ -144,7 +139,7 @@ not_equal_back e f l = ap is_eq (number_triple_total.antisymm (edit_place e) (ed
 
 none_above : (e : Edit) (es : List Edit) → T (is_below place_cmp e es) → list_any (is_exceeded_by e) es ≡ false
 none_above e [] p = refl
-none_above e (f ∷ es) p = or_from _ _ (and_left _ _ (not_equal _ (is_less _ (first_of_both (is_lt (place_cmp e f)) _ p)))) (none_above e es (second_of_both (is_lt (place_cmp e f)) _ p))
+none_above e (f ∷ es) p = or_from _ _ (and_left _ _ (not_equal _ (less_by_T _ (first_of_both (is_lt (place_cmp e f)) _ p)))) (none_above e es (second_of_both (is_lt (place_cmp e f)) _ p))
 
 pub none_exceeds : (es : List Edit) → T (is_rising place_cmp es) → (e : Edit) → list_any (eq_by_cmp edit_cmp e) es ≡ true → list_any (is_exceeded_by e) es ≡ false
 none_exceeds [] p e h = refl

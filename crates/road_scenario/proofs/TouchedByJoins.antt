@@ -33,13 +33,13 @@ use Rattle.road_scenario.proofs.EditMembers.{IsIn, none_in, first_in, later_in, 
 use Rattle.road_scenario.proofs.EqualRegisters.{same_edit_set}
 use Rattle.road_scenario.specs.Instances.RegisterLattice.{won_join, won_laws, steps_join, steps_laws}
 use Rattle.road_scenario.proofs.JoinedRegisters.{object_total, maps_join, proper-joined, edit_set-joined}
-use Rattle.road_scenario.proofs.LastNumbers.{is_one, steps_here, steps_there}
+use Rattle.road_scenario.proofs.LastNumbers.{AllLater, is_one, steps_here, steps_there}
 use Rattle.road_scenario.proofs.PutNumbers.{edit_of_number}
 use Rattle.road_scenario.specs.Instances.RegisterLattice.{AreRegistersByStep}
 use Rattle.road_scenario.proofs.RisingEdits.{object_cmp, AreRegisters}
 use Rattle.road_scenario.proofs.SettingsBeforeTouched.{least_later}
 use Rattle.road_scenario.proofs.SettingsOfRegisters.{winners-items}
-use Rattle.road_scenario.proofs.TouchedSteps.{AllLater, steps_of_edits, least-append, later_object_edits, later_kept, first_least, put_found}
+use Rattle.road_scenario.proofs.TouchedSteps.{steps_of_edits, least-append, later_object_edits, later_kept, first_least, put_found}
 use Rattle.road_scenario.proofs.WalkedSettings.{same}
 
 -- ---- the walk over what was joined in

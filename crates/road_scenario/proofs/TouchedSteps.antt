@@ -14,7 +14,7 @@ use Rattle.std.proofs.lemmas.Bool.Decides.{nat_tests}
 use Rattle.std.specs.Option.{option_and_then, option_eq}
 use Rattle.std.proofs.lemmas.List.{map-append}
 use Rattle.std.proofs.lemmas.List.Elements.{filter-append}
-use Rattle.lattice_core.specs.Instances.TestAnswers.{first_of_both, second_of_both}
+use Rattle.lattice_core.specs.Instances.TestAnswers.{first_of_both, second_of_both, less_by_T}
 use Rattle.road_scenario.proofs.EditMembers.{IsIn}
 use Rattle.lattice_core.specs.declared.greatest.Greatest.TheVariants.{Nothing, Of}
 use Rattle.lattice_core.specs.Greatest.{is_nothing}
@@ -31,8 +31,8 @@ use Rattle.road_scenario.specs.Registers.{Register, RegistersByStep, RegistersBy
 use Rattle.road_scenario.specs.Touched.{put_number_at, has_other_number, touched, touched_in}
 use Rattle.road_scenario.specs.Private.RegisterWalks.{number_at_step, first_change_at, first_change, earlier_step, registers_of_object, register_number}
 use Rattle.road_scenario.specs.Instances.RegisterLattice.{AreRegistersByStep}
-use Rattle.road_scenario.proofs.RisingEdits.{object_cmp, place_cmp, AreRegisters, is_less, rising_edit_list, below-each}
-use Rattle.road_scenario.proofs.LastNumbers.{is_one, other_above, steps_here, steps_there}
+use Rattle.road_scenario.proofs.RisingEdits.{object_cmp, place_cmp, AreRegisters, rising_edit_list, below-each}
+use Rattle.road_scenario.proofs.LastNumbers.{AllLater, is_later, is_one, other_above, steps_here, steps_there}
 use Rattle.road_scenario.proofs.WalkedSettings.{same}
 use Rattle.road_scenario.proofs.SettingsOfRegisters.{winners-items}
 
@@ -62,7 +62,7 @@ put_other o p step (s ∷ steps) fs h = elim s.1 as (λ w. put_number_at (edits_
 put_above : (o : Object) (step : ℕ) (m : RegistersByObject) → T (below_all object_cmp o m) → put_number_at (edit_list m) (object_place o step) ≡ None
 put_above o step [] h = refl
 put_above o step (e ∷ m) h =
-    put_other o e.0 step e.1 (edit_list m) (other_above o e.0 (is_less _ (first_of_both (is_lt (object_cmp o e.0)) _ h)))
+    put_other o e.0 step e.1 (edit_list m) (other_above o e.0 (less_by_T _ (first_of_both (is_lt (object_cmp o e.0)) _ h)))
     ∙ put_above o step m (second_of_both (is_lt (object_cmp o e.0)) _ h)
 
 turned : (a b : ℕ) → is_eq (nat_cmp a b) ≡ is_eq (nat_cmp b a)
@@ -123,21 +123,14 @@ least-append (m ∷ ms) ns = ap Some (fold-append m ms ns) ∙ both (fold min m 
     both a [] = refl
     both a (n ∷ ns) = ap Some (fold-min a n ns)
 
-abbrev pub AllLater : ℕ → List Edit → Type 0
-AllLater step [] = Unit {0}
-AllLater step (e ∷ es) = (step < e.step) × AllLater step es
-
 pub later_object_edits : (o : Object) (a : ℕ) (steps : RegistersByStep) → T (below_all nat_cmp a steps) → AllLater a (object_edits o steps)
 later_object_edits o a [] h = tt
 later_object_edits o a (s ∷ steps) h =
     let rest = later_object_edits o a steps (second_of_both (is_lt (nat_cmp a s.0)) _ h) in
     elim s.1 as (λ w. AllLater a (edits_from_register o s.0 w (object_edits o steps))) [
       | Nothing ↦ rest
-      | Of w ↦ (is_later a s.0 (is_less _ (first_of_both (is_lt (nat_cmp a s.0)) _ h)), rest)
+      | Of w ↦ (is_later a s.0 (less_by_T _ (first_of_both (is_lt (nat_cmp a s.0)) _ h)), rest)
     ]
-  where
-    is_later : (a b : ℕ) → nat_cmp a b ≡ Less → a < b
-    is_later a b e = grind (arith, nat_tests)
 
 pub later_kept : (q : Edit → Bool) (a : ℕ) (es : List Edit) → AllLater a es → AllLater a (filter q es)
 later_kept q a [] h = tt

@@ -12,7 +12,7 @@ use Rattle.std.proofs.lemmas.Bool.Decides.{nat_tests}
 use Rattle.std.proofs.lemmas.List.{length-map, append-nil, length-set, get_or-map}
 use Rattle.std.proofs.lemmas.List.FromFn.{fill_by_all}
 use Rattle.std.proofs.lemmas.List.Elements.{filter-append}
-use Rattle.lattice_core.specs.Instances.TestAnswers.{first_of_both, second_of_both}
+use Rattle.lattice_core.specs.Instances.TestAnswers.{first_of_both, second_of_both, less_by_T}
 use Rattle.road_scenario.specs.Edits.{put_number}
 use Rattle.lattice_core.specs.Map.{IsHeld, is_empty}
 use Rattle.road_plan.specs.Plan.{Plan}
@@ -25,7 +25,7 @@ use Rattle.road_scenario.specs.Registers.{RegistersByStep, RegistersByObject, ob
 use Rattle.road_scenario.specs.Settings.{is_put_up_to, latest_edit, setting_in, settings_in, all_settings}
 use Rattle.road_scenario.specs.Private.RegisterWalks.{last_number, registers_of_object, settings_with_number, settings_with_optional, settings_with_last_numbers, has_place}
 use Rattle.road_scenario.specs.Instances.RegisterLattice.{AreRegistersByStep}
-use Rattle.road_scenario.proofs.RisingEdits.{object_cmp, AreRegisters, is_less}
+use Rattle.road_scenario.proofs.RisingEdits.{object_cmp, AreRegisters}
 use Rattle.road_scenario.proofs.LastNumbers.{is_one, chosen, none_of_other, none_above, latest_number, other_above, steps_here, steps_there, one_object}
 
 -- ---- the setting of an object
@@ -66,7 +66,7 @@ read step (e ∷ m) o n = read step m o (cond (is_one e.0 o) (unwrap_or (last_nu
 read_above : (step : ℕ) (m : RegistersByObject) (o : Object) (n : ℕ) → T (below_all object_cmp o m) → read step m o n ≡ n
 read_above step [] o n h = refl
 read_above step (e ∷ m) o n h =
-    ap (λ b. read step m o (cond b (unwrap_or (last_number step e.1) n) n)) (other_above o e.0 (is_less _ (first_of_both (is_lt (object_cmp o e.0)) _ h)))
+    ap (λ b. read step m o (cond b (unwrap_or (last_number step e.1) n) n)) (other_above o e.0 (less_by_T _ (first_of_both (is_lt (object_cmp o e.0)) _ h)))
     ∙ read_above step m o n (second_of_both (is_lt (object_cmp o e.0)) _ h)
 
 read-steps : (step : ℕ) (m : RegistersByObject) (o : Object) (n : ℕ) → T (is_sorted object_cmp m) → read step m o n ≡ unwrap_or (last_number step (registers_of_object object_cmp m o)) n
@@ -221,7 +221,7 @@ still_ready p f o x (Watch detector) l r = tt
 all_still_ready : (p : Plan) (f : Object → ℕ) (o : Object) (x : Option ℕ) (m : RegistersByObject) → T (below_all object_cmp o m) → AreReady p f m → AreReady p (update f o x) m
 all_still_ready p f o x [] h r = tt
 all_still_ready p f o x (e ∷ m) h r = (
-  still_ready p f o x e.0 (ap is_lt (sym (ordered o e.0) ∙ is_less _ (first_of_both (is_lt (object_cmp o e.0)) _ h))) r.0,
+  still_ready p f o x e.0 (ap is_lt (sym (ordered o e.0) ∙ less_by_T _ (first_of_both (is_lt (object_cmp o e.0)) _ h))) r.0,
   all_still_ready p f o x m (second_of_both (is_lt (object_cmp o e.0)) _ h) r.1,
 )
 

@@ -1,4 +1,4 @@
-// The steps by which a scenario's edits are dated.
+//! The steps by which a scenario's edits are dated.
 
 ghost use Rattle.std.specs.Prelude.{◌≡◌};
 ghost use Rattle.road_scenario.specs.Private.RegisterWalks as walks;

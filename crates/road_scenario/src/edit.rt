@@ -1,3 +1,5 @@
+//! Edits with their stamps and values, how they are ordered, and whether one fits a plan.
+
 ghost use Rattle.std.specs.Prelude.{◌≡◌};
 ghost use Rattle.std.specs.Ordering.{nat_cmp};
 ghost use Rattle.road_scenario.specs.Edits as edits;

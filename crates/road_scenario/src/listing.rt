@@ -1,4 +1,4 @@
-// Walks over a scenario's registers that list its edits and check them.
+//! Walks over a scenario's registers that list its edits and check them.
 
 ghost use Rattle.std.specs.Prelude.{◌≡◌, [], ◌++◌, OnOk, IfOk, IsOk};
 ghost use Rattle.road_scenario.specs.Faults.{first_fault};

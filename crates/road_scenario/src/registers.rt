@@ -1,4 +1,4 @@
-// The registers of a scenario, in which the last writer wins.
+//! The registers of a scenario, in which the last writer wins.
 
 ghost use Rattle.std.specs.Prelude.{◌≡◌, [], ◌∷◌, IfOk};
 ghost use Rattle.std.specs.Option.{option_copied};

@@ -1,3 +1,5 @@
+//! The winners of all edits that came: how they are joined, and what they put at each step.
+
 ghost use Rattle.std.specs.Prelude.{◌≡◌, ◌↔◌, ◌≤◌, ℕ, [], ◌∷◌, IfOk, IsNone, IsOk, None, T, true};
 ghost use Rattle.lattice_core.specs.Sets as sets;
 ghost use Rattle.road_plan.specs.Objects.{in_plan};
@@ -200,8 +202,8 @@ impl Scenario {
         first_change(&self.registers, &other.registers)
     }
 
-    /// As [`Scenario::touched`], where the other scenario is this one with what is `taken` joined in: just the objects
-    /// and steps of what is taken are looked at. It takes no memory.
+    /// As [`Scenario::touched`], for another scenario that must be this one with what is `taken` joined in: just the
+    /// objects and steps of what is taken are looked at. It takes no memory.
     pub fn touched_by(&self, taken: &Scenario, joined: &Scenario) -> Option<u32>
         requires { joined.now ≡ join self.now taken.now }
         ensures { result ≡ touched self.now joined.now }

@@ -1,4 +1,4 @@
-// Walks over a scenario's registers that read the numbers put.
+//! Walks over a scenario's registers that read the numbers put.
 
 ghost use Rattle.std.specs.Prelude.{◌≡◌, true, OnErr, OnOk};
 ghost use Rattle.std.specs.List.{AllByRecursion};

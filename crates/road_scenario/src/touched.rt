@@ -1,4 +1,4 @@
-// The first step at which two scenarios put different numbers.
+//! The first step at which two scenarios put different numbers.
 
 ghost use Rattle.std.specs.Prelude.{◌≡◌, []};
 ghost use Rattle.std.specs.Option.{option_copied, unwrap_or};

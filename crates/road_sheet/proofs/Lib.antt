@@ -1,3 +1,4 @@
+-- Lemmas about runs, the blocks that keep them, and what stays of them under other edits.
 pub mod Ranges
 pub mod RunStates
 pub mod RunRows

@@ -7,9 +7,6 @@ use Rattle.road_scenario.specs.Edits.{Edits}
 use Rattle.road_sheet.specs.Shown.{row_at, rows_at}
 use Rattle.road_sheet.proofs.Ranges.{range-to}
 
-pub first_row : (p : Plan) (edits : Edits) (a : ℕ) → row_at p edits a ∷ [] ≡ rows_at p edits a a
-first_row p edits a = let one : suc a - a ≡ 1 = omega arith in sym (ap (λ (n : ℕ). map (row_at p edits) (range_with_len a n)) one)
-
 rows_more : (p : Plan) (edits : Edits) (a b : ℕ) → a ≤ b → rows_at p edits a b ++ row_at p edits (b + 1) ∷ [] ≡ rows_at p edits a (b + 1)
 rows_more p edits a b before =
     let rest = range-to a (b + 1) (omega arith) in

@@ -4,7 +4,7 @@ use Rattle.std.proofs.Math.Numerals.{add-one}
 use Rattle.road_plan.specs.Plan.{Plan}
 use Rattle.road_plan.specs.Settings.{Settings}
 use Rattle.road_cells.specs.Array.{Array}
-use Rattle.road_ends.specs.Input.{StepInput, input_of, input_next}
+use Rattle.road_ends.specs.Input.{input_of}
 use Rattle.road_ends.specs.Run.{road_after_step}
 use Rattle.road_scenario.specs.Edits.{Edits}
 use Rattle.road_scenario.specs.Settings.{settings_of}
@@ -22,7 +22,3 @@ pub next_is : (s : Sheet) (plan : Plan) (settings : Settings) (step : ℕ) (last
 next_is s plan settings step last p u h l =
     ap (λ (x : Plan). input_of x settings step last) p ∙ ap (λ (x : Settings). input_of s.plan x step last) u
     ∙ ap (λ (x : ℕ). input_of s.plan (settings_of s.plan s.edits s.horizon) x last) h ∙ ap (λ (x : Array). input_of s.plan (settings_of s.plan s.edits s.horizon) s.horizon x) l
-
--- the road after the next input's step is that of the next step
-pub next_road : (s : Sheet) (input : StepInput) (road : Array) → input ≡ next_input s → road ≡ input_next input → road ≡ state_of s (s.horizon + 1)
-next_road s input road is e = e ∙ ap (λ (x : StepInput). input_next x) is ∙ sym (ap (run_at s.plan s.edits) (add-one s.horizon))

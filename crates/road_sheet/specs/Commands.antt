@@ -5,7 +5,7 @@ use Rattle.road_plan.specs.declared.limits.TheConstants.{GREATEST_HORIZON}
 use Rattle.road_scenario.specs.Edits.{Edits}
 use Rattle.road_scenario.specs.Faults.{AreInRange}
 use Rattle.road_scenario.specs.Winners.{join}
-use Rattle.road_sheet.specs.Sheets.{Sheet, opening_sheet}
+use Rattle.road_sheet.specs.Sheets.{Sheet}
 
 -- edits are taken, or the run is simulated up to a step
 pub data Command : Type 0 where
@@ -33,12 +33,3 @@ abbrev pub IsHistoryFrom : Sheet → List Entry → Type 0
 IsHistoryFrom s [] = Unit {0}
 IsHistoryFrom s (entry ∷ entries) =
     IsAllowed s.plan entry.command × (entry.sheet ≡ sheet_after entry.command s) × IsHistoryFrom entry.sheet entries
-
--- a legal history begins with the opening sheet
-abbrev pub IsLegalHistory : Plan → List Entry → Type 0
-IsLegalHistory plan entries = IsHistoryFrom (opening_sheet plan) entries
-
--- the sheet after some commands, one after another
-abbrev pub sheet_after_all : List Command → Sheet → Sheet
-sheet_after_all [] s = s
-sheet_after_all (command ∷ commands) s = sheet_after_all commands (sheet_after command s)

@@ -1,3 +1,4 @@
+-- What sheets, drafts and commands are, and what they show of a run.
 pub mod Shown
 pub mod Sheets
 pub mod Commands

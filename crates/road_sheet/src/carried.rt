@@ -13,7 +13,7 @@ use road_scenario::Scenario;
 use std::alloc::Global;
 use std::sync::Arc;
 
-/// Settings, and the steps at which they are in force: from one up to another, that one not among them.
+// Settings, and the steps at which they are in force: from one up to another, that one not among them.
 #[derive(Drop)]
 pub(crate) struct InForce {
     settings: Arc<Settings>,
@@ -34,7 +34,7 @@ impl InForce {
     }
 }
 
-/// The settings that a run carries from a step to the next: those that it made last, if any.
+// The settings that a run carries from a step to the next: those that it made last, if any.
 #[derive(Drop)]
 pub(crate) struct CarriedSettings {
     last: Option<InForce>,

@@ -9,7 +9,7 @@ use road_plan::OutOfMemory;
 use std::alloc::Global;
 use std::marker::Model;
 
-/// A car of a checkpoint, in 8 bytes.
+// A car of a checkpoint, in 8 bytes.
 #[derive(Clone, Copy, Debug, PartialEq, Eq)]
 struct KeptCar {
     number: u32,
@@ -17,7 +17,7 @@ struct KeptCar {
     speed: u8,
 }
 
-/// A road that is kept to go on from: its cars in 8 bytes each, in a list of exactly as many. Contracts see the road.
+// A road that is kept to go on from: its cars in 8 bytes each, in a list of exactly as many. Contracts see the road.
 #[derive(Drop)]
 pub(crate) struct Checkpoint {
     cars: Vec<KeptCar>,

@@ -1,3 +1,5 @@
+//! A sheet that is being made: it grows by a step at a time.
+
 ghost use Rattle.std.specs.Prelude.{◌≡◌, ◌<◌, IfOk, OnErr, OnOk};
 ghost use Rattle.std.specs.Arc.{arc_value};
 ghost use Rattle.road_plan.specs.declared.limits.TheConstants.{GREATEST_HORIZON};
@@ -58,7 +60,8 @@ impl Draft {
             .next_input(alloc, &mut self.settings, &mut self.words)
     }
 
-    /// One step more, from its input and the new speeds of its cars.
+    /// One step more, from its input and the new speeds of its cars. The input must be that of the next step, the
+    /// speeds must be those of its cars by the rules, and the horizon must be below 65,536.
     ///
     /// # Errors
     ///

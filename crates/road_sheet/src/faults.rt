@@ -1,3 +1,5 @@
+//! The causes for which a sheet does not answer.
+
 ghost use Rattle.std.specs.Prelude.{◌≡◌};
 ghost use Rattle.road_sheet.specs.declared.faults.SheetFault.TheVariants.{OutOfMemory};
 

@@ -1,3 +1,5 @@
+//! The known part of a run: blocks of steps up to the horizon, and what is read from them.
+
 ghost use Rattle.std.specs.Prelude.{◌≡◌, ◌≢◌, ◌<◌, ◌≤◌, ◌+◌, ◌*◌, ◌/◌, ◌%◌, IfOk, IfErr, OnErr, OnOk, None, length, map, min, take};
 ghost use Rattle.std.specs.Arc.{arc_value};
 ghost use Rattle.road_plan.specs.declared.limits.TheConstants.{GREATEST_HORIZON};
@@ -139,13 +141,13 @@ impl Sheet {
         self.state_with(alloc, step, &mut words)
     }
 
-    /// The road at a step, as [`Sheet::state`], by words that whoever asks keeps: what is drawn for it serves to go on from
-    /// there. The words must be the plan's.
+    /// The road at a step, as [`Sheet::state`], by words that whoever asks keeps: what is drawn for it serves to go on
+    /// from there. The words must be the plan's.
     ///
     /// # Errors
     ///
-    /// `NotSimulated` where the step is above the horizon, else `OutOfMemory` where a growth was refused. The words are the
-    /// plan's as before.
+    /// `NotSimulated` where the step is above the horizon, else `OutOfMemory` where a growth was refused. The words are
+    /// the plan's as before.
     pub fn state_with(
         &self,
         alloc: Global,
@@ -330,7 +332,7 @@ impl Sheet {
         self.draft_of(alloc, joined, keep)
     }
 
-    /// As [`Sheet::draft`], for a scenario that is joined already.
+    /// As [`Sheet::draft`], for a scenario that is joined already. It must fit the plan, and `keep` must be as there.
     ///
     /// # Errors
     ///
@@ -492,8 +494,8 @@ impl Sheet {
         Checkpoint::of(alloc, road)
     }
 
-    // A step more that ends the block; what comes back is the road before it. What can fail for memory is done before the
-    // sheet is changed.
+    // A step more that ends the block; what comes back is the road before it. What can fail for memory is done before
+    // the sheet is changed.
     fn step_to_end(
         &mut self,
         alloc: Global,

@@ -1,7 +1,7 @@
 //! What is seen of a road's run by the settings that edits give: states, rows and counts, computed step by step.
 //!
-//! Who asks often hands in words of the plan and keeps them: what is drawn for the steps round the last one serves the next
-//! question too, whatever the edits.
+//! Who asks often hands in words of the plan and keeps them: what is drawn for the steps round the last one serves the
+//! next question too, whatever the edits.
 
 ghost use Rattle.std.specs.Prelude.{◌≡◌, IfOk, ◌≤◌, ◌<◌, ◌+◌, [], length, map, string_bytes};
 ghost use Rattle.std.specs.Arc.{arc_value};
@@ -59,6 +59,8 @@ impl State {
 /// The state at a step of the run by these edits. It goes on from the last state, where that is not after the step, and
 /// else begins at step 0.
 ///
+/// The scenario must fit the plan, and the last state must be one of the run by its edits.
+///
 /// # Errors
 ///
 /// `OutOfMemory` where a growth was refused, or the settings can have no more owners.
@@ -78,11 +80,13 @@ pub fn state_at(
     state_with(alloc, plan, scenario, last, step, &mut words)
 }
 
-/// The state at a step, as [`state_at`], by words that whoever asks keeps. The words must be the plan's.
+/// The state at a step, as [`state_at`] and under its conditions, by words that whoever asks keeps. The words must be
+/// the plan's.
 ///
 /// # Errors
 ///
-/// `OutOfMemory` where a growth was refused, or the settings can have no more owners. The words are the plan's as before.
+/// `OutOfMemory` where a growth was refused, or the settings can have no more owners. The words are the plan's as
+/// before.
 pub fn state_with(
     alloc: Global,
     plan: &Arc<Plan>,
@@ -165,6 +169,12 @@ fn next(
 }
 
 /// The row of a state, with the blocks of its step.
+///
+/// The scenario must fit the plan, and the state must be one of the run by its edits.
+///
+/// # Errors
+///
+/// `OutOfMemory` where a growth was refused.
 #[tactic(auto, unfolding(crate::specs::Shown::row_at))]
 pub fn row_of(
     alloc: Global,
@@ -183,6 +193,9 @@ pub fn row_of(
 
 /// The rows of the states from a step to another, both of them, and the last of these states. It goes on from a state
 /// at the first step.
+///
+/// The scenario must fit the plan, and the first state must be one of the run by its edits, at a step that is not after
+/// `to`. `to` must be at most 65,536.
 ///
 /// # Errors
 ///
@@ -206,12 +219,13 @@ pub fn rows_between(
     rows_with(alloc, plan, scenario, first, to, &mut words)
 }
 
-/// The rows of some states and the last of these, as [`rows_between`], by words that whoever asks keeps. The words must be
-/// the plan's.
+/// The rows of some states and the last of these, as [`rows_between`] and under its conditions, by words that whoever
+/// asks keeps. The words must be the plan's.
 ///
 /// # Errors
 ///
-/// `OutOfMemory` where a growth was refused, or the settings can have no more owners. The words are the plan's as before.
+/// `OutOfMemory` where a growth was refused, or the settings can have no more owners. The words are the plan's as
+/// before.
 pub fn rows_with(
     alloc: Global,
     plan: &Arc<Plan>,
@@ -256,6 +270,9 @@ pub fn rows_with(
 
 /// What a detector counts in the steps from that of a state up to another, and the state after them.
 ///
+/// The scenario must fit the plan, and the first state must be one of the run by its edits, at a step that is not after
+/// `to`. The plan must have the detector, and `to` must be at most 65,536.
+///
 /// # Errors
 ///
 /// `OutOfMemory` where a growth was refused, or the settings can have no more owners.
@@ -279,12 +296,13 @@ pub fn totals_between(
     totals_with(alloc, plan, scenario, first, detector, to, &mut words)
 }
 
-/// What a detector counts in some steps and the state after them, as [`totals_between`], by words that whoever asks keeps.
-/// The words must be the plan's.
+/// What a detector counts in some steps and the state after them, as [`totals_between`] and under its conditions, by
+/// words that whoever asks keeps. The words must be the plan's.
 ///
 /// # Errors
 ///
-/// `OutOfMemory` where a growth was refused, or the settings can have no more owners. The words are the plan's as before.
+/// `OutOfMemory` where a growth was refused, or the settings can have no more owners. The words are the plan's as
+/// before.
 pub fn totals_with(
     alloc: Global,
     plan: &Arc<Plan>,

@@ -1,5 +1,5 @@
 -- What a replica answers is what its world answers.
-use Rattle.std.proofs.Common.{◌≡◌, ◌⊎◌, ◌<◌, ◌∙◌, length, Option, Some, None, ap, sym, subst, inl, inr}
+use Rattle.std.proofs.Common.{◌≡◌, ◌⊎◌, ◌<◌, length, Option, Some, None, ap, sym, subst, inl, inr}
 use Rattle.std.specs.Prelude.{IsErrAnd, Result, if◌then◌else◌}
 use Rattle.std.specs.Option.{option_map}
 use Rattle.std.specs.declared.result.Result.TheVariants.{Ok, Err}
@@ -8,7 +8,7 @@ use Rattle.road_replica.specs.Refusals.{IsWriteRefusal}
 use Rattle.road_replica.specs.declared.faults.ReplicaFault.{ReplicaFault}
 use Rattle.road_replica.specs.declared.faults.ReplicaFault.TheVariants.{WorkersGone, OutOfMemory}
 use Rattle.road_replica.specs.declared.reply.Reply.{Reply}
-use Rattle.road_world.specs.Answers.{replica_number, fault_at_replica, fault_of_event, reply_to_event, IsUnnamedRefusal, IsRefusal, IsAnswer}
+use Rattle.road_world.specs.Answers.{replica_number, fault_at_replica, fault_of_event, IsUnnamedRefusal, IsRefusal, IsAnswer}
 use Rattle.road_world.specs.Events.{World}
 use Rattle.road_world.specs.declared.event.Event.{Event}
 use Rattle.road_world.specs.declared.faults.WorldFault.{WorldFault}
@@ -31,14 +31,11 @@ refused event None fault writes is = elim is as (λ _. IsRefusal event None (fau
 pub fault_there : (w : World) (event : Event) → replica_number event < length w.replicas → fault_of_event w event ≡ fault_at_replica w event
 fault_there w event below = ap (λ b. if b then fault_at_replica w event else Some NoReplica) (lt-ltb (replica_number event) (length w.replicas) below)
 
--- an answer for the cause at the replica is one for the event
-pub accepted : (w : World) (event : Event) (reply : Reply) → replica_number event < length w.replicas → fault_at_replica w event ≡ None → reply ≡ reply_to_event w event → IsAnswer w event (Ok reply)
-accepted w event reply below none is = (fault_there w event below ∙ none, is)
-
-pub not_accepted : (w : World) (event : Event) (fault : WorldFault) → replica_number event < length w.replicas → IsRefusal event (fault_at_replica w event) fault → IsAnswer w event (Err fault)
+-- a refusal for the cause at the replica is one for the event
+not_accepted : (w : World) (event : Event) (fault : WorldFault) → replica_number event < length w.replicas → IsRefusal event (fault_at_replica w event) fault → IsAnswer w event (Err fault)
 not_accepted w event fault below is = subst (λ cause. IsRefusal event cause fault) (sym (fault_there w event below)) is
 
--- and so is a refusal, once the world hands it on
+-- so is a result that is that refusal, once the world hands it on
 pub handed_on : (w : World) (event : Event) (result : Result Reply WorldFault) (fault : ReplicaFault) → replica_number event < length w.replicas → IsErrAnd result (λ given. given ≡ faults.Replica fault)
     → IsRefusal event (fault_at_replica w event) (faults.Replica fault) → IsAnswer w event result
 handed_on w event (Ok reply) fault below given is = absurd given

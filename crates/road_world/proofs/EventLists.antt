@@ -1,5 +1,5 @@
 -- Lists of events: what one event more makes of the world, of the answers and of the crew's count, and what stays.
-use Rattle.std.proofs.Common.{◌≡◌, ℕ, suc, List, [], ◌∷◌, ◌++◌, length, refl, ap, ◌∙◌}
+use Rattle.std.proofs.Common.{◌≡◌, ℕ, List, [], ◌∷◌, ◌++◌, length, refl, ◌∙◌}
 use Rattle.std.specs.Prelude.{Result}
 use Rattle.std.specs.declared.result.Result.TheVariants.{Ok, Err}
 use Rattle.std.proofs.lemmas.List.{length-set, length-replicate, length-map}
@@ -14,15 +14,6 @@ use Rattle.road_world.specs.declared.faults.WorldFault.{WorldFault}
 -- the answer to an event: a reply, or why it is refused
 abbrev EventAnswer : Type 0
 EventAnswer = Result Reply WorldFault
-
--- ---- as many answers as events
-
--- each event has one answer
-pub as_many : (w : World) (events : List Event) (replies : List EventAnswer) → AreAnswers w events replies → length replies ≡ length events
-as_many w [] [] h = refl
-as_many w [] (reply ∷ replies) h = absurd h
-as_many w (event ∷ events) [] h = absurd h
-as_many w (event ∷ events) (reply ∷ replies) h = ap suc (as_many (world_after_answer event reply w) events replies h.1)
 
 -- ---- one event more
 

@@ -3,8 +3,8 @@ use Rattle.std.proofs.Common.{◌≡◌, ◌<◌, ◌≤◌, ◌+◌, ◌∙◌,
 use Rattle.std.specs.Prelude.{slice_set, replicate, IfSome, MatchOption}
 use Rattle.std.specs.Option.{option_map}
 use Rattle.std.specs.List.{All, slice_index_or, slice_get}
-use Rattle.std.proofs.lemmas.List.{get_or-map, get_or_default, map-set, map-append, set-get_or, length-set, length-map, length-replicate, replicate_more}
-use Rattle.std.proofs.lemmas.List.Elements.{All-push, All-nil}
+use Rattle.std.proofs.lemmas.List.{get_or-map, get_or_default, map-set, map-append, length-set, length-map, length-replicate, replicate_more}
+use Rattle.std.proofs.lemmas.List.Elements.{All-nil}
 use Rattle.std.proofs.lemmas.Option.{slice_get_read, slice_get_within, get_or_from_slice_get}
 use Rattle.lattice_core.specs.Sets.{contains, items, union}
 use Rattle.road_plan.specs.Plan.{Plan}
@@ -69,10 +69,6 @@ add_each P [] y each new (suc n) x h = absurd (none_is_no_item x h)
 add_each P (z ∷ xs) y each new zero x h = each zero x h
 add_each P (z ∷ xs) y each new (suc n) x h = add_each (λ k. P (suc k)) xs y (λ k w. each (suc k) w) new n x h
 
--- an item put in its own place
-pub same_set : (xs : List Replica) (r : ℕ) (x y : Replica) → x ≡ slice_index_or xs r x → y ≡ x → slice_set xs r y ≡ xs
-same_set xs r x y is same = ap (λ z. slice_set xs r z) (same ∙ is) ∙ set-get_or xs r x
-
 replicas_win : (xs : List Replica) → ((n : ℕ) (x : Replica) → slice_get xs n ≡ Some x → AreWinners x.sheet.edits) → map replica_of_winners (map world_replica xs) ≡ map world_replica xs
 replicas_win [] win = refl
 replicas_win (x ∷ xs) win =
@@ -116,10 +112,6 @@ module _ (plan : Plan) (xs : List Replica) (ms : List Message) (kept : IsKept pl
     each = set_each (IsReplicaOf plan) xs r y kept.each is;
     sendable = kept.sendable;
   }
-
-  -- one message more
-  pub kept_more : (m : Message) → IsSendable plan m → IsKept plan xs (ms ++ m ∷ [])
-  kept_more m is = record { few = kept.few; each = kept.each; sendable = All-push (IsSendable plan) ms m kept.sendable is }
 
   -- one replica is read
   pub is_replica : (r : ℕ) (x : Replica) → x ≡ slice_index_or xs r x → r < length xs → IsReplicaOf plan r x
@@ -192,10 +184,6 @@ module _ (plan : Plan) (xs : List Replica) (ms : List Message) (kept : IsKept pl
           sheet = sheet;
         }
 
-    -- a replica is as before
-    pub unchanged : (r : ℕ) (x y : Replica) → x ≡ slice_index_or xs r x → y ≡ x → viewed plan (slice_set xs r y) ms ≡ k
-    unchanged r x y is same = ap (λ (ys : List Replica). viewed plan ys ms) (same_set xs r x y is same) ∙ v
-
     -- a replica has changed
     pub changed : (r : ℕ) (y : Replica) (z : WorldReplica) → world_replica y ≡ replica_of_winners z → viewed plan (slice_set xs r y) ms ≡ world_of_winners (record k { replicas = slice_set k.replicas r z })
     changed r y z same =
@@ -258,10 +246,6 @@ module _ (plan : Plan) (xs : List Replica) (ms : List Message) (kept : IsKept pl
           in_range = λ e i. subst (λ (p : Plan). IsInRange p e) (of.plan_is ∙ plan_same) (of.sheet.in_range e (from_set x.sheet.edits hs e (ap (λ (s : Edits). contains s e) (sym all) ∙ i)));
         }
 
-    -- a message more
-    pub posted : (m : Message) → viewed plan xs (ms ++ m ∷ []) ≡ world_with_message m k
-    posted m = ap (λ (w : World). world_with_message m w) v
-
 -- ---- before any event
 
 -- a replica before any event, by its place
@@ -278,9 +262,6 @@ opening_of plan number x is =
 pub record AreOpened (plan : Plan) (count : ℕ) (xs : List Replica) : Type 0 where
   pub seen : map world_replica xs ≡ replicate count opening_replica
   pub each : (number : ℕ) (x : Replica) → slice_get xs number ≡ Some x → IsReplicaOf plan number x
-
-pub none_opened : (plan : Plan) → AreOpened plan 0 []
-none_opened plan = record { seen = refl; each = λ n x h. absurd (none_is_no_item x h) }
 
 length_opened : (plan : Plan) (count : ℕ) (xs : List Replica) → AreOpened plan count xs → length xs ≡ count
 length_opened plan count xs are = sym (length-map xs world_replica) ∙ ap (λ (ys : List WorldReplica). length ys) are.seen ∙ length-replicate count opening_replica

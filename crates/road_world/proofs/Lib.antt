@@ -1,3 +1,4 @@
+-- Lemmas about worlds, their events and winners, with worked lists of events.
 pub mod WinnersSuffice
 pub mod EventLists
 pub mod GrowingCounts

@@ -295,16 +295,9 @@ fault-of_winners e w =
 
 -- ---- the answer to an event
 
--- what may be answered in a world of winners may be answered in the world,
+-- what may be answered in a world of winners may be answered in the world
 pub answer-from_winners : (w : World) (e : Event) (reply : Result Reply WorldFault) → IsAnswer (world_of_winners w) e reply → IsAnswer w e reply
 answer-from_winners w e (Ok reply) h = (sym (fault-of_winners e w) ∙ h.0, h.1 ∙ reply-of_winners e w)
 answer-from_winners w e (Err fault) h =
     let Refused : Option WorldFault → Type 0 = λ cause. IsRefusal e cause fault in
     subst Refused (fault-of_winners e w) h
-
--- and what may be answered in the world may be in a world of winners
-pub answer-of_winners : (w : World) (e : Event) (reply : Result Reply WorldFault) → IsAnswer w e reply → IsAnswer (world_of_winners w) e reply
-answer-of_winners w e (Ok reply) h = (fault-of_winners e w ∙ h.0, h.1 ∙ sym (reply-of_winners e w))
-answer-of_winners w e (Err fault) h =
-    let Refused : Option WorldFault → Type 0 = λ cause. IsRefusal e cause fault in
-    subst Refused (sym (fault-of_winners e w)) h

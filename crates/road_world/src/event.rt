@@ -1,3 +1,5 @@
+//! The events of a world: each happens at one replica.
+
 ghost use Rattle.std.specs.Prelude.{◌≡◌};
 ghost use Rattle.road_world.specs.Answers as answers;
 

@@ -1,3 +1,5 @@
+//! The causes for which an event is refused, and for which a list of events is not played.
+
 ghost use Rattle.std.specs.Prelude.{◌≡◌};
 ghost use Rattle.road_replica.specs.declared.faults.ReplicaFault.TheVariants as replicas;
 ghost use Rattle.road_world.specs.declared.faults.PlayFault.TheVariants.{OutOfMemory};

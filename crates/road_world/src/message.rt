@@ -1,3 +1,5 @@
+//! The messages between replicas.
+
 use road_delta::Heads;
 use road_scenario::Scenario;
 

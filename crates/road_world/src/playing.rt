@@ -1,3 +1,5 @@
+//! A list of events, played one after another from the opened world on.
+
 ghost use Rattle.std.specs.Prelude.{◌≡◌, ◌≤◌, ◌++◌, ◌∷◌, [], IfOk, OnOk, map};
 ghost use Rattle.std.specs.Arc.{arc_value};
 ghost use Rattle.road_plan.specs.declared.limits.TheConstants.{MOST_REPLICAS};

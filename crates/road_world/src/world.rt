@@ -1,3 +1,5 @@
+//! A world: its replicas, the messages that were sent, and what each event does to them.
+
 ghost use Rattle.std.specs.Prelude.{◌≡◌, ◌<◌, ◌≤◌, ◌↔◌, ℕ, IfOk, IfSome, IsSome, OnErr, OnOk, length};
 ghost use Rattle.std.specs.Prelude.{MatchOption, None, Some};
 ghost use Rattle.std.specs.Arc.{arc_value};

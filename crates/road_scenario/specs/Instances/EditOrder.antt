@@ -1,8 +1,7 @@
 -- The orders of stamps, values and edits: they are total and tell edits apart, the derived ones are those of the keys,
 -- and an edit is stored as its key.
 use Rattle.std.specs.Prelude.{◌≡◌, ℕ, zero, suc, true, false, refl}
-use Rattle.std.specs.declared.cmp.Ordering.{Ordering}
-use Rattle.std.specs.declared.cmp.Ordering.TheVariants.{Less, Equal, Greater}
+use Rattle.std.specs.declared.cmp.Ordering.TheVariants.{Less, Greater}
 use Rattle.std.specs.Ordering.{nat_cmp, is_eq, is_lt}
 use Rattle.std.specs.Cmp.{IsTotalOrder, Equal-is, tied_itself, on_total, nat_cmp_total}
 use Rattle.std.specs.Coded.{Coded, code_by, coded×, coded_ℕ}
@@ -11,6 +10,7 @@ use Rattle.std.proofs.lemmas.Bool.Decides.{nat_tests}
 use Rattle.std.proofs.Common.{arith, sym, ap, ◌∙◌}
 use Rattle.lattice_core.specs.Exact.{IsExact}
 use Rattle.lattice_core.specs.Instances.ExactOrders.{exact_by, exact_nat, exact_pair, total_pair}
+use Rattle.lattice_core.specs.Instances.TestAnswers.{less}
 use Rattle.lattice_core.specs.Sets as sets
 use Rattle.lattice_core.specs.Tops.{IsStrict, TopsLaws}
 use Rattle.lattice_core.proofs.GreatestElements.{tops_laws}
@@ -113,11 +113,6 @@ edits_code = sets.code edit_code
 
 -- ---- exceeding
 
-less_is : (r : Ordering) → is_lt r ≡ true → r ≡ Less
-less_is Less e = refl
-less_is Equal e = absurd (true≢false (sym e))
-less_is Greater e = absurd (true≢false (sym e))
-
 never_itself : (e : Edit) → is_exceeded_by e e ≡ false
 never_itself e = false_from_ne_true _ (λ t.
     let above = and_parts (is_eq (number_triple_cmp (edit_place e) (edit_place e))) _ t in
@@ -127,10 +122,10 @@ on_and_on : (x y z : Edit) → is_exceeded_by x y ≡ true → is_exceeded_by y 
 on_and_on x y z p q =
     let first = and_parts (is_eq (number_triple_cmp (edit_place x) (edit_place y))) _ p in
     let second = and_parts (is_eq (number_triple_cmp (edit_place y) (edit_place z))) _ q in
-    let less : number_triple_cmp (edit_rank x) (edit_rank z) ≡ Less =
-    number_triple_total.trans (edit_rank x) (edit_rank y) (edit_rank z) (less_is _ first.1) (less_is _ second.1) in
+    let lower : number_triple_cmp (edit_rank x) (edit_rank z) ≡ Less =
+    number_triple_total.trans (edit_rank x) (edit_rank y) (edit_rank z) (less _ first.1) (less _ second.1) in
     let one = number_triple_total.congr (edit_place x) (edit_place y) (edit_place z) ((Equal-is _).0 first.0) in
-    and_from _ _ (ap is_eq one ∙ second.0) (ap is_lt less)
+    and_from _ _ (ap is_eq one ∙ second.0) (ap is_lt lower)
 
 pub exceeds_strict : IsStrict is_exceeded_by
 exceeds_strict = record { irreflexive = never_itself; transitive = on_and_on }

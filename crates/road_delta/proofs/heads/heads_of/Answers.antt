@@ -1,3 +1,4 @@
+-- The heads of winners rise.
 use Rattle.std.proofs.Common.{◌≡◌, map, sym, ap, subst, ◌∙◌}
 use Rattle.std.proofs.lemmas.List.{take_all}
 use Rattle.road_delta.specs.Deltas.{AreRising, head_of, heads}

@@ -1,3 +1,4 @@
+-- A draft of the joined scenario, simulated to the greater horizon, is the grown sheet, by so many steps at most.
 use Rattle.std.proofs.Common.{◌≡◌, ◌∙◌, ◌-◌, max, ap, sym, subst, arith}
 use Rattle.road_scenario.specs.Edits.{Edits}
 use Rattle.road_scenario.specs.Faults.{AreInRange}

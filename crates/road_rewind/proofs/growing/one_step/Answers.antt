@@ -1,3 +1,4 @@
+-- The input that a draft gave is that of its next step.
 use Rattle.std.proofs.Common.{◌∙◌, ap, sym}
 use Rattle.road_sheet.specs.Sheets.{next_input}
 use Rattle.road_rewind.proofs.growing.one_step.Goals as goal

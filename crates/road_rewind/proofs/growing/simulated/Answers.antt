@@ -1,3 +1,4 @@
+-- One step more is one tick more.
 use Rattle.std.proofs.Common.{◌∙◌, ap, arith}
 use Rattle.road_sheet.specs.Sheets.{Sheet, sheet_after_step}
 use Rattle.road_rewind.proofs.StepCounts.{tick_more}

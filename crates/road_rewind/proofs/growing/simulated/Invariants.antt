@@ -1,3 +1,4 @@
+-- A draft is simulated, step by step.
 use Rattle.std.proofs.Common.{◌≡◌, ◌-◌}
 use Rattle.road_rewind.specs.Growth.{meter_after}
 use Rattle.road_rewind.proofs.growing.simulated.Given as goal

@@ -1,3 +1,4 @@
+-- The first entry after a step bears the first date of an object after it.
 use Rattle.road_scenario.proofs.NextDates.{found_after, none_after}
 use Rattle.road_scenario.proofs.dates.first_step_after.Goals as goal
 

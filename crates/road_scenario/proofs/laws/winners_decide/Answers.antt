@@ -1,3 +1,4 @@
+-- The winners of a set give what the set gives.
 use Rattle.std.proofs.Common.{ap}
 use Rattle.lattice_core.specs.Sets.{items}
 use Rattle.road_scenario.specs.Instances.EditOrder.{winners_laws}

@@ -1,3 +1,4 @@
+-- An object that has a fault gives the first one, and one that has none is passed over.
 use Rattle.std.proofs.Common.{sym, ap, ◌∙◌}
 use Rattle.road_scenario.specs.Faults.{first_fault}
 use Rattle.road_scenario.specs.Registers.{object_edits}

@@ -1,3 +1,4 @@
+-- The registers of an object are walked back from a step until one puts a number.
 use Rattle.std.proofs.Common.{◌≡◌, length}
 use Rattle.road_scenario.specs.Private.RegisterWalks.{last_number, last_number_of}
 use Rattle.road_scenario.proofs.settings.last_put.Given as goal

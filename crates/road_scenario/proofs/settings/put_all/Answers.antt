@@ -1,3 +1,4 @@
+-- The last number of one more object goes into the settings.
 use Rattle.std.proofs.Common.{ap, ◌∙◌}
 use Rattle.road_scenario.specs.Private.RegisterWalks.{last_number, settings_with_last_numbers}
 use Rattle.road_scenario.proofs.WalkedSettings.{put_turn, place_turn}

@@ -1,3 +1,4 @@
+-- The first change among ours, object by object.
 use Rattle.std.proofs.Common.{◌≡◌}
 use Rattle.road_scenario.specs.Private.RegisterWalks.{earlier_step, first_change}
 use Rattle.road_scenario.proofs.RisingEdits.{object_cmp}

@@ -1,3 +1,4 @@
+-- Each car of a road is kept in 8 bytes.
 use Rattle.std.proofs.Common.{◌≡◌, ◌++◌, map, drop}
 use Rattle.road_sheet.specs.Private.Checkpoints.{whole_car}
 use Rattle.road_sheet.proofs.checkpoint.kept_cars.Given as goal

@@ -1,3 +1,4 @@
+-- Each kept car becomes a car again.
 use Rattle.std.proofs.Common.{◌≡◌, ◌++◌, map, drop}
 use Rattle.road_sheet.specs.Private.Checkpoints.{whole_car}
 use Rattle.road_sheet.proofs.checkpoint.whole_cars.Given as goal

@@ -1,3 +1,4 @@
+-- Blocks are shared, one after another.
 use Rattle.std.proofs.Common.{◌≡◌, map, take}
 use Rattle.std.specs.Arc.{arc_value}
 use Rattle.road_sheet.proofs.sheet.shared.Given as goal

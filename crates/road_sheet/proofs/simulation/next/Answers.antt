@@ -1,3 +1,4 @@
+-- One step by the settings in force is a step of the run.
 use Rattle.std.specs.Arc.{arc_value}
 use Rattle.road_sheet.proofs.RunStates.{step_more}
 use Rattle.road_sheet.proofs.simulation.next.Goals as goal

@@ -1,3 +1,4 @@
+-- A scenario that fits the plan has settings at each step.
 use Rattle.std.proofs.Common.{sym, subst}
 use Rattle.road_plan.specs.Plan.{Plan}
 use Rattle.road_scenario.specs.Faults.{AreInRange}

@@ -1,3 +1,4 @@
+-- The row of one more step stands behind the others.
 use Rattle.std.proofs.Common.{◌∙◌, List, map, ap, refl, String, Global, string_bytes}
 use Rattle.std.specs.Arc.{arc_value}
 use Rattle.road_sheet.proofs.RunRows.{one_row_more}

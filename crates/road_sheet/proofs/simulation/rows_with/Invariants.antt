@@ -1,3 +1,4 @@
+-- Rows are written, step by step.
 use Rattle.std.proofs.Common.{◌≡◌, map, string_bytes}
 use Rattle.std.specs.Arc.{arc_value}
 use Rattle.road_sheet.specs.Private.CarriedSettings.{AreCarried}

@@ -1,3 +1,4 @@
+-- The run goes on, step by step.
 use Rattle.std.proofs.Common.{◌≡◌}
 use Rattle.std.specs.Arc.{arc_value}
 use Rattle.road_sheet.specs.Private.CarriedSettings.{AreCarried}

@@ -1,3 +1,4 @@
+-- The counts of one more step are added, and no sum wraps.
 use Rattle.std.proofs.Common.{◌∙◌, subst, arith}
 use Rattle.std.specs.Arc.{arc_value}
 use Rattle.road_scenario.specs.Settings.{settings_of}

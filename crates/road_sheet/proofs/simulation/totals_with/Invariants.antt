@@ -1,3 +1,4 @@
+-- A detector counts, step by step.
 use Rattle.std.proofs.Common.{◌≡◌}
 use Rattle.std.specs.Arc.{arc_value}
 use Rattle.road_scenario.specs.Settings.{settings_of}

@@ -1,3 +1,4 @@
+-- One more event is played, from the opened world on.
 use Rattle.std.proofs.Common.{◌≡◌, ◌≤◌, ◌+◌, ◌++◌, ◌∷◌, ◌∙◌, [], ℕ, List, length, take, ap, subst, sym}
 use Rattle.std.specs.Arc.{arc_value}
 use Rattle.std.specs.Prelude.{Result}

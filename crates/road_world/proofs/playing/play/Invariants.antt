@@ -1,3 +1,4 @@
+-- Events are played, one after another.
 use Rattle.std.proofs.Common.{◌≡◌, take}
 use Rattle.std.specs.Arc.{arc_value}
 use Rattle.road_world.specs.Answers.{gone_after_answers}

@@ -1,3 +1,4 @@
+-- A growth without edits simulates the steps after the horizon alone.
 use Rattle.std.proofs.Common.{◌∙◌, max, ap, subst}
 use Rattle.road_scenario.specs.Edits.{Edits}
 use Rattle.road_sheet.specs.Sheets.{Sheet}

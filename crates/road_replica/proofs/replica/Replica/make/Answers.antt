@@ -1,3 +1,4 @@
+-- The edit that a replica makes fits the plan, has a fresh stamp, and costs what a growth by it costs.
 use Rattle.std.proofs.Common.{◌≡◌, ◌∙◌, None, ap, rules}
 use Rattle.road_scenario.specs.Edits.{Edits}
 use Rattle.road_scenario.specs.Faults.{fault_of}

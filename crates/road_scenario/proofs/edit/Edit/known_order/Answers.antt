@@ -1,3 +1,4 @@
+-- The derived order of edits, which goes field by field, is that of their keys.
 use Rattle.std.proofs.Common.{◌≡◌, refl, sym, ◌∙◌}
 use Rattle.std.specs.Ordering.{nat_cmp, ordering_then}
 use Rattle.road_plan.specs.Objects.{object_order}

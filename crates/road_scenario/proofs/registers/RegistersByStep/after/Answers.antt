@@ -1,3 +1,4 @@
+-- The registers after a step are those of the map that contracts see.
 use Rattle.std.proofs.Common.{ap, ◌∙◌}
 use Rattle.std.specs.Ordering.{nat_cmp}
 use Rattle.lattice_core.specs.Map.{entries_after}

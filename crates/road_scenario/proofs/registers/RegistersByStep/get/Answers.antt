@@ -1,3 +1,4 @@
+-- The register of a step is the one in the map that contracts see.
 use Rattle.std.proofs.Common.{ap, ◌∙◌}
 use Rattle.std.specs.FinMap.Entries.{find}
 use Rattle.std.specs.Ordering.{nat_cmp}

@@ -1,3 +1,4 @@
+-- The registers of an object are a proper map.
 use Rattle.std.proofs.Common.{subst}
 use Rattle.road_scenario.specs.Instances.RegisterLattice.{AreRegistersByStep}
 use Rattle.road_scenario.proofs.registers.RegistersByStepLattice.known.Goals as goal

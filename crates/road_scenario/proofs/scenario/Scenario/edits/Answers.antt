@@ -1,3 +1,4 @@
+-- The list of what the registers hold is that of the winners, and it rises.
 use Rattle.std.proofs.Common.{◌≡◌, [], T, sym, ap, subst, ◌∙◌}
 use Rattle.std.proofs.lemmas.Bool.{true≢false}
 use Rattle.lattice_core.specs.Sets.{items, is_rising}

@@ -1,3 +1,4 @@
+-- A scenario without registers holds no edit, and fits every plan.
 use Rattle.std.proofs.Common.{sym, ap, subst, ◌∙◌}
 use Rattle.lattice_core.proofs.SetElements.{from_list-empty}
 use Rattle.road_scenario.specs.Faults.{AreInRange}

@@ -1,3 +1,4 @@
+-- The first fault among the registers is the scenario's, and where there is none all edits are in range.
 use Rattle.std.proofs.Common.{◌≡◌, sym, ap, ◌∙◌}
 use Rattle.road_scenario.specs.Faults.{first_fault, fault_in}
 use Rattle.road_scenario.proofs.FirstFaults.{all_in_range, no_fault}

@@ -1,3 +1,4 @@
+-- The count that a scenario keeps is the greatest of its edits, and of all sets that it has the winners of.
 use Rattle.std.proofs.Common.{◌≡◌, ◌≤◌, ℕ, arith, sym, ap, ◌∙◌}
 use Rattle.road_plan.specs.declared.limits.TheConstants.{GREATEST_COUNT}
 use Rattle.road_scenario.specs.Counts.{greatest_count}

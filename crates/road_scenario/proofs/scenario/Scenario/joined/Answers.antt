@@ -1,3 +1,4 @@
+-- Joined registers hold the join of both scenarios, with the greater of both counts.
 use Rattle.std.proofs.Common.{◌≡◌, max, sym, ap, subst, ◌∙◌}
 use Rattle.road_scenario.specs.Counts.{greatest_count}
 use Rattle.road_scenario.specs.Faults.{AreInRange}

@@ -1,3 +1,4 @@
+-- The next date of the registers is the scenario's, and settings stay up to it.
 use Rattle.std.proofs.Common.{sym, ap, subst, ◌∙◌}
 use Rattle.road_scenario.specs.Settings.{next_date}
 use Rattle.road_scenario.specs.Touched.{IsBefore}

@@ -1,3 +1,4 @@
+-- The number last put is the setting, and where none was put the default is.
 use Rattle.std.proofs.Common.{sym, ap, ◌∙◌}
 use Rattle.std.specs.Option.{unwrap_or}
 use Rattle.road_plan.specs.Objects.{default}

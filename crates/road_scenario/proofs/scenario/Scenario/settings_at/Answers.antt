@@ -1,3 +1,4 @@
+-- The plan's own settings with the numbers put in them are the settings of the step.
 use Rattle.std.proofs.Common.{◌≡◌, true, sym, ap, subst, ◌∙◌}
 use Rattle.std.specs.List.{AllByRecursion}
 use Rattle.road_plan.specs.Settings.{Fits}

@@ -1,3 +1,4 @@
+-- The first change among the registers is the first step that is touched.
 use Rattle.std.proofs.Common.{sym, ◌∙◌}
 use Rattle.road_scenario.specs.Touched.{touched}
 use Rattle.road_scenario.proofs.TouchedSteps.{touched-edit_set}

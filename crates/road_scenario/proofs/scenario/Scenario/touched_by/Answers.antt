@@ -1,3 +1,4 @@
+-- Where one scenario was joined from the other, the first change lies among what was taken.
 use Rattle.std.proofs.Common.{sym, ◌∙◌}
 use Rattle.road_scenario.specs.Touched.{touched}
 use Rattle.road_scenario.specs.Winners.{join}

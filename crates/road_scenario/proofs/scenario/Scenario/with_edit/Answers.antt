@@ -1,3 +1,4 @@
+-- Registers with one more of an edit hold the join with that edit, and the greater of both counts.
 use Rattle.std.proofs.Common.{◌≡◌, max, sym, ap, subst, ◌∙◌, [], ◌∷◌}
 use Rattle.lattice_core.specs.Map.{is_empty, map_with}
 use Rattle.lattice_core.specs.Sets.{from_list}

@@ -1,3 +1,4 @@
+-- One scenario is at most another just where its registers are.
 use Rattle.std.proofs.Common.{◌≡◌, sym, subst}
 use Rattle.road_scenario.specs.Registers.{edit_set}
 use Rattle.road_scenario.specs.Winners.{join}

@@ -1,3 +1,4 @@
+-- A scenario has no edits just where it has no registers.
 use Rattle.std.proofs.Common.{ap, ◌∙◌}
 use Rattle.road_scenario.specs.Winners.{has_no_edit}
 use Rattle.road_scenario.proofs.EqualRegisters.{is_empty-edit_set}

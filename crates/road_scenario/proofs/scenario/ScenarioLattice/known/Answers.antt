@@ -1,3 +1,4 @@
+-- What registers hold are winners.
 use Rattle.std.proofs.Common.{subst}
 use Rattle.road_scenario.specs.Winners.{AreWinners}
 use Rattle.road_scenario.proofs.RisingEdits.{winners-edit_set}

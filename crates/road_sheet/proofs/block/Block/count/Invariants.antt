@@ -1,3 +1,4 @@
+-- The detectors of a block count one more step, one after another.
 use Rattle.std.proofs.Common.{◌≡◌, ◌<◌, ◌≤◌, ℕ, length}
 use Rattle.std.specs.List.{slice_index_or}
 use Rattle.road_detector.specs.Passes.{no_totals, passes_at, plus}

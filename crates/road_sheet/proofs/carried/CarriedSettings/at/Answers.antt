@@ -1,3 +1,4 @@
+-- Settings that are in force at a step are its settings.
 use Rattle.std.specs.Arc.{arc_value}
 use Rattle.road_sheet.proofs.carried.CarriedSettings.at.Goals as goal
 

@@ -1,3 +1,4 @@
+-- The next input of a draft is that of its sheet.
 use Rattle.std.proofs.Common.{◌≡◌, subst, IfOk}
 use Rattle.std.specs.Arc.{arc_value}
 use Rattle.road_sheet.specs.Sheets.{Sheet, next_input}

@@ -1,3 +1,4 @@
+-- Each block of a sheet, a whole one or the cut one, is that of the run.
 use Rattle.std.proofs.Common.{arith}
 use Rattle.std.proofs.lemmas.List.{length-map}
 use Rattle.std.specs.Arc.{arc_value}

@@ -1,3 +1,4 @@
+-- The cars of a run are small enough to be kept.
 use Rattle.std.proofs.Common.{◌+◌, ◌∙◌, ap, sym, subst, arith}
 use Rattle.road_cells.specs.Cars.{cars_of}
 use Rattle.road_plan.specs.Plan.{IsWithinLimits}

@@ -1,3 +1,4 @@
+-- A sheet that is cut back to the beginning of a block is one of the joined scenario.
 use Rattle.std.proofs.Common.{◌∙◌, ap, sym, map, take, length, replicate, arith}
 use Rattle.std.proofs.lemmas.List.{take-map}
 use Rattle.std.specs.Arc.{arc_value}

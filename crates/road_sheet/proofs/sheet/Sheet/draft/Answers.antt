@@ -1,3 +1,4 @@
+-- A scenario joined from two that fit the plan fits it.
 use Rattle.std.proofs.Common.{ap, sym, subst}
 use Rattle.road_scenario.specs.Faults.{AreInRange}
 use Rattle.road_sheet.specs.Sheets.{Sheet}

@@ -1,3 +1,4 @@
+-- A sheet whose run no edit touches is one of the joined scenario too.
 use Rattle.std.proofs.Common.{◌∙◌, ap, map, take, arith}
 use Rattle.std.proofs.lemmas.List.{take_all}
 use Rattle.std.specs.Arc.{arc_value}

@@ -1,3 +1,4 @@
+-- Without edits and steps, a sheet shows the empty road of step 0.
 use Rattle.std.proofs.Common.{◌∙◌, ap, sym, subst, map, length, replicate}
 use Rattle.road_detector.specs.Passes.{no_totals}
 use Rattle.std.specs.Arc.{arc_value}

@@ -1,3 +1,4 @@
+-- A step that ends its block: the block is whole, and a new one begins.
 use Rattle.std.proofs.Common.{sym, ◌∙◌, ◌∷◌, [], ◌++◌, ap, map, length, replicate, subst}
 use Rattle.std.proofs.lemmas.List.{map-append}
 use Rattle.std.specs.Arc.{arc_value}

@@ -1,3 +1,4 @@
+-- A step within the block that the horizon cuts.
 use Rattle.std.proofs.Common.{◌∙◌, subst, refl}
 use Rattle.road_detector.specs.Laws.{PassOneByOne, BoundTotals}
 use Rattle.road_sheet.proofs.SheetBlocks.{counted_next, next_cars_fit, next_speeds_fit, stays_in_block}

@@ -1,3 +1,4 @@
+-- Counts of whole blocks and of the steps at their ends add up to those of all steps.
 use Rattle.std.proofs.Common.{◌∙◌, ◌+◌, ap, subst, arith}
 use Rattle.road_scenario.specs.Settings.{settings_of}
 use Rattle.road_detector.specs.Laws.{BoundTotals}

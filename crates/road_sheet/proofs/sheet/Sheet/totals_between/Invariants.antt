@@ -1,3 +1,4 @@
+-- Steps are counted block by block.
 use Rattle.std.proofs.Common.{◌≡◌}
 use Rattle.road_sheet.specs.Sheets.{total_of}
 use Rattle.road_sheet.proofs.BlockSteps.{counted_to}

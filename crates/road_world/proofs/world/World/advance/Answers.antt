@@ -1,3 +1,4 @@
+-- A replica that simulates further is one whose horizon has grown.
 use Rattle.std.specs.Arc.{arc_value}
 use Rattle.road_sheet.specs.Commands.{Advance}
 use Rattle.road_world.proofs.KeptWorlds.{advanced, below_kept, still_kept, written}

@@ -1,3 +1,4 @@
+-- The heads that are sent are those of the replica's winners.
 use Rattle.std.proofs.Common.{◌∙◌}
 use Rattle.std.specs.Arc.{arc_value}
 use Rattle.road_delta.specs.Deltas.{heads}

@@ -1,3 +1,4 @@
+-- Imported edits reach the world's replica, or are refused as the world's definition says.
 use Rattle.std.proofs.Common.{◌∙◌, List, ap, subst, sym}
 use Rattle.std.specs.Arc.{arc_value}
 use Rattle.std.specs.Option.{option_map}

@@ -1,3 +1,4 @@
+-- A world has no more replicas than it may, each with its sheet.
 use Rattle.std.specs.Arc.{arc_value}
 use Rattle.road_world.proofs.KeptWorlds.{few_replicas, is_sheet}
 use Rattle.road_world.proofs.world.World.known.Goals as goal

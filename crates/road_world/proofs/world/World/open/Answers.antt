@@ -1,3 +1,4 @@
+-- One more replica is opened, with the number of its place.
 use Rattle.std.proofs.Common.{◌≤◌, ◌+◌, List, arith, sym, subst}
 use Rattle.std.specs.Arc.{arc_value}
 use Rattle.road_plan.specs.declared.limits.TheConstants.{MOST_REPLICAS}

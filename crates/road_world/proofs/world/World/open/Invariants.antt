@@ -1,3 +1,4 @@
+-- Replicas are opened, one after another.
 use Rattle.std.specs.Arc.{arc_value}
 use Rattle.road_world.proofs.KeptWorlds.{AreOpened}
 use Rattle.road_world.proofs.world.World.open.Given as goal

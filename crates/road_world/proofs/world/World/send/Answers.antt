@@ -1,3 +1,4 @@
+-- The whole that is sent are the replica's winners.
 use Rattle.std.proofs.Common.{◌∙◌}
 use Rattle.std.specs.Arc.{arc_value}
 use Rattle.road_world.proofs.KeptWorlds.{below_kept, sent, sent_all}

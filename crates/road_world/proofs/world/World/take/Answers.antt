@@ -1,3 +1,4 @@
+-- A message's edits reach the world's replica, or are refused as the world's definition says.
 use Rattle.std.proofs.Common.{◌≡◌, ◌∙◌, List, None, ap, subst, sym}
 use Rattle.std.specs.Arc.{arc_value}
 use Rattle.std.specs.List.{slice_get}

@@ -1,3 +1,4 @@
+-- A withdrawal at a replica is a local edit of the world, or is refused as the world's definition says.
 use Rattle.std.proofs.Common.{◌∙◌, ap, subst, sym}
 use Rattle.std.specs.Arc.{arc_value}
 use Rattle.std.specs.Option.{option_map}
