@@ -12,7 +12,8 @@ use Rattle.road_replica.specs.Refusals.{arrived_fault, imported_fault, import_fa
 use Rattle.road_replica.specs.declared.faults.ReplicaFault.{ReplicaFault}
 use Rattle.road_replica.specs.declared.faults.ReplicaFault.TheVariants.{Insider}
 
-none_of_both : (x y : Option ReplicaFault) → option_or x y ≡ None → (x ≡ None) × (y ≡ None)
+-- no cause of two
+pub none_of_both : (x y : Option ReplicaFault) → option_or x y ≡ None → (x ≡ None) × (y ≡ None)
 none_of_both None y h = (refl, h)
 none_of_both (Some f) y h = cc
 

@@ -3,7 +3,7 @@
 use Rattle.std.proofs.Common.{◌≡◌, ◌≤◌, ◌<◌, ◌==◌, ℕ, suc, zero, Bool, true, false, List, [], ◌∷◌, ◌++◌, length, map, Option, Some, None, refl, ap, sym, subst, ◌∙◌, arith}
 use Rattle.std.specs.Prelude.{◌||◌, slice_set, nat_lt, Result, if◌then◌else◌}
 use Rattle.std.specs.List.{AllByRecursion, IsDistinct, list_any, slice_index_or}
-use Rattle.std.specs.Option.{option_map, option_or}
+use Rattle.std.specs.Option.{option_map}
 use Rattle.std.specs.declared.result.Result.TheVariants.{Ok, Err}
 use Rattle.std.proofs.lemmas.Bool.{and_parts, eqb-true, false_from_ne_true}
 use Rattle.std.proofs.lemmas.Bool.Decides.{nat_tests}
@@ -23,6 +23,7 @@ use Rattle.road_replica.specs.Refusals.{arrived_fault, imported_fault, import_fa
 use Rattle.road_replica.specs.Replicas.{local_edit, single_edit}
 use Rattle.road_replica.specs.declared.faults.ReplicaFault.{ReplicaFault}
 use Rattle.road_replica.specs.declared.faults.ReplicaFault.TheVariants.{Insider}
+use Rattle.road_replica.proofs.ImportedEdits.{none_of_both}
 use Rattle.road_replica.specs.declared.reply.Reply.{Reply}
 use Rattle.road_replica.specs.declared.reply.Reply.TheVariants.{Stamped, Touched, Message, Horizon}
 use Rattle.road_world.specs.Answers.{AreAnswers, fault_at_replica, fault_of_event, replica_number, reply_to_event}
@@ -197,11 +198,6 @@ issued_distinct w (e ∷ events) (Err fault ∷ replies) h = issued_distinct w e
 -- a stamp bears no replica's number
 abbrev IsOutside : Stamp → Type 0
 IsOutside s = FIRST_IMPORT_NUMBER ≤ s.number
-
--- no cause of two
-none_of_both : (x y : Option ReplicaFault) → option_or x y ≡ None → (x ≡ None) × (y ≡ None)
-none_of_both None y h = (refl, h)
-none_of_both (Some f) y h = cc
 
 -- no cause by another name
 unmapped : (x : Option ReplicaFault) → option_map faults.Replica x ≡ None → x ≡ None
