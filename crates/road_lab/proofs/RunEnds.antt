@@ -148,8 +148,8 @@ read_on lines limit room room' n m source s1 s2 sink k1 k2 d d' piece so more le
 
 abbrev run_of : ℕ → ℕ → SourceView → SourceView → SinkView → SinkView → Result Served ServeFault → Run
 run_of lines limit source source' sink sink' result = record {
-  lines = lines;
-  bytes = limit;
+  most_lines = lines;
+  most_bytes = limit;
   source_before = source;
   source_after = source';
   sink_before = sink;
@@ -204,13 +204,13 @@ stopped lines limit room n m source s1 s2 sink k1 k2 d piece fault so more some 
 
 -- ---- the run is over before the end of its input
 
-over_ends : (run : Run) (input z : List ℕ) (d : Dialogue) (end : EarlyEnd) → take run.bytes input ≡ z → run.source_after.at_end ≡ false → WritesAll run input → Stands run.lines z d (Some end) → Ends run input (Err (early_fault end))
+over_ends : (run : Run) (input z : List ℕ) (d : Dialogue) (end : EarlyEnd) → take run.most_bytes input ≡ z → run.source_after.at_end ≡ false → WritesAll run input → Stands run.most_lines z d (Some end) → Ends run input (Err (early_fault end))
 over_ends run input z d ends.BadPlan part going writes s =
-    (writes, ap (is_plan_refused_within run.bytes input) going ∙ refused_going run.bytes input ∙ ap (λ (x : List ℕ). is_plan_refused x false) part ∙ s)
+    (writes, ap (is_plan_refused_within run.most_bytes input) going ∙ refused_going run.most_bytes input ∙ ap (λ (x : List ℕ). is_plan_refused x false) part ∙ s)
 over_ends run input z d ends.TooMany part going writes s = (
   writes,
-  ap (is_plan_refused_within run.bytes input) going ∙ refused_going run.bytes input ∙ ap (λ (x : List ℕ). is_plan_refused x false) part ∙ s.0,
-  past_lines run.lines run.bytes input (ap (has_more_lines run.lines) part ∙ s.1),
+  ap (is_plan_refused_within run.most_bytes input) going ∙ refused_going run.most_bytes input ∙ ap (λ (x : List ℕ). is_plan_refused x false) part ∙ s.0,
+  past_lines run.most_lines run.most_bytes input (ap (has_more_lines run.most_lines) part ∙ s.1),
 )
 
 stands_at : (n : ℕ) (a : List ℕ) (d : Dialogue) (o o' : Option EarlyEnd) → o ≡ o' → Stands n a d o → Stands n a d o'
@@ -301,8 +301,8 @@ writes_ended lines limit room n source s1 s2 sink k1 k2 d d' piece result so mor
 ends_at : (n : ℕ) (a : List ℕ) (d : Dialogue) (o o' : Option EarlyEnd) → o ≡ o' → StandsAtEnd n a d o → StandsAtEnd n a d o'
 ends_at n a d o o' e s = let Family : Option EarlyEnd → Type 0 = λ x. StandsAtEnd n a d x in subst Family e s
 
-refused_ends : (run : Run) (input : List ℕ) (d : Dialogue) (end : EarlyEnd) → run.source_after.at_end ≡ true → length input ≤ run.bytes → WritesAll run input → StandsAtEnd run.lines input d (Some end) → Ends run input (Err (early_fault end))
-refused_ends run input d ends.BadPlan ended short writes s = (writes, ap (is_plan_refused_within run.bytes input) ended ∙ refused_ended run.bytes input short ∙ s)
+refused_ends : (run : Run) (input : List ℕ) (d : Dialogue) (end : EarlyEnd) → run.source_after.at_end ≡ true → length input ≤ run.most_bytes → WritesAll run input → StandsAtEnd run.most_lines input d (Some end) → Ends run input (Err (early_fault end))
+refused_ends run input d ends.BadPlan ended short writes s = (writes, ap (is_plan_refused_within run.most_bytes input) ended ∙ refused_ended run.most_bytes input short ∙ s)
 refused_ends run input d ends.TooMany ended short writes s = absurd s
 
 pub refused_at_end : (lines limit room n : ℕ) (source s1 s2 : SourceView) (sink k1 k2 : SinkView) (d d' : Dialogue) (piece : List ℕ) (end : EarlyEnd) (so : SoFar lines limit room source s1 sink k1 d) → ReadMore s1 s2 n piece → n ≡ 0

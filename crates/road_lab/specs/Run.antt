@@ -12,8 +12,8 @@ use Rattle.road_lab.specs.declared.serve.Served.{Served}
 -- A run: how many lines may come after the plan line, and how many bytes in all; its source and its sink before and
 -- after it; and its result.
 pub record Run : Type 0 where
-  pub lines : ℕ
-  pub bytes : ℕ
+  pub most_lines : ℕ
+  pub most_bytes : ℕ
   pub source_before : SourceView
   pub source_after : SourceView
   pub sink_before : SinkView
@@ -23,8 +23,8 @@ pub record Run : Type 0 where
 -- a run within the program's own limits
 abbrev pub program_run : SourceView → SourceView → SinkView → SinkView → Result Served ServeFault → Run
 program_run source_before source_after sink_before sink_after result = record {
-  lines = MOST_LINES;
-  bytes = MOST_BYTES;
+  most_lines = MOST_LINES;
+  most_bytes = MOST_BYTES;
   source_before = source_before;
   source_after = source_after;
   sink_before = sink_before;
@@ -34,7 +34,7 @@ program_run source_before source_after sink_before sink_after result = record {
 
 -- what is answered to this input
 abbrev pub run_answers : Run → List ℕ → List ℕ
-run_answers run input = answers_within run.lines run.bytes input run.source_after.at_end
+run_answers run input = answers_within run.most_lines run.most_bytes input run.source_after.at_end
 
 -- the answers to the input were written, all of them and nothing else, and flushed; no call failed
 pub record WritesAll (run : Run) (input : List ℕ) : Type 0 where
@@ -45,11 +45,11 @@ pub record WritesAll (run : Run) (input : List ℕ) : Type 0 where
 
 -- whether the plan line of this input is refused
 abbrev pub RefusesPlan : Run → List ℕ → Bool → Type 0
-RefusesPlan run input answer = is_plan_refused_within run.bytes input run.source_after.at_end ≡ answer
+RefusesPlan run input answer = is_plan_refused_within run.most_bytes input run.source_after.at_end ≡ answer
 
 -- whether a byte of this input stands past the limits
 abbrev pub PassesLimits : Run → List ℕ → Bool → Type 0
-PassesLimits run input answer = has_byte_past_limits run.lines run.bytes input ≡ answer
+PassesLimits run input answer = has_byte_past_limits run.most_lines run.most_bytes input ≡ answer
 
 -- A run that ends well: at the end of input, with nothing left. The plan line is accepted, and no byte is past the
 -- limits.
@@ -59,12 +59,12 @@ pub record EndsWell (run : Run) (input : List ℕ) (served : Served) : Type 0 wh
   pub nothing_left : IsAtEnd run.source_after.remaining
   pub accepted : RefusesPlan run input false
   pub within : PassesLimits run input false
-  pub counted : served.lines ≡ reply_count run.lines run.bytes input
+  pub counted : served.lines ≡ reply_count run.most_lines run.most_bytes input
 
 -- A run that a failed read ends: the answers to the lines that were read whole were written.
 pub record EndsUnread (run : Run) (input : List ℕ) : Type 0 where
   pub written : Appends run.sink_before.contents run.sink_after.contents
-      (answers_within run.lines run.bytes input false)
+      (answers_within run.most_lines run.most_bytes input false)
   pub reads_failed : RisesByOne run.source_before.failures run.source_after.failures
   pub writes_well : run.sink_after.failures ≡ run.sink_before.failures
 

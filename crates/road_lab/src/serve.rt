@@ -59,8 +59,8 @@ pub fn serve_within<R: Source, W: Sink, C: Crew>(
     bytes: u64,
 ) -> Result<Served, ServeFault>
     ensures answers { AnswersInput (record {
-      lines = lines;
-      bytes = bytes;
+      most_lines = lines;
+      most_bytes = bytes;
       source_before = source_view R.Source reader.old;
       source_after = source_view R.Source reader.new;
       sink_before = sink_view W.Sink writer.old;
@@ -90,8 +90,8 @@ fn answer_input<R: Source, W: Sink, C: Crew>(
     requires going { dialogue.old.over ≡ None }
     requires none_wait { dialogue.old.waiting.items ≡ [] }
     ensures answers { AnswersInput (record {
-      lines = lines;
-      bytes = bytes;
+      most_lines = lines;
+      most_bytes = bytes;
       source_before = source_view R.Source reader.old;
       source_after = source_view R.Source reader.new;
       sink_before = sink_view W.Sink writer.old;

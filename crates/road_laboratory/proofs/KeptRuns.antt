@@ -17,7 +17,7 @@ use Rattle.road_world.specs.Events.{World, WorldReplica, opening_replica, openin
 use Rattle.road_world.specs.declared.event.Event.{Event}
 use Rattle.road_world.specs.declared.event.Event.TheVariants.{Edit, Withdraw, Import, Send, Heads, Beyond, Take, Advance}
 use Rattle.road_laboratory.specs.Keeping.{IsKept, IsKeptOf}
-use Rattle.road_laboratory.specs.Laboratory.{Laboratory, laboratory_of_winners}
+use Rattle.road_laboratory.specs.Laboratory.{Laboratory}
 use Rattle.road_laboratory.specs.Private.Changes.{keeps_edits}
 use Rattle.road_laboratory.specs.declared.kept.KeptRun.{KeptRun}
 
@@ -165,21 +165,7 @@ abbrev pub laboratory_with : List (List ℕ) → List (List ℕ) → World → L
 laboratory_with names messages w = record { replica_names = names; message_names = messages; world = w }
 
 module _ (names messages : List (List ℕ)) (w : World) (runs : List KeptRun) (lab : Laboratory) (view_is : laboratory_with names messages w ≡ lab) (kept : IsKept names w runs) where
-  -- its edits have won
-  pub known_winners : laboratory_of_winners lab ≡ lab
-  known_winners = ap laboratory_of_winners (sym view_is) ∙ ap (laboratory_with names messages) kept.winners ∙ view_is
-
-  -- each name has a replica
-  pub known_replicas : length lab.world.replicas ≡ length lab.replica_names
-  known_replicas =
-      ap (λ (l : Laboratory). length l.world.replicas) (sym view_is) ∙ kept.replicas ∙ ap (λ (l : Laboratory). length l.replica_names) view_is
-
-  -- a number below how many names there are is that of a replica,
-  pub replica_below : (r : ℕ) → r < length lab.replica_names → r < length w.replicas
-  replica_below r below =
-      let same : length names ≡ length lab.replica_names = ap (λ (l : Laboratory). length l.replica_names) view_is in omega (arith, same, kept.replicas, below)
-
-  -- and of what is kept of a run
+  -- a number below how many names there are is that of what is kept of a run
   pub run_below : (r : ℕ) → r < length lab.replica_names → r < length runs
   run_below r below =
       let same : length names ≡ length lab.replica_names = ap (λ (l : Laboratory). length l.replica_names) view_is in omega (arith, same, kept.each, below)

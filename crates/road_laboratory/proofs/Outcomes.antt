@@ -9,7 +9,7 @@ use Rattle.road_replica.specs.declared.faults.ReplicaFault.{ReplicaFault}
 use Rattle.road_replica.specs.declared.faults.ReplicaFault.TheVariants.{OutOfMemory, WorkersGone}
 use Rattle.road_world.proofs.EventAnswers.{fault_there}
 use Rattle.road_world.specs.Answers.{IsRefusal, IsUnnamedRefusal, fault_at_replica, fault_of_event, replica_number}
-use Rattle.road_world.specs.Events.{world_after_event, world_with_edits}
+use Rattle.road_world.specs.Events.{world_with_edits}
 use Rattle.road_world.specs.declared.event.Event.{Event}
 use Rattle.road_world.specs.declared.event.Event.TheVariants as events
 use Rattle.road_world.specs.declared.faults.WorldFault.{WorldFault}
@@ -59,11 +59,6 @@ pub refused_answer : (lab : Laboratory) (e : Event) (answer : Answer) (fault : W
 refused_answer lab e answer fault refusal below is said =
     let here = subst (λ (cause : Option WorldFault). IsRefusal e cause fault) (fault_there lab.world e below) is in
     rw (named e (fault_at_replica lab.world e) fault refusal here said) refl
-
--- an event that the world accepts is answered its answer
-pub accepted : (lab : Laboratory) (e : Event) (answer : Answer) → replica_number e < length lab.world.replicas → fault_of_event lab.world e ≡ None
-    → change_outcome lab e answer ≡ record { answer = answer; after = record lab { world = world_after_event e lab.world } }
-accepted lab e answer below none = rw (sym (fault_there lab.world e below) ∙ none) refl
 
 -- ---- imports
 

@@ -1,8 +1,9 @@
 -- Beginnings of one list, and what stands in it.
 use Rattle.std.proofs.Common.{◌≡◌, ◌∙◌, ℕ, zero, suc, ◌≤◌, List, [], ◌∷◌, ◌++◌, length, length-append, slice_get, Some, append_assoc, refl, sym, ap, subst, arith}
 use Rattle.std.proofs.lemmas.List.{append-nil}
+use Rattle.std.specs.List.{AllByRecursion}
 use mathlib.Core.List.{IsPrefix}
-use Rattle.road_sessions.specs.Journals.{Each, Write, Stand}
+use Rattle.road_sessions.specs.Journals.{Write, Stand}
 use Rattle.road_sessions.specs.declared.entry.Entry.{Entry}
 
 pub begins_itself : {A : Type 0} (xs : List A) → IsPrefix xs xs
@@ -42,7 +43,7 @@ pub got_last : {A : Type 0} (xs : List A) (x : A) → slice_get (xs ++ x ∷ [])
 got_last [] x = refl
 got_last (y ∷ xs) x = got_last xs x
 
-pub each_of_both : {A : Type 0} (P : A → Type 0) (xs ys : List A) → Each P xs → Each P ys → Each P (xs ++ ys)
+pub each_of_both : {A : Type 0} (P : A → Type 0) (xs ys : List A) → AllByRecursion P xs → AllByRecursion P ys → AllByRecursion P (xs ++ ys)
 each_of_both P [] ys first second = second
 each_of_both P (x ∷ xs) ys first second = (first.0, each_of_both P xs ys first.1 second)
 

@@ -1,9 +1,10 @@
 -- Where sessions made as many writes as the journal has entries, and all of these stand there, the journal has no others.
 use Rattle.std.proofs.Common.{◌≡◌, ◌≢◌, ℕ, zero, suc, ◌+◌, ◌≤◌, ◌<◌, Bool, true, false, List, [], ◌∷◌, ◌++◌, length, slice_get, Some, refl, sym, ap, ◌∙◌, subst, arith, eq-eqb, ne_eqb}
 use Rattle.std.specs.Prelude.{nat_eq, if◌then◌else◌}
+use Rattle.std.specs.List.{AllByRecursion}
 use native.Mathlib.Decide.{ℕ_discrete}
 use Rattle.road_sessions.specs.declared.entry.Entry.{Entry}
-use Rattle.road_sessions.specs.Journals.{AreOf, Each, Rise, Stand, Write, writes_from, writes_of}
+use Rattle.road_sessions.specs.Journals.{AreOf, Rise, Stand, Write, writes_from, writes_of}
 use Rattle.road_sessions.specs.Closings.{AreApart, Brings, IsJust, IsTold, write_count}
 use Rattle.road_sessions.specs.Seats.{Seat}
 
@@ -13,7 +14,7 @@ use Rattle.road_sessions.specs.Seats.{Seat}
 abbrev StandsFrom : ℕ → List Entry → Write → Type 0
 StandsFrom place journal w = (k : ℕ) × (w.0 ≡ place + k) × (slice_get journal k ≡ Some w.1)
 
-from_zero : (journal : List Entry) (writes : List Write) → Stand writes journal → Each (StandsFrom 0 journal) writes
+from_zero : (journal : List Entry) (writes : List Write) → Stand writes journal → AllByRecursion (StandsFrom 0 journal) writes
 from_zero journal [] stand = tt
 from_zero journal (w ∷ ws) stand = ((w.0, omega arith, stand.0), from_zero journal ws stand.1)
 
@@ -22,11 +23,11 @@ in_rest place e es w zero after at got = absurd (omega arith)
 in_rest place e es w (suc k) after at got = (k, omega arith, got)
 
 -- writes after the first place stand in the rest
-all_in_rest : (place : ℕ) (e : Entry) (es : List Entry) (writes : List Write) → Each (λ (w : Write). place < w.0) writes → Each (StandsFrom place (e ∷ es)) writes → Each (StandsFrom (place + 1) es) writes
+all_in_rest : (place : ℕ) (e : Entry) (es : List Entry) (writes : List Write) → AllByRecursion (λ (w : Write). place < w.0) writes → AllByRecursion (StandsFrom place (e ∷ es)) writes → AllByRecursion (StandsFrom (place + 1) es) writes
 all_in_rest place e es [] after stand = tt
 all_in_rest place e es (w ∷ ws) after stand = (in_rest place e es w stand.0.0 after.0 stand.0.1 stand.0.2, all_in_rest place e es ws after.1 stand.1)
 
-after_lower : (place n : ℕ) (writes : List Write) → place ≤ n → Each (λ (w : Write). n < w.0) writes → Each (λ (w : Write). place < w.0) writes
+after_lower : (place n : ℕ) (writes : List Write) → place ≤ n → AllByRecursion (λ (w : Write). n < w.0) writes → AllByRecursion (λ (w : Write). place < w.0) writes
 after_lower place n [] low after = tt
 after_lower place n (w ∷ ws) low after = (let a = after.0 in omega arith, after_lower place n ws low after.1)
 
@@ -50,9 +51,9 @@ covers_with false x w entries writes mine same c = absurd (cc (mine))
 
 -- the first entry is the first write, or no write
 covers_step : (n place : ℕ) (e : Entry) (es : List Entry) (w : Write) (ws : List Write) (k : ℕ) → w.0 ≡ place + k → slice_get (e ∷ es) k ≡ Some w.1
-    → Each (λ (u : Write). w.0 < u.0) ws → w.1.session ≡ n → Each (StandsFrom place (e ∷ es)) (w ∷ ws)
-    → (Each (StandsFrom (place + 1) es) ws → Covers (writes_from n (place + 1) es) ws)
-    → (Each (StandsFrom (place + 1) es) (w ∷ ws) → Covers (writes_from n (place + 1) es) (w ∷ ws))
+    → AllByRecursion (λ (u : Write). w.0 < u.0) ws → w.1.session ≡ n → AllByRecursion (StandsFrom place (e ∷ es)) (w ∷ ws)
+    → (AllByRecursion (StandsFrom (place + 1) es) ws → Covers (writes_from n (place + 1) es) ws)
+    → (AllByRecursion (StandsFrom (place + 1) es) (w ∷ ws) → Covers (writes_from n (place + 1) es) (w ∷ ws))
     → Covers (writes_from n place (e ∷ es)) (w ∷ ws)
 covers_step n place e es w ws zero at got after mine stand later all =
     let same : e ≡ w.1 = cc (got) in
@@ -63,7 +64,7 @@ covers_step n place e es w ws (suc k) at got after mine stand later all =
     covers_beside (nat_eq e.session n) (place, e) (writes_from n (place + 1) es) (w ∷ ws)
     (all (all_in_rest place e es (w ∷ ws) (omega arith, after_lower place w.0 ws (omega arith) after) stand))
 
-covers : (n place : ℕ) (journal : List Entry) (writes : List Write) → Rise writes → AreOf n writes → Each (StandsFrom place journal) writes → Covers (writes_from n place journal) writes
+covers : (n place : ℕ) (journal : List Entry) (writes : List Write) → Rise writes → AreOf n writes → AllByRecursion (StandsFrom place journal) writes → Covers (writes_from n place journal) writes
 covers n place [] [] rise mine stand = (omega arith, λ short. refl)
 covers n place [] (w ∷ ws) rise mine stand = absurd (let got = stand.0.2 in cc (got))
 covers n place (e ∷ es) [] rise mine stand = (omega arith, λ short. none_left (writes_from n place (e ∷ es)) short)
@@ -86,7 +87,7 @@ no_entry true x entries other = absurd (cc (other))
 no_entry false x entries other = refl
 
 -- an entry of none of these sessions adds nothing
-of_none : (place : ℕ) (e : Entry) (es : List Entry) (ss : List Seat) → Each (λ (t : Seat). e.session ≢ t.number) ss → entries_of place (e ∷ es) ss ≡ entries_of (place + 1) es ss
+of_none : (place : ℕ) (e : Entry) (es : List Entry) (ss : List Seat) → AllByRecursion (λ (t : Seat). e.session ≢ t.number) ss → entries_of place (e ∷ es) ss ≡ entries_of (place + 1) es ss
 of_none place e es [] other = refl
 of_none place e es (s ∷ ss) other =
     let rest = of_none place e es ss other.1 in
@@ -95,7 +96,7 @@ of_none place e es (s ∷ ss) other =
 of_first_or_not : (place : ℕ) (e : Entry) (es : List Entry) (s : Seat) (ss : List Seat) → AreApart (s ∷ ss) → Dec (e.session ≡ s.number) → entries_of place (e ∷ es) ss ≤ suc (entries_of (place + 1) es ss)
     → entries_of place (e ∷ es) (s ∷ ss) ≤ suc (entries_of (place + 1) es (s ∷ ss))
 of_first_or_not place e es s ss apart (yes is) rest =
-    let others = of_none place e es ss (subst (λ (k : ℕ). Each (λ (t : Seat). k ≢ t.number) ss) (sym is) apart.0) in
+    let others = of_none place e es ss (subst (λ (k : ℕ). AllByRecursion (λ (t : Seat). k ≢ t.number) ss) (sym is) apart.0) in
     let here = one_at_most (nat_eq e.session s.number) (place, e) (writes_from s.number (place + 1) es) in omega arith
 of_first_or_not place e es s ss apart (no not) rest =
     let here = no_entry (nat_eq e.session s.number) (place, e) (writes_from s.number (place + 1) es) (ne_eqb e.session s.number not) in omega arith
@@ -115,13 +116,13 @@ few_entries place (e ∷ es) ss apart = let rest = few_entries (place + 1) es ss
 
 -- ---- both together
 
-many_entries : (journal : List Entry) (ss : List Seat) → Each (Brings journal) ss → write_count ss ≤ entries_of 0 journal ss
+many_entries : (journal : List Entry) (ss : List Seat) → AllByRecursion (Brings journal) ss → write_count ss ≤ entries_of 0 journal ss
 many_entries journal [] bring = omega arith
 many_entries journal (s ∷ ss) bring =
     let rest = many_entries journal ss bring.1 in
     let first = (covers s.number 0 journal s.view.own bring.0.0 bring.0.1 (from_zero journal s.view.own bring.0.2)).0 in omega arith
 
-all_told : (journal : List Entry) (ss : List Seat) → Each (Brings journal) ss → entries_of 0 journal ss ≤ write_count ss → Each (IsTold journal) ss
+all_told : (journal : List Entry) (ss : List Seat) → AllByRecursion (Brings journal) ss → entries_of 0 journal ss ≤ write_count ss → AllByRecursion (IsTold journal) ss
 all_told journal [] bring few = tt
 all_told journal (s ∷ ss) bring few =
     let many = many_entries journal ss bring.1 in
@@ -131,7 +132,7 @@ all_told journal (s ∷ ss) bring few =
     let others : entries_of 0 journal ss ≤ write_count ss = omega arith in
     ((c.1 short, bring.0.3), all_told journal ss bring.1 others)
 
-pub just : (journal : List Entry) (ss : List Seat) → AreApart ss → Each (Brings journal) ss → length journal ≡ write_count ss → IsJust journal ss
+pub just : (journal : List Entry) (ss : List Seat) → AreApart ss → AllByRecursion (Brings journal) ss → length journal ≡ write_count ss → IsJust journal ss
 just journal ss apart bring count = let few = few_entries 0 journal ss apart in (count, all_told journal ss bring (omega arith))
 
 pub write_count_one_more : (ss : List Seat) (s : Seat) → write_count (ss ++ s ∷ []) ≡ write_count ss + length s.view.own

@@ -1,13 +1,14 @@
 -- What a session's write or look leaves of it.
 use Rattle.std.proofs.Common.{◌≡◌, ◌∙◌, ℕ, ◌+◌, ◌<◌, List, [], ◌∷◌, ◌++◌, length, length-append, slice_get, Some, refl, sym, ap, subst, arith}
 use Rattle.std.proofs.lemmas.Option.{slice_get_within}
+use Rattle.std.specs.List.{AllByRecursion}
 use mathlib.Core.List.{IsPrefix}
 use Rattle.road_replica.specs.Replicas.{Replica}
 use Rattle.road_replica.specs.declared.reply.Reply.{Reply}
 use Rattle.road_sessions.specs.declared.entry.Entry.{Entry}
 use Rattle.road_sessions.specs.declared.view.View.{View}
 use Rattle.road_sessions.specs.declared.wish.Wish.{Wish}
-use Rattle.road_sessions.specs.Journals.{AreOf, Each, IsLegal, Rise, Stand, Write, entry, replay}
+use Rattle.road_sessions.specs.Journals.{AreOf, IsLegal, Rise, Stand, Write, entry, replay}
 use Rattle.road_sessions.specs.Looks.{HasEntered}
 use Rattle.road_sessions.specs.Private.Stores.{EntersAfterWrite, EntersToLook, last_from}
 use Rattle.road_sessions.specs.Seats.{AreFresh, IsSeat, IsWrite, Seat, newcomer, seat}
@@ -45,11 +46,11 @@ is_write r session wish seen front after v w place reply before is legal at answ
   entered = ap (λ (u : View). u.entered) enters.1;
 }
 
-all_before : (writes : List Write) (journal : List Entry) → Stand writes journal → Each (λ (w : Write). w.0 < length journal) writes
+all_before : (writes : List Write) (journal : List Entry) → Stand writes journal → AllByRecursion (λ (w : Write). w.0 < length journal) writes
 all_before [] journal stand = tt
 all_before (w ∷ ws) journal stand = (slice_get_within journal w.0 w.1 stand.0, all_before ws journal stand.1)
 
-rise_more : (writes : List Write) (place : ℕ) (e : Entry) → Rise writes → Each (λ (w : Write). w.0 < place) writes → Rise (writes ++ (place, e) ∷ [])
+rise_more : (writes : List Write) (place : ℕ) (e : Entry) → Rise writes → AllByRecursion (λ (w : Write). w.0 < place) writes → Rise (writes ++ (place, e) ∷ [])
 rise_more [] place e rise low = (tt, tt)
 rise_more (w ∷ ws) place e rise low =
     (each_of_both (λ (v : Write). w.0 < v.0) ws ((place, e) ∷ []) rise.0 (low.0, tt), rise_more ws place e rise.1 low.1)
@@ -60,7 +61,7 @@ seat_after_write r wish s t place reply w is =
     let e = entry s.number (wish_command wish (replay r w.front)) in
     let stood : Stand s.view.own w.front = stand_later s.view.own s.seen w.front w.before is.standing in
     let stands : Stand s.view.own t.seen = stand_later s.view.own w.front t.seen (e ∷ [], sym w.seen) stood in
-    let low : Each (λ (u : Write). u.0 < place) s.view.own = subst (λ (n : ℕ). Each (λ (u : Write). u.0 < n) s.view.own) (sym w.place_is) (all_before s.view.own w.front stood) in
+    let low : AllByRecursion (λ (u : Write). u.0 < place) s.view.own = subst (λ (n : ℕ). AllByRecursion (λ (u : Write). u.0 < n) s.view.own) (sym w.place_is) (all_before s.view.own w.front stood) in
     let there : slice_get t.seen place ≡ Some e = subst (λ (l : List Entry). slice_get l place ≡ Some e) (sym w.seen) (subst (λ (n : ℕ). slice_get (w.front ++ e ∷ []) n ≡ Some e) (sym w.place_is) (got_last w.front e)) in
     let mine = each_of_both (λ (u : Write). u.1.session ≡ s.number) s.view.own ((place, e) ∷ []) is.own (refl, tt) in
     let all = each_of_both (λ (u : Write). slice_get t.seen u.0 ≡ Some u.1) s.view.own ((place, e) ∷ []) stands (there, tt) in

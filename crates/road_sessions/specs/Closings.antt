@@ -1,16 +1,17 @@
 -- What is left when a store is closed.
 use Rattle.std.specs.Prelude.{◌≡◌, ◌≢◌, ◌+◌, ℕ, List, [], ◌∷◌, length}
+use Rattle.std.specs.List.{AllByRecursion}
 use mathlib.Core.List.{IsPrefix}
 use Rattle.road_sessions.specs.declared.entry.Entry.{Entry}
 use Rattle.road_sessions.specs.declared.faults.CloseCause.{CloseCause}
 use Rattle.road_sessions.specs.declared.faults.CloseCause.TheVariants.{Missing, OutOfMemory}
-use Rattle.road_sessions.specs.Journals.{Each, Stand, AreOf, Rise, writes_of}
+use Rattle.road_sessions.specs.Journals.{Stand, AreOf, Rise, writes_of}
 use Rattle.road_sessions.specs.Seats.{Seat}
 
 -- no two of these sessions have one number
 abbrev pub AreApart : List Seat → Type 0
 AreApart [] = Unit {0}
-AreApart (s ∷ ss) = Each (λ t. s.number ≢ t.number) ss × AreApart ss
+AreApart (s ∷ ss) = AllByRecursion (λ t. s.number ≢ t.number) ss × AreApart ss
 
 -- they are all the sessions of a store that was opened with so many
 abbrev pub AreAll : ℕ → List Seat → Type 0
@@ -28,7 +29,7 @@ IsTold journal s = (writes_of s.number journal ≡ s.view.own) × IsPrefix s.see
 
 -- the journal is just what these sessions wrote
 abbrev pub IsJust : List Entry → List Seat → Type 0
-IsJust journal ss = (length journal ≡ write_count ss) × Each (IsTold journal) ss
+IsJust journal ss = (length journal ≡ write_count ss) × AllByRecursion (IsTold journal) ss
 
 -- what is known of a session whose history begins the journal: its writes stand there, at rising places
 abbrev pub Brings : List Entry → Seat → Type 0

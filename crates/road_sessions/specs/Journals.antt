@@ -1,10 +1,10 @@
 -- Journals: who wrote what to one replica, and the replica that is left.
 use Rattle.std.specs.Prelude.{◌≡◌, ◌+◌, ◌<◌, ℕ, fold, List, [], ◌∷◌, nat_eq, if◌then◌else◌}
-use Rattle.std.specs.List.{slice_get}
+use Rattle.std.specs.List.{AllByRecursion, slice_get}
 use Rattle.std.specs.declared.option.Option.TheVariants.{Some}
 use Rattle.road_plan.specs.Plan.{Plan}
 use Rattle.road_sheet.specs.Commands as commands
-use Rattle.road_sheet.specs.Commands.{IsAllowed, IsHistoryFrom, sheet_after}
+use Rattle.road_sheet.specs.Commands.{IsHistoryFrom, sheet_after}
 use Rattle.road_sheet.specs.Sheets.{Sheet, opening_sheet}
 use Rattle.road_replica.specs.Replicas.{Replica, replica_after}
 use Rattle.road_sessions.specs.declared.entry.Command.{Command}
@@ -39,27 +39,22 @@ with_sheets s (e ∷ es) =
 abbrev pub IsLegal : Replica → List Entry → Type 0
 IsLegal r journal = IsHistoryFrom r.sheet (with_sheets r.sheet journal)
 
--- a fact holds of each element of a list
-abbrev pub Each : {A : Type 0} → (A → Type 0) → List A → Type 0
-Each P [] = Unit {0}
-Each P (x ∷ xs) = P x × Each P xs
-
 -- a write: its place in the journal, from 0, and what stands there
 abbrev pub Write : Type 0
 Write = ℕ × Entry
 
 -- each of these writes stands in the journal at its place
 abbrev pub Stand : List Write → List Entry → Type 0
-Stand writes journal = Each (λ w. slice_get journal w.0 ≡ Some w.1) writes
+Stand writes journal = AllByRecursion (λ w. slice_get journal w.0 ≡ Some w.1) writes
 
 -- all these writes are of one session
 abbrev pub AreOf : ℕ → List Write → Type 0
-AreOf session writes = Each (λ w. w.1.session ≡ session) writes
+AreOf session writes = AllByRecursion (λ w. w.1.session ≡ session) writes
 
 -- their places rise
 abbrev pub Rise : List Write → Type 0
 Rise [] = Unit {0}
-Rise (w ∷ ws) = Each (λ v. w.0 < v.0) ws × Rise ws
+Rise (w ∷ ws) = AllByRecursion (λ v. w.0 < v.0) ws × Rise ws
 
 -- the writes of one session in a journal whose first place has this number
 abbrev pub writes_from : ℕ → ℕ → List Entry → List Write

@@ -1,8 +1,9 @@
 //! The closing of a store.
 ghost use Rattle.std.specs.Prelude.{◌≡◌, ◌≢◌, ◌+◌, IfErr, IfOk, IsTrue, MatchBool, MatchResult, length};
 ghost use Rattle.std.specs.Arc.{arc_value};
+ghost use Rattle.std.specs.List.{AllByRecursion};
 ghost use Rattle.road_sessions.specs.Closings.{AreAll, AreApart, Brings, IsCloseRefusal, IsJust, write_count};
-ghost use Rattle.road_sessions.specs.Journals.{Each, replay};
+ghost use Rattle.road_sessions.specs.Journals.{replay};
 
 use crate::book::Beginning;
 use crate::entry::Entry;
@@ -95,8 +96,8 @@ fn refusal<J: Naming, R: Wait + Drop>(
 
 // Whether none of these sessions has a number.
 fn none_has<J: Naming>(sessions: &[Session<J>], number: u32) -> bool
-    ensures { MatchBool result (Each (λ t. number ≢ t.number) sessions.now)
-        (¬ Each (λ t. number ≢ t.number) sessions.now) }
+    ensures { MatchBool result (AllByRecursion (λ t. number ≢ t.number) sessions.now)
+        (¬ AllByRecursion (λ t. number ≢ t.number) sessions.now) }
 {
     match sessions.split_first() {
         None => true,
@@ -116,7 +117,7 @@ fn are_apart<J: Naming>(sessions: &[Session<J>]) -> bool
 
 // Whether what each of them has seen begins a history, where their writes stand then.
 fn all_bring<J: Naming>(sessions: &[Session<J>], history: &Beginning<J>) -> bool
-    ensures { IsTrue result → Each (Brings history.now) sessions.now }
+    ensures { IsTrue result → AllByRecursion (Brings history.now) sessions.now }
 {
     match sessions.split_first() {
         None => true,

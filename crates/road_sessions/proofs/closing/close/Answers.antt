@@ -1,7 +1,7 @@
 -- All shares of the ledger count as many writes as the journal has entries, so it is just what the sessions wrote.
 use Rattle.std.proofs.Common.{◌≡◌, List, length, sym, ap, subst, arith, refl}
+use Rattle.std.specs.List.{AllByRecursion}
 use Rattle.road_sessions.specs.Closings.{AreApart, Brings, IsJust, write_count}
-use Rattle.road_sessions.specs.Journals.{Each}
 use Rattle.road_sessions.specs.Seats.{Seat}
 use Rattle.road_sessions.specs.declared.entry.Entry.{Entry}
 use Rattle.road_sessions.proofs.ClosedSessions.{just}
@@ -14,8 +14,8 @@ returns-clause-just g c =
     let journal : List Entry = held.journal.items in
     let same : c.taken-sheet.result.1.items ≡ journal = ap (λ v. v.items) c.taken-sheet.ensures.journal in
     let apart : AreApart sessions = subst (λ (ss : List Seat). AreApart ss) c.as_slice.ensures.value c.if-not-are_apart.ensures in
-    let bring : Each (Brings journal) c.as_slice-2.result.now = subst (λ (l : List Entry). Each (Brings l) c.as_slice-2.result.now) held.journalled (c.if-not-all_bring.ensures refl) in
-    let all : Each (Brings journal) sessions = subst (λ (ss : List Seat). Each (Brings journal) ss) c.as_slice-2.ensures.value bring in
+    let bring : AllByRecursion (Brings journal) c.as_slice-2.result.now = subst (λ (l : List Entry). AllByRecursion (Brings l) c.as_slice-2.result.now) held.journalled (c.if-not-all_bring.ensures refl) in
+    let all : AllByRecursion (Brings journal) sessions = subst (λ (ss : List Seat). AllByRecursion (Brings journal) ss) c.as_slice-2.ensures.value bring in
     let whole : c.shares-all.result.parts ≡ g.J.Ledger.parts = (let shares = c.shares-all.ensures.0 in let none = c.empty-all.ensures.parts in let len = c.len.ensures in let is = c.if-len-held.false in let parts = held.parts in omega arith) in
     let count : length journal ≡ write_count sessions = (let audited = c.audit.ensures.whole whole in let shares = c.shares-all.ensures.1 in let none = c.empty-all.ensures.amount in let counted = held.counted in omega arith) in
     subst (λ (l : List Entry). IsJust l sessions) (sym same) (just journal sessions apart all count)

@@ -1,5 +1,5 @@
 -- The first texts of the set are the first names.
-use Rattle.road_laboratory.proofs.Numbered.{texts_cut}
+use Rattle.road_laboratory.proofs.NameNumbers.{texts_cut}
 use Rattle.road_laboratory.proofs.names.Names.cut.Goals as goal
 
 pub returns : goal.returns

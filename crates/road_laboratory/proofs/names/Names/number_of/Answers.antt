@@ -2,7 +2,7 @@
 use Rattle.std.proofs.Common.{◌∙◌, sym, ap, string_bytes}
 use Rattle.std.specs.List.{position}
 use Rattle.std.specs.Str.{bytes_eq}
-use Rattle.road_laboratory.proofs.Numbered.{position-map}
+use Rattle.road_laboratory.proofs.NameNumbers.{position-map}
 use Rattle.road_laboratory.proofs.names.Names.number_of.Goals as goal
 
 pub returns-clause-number : goal.returns-clause-number

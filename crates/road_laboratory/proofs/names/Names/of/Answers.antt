@@ -1,5 +1,5 @@
 -- A name that is put into the set is one of those to come, and new.
-use Rattle.road_laboratory.proofs.Numbered.{put_next}
+use Rattle.road_laboratory.proofs.NameNumbers.{put_next}
 use Rattle.road_laboratory.proofs.names.Names.of.Goals as goal
 
 pub loop-name-preserved : goal.loop-name-preserved

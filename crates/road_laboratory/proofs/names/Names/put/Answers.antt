@@ -1,5 +1,5 @@
 -- A new name is the last of the set.
-use Rattle.road_laboratory.proofs.Numbered.{put_last}
+use Rattle.road_laboratory.proofs.NameNumbers.{put_last}
 use Rattle.road_laboratory.proofs.names.Names.put.Goals as goal
 
 pub returns-clause-after : goal.returns-clause-after
