@@ -279,8 +279,10 @@ fn sends(
 fn goes(alloc: Global, plan: &Plan, exchange: &Exchange) -> Result<bool, OutOfMemory> {
     let asking = Scenario::of_edits(alloc, exchange.asking)?;
     let asked = Scenario::of_edits(alloc, exchange.asked)?;
-    Ok(tells(alloc, &asking, exchange.heads)?
-        && sends(alloc, plan, &asking, &asked, exchange.sent)?)
+    Ok(
+        tells(alloc, &asking, exchange.heads)?
+            && sends(alloc, plan, &asking, &asked, exchange.sent)?,
+    )
 }
 
 #[test]
@@ -316,11 +318,7 @@ fn limits(alloc: Global, even: u64, odd: u64) -> Result<Vec<Edit>, OutOfMemory> 
 }
 
 // What one replica sends another that tells its heads, as edits.
-fn edits_sent(
-    alloc: Global,
-    asking: &[Edit],
-    asked: &[Edit],
-) -> Result<Vec<Edit>, OutOfMemory> {
+fn edits_sent(alloc: Global, asking: &[Edit], asked: &[Edit]) -> Result<Vec<Edit>, OutOfMemory> {
     let asking = Scenario::of_edits(alloc, asking)?;
     let asked = Scenario::of_edits(alloc, asked)?;
     sent(alloc, &asking, &asked)?.edits(alloc)
