@@ -324,10 +324,18 @@ fn edits_sent(alloc: Global, asking: &[Edit], asked: &[Edit]) -> Result<Vec<Edit
     sent(alloc, &asking, &asked)?.edits(alloc)
 }
 
+// How many heads a replica of these edits tells.
+fn head_count(alloc: Global, edits: &[Edit]) -> Result<usize, OutOfMemory> {
+    let scenario = Scenario::of_edits(alloc, edits)?;
+    let heads = heads_of(alloc, &scenario)?;
+    Ok(heads.list().len())
+}
+
 #[test]
 fn half_of_many_edits_is_sent(rt: HostRuntime) -> Result<(), Fail> {
     let asking = limits(rt.alloc(), 3, 1)?;
     let asked = limits(rt.alloc(), 2, 2)?;
+    assert_eq!(rt; head_count(rt.alloc(), &asking)?, 2_900);
     let sent = edits_sent(rt.alloc(), &asking, &asked)?;
     assert_eq!(rt; sent.len(), 1_450);
     assert!(rt;
