@@ -5,7 +5,7 @@ ghost use Rattle.std.specs.Option.{option_copied};
 ghost use Rattle.std.specs.FinMap.Entries.{find, is_sorted, put};
 ghost use Rattle.std.specs.Map.{keys_of};
 ghost use Rattle.lattice_core.specs.Map.{IsHeld, IsProperMap, map_with, entries_up_to, entries_after};
-ghost use Rattle.lattice_core.specs.Private.EntryLists.{IsUpTo, other_entries, left_union, join_with_option, joined_entries};
+ghost use Rattle.lattice_core.specs.Private.EntryLists.{IsAtMostOption, other_entries, left_union, join_with_option, joined_entries};
 
 use crate::OutOfMemory;
 use crate::exact::Exact;
@@ -218,7 +218,7 @@ impl<K: Exact, V: Lattice> Lattice for LatMap<K, V> {
 
 // Whether there is another value, and this one is at most it.
 fn is_up_to<V: Lattice>(value: &V, other: Option<&V>) -> bool
-    ensures { IsTrue result ↔ IsUpTo V.join value.now (option_copied other.entry) }
+    ensures { IsTrue result ↔ IsAtMostOption V.join value.now (option_copied other.entry) }
 {
     match other {
         Some(other) => value.at_most(other),

@@ -18,7 +18,7 @@ use Rattle.road_scenario.specs.Edits.{Place, edit_place, number_triple_cmp, numb
 use Rattle.road_scenario.specs.Instances.EditOrder.{number_pair_total, number_triple_exact, number_triple_total}
 use Rattle.road_scenario.proofs.RisingEdits.{object_cmp}
 use Rattle.road_delta.specs.declared.heads.Head.{Head}
-use Rattle.road_delta.specs.Deltas.{head_place, is_head_at, is_stamp_above, is_beyond, AreRising}
+use Rattle.road_delta.specs.Deltas.{head_place, is_head_at, is_stamp_above, is_beyond, AreRisingHeads}
 use Rattle.road_delta.proofs.DeltaEdits.{is_head_reached}
 use Rattle.road_delta.proofs.RisingHeads.{head_cmp, rising-at}
 
@@ -51,7 +51,7 @@ module _ (hs : List Head) (e : Edit) where
   head_here : (h : Head) → beside e h ≡ Equal → is_head_at e h ≡ true
   head_here h is = ap is_eq (turned (head_place h) (edit_place e) Equal (sym (by_place h) ∙ is))
 
-  module _ (rise : AreRising hs) where
+  module _ (rise : AreRisingHeads hs) where
     -- the answers rise along the heads
     pub answers_rise : IsNonDecreasingBy (λ h. ordering_index (beside e h)) hs
     answers_rise i j d le inside = elim (cases_lt i j) as (λ _. ordering_index (beside e (slice_index_or hs i d)) ≤ ordering_index (beside e (slice_index_or hs j d))) [

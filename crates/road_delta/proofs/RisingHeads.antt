@@ -15,7 +15,7 @@ use Rattle.road_scenario.specs.Winners.{winners}
 use Rattle.road_scenario.proofs.EditMembers.{IsIn, first_in, later_in}
 use Rattle.road_scenario.proofs.RisingEdits.{both}
 use Rattle.road_delta.specs.declared.heads.Head.{Head}
-use Rattle.road_delta.specs.Deltas.{head_of, head_place, heads, AreRising}
+use Rattle.road_delta.specs.Deltas.{head_of, head_place, heads, AreRisingHeads}
 
 -- the order of heads
 abbrev pub head_cmp : Head → Head → Ordering
@@ -35,14 +35,14 @@ below_heads e (f ∷ es) h none =
     let first = by_first (number_triple_cmp (edit_place e) (edit_place f)) (number_triple_cmp (edit_rank e) (edit_rank f)) (first_of_both (is_lt (edit_cmp e f)) _ h) (none f (first_in f es)) in
     both _ _ first (below_heads e es (second_of_both (is_lt (edit_cmp e f)) _ h) (λ g i. none g (later_in g f es i)))
 
-heads_rise : (es : List Edit) → T (is_rising edit_cmp es) → ((e f : Edit) → IsIn e es → IsIn f es → is_exceeded_by e f ≡ false) → AreRising (map head_of es)
+heads_rise : (es : List Edit) → T (is_rising edit_cmp es) → ((e f : Edit) → IsIn e es → IsIn f es → is_exceeded_by e f ≡ false) → AreRisingHeads (map head_of es)
 heads_rise [] h none = tt
 heads_rise (e ∷ es) h none =
     both _ _ (below_heads e es (first_of_both (is_below edit_cmp e es) _ h) (λ f i. none e f (first_in e es) (later_in f e es i)))
     (heads_rise es (second_of_both (is_below edit_cmp e es) _ h) (λ f g i j. none f g (later_in f e es i) (later_in g e es j)))
 
 -- the heads of a set of winners rise
-pub rising-heads : (s : Edits) → winners s ≡ s → AreRising (heads s)
+pub rising-heads : (s : Edits) → winners s ≡ s → AreRisingHeads (heads s)
 rising-heads s won = heads_rise (items s) (items_rise s) (λ e f i j.
     let top = (winners_laws.members s e).0 (ap (λ (t : Edits). contains t e) won ∙ contains-items s e ∙ i) in
     top.none f (contains-items s f ∙ j))

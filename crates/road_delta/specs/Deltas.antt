@@ -21,8 +21,8 @@ abbrev pub head_place : Head → Place
 head_place h = object_place h.object h.step
 
 -- heads rise strictly by object and step, so each object and step has one at most
-abbrev pub AreRising : List Head → Type 0
-AreRising hs = T (is_rising (λ g h. number_triple_cmp (head_place g) (head_place h)) hs)
+abbrev pub AreRisingHeads : List Head → Type 0
+AreRisingHeads hs = T (is_rising (λ g h. number_triple_cmp (head_place g) (head_place h)) hs)
 
 -- whether a head is of an edit's object and step
 abbrev pub is_head_at : Edit → Head → Bool

@@ -3,7 +3,7 @@
 ghost use Rattle.std.specs.Prelude.{◌≡◌, IfOk};
 ghost use Rattle.road_plan.specs.Plan.{Plan};
 ghost use Rattle.road_scenario.specs.Faults.{AreInRange};
-ghost use Rattle.road_delta.specs.Deltas.{AreRising, beyond, is_beyond};
+ghost use Rattle.road_delta.specs.Deltas.{AreRisingHeads, beyond, is_beyond};
 
 use crate::heads::{Head, Heads};
 use lattice_core::lattice::Lattice;
@@ -30,7 +30,7 @@ pub fn beyond(alloc: Global, scenario: &Scenario, heads: &Heads) -> Result<Scena
 
 // Whether an edit is beyond heads, which rise.
 fn is_beyond(heads: &[Head], edit: &Edit) -> bool
-    requires { AreRising heads.now }
+    requires { AreRisingHeads heads.now }
     ensures { result ≡ is_beyond heads.now edit.now }
 {
     let place = (edit.object, edit.step);

@@ -1,7 +1,7 @@
 //! The heads of a scenario: of each edit that it holds the object, the step and the stamp.
 
 ghost use Rattle.std.specs.Prelude.{◌≡◌, IfOk};
-ghost use Rattle.road_delta.specs.Deltas.{AreRising, head_of, heads};
+ghost use Rattle.road_delta.specs.Deltas.{AreRisingHeads, head_of, heads};
 
 use lattice_core::lattice::Lattice;
 use road_plan::{Object, OutOfMemory};
@@ -28,21 +28,21 @@ pub struct Heads {
 
 impl Model for Heads {
     ghost use Rattle.std.specs.Prelude.{List};
-    ghost use Rattle.road_delta.specs.Deltas.{AreRising};
+    ghost use Rattle.road_delta.specs.Deltas.{AreRisingHeads};
     ghost use Rattle.road_delta.specs.declared.heads.Head.{Head};
 
     ghost Value = { List Head };
 
     ghost view = { λ heads. heads.list.items };
 
-    ghost invariant = { λ heads. AreRising heads.list.items };
+    ghost invariant = { λ heads. AreRisingHeads heads.list.items };
 }
 
 impl Heads {
     /// The heads, rising by object and step. It takes no memory.
     pub fn list(&self) -> &[Head]
         ensures all { result.now ≡ self.now }
-        ensures rise { AreRising result.now }
+        ensures rise { AreRisingHeads result.now }
     {
         &self.list
     }

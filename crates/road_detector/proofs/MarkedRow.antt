@@ -16,7 +16,7 @@ use Rattle.road_cells.specs.declared.car.TheConstants.{GREATEST_SPEED}
 use Rattle.road_ends.specs.Row.{letter, row_of}
 use Rattle.road_ends.specs.declared.letters.TheConstants.{STANDING, BLOCKED, EMPTY}
 use Rattle.road_detector.specs.Rows.{HaveDigits}
-use Rattle.road_detector.specs.Private.MarkedRows.{with_block, with_car}
+use Rattle.road_detector.specs.Private.MarkedRows.{blocked_letter, car_letter}
 
 -- each car of an array has a speed that is a digit
 abbrev pub HasDigits : Array → Type 0
@@ -24,20 +24,20 @@ HasDigits a = (c : ℕ) (car : Vehicle) → vehicle_at a c ≡ Some car → car.
 
 -- a car more that is drawn is one less to draw
 car_drawn : (row : List ℕ) (car : Car) (cars : List Car) (c : ℕ) → AreRisingFrom (car.cell + 1) cars → car.cell < length row → c < length row
-    → with_car (vehicle_among c cars) (slice_index (slice_set row car.cell (STANDING + car.speed)) c) ≡ with_car (vehicle_among c (car ∷ cars)) (slice_index row c)
-car_drawn row car cars c rise on below = elim (cases_eq car.cell c) as (λ _. with_car (vehicle_among c cars) (slice_index (slice_set row car.cell (STANDING + car.speed)) c) ≡ with_car (vehicle_among c (car ∷ cars)) (slice_index row c)) [
+    → car_letter (vehicle_among c cars) (slice_index (slice_set row car.cell (STANDING + car.speed)) c) ≡ car_letter (vehicle_among c (car ∷ cars)) (slice_index row c)
+car_drawn row car cars c rise on below = elim (cases_eq car.cell c) as (λ _. car_letter (vehicle_among c cars) (slice_index (slice_set row car.cell (STANDING + car.speed)) c) ≡ car_letter (vehicle_among c (car ∷ cars)) (slice_index row c)) [
   | inl same ↦
-      (λ i. with_car (vehicle_among-below (car.cell + 1) c cars rise (omega arith) i) (slice_index (slice_set row car.cell (STANDING + car.speed)) (sym same i)))
+      (λ i. car_letter (vehicle_among-below (car.cell + 1) c cars rise (omega arith) i) (slice_index (slice_set row car.cell (STANDING + car.speed)) (sym same i)))
       ∙ get_or-set_same row car.cell (STANDING + car.speed) 0 on
-      ∙ sym (ap (λ o. with_car o (slice_index row c)) (vehicle_among-here car cars c same))
+      ∙ sym (ap (λ o. car_letter o (slice_index row c)) (vehicle_among-here car cars c same))
   | inr apart ↦
-      ap (with_car (vehicle_among c cars)) (get_or-set_other row car.cell c (STANDING + car.speed) 0 (λ same. apart (sym same)))
-      ∙ sym (ap (λ o. with_car o (slice_index row c)) (vehicle_among-other car cars c apart))
+      ap (car_letter (vehicle_among c cars)) (get_or-set_other row car.cell c (STANDING + car.speed) 0 (λ same. apart (sym same)))
+      ∙ sym (ap (λ o. car_letter o (slice_index row c)) (vehicle_among-other car cars c apart))
 ]
 
 -- a car past the row is not drawn
-car_past : (row : List ℕ) (car : Car) (cars : List Car) (c : ℕ) → length row ≤ car.cell → c < length row → with_car (vehicle_among c cars) (slice_index row c) ≡ with_car (vehicle_among c (car ∷ cars)) (slice_index row c)
-car_past row car cars c past below = sym (ap (λ o. with_car o (slice_index row c)) (vehicle_among-other car cars c (λ same. absurd (omega arith))))
+car_past : (row : List ℕ) (car : Car) (cars : List Car) (c : ℕ) → length row ≤ car.cell → c < length row → car_letter (vehicle_among c cars) (slice_index row c) ≡ car_letter (vehicle_among c (car ∷ cars)) (slice_index row c)
+car_past row car cars c past below = sym (ap (λ o. car_letter o (slice_index row c)) (vehicle_among-other car cars c (λ same. absurd (omega arith))))
 
 -- the cars behind one of the list rise from it on
 rise-behind : (k : ℕ) (cars : List Car) (i : ℕ) (car : Car) (rest : List Car) → AreRisingFrom k cars → drop i cars ≡ car ∷ rest → AreRisingFrom (car.cell + 1) rest
@@ -54,18 +54,18 @@ module _ (cars : List Car) (i c letter : ℕ) (car : Car) (rise : AreRising cars
   split : drop i cars ≡ car ∷ drop (i + 1) cars
   split = drop_more cars i car below ∙ ap (λ x. x ∷ drop (i + 1) cars) is
 
-  pub next_drawn : (row : List ℕ) → c < length row → car.cell < length row → with_car (vehicle_among c (drop i cars)) (slice_index row c) ≡ letter
-      → with_car (vehicle_among c (drop (i + 1) cars)) (slice_index (slice_set row car.cell (STANDING + car.speed)) c) ≡ letter
+  pub next_drawn : (row : List ℕ) → c < length row → car.cell < length row → car_letter (vehicle_among c (drop i cars)) (slice_index row c) ≡ letter
+      → car_letter (vehicle_among c (drop (i + 1) cars)) (slice_index (slice_set row car.cell (STANDING + car.speed)) c) ≡ letter
   next_drawn row within on rest =
       car_drawn row car (drop (i + 1) cars) c (rise-behind 0 cars i car (drop (i + 1) cars) rise split) on within
-      ∙ ap (λ cars. with_car (vehicle_among c cars) (slice_index row c)) (sym split) ∙ rest
+      ∙ ap (λ cars. car_letter (vehicle_among c cars) (slice_index row c)) (sym split) ∙ rest
 
-  pub next_past : (row : List ℕ) → c < length row → length row ≤ car.cell → with_car (vehicle_among c (drop i cars)) (slice_index row c) ≡ letter → with_car (vehicle_among c (drop (i + 1) cars)) (slice_index row c) ≡ letter
+  pub next_past : (row : List ℕ) → c < length row → length row ≤ car.cell → car_letter (vehicle_among c (drop i cars)) (slice_index row c) ≡ letter → car_letter (vehicle_among c (drop (i + 1) cars)) (slice_index row c) ≡ letter
   next_past row within past rest =
-      car_past row car (drop (i + 1) cars) c past within ∙ ap (λ cars. with_car (vehicle_among c cars) (slice_index row c)) (sym split) ∙ rest
+      car_past row car (drop (i + 1) cars) c past within ∙ ap (λ cars. car_letter (vehicle_among c cars) (slice_index row c)) (sym split) ∙ rest
 
 -- the letters of a row
-letter-marked : (blocked : Bool) (o : Option Vehicle) → with_car o (cond blocked BLOCKED EMPTY) ≡ letter blocked o
+letter-marked : (blocked : Bool) (o : Option Vehicle) → car_letter o (cond blocked BLOCKED EMPTY) ≡ letter blocked o
 letter-marked true None = refl
 letter-marked false None = refl
 letter-marked true (Some v) = refl
@@ -82,12 +82,12 @@ length-row f (suc n) a = ap suc (length-row f n (a + 1))
 
 -- a row with its blocks and cars marked is the row of the definition
 row_marked : (blocks : List ℕ) (a : Array) (row : List ℕ) (n : ℕ) → length row ≡ n
-    → ((c : ℕ) → c < n → slice_index row c ≡ with_car (vehicle_among c (cars_of a)) (with_block (is_blocked blocks c) EMPTY)) → row ≡ row_of n blocks a
+    → ((c : ℕ) → c < n → slice_index row c ≡ car_letter (vehicle_among c (cars_of a)) (blocked_letter (is_blocked blocks c) EMPTY)) → row ≡ row_of n blocks a
 row_marked blocks a row n long marked = ext_get_or 0 row (row_of n blocks a) (long ∙ sym (length-row (λ c. letter (is_blocked blocks c) (vehicle_at a c)) n 0)) (λ c below.
     let here : 0 + c ≡ c = omega arith in
     marked c (omega arith)
-    ∙ ap (λ k. with_car (vehicle_among k (cars_of a)) (with_block (is_blocked blocks c) EMPTY)) (sym here)
-    ∙ ap (λ o. with_car o (with_block (is_blocked blocks c) EMPTY)) (vehicle_among-cars_from 0 c a)
+    ∙ ap (λ k. car_letter (vehicle_among k (cars_of a)) (blocked_letter (is_blocked blocks c) EMPTY)) (sym here)
+    ∙ ap (λ o. car_letter o (blocked_letter (is_blocked blocks c) EMPTY)) (vehicle_among-cars_from 0 c a)
     ∙ letter-marked (is_blocked blocks c) (vehicle_at a c)
     ∙ ap (λ k. letter (is_blocked blocks k) (vehicle_at a k)) (sym here)
     ∙ sym (at_number (λ c. letter (is_blocked blocks c) (vehicle_at a c)) n 0 c (omega arith)))
@@ -116,15 +116,15 @@ row_small blocks a n digits = each n 0
 
 -- the row with its blocks and cars, made from an empty one
 pub made : (blocks : List ℕ) (a : Array) (empty blocked row : List ℕ) (cars : List Car) (n : ℕ) → cars ≡ cars_of a → empty ≡ replicate n EMPTY
-    → length blocked ≡ length empty → ((c : ℕ) → c < length empty → slice_index blocked c ≡ with_block (is_blocked blocks c) (slice_index empty c))
-    → length row ≡ length blocked → ((c : ℕ) → c < length blocked → slice_index row c ≡ with_car (vehicle_among c cars) (slice_index blocked c))
+    → length blocked ≡ length empty → ((c : ℕ) → c < length empty → slice_index blocked c ≡ blocked_letter (is_blocked blocks c) (slice_index empty c))
+    → length row ≡ length blocked → ((c : ℕ) → c < length blocked → slice_index row c ≡ car_letter (vehicle_among c cars) (slice_index blocked c))
     → row ≡ row_of n blocks a
 made blocks a empty blocked row cars n all is long marked longer drawn =
     let size : length empty ≡ n = ap length is ∙ length-replicate n EMPTY in
     row_marked blocks a row n (longer ∙ long ∙ size) (λ c below.
     drawn c (omega arith)
-    ∙ ap (λ cars. with_car (vehicle_among c cars) (slice_index blocked c)) all
-    ∙ ap (with_car (vehicle_among c (cars_of a))) (marked c (omega arith) ∙ ap (with_block (is_blocked blocks c)) (ap (λ xs. slice_index xs c) is ∙ get_or-replicate n c EMPTY 0 below)))
+    ∙ ap (λ cars. car_letter (vehicle_among c cars) (slice_index blocked c)) all
+    ∙ ap (car_letter (vehicle_among c (cars_of a))) (marked c (omega arith) ∙ ap (blocked_letter (is_blocked blocks c)) (ap (λ xs. slice_index xs c) is ∙ get_or-replicate n c EMPTY 0 below)))
 
 -- the digits of the cars are those of the array
 pub from_cars : (k : ℕ) (places : Array) → HaveDigits (cars_from k places) → HasDigits places

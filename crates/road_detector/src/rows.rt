@@ -6,7 +6,7 @@ ghost use Rattle.road_cells.specs.Cars.{AreRising, cars_of, vehicle_among};
 ghost use Rattle.road_cells.specs.Gap.{is_blocked};
 ghost use Rattle.road_ends.specs.Row.{row_of};
 ghost use Rattle.road_detector.specs.Rows.{HaveDigits};
-ghost use Rattle.road_detector.specs.Private.MarkedRows.{with_block, with_car};
+ghost use Rattle.road_detector.specs.Private.MarkedRows.{blocked_letter, car_letter};
 
 use crate::OutOfMemory;
 use road_cells::{Car, Road};
@@ -41,7 +41,7 @@ pub fn row_text(
 fn with_blocks(mut row: Vec<u8>, blocks: &[u32]) -> Vec<u8>
     ensures same_length { length result.items ≡ length row.items }
     ensures marked { (c : ℕ) → c < length row.items
-        → slice_index result.items c ≡ with_block (is_blocked blocks.now c) (slice_index row.items c) }
+        → slice_index result.items c ≡ blocked_letter (is_blocked blocks.now c) (slice_index row.items c) }
 {
     for block in blocks {
         if (*block as usize) < row.len() {
@@ -57,7 +57,7 @@ fn with_cars(mut row: Vec<u8>, cars: &[Car]) -> Vec<u8>
     requires digits { HaveDigits cars.now }
     ensures same_length { length result.items ≡ length row.items }
     ensures marked { (c : ℕ) → c < length row.items
-        → slice_index result.items c ≡ with_car (vehicle_among c cars.now) (slice_index row.items c) }
+        → slice_index result.items c ≡ car_letter (vehicle_among c cars.now) (slice_index row.items c) }
 {
     for car in cars {
         if (car.cell as usize) < row.len() {

@@ -13,24 +13,24 @@ use Rattle.road_cells.proofs.ArrayPlaces.{past_array, past_end, length-array}
 use Rattle.road_cells.specs.Gap.{is_blocked}
 use Rattle.road_cells.proofs.FreeCells.{free_before-le, free_before-most}
 use Rattle.road_cells.specs.declared.car.TheConstants.{GREATEST_SPEED}
-use Rattle.road_rules.specs.Speeds.{wanted, slowed}
+use Rattle.road_rules.specs.Speeds.{wanted_speed, slowed_speed}
 use Rattle.road_ends.specs.Speed.{is_taken_on_road, gap, speed, is_slowed}
 use Rattle.road_ends.specs.Run.{Course, road_before_motion}
 use Rattle.road_ends.specs.Laws.{StepLaw, HoldsInEachStep, KeepBelowGreatestSpeed, NeverCollide, ArriveAlone, KeepOrder, StopAtBlocks}
 
-slowed-le : (v : ℕ) (event : Bool) → slowed v event ≤ v
-slowed-le v true = omega arith
-slowed-le v false = omega arith
+slowed_speed-le : (v : ℕ) (event : Bool) → slowed_speed v event ≤ v
+slowed_speed-le v true = omega arith
+slowed_speed-le v false = omega arith
 
-wanted-le : (v limit free : ℕ) → wanted v limit free ≤ free
-wanted-le v limit free = omega arith
+wanted_speed-le : (v limit free : ℕ) → wanted_speed v limit free ≤ free
+wanted_speed-le v limit free = omega arith
 
 -- a car never drives farther than its gap
 pub speed-le : (p : Plan) (s : Settings) (t : ℕ) (a : Array) (c : ℕ) (x : Vehicle) → speed p s t a c x ≤ gap p s a c
-speed-le p s t a c x = both (wanted x.speed (slice_index s.limits (zone_of p c)) (gap p s a c)) (gap p s a c) (is_slowed p s t (zone_of p c) x) (wanted-le x.speed (slice_index s.limits (zone_of p c)) (gap p s a c))
+speed-le p s t a c x = both (wanted_speed x.speed (slice_index s.limits (zone_of p c)) (gap p s a c)) (gap p s a c) (is_slowed p s t (zone_of p c) x) (wanted_speed-le x.speed (slice_index s.limits (zone_of p c)) (gap p s a c))
   where
-    both : (u free : ℕ) (event : Bool) → u ≤ free → slowed u event ≤ free
-    both u free event le = let less = slowed-le u event in omega arith
+    both : (u free : ℕ) (event : Bool) → u ≤ free → slowed_speed u event ≤ free
+    both u free event le = let less = slowed_speed-le u event in omega arith
 
 -- no car is too fast
 pub speed-most : (p : Plan) (s : Settings) (t : ℕ) (a : Array) (c : ℕ) (x : Vehicle) → speed p s t a c x ≤ GREATEST_SPEED

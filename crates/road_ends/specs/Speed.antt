@@ -10,7 +10,7 @@ use Rattle.road_cells.specs.Gap as cells
 use Rattle.road_cells.specs.Gap.{free_before}
 use Rattle.road_cells.specs.declared.car.TheConstants.{GREATEST_SPEED}
 use Rattle.road_cells.specs.declared.car.Car.{Car}
-use Rattle.road_rules.specs.Speeds.{wanted, slowed, has_event}
+use Rattle.road_rules.specs.Speeds.{wanted_speed, slowed_speed, has_event}
 
 -- whether a cell is on the road and holds a car or is blocked
 abbrev pub is_taken_on_road : Plan → Settings → Array → ℕ → Bool
@@ -28,7 +28,7 @@ is_slowed p s t zone car = has_event (word p.words car.number t) (slice_index s.
 -- (Nagel and Schreckenberg 1992)
 abbrev pub speed : Plan → Settings → ℕ → Array → ℕ → Vehicle → ℕ
 speed p s t a c car =
-    slowed (wanted car.speed (slice_index s.limits (zone_of p c)) (gap p s a c)) (is_slowed p s t (zone_of p c) car)
+    slowed_speed (wanted_speed car.speed (slice_index s.limits (zone_of p c)) (gap p s a c)) (is_slowed p s t (zone_of p c) car)
 
 -- the k-th car, counted from 0
 abbrev pub nth_car : List Car → ℕ → Car

@@ -2,7 +2,7 @@
 
 ghost use Rattle.std.specs.Prelude.{◌≡◌, ◌<◌, ◌/◌, ℕ, IfOk};
 ghost use Rattle.road_plan.specs.declared.limits.TheConstants.{MOST_INLETS};
-ghost use Rattle.road_rules.specs.Speeds.{has_event, slowed};
+ghost use Rattle.road_rules.specs.Speeds.{has_event, slowed_speed};
 ghost use Rattle.road_words.specs.Words.{word};
 ghost use Rattle.road_ends.specs.Entries.{inlet_stream};
 
@@ -57,7 +57,7 @@ pub(crate) fn slowed_by_chance(
     speed: u8,
     chance: u32,
 ) -> u8
-    ensures { result ≡ slowed speed (has_event (⟦<PlanWords as Words>⟧.word_of words.now stream place) chance) }
+    ensures { result ≡ slowed_speed speed (has_event (⟦<PlanWords as Words>⟧.word_of words.now stream place) chance) }
 {
     if speed > 0 && has_event(words, stream, place, chance) {
         speed - 1
@@ -68,7 +68,7 @@ pub(crate) fn slowed_by_chance(
 
 // A speed after rule 3, by the upper half of its word. Where the speed is 0 it may be any number.
 pub(crate) fn slowed_by_half(half: u16, speed: u8, chance: u32) -> u8
-    ensures { (word : ℕ) → (0 < speed → half ≡ word / 65536) → result ≡ slowed speed (has_event word chance) }
+    ensures { (word : ℕ) → (0 < speed → half ≡ word / 65536) → result ≡ slowed_speed speed (has_event word chance) }
 {
     speed.saturating_sub(u8::from(u32::from(half) < chance))
 }

@@ -51,8 +51,8 @@ only_number field d = do
   number_at field d
 
 -- exactly the fields `at`, `object`, `step` and `value`
-unfoldable pub edit_in : List ℕ → Data → Option Command
-edit_in at d = do
+unfoldable pub edit_command_in : List ℕ → Data → Option Command
+edit_command_in at d = do
   exact ← check (has_fields 4 d)
   object ← object_at (codes "object") d
   step ← number_at (codes "step") d
@@ -98,7 +98,7 @@ scenario_in at d = do
 -- the command of a name that tells or asks one replica, with these fields
 unfoldable pub local_of_name : List ℕ → List ℕ → Data → Option Command
 local_of_name name at d =
-    if bytes_eq name (codes "edit") then edit_in at d
+    if bytes_eq name (codes "edit") then edit_command_in at d
     else if bytes_eq name (codes "withdraw") then withdraw_in at d
     else if bytes_eq name (codes "advance") then option_map (Advance at) (only_number (codes "to") d)
     else if bytes_eq name (codes "cells") then option_map (Cells at) (only_number (codes "step") d)

@@ -7,7 +7,7 @@ use Rattle.std.specs.Str.{bytes_eq}
 use Rattle.serde_json.specs.Data.{Data}
 use Rattle.serde_json.specs.Find.{get, as_str}
 use Rattle.road_plan.specs.Plan.{Plan}
-use Rattle.road_plan.specs.Refusals.{fault_of}
+use Rattle.road_plan.specs.Refusals.{fault_of_plan}
 use Rattle.road_plan.specs.declared.parts.WordKind.{WordKind}
 use Rattle.road_plan.specs.declared.parts.WordKind.TheVariants.{Seeded, Steady}
 use Rattle.road_plan.specs.declared.limits.TheConstants.{MOST_REPLICAS}
@@ -90,7 +90,7 @@ are_names texts =
 
 -- the first refusal of a plan line: of its names, then of its plan
 abbrev pub refusal_of : PlanLine → Option Refusal
-refusal_of line = if are_names line.names then option_and_then plan_refusal (fault_of line.plan) else Some Names
+refusal_of line = if are_names line.names then option_and_then plan_refusal (fault_of_plan line.plan) else Some Names
 
 -- the line, unless there is a refusal
 abbrev pub line_or_refusal : PlanLine → Option Refusal → Result PlanLine Refusal

@@ -12,7 +12,7 @@ use Rattle.clap.specs.declared.error.Error.{Error}
 use Rattle.clap.specs.declared.parser.matches.Found.{Found}
 use Rattle.clap.specs.declared.error.kind.ErrorKind.{ErrorKind}
 use Rattle.clap.specs.declared.error.kind.ErrorKind.TheVariants.{OutOfMemory}
-use Rattle.road_lab.specs.Arguments.{are_accepted, are_read, command_line, found_in, script_of, worker_count, workers_of, workers_value}
+use Rattle.road_lab.specs.Arguments.{are_accepted, are_read, command_line, words_matches, script_of, worker_count, workers_of, workers_value}
 
 -- ---- the program's command
 
@@ -37,7 +37,7 @@ is_accepted faultless value = faultless && option_map_or (λ text. is_some (work
 -- what `clap` found in words that it read; the value of `--workers` among it
 pub record IsRead (words : List (List ℕ)) (rows : List Row) (text : Option (List ℕ)) : Type 0 where
   pub read : are_read words ≡ true
-  pub found : rows ≡ found_in words
+  pub found : rows ≡ words_matches words
   pub value : first_of (codes "workers") rows ≡ text
 
 value_read : (words : List (List ℕ)) (rows : List Row) (text : Option (List ℕ)) → IsRead words rows text → workers_value words ≡ text
@@ -70,7 +70,7 @@ pub refused_words : (words : List (List ℕ)) → are_read words ≡ false → a
 unfolding are_accepted
 refused_words words faulty = ap (λ (b : Bool). is_accepted b (workers_value words)) faulty
 
-pub path_found : (words : List (List ℕ)) (found : Found) → rows_of found ≡ found_in words → first_value found (codes "script") ≡ script_of words
+pub path_found : (words : List (List ℕ)) (found : Found) → rows_of found ≡ words_matches words → first_value found (codes "script") ≡ script_of words
 unfolding script_of
 path_found words found is = first_value-rows found (codes "script") ∙ ap (first_of (codes "script")) is
 
@@ -83,8 +83,8 @@ pub read_by : (a : App) (words : List (List ℕ)) → a ≡ command_line → fau
 unfolding are_read
 read_by a words is none = ap is_empty (ap (λ (x : App). fault_of x words) (sym is) ∙ none)
 
-pub found_by : (a : App) (words : List (List ℕ)) (rows : List Row) → a ≡ command_line → rows ≡ matches_of a words → rows ≡ found_in words
-unfolding found_in
+pub found_by : (a : App) (words : List (List ℕ)) (rows : List Row) → a ≡ command_line → rows ≡ matches_of a words → rows ≡ words_matches words
+unfolding words_matches
 found_by a words rows is found = found ∙ ap (λ (x : App). matches_of x words) is
 
 some_kind : (kind : ErrorKind) (kinds : Kinds) → IsAmong kind kinds → is_empty kinds ≡ false
@@ -102,13 +102,13 @@ unread_by a words error is other has = ap (λ (x : App). is_empty (fault_of x wo
 -- ---- worked command lines; `examples/process` has more
 
 a_path : script_of (codes "--script" ∷ codes "a.jsonl" ∷ []) ≡ Some (codes "a.jsonl")
-unfolding clap_on_literals script_of found_in
+unfolding clap_on_literals script_of words_matches
 a_path = refl
 
 three_workers : workers_of (codes "--workers=+03" ∷ []) ≡ Some 3
-unfolding clap_on_literals workers_of worker_count found_in
+unfolding clap_on_literals workers_of worker_count words_matches
 three_workers = refl
 
 twice : are_accepted (codes "--script" ∷ codes "a" ∷ codes "--script" ∷ codes "a" ∷ []) ≡ false
-unfolding clap_on_literals are_accepted found_in are_read worker_count
+unfolding clap_on_literals are_accepted words_matches are_read worker_count
 twice = refl

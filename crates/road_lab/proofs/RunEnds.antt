@@ -8,7 +8,7 @@ use Rattle.std.proofs.Math.Dec.{eqb-suc-zero}
 use Rattle.std.proofs.KnownBytes.{Appends-nil, Consumes-nil, Consumes-trans, Consumes-kept}
 use Rattle.std.specs.Io.KnownBytes.{Appends, Consumes, IsAtEnd, Keeps}
 use Rattle.road_format.specs.Cut.{lines_of}
-use Rattle.road_lab.specs.Answers.{later_lines, answers, answers_within, is_plan_refused, is_plan_refused_within, has_more_lines, has_byte_past_limits, reply_count}
+use Rattle.road_lab.specs.Answers.{later_lines, answers, answers_within, is_plan_refused, is_plan_refused_within, has_more_lines, has_byte_past_most, reply_count}
 use Rattle.road_lab.specs.Dialogue.{HasAnswered, HasFinished, Stands, StandsAtEnd}
 use Rattle.road_lab.specs.Failures.{RisesByOne}
 use Rattle.road_workers.specs.declared.faults.CrewFault.{CrewFault}
@@ -78,8 +78,8 @@ refused_ended limit h short =
     let all = whole limit h short in
     rw (all, fits) refl
 
-past_ended : (lines limit : ℕ) (h : List ℕ) → length h ≤ limit → has_more_lines lines h ≡ false → has_byte_past_limits lines limit h ≡ false
-unfolding has_byte_past_limits
+past_ended : (lines limit : ℕ) (h : List ℕ) → length h ≤ limit → has_more_lines lines h ≡ false → has_byte_past_most lines limit h ≡ false
+unfolding has_byte_past_most
 past_ended lines limit h short few = let fits : nat_lt limit (length h) ≡ false = le-ltb limit (length h) short in rw (fits, few) refl
 
 count_ended : (lines limit : ℕ) (h : List ℕ) → length h ≤ limit → has_more_lines lines h ≡ false → reply_count lines limit h ≡ length (later_lines (lines_of h true))
@@ -90,16 +90,16 @@ count_ended lines limit h short few =
     let lines_all = take_all (suc lines) (lines_of h true) (few_lines lines h few) in
     rw (all, fits) (ap (λ (ls : List (List ℕ)). length (later_lines ls)) lines_all)
 
-past_bytes : (lines limit : ℕ) (z : List ℕ) → limit < length z → has_byte_past_limits lines limit z ≡ true
-unfolding has_byte_past_limits
+past_bytes : (lines limit : ℕ) (z : List ℕ) → limit < length z → has_byte_past_most lines limit z ≡ true
+unfolding has_byte_past_most
 past_bytes lines limit z past = let more : nat_lt limit (length z) ≡ true = lt-ltb limit (length z) past in rw more refl
 
-by_limit : (lines limit : ℕ) (z : List ℕ) (b : Bool) → nat_lt limit (length z) ≡ b → has_more_lines lines (take limit z) ≡ true → has_byte_past_limits lines limit z ≡ true
-unfolding has_byte_past_limits
+by_limit : (lines limit : ℕ) (z : List ℕ) (b : Bool) → nat_lt limit (length z) ≡ b → has_more_lines lines (take limit z) ≡ true → has_byte_past_most lines limit z ≡ true
+unfolding has_byte_past_most
 by_limit lines limit z true e more = rw e refl
 by_limit lines limit z false e more = let all = whole limit z (ltb-false limit (length z) e) in rw e (ap (has_more_lines lines) (sym all) ∙ more)
 
-past_lines : (lines limit : ℕ) (z : List ℕ) → has_more_lines lines (take limit z) ≡ true → has_byte_past_limits lines limit z ≡ true
+past_lines : (lines limit : ℕ) (z : List ℕ) → has_more_lines lines (take limit z) ≡ true → has_byte_past_most lines limit z ≡ true
 past_lines lines limit z more = by_limit lines limit z (nat_lt limit (length z)) refl more
 
 -- ---- the loop: some input was read and answered, and no call failed

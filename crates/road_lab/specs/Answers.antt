@@ -113,9 +113,9 @@ answers_within lines limit bytes ended = answers lines (take limit bytes) (ends_
 unfoldable pub is_plan_refused_within : ℕ → List ℕ → Bool → Bool
 is_plan_refused_within limit bytes ended = is_plan_refused (take limit bytes) (ends_within limit bytes ended)
 
--- whether a byte stands past the limits
-unfoldable pub has_byte_past_limits : ℕ → ℕ → List ℕ → Bool
-has_byte_past_limits lines limit bytes = nat_lt limit (length bytes) || has_more_lines lines bytes
+-- whether a byte stands past the most lines or the most bytes
+unfoldable pub has_byte_past_most : ℕ → ℕ → List ℕ → Bool
+has_byte_past_most lines limit bytes = nat_lt limit (length bytes) || has_more_lines lines bytes
 
 -- how many replies there are after the plan line's, to an input that has ended and whose plan line is accepted
 unfoldable pub reply_count : ℕ → ℕ → List ℕ → ℕ

@@ -28,8 +28,8 @@ unfoldable pub are_read : List (List ℕ) → Bool
 are_read words = is_empty (fault_of command_line words)
 
 -- what it finds in them
-unfoldable pub found_in : List (List ℕ) → List Row
-found_in words = matches_of command_line words
+unfoldable pub words_matches : List (List ℕ) → List Row
+words_matches words = matches_of command_line words
 
 -- the number of workers that a value names: in decimal digits, a plus before them or none, from 1 to 16
 unfoldable pub worker_count : List ℕ → Option ℕ
@@ -38,7 +38,7 @@ worker_count text =
 
 -- the value of `--workers`, where the words have it
 abbrev pub workers_value : List (List ℕ) → Option (List ℕ)
-workers_value words = first_of (codes "workers") (found_in words)
+workers_value words = first_of (codes "workers") (words_matches words)
 
 -- whether the words are accepted: `clap` reads them, and a value of `--workers` names a number of workers
 unfoldable pub are_accepted : List (List ℕ) → Bool
@@ -47,7 +47,7 @@ are_accepted words =
 
 -- the path of the script, where the words name one
 unfoldable pub script_of : List (List ℕ) → Option (List ℕ)
-script_of words = first_of (codes "script") (found_in words)
+script_of words = first_of (codes "script") (words_matches words)
 
 -- the number of workers, where the words name one
 unfoldable pub workers_of : List (List ℕ) → Option ℕ

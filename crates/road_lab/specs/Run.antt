@@ -2,7 +2,7 @@
 use Rattle.std.specs.Prelude.{◌≡◌, ℕ, List, Bool, true, false, Result, Ok, Err}
 use Rattle.std.specs.Io.KnownBytes.{Appends, Consumes, IsAtEnd}
 use Rattle.road_plan.specs.declared.limits.TheConstants.{MOST_LINES, MOST_BYTES}
-use Rattle.road_lab.specs.Answers.{answers_within, is_plan_refused_within, has_byte_past_limits, reply_count}
+use Rattle.road_lab.specs.Answers.{answers_within, is_plan_refused_within, has_byte_past_most, reply_count}
 use Rattle.road_lab.specs.Failures.{RisesByOne}
 use Rattle.road_lab.specs.StreamViews.{SourceView, SinkView, Stops}
 use Rattle.road_lab.specs.declared.faults.ServeFault.{ServeFault}
@@ -47,18 +47,18 @@ pub record WritesAll (run : Run) (input : List ℕ) : Type 0 where
 abbrev pub RefusesPlan : Run → List ℕ → Bool → Type 0
 RefusesPlan run input answer = is_plan_refused_within run.most_bytes input run.source_after.at_end ≡ answer
 
--- whether a byte of this input stands past the limits
-abbrev pub PassesLimits : Run → List ℕ → Bool → Type 0
-PassesLimits run input answer = has_byte_past_limits run.most_lines run.most_bytes input ≡ answer
+-- whether this input goes past the most lines or the most bytes
+abbrev pub PassesMost : Run → List ℕ → Bool → Type 0
+PassesMost run input answer = has_byte_past_most run.most_lines run.most_bytes input ≡ answer
 
--- A run that ends well: at the end of input, with nothing left. The plan line is accepted, and no byte is past the
--- limits.
+-- A run that ends well: at the end of input, with nothing left. The plan line is accepted, and the input does not go
+-- past the most lines or the most bytes.
 pub record EndsWell (run : Run) (input : List ℕ) (served : Served) : Type 0 where
   pub writes : WritesAll run input
   pub at_end : run.source_after.at_end ≡ true
   pub nothing_left : IsAtEnd run.source_after.remaining
   pub accepted : RefusesPlan run input false
-  pub within : PassesLimits run input false
+  pub within : PassesMost run input false
   pub counted : served.lines ≡ reply_count run.most_lines run.most_bytes input
 
 -- A run that a failed read ends: the answers to the lines that were read whole were written.
@@ -78,7 +78,7 @@ pub record EndsUnwritten (run : Run) (input : List ℕ) (fault : ServeFault) : T
 abbrev pub Ends : Run → List ℕ → Result Served ServeFault → Type 0
 Ends run input (Ok served) = EndsWell run input served
 Ends run input (Err faults.BadPlan) = WritesAll run input × RefusesPlan run input true
-Ends run input (Err faults.TooMany) = WritesAll run input × RefusesPlan run input false × PassesLimits run input true
+Ends run input (Err faults.TooMany) = WritesAll run input × RefusesPlan run input false × PassesMost run input true
 Ends run input (Err faults.Read) = EndsUnread run input
 Ends run input (Err faults.Write) = EndsUnwritten run input faults.Write
 Ends run input (Err faults.OutOfMemory) = EndsUnwritten run input faults.OutOfMemory

@@ -5,7 +5,7 @@ ghost use Rattle.clap.specs.Words.{found_of, kind_of, rows_of};
 ghost use Rattle.clap.specs.declared.error.kind.ErrorKind.TheVariants as kinds;
 ghost use Rattle.road_format.specs.Views.{texts};
 ghost use Rattle.road_plan.specs.declared.limits.TheConstants.{MOST_WORKERS};
-ghost use Rattle.road_lab.specs.Arguments.{are_accepted, are_read, found_in, script_of, worker_count, workers_of};
+ghost use Rattle.road_lab.specs.Arguments.{are_accepted, are_read, words_matches, script_of, worker_count, workers_of};
 ghost use Rattle.road_lab.specs.declared.arguments.ArgumentFault.TheVariants.{Refused};
 
 use clap::error::ErrorKind;
@@ -73,7 +73,7 @@ pub fn arguments_in<'a>(alloc: Global, words: &'a [String]) -> Result<Arguments<
 // What `clap` finds in the words.
 fn matches_in<'a>(alloc: Global, words: &'a [String]) -> Result<ArgMatches<'a>, ArgumentFault>
     ensures read { IfOk result (λ found. are_read (texts words.now) ≡ true) }
-    ensures found { IfOk result (λ found. rows_of (found_of found) ≡ found_in (texts words.now)) }
+    ensures found { IfOk result (λ found. rows_of (found_of found) ≡ words_matches (texts words.now)) }
     ensures refused { result ≡ Err Refused → are_read (texts words.now) ≡ false }
 {
     let script = Arg::new(alloc, "script").long("script");

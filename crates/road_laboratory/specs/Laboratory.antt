@@ -11,14 +11,14 @@ use Rattle.road_cells.specs.Array.{Array}
 use Rattle.road_cells.specs.Cars.{cars_of}
 use Rattle.road_plan.specs.declared.object.Object.{Object}
 use Rattle.road_scenario.specs.Edits.{Edits}
-use Rattle.road_scenario.specs.Touched.{touched}
+use Rattle.road_scenario.specs.Touched.{first_touched_step}
 use Rattle.road_scenario.specs.Winners.{winners}
 use Rattle.road_scenario.specs.declared.edit.Edit as edit
 use Rattle.road_scenario.specs.declared.edit.Value.{Value}
 use Rattle.road_scenario.specs.declared.edit.Value.TheVariants.{Put, Withdrawn}
 use Rattle.road_delta.specs.Deltas.{beyond, heads}
 use Rattle.road_detector.specs.declared.counts.Totals.{Totals}
-use Rattle.road_sheet.specs.Sheets.{Sheet, row_of, rows_of, state_of, total_of}
+use Rattle.road_sheet.specs.Sheets.{Sheet, sheet_row, rows_of, state_of, total_of}
 use Rattle.road_replica.specs.Refusals.{gone_after_fault, import_fault, rows_fault, state_fault, totals_fault}
 use Rattle.road_replica.specs.Replicas.{local_edit}
 use Rattle.road_replica.specs.declared.faults.ReplicaFault.{ReplicaFault}
@@ -143,7 +143,7 @@ stamp_answer w r object step value = Stamped (local_edit r (replica_at w r).edit
 
 -- the first step that edits touch where they reach replica r
 abbrev pub touched_answer : World → ℕ → Edits → Answer
-touched_answer w r edits = Touched (touched (replica_at w r).edits (union (replica_at w r).edits edits))
+touched_answer w r edits = Touched (first_touched_step (replica_at w r).edits (union (replica_at w r).edits edits))
 
 -- edits reach replica r from outside, unless it refuses them
 abbrev pub import_outcome : Laboratory → ℕ → List edit.Edit → Outcome
@@ -189,7 +189,7 @@ question_answer fault answer = answer_unless (option_and_then replica_refusal fa
 
 -- the row of a step
 abbrev pub cells_answer : Sheet → ℕ → Answer
-cells_answer sheet step = question_answer (state_fault sheet step) (replies.Cells (row_of sheet step))
+cells_answer sheet step = question_answer (state_fault sheet step) (replies.Cells (sheet_row sheet step))
 
 -- the cars of a road: number, cell, speed, in rising cells
 abbrev pub cars_of_state : Array → List (ℕ × ℕ × ℕ)

@@ -3,8 +3,8 @@ use Rattle.std.specs.Prelude.{◌≡◌, true, false, List, ℕ, [], ◌∷◌, 
 use Rattle.std.specs.List.{range_with_len}
 use Rattle.std.specs.declared.option.Option.TheVariants.{None, Some}
 use Rattle.road_plan.specs.Plan.{Plan}
-use Rattle.road_plan.specs.Refusals.{fault_of}
-use Rattle.road_plan.specs.Objects.{in_plan, allows, default}
+use Rattle.road_plan.specs.Refusals.{fault_of_plan}
+use Rattle.road_plan.specs.Objects.{is_in_plan, allows, default}
 use Rattle.road_plan.specs.declared.parts.WordKind.TheVariants.{Seeded}
 use Rattle.road_plan.specs.declared.faults.PlanFault.TheVariants.{Length, Exit, Zones, Inlets, Detectors, Default}
 use Rattle.road_plan.specs.declared.object.Object.TheVariants.{Limit, Slow, Block, Inflow, Watch}
@@ -22,134 +22,134 @@ small = record {
   words = Seeded 7;
 }
 
-small_plan : fault_of small ≡ None
+small_plan : fault_of_plan small ≡ None
 small_plan = refl
 
 -- ---- the length
 
-seven_cells : fault_of (record small { cells = 7 }) ≡ Some Length
+seven_cells : fault_of_plan (record small { cells = 7 }) ≡ Some Length
 seven_cells = refl
 
-eight_cells : fault_of (record small { cells = 8 }) ≡ None
+eight_cells : fault_of_plan (record small { cells = 8 }) ≡ None
 eight_cells = refl
 
 -- a road of one zone, as long as it may be
 abbrev long : Plan
 long = record small { cells = 8192; width = 8192 }
 
-most_cells : fault_of long ≡ None
+most_cells : fault_of_plan long ≡ None
 most_cells = refl
 
-one_cell_more : fault_of (record long { cells = 8193; width = 8193 }) ≡ Some Length
+one_cell_more : fault_of_plan (record long { cells = 8193; width = 8193 }) ≡ Some Length
 one_cell_more = refl
 
 -- ---- the deleted zone
 
-no_cell_deleted : fault_of (record small { exit = 0 }) ≡ Some Exit
+no_cell_deleted : fault_of_plan (record small { exit = 0 }) ≡ Some Exit
 no_cell_deleted = refl
 
-deleted_from_the_second_cell : fault_of (record small { exit = 11; detectors = [] }) ≡ None
+deleted_from_the_second_cell : fault_of_plan (record small { exit = 11; detectors = [] }) ≡ None
 deleted_from_the_second_cell = refl
 
-all_cells_deleted : fault_of (record small { exit = 12; detectors = [] }) ≡ Some Exit
+all_cells_deleted : fault_of_plan (record small { exit = 12; detectors = [] }) ≡ Some Exit
 all_cells_deleted = refl
 
-longest_exit : fault_of (record long { exit = 64 }) ≡ None
+longest_exit : fault_of_plan (record long { exit = 64 }) ≡ None
 longest_exit = refl
 
-exit_of_65_cells : fault_of (record long { exit = 65 }) ≡ Some Exit
+exit_of_65_cells : fault_of_plan (record long { exit = 65 }) ≡ Some Exit
 exit_of_65_cells = refl
 
 -- ---- the zones
 
-no_width : fault_of (record small { width = 0 }) ≡ Some Zones
+no_width : fault_of_plan (record small { width = 0 }) ≡ Some Zones
 no_width = refl
 
-one_zone_too_few : fault_of (record small { width = 11 }) ≡ Some Zones
+one_zone_too_few : fault_of_plan (record small { width = 11 }) ≡ Some Zones
 one_zone_too_few = refl
 
-shorter_last_zone : fault_of (record small { width = 11; zones = (2, 0) ∷ (3, 0) ∷ [] }) ≡ None
+shorter_last_zone : fault_of_plan (record small { width = 11; zones = (2, 0) ∷ (3, 0) ∷ [] }) ≡ None
 shorter_last_zone = refl
 
-one_zone_too_many : fault_of (record small { zones = (2, 0) ∷ (3, 0) ∷ [] }) ≡ Some Zones
+one_zone_too_many : fault_of_plan (record small { zones = (2, 0) ∷ (3, 0) ∷ [] }) ≡ Some Zones
 one_zone_too_many = refl
 
-most_zones : fault_of (record small { cells = 64; width = 1; zones = replicate 64 (2, 0) }) ≡ None
+most_zones : fault_of_plan (record small { cells = 64; width = 1; zones = replicate 64 (2, 0) }) ≡ None
 most_zones = refl
 
-zones_of_65 : fault_of (record small { cells = 65; width = 1; zones = replicate 65 (2, 0) }) ≡ Some Zones
+zones_of_65 : fault_of_plan (record small { cells = 65; width = 1; zones = replicate 65 (2, 0) }) ≡ Some Zones
 zones_of_65 = refl
 
 -- ---- the inlets
 
-no_inlet : fault_of (record small { inlets = [] }) ≡ Some Inlets
+no_inlet : fault_of_plan (record small { inlets = [] }) ≡ Some Inlets
 no_inlet = refl
 
-inlet_before_the_deleted_zone : fault_of (record small { inlets = (10, 65536) ∷ [] }) ≡ None
+inlet_before_the_deleted_zone : fault_of_plan (record small { inlets = (10, 65536) ∷ [] }) ≡ None
 inlet_before_the_deleted_zone = refl
 
-inlet_in_the_deleted_zone : fault_of (record small { inlets = (11, 65536) ∷ [] }) ≡ Some Inlets
+inlet_in_the_deleted_zone : fault_of_plan (record small { inlets = (11, 65536) ∷ [] }) ≡ Some Inlets
 inlet_in_the_deleted_zone = refl
 
-two_inlets : fault_of (record small { inlets = (3, 0) ∷ (4, 1) ∷ [] }) ≡ None
+two_inlets : fault_of_plan (record small { inlets = (3, 0) ∷ (4, 1) ∷ [] }) ≡ None
 two_inlets = refl
 
-two_inlets_at_a_cell : fault_of (record small { inlets = (3, 0) ∷ (3, 1) ∷ [] }) ≡ Some Inlets
+two_inlets_at_a_cell : fault_of_plan (record small { inlets = (3, 0) ∷ (3, 1) ∷ [] }) ≡ Some Inlets
 two_inlets_at_a_cell = refl
 
 -- inlets at the first cells, always closed
 abbrev first_inlets : ℕ → List (ℕ × ℕ)
 first_inlets n = map (λ cell. (cell, 0)) (range_with_len 0 n)
 
-most_inlets : fault_of (record long { inlets = first_inlets 16 }) ≡ None
+most_inlets : fault_of_plan (record long { inlets = first_inlets 16 }) ≡ None
 most_inlets = refl
 
-inlets_of_17_cells : fault_of (record long { inlets = first_inlets 17 }) ≡ Some Inlets
+inlets_of_17_cells : fault_of_plan (record long { inlets = first_inlets 17 }) ≡ Some Inlets
 inlets_of_17_cells = refl
 
 -- ---- the detectors
 
-no_detector : fault_of (record small { detectors = [] }) ≡ None
+no_detector : fault_of_plan (record small { detectors = [] }) ≡ None
 no_detector = refl
 
-detector_at_the_first_cell : fault_of (record small { detectors = 0 ∷ [] }) ≡ Some Detectors
+detector_at_the_first_cell : fault_of_plan (record small { detectors = 0 ∷ [] }) ≡ Some Detectors
 detector_at_the_first_cell = refl
 
-detectors_at_both_ends : fault_of (record small { detectors = 1 ∷ 10 ∷ [] }) ≡ None
+detectors_at_both_ends : fault_of_plan (record small { detectors = 1 ∷ 10 ∷ [] }) ≡ None
 detectors_at_both_ends = refl
 
-detector_in_the_deleted_zone : fault_of (record small { detectors = 11 ∷ [] }) ≡ Some Detectors
+detector_in_the_deleted_zone : fault_of_plan (record small { detectors = 11 ∷ [] }) ≡ Some Detectors
 detector_in_the_deleted_zone = refl
 
-most_detectors : fault_of (record small { detectors = replicate 64 5 }) ≡ None
+most_detectors : fault_of_plan (record small { detectors = replicate 64 5 }) ≡ None
 most_detectors = refl
 
-detectors_of_65 : fault_of (record small { detectors = replicate 65 5 }) ≡ Some Detectors
+detectors_of_65 : fault_of_plan (record small { detectors = replicate 65 5 }) ≡ Some Detectors
 detectors_of_65 = refl
 
 -- ---- the numbers of zones and inlets
 
-greatest_limit : fault_of (record small { zones = (9, 0) ∷ [] }) ≡ None
+greatest_limit : fault_of_plan (record small { zones = (9, 0) ∷ [] }) ≡ None
 greatest_limit = refl
 
-limit_of_ten : fault_of (record small { zones = (10, 0) ∷ [] }) ≡ Some Default
+limit_of_ten : fault_of_plan (record small { zones = (10, 0) ∷ [] }) ≡ Some Default
 limit_of_ten = refl
 
-certain_chance : fault_of (record small { zones = (2, 65536) ∷ [] }) ≡ None
+certain_chance : fault_of_plan (record small { zones = (2, 65536) ∷ [] }) ≡ None
 certain_chance = refl
 
-chance_above_certain : fault_of (record small { zones = (2, 65537) ∷ [] }) ≡ Some Default
+chance_above_certain : fault_of_plan (record small { zones = (2, 65537) ∷ [] }) ≡ Some Default
 chance_above_certain = refl
 
-inflow_above_certain : fault_of (record small { inlets = (0, 65537) ∷ [] }) ≡ Some Default
+inflow_above_certain : fault_of_plan (record small { inlets = (0, 65537) ∷ [] }) ≡ Some Default
 inflow_above_certain = refl
 
 -- the greatest plan that is accepted
-greatest_plan : fault_of (record small { cells = 8192; exit = 64; width = 128; zones = replicate 64 (9, 65536) }) ≡ None
+greatest_plan : fault_of_plan (record small { cells = 8192; exit = 64; width = 128; zones = replicate 64 (9, 65536) }) ≡ None
 greatest_plan = refl
 
 -- of two faults the earlier one
-zones_before_detectors : fault_of (record small { width = 0; detectors = 0 ∷ [] }) ≡ Some Zones
+zones_before_detectors : fault_of_plan (record small { width = 0; detectors = 0 ∷ [] }) ≡ Some Zones
 zones_before_detectors = refl
 
 -- ---- the objects of edits
@@ -169,16 +169,16 @@ allowed_inflows = (refl, refl)
 allowed_watches : (allows (Watch 0) 1 ≡ true) × (allows (Watch 0) 2 ≡ false)
 allowed_watches = (refl, refl)
 
-zones_of_small : (in_plan small (Limit 0) ≡ true) × (in_plan small (Slow 1) ≡ false)
+zones_of_small : (is_in_plan small (Limit 0) ≡ true) × (is_in_plan small (Slow 1) ≡ false)
 zones_of_small = (refl, refl)
 
-cells_of_small : (in_plan small (Block 11) ≡ true) × (in_plan small (Block 12) ≡ false)
+cells_of_small : (is_in_plan small (Block 11) ≡ true) × (is_in_plan small (Block 12) ≡ false)
 cells_of_small = (refl, refl)
 
-inlets_of_small : (in_plan small (Inflow 0) ≡ true) × (in_plan small (Inflow 1) ≡ false)
+inlets_of_small : (is_in_plan small (Inflow 0) ≡ true) × (is_in_plan small (Inflow 1) ≡ false)
 inlets_of_small = (refl, refl)
 
-detectors_of_small : (in_plan small (Watch 0) ≡ true) × (in_plan small (Watch 1) ≡ false)
+detectors_of_small : (is_in_plan small (Watch 0) ≡ true) × (is_in_plan small (Watch 1) ≡ false)
 detectors_of_small = (refl, refl)
 
 numbers_of_small : (default small (Limit 0) ≡ 2) × (default small (Slow 0) ≡ 0) × (default small (Inflow 0) ≡ 65536)

@@ -13,7 +13,7 @@ use Rattle.std.proofs.lemmas.List.{length-map}
 use Rattle.std.proofs.lemmas.Map.Made.{IsDistinct-from_count, distinct_count-from_IsDistinct}
 use Rattle.std.proofs.lemmas.Option.{none-some}
 use Rattle.road_plan.specs.Plan.{Plan, IsWithinLimits, road_end, zone_of}
-use Rattle.road_plan.specs.Refusals.{fault_of, has_length, has_exit, has_zones, has_inlets, has_detectors, has_defaults}
+use Rattle.road_plan.specs.Refusals.{fault_of_plan, has_length, has_exit, has_zones, has_inlets, has_detectors, has_defaults}
 use Rattle.road_plan.specs.declared.faults.PlanFault.{PlanFault}
 use Rattle.road_plan.specs.declared.limits.TheConstants.{LEAST_LENGTH, GREATEST_LENGTH, GREATEST_EXIT, MOST_ZONES, MOST_INLETS, MOST_DETECTORS, GREATEST_LIMIT, CERTAIN}
 
@@ -65,10 +65,10 @@ passed : (test : Bool) (fault : PlanFault) (others : Option PlanFault) → ((if 
 passed true fault others = (λ h. (refl, h), λ h. h.1)
 passed false fault others = (λ h. absurd (none-some fault (sym h)), λ h. absurd (true≢false (sym h.0)))
 
-pub faultless : (p : Plan) → (fault_of p ≡ None) ↔ IsWithinLimits p
+pub faultless : (p : Plan) → (fault_of_plan p ≡ None) ↔ IsWithinLimits p
 faultless p = (within, none)
   where
-    within : fault_of p ≡ None → IsWithinLimits p
+    within : fault_of_plan p ≡ None → IsWithinLimits p
     within h =
         let past_length = (passed (has_length p) _ _).0 h in
         let past_exit = (passed (has_exit p) _ _).0 past_length.1 in
@@ -103,7 +103,7 @@ faultless p = (within, none)
           inflows_allowed = defaults.1;
         }
 
-    none : IsWithinLimits p → fault_of p ≡ None
+    none : IsWithinLimits p → fault_of_plan p ≡ None
     none w =
         (passed (has_length p) _ _).1 (
           (length_test p).1 (w.long_enough, w.short_enough),

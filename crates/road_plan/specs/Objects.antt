@@ -10,12 +10,12 @@ use Rattle.road_plan.specs.declared.object.Object.TheVariants.{Limit, Slow, Bloc
 use Rattle.road_plan.specs.declared.limits.TheConstants.{GREATEST_LIMIT, CERTAIN}
 
 -- whether a plan has the zone, cell, inlet or detector: a blocked cell may be any cell of the road
-abbrev pub in_plan : Plan → Object → Bool
-in_plan p (Limit zone) = nat_lt zone (length p.zones)
-in_plan p (Slow zone) = nat_lt zone (length p.zones)
-in_plan p (Block cell) = nat_lt cell p.cells
-in_plan p (Inflow inlet) = nat_lt inlet (length p.inlets)
-in_plan p (Watch detector) = nat_lt detector (length p.detectors)
+abbrev pub is_in_plan : Plan → Object → Bool
+is_in_plan p (Limit zone) = nat_lt zone (length p.zones)
+is_in_plan p (Slow zone) = nat_lt zone (length p.zones)
+is_in_plan p (Block cell) = nat_lt cell p.cells
+is_in_plan p (Inflow inlet) = nat_lt inlet (length p.inlets)
+is_in_plan p (Watch detector) = nat_lt detector (length p.detectors)
 
 -- whether an object takes a value: speed limits and chances up to the greatest, and 0 or 1 for what is off or on
 abbrev pub allows : Object → ℕ → Bool

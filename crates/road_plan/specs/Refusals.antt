@@ -43,8 +43,8 @@ has_defaults p =
     && list_all (λ inlet. nat_le inlet.1 CERTAIN) p.inlets
 
 -- the first fault of a plan, in the order in which they are named
-abbrev pub fault_of : Plan → Option PlanFault
-fault_of p =
+abbrev pub fault_of_plan : Plan → Option PlanFault
+fault_of_plan p =
     if not (has_length p) then Some Length
     else (if not (has_exit p) then Some Exit
     else (if not (has_zones p) then Some Zones

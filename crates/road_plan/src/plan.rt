@@ -3,7 +3,7 @@
 ghost use Rattle.std.specs.Prelude.{◌≡◌, IfOk, IfErr, IsOk, Some, None};
 ghost use Rattle.road_plan.specs.Plan.{plan_of, IsWithinLimits};
 ghost use Rattle.road_plan.specs.Settings.{Fits, defaults};
-ghost use Rattle.road_plan.specs.Refusals.{fault_of};
+ghost use Rattle.road_plan.specs.Refusals.{fault_of_plan};
 
 use crate::checks::first_fault;
 use crate::faults::PlanFault;
@@ -35,13 +35,13 @@ impl Plan {
     pub fn new(parts: PlanParts) -> Result<Plan, PlanFault>
         // Accepted exactly where no fault is found, and then the parts are the plan.
         ensures made { IfOk result (λ plan. plan ≡ plan_of parts) }
-        ensures faultless { IfOk result (λ _. fault_of (plan_of parts) ≡ None) }
+        ensures faultless { IfOk result (λ _. fault_of_plan (plan_of parts) ≡ None) }
 
         // So each plan within the limits is accepted.
         ensures accepted { IsWithinLimits (plan_of parts) → IsOk result }
 
         // Refused by the first fault, which is never want of memory.
-        ensures refused { IfErr result (λ fault. fault_of (plan_of parts) ≡ Some fault) }
+        ensures refused { IfErr result (λ fault. fault_of_plan (plan_of parts) ≡ Some fault) }
     {
         match first_fault(&parts) {
             Some(fault) => Err(fault),

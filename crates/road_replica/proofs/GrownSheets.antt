@@ -8,7 +8,7 @@ use Rattle.lattice_core.specs.Map.{is_empty}
 use Rattle.lattice_core.specs.Sets.{empty, from_list, items}
 use Rattle.lattice_core.proofs.SetElements.{items-empty}
 use Rattle.road_scenario.specs.Edits.{Edits, edit_cmp, edit_place}
-use Rattle.road_scenario.specs.Touched.{has_other_number, put_number_at, touched}
+use Rattle.road_scenario.specs.Touched.{has_other_number, put_number_at, first_touched_step}
 use Rattle.road_scenario.specs.Winners.{AreWinners, has_no_edit, join, winners}
 use Rattle.road_scenario.specs.Instances.EditOrder.{winners_laws}
 use Rattle.road_scenario.specs.Instances.JoinedWinners.{join_laws}
@@ -17,7 +17,7 @@ use Rattle.road_scenario.proofs.JoinedRegisters.{winners-single}
 use Rattle.road_scenario.proofs.NoEdits.{winners-empty}
 use Rattle.road_sheet.specs.Commands.{Advance, Take, sheet_after}
 use Rattle.road_sheet.specs.Sheets.{Sheet, IsSheet}
-use Rattle.road_rewind.specs.Growth.{grown, most_steps, touched_step, TicksAtMost}
+use Rattle.road_rewind.specs.Growth.{grown_sheet, most_steps, touched_step, TicksAtMost}
 use Rattle.road_replica.specs.Replicas.{most_steps_taking, single_edit}
 
 max-zero : (n : ℕ) → max n 0 ≡ n
@@ -38,10 +38,10 @@ pub scenario_of_one : (none taken : Edits) (edit made : Edit) → none ≡ empty
 scenario_of_one none taken edit made is joined same =
     joined ∙ ap (λ (edits : Edits). join edits (single_edit edit)) is ∙ no_edit-join (single_edit edit) (winners-single edit) ∙ ap single_edit same
 
-pub grown_by_edits : (s : Sheet) (edits : Edits) → grown s edits 0 ≡ sheet_after (Take edits) s
+pub grown_by_edits : (s : Sheet) (edits : Edits) → grown_sheet s edits 0 ≡ sheet_after (Take edits) s
 grown_by_edits s edits = ap (λ (h : ℕ). let t : Sheet = record { plan = s.plan; edits = join s.edits edits; horizon = h } in t) (max-zero s.horizon)
 
-pub grown_by_steps : (s : Sheet) (to : ℕ) → IsSheet s → grown s empty to ≡ sheet_after (Advance to) s
+pub grown_by_steps : (s : Sheet) (to : ℕ) → IsSheet s → grown_sheet s empty to ≡ sheet_after (Advance to) s
 grown_by_steps s to is = ap (λ (edits : Edits). let t : Sheet = record { plan = s.plan; edits = edits; horizon = max s.horizon to } in t) (join-no_edit s.edits is.winners)
 
 -- all edits of a list, joined to winners, do as their winners do
@@ -62,10 +62,10 @@ none_differs es (f ∷ fs) =
     let rest = filter (has_other_number es es) fs in
     ap (λ equal. cond (not equal) (f ∷ rest) rest) ((options_equiv nat_eq_equiv).refl (put_number_at es (edit_place f))) ∙ none_differs es fs
 
-none_touched : (edits : Edits) → touched edits edits ≡ None
+none_touched : (edits : Edits) → first_touched_step edits edits ≡ None
 none_touched edits =
     let es = items (winners edits) in
     ap (λ (found : List Edit). reduce min (map (λ e. e.step) found)) (none_differs es (es ++ es))
 
 pub no_edit_touches : (s : Sheet) → IsSheet s → touched_step s empty ≡ None
-no_edit_touches s is = ap (touched s.edits) (join-no_edit s.edits is.winners) ∙ none_touched s.edits
+no_edit_touches s is = ap (first_touched_step s.edits) (join-no_edit s.edits is.winners) ∙ none_touched s.edits

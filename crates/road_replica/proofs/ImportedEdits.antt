@@ -3,7 +3,7 @@ use Rattle.std.proofs.Common.{◌≡◌, ◌∙◌, ℕ, ap, refl, Bool, true, f
 use Rattle.std.specs.Prelude.{nat_lt, if◌then◌else◌, IfSome}
 use Rattle.std.specs.Option.{option_or, option_map}
 use Rattle.road_plan.specs.Plan.{Plan}
-use Rattle.road_scenario.specs.Faults.{fault_of, first_fault}
+use Rattle.road_scenario.specs.Faults.{fault_of_edit, first_fault}
 use Rattle.road_scenario.specs.declared.edit.Edit.{Edit}
 use Rattle.road_scenario.specs.declared.faults.EditFault.{EditFault}
 use Rattle.road_scenario.specs.declared.faults.EditFault.TheVariants.{NoObject, Step, ValueOutOfRange, Count}
@@ -26,8 +26,8 @@ pub no_fault_imported : (plan : Plan) (edits : List Edit) → import_fault plan 
 no_fault_imported plan [] h = refl
 no_fault_imported plan (e ∷ es) h =
     let both = none_of_both (imported_fault plan e) (import_fault plan es) h in
-    let here = none_of_both (option_map arrived_fault (fault_of plan e)) _ both.0 in
-    ap (λ x. option_or x (first_fault plan es)) (unmapped (fault_of plan e) here.0) ∙ no_fault_imported plan es both.1
+    let here = none_of_both (option_map arrived_fault (fault_of_edit plan e)) _ both.0 in
+    ap (λ x. option_or x (first_fault plan es)) (unmapped (fault_of_edit plan e) here.0) ∙ no_fault_imported plan es both.1
 
 -- ---- no worker is lost by a named cause
 
@@ -54,5 +54,5 @@ pub refused_import_loses_none : (plan : Plan) (edits : List Edit) (n : ℕ) → 
 refused_import_loses_none plan [] n = tt
 refused_import_loses_none plan (e ∷ es) n =
     either n (imported_fault plan e) (import_fault plan es)
-    (either n (option_map arrived_fault (fault_of plan e)) _ (arrived n (fault_of plan e)) (insider n (nat_lt e.stamp.number FIRST_IMPORT_NUMBER)))
+    (either n (option_map arrived_fault (fault_of_edit plan e)) _ (arrived n (fault_of_edit plan e)) (insider n (nat_lt e.stamp.number FIRST_IMPORT_NUMBER)))
     (refused_import_loses_none plan es n)

@@ -7,7 +7,7 @@ use Rattle.road_plan.specs.Plan.{Plan}
 use Rattle.road_plan.specs.declared.object.Object.{Object}
 use Rattle.road_plan.specs.declared.limits.TheConstants.{GREATEST_HORIZON, FIRST_IMPORT_NUMBER, MOST_ROWS}
 use Rattle.road_scenario.specs.Edits.{Edits}
-use Rattle.road_scenario.specs.Faults.{fault_of, fault_in}
+use Rattle.road_scenario.specs.Faults.{fault_of_edit, fault_in}
 use Rattle.road_scenario.specs.declared.edit.Edit.{Edit}
 use Rattle.road_scenario.specs.declared.edit.Value.{Value}
 use Rattle.road_scenario.specs.declared.faults.EditFault.{EditFault}
@@ -56,11 +56,11 @@ write_fault growth.OutOfMemory = OutOfMemory
 
 -- the first named cause for which an edit is refused that the replica would make
 abbrev pub edit_fault : Replica → Object → ℕ → Value → Option ReplicaFault
-edit_fault r object step value = option_map made_fault (fault_of r.sheet.plan (edit_made r object step value))
+edit_fault r object step value = option_map made_fault (fault_of_edit r.sheet.plan (edit_made r object step value))
 
 -- the first named cause for which one imported edit is refused: it must not bear a replica's number
 abbrev pub imported_fault : Plan → Edit → Option ReplicaFault
-imported_fault plan edit = option_or (option_map arrived_fault (fault_of plan edit))
+imported_fault plan edit = option_or (option_map arrived_fault (fault_of_edit plan edit))
     (if nat_lt edit.stamp.number FIRST_IMPORT_NUMBER then Some Insider else None)
 
 -- the cause for which an import is refused: that of its first faulty edit

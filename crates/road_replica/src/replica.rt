@@ -14,7 +14,7 @@ ghost use Rattle.road_scenario.specs.Faults.{AreInRange};
 ghost use Rattle.road_delta.specs.Deltas as deltas;
 ghost use Rattle.road_sheet.specs.Commands.{Advance, Take};
 ghost use Rattle.road_sheet.specs.Sheets.{IsSheet, opening_sheet, rows_of, state_of, total_of};
-ghost use Rattle.road_rewind.specs.Growth.{TicksAtMost, grown, kept_step, meter_after, most_steps, touched_step};
+ghost use Rattle.road_rewind.specs.Growth.{TicksAtMost, grown_sheet, kept_step, meter_after, most_steps, touched_step};
 ghost use Rattle.road_replica.specs.Refusals as refusals;
 ghost use Rattle.road_replica.specs.Refusals.{IsRefusal, IsWriteRefusal, gone_after_fault};
 ghost use Rattle.road_replica.specs.Replicas.{edit_made, most_steps_taking, replica_after, single_edit};
@@ -372,7 +372,7 @@ impl Replica {
         requires fits { AreInRange self.old.sheet.plan scenario.now }
         requires within_limit { to ≤ GREATEST_HORIZON }
         ensures touched { IfOk result (λ touched. touched ≡ touched_step self.old.sheet scenario.now) }
-        ensures sheet { OnOk result (self.new ≡ record self.old { sheet = grown self.old.sheet scenario.now to }) }
+        ensures sheet { OnOk result (self.new ≡ record self.old { sheet = grown_sheet self.old.sheet scenario.now to }) }
         ensures refused { IfErr result (IsWriteRefusal None) }
         ensures unchanged { OnErr result (self.new ≡ self.old) }
         ensures new_steps { IfOk result (λ _.

@@ -3,7 +3,7 @@ use Rattle.std.specs.Prelude.{◌≡◌, ◌≤◌, ◌+◌, ◌-◌, ◌^◌, �
 use Rattle.std.specs.declared.option.Option.{Option}
 use Rattle.std.specs.declared.option.Option.TheVariants.{None, Some}
 use Rattle.road_scenario.specs.Edits.{Edits}
-use Rattle.road_scenario.specs.Touched.{touched}
+use Rattle.road_scenario.specs.Touched.{first_touched_step}
 use Rattle.road_scenario.specs.Winners.{join}
 use Rattle.road_workers.specs.declared.faults.CrewFault.{CrewFault}
 use Rattle.road_workers.specs.declared.faults.CrewFault.TheVariants as crew
@@ -13,12 +13,12 @@ use Rattle.road_rewind.specs.declared.faults.GrownFault.{GrownFault}
 use Rattle.road_rewind.specs.declared.faults.GrownFault.TheVariants.{WorkersGone, OutOfMemory}
 
 -- the sheet with edits joined in, simulated at least up to a step
-abbrev pub grown : Sheet → Edits → ℕ → Sheet
-grown s edits to = sheet_after (Advance to) (sheet_after (Take edits) s)
+abbrev pub grown_sheet : Sheet → Edits → ℕ → Sheet
+grown_sheet s edits to = sheet_after (Advance to) (sheet_after (Take edits) s)
 
 -- the first step at which edits, joined into a sheet's, put other numbers
 abbrev pub touched_step : Sheet → Edits → Option ℕ
-touched_step s edits = touched s.edits (join s.edits edits)
+touched_step s edits = first_touched_step s.edits (join s.edits edits)
 
 -- up to which step a run stays right: up to the horizon or the touched step, whichever is earlier
 abbrev pub kept_step : ℕ → Option ℕ → ℕ

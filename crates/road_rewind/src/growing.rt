@@ -4,7 +4,7 @@ ghost use Rattle.std.specs.Prelude.{◌≡◌, ◌≤◌, ◌<◌, ◌-◌, max,
 ghost use Rattle.road_plan.specs.declared.limits.TheConstants.{GREATEST_HORIZON};
 ghost use Rattle.road_scenario.specs.Faults.{AreInRange};
 ghost use Rattle.road_sheet.specs.Sheets.{IsAtMost, sheet_after_step};
-ghost use Rattle.road_rewind.specs.Growth.{grown, touched_step, kept_step, most_steps, meter_after, TicksAtMost, gone_after_fault};
+ghost use Rattle.road_rewind.specs.Growth.{grown_sheet, touched_step, kept_step, most_steps, meter_after, TicksAtMost, gone_after_fault};
 
 use crate::faults::{GrownFault, growth_fault};
 use crate::growth::Grown;
@@ -37,7 +37,7 @@ pub fn grown<C: Crew>(
 ) -> Result<Grown, GrownFault>
     requires fits { AreInRange sheet.now.plan scenario.now }
     requires within_limit { to ≤ GREATEST_HORIZON }
-    ensures sheet { IfOk result (λ done. done.sheet ≡ grown sheet.now scenario.now to) }
+    ensures sheet { IfOk result (λ done. done.sheet ≡ grown_sheet sheet.now scenario.now to) }
     ensures above { IfOk result (λ done. IsAtMost sheet.now done.sheet) }
     ensures touched { IfOk result (λ done. done.touched ≡ touched_step sheet.now scenario.now) }
     // Where no simulated step is touched, just the new steps are computed.

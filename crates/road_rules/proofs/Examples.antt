@@ -3,28 +3,28 @@ use Rattle.std.specs.Prelude.{◌≡◌, ℕ, ◌*◌, ◌+◌, true, false, [],
 use Rattle.road_cells.specs.Array.{Array}
 use Rattle.road_cells.specs.Cars.{array_of, cars_of}
 use Rattle.road_cells.specs.declared.car.Car.{Car}
-use Rattle.road_rules.specs.Speeds.{wanted, speed_after_acceleration, speed_after_braking, has_event, slowed}
+use Rattle.road_rules.specs.Speeds.{wanted_speed, speed_after_acceleration, speed_after_braking, has_event, slowed_speed}
 use Rattle.road_rules.specs.Motion.{array_after_motion, array_after_motion_at, speed_at}
 
 -- ---- rules 1 and 2
 
 -- a free car grows faster by one, up to the limit
-wanted-faster : wanted 1 5 9 ≡ 2
-wanted-faster = refl
+wanted_speed-faster : wanted_speed 1 5 9 ≡ 2
+wanted_speed-faster = refl
 
-wanted-limit : wanted 5 5 9 ≡ 5
-wanted-limit = refl
+wanted_speed-limit : wanted_speed 5 5 9 ≡ 5
+wanted_speed-limit = refl
 
 -- a car above a lowered limit drops to it at once
-wanted-lowered : wanted 5 2 9 ≡ 2
-wanted-lowered = refl
+wanted_speed-lowered : wanted_speed 5 2 9 ≡ 2
+wanted_speed-lowered = refl
 
 -- no car drives into what is in front of it
-wanted-gap : wanted 5 5 3 ≡ 3
-wanted-gap = refl
+wanted_speed-gap : wanted_speed 5 5 3 ≡ 3
+wanted_speed-gap = refl
 
-wanted-blocked : wanted 5 5 0 ≡ 0
-wanted-blocked = refl
+wanted_speed-blocked : wanted_speed 5 5 0 ≡ 0
+wanted_speed-blocked = refl
 
 -- at speed 2 the next car has to be more than three cells away
 accelerated-free : speed_after_acceleration 2 5 4 ≡ 3
@@ -62,14 +62,14 @@ has_event-never = refl
 has_event-always : has_event 4294967295 65536 ≡ true
 has_event-always = refl
 
-slowed-event : slowed 3 true ≡ 2
-slowed-event = refl
+slowed_speed-event : slowed_speed 3 true ≡ 2
+slowed_speed-event = refl
 
-slowed-vehicle_among : slowed 0 true ≡ 0
-slowed-vehicle_among = refl
+slowed_speed-vehicle_among : slowed_speed 0 true ≡ 0
+slowed_speed-vehicle_among = refl
 
-slowed-none : slowed 3 false ≡ 3
-slowed-none = refl
+slowed_speed-none : slowed_speed 3 false ≡ 3
+slowed_speed-none = refl
 
 -- ---- rule 4
 
@@ -90,7 +90,7 @@ unfolding entered car
 speed_at-third = refl
 
 -- the same by a function of cell and vehicle
-array_after_motion-road : array_after_motion (λ c v. wanted v.speed 2 c) entered ≡ array_of (car 48 0 0 ∷ car 16 2 1 ∷ car 0 7 2 ∷ [])
+array_after_motion-road : array_after_motion (λ c v. wanted_speed v.speed 2 c) entered ≡ array_of (car 48 0 0 ∷ car 16 2 1 ∷ car 0 7 2 ∷ [])
 unfolding entered car
 array_after_motion-road = refl
 

@@ -2,8 +2,8 @@
 use Rattle.std.specs.Prelude.{ℕ, ◌+◌, ◌-◌, ◌/◌, min, Bool, nat_lt, nat_le, ◌&&◌, if◌then◌else◌}
 
 -- rules 1 and 2: accelerate by one, but neither above the limit nor past the free cells
-abbrev pub wanted : ℕ → ℕ → ℕ → ℕ
-wanted speed limit free = min (min (speed + 1) limit) free
+abbrev pub wanted_speed : ℕ → ℕ → ℕ → ℕ
+wanted_speed speed limit free = min (min (speed + 1) limit) free
 
 -- rule 1: where the next vehicle is more than v + 1 sites away, a speed below the greatest grows by one
 abbrev pub speed_after_acceleration : ℕ → ℕ → ℕ → ℕ
@@ -18,5 +18,5 @@ abbrev pub has_event : ℕ → ℕ → Bool
 has_event word chance = nat_lt (word / 65536) chance
 
 -- rule 3: where the event comes, the speed falls by one, but not below 0
-abbrev pub slowed : ℕ → Bool → ℕ
-slowed v event = if event then v - 1 else v
+abbrev pub slowed_speed : ℕ → Bool → ℕ
+slowed_speed v event = if event then v - 1 else v

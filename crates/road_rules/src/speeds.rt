@@ -1,14 +1,14 @@
 //! Rules 1 to 3, on the speed of one car.
 
 ghost use Rattle.std.specs.Prelude.{◌≡◌, ◌-◌, ◌<◌, ◌≤◌};
-ghost use Rattle.road_rules.specs.Speeds.{wanted, speed_after_acceleration, speed_after_braking, has_event, slowed};
+ghost use Rattle.road_rules.specs.Speeds.{wanted_speed, speed_after_acceleration, speed_after_braking, has_event, slowed_speed};
 
 /// Rules 1 and 2 as one: the speed grows by one, but neither above the limit nor above the free cells in front, so it
 /// is the least of `speed + 1`, `limit` and `gap`. A car above a lowered limit drops to it at once.
 ///
 /// `speed` and `limit` are in cells per step, `gap` is in cells (`road_cells::Road::gap`).
 pub fn wanted(speed: u8, limit: u32, gap: u8) -> u8
-    ensures { result ≡ wanted speed limit gap }
+    ensures { result ≡ wanted_speed speed limit gap }
 {
     let wished = (u32::from(speed) + 1).min(limit);
     wished.min(u32::from(gap)) as u8
@@ -22,7 +22,7 @@ pub fn wanted(speed: u8, limit: u32, gap: u8) -> u8
 pub fn two_rules(speed: u8, vmax: u8, distance: u32) -> u8
     requires { 0 < distance }
     ensures rules { result ≡ speed_after_braking (speed_after_acceleration speed vmax distance) distance }
-    ensures law { speed ≤ vmax → result ≡ wanted speed vmax (distance - 1) }
+    ensures law { speed ≤ vmax → result ≡ wanted_speed speed vmax (distance - 1) }
 {
     let mut speed = speed;
     if speed < vmax && distance > u32::from(speed) + 1 {
@@ -39,7 +39,7 @@ pub fn two_rules(speed: u8, vmax: u8, distance: u32) -> u8
 /// The chance is in 1/65,536. Its event comes where the upper 16 bits of the word are below it: never at 0, and always
 /// from 65,536 on.
 pub fn slowed(speed: u8, word: u32, chance: u32) -> u8
-    ensures { result ≡ slowed speed (has_event word chance) }
+    ensures { result ≡ slowed_speed speed (has_event word chance) }
 {
     if word >> 16 < chance {
         speed.saturating_sub(1)

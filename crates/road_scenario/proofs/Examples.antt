@@ -12,9 +12,9 @@ use Rattle.road_scenario.specs.declared.edit.Value.TheVariants.{Withdrawn, Put}
 use Rattle.road_scenario.specs.declared.faults.EditFault.TheVariants.{NoObject, Step, ValueOutOfRange, Count}
 use Rattle.road_scenario.specs.Winners.{winners_in}
 use Rattle.road_scenario.specs.Settings.{setting_in, settings_in}
-use Rattle.road_scenario.specs.Touched.{put_number_at, touched_in}
+use Rattle.road_scenario.specs.Touched.{put_number_at, first_touched_step_in}
 use Rattle.road_scenario.specs.Edits.{edit_cmp, object_place}
-use Rattle.road_scenario.specs.Faults.{fault_of, first_fault}
+use Rattle.road_scenario.specs.Faults.{fault_of_edit, first_fault}
 use Rattle.road_scenario.specs.Counts.{greatest_count_in}
 
 -- twelve cells, the last one deleted, with one zone, one inlet at the first cell and one detector
@@ -77,38 +77,38 @@ nothing_is_put : put_number_at (made (Slow 0) 0 3 0 Withdrawn ∷ []) (object_pl
 nothing_is_put = refl
 
 -- a put touches its step, and so does the earliest of several
-touched_by_a_put : touched_in [] (made (Limit 0) 3 1 0 (Put 1) ∷ []) ≡ Some 3
+touched_by_a_put : first_touched_step_in [] (made (Limit 0) 3 1 0 (Put 1) ∷ []) ≡ Some 3
 touched_by_a_put = refl
 
-touched_by_two : touched_in (made (Limit 0) 5 1 0 (Put 1) ∷ []) (made (Slow 0) 4 2 0 (Put 0) ∷ []) ≡ Some 4
+touched_by_two : first_touched_step_in (made (Limit 0) 5 1 0 (Put 1) ∷ []) (made (Slow 0) 4 2 0 (Put 0) ∷ []) ≡ Some 4
 touched_by_two = refl
 
 -- nothing is touched by a withdrawal of nothing, or where the number put stays
-untouched_by_a_withdrawal : touched_in [] (made (Limit 0) 3 1 0 Withdrawn ∷ []) ≡ None
+untouched_by_a_withdrawal : first_touched_step_in [] (made (Limit 0) 3 1 0 Withdrawn ∷ []) ≡ None
 untouched_by_a_withdrawal = refl
 
-untouched_by_the_same : touched_in (made (Limit 0) 3 1 0 (Put 1) ∷ []) (made (Limit 0) 3 2 1 (Put 1) ∷ []) ≡ None
+untouched_by_the_same : first_touched_step_in (made (Limit 0) 3 1 0 (Put 1) ∷ []) (made (Limit 0) 3 2 1 (Put 1) ∷ []) ≡ None
 untouched_by_the_same = refl
 
 counts : greatest_count_in two_limits ≡ 2
 counts = refl
 
-no_zone : fault_of small (made (Limit 1) 0 1 0 (Put 1)) ≡ Some NoObject
+no_zone : fault_of_edit small (made (Limit 1) 0 1 0 (Put 1)) ≡ Some NoObject
 no_zone = refl
 
-too_late : fault_of small (made (Limit 0) 65536 1 0 (Put 1)) ≡ Some Step
+too_late : fault_of_edit small (made (Limit 0) 65536 1 0 (Put 1)) ≡ Some Step
 too_late = refl
 
-limit_of_ten : fault_of small (made (Limit 0) 65535 1 0 (Put 10)) ≡ Some ValueOutOfRange
+limit_of_ten : fault_of_edit small (made (Limit 0) 65535 1 0 (Put 10)) ≡ Some ValueOutOfRange
 limit_of_ten = refl
 
-count_of_zero : fault_of small (made (Limit 0) 0 0 64 (Put 1)) ≡ Some Count
+count_of_zero : fault_of_edit small (made (Limit 0) 0 0 64 (Put 1)) ≡ Some Count
 count_of_zero = refl
 
-count_too_great : fault_of small (made (Limit 0) 0 281474976710657 64 (Put 1)) ≡ Some Count
+count_too_great : fault_of_edit small (made (Limit 0) 0 281474976710657 64 (Put 1)) ≡ Some Count
 count_too_great = refl
 
-greatest_count_fits : fault_of small (made (Limit 0) 0 281474976710656 64 Withdrawn) ≡ None
+greatest_count_fits : fault_of_edit small (made (Limit 0) 0 281474976710656 64 Withdrawn) ≡ None
 greatest_count_fits = refl
 
 -- the first faulty edit is named

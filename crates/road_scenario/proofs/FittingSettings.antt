@@ -12,7 +12,7 @@ use Rattle.std.proofs.lemmas.List.Kept.{IsStrictlyIncreasing-filter}
 use Rattle.road_scenario.proofs.EditMembers.{IsIn, tied_to_itself, kept_in}
 use Rattle.road_plan.specs.Plan.{Plan, IsWithinLimits}
 use Rattle.road_plan.specs.Settings.{Fits}
-use Rattle.road_plan.specs.Objects.{in_plan, allows, default}
+use Rattle.road_plan.specs.Objects.{is_in_plan, allows, default}
 use Rattle.road_plan.specs.declared.limits.TheConstants.{GREATEST_LIMIT, CERTAIN}
 use Rattle.road_plan.specs.declared.object.Object.{Object}
 use Rattle.road_plan.specs.declared.object.Object.TheVariants.{Limit, Slow, Block, Inflow, Watch}
@@ -46,7 +46,7 @@ latest_in (f ∷ es) e h = subst (λ x. IsIn x (f ∷ es)) (the_one h) (best_in 
     the_one h = cc
 
 module _ (p : Plan) (limits : IsWithinLimits p) (es : List Edit) (each : (e : Edit) → IsIn e es → IsInRange p e) where
-  default_allowed : (o : Object) → in_plan p o ≡ true → allows o (default p o) ≡ true
+  default_allowed : (o : Object) → is_in_plan p o ≡ true → allows o (default p o) ≡ true
   default_allowed (Limit zone) h = le-leb _ _ (limits.speed_limits_allowed zone (0, 0) (ltb-true _ _ h))
   default_allowed (Slow zone) h = le-leb _ _ (limits.chances_allowed zone (0, 0) (ltb-true _ _ h))
   default_allowed (Block cell) h = refl
@@ -57,7 +57,7 @@ module _ (p : Plan) (limits : IsWithinLimits p) (es : List Edit) (each : (e : Ed
   taken_allowed o Withdrawn d s t = absurd (true≢false (sym s))
   taken_allowed o (Put n) d s t = t
 
-  allowed : (step : ℕ) (o : Object) → in_plan p o ≡ true → allows o (setting_in p es o step) ≡ true
+  allowed : (step : ℕ) (o : Object) → is_in_plan p o ≡ true → allows o (setting_in p es o step) ≡ true
   allowed step o h = elim (latest_edit (filter (is_put_up_to o step) es)) as (λ x. latest_edit (filter (is_put_up_to o step) es) ≡ x → allows o (unwrap_or (option_and_then (λ e. put_number e.value) x) (default p o)) ≡ true) [
     | None ↦ λ _. default_allowed o h
     | Some e ↦ λ is.
@@ -67,7 +67,7 @@ module _ (p : Plan) (limits : IsWithinLimits p) (es : List Edit) (each : (e : Ed
         taken_allowed o e.value (default p o) number.1 (ap (λ x. is_value_allowed x e.value) (sym (same e.object o passes.0)) ∙ (each e inside.0).value_allowed)
   ] refl
 
-  at_most : (step : ℕ) (o : Object) (most : ℕ) → in_plan p o ≡ true → ((n : ℕ) → allows o n ≡ nat_le n most) → setting_in p es o step ≤ most
+  at_most : (step : ℕ) (o : Object) (most : ℕ) → is_in_plan p o ≡ true → ((n : ℕ) → allows o n ≡ nat_le n most) → setting_in p es o step ≤ most
   at_most step o most h is = leb-true _ _ (sym (is (setting_in p es o step)) ∙ allowed step o h)
 
   each_at : {X : Type 0} (P : X → Type 0) (f : ℕ → X) (n : ℕ) → ((k : ℕ) → k < n → P (f k)) → All P (map f (range_with_len 0 n))

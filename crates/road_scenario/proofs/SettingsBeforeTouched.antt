@@ -14,7 +14,7 @@ use Rattle.road_plan.specs.declared.object.Object.{Object}
 use Rattle.road_scenario.specs.declared.edit.Edit.{Edit}
 use Rattle.road_scenario.specs.Edits.{Edits, Place, edit_cmp, edit_place, put_number, number_pair_cmp}
 use Rattle.road_scenario.specs.Settings.{is_put_up_to, latest_edit, settings_of, all_settings}
-use Rattle.road_scenario.specs.Touched.{put_number_at, has_other_number, touched_in, touched, IsBefore}
+use Rattle.road_scenario.specs.Touched.{put_number_at, has_other_number, first_touched_step_in, first_touched_step, IsBefore}
 use Rattle.road_scenario.specs.Winners.{winners}
 use Rattle.road_scenario.proofs.EditMembers.{IsIn, same_edit, none_in, kept_in, passing_in, in_front, in_back}
 use Rattle.road_scenario.proofs.FittingSettings.{latest_in}
@@ -59,7 +59,7 @@ not_false true h = refl
 not_false false h = absurd (true≢false h)
 
 -- no edit up to a step before the first touched one is of a place where the numbers differ
-same_numbers : (es fs : List Edit) (step : ℕ) → IsBefore step (touched_in es fs) → (e : Edit) → IsIn e (es ++ fs) → e.step ≤ step → put_number_at es (edit_place e) ≡ put_number_at fs (edit_place e)
+same_numbers : (es fs : List Edit) (step : ℕ) → IsBefore step (first_touched_step_in es fs) → (e : Edit) → IsIn e (es ++ fs) → e.step ≤ step → put_number_at es (edit_place e) ≡ put_number_at fs (edit_place e)
 same_numbers es fs step before e i early = elim (cases_Bool (has_other_number es fs e)) as (λ _. put_number_at es (edit_place e) ≡ put_number_at fs (edit_place e)) [
   | inl t ↦ absurd (never (before_each (filter (has_other_number es fs) (es ++ fs)) step before e (passing_in (has_other_number es fs) (es ++ fs) e i t)))
   | inr n ↦ equal_numbers _ _ (not_false (option_eq nat_eq (put_number_at es (edit_place e)) (put_number_at fs (edit_place e))) n)
@@ -140,7 +140,7 @@ module _ (o : Object) (step : ℕ) where
 
 -- ---- all settings
 
-pub settings-before : (p : Plan) (s t : Edits) (step : ℕ) → IsBefore step (touched s t) → settings_of p s step ≡ settings_of p t step
+pub settings-before : (p : Plan) (s t : Edits) (step : ℕ) → IsBefore step (first_touched_step s t) → settings_of p s step ≡ settings_of p t step
 settings-before p s t step before =
     let es : List Edit = items (winners s) in
     let fs : List Edit = items (winners t) in

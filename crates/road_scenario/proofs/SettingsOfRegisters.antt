@@ -12,7 +12,7 @@ use Rattle.lattice_core.specs.Sets.{items, contains}
 use Rattle.lattice_core.proofs.SetElements.{contains-items}
 use Rattle.road_plan.specs.Plan.{Plan, IsWithinLimits}
 use Rattle.road_plan.specs.Settings.{Fits, defaults}
-use Rattle.road_plan.specs.Objects.{in_plan, default}
+use Rattle.road_plan.specs.Objects.{is_in_plan, default}
 use Rattle.road_plan.specs.declared.object.Object.{Object}
 use Rattle.road_scenario.specs.Edits.{Edits}
 use Rattle.road_scenario.specs.Faults.{first_fault, AreInRange}
@@ -34,11 +34,11 @@ winners-items m are = ap items (winners-edit_set m are) ∙ items-edit_set m are
 pub setting-edit_set : (p : Plan) (m : RegistersByObject) → AreRegisters m → (o : Object) (step : ℕ) → setting p (edit_set m) o step ≡ unwrap_or (last_number step (registers_of_object object_cmp m o)) (default p o)
 setting-edit_set p m are o step = ap (λ es. setting_in p es o step) (winners-items m are) ∙ setting-edit_list p m are o step
 
-object_inside : (p : Plan) (o : Object) (steps : RegistersByStep) → IsHeld AreRegistersByStep is_empty steps → first_fault p (object_edits o steps) ≡ None → in_plan p o ≡ true
+object_inside : (p : Plan) (o : Object) (steps : RegistersByStep) → IsHeld AreRegistersByStep is_empty steps → first_fault p (object_edits o steps) ≡ None → is_in_plan p o ≡ true
 object_inside p o [] h f = absurd (true≢false h.1)
 object_inside p o (s ∷ steps) h f = here s.1 h.0.held.0.1 f
   where
-    here : (w : Register) → is_nothing w ≡ false → first_fault p (edits_from_register o s.0 w (object_edits o steps)) ≡ None → in_plan p o ≡ true
+    here : (w : Register) → is_nothing w ≡ false → first_fault p (edits_from_register o s.0 w (object_edits o steps)) ≡ None → is_in_plan p o ≡ true
     here Nothing g f = absurd (true≢false g)
     here (Of w) g f = (in_range p (edit_with o s.0 w) (none_of_both _ (first_fault p (object_edits o steps)) f).0).has_object
 

@@ -26,7 +26,7 @@ use Rattle.road_scenario.specs.declared.edit.Value.{Value}
 use Rattle.road_scenario.specs.declared.edit.Edit.{Edit}
 use Rattle.road_scenario.specs.Edits.{Place, edit_place}
 use Rattle.road_scenario.specs.Registers.{Register, RegistersByStep, RegistersByObject, edit_with, edits_from_register, object_edits, edit_list, edit_set}
-use Rattle.road_scenario.specs.Touched.{put_number_at, has_other_number, touched, touched_in}
+use Rattle.road_scenario.specs.Touched.{put_number_at, has_other_number, first_touched_step, first_touched_step_in}
 use Rattle.road_scenario.specs.Winners.{join}
 use Rattle.road_scenario.specs.Private.RegisterWalks.{number_at_step, first_change_among, first_change_where, earlier_step, registers_of_object, register_number}
 use Rattle.road_scenario.proofs.EditMembers.{IsIn, none_in, first_in, later_in, in_front, in_back, kept_in, passing_in}
@@ -244,15 +244,15 @@ module _ (m n : RegistersByObject) (are : AreRegisters m) (also : AreRegisters n
       let f = one_there e _ _ refl refl kept.1 in
       (f.0, passing_in (has_other_number es fs) (es ++ fs) f.0 f.1 (at_place e f.0 f.2 kept.1), ap (λ (at : Place). at.1) f.2)
 
-  joined_touched : touched_in es fs ≡ first_change_where object_cmp m (maps_join m n) n
+  joined_touched : first_touched_step_in es fs ≡ first_change_where object_cmp m (maps_join m n) n
   joined_touched =
       same_least _ _ forth back
       ∙ (λ k. reduce min (steps_of_edits (filter (λ e. by_place e k) (edit_list n))))
       ∙ least_where m (maps_join m n) n also.held
 
   -- what a join touches is found among what was joined in
-  pub touched-joined : (joined : RegistersByObject) → AreRegisters joined → edit_set joined ≡ join (edit_set m) (edit_set n) → touched (edit_set m) (edit_set joined) ≡ first_change_where object_cmp m joined n
-  touched-joined joined proper is =
+  pub first_touched_step-joined : (joined : RegistersByObject) → AreRegisters joined → edit_set joined ≡ join (edit_set m) (edit_set n) → first_touched_step (edit_set m) (edit_set joined) ≡ first_change_where object_cmp m joined n
+  first_touched_step-joined joined proper is =
       let same_maps : joined ≡ maps_join m n = same_edit_set joined (maps_join m n) proper good (is ∙ sym (edit_set-joined m n are also)) in
-      subst (λ x. touched (edit_set m) (edit_set x) ≡ first_change_where object_cmp m x n) (sym same_maps)
-      ((λ k. touched_in (winners-items m are k) (winners-items (maps_join m n) good k)) ∙ joined_touched)
+      subst (λ x. first_touched_step (edit_set m) (edit_set x) ≡ first_change_where object_cmp m x n) (sym same_maps)
+      ((λ k. first_touched_step_in (winners-items m are k) (winners-items (maps_join m n) good k)) ∙ joined_touched)

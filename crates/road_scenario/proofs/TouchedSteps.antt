@@ -28,7 +28,7 @@ use Rattle.road_scenario.specs.declared.edit.Edit.{Edit}
 use Rattle.road_scenario.specs.Edits.{edit_place, object_place, edit_cmp, put_number, number_pair_cmp}
 use Rattle.road_scenario.specs.Instances.EditOrder.{edit_total, edit_exact, number_pair_total, number_triple_total}
 use Rattle.road_scenario.specs.Registers.{Register, RegistersByStep, RegistersByObject, edit_with, edits_from_register, object_edits, edit_list, edit_set}
-use Rattle.road_scenario.specs.Touched.{put_number_at, has_other_number, touched, touched_in}
+use Rattle.road_scenario.specs.Touched.{put_number_at, has_other_number, first_touched_step, first_touched_step_in}
 use Rattle.road_scenario.specs.Private.RegisterWalks.{number_at_step, first_change_at, first_change, earlier_step, registers_of_object, register_number}
 use Rattle.road_scenario.specs.Instances.RegisterLattice.{AreRegistersByStep}
 use Rattle.road_scenario.proofs.RisingEdits.{object_cmp, place_cmp, AreRegisters, rising_edit_list, below-each}
@@ -202,7 +202,7 @@ module _ (m n : RegistersByObject) (are : AreRegisters m) (also : AreRegisters n
       (λ j. not (option_eq nat_eq (put_found m are.rises are.held e.object e.step j) (put_own fs (rising_edit_list n also.rises also.held) e i j)))
       ∙ ap not (turned_number (number_at_step (registers_of_object object_cmp m e.object) e.step) (put_number e.value))
 
-  both_changed : touched_in es fs ≡ earlier_step (first_change object_cmp m n) (first_change object_cmp n m)
+  both_changed : first_touched_step_in es fs ≡ earlier_step (first_change object_cmp m n) (first_change object_cmp n m)
   both_changed =
       ap (λ x. reduce min (steps_of_edits x)) (filter-append (has_other_number es fs) es fs ∙ (λ j. filter-same (has_other_number es fs) (is_new n) es ours j ++ filter-same (has_other_number es fs) (is_new m) fs theirs j))
       ∙ ap (reduce min) (map-append (λ (e : Edit). e.step) (filter (is_new n) es) (filter (is_new m) fs))
@@ -210,5 +210,5 @@ module _ (m n : RegistersByObject) (are : AreRegisters m) (also : AreRegisters n
       ∙ (λ j. earlier_step (least_all n m are.held j) (least_all m n also.held j))
 
   -- what two scenarios' maps hold differs first where the walks say
-  pub touched-edit_set : touched (edit_set m) (edit_set n) ≡ earlier_step (first_change object_cmp m n) (first_change object_cmp n m)
-  touched-edit_set = (λ j. touched_in (winners-items m are j) (winners-items n also j)) ∙ both_changed
+  pub first_touched_step-edit_set : first_touched_step (edit_set m) (edit_set n) ≡ earlier_step (first_change object_cmp m n) (first_change object_cmp n m)
+  first_touched_step-edit_set = (λ j. first_touched_step_in (winners-items m are j) (winners-items n also j)) ∙ both_changed

@@ -17,7 +17,7 @@ use Rattle.road_scenario.specs.Edits.{put_number}
 use Rattle.lattice_core.specs.Map.{IsHeld, is_empty}
 use Rattle.road_plan.specs.Plan.{Plan}
 use Rattle.road_plan.specs.Settings.{Settings, defaults}
-use Rattle.road_plan.specs.Objects.{in_plan, default, object_order}
+use Rattle.road_plan.specs.Objects.{is_in_plan, default, object_order}
 use Rattle.road_plan.specs.Instances.ObjectOrder.{ordered, object_exact}
 use Rattle.road_plan.specs.declared.object.Object.{Object}
 use Rattle.road_plan.specs.declared.object.Object.TheVariants.{Limit, Slow, Block, Inflow, Watch}
@@ -246,9 +246,9 @@ own-settings p = λ i. record {
 }
 
 abbrev pub AreInPlan : Plan → RegistersByObject → Type 0
-AreInPlan p m = AllByRecursion (λ e. in_plan p e.0 ≡ true) m
+AreInPlan p m = AllByRecursion (λ e. is_in_plan p e.0 ≡ true) m
 
-ready : (p : Plan) (o : Object) → in_plan p o ≡ true → IsReady p (default p) o
+ready : (p : Plan) (o : Object) → is_in_plan p o ≡ true → IsReady p (default p) o
 ready p (Limit zone) h = tt
 ready p (Slow zone) h = tt
 ready p (Block cell) h = (ltb-true _ _ h, λ k le. refl)
@@ -268,7 +268,7 @@ puts-settings p m step are inside =
 
 -- ---- places
 
-place_own : (p : Plan) (o : Object) → in_plan p o ≡ true → has_place (defaults p) o ≡ true
+place_own : (p : Plan) (o : Object) → is_in_plan p o ≡ true → has_place (defaults p) o ≡ true
 place_own p (Limit zone) h = ap (nat_lt zone) (length-map p.zones (λ z. z.0)) ∙ h
 place_own p (Slow zone) h = ap (nat_lt zone) (length-map p.zones (λ z. z.1)) ∙ h
 place_own p (Block cell) h = refl

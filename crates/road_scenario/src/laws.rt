@@ -9,7 +9,7 @@ ghost use Rattle.road_scenario.specs.declared.edit.Edit.{Edit};
 ghost use Rattle.road_scenario.specs.Counts.{greatest_count};
 ghost use Rattle.road_scenario.specs.Edits.{Edits, edit_cmp, is_exceeded_by, edit_place};
 ghost use Rattle.road_scenario.specs.Settings.{settings_in, settings_of};
-ghost use Rattle.road_scenario.specs.Touched.{IsBefore, touched};
+ghost use Rattle.road_scenario.specs.Touched.{IsBefore, first_touched_step};
 ghost use Rattle.road_scenario.specs.Winners.{winners, winners_in};
 
 /// Who wins.
@@ -34,13 +34,13 @@ pub fn winners_decide()
     // The winners of a list give the same settings in whatever order they stand.
     ensures listed { (plan : Plan) (edits : List Edit) (step : ℕ) →
         settings_in plan (winners_in edits) step ≡ settings_of plan (from_list edits) step }
-    ensures touched { (edits others : Edits) → touched (winners edits) (winners others) ≡ touched edits others }
+    ensures touched { (edits others : Edits) → first_touched_step (winners edits) (winners others) ≡ first_touched_step edits others }
     ensures count { (edits : Edits) → greatest_count (winners edits) ≡ greatest_count edits }
 {}
 
 /// Two sets of edits give the same settings at each step before the first that is touched: a run by the one can go on
 /// from there by the other.
 pub fn settings_stay_before_touched()
-    ensures { (plan : Plan) (edits others : Edits) (step : ℕ) → IsBefore step (touched edits others) →
+    ensures { (plan : Plan) (edits others : Edits) (step : ℕ) → IsBefore step (first_touched_step edits others) →
         settings_of plan edits step ≡ settings_of plan others step }
 {}

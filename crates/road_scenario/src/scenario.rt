@@ -2,15 +2,15 @@
 
 ghost use Rattle.std.specs.Prelude.{◌≡◌, ◌↔◌, ◌≤◌, ℕ, [], ◌∷◌, IfOk, IsNone, IsOk, None, T, true};
 ghost use Rattle.lattice_core.specs.Sets as sets;
-ghost use Rattle.road_plan.specs.Objects.{in_plan};
+ghost use Rattle.road_plan.specs.Objects.{is_in_plan};
 ghost use Rattle.road_plan.specs.Plan.{Plan};
 ghost use Rattle.road_plan.specs.Settings.{Fits};
 ghost use Rattle.road_plan.specs.declared.limits.TheConstants.{GREATEST_COUNT};
 ghost use Rattle.road_scenario.specs.Counts.{greatest_count};
 ghost use Rattle.road_scenario.specs.Edits.{Edits, edit_cmp};
-ghost use Rattle.road_scenario.specs.Faults.{AreInRange, fault_in, fault_of, first_fault};
+ghost use Rattle.road_scenario.specs.Faults.{AreInRange, fault_in, fault_of_edit, first_fault};
 ghost use Rattle.road_scenario.specs.Settings.{next_date, setting, settings_of};
-ghost use Rattle.road_scenario.specs.Touched.{IsBefore, touched};
+ghost use Rattle.road_scenario.specs.Touched.{IsBefore, first_touched_step};
 ghost use Rattle.road_scenario.specs.Winners.{join, winners};
 
 use crate::dates::first_date_after;
@@ -96,7 +96,7 @@ impl Scenario {
     /// `OutOfMemory` where a growth was refused; the scenario is then as before.
     pub fn with_edit(&self, edit: &Edit) -> Result<Self, OutOfMemory>
         ensures winners { IfOk result (λ new. new ≡ join self.now (sets.from_list (edit.now ∷ []))) }
-        ensures fits { (plan : Plan) → AreInRange plan self.now → fault_of plan edit.now ≡ None →
+        ensures fits { (plan : Plan) → AreInRange plan self.now → fault_of_edit plan edit.now ≡ None →
             IfOk result (λ new. AreInRange plan new) }
     {
         self.registers.known();
@@ -147,7 +147,7 @@ impl Scenario {
     /// that step which isn't a withdrawal, the default where there is none. The plan must have the object
     /// (`Object::in_plan`).
     pub fn setting(&self, plan: &Plan, object: Object, step: u32) -> u32
-        requires { in_plan plan.now object ≡ true }
+        requires { is_in_plan plan.now object ≡ true }
         ensures { result ≡ setting plan.now self.now object step }
     {
         self.registers.known();
@@ -195,7 +195,7 @@ impl Scenario {
     /// there is no edit or a withdrawal. Settings at earlier steps are the same
     /// (`laws::settings_stay_before_touched`). It takes no memory.
     pub fn touched(&self, other: &Scenario) -> Option<u32>
-        ensures { result ≡ touched self.now other.now }
+        ensures { result ≡ first_touched_step self.now other.now }
     {
         self.registers.known();
         other.registers.known();
@@ -206,7 +206,7 @@ impl Scenario {
     /// objects and steps of what is taken are looked at. It takes no memory.
     pub fn touched_by(&self, taken: &Scenario, joined: &Scenario) -> Option<u32>
         requires { joined.now ≡ join self.now taken.now }
-        ensures { result ≡ touched self.now joined.now }
+        ensures { result ≡ first_touched_step self.now joined.now }
     {
         self.registers.known();
         taken.registers.known();

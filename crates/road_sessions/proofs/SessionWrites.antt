@@ -10,23 +10,23 @@ use Rattle.road_sessions.specs.declared.view.View.{View}
 use Rattle.road_sessions.specs.declared.wish.Wish.{Wish}
 use Rattle.road_sessions.specs.Journals.{AreOf, IsLegal, Rise, Stand, Write, entry, replay}
 use Rattle.road_sessions.specs.Looks.{HasEntered}
-use Rattle.road_sessions.specs.Private.Stores.{EntersAfterWrite, EntersToLook, last_from}
-use Rattle.road_sessions.specs.Seats.{AreFresh, IsSeat, IsWrite, Seat, newcomer, seat}
+use Rattle.road_sessions.specs.Private.Stores.{EntersAfterWrite, EntersToLook, last_write_from}
+use Rattle.road_sessions.specs.Seats.{AreNewSeats, IsSeat, IsWrite, Seat, newcomer, seat}
 use Rattle.road_sessions.specs.Writes.{reply_to, wish_command}
 use Rattle.road_sessions.proofs.Beginnings.{each_of_both, got_last, stand_later}
 
 -- ---- a write
 
-last_of_more : (place : ℕ) (history : List Entry) (e : Entry) → last_from place (history ++ e ∷ []) ≡ (place + length history, e) ∷ []
+last_of_more : (place : ℕ) (history : List Entry) (e : Entry) → last_write_from place (history ++ e ∷ []) ≡ (place + length history, e) ∷ []
 last_of_more place [] e = ap (λ (n : ℕ). (n, e) ∷ []) (omega arith)
 last_of_more place (x ∷ []) e = ap (λ (n : ℕ). (n, e) ∷ []) (omega arith)
 last_of_more place (x ∷ y ∷ ys) e = last_of_more (place + 1) (y ∷ ys) e ∙ ap (λ (n : ℕ). (n, e) ∷ []) (omega arith)
 
 -- the write that ends the published history is one more of the session's own
-own_more : (own : List Write) (front after : List Entry) (e : Entry) (place : ℕ) → after ≡ front ++ e ∷ [] → place ≡ length front → own ++ last_from 0 after ≡ own ++ (place, e) ∷ []
+own_more : (own : List Write) (front after : List Entry) (e : Entry) (place : ℕ) → after ≡ front ++ e ∷ [] → place ≡ length front → own ++ last_write_from 0 after ≡ own ++ (place, e) ∷ []
 own_more own front after e place is at =
     let here : 0 + length front ≡ place = omega arith in
-    let last = ap (λ (l : List Entry). last_from 0 l) is ∙ last_of_more 0 front e ∙ ap (λ (n : ℕ). (n, e) ∷ []) here in
+    let last = ap (λ (l : List Entry). last_write_from 0 l) is ∙ last_of_more 0 front e ∙ ap (λ (n : ℕ). (n, e) ∷ []) here in
     ap (λ (w : List Write). own ++ w) last
 
 pub is_write : (r : Replica) (session : ℕ) (wish : Wish) (seen front after : List Entry) (v w : View) (place : ℕ) (reply : Reply) → IsPrefix seen front
@@ -103,13 +103,13 @@ has_entered r session seen after published v w grows legal enters is =
 
 -- ---- opening
 
-fresh_from : (n : ℕ) (ss : List Seat) → AreFresh n ss → AreFresh n (ss ++ seat (n + length ss) [] newcomer ∷ [])
+fresh_from : (n : ℕ) (ss : List Seat) → AreNewSeats n ss → AreNewSeats n (ss ++ seat (n + length ss) [] newcomer ∷ [])
 fresh_from n [] fresh = (ap (λ (k : ℕ). seat k [] newcomer) (omega arith), tt)
 fresh_from n (s ∷ ss) fresh =
-    (fresh.0, subst (λ (k : ℕ). AreFresh (n + 1) (ss ++ seat k [] newcomer ∷ [])) (omega arith) (fresh_from (n + 1) ss fresh.1))
+    (fresh.0, subst (λ (k : ℕ). AreNewSeats (n + 1) (ss ++ seat k [] newcomer ∷ [])) (omega arith) (fresh_from (n + 1) ss fresh.1))
 
 -- a session more, with the next number
-pub fresh_more : (ss : List Seat) (n : ℕ) (s : Seat) → AreFresh 0 ss → length ss ≡ n → s ≡ seat n [] newcomer → AreFresh 0 (ss ++ s ∷ [])
+pub fresh_more : (ss : List Seat) (n : ℕ) (s : Seat) → AreNewSeats 0 ss → length ss ≡ n → s ≡ seat n [] newcomer → AreNewSeats 0 (ss ++ s ∷ [])
 fresh_more ss n s fresh at is =
     let next : 0 + length ss ≡ n = omega arith in
-    subst (λ (t : Seat). AreFresh 0 (ss ++ t ∷ [])) (ap (λ (k : ℕ). seat k [] newcomer) next ∙ sym is) (fresh_from 0 ss fresh)
+    subst (λ (t : Seat). AreNewSeats 0 (ss ++ t ∷ [])) (ap (λ (k : ℕ). seat k [] newcomer) next ∙ sym is) (fresh_from 0 ss fresh)

@@ -7,7 +7,7 @@ use mathlib.Core.List.{IsPrefix}
 use lib.ListN.{get_elem?}
 use Rattle.crossbeam_utils.specs.Register.{Admits, TurnsAt, Turns}
 use Rattle.atomic_table.proofs.Lists.{at_set, at_snoc}
-use Rattle.road_sessions.specs.Private.Stores.{EndWith, EntersAfterWrite, EntersToLook, FoundBegins, last_from}
+use Rattle.road_sessions.specs.Private.Stores.{EndWith, EntersAfterWrite, EntersToLook, FoundBegins, last_write_from}
 use Rattle.road_sessions.specs.Seats.{newcomer, view_of}
 use Rattle.road_sessions.specs.declared.entry.Entry.{Entry}
 use Rattle.road_sessions.specs.declared.view.View.{View}
@@ -33,7 +33,7 @@ may_look seat v published views rule at =
 
 pub may_enter_after_write : (seat : ℕ) (v : View) → Turns FoundBegins seat v (λ published. published) (λ v before after w. EntersAfterWrite v after w)
 may_enter_after_write seat v published views rule at =
-    let w = view_of published (v.own ++ last_from 0 published) v.entered in
+    let w = view_of published (v.own ++ last_write_from 0 published) v.entered in
     let all = begins_itself published in
     (w, one_changes published published views seat w all all rule, (rule seat v at, refl))
 

@@ -12,13 +12,13 @@ use Rattle.road_sessions.specs.declared.entry.Command.TheVariants.{Take, Advance
 use Rattle.road_sessions.specs.declared.entry.Entry.{Entry}
 
 -- the replica that is opened: without edits, and nothing is simulated
-abbrev pub opening_replica : Plan → ℕ → Replica
-opening_replica plan number = record { number = number; sheet = opening_sheet plan }
+abbrev pub replica_of_plan : Plan → ℕ → Replica
+replica_of_plan plan number = record { number = number; sheet = opening_sheet plan }
 
 -- a command of a journal, as a command to the replica
-abbrev pub command_of : Command → commands.Command
-command_of (Take edits) = commands.Take edits
-command_of (Advance to) = commands.Advance to
+abbrev pub entry_command : Command → commands.Command
+entry_command (Take edits) = commands.Take edits
+entry_command (Advance to) = commands.Advance to
 
 -- a session's command, as it stands in the journal
 abbrev pub entry : ℕ → Command → Entry
@@ -26,18 +26,18 @@ entry session command = record { session = session; command = command }
 
 -- the replica after all commands of a journal, one after another
 abbrev pub replay : Replica → List Entry → Replica
-replay r journal = fold (λ q e. replica_after (command_of e.command) q) r journal
+replay r journal = fold (λ q e. replica_after (entry_command e.command) q) r journal
 
 -- the history of a journal: its entries, each with the sheet after it
-abbrev pub with_sheets : Sheet → List Entry → List commands.Entry
-with_sheets s [] = []
-with_sheets s (e ∷ es) =
-    let after = sheet_after (command_of e.command) s in
-    record { session = e.session; command = command_of e.command; sheet = after } ∷ with_sheets after es
+abbrev pub history_of_journal : Sheet → List Entry → List commands.Entry
+history_of_journal s [] = []
+history_of_journal s (e ∷ es) =
+    let after = sheet_after (entry_command e.command) s in
+    record { session = e.session; command = entry_command e.command; sheet = after } ∷ history_of_journal after es
 
 -- a journal is legal at a replica: its history is, so each command is allowed where it stands
 abbrev pub IsLegal : Replica → List Entry → Type 0
-IsLegal r journal = IsHistoryFrom r.sheet (with_sheets r.sheet journal)
+IsLegal r journal = IsHistoryFrom r.sheet (history_of_journal r.sheet journal)
 
 -- a write: its place in the journal, from 0, and what stands there
 abbrev pub Write : Type 0

@@ -37,9 +37,9 @@ pub record IsSeat (r : Replica) (s : Seat) : Type 0 where
   pub standing : Stand s.view.own s.seen
 
 -- sessions that have seen and written nothing, numbered one after another from n
-abbrev pub AreFresh : ℕ → List Seat → Type 0
-AreFresh n [] = Unit {0}
-AreFresh n (s ∷ ss) = (s ≡ seat n [] newcomer) × AreFresh (n + 1) ss
+abbrev pub AreNewSeats : ℕ → List Seat → Type 0
+AreNewSeats n [] = Unit {0}
+AreNewSeats n (s ∷ ss) = (s ≡ seat n [] newcomer) × AreNewSeats (n + 1) ss
 
 -- an accepted write: the session has seen a legal history that goes on from all that it had seen and heard of and ends
 -- with the write, at its place; that history was published, and the write is one more of its own

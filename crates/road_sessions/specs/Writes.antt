@@ -19,7 +19,7 @@ use Rattle.road_sessions.specs.declared.wish.Wish.{Wish}
 use Rattle.road_sessions.specs.declared.wish.Wish.TheVariants.{Take, Advance, Edit, Withdraw}
 use Rattle.road_sessions.specs.declared.faults.WriteFault.{WriteFault}
 use Rattle.road_sessions.specs.declared.faults.WriteFault.TheVariants.{JournalFull, Replica as OfReplica}
-use Rattle.road_sessions.specs.Journals.{command_of, replay}
+use Rattle.road_sessions.specs.Journals.{entry_command, replay}
 
 -- the command that a wish comes to at a replica: an edit that the replica makes is journalled as the taking of it
 abbrev pub wish_command : Wish → Replica → Command
@@ -38,9 +38,9 @@ reply_to (Withdraw object step) r = Stamped (edit_made r object step Withdrawn).
 -- what was wished is done: it came to this command, was answered so, and left this replica
 pub record IsMade (wish : Wish) (r : Replica) (command : Command) (reply : Reply) (after : Replica) : Type 0 where
   pub command_is : command ≡ wish_command wish r
-  pub allowed : IsAllowed r.sheet.plan (command_of command)
+  pub allowed : IsAllowed r.sheet.plan (entry_command command)
   pub reply_is : reply ≡ reply_to wish r
-  pub after_is : after ≡ replica_after (command_of command) r
+  pub after_is : after ≡ replica_after (entry_command command) r
 
 -- the named cause for which the replica refuses it
 abbrev pub wish_fault : Wish → Replica → Option ReplicaFault

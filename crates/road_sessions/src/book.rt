@@ -3,7 +3,7 @@
 ghost use Rattle.std.specs.Prelude.{◌≡◌, ◌<◌, ◌≤◌, ◌^◌, ◌++◌, ◌∷◌, [], length, IsTrue, MatchBool};
 ghost use mathlib.Core.List.{IsPrefix};
 ghost use Rattle.road_sheet.specs.Commands.{IsAllowed};
-ghost use Rattle.road_sessions.specs.Journals.{IsLegal, command_of};
+ghost use Rattle.road_sessions.specs.Journals.{IsLegal, entry_command};
 ghost use Rattle.road_sessions.specs.Private.Books.{length_word};
 
 use crate::entry::Entry;
@@ -177,7 +177,7 @@ impl<J: Naming> Beginning<J> {
     // Writes an entry behind all that it has seen, and says so; it does not where the history is longer.
     pub(crate) fn append(&mut self, length_word: &Length<J>, entry: &Entry) -> bool
         requires room { length self.old < 2 ^ 62 }
-        requires allowed { IsAllowed J.replica.sheet.plan (command_of entry.now.command) }
+        requires allowed { IsAllowed J.replica.sheet.plan (entry_command entry.now.command) }
         ensures { MatchBool result (self.new ≡ self.old ++ entry.now ∷ []) (self.new ≡ self.old) }
     {
         let mut seen = self.seen.again();

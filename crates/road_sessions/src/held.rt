@@ -7,8 +7,8 @@ ghost use Rattle.road_replica.specs.Refusals as refusals;
 ghost use Rattle.road_replica.specs.Replicas.{replica_after};
 ghost use Rattle.road_replica.specs.declared.faults.ReplicaFault.TheVariants as replica_faults;
 ghost use Rattle.road_sessions.specs.declared.entry.TheConstants.{MOST_WRITES};
-ghost use Rattle.road_sessions.specs.Journals.{command_of, entry, replay};
-ghost use Rattle.road_sessions.specs.Seats.{AreFresh, IsWrite, seat};
+ghost use Rattle.road_sessions.specs.Journals.{entry_command, entry, replay};
+ghost use Rattle.road_sessions.specs.Seats.{AreNewSeats, IsWrite, seat};
 ghost use Rattle.road_sessions.specs.Writes.{IsMade, IsWriteRefusal, gone_after_fault, reply_to, wish_fault};
 ghost use Rattle.road_sessions.specs.Writes.{wish_command, write_fault};
 
@@ -97,8 +97,8 @@ fn noted<J: Naming>(
 ) -> Result<Published<J>, ReplicaFault>
     requires same { history.now ≡ journal.old.items }
     requires room { length journal.old.items < MOST_WRITES }
-    requires allowed { IsAllowed J.replica.sheet.plan (command_of entry.command) }
-    requires after { replica.now ≡ replica_after (command_of entry.command) (replay J.replica journal.old.items) }
+    requires allowed { IsAllowed J.replica.sheet.plan (entry_command entry.command) }
+    requires after { replica.now ≡ replica_after (entry_command entry.command) (replay J.replica journal.old.items) }
     ensures history { IfOk result (λ next. next ≡ journal.old.items ++ entry ∷ []) }
     ensures journal { OnOk result (journal.new.items ≡ journal.old.items ++ entry ∷ []) }
     ensures unchanged { OnErr result (journal.new.items ≡ journal.old.items) }
@@ -243,8 +243,8 @@ impl<J: Naming, R: Wait + Drop> Held<J, R> {
     ) -> Result<(), ReplicaFault>
         requires part { 0 < mine.old.parts }
         requires room { length self.old.journal.items < self.old.limit }
-        requires allowed { IsAllowed self.old.replica.sheet.plan (command_of entry.command) }
-        requires after { replica ≡ replica_after (command_of entry.command) self.old.replica }
+        requires allowed { IsAllowed self.old.replica.sheet.plan (entry_command entry.command) }
+        requires after { replica ≡ replica_after (entry_command entry.command) self.old.replica }
         ensures journal { OnOk result (self.new.journal.items ≡ self.old.journal.items ++ entry ∷ []) }
         ensures unchanged { OnErr result ((self.new.journal.items ≡ self.old.journal.items)
             × (self.new.replica ≡ self.old.replica)
@@ -306,7 +306,7 @@ impl<J: Naming, R: Wait + Drop> Held<J, R> {
     pub(crate) fn seats(&self, mut whole: Share<J>) -> Result<Vec<Session<J>>, OpenFault>
         requires empty { self.now.journal.items ≡ [] }
         requires whole { (whole.parts ≡ self.now.sessions) × (whole.amount ≡ 0) }
-        ensures { IfOk result (λ seats. (length seats.items ≡ self.now.sessions) × AreFresh 0 seats.items) }
+        ensures { IfOk result (λ seats. (length seats.items ≡ self.now.sessions) × AreNewSeats 0 seats.items) }
     {
         let mut seats = Vec::new(self.alloc);
         for number in 0..self.sessions {
@@ -330,7 +330,7 @@ impl<J: Naming, R: Wait + Drop> Held<J, R> {
     ) -> Result<Vec<Session<J>>, OpenFault>
         requires empty { self.old.journal.items ≡ [] }
         requires whole { (whole.parts ≡ J.parts) × (whole.amount ≡ 0) }
-        ensures seats { IfOk result (λ seats. (length seats.items ≡ J.parts) × AreFresh 0 seats.items) }
+        ensures seats { IfOk result (λ seats. (length seats.items ≡ J.parts) × AreNewSeats 0 seats.items) }
         ensures journal { self.new.journal ≡ self.old.journal }
     {
         self.warm(published)?;

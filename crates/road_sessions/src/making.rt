@@ -1,7 +1,7 @@
 //! What a wish comes to at a replica.
 ghost use Rattle.std.specs.Prelude.{◌≡◌, IfErr, IfOk, MatchResult, None};
 ghost use Rattle.road_plan.specs.Plan.{Plan};
-ghost use Rattle.road_scenario.specs.Faults.{AreInRange, fault_of};
+ghost use Rattle.road_scenario.specs.Faults.{AreInRange, fault_of_edit};
 ghost use Rattle.road_replica.specs.Refusals as refusals;
 ghost use Rattle.road_replica.specs.Replicas.{single_edit};
 ghost use Rattle.road_sessions.specs.Writes.{IsMade, wish_fault};
@@ -153,7 +153,7 @@ fn withdrawn<C: Crew>(
 // The scenario of one edit.
 fn single(alloc: Global, edit: &Edit) -> Result<Scenario, OutOfMemory>
     ensures single { IfOk result (λ single. single ≡ single_edit edit.now) }
-    ensures fits { (plan : Plan) → fault_of plan edit.now ≡ None → IfOk result (λ single. AreInRange plan single) }
+    ensures fits { (plan : Plan) → fault_of_edit plan edit.now ≡ None → IfOk result (λ single. AreInRange plan single) }
 {
     Ok(Scenario::empty(alloc).with_edit(edit)?)
 }

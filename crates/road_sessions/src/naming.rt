@@ -18,10 +18,10 @@ pub trait Naming: Ledger {
 impl Naming for Brand {
     ghost use Rattle.std.specs.Prelude.{[]};
     ghost use Rattle.road_plan.specs.declared.parts.WordKind.TheVariants.{Steady};
-    ghost use Rattle.road_sessions.specs.Journals.{opening_replica};
+    ghost use Rattle.road_sessions.specs.Journals.{replica_of_plan};
 
     ghost book = { record { number = 0; log_name = 0; cells_name = 0 } };
 
-    ghost replica = { opening_replica
+    ghost replica = { replica_of_plan
         (record { cells = 0; exit = 0; width = 0; zones = []; inlets = []; detectors = []; words = Steady }) 0 };
 }

@@ -3,8 +3,8 @@ ghost use Rattle.std.specs.Prelude.{◌≡◌, ◌<◌, ◌≤◌, [], IfOk, len
 ghost use Rattle.std.specs.Arc.{arc_value};
 ghost use Rattle.road_plan.specs.declared.limits.TheConstants.{MOST_REPLICAS, MOST_SESSIONS};
 ghost use Rattle.road_sessions.specs.declared.entry.TheConstants.{MOST_WRITES};
-ghost use Rattle.road_sessions.specs.Journals.{opening_replica, replay};
-ghost use Rattle.road_sessions.specs.Seats.{AreFresh};
+ghost use Rattle.road_sessions.specs.Journals.{replica_of_plan, replay};
+ghost use Rattle.road_sessions.specs.Seats.{AreNewSeats};
 
 use crate::book::{Beginning, EmptyBook};
 use crate::faults::OpenFault;
@@ -70,7 +70,7 @@ pub fn prepare<R: Wait + Drop>(
     requires sessions { (0 < sessions) × (sessions ≤ MOST_SESSIONS) }
     requires limit { (0 < limit) × (limit ≤ MOST_WRITES) }
     ensures sessions { IfOk result (λ prepared. prepared.sessions ≡ sessions) }
-    ensures replica { IfOk result (λ prepared. prepared.replica ≡ opening_replica (arc_value plan) number) }
+    ensures replica { IfOk result (λ prepared. prepared.replica ≡ replica_of_plan (arc_value plan) number) }
 {
     let replica = Replica::open(alloc, plan, number)?;
     Ok(Prepared {
@@ -97,7 +97,7 @@ pub fn open<J: Naming, R: Wait + Drop>(
     requires book { prepared.book.seen.book ≡ J.book }
     requires replica { prepared.replica ≡ J.replica }
     requires ledger { (prepared.ledger.name ≡ J.name) × (prepared.ledger.parts ≡ J.parts) }
-    ensures { IfOk result (λ opened. (length opened.1.items ≡ prepared.sessions) × AreFresh 0 opened.1.items) }
+    ensures { IfOk result (λ opened. (length opened.1.items ≡ prepared.sessions) × AreNewSeats 0 opened.1.items) }
 {
     let (held, sessions) = opened::<J, R>(prepared)?;
     let shared = Shared {
@@ -119,7 +119,7 @@ pub fn opened<J: Naming, R: Wait + Drop>(
     requires ledger { (prepared.ledger.name ≡ J.name) × (prepared.ledger.parts ≡ J.parts) }
     ensures journal { IfOk result (λ opened. opened.0.journal.items ≡ []) }
     ensures sessions { IfOk result (λ opened. (length opened.1.items ≡ prepared.sessions)
-        × AreFresh 0 opened.1.items) }
+        × AreNewSeats 0 opened.1.items) }
 {
     let Prepared {
         rt,

@@ -44,8 +44,8 @@ abbrev pub state_of : Sheet → ℕ → Array
 state_of s step = run_at s.plan s.edits step
 
 -- the row that it shows at a step
-abbrev pub row_of : Sheet → ℕ → List ℕ
-row_of s step = row_at s.plan s.edits step
+abbrev pub sheet_row : Sheet → ℕ → List ℕ
+sheet_row s step = row_at s.plan s.edits step
 
 -- the rows that it shows from a step to another, both of them
 abbrev pub rows_of : Sheet → ℕ → ℕ → List (List ℕ)

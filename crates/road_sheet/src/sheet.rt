@@ -5,7 +5,7 @@ ghost use Rattle.std.specs.Arc.{arc_value};
 ghost use Rattle.road_plan.specs.declared.limits.TheConstants.{GREATEST_HORIZON};
 ghost use Rattle.road_ends.specs.Input.{input_speeds};
 ghost use Rattle.road_scenario.specs.Faults.{AreInRange};
-ghost use Rattle.road_scenario.specs.Touched.{touched};
+ghost use Rattle.road_scenario.specs.Touched.{first_touched_step};
 ghost use Rattle.road_scenario.specs.Winners.{AreWinners, join};
 ghost use Rattle.road_sheet.specs.Drafts.{IsUpTo, draft_start};
 ghost use Rattle.road_sheet.specs.Private.Blocks.{AreTotals, IsBlock, GiveSameRun};
@@ -320,7 +320,7 @@ impl Sheet {
     pub fn draft(&self, alloc: Global, scenario: &Scenario, keep: u32) -> Result<Draft, OutOfMemory>
         requires fits { AreInRange self.now.plan scenario.now }
         requires simulated { keep ≤ self.now.horizon }
-        requires untouched { IsUpTo (touched self.now.edits (join self.now.edits scenario.now)) keep }
+        requires untouched { IsUpTo (first_touched_step self.now.edits (join self.now.edits scenario.now)) keep }
         ensures { IfOk result (λ draft. draft ≡ record {
           plan = self.now.plan;
           edits = join self.now.edits scenario.now;
@@ -340,7 +340,7 @@ impl Sheet {
     pub fn draft_of(&self, alloc: Global, joined: Scenario, keep: u32) -> Result<Draft, OutOfMemory>
         requires fits { AreInRange self.now.plan joined }
         requires simulated { keep ≤ self.now.horizon }
-        requires untouched { IsUpTo (touched self.now.edits joined) keep }
+        requires untouched { IsUpTo (first_touched_step self.now.edits joined) keep }
         ensures { IfOk result (λ draft. draft ≡ record {
           plan = self.now.plan;
           edits = joined;

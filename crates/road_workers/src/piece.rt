@@ -9,7 +9,7 @@ use road_ends::{OutOfMemory, StepInput};
 use std::alloc::Global;
 
 // The speeds of a piece, or want of memory.
-pub(crate) type Answer = Result<Vec<u8>, OutOfMemory>;
+pub(crate) type PieceAnswer = Result<Vec<u8>, OutOfMemory>;
 
 // A piece of the list of cars: the places from `first` to before `end`.
 #[derive(Clone, Copy, Debug, PartialEq, Eq)]
@@ -61,7 +61,7 @@ pub(crate) fn list_for(alloc: Global, workers: u32, cars: usize) -> Result<Vec<u
 
 // The speeds of a piece behind those of the pieces before it.
 #[tactic(auto, using(crate::proofs::PiecesInOrder::take_piece))]
-pub(crate) fn appended(whole: Answer, piece: Answer) -> Answer
+pub(crate) fn appended(whole: PieceAnswer, piece: PieceAnswer) -> PieceAnswer
     ensures { (all : List ℕ) (first end : ℕ) → first ≤ end → IfOk whole (λ front. front.items ≡ take first all)
         → IfOk piece (λ new. new.items ≡ slice_range all first end)
         → IfOk result (λ front. front.items ≡ take end all) }

@@ -17,7 +17,7 @@ mod working;
 use crate::crew::{Crew, gone_after};
 use crate::faults::CrewFault;
 use crate::gate::{Gate, NoGate};
-use crate::piece::{Answer, Piece, cars_in, list_for};
+use crate::piece::{PieceAnswer, Piece, cars_in, list_for};
 use crate::pool::gathering::{is_taken, places_for, put_together};
 use crate::pool::job::{Done, Job};
 use crate::pool::waiting::{looks_of, stay_awake};
@@ -284,7 +284,7 @@ fn take_result<R: Wait>(
     rt: &R,
     results: &Receiver<Done>,
     looks: u32,
-    places: &mut Vec<Option<Answer>>,
+    places: &mut Vec<Option<PieceAnswer>>,
     input: &StepInput,
     cars: usize,
 ) -> Result<(), CrewFault>

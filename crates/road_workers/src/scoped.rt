@@ -12,7 +12,7 @@ ghost use Rattle.road_workers.specs.Private.Started.{AreStartedFrom};
 use crate::crew::{Crew, gone_after};
 use crate::faults::CrewFault;
 use crate::gate::Gate;
-use crate::piece::{Answer, Piece, appended, cars_in, list_for};
+use crate::piece::{PieceAnswer, Piece, appended, cars_in, list_for};
 use road_ends::{OutOfMemory, StepInput};
 use std::alloc::Global;
 use std::marker::Model;
@@ -77,13 +77,13 @@ struct SpeedsOf<'a> {
     piece: Piece,
 }
 
-impl<'a> Promise<Answer> for SpeedsOf<'a> {
+impl<'a> Promise<PieceAnswer> for SpeedsOf<'a> {
     ghost kept_by = { λ promise answer. IfOk answer
         (λ new. new.items ≡ input_speeds_between promise.input.now promise.piece.first promise.piece.end) };
 }
 
 // A worker's thread.
-type Worker<'a> = PromisedHandle<Answer, SpeedsOf<'a>>;
+type Worker<'a> = PromisedHandle<PieceAnswer, SpeedsOf<'a>>;
 
 // The speeds of a step, by workers whose threads are started and joined here. Where one cannot be started, the others
 // are joined before the answer.
@@ -157,7 +157,7 @@ fn start_worker<'s, E>(
     let promise = SpeedsOf { input, piece };
     let started = scope.spawn_with(
         promise,
-        move || -> Answer
+        move || -> PieceAnswer
             requires { (piece.first ≤ piece.end) × (piece.end ≤ length (cars_of input.now.road)) }
             ensures { IfOk result (λ new. new.items ≡ input_speeds_between input.entry.now piece.first piece.end) }
         { piece_speeds(alloc, input, piece, worker, gate) },
@@ -172,7 +172,7 @@ fn piece_speeds(
     piece: Piece,
     worker: u32,
     gate: &SharedGate,
-) -> Answer
+) -> PieceAnswer
     requires order { piece.first ≤ piece.end }
     requires within { piece.end ≤ length (cars_of input.now.road) }
     ensures { IfOk result (λ new. new.items ≡ input_speeds_between input.now piece.first piece.end) }
@@ -188,7 +188,7 @@ fn joined<'s, R: Threads>(
     started: Vec<Worker<'s>>,
     input: &StepInput,
     workers: u32,
-) -> Answer
+) -> PieceAnswer
     requires nothing { whole.items ≡ [] }
     requires started { AreStartedFrom input.now workers 0 started.items }
     ensures { IfOk result (λ new. new.items

@@ -14,7 +14,7 @@ use Rattle.road_plan.specs.declared.limits.TheConstants.{MOST_REPLICAS, FIRST_IM
 use Rattle.road_plan.specs.declared.object.Object.{Object}
 use Rattle.road_scenario.specs.Counts.{greatest_count}
 use Rattle.road_scenario.specs.Edits.{Edits}
-use Rattle.road_scenario.specs.Faults.{fault_of}
+use Rattle.road_scenario.specs.Faults.{fault_of_edit}
 use Rattle.road_scenario.specs.declared.edit.Edit as edits
 use Rattle.road_scenario.specs.declared.edit.Stamp.{Stamp}
 use Rattle.road_scenario.specs.declared.edit.Value.{Value}
@@ -217,7 +217,7 @@ imported_outside : (plan : Plan) (es : List edits.Edit) → import_fault plan es
 imported_outside plan [] h = tt
 imported_outside plan (e ∷ es) h =
     let both = none_of_both (imported_fault plan e) (import_fault plan es) h in
-    let here = none_of_both (option_map arrived_fault (fault_of plan e)) _ both.0 in
+    let here = none_of_both (option_map arrived_fault (fault_of_edit plan e)) _ both.0 in
     (no_insider e.stamp.number here.1, imported_outside plan es both.1)
 
 -- what holds of each of two lists holds of each of both

@@ -12,7 +12,7 @@ use Rattle.road_plan.specs.declared.limits.TheConstants.{MOST_REPLICAS}
 use Rattle.road_plan.specs.declared.object.Object.{Object}
 use Rattle.road_scenario.specs.Edits.{Edits}
 use Rattle.road_scenario.specs.Faults.{IsInRange, fault_in}
-use Rattle.road_scenario.specs.Touched.{touched, touched_in}
+use Rattle.road_scenario.specs.Touched.{first_touched_step, first_touched_step_in}
 use Rattle.road_scenario.specs.Winners.{winners, AreWinners}
 use Rattle.road_scenario.specs.Instances.EditOrder.{winners_laws}
 use Rattle.road_scenario.specs.declared.edit.Value.{Value}
@@ -29,7 +29,7 @@ use Rattle.road_replica.specs.Replicas.{Replica, edit_made, replica_after, singl
 use Rattle.road_world.specs.Answers.{edits_wanted_fault, replica_with_sheet, sheet_at}
 use Rattle.road_world.specs.Events.{World, WorldReplica, opening_replica, replica_at, carried_edits, replica_of_winners, message_of_winners, world_of_winners}
 use Rattle.road_world.specs.Events.{world_with_advance, world_with_edits, world_with_local_edit, world_with_message}
-use Rattle.road_world.specs.Private.Worlds.{world_replica, IsReplicaOf, AreSendable, IsSendable, IsKept}
+use Rattle.road_world.specs.Private.Worlds.{world_replica, IsReplicaOf, AreSendable, IsSendable, IsWorldKept}
 use Rattle.road_world.specs.declared.faults.WorldFault.{WorldFault}
 use Rattle.road_world.specs.declared.message.Message.{Message}
 use Rattle.road_world.specs.declared.message.Message.TheVariants.{Whole, Answer, Asked}
@@ -98,7 +98,7 @@ carried_by plan (Some (Asked hs)) sendable wanted = absurd (some_fault_is_no_non
 
 -- ---- a world that is kept
 
-module _ (plan : Plan) (xs : List Replica) (ms : List Message) (kept : IsKept plan xs ms) where
+module _ (plan : Plan) (xs : List Replica) (ms : List Message) (kept : IsWorldKept plan xs ms) where
   -- each replica and each message holds the winners already
   viewed_wins : world_of_winners (viewed plan xs ms) ≡ viewed plan xs ms
   viewed_wins =
@@ -106,7 +106,7 @@ module _ (plan : Plan) (xs : List Replica) (ms : List Message) (kept : IsKept pl
       ∙ ap (λ (ns : List Message). let w : World = record { plan = plan; replicas = map world_replica xs; messages = ns } in w) (messages_win plan ms kept.sendable)
 
   -- one replica is another
-  pub still_kept : (r : ℕ) (y : Replica) → IsReplicaOf plan r y → IsKept plan (slice_set xs r y) ms
+  pub still_kept : (r : ℕ) (y : Replica) → IsReplicaOf plan r y → IsWorldKept plan (slice_set xs r y) ms
   still_kept r y is = record {
     few = let same = length-set xs r y in omega (arith, same, kept.few);
     each = set_each (IsReplicaOf plan) xs r y kept.each is;
@@ -168,10 +168,10 @@ module _ (plan : Plan) (xs : List Replica) (ms : List Message) (kept : IsKept pl
         ap (option_map arrived_fault) (ap (λ (p : Plan). fault_in p edits) (is_replica r x is below).plan_is ∙ in_range-faultless plan edits (carried m wanted).in_range)
 
     -- what a replica would answer to edits, the world does
-    pub same_touched : (r : ℕ) (x : Replica) (edits : Edits) → x ≡ slice_index_or xs r x → r < length xs → touched_step x.sheet edits ≡ touched (replica_at k r).edits (union (replica_at k r).edits edits)
+    pub same_touched : (r : ℕ) (x : Replica) (edits : Edits) → x ≡ slice_index_or xs r x → r < length xs → touched_step x.sheet edits ≡ first_touched_step (replica_at k r).edits (union (replica_at k r).edits edits)
     same_touched r x edits is below =
-        ap (λ (s : Edits). touched_in (items (winners x.sheet.edits)) (items s)) (winners_laws.of_tops (union x.sheet.edits edits))
-        ∙ ap (λ (q : WorldReplica). touched q.edits (union q.edits edits)) (sym (read r x is below))
+        ap (λ (s : Edits). first_touched_step_in (items (winners x.sheet.edits)) (items s)) (winners_laws.of_tops (union x.sheet.edits edits))
+        ∙ ap (λ (q : WorldReplica). first_touched_step q.edits (union q.edits edits)) (sym (read r x is below))
 
     -- ---- a write
 
@@ -273,7 +273,7 @@ one_more_opened plan count xs x are is = record {
   each = add_each (IsReplicaOf plan) xs x are.each (subst (λ n. IsReplicaOf plan n x) (sym (length_opened plan count xs are)) (opening_of plan count x is));
 }
 
-pub opened_kept : (plan : Plan) (count : ℕ) (xs : List Replica) → AreOpened plan count xs → count ≤ MOST_REPLICAS → IsKept plan xs []
+pub opened_kept : (plan : Plan) (count : ℕ) (xs : List Replica) → AreOpened plan count xs → count ≤ MOST_REPLICAS → IsWorldKept plan xs []
 opened_kept plan count xs are few = record {
   few = let same = length_opened plan count xs are in omega (arith, same, few);
   each = are.each;

@@ -17,9 +17,9 @@ use Rattle.road_plan.specs.Plan.{Plan}
 use Rattle.road_plan.specs.declared.object.Object.{Object}
 use Rattle.road_scenario.specs.Counts.{greatest_count_in}
 use Rattle.road_scenario.specs.Edits.{Edits, edit_cmp}
-use Rattle.road_scenario.specs.Faults.{fault_of}
+use Rattle.road_scenario.specs.Faults.{fault_of_edit}
 use Rattle.road_scenario.specs.Instances.EditOrder.{edit_total, edit_exact}
-use Rattle.road_scenario.specs.Touched.{touched, touched_in}
+use Rattle.road_scenario.specs.Touched.{first_touched_step, first_touched_step_in}
 use Rattle.road_scenario.specs.Winners.{winners, winners_in}
 use Rattle.road_scenario.specs.declared.edit.Edit as edits
 use Rattle.road_scenario.specs.declared.edit.Value.{Value}
@@ -196,7 +196,7 @@ after (Advance r to) w =
 -- the first step that edits touch where they reach a replica
 abbrev pub touched_there : ListWorld → ℕ → List edits.Edit → Reply
 touched_there w r es =
-    replies.Touched (touched_in (sorted (winners_in (at w r).edits)) (sorted (winners_in ((at w r).edits ++ es))))
+    replies.Touched (first_touched_step_in (sorted (winners_in (at w r).edits)) (sorted (winners_in ((at w r).edits ++ es))))
 
 -- what an accepted event is answered
 abbrev pub reply_to : ListWorld → Event → Reply
@@ -212,9 +212,9 @@ reply_to w (Advance r to) = replies.Horizon (max (at w r).horizon to)
 -- the cause where there is such a replica
 abbrev pub fault_there : Plan → ListWorld → Event → Option WorldFault
 fault_there plan w (Edit r o step n) =
-    option_map faults.Replica (option_map made_fault (fault_of plan (made w r o step (Put n))))
+    option_map faults.Replica (option_map made_fault (fault_of_edit plan (made w r o step (Put n))))
 fault_there plan w (Withdraw r o step) =
-    option_map faults.Replica (option_map made_fault (fault_of plan (made w r o step Withdrawn)))
+    option_map faults.Replica (option_map made_fault (fault_of_edit plan (made w r o step Withdrawn)))
 fault_there plan w (Import r es) = option_map faults.Replica (import_fault plan es.items)
 fault_there plan w (Send r) = None
 fault_there plan w (Heads r) = None
@@ -363,10 +363,10 @@ module _ (plan : Plan) (w : ListWorld) where
   touched_of_lists : (r : ℕ) (s : Edits) (es : List edits.Edit) → s ≡ from_list es → touched_reply sets r s ≡ touched_there w r es
   touched_of_lists r s es is =
       let held : List edits.Edit = (at w r).edits in
-      ap (λ (x : WorldReplica). replies.Touched (touched x.edits (union x.edits s))) (replica_of_lists r)
-      ∙ ap (λ (u : Edits). replies.Touched (touched (from_list held) (union (from_list held) u))) is
-      ∙ ap (λ (u : Edits). replies.Touched (touched (from_list held) u)) (union_of_lists held es)
-      ∙ (λ i. replies.Touched (touched_in (winner_items_of_list held i) (winner_items_of_list (held ++ es) i)))
+      ap (λ (x : WorldReplica). replies.Touched (first_touched_step x.edits (union x.edits s))) (replica_of_lists r)
+      ∙ ap (λ (u : Edits). replies.Touched (first_touched_step (from_list held) (union (from_list held) u))) is
+      ∙ ap (λ (u : Edits). replies.Touched (first_touched_step (from_list held) u)) (union_of_lists held es)
+      ∙ (λ i. replies.Touched (first_touched_step_in (winner_items_of_list held i) (winner_items_of_list (held ++ es) i)))
 
   -- the stamp of the edit that a replica makes
   stamp_of_lists : (r : ℕ) (o : Object) (step : ℕ) (v : Value) → replies.Stamped (local_edit r (replica_at sets r).edits o step v).stamp ≡ replies.Stamped (made w r o step v).stamp
@@ -388,9 +388,9 @@ module _ (plan : Plan) (w : ListWorld) where
   reply_of_lists (Advance r to) = ap (λ (x : WorldReplica). replies.Horizon (max x.horizon to)) (replica_of_lists r)
 
   -- the fault of the edit that a replica would make
-  made_fault_of_lists : (r : ℕ) (o : Object) (step : ℕ) (v : Value) → option_map faults.Replica (option_map made_fault (fault_of plan (local_edit r (replica_at sets r).edits o step v))) ≡ option_map faults.Replica (option_map made_fault (fault_of plan (made w r o step v)))
+  made_fault_of_lists : (r : ℕ) (o : Object) (step : ℕ) (v : Value) → option_map faults.Replica (option_map made_fault (fault_of_edit plan (local_edit r (replica_at sets r).edits o step v))) ≡ option_map faults.Replica (option_map made_fault (fault_of_edit plan (made w r o step v)))
   made_fault_of_lists r o step v =
-      ap (λ (e : edits.Edit). option_map faults.Replica (option_map made_fault (fault_of plan e))) (made_of_lists r o step v)
+      ap (λ (e : edits.Edit). option_map faults.Replica (option_map made_fault (fault_of_edit plan e))) (made_of_lists r o step v)
 
   -- for which cause an event is refused where there is such a replica
   fault_there_of_lists : (e : Event) → fault_at_replica sets e ≡ fault_there plan w e

@@ -11,9 +11,9 @@ use Rattle.lattice_core.specs.Sets.{items, union, from_list}
 use Rattle.road_plan.specs.Plan.{Plan}
 use Rattle.road_plan.specs.declared.object.Object.{Object}
 use Rattle.road_scenario.specs.Edits.{Edits}
-use Rattle.road_scenario.specs.Faults.{fault_of}
+use Rattle.road_scenario.specs.Faults.{fault_of_edit}
 use Rattle.road_scenario.specs.Instances.EditOrder.{winners_laws}
-use Rattle.road_scenario.specs.Touched.{touched, touched_in}
+use Rattle.road_scenario.specs.Touched.{first_touched_step, first_touched_step_in}
 use Rattle.road_scenario.specs.Winners.{winners, join}
 use Rattle.road_scenario.specs.declared.edit.Edit as edits
 use Rattle.road_scenario.specs.declared.edit.Value.{Value}
@@ -225,9 +225,9 @@ event-of_winners (Advance r to) w =
 -- the first touched step, where the unions have the same winners
 pub touched_reply-of_winners : (w : World) (r : ℕ) (s t : Edits) → winners (union (winners (replica_at w r).edits) s) ≡ winners (union (replica_at w r).edits t) → touched_reply (world_of_winners w) r s ≡ touched_reply w r t
 touched_reply-of_winners w r s t e =
-    ap (λ (x : WorldReplica). replies.Touched (touched x.edits (union x.edits s))) (replica-of_winners w r)
-    ∙ ap (λ (u : Edits). replies.Touched (touched_in (items u) (items (winners (union (winners (replica_at w r).edits) s))))) (winners_again (replica_at w r).edits)
-    ∙ ap (λ (u : Edits). replies.Touched (touched_in (items (winners (replica_at w r).edits)) (items u))) e
+    ap (λ (x : WorldReplica). replies.Touched (first_touched_step x.edits (union x.edits s))) (replica-of_winners w r)
+    ∙ ap (λ (u : Edits). replies.Touched (first_touched_step_in (items u) (items (winners (union (winners (replica_at w r).edits) s))))) (winners_again (replica_at w r).edits)
+    ∙ ap (λ (u : Edits). replies.Touched (first_touched_step_in (items (winners (replica_at w r).edits)) (items u))) e
 
 -- the stamp of the edit that a replica makes
 stamp_reply-of_winners : (w : World) (r : ℕ) (o : Object) (step : ℕ) (v : Value) → stamp_reply (world_of_winners w) r o step v ≡ stamp_reply w r o step v
@@ -270,9 +270,9 @@ heads_wanted_of_winners (Some (Asked hs)) = refl
 
 -- the edit that a replica would make has the same fault
 made_fault-of_winners : (w : World) (r : ℕ) (o : Object) (step : ℕ) (v : Value)
-    → option_map faults.Replica (option_map made_fault (fault_of w.plan (local_edit r (replica_at (world_of_winners w) r).edits o step v))) ≡ option_map faults.Replica (option_map made_fault (fault_of w.plan (local_edit r (replica_at w r).edits o step v)))
+    → option_map faults.Replica (option_map made_fault (fault_of_edit w.plan (local_edit r (replica_at (world_of_winners w) r).edits o step v))) ≡ option_map faults.Replica (option_map made_fault (fault_of_edit w.plan (local_edit r (replica_at w r).edits o step v)))
 made_fault-of_winners w r o step v =
-    ap (λ (e : edits.Edit). option_map faults.Replica (option_map made_fault (fault_of w.plan e))) (local_edit-of_winners w r o step v)
+    ap (λ (e : edits.Edit). option_map faults.Replica (option_map made_fault (fault_of_edit w.plan e))) (local_edit-of_winners w r o step v)
 
 -- where there is such a replica, an event is refused for the same cause
 pub fault_at-of_winners : (e : Event) (w : World) → fault_at_replica (world_of_winners w) e ≡ fault_at_replica w e

@@ -8,7 +8,7 @@ use Rattle.std.specs.declared.result.Result.TheVariants.{Ok, Err}
 use Rattle.lattice_core.specs.Sets.{union, from_list}
 use Rattle.road_plan.specs.declared.object.Object.{Object}
 use Rattle.road_scenario.specs.Edits.{Edits}
-use Rattle.road_scenario.specs.Touched.{touched}
+use Rattle.road_scenario.specs.Touched.{first_touched_step}
 use Rattle.road_scenario.specs.declared.edit.Value.{Value}
 use Rattle.road_scenario.specs.declared.edit.Value.TheVariants.{Withdrawn, Put}
 use Rattle.road_sheet.specs.Sheets.{Sheet}
@@ -44,7 +44,7 @@ stamp_reply w r object step value = replies.Stamped (edit_made (replica_with_she
 -- the first step that edits touch where they reach replica r
 abbrev pub touched_reply : World → ℕ → Edits → Reply
 touched_reply w r edits =
-    replies.Touched (touched (replica_at w r).edits (union (replica_at w r).edits edits))
+    replies.Touched (first_touched_step (replica_at w r).edits (union (replica_at w r).edits edits))
 
 -- the reply to an accepted event
 abbrev pub reply_to_event : World → Event → Reply

@@ -45,7 +45,7 @@ impl Model for World {
     ghost use Rattle.std.specs.Coded.{codes};
     ghost use Rattle.road_scenario.specs.Instances.EditOrder.{edits_code};
     ghost use Rattle.road_world.specs.Events.{World};
-    ghost use Rattle.road_world.specs.Private.Worlds.{IsKept, world_replica};
+    ghost use Rattle.road_world.specs.Private.Worlds.{IsWorldKept, world_replica};
 
     ghost Value = { World };
 
@@ -57,7 +57,7 @@ impl Model for World {
       messages = world.messages.items;
     } };
 
-    ghost invariant = { λ world. IsKept (arc_value world.plan) world.replicas.items world.messages.items };
+    ghost invariant = { λ world. IsWorldKept (arc_value world.plan) world.replicas.items world.messages.items };
 }
 
 impl World {

@@ -12,9 +12,9 @@ join_with_option join v None = v
 join_with_option join v (Some w) = join v w
 
 -- there is a value, and v is at most it
-abbrev pub IsUpTo : {V : Type 0} → (V → V → V) → V → Option V → Type 0
-IsUpTo join v None = ⊥
-IsUpTo join v (Some w) = join v w ≡ w
+abbrev pub IsAtMostOption : {V : Type 0} → (V → V → V) → V → Option V → Type 0
+IsAtMostOption join v None = ⊥
+IsAtMostOption join v (Some w) = join v w ≡ w
 
 -- the entries, each joined with what fs has at its key
 abbrev pub joined_entries : {K V : Type 0} → (K → K → Ordering) → (V → V → V)

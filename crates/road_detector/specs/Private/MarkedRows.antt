@@ -6,10 +6,10 @@ use Rattle.road_cells.specs.Array.{Vehicle}
 use Rattle.road_ends.specs.declared.letters.TheConstants.{STANDING, BLOCKED}
 
 -- a blocked cell gets its mark
-abbrev pub with_block : Bool → ℕ → ℕ
-with_block blocked letter = if blocked then BLOCKED else letter
+abbrev pub blocked_letter : Bool → ℕ → ℕ
+blocked_letter blocked letter = if blocked then BLOCKED else letter
 
 -- a cell where a car stands gets its digit
-abbrev pub with_car : Option Vehicle → ℕ → ℕ
-with_car (Some v) letter = STANDING + v.speed
-with_car None letter = letter
+abbrev pub car_letter : Option Vehicle → ℕ → ℕ
+car_letter (Some v) letter = STANDING + v.speed
+car_letter None letter = letter

@@ -3,7 +3,7 @@ use Rattle.std.specs.Prelude.{◌≡◌, ℕ, ◌+◌, ◌-◌, ◌<◌, ◌≤�
 use Rattle.road_cells.specs.Cars.{cell_at}
 use Rattle.road_cells.specs.declared.car.TheConstants.{GREATEST_SPEED}
 use Rattle.road_cells.specs.declared.car.Car.{Car}
-use Rattle.road_rules.specs.Speeds.{wanted}
+use Rattle.road_rules.specs.Speeds.{wanted_speed}
 use Rattle.road_ends.specs.Speed.{nth_car}
 use Rattle.road_ends.specs.declared.pass.TheConstants.{NOWHERE}
 
@@ -20,4 +20,4 @@ pub record AreOfZone (limits chances : List ℕ) (zone limit chance : ℕ) : Typ
 -- what the k-th car wants by rules 1 and 2 where the next car and the next blocked cell are at these cells
 abbrev pub wanted_before : List Car → ℕ → ℕ → ℕ → ℕ → ℕ
 wanted_before cars limit next block k =
-    wanted (nth_car cars k).speed limit (min GREATEST_SPEED (min next block - (cell_at cars k + 1)))
+    wanted_speed (nth_car cars k).speed limit (min GREATEST_SPEED (min next block - (cell_at cars k + 1)))

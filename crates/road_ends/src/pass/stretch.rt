@@ -6,7 +6,7 @@ ghost use Rattle.std.specs.Prelude.{◌≡◌, ℕ, ◌+◌, ◌-◌, ◌/◌, �
 ghost use Rattle.std.specs.List.Sorted.{IsNonDecreasing};
 ghost use Rattle.road_cells.specs.Cars.{cars_of, cell_at};
 ghost use Rattle.road_cells.specs.declared.car.TheConstants.{GREATEST_SPEED};
-ghost use Rattle.road_rules.specs.Speeds.{has_event, slowed, wanted};
+ghost use Rattle.road_rules.specs.Speeds.{has_event, slowed_speed, wanted_speed};
 ghost use Rattle.road_ends.specs.Speed.{nth_car};
 ghost use Rattle.road_ends.specs.Private.PassPlaces.{wanted_before};
 
@@ -143,7 +143,7 @@ fn write_wanted_by_columns(
     ensures long { length new.new ≡ length new.old }
     ensures rest { (k : ℕ) → to ≤ k → slice_index new.new (k - first) ≡ slice_index new.old (k - first) }
     ensures wanted { (k : ℕ) → from ≤ k → k < to → slice_index new.new (k - first)
-        ≡ wanted (slice_index speeds.now k) cursor.zone.limit
+        ≡ wanted_speed (slice_index speeds.now k) cursor.zone.limit
         (min GREATEST_SPEED (min (slice_index cells.now (k + 1)) cursor.block.cell - (slice_index cells.now k + 1))) }
 {
     let limit = cursor.zone.limit.min(GREATEST_NARROW) as u16;
@@ -173,7 +173,7 @@ pub(super) fn slow_by_halves(
     ensures rest { (k : ℕ) → to ≤ k → slice_index new.new (k - first) ≡ slice_index new.old (k - first) }
     ensures slowed { (k : ℕ) → from ≤ k → k < to → (word : ℕ)
         → (0 < slice_index new.old (k - first) → slice_index halves.now k ≡ word / 65536)
-        → slice_index new.new (k - first) ≡ slowed (slice_index new.old (k - first)) (has_event word chance) }
+        → slice_index new.new (k - first) ≡ slowed_speed (slice_index new.old (k - first)) (has_event word chance) }
 {
     for place in from..to {
         new[place - first] = slowed_by_half(halves[place], new[place - first], chance);
@@ -198,7 +198,7 @@ pub(super) fn slow_by_words(
     ensures long { length new.new ≡ length new.old }
     ensures rest { (k : ℕ) → to ≤ k → slice_index new.new (k - first) ≡ slice_index new.old (k - first) }
     ensures slowed { (k : ℕ) → from ≤ k → k < to →
-        slice_index new.new (k - first) ≡ slowed (slice_index new.old (k - first))
+        slice_index new.new (k - first) ≡ slowed_speed (slice_index new.old (k - first))
         (has_event (⟦<PlanWords as Words>⟧.word_of words.now (nth_car cars.now k).number step) chance) }
 {
     for place in from..to {

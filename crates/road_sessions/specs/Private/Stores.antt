@@ -17,15 +17,15 @@ abbrev pub EntersToLook : View → List Entry → View → Type 0
 EntersToLook v published w = IsPrefix v.found published × (w ≡ view_of published v.own (v.entered + 1))
 
 -- the last entry of a history whose first place has this number, as a write
-abbrev pub last_from : ℕ → List Entry → List Write
-last_from place [] = []
-last_from place (e ∷ []) = (place, e) ∷ []
-last_from place (e ∷ f ∷ es) = last_from (place + 1) (f ∷ es)
+abbrev pub last_write_from : ℕ → List Entry → List Write
+last_write_from place [] = []
+last_write_from place (e ∷ []) = (place, e) ∷ []
+last_write_from place (e ∷ f ∷ es) = last_write_from (place + 1) (f ∷ es)
 
 -- a reader entered at the end of its session's write, which ends the published history
 abbrev pub EntersAfterWrite : View → List Entry → View → Type 0
 EntersAfterWrite v published w =
-    IsPrefix v.found published × (w ≡ view_of published (v.own ++ last_from 0 published) v.entered)
+    IsPrefix v.found published × (w ≡ view_of published (v.own ++ last_write_from 0 published) v.entered)
 
 -- the last of these operations puts this history in place of whatever was shown
 abbrev pub EndWith : List Entry → List (List Entry) → Type 0

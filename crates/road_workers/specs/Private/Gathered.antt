@@ -7,19 +7,19 @@ use Rattle.road_ends.specs.Input.{StepInput}
 use Rattle.road_workers.specs.Pieces.{speeds_of_worker}
 
 -- what a worker answered: the speeds of its piece, or want of memory
-abbrev pub Answer : Type 0
-Answer = Result (Vec ℕ Global) AllocError
+abbrev pub PieceAnswer : Type 0
+PieceAnswer = Result (Vec ℕ Global) AllocError
 
 -- the speeds, where there are some, are those of the piece of worker w, of n workers
-abbrev pub IsAnswerOf : StepInput → ℕ → ℕ → Answer → Type 0
+abbrev pub IsAnswerOf : StepInput → ℕ → ℕ → PieceAnswer → Type 0
 IsAnswerOf input n w answer = IfOk answer (λ new. new.items ≡ speeds_of_worker input n w)
 
 -- one place for each worker, with its answer where that has come
-abbrev pub AreGathered : StepInput → List (Option Answer) → Type 0
-AreGathered input places = (w : ℕ) (d : Option Answer) → w < length places
+abbrev pub AreGathered : StepInput → List (Option PieceAnswer) → Type 0
+AreGathered input places = (w : ℕ) (d : Option PieceAnswer) → w < length places
     → IfSome (slice_index_or places w d) (IsAnswerOf input (length places) w)
 
 -- so are the places from that of worker w on, of n workers
-abbrev pub AreGatheredFrom : StepInput → ℕ → ℕ → List (Option Answer) → Type 0
-AreGatheredFrom input n w places = (k : ℕ) (d : Option Answer) → k < length places
+abbrev pub AreGatheredFrom : StepInput → ℕ → ℕ → List (Option PieceAnswer) → Type 0
+AreGatheredFrom input n w places = (k : ℕ) (d : Option PieceAnswer) → k < length places
     → IfSome (slice_index_or places k d) (IsAnswerOf input n (w + k))

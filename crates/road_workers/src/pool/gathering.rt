@@ -9,7 +9,7 @@ ghost use Rattle.road_workers.specs.Pieces.{piece_start};
 ghost use Rattle.road_workers.specs.Private.Gathered.{AreGathered};
 
 use crate::faults::CrewFault;
-use crate::piece::{Answer, Piece, appended};
+use crate::piece::{PieceAnswer, Piece, appended};
 use crate::pool::job::Done;
 use road_ends::{OutOfMemory, StepInput};
 use std::alloc::Global;
@@ -19,7 +19,7 @@ pub(crate) fn places_for(
     alloc: Global,
     workers: u32,
     input: &StepInput,
-) -> Result<Vec<Option<Answer>>, OutOfMemory>
+) -> Result<Vec<Option<PieceAnswer>>, OutOfMemory>
     ensures count { IfOk result (λ places. vec_len places ≡ workers) }
     ensures gathered { IfOk result (λ places. AreGathered input.now places.items) }
 {
@@ -33,7 +33,7 @@ pub(crate) fn places_for(
 // Takes a result where its input is the one asked and its piece is still missing: it drops doubles and strangers.
 // Whether it took it.
 pub(crate) fn is_taken(
-    places: &mut Vec<Option<Answer>>,
+    places: &mut Vec<Option<PieceAnswer>>,
     done: Done,
     input: &StepInput,
     cars: usize,
@@ -61,7 +61,7 @@ pub(crate) fn is_taken(
 }
 
 // The first worker whose piece it is and who has not answered yet.
-fn missing_place(places: &[Option<Answer>], piece: Piece, cars: usize) -> Option<usize>
+fn missing_place(places: &[Option<PieceAnswer>], piece: Piece, cars: usize) -> Option<usize>
     requires few { length places.now ≤ MOST_WORKERS }
     requires short { cars ≤ GREATEST_LENGTH }
     ensures { IfSome result (λ w. (w < length places.now)
@@ -80,7 +80,7 @@ fn missing_place(places: &[Option<Answer>], piece: Piece, cars: usize) -> Option
 // The speeds of all workers, one behind the other in the list `whole`. Where one has not answered, it has gone.
 pub(crate) fn put_together(
     whole: Vec<u8>,
-    places: Vec<Option<Answer>>,
+    places: Vec<Option<PieceAnswer>>,
     input: &StepInput,
 ) -> Result<Vec<u8>, CrewFault>
     requires nothing { whole.items ≡ [] }

@@ -6,7 +6,7 @@ ghost use Rattle.std.proofs.Props.{props};
 ghost use Rattle.road_cells.specs.Cars.{cars_of};
 ghost use Rattle.road_ends.specs.Input.{input_speeds_between};
 
-use crate::piece::{Answer, Piece};
+use crate::piece::{PieceAnswer, Piece};
 use road_ends::StepInput;
 use std::alloc::Global;
 use std::sync::Arc;
@@ -25,7 +25,7 @@ pub(crate) struct Job {
 pub(crate) struct Done {
     pub input: Arc<StepInput>,
     pub piece: Piece,
-    pub answer: Answer,
+    pub answer: PieceAnswer,
     ghost right: { IfOk answer
         (λ new. new.items ≡ input_speeds_between (arc_value input) piece.first piece.end) } by { Prim.hlevel props },
 }

@@ -35,7 +35,7 @@ IsSendable plan (Answer edits) = AreSendable plan edits
 IsSendable plan (Asked hs) = Unit {0}
 
 -- each replica has its place as its number, they are few enough, and each message may be sent
-pub record IsKept (plan : Plan) (replicas : List Replica) (messages : List Message) : Type 0 where
+pub record IsWorldKept (plan : Plan) (replicas : List Replica) (messages : List Message) : Type 0 where
   pub few : length replicas ≤ MOST_REPLICAS
   pub each : (number : ℕ) (replica : Replica) → slice_get replicas number ≡ Some replica →
       IsReplicaOf plan number replica

@@ -6,7 +6,7 @@ use Rattle.std.proofs.lemmas.List.{length-set, get_or_default}
 use Rattle.road_cells.specs.Cars.{vehicle_among}
 use Rattle.road_cells.specs.declared.car.Car.{Car}
 use Rattle.road_ends.specs.declared.letters.TheConstants.{STANDING}
-use Rattle.road_detector.specs.Private.MarkedRows.{with_car}
+use Rattle.road_detector.specs.Private.MarkedRows.{car_letter}
 use Rattle.road_detector.proofs.MarkedRow.{next_drawn, next_past}
 use Rattle.road_detector.proofs.rows.with_cars.Goals as goal
 use Rattle.road_detector.proofs.rows.with_cars.Goals.{then-car-len, else-car-len}
@@ -29,7 +29,7 @@ loop-car-preserved c =
           record {
             same_length = ap length items ∙ length-set row car.cell (STANDING + car.speed) ∙ same;
             marked = λ cell below.
-                ap (λ row. with_car (vehicle_among cell (drop (i + 1) cars)) (slice_index row cell)) items
+                ap (λ row. car_letter (vehicle_among cell (drop (i + 1) cars)) (slice_index row cell)) items
                 ∙ next_drawn cars i cell _ car c.requires.rise c.loop-car-test.true is row (omega arith) on (c.loop-car.invariant.marked cell below);
           }
       | else-car-len w ↦
@@ -38,7 +38,7 @@ loop-car-preserved c =
           record {
             same_length = ap length items ∙ same;
             marked = λ cell below.
-                ap (λ row. with_car (vehicle_among cell (drop (i + 1) cars)) (slice_index row cell)) items
+                ap (λ row. car_letter (vehicle_among cell (drop (i + 1) cars)) (slice_index row cell)) items
                 ∙ next_past cars i cell _ car c.requires.rise c.loop-car-test.true is row (omega arith) past (c.loop-car.invariant.marked cell below);
           }
     ]

@@ -2,7 +2,7 @@
 use Rattle.std.proofs.Common.{◌≡◌, ◌∙◌, ◌-◌, max, ap, sym, subst, arith}
 use Rattle.road_scenario.specs.Edits.{Edits}
 use Rattle.road_scenario.specs.Faults.{AreInRange}
-use Rattle.road_scenario.specs.Touched.{touched}
+use Rattle.road_scenario.specs.Touched.{first_touched_step}
 use Rattle.road_scenario.specs.Winners.{join}
 use Rattle.road_sheet.specs.Sheets.{Sheet}
 use Rattle.road_sheet.specs.Drafts.{draft_start}
@@ -20,7 +20,7 @@ returns-in_err-sheet-clause-few_steps g c =
     let s = c.args.sheet.now in
     let t = c.args.scenario.now in
     let joined = c.in_ok-joined.ensures.winners ∙ ap (λ (e : Edits). join e t) c.scenario.ensures in
-    let touches = c.touched_by-touched.ensures ∙ ap (λ (e : Edits). touched e c.in_ok-joined.joined) c.scenario-2.ensures ∙ ap (touched s.edits) joined in
+    let touches = c.touched_by-touched.ensures ∙ ap (λ (e : Edits). first_touched_step e c.in_ok-joined.joined) c.scenario-2.ensures ∙ ap (first_touched_step s.edits) joined in
     let keep = c.kept_step-keep.ensures ∙ ap (λ h. kept_step h c.touched_by-touched.result) c.horizon.ensures ∙ ap (kept_step s.horizon) touches in
     let start = ap (λ (x : Sheet). x.horizon) c.in_ok-draft.ensures ∙ ap (draft_start s.horizon) keep in
     more_ticks _ _ c.args.meter.now c.simulated.new.meter (omega (arith, few_steps s.horizon (max s.horizon c.args.to) (touched_step s t), start, c.max.ensures, c.horizon-2.ensures)) c.simulated.ensures.few
@@ -30,7 +30,7 @@ returns-clause-few_steps g c =
     let s = c.args.sheet.now in
     let t = c.args.scenario.now in
     let joined = c.in_ok-joined.ensures.winners ∙ ap (λ (e : Edits). join e t) c.scenario.ensures in
-    let touches = c.touched_by-touched.ensures ∙ ap (λ (e : Edits). touched e c.in_ok-joined.joined) c.scenario-2.ensures ∙ ap (touched s.edits) joined in
+    let touches = c.touched_by-touched.ensures ∙ ap (λ (e : Edits). first_touched_step e c.in_ok-joined.joined) c.scenario-2.ensures ∙ ap (first_touched_step s.edits) joined in
     let keep = c.kept_step-keep.ensures ∙ ap (λ h. kept_step h c.touched_by-touched.result) c.horizon.ensures ∙ ap (kept_step s.horizon) touches in
     let start = ap (λ (x : Sheet). x.horizon) c.in_ok-draft.ensures ∙ ap (draft_start s.horizon) keep in
     more_ticks _ _ c.args.meter.now c.simulated.new.meter (omega (arith, few_steps s.horizon (max s.horizon c.args.to) (touched_step s t), start, c.max.ensures, c.horizon-2.ensures)) c.simulated.ensures.few
@@ -40,7 +40,7 @@ returns-clause-new_steps g c = λ kept.
     let s = c.args.sheet.now in
     let t = c.args.scenario.now in
     let joined = c.in_ok-joined.ensures.winners ∙ ap (λ (e : Edits). join e t) c.scenario.ensures in
-    let touches = c.touched_by-touched.ensures ∙ ap (λ (e : Edits). touched e c.in_ok-joined.joined) c.scenario-2.ensures ∙ ap (touched s.edits) joined in
+    let touches = c.touched_by-touched.ensures ∙ ap (λ (e : Edits). first_touched_step e c.in_ok-joined.joined) c.scenario-2.ensures ∙ ap (first_touched_step s.edits) joined in
     let keep = c.kept_step-keep.ensures ∙ ap (λ h. kept_step h c.touched_by-touched.result) c.horizon.ensures ∙ ap (kept_step s.horizon) touches in
     let start = ap (λ (x : Sheet). x.horizon) c.in_ok-draft.ensures ∙ start_at_horizon s.horizon c.kept_step-keep.result (keep ∙ kept) in
     let same : c.max.result - c.in_ok-draft.draft.horizon ≡ max s.horizon c.args.to - s.horizon = omega (arith, start, c.max.ensures, c.horizon-2.ensures) in

@@ -3,9 +3,9 @@ use Rattle.std.proofs.Common.{◌≡◌, refl, ◌∙◌, ap, sym, subst}
 use Rattle.std.proofs.lemmas.Bool.{true≢false}
 use Rattle.std.specs.FinMap.Entries.{find}
 use Rattle.std.specs.Option.{option_copied}
-use Rattle.lattice_core.specs.Private.EntryLists.{IsUpTo}
+use Rattle.lattice_core.specs.Private.EntryLists.{IsAtMostOption}
 use Rattle.lattice_core.proofs.MapLoops.{lookup-find}
-use Rattle.lattice_core.proofs.MapOrder.{AreUpTo, join-up_to, up_to-join}
+use Rattle.lattice_core.proofs.MapOrder.{AreAtMostOptions, join-up_to, up_to-join}
 use Rattle.lattice_core.proofs.map.LatMapLattice.at_most.Goals as goal
 
 pub loop-key-preserved : goal.loop-key-preserved
@@ -14,10 +14,10 @@ loop-key-preserved g c =
     let cmp = g.K.Ord.cmp in
     let fs = c.args.other.now in
     let there : option_copied c.get.result ≡ find cmp c.in-Some.key.now fs = c.get.ensures.value ∙ lookup-find cmp c.in-Some.key.now c.other.inside.map.entries ∙ ap (find cmp c.in-Some.key.now) c.other.view_is in
-    let up : IsUpTo join c.in-Some.value.now (find cmp c.in-Some.key.now fs) = subst (IsUpTo join c.in-Some.value.now) there (c.is_up_to.ensures.0 c.if-not-is_up_to.false) in
+    let up : IsAtMostOption join c.in-Some.value.now (find cmp c.in-Some.key.now fs) = subst (IsAtMostOption join c.in-Some.value.now) there (c.is_up_to.ensures.0 c.if-not-is_up_to.false) in
     record {
-      back = λ h. c.loop-key.invariant.back (subst (λ es. AreUpTo cmp join es fs) (sym c.in-Some.ensures.steps) (up, h));
-      forth = λ h. (subst (λ es. AreUpTo cmp join es fs) c.in-Some.ensures.steps (c.loop-key.invariant.forth h)).1;
+      back = λ h. c.loop-key.invariant.back (subst (λ es. AreAtMostOptions cmp join es fs) (sym c.in-Some.ensures.steps) (up, h));
+      forth = λ h. (subst (λ es. AreAtMostOptions cmp join es fs) c.in-Some.ensures.steps (c.loop-key.invariant.forth h)).1;
     }
 
 pub returns-then-not-is_up_to : goal.returns-then-not-is_up_to
@@ -29,13 +29,13 @@ returns-then-not-is_up_to g c =
       λ f. absurd (true≢false (sym f)),
       λ h.
           let all = up_to-join cmp g.met.K.Ord.total g.met.K.Exact.exact g.V.Lattice.is_proper join g.V.Lattice.is_least g.met.V.Lattice.laws c.args.self.now fs c.known.ensures c.known-2.ensures h in
-          let here = (subst (λ es. AreUpTo cmp join es fs) c.in-Some.ensures.steps (c.loop-key.invariant.forth all)).0 in
-          sym c.if-not-is_up_to.true ∙ c.is_up_to.ensures.1 (subst (IsUpTo join c.in-Some.value.now) (sym there) here),
+          let here = (subst (λ es. AreAtMostOptions cmp join es fs) c.in-Some.ensures.steps (c.loop-key.invariant.forth all)).0 in
+          sym c.if-not-is_up_to.true ∙ c.is_up_to.ensures.1 (subst (IsAtMostOption join c.in-Some.value.now) (sym there) here),
     )
 
 pub returns : goal.returns
 returns g c = (
   λ _. join-up_to g.K.Ord.cmp g.met.K.Ord.total g.met.K.Exact.exact g.V.Lattice.is_proper g.V.Lattice.join g.V.Lattice.is_least g.met.V.Lattice.laws c.args.self.now c.args.other.now c.known.ensures c.known-2.ensures
-      (c.loop-key.invariant.back (subst (λ es. AreUpTo g.K.Ord.cmp g.V.Lattice.join es c.args.other.now) (sym c.in-None.ensures.steps.0) tt)),
+      (c.loop-key.invariant.back (subst (λ es. AreAtMostOptions g.K.Ord.cmp g.V.Lattice.join es c.args.other.now) (sym c.in-None.ensures.steps.0) tt)),
   λ _. refl,
 )

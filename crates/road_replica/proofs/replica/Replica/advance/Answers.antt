@@ -2,7 +2,7 @@
 use Rattle.std.proofs.Common.{◌∙◌, max, ap, subst}
 use Rattle.road_scenario.specs.Edits.{Edits}
 use Rattle.road_sheet.specs.Sheets.{Sheet}
-use Rattle.road_rewind.specs.Growth.{grown, kept_step, most_steps, touched_step, TicksAtMost}
+use Rattle.road_rewind.specs.Growth.{grown_sheet, kept_step, most_steps, touched_step, TicksAtMost}
 use Rattle.road_replica.specs.Replicas.{Replica}
 use Rattle.road_replica.proofs.GrownSheets.{grown_by_steps, no_edit_touches}
 use Rattle.road_replica.proofs.replica.Replica.advance.Goals as goal
@@ -21,7 +21,7 @@ returns-clause-advanced g c =
     let r = c.args.self.now in
     c.in_ok-grow.ensures.sheet
     ∙ ap (λ (s : Sheet). let q : Replica = record { number = r.number; sheet = s } in q)
-    (ap (λ (edits : Edits). grown r.sheet edits c.args.to) c.empty.ensures.none ∙ grown_by_steps r.sheet c.args.to c.known.ensures.sheet)
+    (ap (λ (edits : Edits). grown_sheet r.sheet edits c.args.to) c.empty.ensures.none ∙ grown_by_steps r.sheet c.args.to c.known.ensures.sheet)
 
 pub returns-clause-new_steps : goal.returns-clause-new_steps
 returns-clause-new_steps g c =

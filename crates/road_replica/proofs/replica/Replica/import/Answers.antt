@@ -3,7 +3,7 @@ use Rattle.std.proofs.Common.{◌≡◌, ◌∙◌, None, Option, ap, refl, sym,
 use Rattle.std.specs.Prelude.{IfOk, IfSome}
 use Rattle.lattice_core.specs.Sets.{from_list}
 use Rattle.road_scenario.specs.Edits.{Edits, edit_cmp}
-use Rattle.road_scenario.specs.Touched.{touched}
+use Rattle.road_scenario.specs.Touched.{first_touched_step}
 use Rattle.road_scenario.specs.Winners.{join}
 use Rattle.road_rewind.specs.Growth.{most_steps, TicksAtMost}
 use Rattle.road_replica.specs.Refusals.{gone_after_fault, import_fault}
@@ -27,11 +27,11 @@ pub returns-clause-touched : goal.returns-clause-touched
 returns-clause-touched g c =
     let s = c.args.self.now.sheet in
     let joined = ap (λ (edits : Edits). join s.edits edits) c.in_ok-scenario.ensures.winners ∙ join-winners s.edits (from_list {R = edit_cmp} c.args.edits.now) c.known.ensures.sheet.winners in
-    subst (λ (edits : Edits). IfOk c.grow.result (λ step. step ≡ touched s.edits edits)) joined c.grow.ensures.touched
+    subst (λ (edits : Edits). IfOk c.grow.result (λ step. step ≡ first_touched_step s.edits edits)) joined c.grow.ensures.touched
 
 pub returns-clause-few_steps : goal.returns-clause-few_steps
 returns-clause-few_steps g c =
     let s = c.args.self.now.sheet in
     let joined = ap (λ (edits : Edits). join s.edits edits) c.in_ok-scenario.ensures.winners ∙ join-winners s.edits (from_list {R = edit_cmp} c.args.edits.now) c.known.ensures.sheet.winners in
-    subst (λ (edits : Edits). TicksAtMost (most_steps s.horizon s.horizon (touched s.edits edits)) c.args.meter.now c.grow.new.meter) joined
+    subst (λ (edits : Edits). TicksAtMost (most_steps s.horizon s.horizon (first_touched_step s.edits edits)) c.args.meter.now c.grow.new.meter) joined
     (few_steps_taking s c.in_ok-scenario.scenario c.in_ok-scenario.scenario c.args.meter.now c.grow.new.meter refl c.grow.ensures.few_steps)

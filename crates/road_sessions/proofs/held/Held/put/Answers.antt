@@ -3,7 +3,7 @@ use Rattle.std.proofs.Common.{◌≡◌, ◌∙◌, ap, subst}
 use Rattle.road_plan.specs.Plan.{Plan}
 use Rattle.road_replica.specs.Replicas.{Replica}
 use Rattle.road_sheet.specs.Commands.{IsAllowed}
-use Rattle.road_sessions.specs.Journals.{command_of}
+use Rattle.road_sessions.specs.Journals.{entry_command}
 use Rattle.road_sessions.proofs.Replays.{plan_kept}
 use Rattle.road_sessions.proofs.held.Held.put.Goals as goal
 
@@ -11,4 +11,4 @@ pub noted-requires-clause-allowed : goal.noted-requires-clause-allowed
 noted-requires-clause-allowed g c =
     let r = g.J.Naming.replica in
     let plan : c.args.self.now.replica.sheet.plan ≡ r.sheet.plan = ap (λ (q : Replica). q.sheet.plan) c.args.self.now.replayed ∙ plan_kept r c.args.self.now.journal.items in
-    subst (λ (p : Plan). IsAllowed p (command_of c.args.entry.command)) plan c.requires.allowed
+    subst (λ (p : Plan). IsAllowed p (entry_command c.args.entry.command)) plan c.requires.allowed
