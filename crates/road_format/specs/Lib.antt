@@ -13,3 +13,4 @@ pub mod CutLaws
 pub mod FieldsLaws
 pub mod RepliesLaws
 pub mod EditLaws
+pub mod Private

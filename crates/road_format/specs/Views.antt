@@ -8,9 +8,7 @@ use Rattle.road_format.specs.declared.refusal.Refusal.{Refusal}
 use Rattle.road_format.specs.declared.command.Command.{Command}
 use Rattle.road_format.specs.declared.command.Command.TheVariants as commands
 use Rattle.road_format.specs.declared.plan_line.PlanLine.{PlanLine}
-use Rattle.road_format.specs.declared.plan_line.PlanLineParts.{PlanLineParts}
 use Rattle.road_cells.specs.declared.car.Car.{Car}
-use Rattle.road_plan.specs.Plan.{plan_of}
 use Rattle.road_format.specs.declared.answer.Answer.{Answer}
 use Rattle.road_format.specs.declared.answer.Answer.TheVariants as answers
 
@@ -35,17 +33,9 @@ command_view (commands.Beyond at heads name) =
     grammar.Beyond (string_bytes at) (string_bytes heads) (string_bytes name)
 command_view (commands.Take at message) = grammar.Take (string_bytes at) (string_bytes message)
 
--- what a command and its form say
-abbrev pub formed_view : ℕ × Command → ℕ × grammar.Command
-formed_view read = (read.0, command_view read.1)
-
 -- what a plan line says
 abbrev pub plan_line_view : PlanLine → plan_grammar.PlanLine
 plan_line_view line = record { names = texts line.names.items; plan = line.plan }
-
--- what a plan line says before it is checked
-abbrev pub parts_view : PlanLineParts → plan_grammar.PlanLine
-parts_view line = record { names = texts line.names.items; plan = plan_of line.parts }
 
 -- what a car says: number, cell, speed
 abbrev pub car_view : Car → ℕ × ℕ × ℕ

@@ -5,7 +5,8 @@ ghost use Rattle.serde_json.specs.View.{view};
 ghost use Rattle.road_format.specs.CommandGrammar as grammar;
 ghost use Rattle.road_format.specs.Fields as fields;
 ghost use Rattle.road_format.specs.Refusals.{line_refusal};
-ghost use Rattle.road_format.specs.Views.{Gives, command_view, formed_view};
+ghost use Rattle.road_format.specs.Views.{Gives, command_view};
+ghost use Rattle.road_format.specs.Private.UncheckedViews.{formed_view};
 ghost use Rattle.road_format.specs.declared.faults.LineFault.TheVariants as line_faults;
 
 use crate::command::Command;

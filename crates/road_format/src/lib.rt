@@ -25,7 +25,7 @@ mod edits;
 mod exchange;
 mod faults;
 mod fields;
-mod laws;
+pub mod laws;
 mod lists;
 mod local;
 mod names;
@@ -39,10 +39,6 @@ pub use answer::Answer;
 pub use command::Command;
 pub use command_line::read_command;
 pub use faults::{LineFault, PlanLineFault};
-pub use laws::{
-    cut_loses_nothing, edits_read_back, lines_go_on, lines_have_no_newline, no_other_field,
-    replies_are_lines,
-};
 pub use plan_line::{PlanLine, read_plan};
 pub use refusal::Refusal;
 pub use reply::reply_line;

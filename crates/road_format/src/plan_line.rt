@@ -9,7 +9,8 @@ ghost use Rattle.road_plan.specs.declared.limits.TheConstants.{MOST_REPLICAS};
 ghost use Rattle.road_format.specs.Fields as fields;
 ghost use Rattle.road_format.specs.PlanGrammar as grammar;
 ghost use Rattle.road_format.specs.Refusals.{plan_line_refusal};
-ghost use Rattle.road_format.specs.Views.{Gives, texts, plan_line_view, parts_view};
+ghost use Rattle.road_format.specs.Views.{Gives, texts, plan_line_view};
+ghost use Rattle.road_format.specs.Private.UncheckedViews.{parts_view};
 ghost use Rattle.road_format.specs.declared.faults.PlanLineFault.TheVariants as plan_line_faults;
 
 use crate::faults::PlanLineFault;

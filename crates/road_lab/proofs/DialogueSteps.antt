@@ -6,7 +6,8 @@ use Rattle.road_format.specs.PlanGrammar.{plan_line_of}
 use Rattle.road_format.specs.Replies.{reply}
 use Rattle.road_laboratory.specs.Laboratory.{Laboratory}
 use Rattle.road_lab.specs.Answers.{reading_unless, opening_answer, line_answer, first_reading, line_replies, answers, is_refusal, is_plan_refused, has_more_lines}
-use Rattle.road_lab.specs.Dialogue.{opened_laboratory, kept_after_line, IsAfterLines, Holds, GoesOn, Stands, HasAnswered}
+use Rattle.road_lab.specs.Dialogue.{IsAfterLines, Holds, GoesOn, Stands, HasAnswered}
+use Rattle.road_lab.specs.Private.KeptLaboratory.{kept_after_line, opened_laboratory}
 use Rattle.road_lab.specs.StreamViews.{SinkView}
 use Rattle.road_lab.specs.declared.dialogue.Dialogue.{Dialogue}
 use Rattle.road_lab.specs.declared.faults.EarlyEnd.{EarlyEnd}

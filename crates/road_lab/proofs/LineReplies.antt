@@ -12,7 +12,8 @@ use Rattle.road_laboratory.proofs.WinnersSuffice.{after-of_winners, answer-of_wi
 use Rattle.road_world.proofs.WinnersSuffice.{opening_world-of_winners}
 use Rattle.road_world.specs.Events.{World}
 use Rattle.road_lab.specs.Answers.{is_long, reading_unless, plan_reading, command_reading, opening_answer, line_answer, laboratory_after_line, later_replies, session_replies, first_reading, line_replies, is_refusal}
-use Rattle.road_lab.specs.Dialogue.{opened_laboratory, kept_after_line, laboratory_after_lines, IsAfterLines, Holds, Whole, TooLong}
+use Rattle.road_lab.specs.Dialogue.{laboratory_after_lines, IsAfterLines, Holds, Whole, TooLong}
+use Rattle.road_lab.specs.Private.KeptLaboratory.{kept_after_line, opened_laboratory}
 
 -- ---- later lines
 

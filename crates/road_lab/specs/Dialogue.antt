@@ -1,30 +1,16 @@
 -- What serves lines, after the bytes that came to it.
 use Rattle.std.specs.Prelude.{◌≡◌, ℕ, ◌+◌, ◌<◌, ◌≤◌, List, [], ◌∷◌, Bool, true, false, length, Option, Some, None}
-use Rattle.std.specs.Prelude.{Result, Ok, Err}
+use Rattle.std.specs.Prelude.{Ok}
 use Rattle.road_plan.specs.declared.limits.TheConstants.{LONGEST_LINE}
 use Rattle.road_format.specs.Cut.{pieces_of, lines_of}
-use Rattle.road_format.specs.CommandGrammar.{Command}
 use Rattle.road_format.specs.PlanGrammar.{PlanLine}
-use Rattle.road_format.specs.declared.refusal.Refusal.{Refusal}
-use Rattle.road_laboratory.specs.Laboratory.{Laboratory, laboratory_after, laboratory_of_winners, opening_laboratory}
+use Rattle.road_laboratory.specs.Laboratory.{Laboratory, laboratory_of_winners, opening_laboratory}
 use Rattle.road_lab.specs.Answers.{plan_reading, command_reading, laboratory_after_line, later_lines, answers}
 use Rattle.road_lab.specs.Answers.{is_plan_refused, has_more_lines}
 use Rattle.road_lab.specs.StreamViews.{SinkView, TakesAllBut}
 use Rattle.road_lab.specs.declared.dialogue.Dialogue.{Dialogue}
 use Rattle.road_lab.specs.declared.faults.EarlyEnd.{EarlyEnd}
 use Rattle.road_lab.specs.declared.faults.EarlyEnd.TheVariants as ends
-
--- ---- one line
-
--- the laboratory after the plan line, where it is accepted
-abbrev pub opened_laboratory : Result PlanLine Refusal → Option Laboratory
-opened_laboratory (Err refusal) = None
-opened_laboratory (Ok plan) = Some (opening_laboratory plan)
-
--- what is kept after a later line is the laboratory of winners; a refused line changes nothing
-abbrev pub kept_after_line : Laboratory → Result Command Refusal → Laboratory
-kept_after_line kept (Err refusal) = kept
-kept_after_line kept (Ok command) = laboratory_of_winners (laboratory_after kept command)
 
 -- ---- whole lines
 

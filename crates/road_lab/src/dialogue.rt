@@ -11,9 +11,10 @@ ghost use Rattle.road_format.specs.Replies.{reply};
 ghost use Rattle.road_format.specs.Views.{texts, plan_line_view, command_view, answer_view};
 ghost use Rattle.road_laboratory.specs.Laboratory.{gone_after};
 ghost use Rattle.road_lab.specs.Answers.{reading_unless, opening_answer, line_answer, answers, has_more_lines};
-ghost use Rattle.road_lab.specs.Dialogue.{opened_laboratory, kept_after_line, Holds, GoesOn, Stands, HasAnswered, HasFinished};
+ghost use Rattle.road_lab.specs.Dialogue.{Holds, GoesOn, Stands, HasAnswered, HasFinished};
+ghost use Rattle.road_lab.specs.Private.KeptLaboratory.{kept_after_line, opened_laboratory};
 ghost use Rattle.road_lab.specs.Faults.{gone_after_call};
-ghost use Rattle.road_lab.specs.Readings.{IsRead};
+ghost use Rattle.road_lab.specs.Private.Readings.{IsRead};
 ghost use Rattle.road_lab.specs.StreamViews.{SinkView, sink_view, Stops};
 
 use crate::faults::{EarlyEnd, ServeFault};

@@ -2,7 +2,7 @@
 
 ghost use Rattle.road_lab.specs.Laws.{AnswersGoOn};
 
-use road_format::lines_go_on;
+use road_format::laws::lines_go_on;
 
 /// The answers to what was read begin the answers to whatever goes on from it: a reply that was written stays right,
 /// whatever comes next.

@@ -1,7 +1,7 @@
 //! A source and a sink over memory, which know their bytes and can be made to fail.
 
 ghost use Rattle.std.specs.Prelude.{◌≡◌, ◌≤◌, ◌<◌, Some, drop, length};
-ghost use Rattle.road_lab.specs.Failing.{is_failing};
+ghost use Rattle.road_lab.specs.Private.Failing.{is_failing};
 
 use crate::faults::{ReadFailed, WriteFailed};
 use crate::streams::{Sink, Source};

@@ -9,7 +9,7 @@ use crate::streams::{Sink, Source};
 use road_ends::StepInput;
 use road_plan::OutOfMemory;
 use road_workers::{Alone, Crew, CrewFault};
-use std::alloc::{AllocError, Global};
+use std::alloc::Global;
 use std::io;
 use std::sync::Arc;
 use std::test::Fail;
@@ -28,7 +28,7 @@ fn sink(alloc: Global) -> Result<MemorySink, OutOfMemory> {
 // How a run ended. Want of memory ends the test in its place.
 fn end_of(ended: Result<Served, ServeFault>) -> Result<Result<Served, ServeFault>, OutOfMemory> {
     match ended {
-        Err(ServeFault::OutOfMemory) => Err(AllocError),
+        Err(ServeFault::OutOfMemory) => Err(OutOfMemory),
         end => Ok(end),
     }
 }
@@ -212,7 +212,7 @@ fn workers_that_leave(rt: HostRuntime) -> Result<(), Fail> {
         let mut reader = MemorySource::new(input.as_bytes(), 1, ALL);
         let ended = run_by(alloc, &mut reader, &mut writer, &mut crew);
         if ended.status == 3 {
-            return Err(AllocError.into());
+            return Err(OutOfMemory.into());
         }
         assert!(rt; ended.status == status && (status == 0 || ended.line == Some("workers gone")));
         assert!(rt; crew.gone == u64::from(status == 7));

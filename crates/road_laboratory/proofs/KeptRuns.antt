@@ -16,7 +16,7 @@ use Rattle.road_world.specs.Answers.{replica_number, sheet_at}
 use Rattle.road_world.specs.Events.{World, WorldReplica, opening_replica, opening_world, replica_at, replica_of_winners, world_after_event, world_of_winners}
 use Rattle.road_world.specs.declared.event.Event.{Event}
 use Rattle.road_world.specs.declared.event.Event.TheVariants.{Edit, Withdraw, Import, Send, Heads, Beyond, Take, Advance}
-use Rattle.road_laboratory.specs.Keeping.{IsKept, IsKeptOf}
+use Rattle.road_laboratory.specs.Private.Keeping.{IsKept, IsKeptOf}
 use Rattle.road_laboratory.specs.Laboratory.{Laboratory}
 use Rattle.road_laboratory.specs.Private.Changes.{keeps_edits}
 use Rattle.road_laboratory.specs.declared.kept.KeptRun.{KeptRun}

@@ -8,6 +8,7 @@ use Rattle.indexmap.specs.IndexSet.{insert_key}
 use Rattle.std.specs.List.{position, prefix_len, list_any, AllByRecursion, IsDistinct}
 use Rattle.std.proofs.lemmas.Bool.Decides.{nat_tests}
 use Rattle.std.proofs.lemmas.List.{length-map, map-append, take-map}
+use Rattle.road_plan.proofs.InletCells.{any_mapped}
 use Rattle.road_format.specs.Views.{texts}
 
 -- ---- a name's number
@@ -19,10 +20,6 @@ prefix_len-map p f (x ∷ xs) = rw (prefix_len-map p f xs) refl
 -- the place among the texts is the place among the names
 pub position-map : {A B : Type 0} (p : B → Bool) (f : A → B) (xs : List A) → position p (map f xs) ≡ position (λ x. p (f x)) xs
 position-map p f xs = rw (prefix_len-map (λ x. not (p x)) f xs, length-map xs f) refl
-
-list_any-map : {A B : Type 0} (p : B → Bool) (f : A → B) (xs : List A) → list_any p (map f xs) ≡ list_any (λ x. p (f x)) xs
-list_any-map p f [] = refl
-list_any-map p f (x ∷ xs) = ap (λ (b : Bool). p (f x) || b) (list_any-map p f xs)
 
 -- ---- a set into which different names are put one after another
 
@@ -43,7 +40,7 @@ is_new (x ∷ xs) ys s distinct =
 -- a name whose text is none of those there is put last
 put_new : (keys : List (String Global)) (name : String Global) → list_any (bytes_eq (string_bytes name)) (texts keys) ≡ false → insert_key string_eq keys name ≡ keys ++ name ∷ []
 put_new keys name new =
-    let absent : list_any (string_eq name) keys ≡ false = sym (list_any-map (bytes_eq (string_bytes name)) string_bytes keys) ∙ new in
+    let absent : list_any (string_eq name) keys ≡ false = sym (any_mapped (bytes_eq (string_bytes name)) string_bytes keys) ∙ new in
     rw absent refl
 
 -- the next name goes last, and the names still to come stay

@@ -1,3 +1,5 @@
--- Questions and events as the code's calls see them, of which no public contract speaks.
+-- What is kept beside a laboratory, and questions and events as the code's calls see them, of which no public contract
+-- speaks.
+pub mod Keeping
 pub mod Questions
 pub mod Changes

@@ -21,7 +21,7 @@ pub struct KeptRun {
 }
 
 impl KeptRun {
-    ghost use Rattle.road_laboratory.specs.Keeping.{IsKeptOf};
+    ghost use Rattle.road_laboratory.specs.Private.Keeping.{IsKeptOf};
 
     // Of a run of which nothing is computed yet: the empty road of step 0. It takes no memory.
     pub(crate) fn opening(alloc: Global, plan: &Arc<Plan>) -> KeptRun

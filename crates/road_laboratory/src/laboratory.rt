@@ -14,7 +14,7 @@ ghost use Rattle.road_world.specs.Events.{asked_heads, world_after_event};
 ghost use Rattle.road_world.specs.declared.faults.WorldFault.TheVariants.{NoMessage};
 ghost use Rattle.road_format.specs.Replies as replies;
 ghost use Rattle.road_format.specs.Views.{answer_view, command_view, plan_line_view, texts};
-ghost use Rattle.road_laboratory.specs.Keeping.{IsKeptOf};
+ghost use Rattle.road_laboratory.specs.Private.Keeping.{IsKeptOf};
 ghost use Rattle.road_laboratory.specs.Laboratory.{answer_to, beyond_outcome, change_outcome, edits_held, gone_after};
 ghost use Rattle.road_laboratory.specs.Laboratory.{heads_outcome, import_outcome, laboratory_after};
 ghost use Rattle.road_laboratory.specs.Laboratory.{laboratory_of_winners, number_of, opening_laboratory, outcome_at};
@@ -54,7 +54,7 @@ pub struct Laboratory {
 impl Model for Laboratory {
     ghost use Rattle.std.specs.Coded.{codes};
     ghost use Rattle.road_scenario.specs.Instances.EditOrder.{edits_code};
-    ghost use Rattle.road_laboratory.specs.Keeping.{IsKept};
+    ghost use Rattle.road_laboratory.specs.Private.Keeping.{IsKept};
     ghost use Rattle.road_laboratory.specs.Laboratory.{Laboratory};
 
     ghost Value = { Laboratory };

@@ -4,7 +4,7 @@
 ghost use Rattle.std.specs.Prelude.{◌≡◌, ◌<◌, ◌≤◌, IfOk, length, map};
 ghost use Rattle.road_sheet.specs.Sheets.{state_of, total_of};
 ghost use Rattle.road_format.specs.Views.{answer_view, car_view};
-ghost use Rattle.road_laboratory.specs.Keeping.{IsKeptOf};
+ghost use Rattle.road_laboratory.specs.Private.Keeping.{IsKeptOf};
 ghost use Rattle.road_laboratory.specs.Laboratory.{cars_answer, cars_of_state, cells_answer, count_answer, diagram_answer, scenario_answer};
 ghost use Rattle.road_laboratory.specs.Private.Questions.{answer_to_question};
 

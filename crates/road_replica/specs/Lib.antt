@@ -1,3 +1,4 @@
 -- What replicas are, what their calls make of them, and for which causes these are refused.
 pub mod Replicas
 pub mod Refusals
+pub mod Private

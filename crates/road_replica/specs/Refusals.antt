@@ -16,8 +16,6 @@ use Rattle.road_sheet.specs.Sheets.{Sheet}
 use Rattle.road_sheet.specs.Sheets as sheets
 use Rattle.road_sheet.specs.declared.faults.SheetFault.{SheetFault}
 use Rattle.road_sheet.specs.declared.faults.SheetFault.TheVariants as sheet_faults
-use Rattle.road_rewind.specs.declared.faults.GrownFault.{GrownFault}
-use Rattle.road_rewind.specs.declared.faults.GrownFault.TheVariants as growth
 use Rattle.road_replica.specs.Replicas.{Replica, edit_made}
 use Rattle.road_replica.specs.declared.faults.ReplicaFault.{ReplicaFault}
 use Rattle.road_replica.specs.declared.faults.ReplicaFault.TheVariants.{NoObject, Step, ValueOutOfRange, Count, Insider}
@@ -46,11 +44,6 @@ question_fault sheet_faults.NoDetector = NoDetector
 question_fault sheet_faults.Range = Range
 question_fault sheet_faults.NotSimulated = NotSimulated
 question_fault sheet_faults.OutOfMemory = OutOfMemory
-
--- the refusal of a write, where the sheet does not grow
-abbrev pub write_fault : GrownFault → ReplicaFault
-write_fault growth.WorkersGone = WorkersGone
-write_fault growth.OutOfMemory = OutOfMemory
 
 -- ---- the first named cause for which a call is refused
 

@@ -1,6 +1,7 @@
 //! The causes for which a replica refuses a call, and the names that causes of the layers below have here.
 
 ghost use Rattle.std.specs.Prelude.{◌≡◌};
+ghost use Rattle.road_replica.specs.Private.GrowthFaults.{write_fault};
 ghost use Rattle.road_replica.specs.Refusals as refusals;
 ghost use Rattle.road_replica.specs.declared.faults.ReplicaFault.TheVariants.{OutOfMemory};
 
@@ -101,7 +102,7 @@ pub(crate) fn question_fault(fault: SheetFault) -> ReplicaFault
 
 // The refusal of a write, where the sheet does not grow.
 pub(crate) fn write_fault(fault: GrownFault) -> ReplicaFault
-    ensures { result ≡ refusals.write_fault fault }
+    ensures { result ≡ write_fault fault }
 {
     match fault {
         GrownFault::WorkersGone => ReplicaFault::WorkersGone,

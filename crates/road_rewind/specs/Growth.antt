@@ -5,8 +5,6 @@ use Rattle.std.specs.declared.option.Option.TheVariants.{None, Some}
 use Rattle.road_scenario.specs.Edits.{Edits}
 use Rattle.road_scenario.specs.Touched.{first_touched_step}
 use Rattle.road_scenario.specs.Winners.{join}
-use Rattle.road_workers.specs.declared.faults.CrewFault.{CrewFault}
-use Rattle.road_workers.specs.declared.faults.CrewFault.TheVariants as crew
 use Rattle.road_sheet.specs.Commands.{Take, Advance, sheet_after}
 use Rattle.road_sheet.specs.Sheets.{Sheet}
 use Rattle.road_rewind.specs.declared.faults.GrownFault.{GrownFault}
@@ -46,8 +44,3 @@ pub record TicksAtMost (most meter later : ℕ) : Type 0 where
 abbrev pub gone_after_fault : GrownFault → ℕ → ℕ
 gone_after_fault WorkersGone n = min (n + 1) (2 ^ 64 - 1)
 gone_after_fault OutOfMemory n = n
-
--- the refusal of a growth, where a crew refuses
-abbrev pub growth_fault : CrewFault → GrownFault
-growth_fault crew.WorkersGone = WorkersGone
-growth_fault crew.OutOfMemory = OutOfMemory

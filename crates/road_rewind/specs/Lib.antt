@@ -1,2 +1,3 @@
 -- What a grown sheet is, and how many steps it may cost.
 pub mod Growth
+pub mod Private

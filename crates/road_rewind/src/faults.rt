@@ -1,7 +1,7 @@
 //! The causes for which a sheet does not grow.
 
 ghost use Rattle.std.specs.Prelude.{◌≡◌};
-ghost use Rattle.road_rewind.specs.Growth.{growth_fault};
+ghost use Rattle.road_rewind.specs.Private.CrewFaults.{growth_fault};
 ghost use Rattle.road_rewind.specs.declared.faults.GrownFault.TheVariants.{OutOfMemory};
 
 use road_workers::CrewFault;

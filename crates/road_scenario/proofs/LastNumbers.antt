@@ -27,7 +27,7 @@ use Rattle.road_scenario.specs.Edits.{put_number, number_pair_cmp}
 use Rattle.road_scenario.specs.Instances.EditOrder.{number_pair_total}
 use Rattle.road_scenario.specs.Registers.{Register, RegistersByStep, RegistersByObject, edit_with, edits_from_register, object_edits, edit_list}
 use Rattle.road_scenario.specs.Settings.{is_put_up_to, latest_edit}
-use Rattle.road_scenario.specs.Private.RegisterWalks.{register_number, entry_number, last_number, last_number_of, registers_of_object}
+use Rattle.road_scenario.specs.Private.RegisterWalks.{register_number, entry_number, last_number, registers_of_object}
 use Rattle.road_scenario.proofs.RisingEdits.{object_cmp}
 
 -- whether two objects are the same
@@ -35,6 +35,11 @@ abbrev pub is_one : Object → Object → Bool
 is_one p o = is_eq (object_order p o)
 
 -- ---- the code's walk
+
+-- the last number that the registers of an object put
+abbrev pub last_number_of : RegistersByStep → Option ℕ
+last_number_of [] = None
+last_number_of (e ∷ es) = option_or (last_number_of es) (register_number e.1)
 
 or_none : (x : Option ℕ) → x ≡ option_or x None
 or_none None = refl

@@ -5,7 +5,8 @@ use Rattle.std.specs.List.{AllByRecursion}
 use native.Mathlib.Decide.{ℕ_discrete}
 use Rattle.road_sessions.specs.declared.entry.Entry.{Entry}
 use Rattle.road_sessions.specs.Journals.{AreOf, Rise, Stand, Write, writes_from, writes_of}
-use Rattle.road_sessions.specs.Closings.{AreApart, Brings, IsJust, IsTold, write_count}
+use Rattle.road_sessions.specs.Closings.{AreApart, IsJust, IsTold, write_count}
+use Rattle.road_sessions.specs.Private.ClosingSeats.{Brings}
 use Rattle.road_sessions.specs.Seats.{Seat}
 
 -- ---- one session: it has no fewer entries in the journal than writes that stand there

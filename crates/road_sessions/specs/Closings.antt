@@ -5,7 +5,7 @@ use mathlib.Core.List.{IsPrefix}
 use Rattle.road_sessions.specs.declared.entry.Entry.{Entry}
 use Rattle.road_sessions.specs.declared.faults.CloseCause.{CloseCause}
 use Rattle.road_sessions.specs.declared.faults.CloseCause.TheVariants.{Missing, OutOfMemory}
-use Rattle.road_sessions.specs.Journals.{Stand, AreOf, Rise, writes_of}
+use Rattle.road_sessions.specs.Journals.{writes_of}
 use Rattle.road_sessions.specs.Seats.{Seat}
 
 -- no two of these sessions have one number
@@ -30,10 +30,6 @@ IsTold journal s = (writes_of s.number journal ≡ s.view.own) × IsPrefix s.see
 -- the journal is just what these sessions wrote
 abbrev pub IsJust : List Entry → List Seat → Type 0
 IsJust journal ss = (length journal ≡ write_count ss) × AllByRecursion (IsTold journal) ss
-
--- what is known of a session whose history begins the journal: its writes stand there, at rising places
-abbrev pub Brings : List Entry → Seat → Type 0
-Brings journal s = Rise s.view.own × AreOf s.number s.view.own × Stand s.view.own journal × IsPrefix s.seen journal
 
 -- a closing is refused as `Missing` where these are not all the sessions, and else for want of memory
 abbrev pub IsCloseRefusal : ℕ → List Seat → CloseCause → Type 0

@@ -1,3 +1,6 @@
--- What the book and the store keep, of which no public contract speaks.
+-- What the book and the store keep, how a write is made and what is brought to a closing, of which no public contract
+-- speaks.
+pub mod MadeWrites
 pub mod Books
 pub mod Stores
+pub mod ClosingSeats

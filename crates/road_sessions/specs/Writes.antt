@@ -5,8 +5,7 @@ use Rattle.std.specs.declared.option.Option.{Option}
 use Rattle.std.specs.declared.option.Option.TheVariants.{None, Some}
 use Rattle.road_scenario.specs.declared.edit.Value.TheVariants.{Put, Withdrawn}
 use Rattle.road_rewind.specs.Growth.{touched_step}
-use Rattle.road_replica.specs.Replicas.{Replica, edit_made, replica_after, single_edit}
-use Rattle.road_sheet.specs.Commands.{IsAllowed}
+use Rattle.road_replica.specs.Replicas.{Replica, edit_made, single_edit}
 use Rattle.road_replica.specs.Refusals as refusals
 use Rattle.road_replica.specs.declared.faults.ReplicaFault.{ReplicaFault}
 use Rattle.road_replica.specs.declared.faults.ReplicaFault.TheVariants as causes
@@ -19,7 +18,7 @@ use Rattle.road_sessions.specs.declared.wish.Wish.{Wish}
 use Rattle.road_sessions.specs.declared.wish.Wish.TheVariants.{Take, Advance, Edit, Withdraw}
 use Rattle.road_sessions.specs.declared.faults.WriteFault.{WriteFault}
 use Rattle.road_sessions.specs.declared.faults.WriteFault.TheVariants.{JournalFull, Replica as OfReplica}
-use Rattle.road_sessions.specs.Journals.{entry_command, replay}
+use Rattle.road_sessions.specs.Journals.{replay}
 
 -- the command that a wish comes to at a replica: an edit that the replica makes is journalled as the taking of it
 abbrev pub wish_command : Wish → Replica → Command
@@ -34,13 +33,6 @@ reply_to (Take edits) r = Touched (touched_step r.sheet edits.now)
 reply_to (Advance to) r = Horizon (max r.sheet.horizon to)
 reply_to (Edit object step value) r = Stamped (edit_made r object step (Put value)).stamp
 reply_to (Withdraw object step) r = Stamped (edit_made r object step Withdrawn).stamp
-
--- what was wished is done: it came to this command, was answered so, and left this replica
-pub record IsMade (wish : Wish) (r : Replica) (command : Command) (reply : Reply) (after : Replica) : Type 0 where
-  pub command_is : command ≡ wish_command wish r
-  pub allowed : IsAllowed r.sheet.plan (entry_command command)
-  pub reply_is : reply ≡ reply_to wish r
-  pub after_is : after ≡ replica_after (entry_command command) r
 
 -- the named cause for which the replica refuses it
 abbrev pub wish_fault : Wish → Replica → Option ReplicaFault

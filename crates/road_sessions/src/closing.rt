@@ -2,7 +2,8 @@
 ghost use Rattle.std.specs.Prelude.{◌≡◌, ◌≢◌, ◌+◌, IfErr, IfOk, IsTrue, MatchBool, MatchResult, length};
 ghost use Rattle.std.specs.Arc.{arc_value};
 ghost use Rattle.std.specs.List.{AllByRecursion};
-ghost use Rattle.road_sessions.specs.Closings.{AreAll, AreApart, Brings, IsCloseRefusal, IsJust, write_count};
+ghost use Rattle.road_sessions.specs.Closings.{AreAll, AreApart, IsCloseRefusal, IsJust, write_count};
+ghost use Rattle.road_sessions.specs.Private.ClosingSeats.{Brings};
 ghost use Rattle.road_sessions.specs.Journals.{replay};
 
 use crate::book::Beginning;

@@ -9,7 +9,8 @@ ghost use Rattle.road_replica.specs.declared.faults.ReplicaFault.TheVariants as 
 ghost use Rattle.road_sessions.specs.declared.entry.TheConstants.{MOST_WRITES};
 ghost use Rattle.road_sessions.specs.Journals.{entry_command, entry, replay};
 ghost use Rattle.road_sessions.specs.Seats.{AreNewSeats, IsWrite, seat};
-ghost use Rattle.road_sessions.specs.Writes.{IsMade, IsWriteRefusal, gone_after_fault, reply_to, wish_fault};
+ghost use Rattle.road_sessions.specs.Writes.{IsWriteRefusal, gone_after_fault, reply_to, wish_fault};
+ghost use Rattle.road_sessions.specs.Private.MadeWrites.{IsMade};
 ghost use Rattle.road_sessions.specs.Writes.{wish_command, write_fault};
 
 use crate::book::{Beginning, Length};

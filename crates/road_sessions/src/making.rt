@@ -4,7 +4,8 @@ ghost use Rattle.road_plan.specs.Plan.{Plan};
 ghost use Rattle.road_scenario.specs.Faults.{AreInRange, fault_of_edit};
 ghost use Rattle.road_replica.specs.Refusals as refusals;
 ghost use Rattle.road_replica.specs.Replicas.{single_edit};
-ghost use Rattle.road_sessions.specs.Writes.{IsMade, wish_fault};
+ghost use Rattle.road_sessions.specs.Writes.{wish_fault};
+ghost use Rattle.road_sessions.specs.Private.MadeWrites.{IsMade};
 ghost use Rattle.road_sessions.specs.declared.wish.Wish.TheVariants as wishes;
 
 use crate::entry::Command;

@@ -4,7 +4,7 @@ ghost use Rattle.std.specs.Arc.{arc_value};
 ghost use mathlib.Core.List.{IsPrefix};
 ghost use Rattle.left_right.specs.Sides.{view as view_at};
 ghost use Rattle.road_sheet.specs.Sheets.{state_fault, state_of, total_of, totals_fault};
-ghost use Rattle.road_sessions.specs.Closings.{Brings};
+ghost use Rattle.road_sessions.specs.Private.ClosingSeats.{Brings};
 ghost use Rattle.road_sessions.specs.Looks.{HasLooked, IsLookRefusal, IsQuestionRefusal, sheet_seen};
 ghost use Rattle.road_sessions.specs.Seats.{IsSeat, IsWrite, newcomer, seat};
 ghost use Rattle.road_sessions.specs.Writes.{gone_after_fault};

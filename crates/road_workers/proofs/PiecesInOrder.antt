@@ -1,5 +1,6 @@
 -- The pieces of all workers, one behind the other, are the whole.
-use Rattle.std.specs.Prelude.{◌≡◌, ℕ, ◌+◌, ◌-◌, ◌<◌, ◌≤◌, List, ◌++◌, length, take, slice_range}
+use Rattle.std.specs.Prelude.{◌≡◌, ℕ, ◌+◌, ◌-◌, ◌<◌, ◌≤◌, List, ◌++◌, length, take, slice_range, slice_index_or, IfSome}
+use Rattle.std.specs.declared.option.Option.{Option}
 use Rattle.std.proofs.Common.{rules, sym, ap, ◌∙◌, arith}
 use Rattle.std.proofs.Math.Nat.{mul-div_cancel_left}
 use Rattle.std.proofs.Math.Seq.{take-add}
@@ -9,7 +10,8 @@ use Rattle.road_cells.specs.Cars.{cars_of}
 use Rattle.road_cells.proofs.CarPlaces.{length-cars_from}
 use Rattle.road_ends.specs.Input.{StepInput, input_speeds}
 use Rattle.road_ends.proofs.PassOverCars.{speed_each}
-use Rattle.road_workers.specs.Pieces.{piece_start}
+use Rattle.road_workers.specs.Private.Pieces.{piece_start}
+use Rattle.road_workers.specs.Private.Gathered.{IsAnswerOf, PieceAnswer}
 
 pub few_cars : (a : Array) → length (cars_of a) ≤ length a
 few_cars a = length-cars_from 0 a
@@ -31,3 +33,8 @@ whole_step input n some =
     let all = all_pieces n (length (cars_of input.road)) some in
     let each = speed_each input.plan input.settings input.step input.road in
     take_all (piece_start n (length (cars_of input.road)) n) (input_speeds input) (omega arith)
+
+-- the places hold the answers that have come, from that of worker w on, of n workers
+abbrev pub AreGatheredFrom : StepInput → ℕ → ℕ → List (Option PieceAnswer) → Type 0
+AreGatheredFrom input n w places = (k : ℕ) (d : Option PieceAnswer) → k < length places
+    → IfSome (slice_index_or places k d) (IsAnswerOf input n (w + k))

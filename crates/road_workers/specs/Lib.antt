@@ -1,4 +1,3 @@
--- What is counted of crews, and the pieces of workers, in reading order.
+-- What is counted of crews.
 pub mod Crews
-pub mod Pieces
 pub mod Private

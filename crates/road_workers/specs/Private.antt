@@ -1,3 +1,4 @@
 -- What contracts of private functions say of workers and their pieces; no public contract names it.
+pub mod Pieces
 pub mod Started
 pub mod Gathered

@@ -3,7 +3,7 @@
 ghost use Rattle.std.specs.Prelude.{◌≡◌, ◌≢◌, ℕ, ◌+◌, ◌<◌, ◌≤◌, List, [], length, slice_range, take, IfOk};
 ghost use Rattle.road_plan.specs.declared.limits.TheConstants.{GREATEST_LENGTH, MOST_WORKERS};
 ghost use Rattle.road_cells.specs.Cars.{cars_of};
-ghost use Rattle.road_workers.specs.Pieces.{piece_start};
+ghost use Rattle.road_workers.specs.Private.Pieces.{piece_start};
 
 use road_ends::{OutOfMemory, StepInput};
 use std::alloc::Global;

@@ -6,7 +6,7 @@ ghost use Rattle.road_plan.specs.declared.limits.TheConstants.{MOST_WORKERS};
 ghost use Rattle.road_cells.specs.Cars.{cars_of};
 ghost use Rattle.road_ends.specs.Input.{input_speeds, input_speeds_between};
 ghost use Rattle.road_workers.specs.Crews.{gone_after};
-ghost use Rattle.road_workers.specs.Pieces.{piece_start};
+ghost use Rattle.road_workers.specs.Private.Pieces.{piece_start};
 ghost use Rattle.road_workers.specs.Private.Started.{AreStartedFrom};
 
 use crate::crew::{Crew, gone_after};

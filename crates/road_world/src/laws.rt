@@ -12,7 +12,7 @@ ghost use Rattle.road_world.specs.declared.event.Event.{Event};
 ghost use Rattle.road_world.specs.declared.faults.WorldFault.{WorldFault};
 
 /// What every list of events makes of a world.
-pub fn known_headline()
+pub fn headline_holds()
     // A world that holds the winners of what events have made shows their runs.
     ensures headline { (plan : Plan) (count : ℕ) (events : List Event) (replies : List (Result Reply WorldFault)) →
         Headline plan count events replies (world_of_winners (world_of_events plan count events replies)) }

@@ -1,7 +1,7 @@
 //! A gate at which two workers wait for each other.
 
+use road_ends::OutOfMemory;
 use road_workers::Gate;
-use std::alloc::AllocError;
 use std::sync::Arc;
 use std::sync::atomic::{AtomicBool, AtomicU32, Ordering};
 use std::thread;
@@ -65,7 +65,7 @@ pub(crate) struct Shared<R>(Arc<Meeting<R>>);
 
 impl<R> Shared<R> {
     /// The same gate.
-    pub(crate) fn of(meeting: &Arc<Meeting<R>>) -> Result<Shared<R>, AllocError> {
+    pub(crate) fn of(meeting: &Arc<Meeting<R>>) -> Result<Shared<R>, OutOfMemory> {
         Ok(Shared(Arc::try_clone(meeting)?))
     }
 }

@@ -3,12 +3,10 @@
 use road_cells::Car;
 use road_delta::Head;
 use road_format::PlanLineFault::{Names, NotAPlan, NotJson, Plan};
-use road_format::{
-    Answer, Command, LineFault, PlanLineFault, Refusal, read_command, read_plan, reply_line,
-};
+use road_format::{Answer, Command, LineFault, OutOfMemory, PlanLineFault, Refusal, read_command, read_plan, reply_line};
 use road_plan::{Object, PlanFault, WordKind};
 use road_scenario::{Edit, Stamp, Value};
-use std::alloc::{AllocError, Global};
+use std::alloc::Global;
 use std::process::Abort;
 use std::test::Fail;
 use tests_plans::{FREE, Parts, reads};
@@ -58,7 +56,7 @@ fn reads_plan_lines(rt: HostRuntime) -> Result<(), Fail> {
 fn plan_fault(alloc: Global, line: &str) -> Result<Option<PlanLineFault>, Fail> {
     match read_plan(alloc, line.as_bytes()) {
         Ok(_) => Ok(None),
-        Err(PlanLineFault::OutOfMemory) => Err(AllocError)?,
+        Err(PlanLineFault::OutOfMemory) => Err(OutOfMemory)?,
         Err(fault) => Ok(Some(fault)),
     }
 }
@@ -67,7 +65,7 @@ fn plan_fault(alloc: Global, line: &str) -> Result<Option<PlanLineFault>, Fail> 
 fn command_fault(alloc: Global, line: &[u8]) -> Result<Option<LineFault>, Fail> {
     match read_command(alloc, line) {
         Ok(_) => Ok(None),
-        Err(LineFault::OutOfMemory) => Err(AllocError)?,
+        Err(LineFault::OutOfMemory) => Err(OutOfMemory)?,
         Err(fault) => Ok(Some(fault)),
     }
 }
@@ -572,7 +570,7 @@ const EXCHANGES: &[(&str, &str)] = &[
 fn is_read(rt: &impl Abort, alloc: Global, line: &str, want: &str) -> Result<(), Fail> {
     let read = read_command(alloc, line.as_bytes());
     if matches!(&read, Err(LineFault::OutOfMemory)) {
-        return Err(AllocError)?;
+        return Err(OutOfMemory)?;
     }
     let said = format!(in alloc; "{read:?}")?;
     assert_eq!(rt; said.as_str(), want, "{line}");

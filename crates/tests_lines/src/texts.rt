@@ -1,10 +1,10 @@
 //! The texts of the errors of plans, edits, crews and lines.
 
-use road_format::{LineFault, PlanLineFault};
+use road_format::{LineFault, OutOfMemory, PlanLineFault};
 use road_plan::PlanFault;
 use road_scenario::EditFault;
 use road_workers::CrewFault;
-use std::alloc::{AllocError, Global};
+use std::alloc::Global;
 use std::test::Fail;
 
 /// An error of a library.
@@ -79,7 +79,7 @@ const TEXTS: &[(Fault, &str)] = &[
 ];
 
 // The text of an error.
-fn text_of(alloc: Global, fault: Fault) -> Result<String, AllocError> {
+fn text_of(alloc: Global, fault: Fault) -> Result<String, OutOfMemory> {
     match fault {
         Fault::Plan(fault) => format!(in alloc; "{fault}"),
         Fault::Edit(fault) => format!(in alloc; "{fault}"),

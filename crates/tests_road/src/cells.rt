@@ -4,8 +4,8 @@ ghost use Rattle.std.specs.Prelude.{◌≡◌, IsTrue, IfOk};
 ghost use Rattle.std.specs.List.Sorted.{IsNonDecreasing};
 ghost use Rattle.road_cells.specs.Cars.{AreRising, cars_of};
 
-use road_cells::{Car, GREATEST_SPEED, Road, reached_blocks, reached_blocks_below};
-use std::alloc::{AllocError, Global};
+use road_cells::{Car, GREATEST_SPEED, OutOfMemory, Road, reached_blocks, reached_blocks_below};
+use std::alloc::Global;
 use std::process::Abort;
 use std::test::Fail;
 
@@ -28,7 +28,7 @@ const CARS: [Car; 3] = [
     },
 ];
 
-fn road_of(alloc: Global, cars: &[Car]) -> Result<Road, AllocError>
+fn road_of(alloc: Global, cars: &[Car]) -> Result<Road, OutOfMemory>
     requires { AreRising cars.now }
     ensures { IfOk result (λ road. cars_of road ≡ cars.now) }
 {

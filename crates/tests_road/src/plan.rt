@@ -1,7 +1,7 @@
 //! Plans worked out by hand: which are refused and by which fault, what a plan reads, and its own settings.
 
-use road_plan::{Object, Plan, PlanFault as Fault, Settings, WordKind};
-use std::alloc::{AllocError, Global};
+use road_plan::{Object, OutOfMemory, Plan, PlanFault as Fault, Settings, WordKind};
+use std::alloc::Global;
 use std::process::Abort;
 use std::test::Fail;
 use tests_plans::{FREE, Parts, parts_of, plan_of, reads};
@@ -413,7 +413,7 @@ const FAULTS: &[Judged] = &[
 ];
 
 // Each of these parts is refused by its fault, or accepted.
-fn are_judged(rt: &impl Abort, alloc: Global, table: &[Judged]) -> Result<(), AllocError> {
+fn are_judged(rt: &impl Abort, alloc: Global, table: &[Judged]) -> Result<(), OutOfMemory> {
     for (parts, fault) in table {
         let judged = Plan::new(parts_of(alloc, parts)?).err();
         assert_eq!(rt; judged, *fault, "{parts:?}");
@@ -502,7 +502,7 @@ fn have(settings: &Settings, (limits, chances, inflows, blocks, watched): &Numbe
 fn settings_of(
     alloc: Global,
     (limits, chances, inflows, blocks, watched): &Numbers,
-) -> Result<Settings, AllocError> {
+) -> Result<Settings, OutOfMemory> {
     Ok(Settings {
         limits: limits.to_vec(alloc)?,
         chances: chances.to_vec(alloc)?,

@@ -3,9 +3,9 @@
 use crate::rows::row_of;
 use road_cells::{Car, Road};
 use road_detector::{Totals, passes};
-use road_ends::{StepInput, enter, finish};
+use road_ends::{OutOfMemory, StepInput, enter, finish};
 use road_plan::{Plan, Settings, WordKind};
-use std::alloc::{AllocError, Global};
+use std::alloc::Global;
 use std::process::Abort;
 use std::sync::Arc;
 use std::test::Fail;
@@ -19,7 +19,7 @@ fn input_of(
     step: u32,
     road: &Road,
     on: bool,
-) -> Result<Arc<StepInput>, AllocError> {
+) -> Result<Arc<StepInput>, OutOfMemory> {
     let mut settings = Settings::of_plan(alloc, plan)?;
     if let Some(first) = settings.watched.first_mut() {
         *first = on;
@@ -93,7 +93,7 @@ fn step_counted(
     step: u32,
     road: &Road,
     on: bool,
-) -> Result<(Totals, Road), AllocError> {
+) -> Result<(Totals, Road), OutOfMemory> {
     let input = input_of(rt, alloc, plan, step, road, on)?;
     let speeds = input.speeds(alloc)?;
     let counts = counted(rt, &input, &speeds, 0);
@@ -107,7 +107,7 @@ fn total(
     alloc: Global,
     plan: &Arc<Plan>,
     count: &Count,
-) -> Result<Totals, AllocError> {
+) -> Result<Totals, OutOfMemory> {
     let mut road = Road::empty(alloc);
     let mut totals = Totals { cars: 0, speeds: 0 };
     for step in 0..count.steps.1 {

@@ -18,12 +18,12 @@ ghost use Rattle.road_detector.proofs.MarkedRow.{HasDigits};
 
 use road_cells::{Car, Road, is_blocked};
 use road_ends::laws::cars_stay_on_road;
-use road_ends::{BLOCKED, EMPTY, STANDING, leave};
+use road_ends::{BLOCKED, EMPTY, OutOfMemory, STANDING, leave};
 use road_plan::limits::MOST_INLETS;
 use road_plan::{Plan, Settings};
 use road_rules::{moved, slowed, wanted};
 use road_words::{PlanWords, Words};
-use std::alloc::{AllocError, Global};
+use std::alloc::Global;
 
 /// The stream of the first inlet's words; the others follow it.
 const FIRST_INLET_STREAM: u64 = 1 << 63;
@@ -82,7 +82,7 @@ fn entered(
     settings: &Settings,
     step: u32,
     road: &Road,
-) -> Result<Road, AllocError>
+) -> Result<Road, OutOfMemory>
     requires { Fits plan.now settings.now }
     ensures moving { IfOk result (λ moving. moving ≡ road_with_entries plan.now settings.now step road.now) }
     ensures on_road { IfOk result (λ moving. length moving ≤ plan.now.cells) }
@@ -134,7 +134,7 @@ fn speeds(
     settings: &Settings,
     step: u32,
     road: &Road,
-) -> Result<Vec<u8>, AllocError>
+) -> Result<Vec<u8>, OutOfMemory>
     requires fits { Fits plan.now settings.now }
     requires on_road { length road.now ≤ plan.now.cells }
     ensures { IfOk result (λ new. new.items ≡ speeds plan.now settings.now step road.now) }
@@ -153,7 +153,7 @@ fn next(
     settings: &Settings,
     step: u32,
     road: &Road,
-) -> Result<Road, AllocError>
+) -> Result<Road, OutOfMemory>
     requires fits { Fits plan.now settings.now }
     requires on_road { length road.now ≤ plan.now.cells }
     ensures { IfOk result (λ later. later ≡ road_after_motion plan.now settings.now step road.now) }
@@ -170,7 +170,7 @@ pub(crate) fn stepped(
     settings: &Settings,
     step: u32,
     road: &Road,
-) -> Result<Road, AllocError>
+) -> Result<Road, OutOfMemory>
     requires { Fits plan.now settings.now }
     ensures { IfOk result (λ later. later ≡ road_after_step plan.now settings.now step road.now) }
 {
@@ -179,7 +179,7 @@ pub(crate) fn stepped(
 }
 
 /// The road at a step of a plan that nobody edits, run from the empty road of step 0.
-pub(crate) fn run(alloc: Global, plan: &Plan, step: u32) -> Result<Road, AllocError>
+pub(crate) fn run(alloc: Global, plan: &Plan, step: u32) -> Result<Road, OutOfMemory>
     ensures { IfOk result (λ road. road ≡ run plan.now (λ _. defaults plan.now) step) }
 {
     plan.known_own_settings();
@@ -206,7 +206,7 @@ fn letter(blocks: &[u32], road: &Road, cell: u32) -> u8
 }
 
 // The road as a row of text, letter by letter.
-fn row_text(alloc: Global, length: u32, blocks: &[u32], road: &Road) -> Result<String, AllocError>
+fn row_text(alloc: Global, length: u32, blocks: &[u32], road: &Road) -> Result<String, OutOfMemory>
     requires rising { IsNonDecreasing blocks.now }
     requires digits { HasDigits road.now }
     ensures { IfOk result (λ text. string_bytes text ≡ row_of length blocks.now road.now) }
@@ -219,7 +219,7 @@ fn row_text(alloc: Global, length: u32, blocks: &[u32], road: &Road) -> Result<S
 }
 
 /// The row of text of a step of a plan that nobody edits.
-pub(crate) fn row(alloc: Global, plan: &Plan, step: u32) -> Result<String, AllocError>
+pub(crate) fn row(alloc: Global, plan: &Plan, step: u32) -> Result<String, OutOfMemory>
     ensures { IfOk result (λ text. string_bytes text ≡ row plan.now (λ _. defaults plan.now) step) }
 {
     plan.known_own_settings();

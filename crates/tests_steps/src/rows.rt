@@ -3,9 +3,10 @@
 ghost use Rattle.std.specs.Prelude.{◌↔◌, IsTrue};
 ghost use Rattle.road_detector.specs.Rows.{HaveDigits};
 
+use road_ends::OutOfMemory;
 use road_cells::{Car, Road};
 use road_detector::row_text;
-use std::alloc::{AllocError, Global};
+use std::alloc::Global;
 use std::process::Abort;
 
 // Whether each speed is a digit.
@@ -22,7 +23,7 @@ pub(crate) fn row_of(
     road: &Road,
     blocks: &[u32],
     length: u32,
-) -> Result<String, AllocError> {
+) -> Result<String, OutOfMemory> {
     assert!(rt; have_digits(road.cars()));
     row_text(alloc, road, blocks, length)
 }

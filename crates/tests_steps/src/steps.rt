@@ -3,9 +3,9 @@
 use crate::plain;
 use crate::rows::row_of;
 use road_cells::{Car, Road};
-use road_ends::{Meter, StepInput, enter, finish, step_alone};
+use road_ends::{Meter, OutOfMemory, StepInput, enter, finish, step_alone};
 use road_plan::{Plan, Settings, WordKind};
-use std::alloc::{AllocError, Global};
+use std::alloc::Global;
 use std::process::Abort;
 use std::sync::Arc;
 use std::test::Fail;
@@ -193,7 +193,7 @@ fn settings_of(
     plan: &Plan,
     example: &Example,
     step: u32,
-) -> Result<Settings, AllocError> {
+) -> Result<Settings, OutOfMemory> {
     let mut settings = Settings::of_plan(alloc, plan)?;
     if let Some(limit) = latest(example.lowered, step) {
         settings.limits = vec![in alloc; limit]?;
@@ -213,7 +213,7 @@ fn stepped(
     step: u32,
     road: &Road,
     meter: &mut Meter,
-) -> Result<Road, AllocError> {
+) -> Result<Road, OutOfMemory> {
     let settings = settings_of(alloc, plan, example, step)?;
     assert!(rt; settings.fits(plan));
     Ok(step_alone(alloc, plan, settings, step, road, meter)?.road)
@@ -227,7 +227,7 @@ fn drawn(
     example: &Example,
     step: u32,
     road: &Road,
-) -> Result<String, AllocError> {
+) -> Result<String, OutOfMemory> {
     let settings = settings_of(alloc, plan, example, step)?;
     row_of(rt, alloc, road, settings.blocks(), plan.length())
 }
@@ -327,14 +327,14 @@ fn input_of_step_one(
     alloc: Global,
     plan: &Arc<Plan>,
     road: &Road,
-) -> Result<Arc<StepInput>, AllocError> {
+) -> Result<Arc<StepInput>, OutOfMemory> {
     plan.known_own_settings();
     let settings = Settings::of_plan(alloc, plan)?;
     enter(alloc, plan, settings, 1, road)
 }
 
 // The cars after a step with this input.
-fn cars_after(alloc: Global, input: &Arc<StepInput>) -> Result<Vec<Car>, AllocError> {
+fn cars_after(alloc: Global, input: &Arc<StepInput>) -> Result<Vec<Car>, OutOfMemory> {
     let speeds = input.speeds(alloc)?;
     Ok(finish(alloc, input, &speeds)?.into_cars())
 }

@@ -1,8 +1,8 @@
 //! The texts of the errors of replicas and worlds.
 
 use road_replica::ReplicaFault;
-use road_world::{PlayFault, WorldFault};
-use std::alloc::{AllocError, Global};
+use road_world::{OutOfMemory, PlayFault, WorldFault};
+use std::alloc::Global;
 use std::test::Fail;
 
 const TEXTS: &[(WorldFault, &str)] = &[
@@ -59,7 +59,7 @@ const TEXTS: &[(WorldFault, &str)] = &[
 ];
 
 // The text of a world's error.
-fn text_of(alloc: Global, fault: WorldFault) -> Result<String, AllocError> {
+fn text_of(alloc: Global, fault: WorldFault) -> Result<String, OutOfMemory> {
     format!(in alloc; "{fault}")
 }
 

@@ -27,11 +27,6 @@ abbrev pub last_number : ℕ → RegistersByStep → Option ℕ
 last_number step [] = None
 last_number step (e ∷ es) = option_or (last_number step es) (entry_number step e)
 
--- the last number that the registers of an object put
-abbrev pub last_number_of : RegistersByStep → Option ℕ
-last_number_of [] = None
-last_number_of (e ∷ es) = option_or (last_number_of es) (register_number e.1)
-
 -- all settings with one number put
 abbrev pub settings_with_number : Settings → Object → ℕ → Settings
 settings_with_number s (Limit zone) n = record s { limits = slice_set s.limits zone n }

@@ -1,10 +1,10 @@
 -- Results that have come from the workers of a pool.
-use Rattle.std.specs.Prelude.{◌≡◌, ℕ, ◌+◌, ◌<◌, List, length, slice_index_or, Vec, Result, IfOk, IfSome}
+use Rattle.std.specs.Prelude.{◌≡◌, ℕ, ◌<◌, List, length, slice_index_or, Vec, Result, IfOk, IfSome}
 use Rattle.std.specs.declared.option.Option.{Option}
 use Rattle.std.specs.declared.alloc.Global.{Global}
 use Rattle.std.specs.declared.alloc.AllocError.{AllocError}
 use Rattle.road_ends.specs.Input.{StepInput}
-use Rattle.road_workers.specs.Pieces.{speeds_of_worker}
+use Rattle.road_workers.specs.Private.Pieces.{speeds_of_worker}
 
 -- what a worker answered: the speeds of its piece, or want of memory
 abbrev pub PieceAnswer : Type 0
@@ -18,8 +18,3 @@ IsAnswerOf input n w answer = IfOk answer (λ new. new.items ≡ speeds_of_worke
 abbrev pub AreGathered : StepInput → List (Option PieceAnswer) → Type 0
 AreGathered input places = (w : ℕ) (d : Option PieceAnswer) → w < length places
     → IfSome (slice_index_or places w d) (IsAnswerOf input (length places) w)
-
--- so are the places from that of worker w on, of n workers
-abbrev pub AreGatheredFrom : StepInput → ℕ → ℕ → List (Option PieceAnswer) → Type 0
-AreGatheredFrom input n w places = (k : ℕ) (d : Option PieceAnswer) → k < length places
-    → IfSome (slice_index_or places k d) (IsAnswerOf input n (w + k))

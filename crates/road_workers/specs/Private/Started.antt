@@ -3,7 +3,7 @@ use Rattle.std.specs.Prelude.{◌≡◌, ℕ, ◌+◌, ◌<◌, ◌≤◌, List,
 use Rattle.std.specs.declared.thread.PromisedHandle.{PromisedHandle}
 use Rattle.road_cells.specs.Cars.{cars_of}
 use Rattle.road_ends.specs.Input.{StepInput}
-use Rattle.road_workers.specs.Pieces.{piece_start}
+use Rattle.road_workers.specs.Private.Pieces.{piece_start}
 use Rattle.road_workers.specs.declared.scoped.SpeedsOf.{SpeedsOf}
 
 -- what was promised is the piece of worker w of this input, of n workers

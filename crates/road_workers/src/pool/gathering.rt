@@ -5,7 +5,7 @@ ghost use Rattle.std.specs.Arc.{arc_value};
 ghost use Rattle.road_plan.specs.declared.limits.TheConstants.{MOST_WORKERS, GREATEST_LENGTH};
 ghost use Rattle.road_cells.specs.Cars.{cars_of};
 ghost use Rattle.road_ends.specs.Input.{input_speeds};
-ghost use Rattle.road_workers.specs.Pieces.{piece_start};
+ghost use Rattle.road_workers.specs.Private.Pieces.{piece_start};
 ghost use Rattle.road_workers.specs.Private.Gathered.{AreGathered};
 
 use crate::faults::CrewFault;

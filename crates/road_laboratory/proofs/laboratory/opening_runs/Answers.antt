@@ -3,7 +3,7 @@ use Rattle.std.proofs.Common.{◌+◌, ◌∙◌, length, List, ap, sym, subst}
 use Rattle.std.specs.List.{All}
 use Rattle.std.proofs.lemmas.List.{length-append}
 use Rattle.std.proofs.lemmas.List.Elements.{All-push}
-use Rattle.road_laboratory.specs.Keeping.{IsKeptOf}
+use Rattle.road_laboratory.specs.Private.Keeping.{IsKeptOf}
 use Rattle.road_laboratory.specs.declared.kept.KeptRun.{KeptRun}
 use Rattle.road_laboratory.proofs.laboratory.opening_runs.Goals as goal
 

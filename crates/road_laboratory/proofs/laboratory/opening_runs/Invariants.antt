@@ -3,7 +3,7 @@ use Rattle.std.proofs.Common.{◌≡◌, length}
 use Rattle.std.specs.Arc.{arc_value}
 use Rattle.std.specs.List.{All}
 use Rattle.road_sheet.specs.Sheets.{Sheet}
-use Rattle.road_laboratory.specs.Keeping.{IsKeptOf}
+use Rattle.road_laboratory.specs.Private.Keeping.{IsKeptOf}
 use Rattle.road_laboratory.proofs.laboratory.opening_runs.Given as goal
 
 -- so many runs so far, of which nothing is computed

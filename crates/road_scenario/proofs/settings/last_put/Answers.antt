@@ -1,7 +1,7 @@
 -- Going back from a step, the first number that is met is the last one put.
 use Rattle.std.proofs.Common.{sym, ap, ◌∙◌}
-use Rattle.road_scenario.specs.Private.RegisterWalks.{last_number, last_number_of}
-use Rattle.road_scenario.proofs.LastNumbers.{last-up_to, last_found, last_further}
+use Rattle.road_scenario.specs.Private.RegisterWalks.{last_number}
+use Rattle.road_scenario.proofs.LastNumbers.{last-up_to, last_found, last_further, last_number_of}
 use Rattle.road_scenario.proofs.settings.last_put.Goals as goal
 
 pub loop-won-init : goal.loop-won-init

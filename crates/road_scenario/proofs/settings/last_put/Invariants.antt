@@ -1,6 +1,7 @@
 -- The registers of an object are walked back from a step until one puts a number.
 use Rattle.std.proofs.Common.{◌≡◌, length}
-use Rattle.road_scenario.specs.Private.RegisterWalks.{last_number, last_number_of}
+use Rattle.road_scenario.specs.Private.RegisterWalks.{last_number}
+use Rattle.road_scenario.proofs.LastNumbers.{last_number_of}
 use Rattle.road_scenario.proofs.settings.last_put.Given as goal
 
 -- the last number of what is left is the one sought

@@ -1,7 +1,8 @@
 -- All shares of the ledger count as many writes as the journal has entries, so it is just what the sessions wrote.
 use Rattle.std.proofs.Common.{◌≡◌, List, length, sym, ap, subst, arith, refl}
 use Rattle.std.specs.List.{AllByRecursion}
-use Rattle.road_sessions.specs.Closings.{AreApart, Brings, IsJust, write_count}
+use Rattle.road_sessions.specs.Closings.{AreApart, IsJust, write_count}
+use Rattle.road_sessions.specs.Private.ClosingSeats.{Brings}
 use Rattle.road_sessions.specs.Seats.{Seat}
 use Rattle.road_sessions.specs.declared.entry.Entry.{Entry}
 use Rattle.road_sessions.proofs.ClosedSessions.{just}

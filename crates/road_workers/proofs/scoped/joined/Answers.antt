@@ -3,7 +3,7 @@ use Rattle.std.proofs.Common.{rules, arith, ◌≡◌, ◌≤◌, ◌+◌, lengt
 use Rattle.std.proofs.lemmas.List.{length-append}
 use Rattle.road_cells.specs.Cars.{cars_of}
 use Rattle.road_ends.specs.Input.{input_speeds, input_speeds_between}
-use Rattle.road_workers.specs.Pieces.{piece_start}
+use Rattle.road_workers.specs.Private.Pieces.{piece_start}
 use Rattle.road_workers.specs.Private.Started.{IsOfWorker}
 use Rattle.road_workers.proofs.scoped.joined.Goals as goal
 

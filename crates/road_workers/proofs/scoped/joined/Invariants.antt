@@ -3,7 +3,7 @@ use Rattle.std.proofs.Common.{◌≡◌, ◌+◌, length, take, vec_len, IfOk}
 use Rattle.std.specs.Vec.Iter.{into_iter_items, into_iter_len}
 use Rattle.road_cells.specs.Cars.{cars_of}
 use Rattle.road_ends.specs.Input.{input_speeds}
-use Rattle.road_workers.specs.Pieces.{piece_start}
+use Rattle.road_workers.specs.Private.Pieces.{piece_start}
 use Rattle.road_workers.specs.Private.Started.{AreStartedFrom}
 use Rattle.road_workers.proofs.scoped.joined.Given as goal
 

@@ -5,7 +5,7 @@ use Rattle.std.specs.Vec.Iter.{into_iter_items}
 use Rattle.std.proofs.lemmas.List.{length-append}
 use Rattle.road_cells.specs.Cars.{cars_of}
 use Rattle.road_ends.specs.Input.{input_speeds}
-use Rattle.road_workers.specs.Pieces.{piece_start}
+use Rattle.road_workers.specs.Private.Pieces.{piece_start}
 use Rattle.road_workers.specs.Private.Gathered.{IsAnswerOf}
 use Rattle.road_workers.proofs.PiecesInOrder.{pieces_rise, whole_step}
 use Rattle.road_workers.proofs.pool.gathering.put_together.Goals as goal

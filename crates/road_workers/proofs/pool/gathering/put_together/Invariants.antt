@@ -3,8 +3,8 @@ use Rattle.std.proofs.Common.{◌≡◌, ◌+◌, length, take, vec_len, IfOk}
 use Rattle.std.specs.Vec.Iter.{into_iter_items, into_iter_len}
 use Rattle.road_cells.specs.Cars.{cars_of}
 use Rattle.road_ends.specs.Input.{input_speeds}
-use Rattle.road_workers.specs.Pieces.{piece_start}
-use Rattle.road_workers.specs.Private.Gathered.{AreGatheredFrom}
+use Rattle.road_workers.specs.Private.Pieces.{piece_start}
+use Rattle.road_workers.proofs.PiecesInOrder.{AreGatheredFrom}
 use Rattle.road_workers.proofs.pool.gathering.put_together.Given as goal
 
 abbrev pub invariant-loop-place : goal.invariant-loop-place

@@ -2,7 +2,7 @@
 use Rattle.std.proofs.Common.{arith, ◌≡◌, ◌∙◌, ap, length, take, vec_len}
 use Rattle.road_cells.specs.Cars.{cars_of}
 use Rattle.road_ends.specs.Input.{input_speeds}
-use Rattle.road_workers.specs.Pieces.{piece_start}
+use Rattle.road_workers.specs.Private.Pieces.{piece_start}
 use Rattle.road_workers.proofs.PiecesInOrder.{whole_step}
 use Rattle.road_workers.proofs.scoped.fn.speeds_by.scope.Goals as goal
 

@@ -3,7 +3,7 @@ use Rattle.std.proofs.Common.{refl}
 use Rattle.road_world.specs.Events.{world_of_events, world_of_winners}
 use Rattle.road_world.proofs.FreshStamps.{stamps_are_fresh}
 use Rattle.road_world.proofs.HeadlineOfWinners.{headline}
-use Rattle.road_world.proofs.laws.known_headline.Goals as goal
+use Rattle.road_world.proofs.laws.headline_holds.Goals as goal
 
 pub returns : goal.returns
 returns c = record {
