@@ -28,7 +28,8 @@ is_slowed p s t zone car = has_event (word p.words car.number t) (slice_index s.
 -- (Nagel and Schreckenberg 1992)
 abbrev pub speed : Plan → Settings → ℕ → Array → ℕ → Vehicle → ℕ
 speed p s t a c car =
-    slowed_speed (wanted_speed car.speed (slice_index s.limits (zone_of p c)) (gap p s a c)) (is_slowed p s t (zone_of p c) car)
+    slowed_speed (wanted_speed car.speed (slice_index s.limits (zone_of p c)) (gap p s a c))
+    (is_slowed p s t (zone_of p c) car)
 
 -- the k-th car, counted from 0
 abbrev pub nth_car : List Car → ℕ → Car

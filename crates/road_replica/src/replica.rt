@@ -372,7 +372,8 @@ impl Replica {
         requires fits { AreInRange self.old.sheet.plan scenario.now }
         requires within_limit { to ≤ GREATEST_HORIZON }
         ensures touched { IfOk result (λ touched. touched ≡ touched_step self.old.sheet scenario.now) }
-        ensures sheet { OnOk result (self.new ≡ record self.old { sheet = grown_sheet self.old.sheet scenario.now to }) }
+        ensures sheet { OnOk result (self.new
+            ≡ record self.old { sheet = grown_sheet self.old.sheet scenario.now to }) }
         ensures refused { IfErr result (IsWriteRefusal None) }
         ensures unchanged { OnErr result (self.new ≡ self.old) }
         ensures new_steps { IfOk result (λ _.

@@ -34,7 +34,8 @@ pub fn winners_decide()
     // The winners of a list give the same settings in whatever order they stand.
     ensures listed { (plan : Plan) (edits : List Edit) (step : ℕ) →
         settings_in plan (winners_in edits) step ≡ settings_of plan (from_list edits) step }
-    ensures touched { (edits others : Edits) → first_touched_step (winners edits) (winners others) ≡ first_touched_step edits others }
+    ensures touched { (edits others : Edits) →
+        first_touched_step (winners edits) (winners others) ≡ first_touched_step edits others }
     ensures count { (edits : Edits) → greatest_count (winners edits) ≡ greatest_count edits }
 {}
 

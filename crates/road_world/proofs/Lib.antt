@@ -7,5 +7,6 @@ pub mod HeadlineOfWinners
 pub mod PlayedEvents
 pub mod KeptWorlds
 pub mod EventAnswers
+pub mod LocalEdits
 pub mod ListedWorlds
 pub mod Examples
