@@ -17,7 +17,7 @@ mod working;
 use crate::crew::{Crew, gone_after};
 use crate::faults::CrewFault;
 use crate::gate::{Gate, NoGate};
-use crate::piece::{PieceAnswer, Piece, cars_in, list_for};
+use crate::piece::{Piece, PieceAnswer, cars_in, list_for};
 use crate::pool::gathering::{is_taken, places_for, put_together};
 use crate::pool::job::{Done, Job};
 use crate::pool::waiting::{looks_of, stay_awake};

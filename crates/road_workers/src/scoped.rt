@@ -12,7 +12,7 @@ ghost use Rattle.road_workers.specs.Private.Started.{AreStartedFrom};
 use crate::crew::{Crew, gone_after};
 use crate::faults::CrewFault;
 use crate::gate::Gate;
-use crate::piece::{PieceAnswer, Piece, appended, cars_in, list_for};
+use crate::piece::{Piece, PieceAnswer, appended, cars_in, list_for};
 use road_ends::{OutOfMemory, StepInput};
 use std::alloc::Global;
 use std::marker::Model;

@@ -71,7 +71,8 @@ Headline plan count events replies world = ShowsRuns plan count (replica_after_e
 -- It stands on these definitions, in reading order:
 --   the plan: `Plan`, `Settings`, the objects and their defaults (road_plan), `word` (road_words);
 --   the road: `Array` (road_cells), `wanted_speed`, `slowed_speed` and the motion (road_rules), then
---   `road_with_entries`, `gap`, `speed`, `road_after_step` and `run` (road_ends), and `row` and `total` (road_detector);
+--   `road_with_entries`, `gap`, `speed`, `road_after_step` and `run` (road_ends), and `row` and `total`
+--   (road_detector);
 --   edits: `Sets` (lattice_core), `Edits`, `winners`, `settings_of`, `first_touched_step` (road_scenario), `heads`,
 --   `beyond` (road_delta);
 --   what is shown: `run_at`, `rows_at`, `total_at`, `Sheet` (road_sheet), `local_edit` and the refusals (road_replica);

@@ -3,7 +3,10 @@
 use road_cells::Car;
 use road_delta::Head;
 use road_format::PlanLineFault::{Names, NotAPlan, NotJson, Plan};
-use road_format::{Answer, Command, LineFault, OutOfMemory, PlanLineFault, Refusal, read_command, read_plan, reply_line};
+use road_format::{
+    Answer, Command, LineFault, OutOfMemory, PlanLineFault, Refusal, read_command, read_plan,
+    reply_line,
+};
 use road_plan::{Object, PlanFault, WordKind};
 use road_scenario::{Edit, Stamp, Value};
 use std::alloc::Global;

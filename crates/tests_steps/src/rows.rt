@@ -3,9 +3,9 @@
 ghost use Rattle.std.specs.Prelude.{◌↔◌, IsTrue};
 ghost use Rattle.road_detector.specs.Rows.{HaveDigits};
 
-use road_ends::OutOfMemory;
 use road_cells::{Car, Road};
 use road_detector::row_text;
+use road_ends::OutOfMemory;
 use std::alloc::Global;
 use std::process::Abort;
 

@@ -9,7 +9,7 @@ ghost use Rattle.road_workers.specs.Private.Pieces.{piece_start};
 ghost use Rattle.road_workers.specs.Private.Gathered.{AreGathered};
 
 use crate::faults::CrewFault;
-use crate::piece::{PieceAnswer, Piece, appended};
+use crate::piece::{Piece, PieceAnswer, appended};
 use crate::pool::job::Done;
 use road_ends::{OutOfMemory, StepInput};
 use std::alloc::Global;

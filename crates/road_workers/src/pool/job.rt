@@ -6,7 +6,7 @@ ghost use Rattle.std.proofs.Props.{props};
 ghost use Rattle.road_cells.specs.Cars.{cars_of};
 ghost use Rattle.road_ends.specs.Input.{input_speeds_between};
 
-use crate::piece::{PieceAnswer, Piece};
+use crate::piece::{Piece, PieceAnswer};
 use road_ends::StepInput;
 use std::alloc::Global;
 use std::sync::Arc;
