@@ -50,7 +50,7 @@ fn only_number(field: &str, fields: &Value) -> Option<u32>
 // The `edit` at a replica, of exactly its fields.
 #[tactic(auto, unfolding(crate::specs::CommandGrammar::edit_command_in))]
 fn edit_in(at: String, fields: &Value) -> Option<Command>
-    ensures { option_map command_view result ≡ grammar.edit_in (string_bytes at) (view fields.now) }
+    ensures { option_map command_view result ≡ grammar.edit_command_in (string_bytes at) (view fields.now) }
 {
     if !has_fields(4, fields) {
         return None;

@@ -15,7 +15,7 @@ use crate::parts::PlanParts;
 
 // The first fault of these parts, in the order of `PlanFault`. Takes no memory.
 pub(crate) fn first_fault(parts: &PlanParts) -> Option<PlanFault>
-    ensures { result ≡ refusals.fault_of (plan_of parts.now) }
+    ensures { result ≡ refusals.fault_of_plan (plan_of parts.now) }
 {
     if !has_length(parts) {
         return Some(PlanFault::Length);

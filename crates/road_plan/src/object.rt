@@ -25,7 +25,7 @@ pub enum Object {
 impl Object {
     /// Whether the plan has the zone, cell, inlet or detector. A blocked cell may be any cell of the road.
     pub fn in_plan(self, plan: &Plan) -> bool
-        ensures { result ≡ objects.in_plan plan.now self }
+        ensures { result ≡ objects.is_in_plan plan.now self }
     {
         match self {
             Object::Limit(zone) | Object::Slow(zone) => (zone as usize) < plan.zones().len(),
@@ -50,7 +50,7 @@ impl Object {
     /// What it is where nothing is put: the plan's number, no block, and a detector that is on. The plan must have the
     /// object.
     pub fn default(self, plan: &Plan) -> u32
-        requires { objects.in_plan plan.now self ≡ true }
+        requires { objects.is_in_plan plan.now self ≡ true }
         ensures { result ≡ objects.default plan.now self }
     {
         match self {

@@ -66,7 +66,7 @@ impl Edit {
     /// Its first fault in the order of `EditFault`, where it does not fit the plan; none where it does. It takes no
     /// memory.
     pub fn fault(&self, plan: &Plan) -> Option<EditFault>
-        ensures { result ≡ faults.fault_of plan.now self.now }
+        ensures { result ≡ faults.fault_of_edit plan.now self.now }
     {
         if !self.object.in_plan(plan) {
             Some(EditFault::NoObject)
