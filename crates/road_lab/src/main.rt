@@ -1,21 +1,7 @@
 //! The program `road_lab`: it reads a plan line and then commands, one JSON object a line, and writes a reply for each.
 #![tactic(auto)]
 
-mod arguments;
-mod dialogue;
-mod faults;
-mod laws;
-mod memory;
-mod run;
-mod serve;
-mod std_streams;
-mod streams;
-#[cfg(test)]
-mod tests;
-mod waiting;
-
-use crate::run::{Ended, run};
-use crate::std_streams::{StdSink, StdSource};
+use road_dialogue::{Ended, StdSink, StdSource, run};
 use std::process::ExitCode;
 use std::{env, io};
 

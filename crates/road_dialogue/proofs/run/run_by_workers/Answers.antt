@@ -1,0 +1,19 @@
+-- A crew that does not start ends the program before it has read or written anything.
+use Rattle.std.proofs.Common.{Err, sym, subst}
+use Rattle.road_plan.specs.declared.limits.TheConstants.{MOST_LINES, MOST_BYTES}
+use Rattle.road_dialogue.specs.Run.{AnswersInput, program_run}
+use Rattle.road_dialogue.specs.StreamViews.{source_view, sink_view}
+use Rattle.road_dialogue.specs.declared.faults.ServeFault.{ServeFault}
+use Rattle.road_dialogue.proofs.RunEnds.{not_manned}
+use Rattle.road_dialogue.proofs.run.run_by_workers.Goals as goal
+
+pub returns-in-Err : goal.returns-in-Err
+returns-in-Err g c =
+    let source = source_view g.R.Source c.args.reader.now in
+    let sink = sink_view g.W.Sink c.args.writer.now in (
+      Err c.from.result,
+      record {
+        status = c.after_fault.ensures;
+        answers = subst (λ (f : ServeFault). AnswersInput (program_run source source sink sink (Err f))) (sym c.from.ensures) (not_manned MOST_LINES MOST_BYTES source sink c.in-Err.fault);
+      },
+    )

@@ -1,0 +1,180 @@
+//! A source and a sink over memory, which know their bytes and can be made to fail.
+
+ghost use Rattle.std.specs.Prelude.{◌≡◌, ◌≤◌, ◌<◌, Some, drop, length};
+ghost use Rattle.road_dialogue.specs.Private.Failing.{is_failing};
+
+use crate::faults::{ReadFailed, WriteFailed};
+use crate::streams::{Sink, Source};
+
+/// Which calls fail. They are counted from 0.
+#[derive(Clone, Copy, Debug)]
+pub enum Failing {
+    /// None.
+    Never,
+    /// That call alone: those after it succeed.
+    Once(u64),
+    /// That call and all after it.
+    From(u64),
+}
+
+impl Failing {
+    // Whether this call fails.
+    fn fails(self, call: u64) -> bool
+        ensures { result ≡ is_failing self call }
+    {
+        match self {
+            Failing::Never => false,
+            Failing::Once(failed) => call == failed,
+            Failing::From(first) => call >= first,
+        }
+    }
+}
+
+// Calls of one kind: how many there were, and which fail.
+#[derive(Drop)]
+struct Calls {
+    made: u64,
+    failing: Failing,
+}
+
+impl Calls {
+    // Whether the next call fails. It is counted.
+    fn next_fails(&mut self) -> bool
+        ensures { result ≡ is_failing self.old.failing self.old.made }
+    {
+        let fails = self.failing.fails(self.made);
+        self.made = self.made.saturating_add(1);
+        fails
+    }
+}
+
+/// Gives these bytes, at most `step` of them at a call.
+#[derive(Drop)]
+pub struct MemorySource<'a> {
+    bytes: &'a [u8],
+    place: usize,
+    step: usize,
+    reads: Calls,
+    at_end: bool,
+    failures: u64,
+    ghost inside: { place ≤ length bytes.now },
+    ghost moves: { 0 < step },
+}
+
+impl<'a> MemorySource<'a> {
+    /// The source of these bytes. Its step is above 0.
+    pub fn new(bytes: &'a [u8], step: usize, failing: Failing) -> MemorySource<'a>
+        requires { 0 < step }
+        ensures remaining { ⟦<MemorySource<'a> as Source>⟧.remaining result ≡ Some bytes.now }
+        ensures failures { ⟦<MemorySource<'a> as Source>⟧.failures result ≡ 0 }
+        ensures step { result.step ≡ step }
+        ensures failing { result.reads.failing ≡ failing }
+    {
+        MemorySource {
+            bytes,
+            place: 0,
+            step,
+            reads: Calls { made: 0, failing },
+            at_end: false,
+            failures: 0,
+        }
+    }
+}
+
+impl<'a> Source for MemorySource<'a> {
+    ghost remaining = { λ source. Some (drop source.place source.bytes.now) };
+
+    ghost at_end = { λ source. source.at_end };
+
+    ghost failures = { λ source. source.failures };
+
+    fn read(&mut self, piece: &mut [u8]) -> Result<usize, ReadFailed> {
+        if self.reads.next_fails() {
+            self.at_end = false;
+            self.failures = self.failures.saturating_add(1);
+            return Err(ReadFailed);
+        }
+        let left = self.bytes.len() - self.place;
+        let count = left.min(self.step).min(piece.len());
+        let next = &self.bytes[self.place..self.place + count];
+        piece[..count].copy_from_slice(next);
+        self.place += count;
+        self.at_end = count == 0;
+        Ok(count)
+    }
+}
+
+/// Keeps what it takes, at most `room` bytes in all: a write past them fails.
+#[derive(Drop)]
+pub struct MemorySink {
+    bytes: Vec<u8>,
+    room: usize,
+    writes: Calls,
+    flushes: Calls,
+    flushed: bool,
+    failures: u64,
+}
+
+impl MemorySink {
+    /// The sink that goes on from these bytes. Its writes and its flushes are counted apart.
+    pub fn new(bytes: Vec<u8>, room: usize, writes: Failing, flushes: Failing) -> MemorySink
+        ensures contents { ⟦<MemorySink as Sink>⟧.contents result ≡ Some bytes.items }
+        ensures failures { ⟦<MemorySink as Sink>⟧.failures result ≡ 0 }
+        ensures room { result.room ≡ room }
+        ensures writes { result.writes.failing ≡ writes }
+        ensures flushes { result.flushes.failing ≡ flushes }
+    {
+        MemorySink {
+            bytes,
+            room,
+            writes: Calls {
+                made: 0,
+                failing: writes,
+            },
+            flushes: Calls {
+                made: 0,
+                failing: flushes,
+            },
+            flushed: false,
+            failures: 0,
+        }
+    }
+
+    /// The bytes that were taken, and those from which the sink went on.
+    pub fn bytes(&self) -> &[u8]
+        ensures { ⟦<MemorySink as Sink>⟧.contents self.now ≡ Some result.now }
+    {
+        self.bytes.as_slice()
+    }
+}
+
+impl Sink for MemorySink {
+    ghost contents = { λ sink. Some sink.bytes.items };
+
+    ghost flushed = { λ sink. sink.flushed };
+
+    ghost failures = { λ sink. sink.failures };
+
+    fn write(&mut self, piece: &[u8]) -> Result<usize, WriteFailed> {
+        self.flushed = false;
+        let count = piece.len().min(self.room);
+        if self.writes.next_fails()
+            || count == 0
+            || self.bytes.extend_from_slice(&piece[..count]).is_err()
+        {
+            self.failures = self.failures.saturating_add(1);
+            return Err(WriteFailed);
+        }
+        self.room -= count;
+        Ok(count)
+    }
+
+    fn flush(&mut self) -> Result<(), WriteFailed> {
+        self.flushed = !self.flushes.next_fails();
+        if !self.flushed {
+            self.failures = self.failures.saturating_add(1);
+            return Err(WriteFailed);
+        }
+        Ok(())
+    }
+}

@@ -1,0 +1,133 @@
+//! Reads an input, and writes its replies.
+
+ghost use Rattle.std.specs.Prelude.{◌≡◌, ◌++◌, ℕ, List, [], length, min, take, true, None};
+ghost use Rattle.road_dialogue.specs.Dialogue.{HasAnswered};
+ghost use Rattle.road_dialogue.specs.Faults.{gone_after_call};
+ghost use Rattle.road_dialogue.specs.Run.{AnswersInput, program_run};
+ghost use Rattle.road_dialogue.specs.StreamViews.{SinkView, source_view, sink_view};
+
+use crate::dialogue::Dialogue;
+use crate::faults::ServeFault;
+use crate::streams::{Sink, Source};
+use road_plan::limits::{MOST_BYTES, MOST_LINES};
+use road_workers::Crew;
+use std::alloc::Global;
+
+// How many bytes are read at once, at most.
+const PIECE: usize = 16_384;
+
+/// A run that went well.
+#[derive(Debug, Drop)]
+pub struct Served {
+    /// How many replies there were after the plan line's.
+    pub lines: u32,
+}
+
+/// Reads an input to its end, and writes the reply to each of its lines. At most 1,000,000 lines after the plan line
+/// are read, and at most 2^32 bytes. The crew computes the speeds of the steps that are simulated.
+///
+/// # Errors
+///
+/// `BadPlan` where the plan line is refused, `TooMany` where it is not and a byte stands past the limits: then the
+/// replies are written whole. `Read` where the source failed: then the replies to all lines that were read whole are
+/// written. `Write` where the sink failed, `WorkersGone` where the crew did, `OutOfMemory` where a growth was refused:
+/// then what was written begins the replies.
+pub fn serve<R: Source, W: Sink, C: Crew>(
+    alloc: Global,
+    reader: &mut R,
+    writer: &mut W,
+    crew: &mut C,
+) -> Result<Served, ServeFault>
+    ensures answers { AnswersInput (program_run (source_view R.Source reader.old) (source_view R.Source reader.new)
+        (sink_view W.Sink writer.old) (sink_view W.Sink writer.new) result) }
+    ensures gone { C.gone crew.new ≡ gone_after_call result (C.gone crew.old) }
+{
+    serve_within(alloc, reader, writer, crew, MOST_LINES, MOST_BYTES)
+}
+
+/// As `serve`, with at most so many lines after the plan line, and at most so many bytes.
+///
+/// # Errors
+///
+/// As for `serve`.
+pub fn serve_within<R: Source, W: Sink, C: Crew>(
+    alloc: Global,
+    reader: &mut R,
+    writer: &mut W,
+    crew: &mut C,
+    lines: u32,
+    bytes: u64,
+) -> Result<Served, ServeFault>
+    ensures answers { AnswersInput (record {
+      most_lines = lines;
+      most_bytes = bytes;
+      source_before = source_view R.Source reader.old;
+      source_after = source_view R.Source reader.new;
+      sink_before = sink_view W.Sink writer.old;
+      sink_after = sink_view W.Sink writer.new;
+      result = result;
+    }) }
+    ensures gone { C.gone crew.new ≡ gone_after_call result (C.gone crew.old) }
+{
+    let mut dialogue = Dialogue::new(alloc, lines);
+    answer_input(alloc, reader, writer, crew, &mut dialogue, lines, bytes)
+}
+
+// Reads an input to its end into a dialogue to which nothing has come, and writes the replies.
+//
+// The dialogue is lent: each way out of the function that owns it drops it, and for each such drop the prover goes
+// through all that a laboratory holds.
+fn answer_input<R: Source, W: Sink, C: Crew>(
+    alloc: Global,
+    reader: &mut R,
+    writer: &mut W,
+    crew: &mut C,
+    dialogue: &mut Dialogue,
+    lines: u32,
+    bytes: u64,
+) -> Result<Served, ServeFault>
+    requires none_came { (first : SinkView) → HasAnswered lines [] first first dialogue.old }
+    requires going { dialogue.old.over ≡ None }
+    requires none_wait { dialogue.old.waiting.items ≡ [] }
+    ensures answers { AnswersInput (record {
+      most_lines = lines;
+      most_bytes = bytes;
+      source_before = source_view R.Source reader.old;
+      source_after = source_view R.Source reader.new;
+      sink_before = sink_view W.Sink writer.old;
+      sink_after = sink_view W.Sink writer.new;
+      result = result;
+    }) }
+    ensures gone { C.gone crew.new ≡ gone_after_call result (C.gone crew.old) }
+{
+    let mut buffer = [0u8; PIECE];
+    let mut room = bytes;
+    loop {
+        let count = reader.read(&mut buffer)?;
+        if count == 0 {
+            dialogue.finish(alloc, writer, crew)?;
+            if let Some(end) = dialogue.over {
+                return Err(end.fault());
+            }
+            return Ok(Served {
+                lines: lines.saturating_sub(dialogue.left),
+            });
+        }
+        let within = fitting(room, count);
+        dialogue.take(alloc, writer, &buffer[..within], crew)?;
+        if let Some(end) = dialogue.over {
+            return Err(end.fault());
+        }
+        if within < count {
+            return Err(ServeFault::TooMany);
+        }
+        room -= count as u64;
+    }
+}
+
+// How many of these bytes are within the limit.
+fn fitting(room: u64, bytes: usize) -> usize
+    ensures { result ≡ min room bytes }
+{
+    room.min(bytes as u64) as usize
+}

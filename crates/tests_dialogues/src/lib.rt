@@ -1,0 +1,5 @@
+//! Tests of dialogues.
+#![tactic(auto)]
+
+#[cfg(test)]
+mod runs;
