@@ -21,7 +21,7 @@ use Rattle.road_dialogue.specs.declared.faults.EarlyEnd.{EarlyEnd}
 use Rattle.road_dialogue.specs.declared.faults.EarlyEnd.TheVariants as ends
 use Rattle.road_dialogue.specs.declared.faults.ServeFault.{ServeFault}
 use Rattle.road_dialogue.specs.declared.faults.ServeFault.TheVariants as faults
-use Rattle.road_dialogue.specs.declared.serve.Served.{Served}
+use Rattle.road_dialogue.specs.declared.serving.Served.{Served}
 use Rattle.road_dialogue.proofs.AnswersGrow.{few_lines}
 use Rattle.road_dialogue.proofs.DialogueSteps.{goes_on}
 use Rattle.road_dialogue.proofs.DialogueCalls.{stops_same}

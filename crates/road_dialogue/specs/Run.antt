@@ -7,7 +7,7 @@ use Rattle.road_dialogue.specs.Failures.{RisesByOne}
 use Rattle.road_dialogue.specs.StreamViews.{SourceView, SinkView, Stops}
 use Rattle.road_dialogue.specs.declared.faults.ServeFault.{ServeFault}
 use Rattle.road_dialogue.specs.declared.faults.ServeFault.TheVariants as faults
-use Rattle.road_dialogue.specs.declared.serve.Served.{Served}
+use Rattle.road_dialogue.specs.declared.serving.Served.{Served}
 
 -- A run: how many lines may come after the plan line, and how many bytes in all; its source and its sink before and
 -- after it; and its result.

@@ -4,8 +4,8 @@ use Rattle.std.specs.Option.{option_map}
 use Rattle.road_dialogue.specs.Run.{Run, AnswersInput}
 use Rattle.road_dialogue.specs.declared.faults.ServeFault.{ServeFault}
 use Rattle.road_dialogue.specs.declared.faults.ServeFault.TheVariants as faults
-use Rattle.road_dialogue.specs.declared.serve.Served.{Served}
-use Rattle.road_dialogue.specs.declared.run.Ended.{Ended}
+use Rattle.road_dialogue.specs.declared.serving.Served.{Served}
+use Rattle.road_dialogue.specs.declared.running.Ended.{Ended}
 
 -- the exit status of a run that failed
 abbrev pub fault_status : ServeFault → ℕ

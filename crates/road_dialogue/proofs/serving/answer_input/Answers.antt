@@ -3,7 +3,7 @@ use Rattle.std.proofs.Common.{◌<◌, ◌∙◌, length, refl, sym, arith}
 use Rattle.std.proofs.lemmas.Result.{err_from_is_err_and}
 use Rattle.road_dialogue.specs.StreamViews.{source_view, sink_view}
 use Rattle.road_dialogue.proofs.RunEnds.{at_first, ReadMore, read_on, unread, stopped, over, early_gone, past, stopped_at_end, refused_at_end, ended_well}
-use Rattle.road_dialogue.proofs.serve.answer_input.Goals as goal
+use Rattle.road_dialogue.proofs.serving.answer_input.Goals as goal
 
 pub loop-count-init : goal.loop-count-init
 loop-count-init g c = (at_first c.args.lines c.args.bytes _ _ _ (c.requires.none_came _) c.requires.going c.requires.none_wait, refl)

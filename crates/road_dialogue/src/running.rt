@@ -8,13 +8,13 @@ ghost use Rattle.road_dialogue.specs.Faults.{gone_after_call};
 ghost use Rattle.road_dialogue.specs.Run.{program_run};
 ghost use Rattle.road_dialogue.specs.Statuses.{status_of, line_of, fault_status, fault_line, EndsAfter, HasStatus, IsRefused};
 ghost use Rattle.road_dialogue.specs.StreamViews.{SourceView, source_view, sink_view};
-ghost use Rattle.road_dialogue.specs.declared.serve.Served.{Served};
+ghost use Rattle.road_dialogue.specs.declared.serving.Served.{Served};
 ghost use Rattle.road_dialogue.specs.declared.faults.ServeFault.{ServeFault};
 ghost use Rattle.road_dialogue.specs.declared.faults.ServeFault.TheVariants.{WorkersGone};
 
 use crate::arguments::{ArgumentFault, arguments_in};
 use crate::faults::ServeFault;
-use crate::serve::{Served, serve};
+use crate::serving::{Served, serve};
 use crate::std_streams::StdSource;
 use crate::streams::{Sink, Source};
 use road_workers::{Alone, Crew, CrewFault, Pool};

@@ -4,7 +4,7 @@ use Rattle.road_plan.specs.declared.limits.TheConstants.{MOST_LINES, MOST_BYTES}
 use Rattle.road_dialogue.specs.StreamViews.{source_view, sink_view}
 use Rattle.road_dialogue.specs.declared.faults.ServeFault.TheVariants.{OutOfMemory}
 use Rattle.road_dialogue.proofs.RunEnds.{not_begun}
-use Rattle.road_dialogue.proofs.run.run.Goals as goal
+use Rattle.road_dialogue.proofs.running.run.Goals as goal
 
 pub returns-in-Err-OutOfMemory-clause-served : goal.returns-in-Err-OutOfMemory-clause-served
 returns-in-Err-OutOfMemory-clause-served g c accepted none =

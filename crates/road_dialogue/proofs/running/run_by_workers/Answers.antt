@@ -5,7 +5,7 @@ use Rattle.road_dialogue.specs.Run.{AnswersInput, program_run}
 use Rattle.road_dialogue.specs.StreamViews.{source_view, sink_view}
 use Rattle.road_dialogue.specs.declared.faults.ServeFault.{ServeFault}
 use Rattle.road_dialogue.proofs.RunEnds.{not_manned}
-use Rattle.road_dialogue.proofs.run.run_by_workers.Goals as goal
+use Rattle.road_dialogue.proofs.running.run_by_workers.Goals as goal
 
 pub returns-in-Err : goal.returns-in-Err
 returns-in-Err g c =

@@ -4,7 +4,7 @@ use Rattle.road_plan.specs.declared.limits.TheConstants.{MOST_LINES, MOST_BYTES}
 use Rattle.road_dialogue.specs.StreamViews.{sink_view}
 use Rattle.road_dialogue.specs.declared.faults.ServeFault.TheVariants.{Read}
 use Rattle.road_dialogue.proofs.RunEnds.{unopened, unopened_source}
-use Rattle.road_dialogue.proofs.run.run_script.Goals as goal
+use Rattle.road_dialogue.proofs.running.run_script.Goals as goal
 
 pub returns-in-Err : goal.returns-in-Err
 returns-in-Err g c = (

@@ -2,7 +2,7 @@
 use Rattle.std.proofs.Common.{◌≡◌}
 use Rattle.road_dialogue.specs.StreamViews.{source_view, sink_view}
 use Rattle.road_dialogue.proofs.RunEnds.{SoFar}
-use Rattle.road_dialogue.proofs.serve.answer_input.Given as goal
+use Rattle.road_dialogue.proofs.serving.answer_input.Given as goal
 
 -- some input was read and answered, and no call failed; no worker has gone
 abbrev pub invariant-loop-count : goal.invariant-loop-count
