@@ -8,7 +8,12 @@ use std::alloc::Global;
 use std::process::Abort;
 use std::sync::Arc;
 use std::test::Fail;
-use tests_plans::{Parts, plan_of};
+use tests_plans::{DENSE, DENSE_ROWS, HALF_SLOWED, HALF_SLOWED_ROWS, Parts, plan_of};
+
+/// The plan of these parts, to be shared by the inputs of steps.
+pub(crate) fn shared_plan(alloc: Global, parts: &Parts) -> Result<Arc<Plan>, Fail> {
+    Ok(Arc::new(alloc, plan_of(alloc, parts)?)?)
+}
 
 /// The input of a step by the plan's own settings.
 pub(crate) fn input_of(
@@ -20,6 +25,12 @@ pub(crate) fn input_of(
     plan.known_own_settings();
     let settings = Settings::of_plan(alloc, plan)?;
     Ok(enter(alloc, plan, settings, step, road)?)
+}
+
+/// The input of the first step of a plan of these parts, on the empty road.
+pub(crate) fn first_input(alloc: Global, parts: &Parts) -> Result<Arc<StepInput>, Fail> {
+    let plan = shared_plan(alloc, parts)?;
+    input_of(alloc, &plan, 0, &Road::empty(alloc))
 }
 
 // The road after a step, with the speeds that a crew gives.
@@ -50,6 +61,23 @@ fn is_drawn_as(road: &Road, letters: &[u8]) -> bool {
         .all(|(cell, letter)| letter_at(road, cell) == *letter)
 }
 
+// Steps this plan so.
+fn takes_rows<C: Crew>(
+    rt: &impl Abort,
+    alloc: Global,
+    crew: &mut C,
+    plan: &Arc<Plan>,
+    rows: &[&str],
+) -> Result<(), Fail> {
+    let mut road = Road::empty(alloc);
+    for (step, row) in (0u32..).zip(rows) {
+        road = stepped_by(crew, alloc, plan, step, &road)?;
+        let is_right = is_drawn_as(&road, row.as_bytes());
+        assert!(rt; is_right, "after step {step}");
+    }
+    Ok(())
+}
+
 /// Steps a plan from the empty road by a crew, and compares the row after each step.
 pub(crate) fn gives<C: Crew>(
     rt: &impl Abort,
@@ -58,12 +86,16 @@ pub(crate) fn gives<C: Crew>(
     parts: &Parts,
     rows: &[&str],
 ) -> Result<(), Fail> {
-    let plan = Arc::new(alloc, plan_of(alloc, parts)?)?;
-    let mut road = Road::empty(alloc);
-    for (step, row) in (0u32..).zip(rows) {
-        road = stepped_by(crew, alloc, &plan, step, &road)?;
-        let is_right = is_drawn_as(&road, row.as_bytes());
-        assert!(rt; is_right, "after step {step}");
-    }
-    Ok(())
+    let plan = shared_plan(alloc, parts)?;
+    takes_rows(rt, alloc, crew, &plan, rows)
+}
+
+/// Steps the dense road and the half slowed one through their worked rows.
+pub(crate) fn gives_both<C: Crew>(
+    rt: &impl Abort,
+    alloc: Global,
+    crew: &mut C,
+) -> Result<(), Fail> {
+    gives(rt, alloc, crew, &DENSE, DENSE_ROWS)?;
+    gives(rt, alloc, crew, &HALF_SLOWED, HALF_SLOWED_ROWS)
 }

@@ -2,14 +2,14 @@
 
 ghost use Rattle.road_cells.specs.Cars.{AreRising};
 
-use crate::rows::input_of;
+use crate::rows::{input_of, shared_plan};
 use road_cells::{Car, Road};
 use road_ends::{DrawnWords, StepInput, enter_with};
 use road_plan::{Plan, Settings};
 use std::alloc::Global;
 use std::sync::Arc;
 use std::test::Fail;
-use tests_plans::{HALF_SLOWED, Parts, plan_of};
+use tests_plans::{HALF_SLOWED, Parts};
 
 /// The free road with slowing chance one half, where nobody enters.
 const CLOSED: Parts = Parts {
@@ -58,8 +58,23 @@ fn input_of_run(
     Ok(enter_with(alloc, plan, settings, step, road, &mut words)?)
 }
 
-// The input of a step with these cars, that of a run or that of a single step. The first has columns of its cars, the
+// The input of a step on this road, that of a run or that of a single step. The first has columns of its cars, the
 // second has none.
+fn input_on(
+    alloc: Global,
+    step: u32,
+    road: &Road,
+    is_of_run: bool,
+) -> Result<Arc<StepInput>, Fail> {
+    let plan = shared_plan(alloc, &CLOSED)?;
+    if is_of_run {
+        input_of_run(alloc, &plan, step, road)
+    } else {
+        input_of(alloc, &plan, step, road)
+    }
+}
+
+// The same with these cars.
 fn input_with(
     alloc: Global,
     step: u32,
@@ -68,17 +83,12 @@ fn input_with(
 ) -> Result<Arc<StepInput>, Fail>
     requires { AreRising cars.now }
 {
-    let plan = Arc::new(alloc, plan_of(alloc, &CLOSED)?)?;
     let road = Road::of(cars.to_vec(alloc)?);
-    if is_of_run {
-        input_of_run(alloc, &plan, step, &road)
-    } else {
-        input_of(alloc, &plan, step, &road)
-    }
+    input_on(alloc, step, &road, is_of_run)
 }
 
 /// With columns or without, of the first input and of the second.
-const KINDS: [(bool, bool); 4] = [(false, false), (false, true), (true, false), (true, true)];
+const KINDS: &[(bool, bool)] = &[(false, false), (false, true), (true, false), (true, true)];
 
 // Whether the input of step 3 with both cars is the same as another one, and that one as it.
 fn are_same(
@@ -94,29 +104,34 @@ fn are_same(
     Ok((input.same(&other), other.same(&input)))
 }
 
+// Whether they are, or are not, as is wanted, with columns and without.
+fn all_are(alloc: Global, step: u32, cars: &[Car], wanted: bool) -> Result<bool, Fail>
+    requires { AreRising cars.now }
+{
+    let mut well = true;
+    for kinds in KINDS {
+        well = well && are_same(alloc, *kinds, step, cars)? == (wanted, wanted);
+    }
+    Ok(well)
+}
+
 #[test]
 fn an_input_is_the_same_as_another_of_its_step_and_cars(rt: HostRuntime) -> Result<(), Fail> {
-    for kinds in KINDS {
-        assert!(rt; are_same(rt.alloc(), kinds, 3, BOTH)? == (true, true));
-        assert!(rt; are_same(rt.alloc(), kinds, 4, BOTH)? == (false, false));
-    }
+    assert!(rt; all_are(rt.alloc(), 3, BOTH, true)?);
+    assert!(rt; all_are(rt.alloc(), 4, BOTH, false)?);
     Ok(())
 }
 
 #[test]
 fn inputs_differ_where_a_car_is_missing(rt: HostRuntime) -> Result<(), Fail> {
-    for kinds in KINDS {
-        assert!(rt; are_same(rt.alloc(), kinds, 3, ALONE)? == (false, false));
-    }
+    assert!(rt; all_are(rt.alloc(), 3, ALONE, false)?);
     Ok(())
 }
 
 #[test]
 fn inputs_differ_by_each_part_of_a_car(rt: HostRuntime) -> Result<(), Fail> {
-    for kinds in KINDS {
-        assert!(rt; are_same(rt.alloc(), kinds, 3, OTHER_NUMBER)? == (false, false));
-        assert!(rt; are_same(rt.alloc(), kinds, 3, OTHER_CELL)? == (false, false));
-        assert!(rt; are_same(rt.alloc(), kinds, 3, OTHER_SPEED)? == (false, false));
-    }
+    assert!(rt; all_are(rt.alloc(), 3, OTHER_NUMBER, false)?);
+    assert!(rt; all_are(rt.alloc(), 3, OTHER_CELL, false)?);
+    assert!(rt; all_are(rt.alloc(), 3, OTHER_SPEED, false)?);
     Ok(())
 }

@@ -2,14 +2,13 @@
 
 ghost use Rattle.std.specs.Prelude.{◌<◌, ◌≤◌};
 
-use crate::rows::gives;
+use crate::rows::gives_both;
 use road_workers::{NoGate, Pool, Scoped};
 use std::alloc::Global;
 use std::process::Abort;
 use std::sync::Wait;
 use std::test::Fail;
 use std::thread::Threads;
-use tests_plans::{DENSE, DENSE_ROWS, HALF_SLOWED, HALF_SLOWED_ROWS};
 
 // By workers whose threads are made for each call.
 fn scoped_gives<R: Threads + Wait + Abort>(rt: &R, alloc: Global, workers: u32) -> Result<(), Fail>
@@ -17,8 +16,7 @@ fn scoped_gives<R: Threads + Wait + Abort>(rt: &R, alloc: Global, workers: u32) 
     requires few { workers ≤ 16 }
 {
     let mut crew = Scoped::new(rt, workers, Box::new(alloc, NoGate)?);
-    gives(rt, alloc, &mut crew, &DENSE, DENSE_ROWS)?;
-    gives(rt, alloc, &mut crew, &HALF_SLOWED, HALF_SLOWED_ROWS)
+    gives_both(rt, alloc, &mut crew)
 }
 
 #[test]
@@ -39,10 +37,9 @@ fn pool_gives<R: Threads + Wait + Abort + Clone + Drop + Send + 'static>(
     requires few { workers ≤ 16 }
 {
     let mut crew = Pool::start(rt.clone()?, alloc, workers)?;
-    gives(rt, alloc, &mut crew, &DENSE, DENSE_ROWS)?;
-    gives(rt, alloc, &mut crew, &HALF_SLOWED, HALF_SLOWED_ROWS)?;
+    let given = gives_both(rt, alloc, &mut crew);
     crew.finish();
-    Ok(())
+    given
 }
 
 #[test]
