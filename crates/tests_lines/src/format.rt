@@ -30,27 +30,68 @@ fn are_named(names: &[String], wanted: &[&str]) -> bool {
 /// The names in `PLAN`.
 const NAMES: &[&str] = &["A", "B", "C"];
 
-/// The detectors of a plan line, and the parts that are read.
-const PLANS: &[(&str, Parts)] = &[
-    ("[5]", FREE),
+/// What stands in `PLAN`, what stands in its place, and the names and the parts that are read.
+const PLANS: &[(&str, &str, &[&str], Parts)] = &[
+    ("[5]", "[5]", NAMES, FREE),
     (
+        "[5]",
         "[]",
+        NAMES,
         Parts {
             detectors: &[],
             ..FREE
         },
     ),
+    (
+        "\"words\":7",
+        "\"words\":\"steady\"",
+        NAMES,
+        Parts {
+            words: WordKind::Steady,
+            ..FREE
+        },
+    ),
+    (
+        "\"words\":7",
+        "\"words\":0",
+        NAMES,
+        Parts {
+            words: WordKind::Seeded(0),
+            ..FREE
+        },
+    ),
+    (
+        "\"words\":7",
+        "\"words\":18446744073709551615",
+        NAMES,
+        Parts {
+            words: WordKind::Seeded(18_446_744_073_709_551_615),
+            ..FREE
+        },
+    ),
+    // a name may have 64 bytes
+    (
+        "\"B\",\"C\"",
+        "\"éééééééééééééééééééééééééééééééé\"",
+        &["A", "éééééééééééééééééééééééééééééééé"],
+        FREE,
+    ),
 ];
+
+// Whether these names and parts are read of `PLAN` with something replaced.
+fn is_plan(
+    alloc: Global,
+    (old, new, names, parts): &(&str, &str, &[&str], Parts),
+) -> Result<bool, Fail> {
+    let line = PLAN.replacen(alloc, old, new, 1)?;
+    let read = read_plan(alloc, line.as_bytes())?;
+    Ok(are_named(&read.names, names) && reads(&read.plan, parts))
+}
 
 #[test]
 fn reads_plan_lines(rt: HostRuntime) -> Result<(), Fail> {
-    for (detectors, parts) in PLANS {
-        let line = PLAN.replacen(rt.alloc(), "[5]", detectors, 1)?;
-        let read = read_plan(rt.alloc(), line.as_bytes())?;
-        assert!(rt;
-            are_named(&read.names, NAMES) && reads(&read.plan, parts),
-            "{line}"
-        );
+    for row in PLANS {
+        assert!(rt; is_plan(rt.alloc(), row)?, "{}", row.1);
     }
     Ok(())
 }
@@ -62,6 +103,12 @@ fn plan_fault(alloc: Global, line: &str) -> Result<Option<PlanLineFault>, Fail> 
         Err(PlanLineFault::OutOfMemory) => Err(OutOfMemory)?,
         Err(fault) => Ok(Some(fault)),
     }
+}
+
+// How `PLAN` with something replaced is refused.
+fn replaced_fault(alloc: Global, old: &str, new: &str) -> Result<Option<PlanLineFault>, Fail> {
+    let line = PLAN.replacen(alloc, old, new, 1)?;
+    plan_fault(alloc, &line)
 }
 
 // How a command is refused.
@@ -87,6 +134,12 @@ const FAULTS: &[(&str, &str, PlanLineFault)] = &[
     ("\"A\",\"B\",\"C\"", "\"A\",\"B\",\"\\u0041\"", Names),
     ("\"A\",\"B\",\"C\"", "", Names),
     ("\"A\",\"B\",\"C\"", "\"\"", Names),
+    // a name may not have 65 bytes
+    (
+        "\"B\",\"C\"",
+        "\"éééééééééééééééééééééééééééééééée\"",
+        Names,
+    ),
     ("\"A\",\"B\",\"C\"", "\"A\",1", NotAPlan),
     ("\"length\":12,", "", NotAPlan),
     ("\"length\":12", "\"length\":12,\"lanes\":1", NotAPlan),
@@ -103,9 +156,7 @@ const FAULTS: &[(&str, &str, PlanLineFault)] = &[
 #[test]
 fn refuses_plan_lines(rt: HostRuntime) -> Result<(), Fail> {
     for (old, new, want) in FAULTS {
-        let line = PLAN.replacen(rt.alloc(), old, new, 1)?;
-        let fault = plan_fault(rt.alloc(), &line)?;
-        assert_eq!(rt; fault, Some(*want), "{new}");
+        assert_eq!(rt; replaced_fault(rt.alloc(), old, new)?, Some(*want), "{new}");
     }
     Ok(())
 }
@@ -129,77 +180,47 @@ fn names_the_first_fault(rt: HostRuntime) -> Result<(), Fail> {
     Ok(())
 }
 
-/// There may be 64 zones and no more.
+// How the plan line of a long road with so many zones before its last is refused.
+fn zones_fault(alloc: Global, count: usize) -> Result<Option<PlanLineFault>, Fail> {
+    let zones = "[2,0],".repeat(alloc, count)?;
+    let line = format!(in alloc;
+        "{{\"detectors\":[5],\"exit\":1,\"inlets\":[[0,65536]],\"length\":64,\"replicas\":[\"A\",\"B\",\"C\"],\"words\":7,\"zone\":1,\"zones\":[{zones}[2,0]]}}"
+    )?;
+    plan_fault(alloc, &line)
+}
+
+/// Zones before the last, and how the line is refused: there may be 64 zones and no more.
+const ZONES: &[(usize, Option<PlanLineFault>)] = &[(63, None), (64, Some(Plan(PlanFault::Zones)))];
+
 #[test]
 fn bounds_zones(rt: HostRuntime) -> Result<(), Fail> {
-    for count in 63..65usize {
-        let mut zones = "[2,0],".repeat(rt.alloc(), count)?;
-        zones.push_str("[2,0]]")?;
-        let line = PLAN.replacen(rt.alloc(), "[2,0]]", &zones, 1)?;
-        let narrow = line.replacen(rt.alloc(), "\"zone\":12", "\"zone\":1", 1)?;
-        let long = narrow.replacen(rt.alloc(), "\"length\":12", "\"length\":64", 1)?;
-        let fault = plan_fault(rt.alloc(), &long)?;
-        assert_eq!(rt; fault.is_some(), count == 64, "{count}");
-        assert!(rt; fault.is_none() || fault == Some(Plan(PlanFault::Zones)));
+    for (count, want) in ZONES {
+        assert_eq!(rt; zones_fault(rt.alloc(), *count)?, *want, "{count}");
     }
     Ok(())
 }
 
-/// What stands for the words, and the words.
-const WORDS: &[(&str, WordKind)] = &[
-    ("\"steady\"", WordKind::Steady),
-    ("0", WordKind::Seeded(0)),
-    (
-        "18446744073709551615",
-        WordKind::Seeded(18_446_744_073_709_551_615),
-    ),
-];
-
-#[test]
-fn reads_words_and_seeds(rt: HostRuntime) -> Result<(), Fail> {
-    for (words, want) in WORDS {
-        let line = PLAN.replacen(rt.alloc(), "7", words, 1)?;
-        assert!(rt; read_plan(rt.alloc(), line.as_bytes())?.plan.words() == *want);
+// The names of so many replicas, as a plan line has them.
+fn numbered(alloc: Global, count: u32) -> Result<String, OutOfMemory> {
+    let mut names = String::from_str(alloc, "\"1\"")?;
+    for number in 2..=count {
+        write!(names, ",\"{number}\"")?;
     }
-    Ok(())
+    Ok(names)
 }
 
-// Whether a plan line with these replicas is accepted.
-fn opens(alloc: Global, replicas: &str) -> Result<bool, Fail> {
-    let line = PLAN.replacen(alloc, "\"A\",\"B\",\"C\"", replicas, 1)?;
-    Ok(plan_fault(alloc, &line)?.is_none())
-}
-
-/// What stands behind 64 bytes of a name, and whether it may: it may have 64 bytes and no more.
-const NAME_ENDS: &[(&str, bool)] = &[("", true), ("e", false)];
-
-#[test]
-fn bounds_names(rt: HostRuntime) -> Result<(), Fail> {
-    for (more, is_name) in NAME_ENDS {
-        let mut name = "é".repeat(rt.alloc(), 32)?;
-        name.push_str(more)?;
-        let line = format!(in rt.alloc(); "\"A\",\"{name}\"")?;
-        assert_eq!(rt; opens(rt.alloc(), &line)?, *is_name);
-        let command = format!(in rt.alloc(); "{{\"scenario\":{{\"at\":\"{name}\"}}}}")?;
-        let fault = command_fault(rt.alloc(), command.as_bytes())?;
-        assert_eq!(rt; fault.is_none(), *is_name);
-        let send = format!(in rt.alloc(); "{{\"send\":{{\"at\":\"A\",\"name\":\"{name}\"}}}}")?;
-        let fault = command_fault(rt.alloc(), send.as_bytes())?;
-        assert_eq!(rt; fault.is_none(), *is_name);
-    }
-    Ok(())
+// Whether a plan line with so many replicas is accepted.
+fn opens(alloc: Global, count: u32) -> Result<bool, Fail> {
+    let names = numbered(alloc, count)?;
+    let fault = replaced_fault(alloc, "\"A\",\"B\",\"C\"", &names);
+    Ok(fault?.is_none())
 }
 
 /// There may be 64 replicas and no more.
 #[test]
 fn bounds_replicas(rt: HostRuntime) -> Result<(), Fail> {
-    let mut names = String::from_str(rt.alloc(), "\"1\"")?;
-    for number in 2..65 {
-        write!(names, ",\"{number}\"")?;
-    }
-    assert!(rt; opens(rt.alloc(), &names)?);
-    names.push_str(",\"65\"")?;
-    assert!(rt; !opens(rt.alloc(), &names)?);
+    assert!(rt; opens(rt.alloc(), 64)?);
+    assert!(rt; !opens(rt.alloc(), 65)?);
     Ok(())
 }
 
@@ -250,6 +271,23 @@ const COMMANDS: &[(&str, &str)] = &[
     (
         "{\"scenario\":{\"at\":\"A\"}}",
         "Ok(Scenario { at: \"A\" })",
+    ),
+    // a name may have 64 bytes and no more
+    (
+        "{\"scenario\":{\"at\":\"éééééééééééééééééééééééééééééééé\"}}",
+        "Ok(Scenario { at: \"éééééééééééééééééééééééééééééééé\" })",
+    ),
+    (
+        "{\"scenario\":{\"at\":\"éééééééééééééééééééééééééééééééée\"}}",
+        NOT_A_COMMAND,
+    ),
+    (
+        "{\"send\":{\"at\":\"A\",\"name\":\"éééééééééééééééééééééééééééééééé\"}}",
+        "Ok(Send { at: \"A\", name: \"éééééééééééééééééééééééééééééééé\" })",
+    ),
+    (
+        "{\"send\":{\"at\":\"A\",\"name\":\"éééééééééééééééééééééééééééééééée\"}}",
+        NOT_A_COMMAND,
     ),
     (
         "{\"edit\":{\"at\":\"A\",\"object\":[\"limit\",2],\"step\":3,\"value\":1}}",
@@ -378,10 +416,7 @@ const COMMANDS: &[(&str, &str)] = &[
         "{\"diagram\":{\"at\":\"A\",\"from\":0,\"step\":1,\"to\":6}}",
         NOT_A_COMMAND,
     ),
-];
-
-/// Lines of edits from outside and of messages, and what is read of each.
-const EXCHANGES: &[(&str, &str)] = &[
+    // edits from outside, and messages
     (
         "{\"import\":{\"at\":\"A\",\"edits\":[[\"limit\",0,0,7,64,2]],\"form\":1}}",
         "Ok(Import { at: \"A\", edits: [Edit { object: Limit(0), step: 0, stamp: Stamp { count: 7, number: 64 }, value: Put(2) }] })",
@@ -569,58 +604,74 @@ const EXCHANGES: &[(&str, &str)] = &[
     ),
 ];
 
-// A command line is read so. Want of memory ends the test.
-fn is_read(rt: &impl Abort, alloc: Global, line: &str, want: &str) -> Result<(), Fail> {
-    let read = read_command(alloc, line.as_bytes());
-    if matches!(&read, Err(LineFault::OutOfMemory)) {
-        return Err(OutOfMemory)?;
+// What is read of a command line, as text. Want of memory ends the test.
+fn text_of(alloc: Global, read: &Result<Command, LineFault>) -> Result<String, OutOfMemory> {
+    if matches!(read, Err(LineFault::OutOfMemory)) {
+        return Err(OutOfMemory);
     }
-    let said = format!(in alloc; "{read:?}")?;
-    assert_eq!(rt; said.as_str(), want, "{line}");
-    Ok(())
+    format!(in alloc; "{read:?}")
+}
+
+// What is read of a command line, as text.
+fn read_text(alloc: Global, line: &str) -> Result<String, OutOfMemory> {
+    let read = read_command(alloc, line.as_bytes());
+    text_of(alloc, &read)
 }
 
 #[test]
 fn reads_commands(rt: HostRuntime) -> Result<(), Fail> {
     for (line, want) in COMMANDS {
-        is_read(&rt, rt.alloc(), line, want)?;
+        let said = read_text(rt.alloc(), line)?;
+        assert_eq!(rt; said.as_str(), *want, "{line}");
     }
     Ok(())
 }
 
-#[test]
-fn reads_edits_and_messages(rt: HostRuntime) -> Result<(), Fail> {
-    for (line, want) in EXCHANGES {
-        is_read(&rt, rt.alloc(), line, want)?;
-    }
-    Ok(())
-}
-
-/// About as many edits as a line has room for: all are read, in their order.
-#[test]
-fn reads_long_imports(rt: HostRuntime) -> Result<(), Fail> {
-    let most = "[\"limit\",0,0,1,64,2],".repeat(rt.alloc(), 2_899)?;
-    let line = format!(in rt.alloc();
+// An import of so many edits that put 2 and of one that puts 3.
+fn long_import(alloc: Global, count: usize) -> Result<String, OutOfMemory> {
+    let most = "[\"limit\",0,0,1,64,2],".repeat(alloc, count)?;
+    format!(in alloc;
         "{{\"import\":{{\"at\":\"A\",\"edits\":[{most}[\"limit\",0,0,1,64,3]],\"form\":1}}}}"
-    )?;
-    let edits = match read_command(rt.alloc(), line.as_bytes())? {
-        Command::Import { edits, .. } => edits,
-        _ => Vec::new(rt.alloc()),
+    )
+}
+
+// That an import has so many edits that put 2 and behind them one that puts 3.
+fn has_edits(rt: &impl Abort, command: &Command, count: usize) {
+    let edits = match command {
+        Command::Import { edits, .. } => edits.as_slice(),
+        _ => &[],
     };
-    assert_eq!(rt; edits.len(), 2_900);
+    assert_eq!(rt; edits.len(), count + 1);
     assert!(rt;
         edits
             .iter()
             .filter(|edit| edit.value == Value::Put(2))
             .count()
-            == 2_899
+            == count
     );
     assert!(rt; edits.last().is_some_and(|edit| edit.value == Value::Put(3)));
+}
+
+/// About as many edits as a line has room for: all are read, in their order.
+#[test]
+fn reads_long_imports(rt: HostRuntime) -> Result<(), Fail> {
+    let line = long_import(rt.alloc(), 2_899)?;
+    let command = read_command(rt.alloc(), line.as_bytes())?;
+    has_edits(&rt, &command, 2_899);
     Ok(())
 }
 
 /// Brackets, each in the one before: 100 are read, 200 are not.
 const DEEP: &[(usize, LineFault)] = &[(100, LineFault::NotACommand), (200, LineFault::NotJson)];
+
+// How so many brackets, each in the one before, are refused.
+fn brackets_fault(alloc: Global, depth: usize) -> Result<Option<LineFault>, Fail> {
+    let mut text = "[".repeat(alloc, depth)?;
+    for _ in 0..depth {
+        text.push(']')?;
+    }
+    command_fault(alloc, text.as_bytes())
+}
 
 #[test]
 fn refuses_bytes_and_deep_values(rt: HostRuntime) -> Result<(), Fail> {
@@ -628,63 +679,69 @@ fn refuses_bytes_and_deep_values(rt: HostRuntime) -> Result<(), Fail> {
     let fault = command_fault(rt.alloc(), no_text)?;
     assert_eq!(rt; fault, Some(LineFault::NotJson));
     for (depth, want) in DEEP {
-        let mut text = "[".repeat(rt.alloc(), *depth)?;
-        text.push_str(&"]".repeat(rt.alloc(), *depth)?)?;
-        let fault = command_fault(rt.alloc(), text.as_bytes())?;
-        assert_eq!(rt; fault, Some(*want), "{depth}");
+        assert_eq!(rt; brackets_fault(rt.alloc(), *depth)?, Some(*want), "{depth}");
     }
     Ok(())
 }
 
-// An answer is written so.
-fn is_written(rt: &impl Abort, alloc: Global, answer: &Answer, want: &str) -> Result<(), Fail> {
-    let line = reply_line(alloc, answer)?;
-    assert_eq!(rt; line.as_str(), want);
-    Ok(())
+/// An answer as a table has it, with what it names and lists lent.
+enum Said {
+    Open(u32),
+    Horizon(u32),
+    Counted(u32, u32),
+    Stamped(Stamp),
+    Touched(Option<u32>),
+    Refused(Refusal),
+    Cells(&'static str),
+    Rows(&'static [&'static str]),
+    Cars(&'static [Car]),
+    Edits(&'static [Edit]),
+    Sent(&'static str, u64),
+    Heads(&'static str, &'static [Head]),
+    Delta(&'static str, &'static [Edit]),
 }
 
-#[test]
-fn writes_numbers(rt: HostRuntime) -> Result<(), Fail> {
-    is_written(
-        &rt,
-        rt.alloc(),
-        &Answer::Open { replicas: 3 },
-        "{\"open\":3}\n",
-    )?;
-    is_written(
-        &rt,
-        rt.alloc(),
-        &Answer::Horizon(65_536),
-        "{\"horizon\":65536}\n",
-    )?;
-    let counted = Answer::Counted {
-        cars: 65_536,
-        speeds: 589_824,
-    };
-    is_written(
-        &rt,
-        rt.alloc(),
-        &counted,
-        "{\"cars\":65536,\"speeds\":589824}\n",
-    )
+// These rows, with memory of their own.
+fn rows_of(alloc: Global, rows: &[&str]) -> Result<Vec<String>, OutOfMemory> {
+    let mut own = Vec::new(alloc);
+    for row in rows {
+        own.push(String::from_str(alloc, row)?)?;
+    }
+    Ok(own)
 }
 
-#[test]
-fn writes_empty_lists(rt: HostRuntime) -> Result<(), Fail> {
-    is_written(
-        &rt,
-        rt.alloc(),
-        &Answer::Cars(Vec::new(rt.alloc())),
-        "{\"cars\":[]}\n",
-    )?;
-    is_written(
-        &rt,
-        rt.alloc(),
-        &Answer::Rows(Vec::new(rt.alloc())),
-        "{\"rows\":[]}\n",
-    )?;
-    let edits = Answer::Edits(Vec::new(rt.alloc()));
-    is_written(&rt, rt.alloc(), &edits, "{\"edits\":[],\"form\":1}\n")
+// That answer, with memory of its own.
+fn answer_of(alloc: Global, said: &Said) -> Result<Answer, OutOfMemory> {
+    Ok(match *said {
+        Said::Open(replicas) => Answer::Open { replicas },
+        Said::Horizon(steps) => Answer::Horizon(steps),
+        Said::Counted(cars, speeds) => Answer::Counted { cars, speeds },
+        Said::Stamped(stamp) => Answer::Stamped(stamp),
+        Said::Touched(step) => Answer::Touched(step),
+        Said::Refused(refusal) => Answer::Refused(refusal),
+        Said::Cells(row) => Answer::Cells(String::from_str(alloc, row)?),
+        Said::Rows(rows) => Answer::Rows(rows_of(alloc, rows)?),
+        Said::Cars(cars) => Answer::Cars(cars.to_vec(alloc)?),
+        Said::Edits(edits) => Answer::Edits(edits.to_vec(alloc)?),
+        Said::Sent(name, size) => Answer::Sent {
+            message: String::from_str(alloc, name)?,
+            size,
+        },
+        Said::Heads(name, heads) => Answer::Heads {
+            message: String::from_str(alloc, name)?,
+            heads: heads.to_vec(alloc)?,
+        },
+        Said::Delta(name, edits) => Answer::Delta {
+            message: String::from_str(alloc, name)?,
+            edits: edits.to_vec(alloc)?,
+        },
+    })
+}
+
+// The line of that answer.
+fn line_of(alloc: Global, said: &Said) -> Result<String, OutOfMemory> {
+    let answer = answer_of(alloc, said)?;
+    reply_line(alloc, &answer)
 }
 
 /// Edits of the greatest numbers, and a withdrawal.
@@ -709,24 +766,6 @@ const EDITS: &[Edit] = &[
     },
 ];
 
-#[test]
-fn writes_edits(rt: HostRuntime) -> Result<(), Fail> {
-    let stamp = Stamp {
-        count: 281_474_976_710_656,
-        number: 63,
-    };
-    is_written(
-        &rt,
-        rt.alloc(),
-        &Answer::Stamped(stamp),
-        "{\"stamp\":[281474976710656,63]}\n",
-    )?;
-    let edits = Answer::Edits(EDITS.to_vec(rt.alloc())?);
-    let want =
-        "{\"edits\":[[\"limit\",0,65535,281474976710656,65535,4294967295],[\"watch\",63,0,1,0,null]],\"form\":1}\n";
-    is_written(&rt, rt.alloc(), &edits, want)
-}
-
 /// Heads of the least and the greatest numbers.
 const HEADS: &[Head] = &[
     Head {
@@ -747,60 +786,8 @@ const HEADS: &[Head] = &[
     },
 ];
 
-#[test]
-fn writes_messages(rt: HostRuntime) -> Result<(), Fail> {
-    let alloc = rt.alloc();
-    let sent = Answer::Sent {
-        message: String::from_str(alloc, "m\"1")?,
-        size: 18_446_744_073_709_551_615,
-    };
-    let want = "{\"message\":\"m\\\"1\",\"size\":18446744073709551615}\n";
-    is_written(&rt, alloc, &sent, want)?;
-    let heads = Answer::Heads {
-        message: String::from_str(alloc, "h")?,
-        heads: HEADS.to_vec(alloc)?,
-    };
-    let want =
-        "{\"form\":1,\"heads\":[[\"slow\",0,0,1,0],[\"inflow\",15,65535,281474976710656,65535]],\"message\":\"h\"}\n";
-    is_written(&rt, alloc, &heads, want)?;
-    let delta = Answer::Delta {
-        message: String::from_str(alloc, "d")?,
-        edits: EDITS.to_vec(alloc)?,
-    };
-    let want =
-        "{\"edits\":[[\"limit\",0,65535,281474976710656,65535,4294967295],[\"watch\",63,0,1,0,null]],\"form\":1,\"message\":\"d\"}\n";
-    is_written(&rt, alloc, &delta, want)
-}
-
-#[test]
-fn writes_touched_steps(rt: HostRuntime) -> Result<(), Fail> {
-    let touched = Answer::Touched(Some(65_535));
-    is_written(&rt, rt.alloc(), &touched, "{\"touched\":65535}\n")?;
-    is_written(
-        &rt,
-        rt.alloc(),
-        &Answer::Touched(None),
-        "{\"touched\":null}\n",
-    )
-}
-
-const ROWS: &[&str] = &["0..2..10#...", "............"];
-
-#[test]
-fn writes_rows(rt: HostRuntime) -> Result<(), Fail> {
-    let row = String::from_str(rt.alloc(), "0..2..10#...")?;
-    let want = "{\"cells\":\"0..2..10#...\"}\n";
-    is_written(&rt, rt.alloc(), &Answer::Cells(row), want)?;
-    let mut rows = Vec::new(rt.alloc());
-    for row in ROWS {
-        rows.push(String::from_str(rt.alloc(), row)?)?;
-    }
-    let want = "{\"rows\":[\"0..2..10#...\",\"............\"]}\n";
-    is_written(&rt, rt.alloc(), &Answer::Rows(rows), want)
-}
-
 /// Cars of the least and the greatest numbers.
-const CARS: [Car; 2] = [
+const CARS: &[Car] = &[
     Car {
         number: 0,
         cell: 3,
@@ -813,54 +800,148 @@ const CARS: [Car; 2] = [
     },
 ];
 
-#[test]
-fn writes_cars(rt: HostRuntime) -> Result<(), Fail> {
-    let want = "{\"cars\":[[0,3,1],[18446744073709551615,1048575,9]]}\n";
-    is_written(
-        &rt,
-        rt.alloc(),
-        &Answer::Cars(CARS.to_vec(rt.alloc())?),
-        want,
-    )
-}
-
-/// Refusals, and how each is written.
-const REFUSALS: &[(Refusal, &str)] = &[
-    (Refusal::NoPlan, "{\"refused\":\"no plan\"}\n"),
-    (Refusal::LineTooLong, "{\"refused\":\"line too long\"}\n"),
-    (Refusal::NotJson, "{\"refused\":\"not json\"}\n"),
-    (Refusal::NotAPlan, "{\"refused\":\"not a plan\"}\n"),
-    (Refusal::Names, "{\"refused\":\"Names\"}\n"),
-    (Refusal::Length, "{\"refused\":\"Length\"}\n"),
-    (Refusal::Exit, "{\"refused\":\"Exit\"}\n"),
-    (Refusal::Zones, "{\"refused\":\"Zones\"}\n"),
-    (Refusal::Inlets, "{\"refused\":\"Inlets\"}\n"),
-    (Refusal::Detectors, "{\"refused\":\"Detectors\"}\n"),
-    (Refusal::Default, "{\"refused\":\"Default\"}\n"),
-    (Refusal::NotACommand, "{\"refused\":\"not a command\"}\n"),
-    (Refusal::UnknownForm, "{\"refused\":\"unknown form\"}\n"),
-    (Refusal::NoReplica, "{\"refused\":\"NoReplica\"}\n"),
-    (Refusal::NoMessage, "{\"refused\":\"NoMessage\"}\n"),
-    (Refusal::NameTaken, "{\"refused\":\"NameTaken\"}\n"),
-    (Refusal::NoObject, "{\"refused\":\"NoObject\"}\n"),
-    (Refusal::Step, "{\"refused\":\"Step\"}\n"),
+/// Answers, and how each is written.
+const ANSWERS: &[(Said, &str)] = &[
+    // numbers
+    (Said::Open(3), "{\"open\":3}\n"),
+    (Said::Horizon(65_536), "{\"horizon\":65536}\n"),
     (
-        Refusal::ValueOutOfRange,
+        Said::Counted(65_536, 589_824),
+        "{\"cars\":65536,\"speeds\":589824}\n",
+    ),
+    // empty lists
+    (Said::Cars(&[]), "{\"cars\":[]}\n"),
+    (Said::Rows(&[]), "{\"rows\":[]}\n"),
+    (Said::Edits(&[]), "{\"edits\":[],\"form\":1}\n"),
+    // edits
+    (
+        Said::Stamped(Stamp {
+            count: 281_474_976_710_656,
+            number: 63,
+        }),
+        "{\"stamp\":[281474976710656,63]}\n",
+    ),
+    (
+        Said::Edits(EDITS),
+        "{\"edits\":[[\"limit\",0,65535,281474976710656,65535,4294967295],[\"watch\",63,0,1,0,null]],\"form\":1}\n",
+    ),
+    // messages
+    (
+        Said::Sent("m\"1", 18_446_744_073_709_551_615),
+        "{\"message\":\"m\\\"1\",\"size\":18446744073709551615}\n",
+    ),
+    (
+        Said::Heads("h", HEADS),
+        "{\"form\":1,\"heads\":[[\"slow\",0,0,1,0],[\"inflow\",15,65535,281474976710656,65535]],\"message\":\"h\"}\n",
+    ),
+    (
+        Said::Delta("d", EDITS),
+        "{\"edits\":[[\"limit\",0,65535,281474976710656,65535,4294967295],[\"watch\",63,0,1,0,null]],\"form\":1,\"message\":\"d\"}\n",
+    ),
+    // touched steps
+    (Said::Touched(Some(65_535)), "{\"touched\":65535}\n"),
+    (Said::Touched(None), "{\"touched\":null}\n"),
+    // rows and cars
+    (
+        Said::Cells("0..2..10#..."),
+        "{\"cells\":\"0..2..10#...\"}\n",
+    ),
+    (
+        Said::Rows(&["0..2..10#...", "............"]),
+        "{\"rows\":[\"0..2..10#...\",\"............\"]}\n",
+    ),
+    (
+        Said::Cars(CARS),
+        "{\"cars\":[[0,3,1],[18446744073709551615,1048575,9]]}\n",
+    ),
+    // refusals
+    (
+        Said::Refused(Refusal::NoPlan),
+        "{\"refused\":\"no plan\"}\n",
+    ),
+    (
+        Said::Refused(Refusal::LineTooLong),
+        "{\"refused\":\"line too long\"}\n",
+    ),
+    (
+        Said::Refused(Refusal::NotJson),
+        "{\"refused\":\"not json\"}\n",
+    ),
+    (
+        Said::Refused(Refusal::NotAPlan),
+        "{\"refused\":\"not a plan\"}\n",
+    ),
+    (Said::Refused(Refusal::Names), "{\"refused\":\"Names\"}\n"),
+    (Said::Refused(Refusal::Length), "{\"refused\":\"Length\"}\n"),
+    (Said::Refused(Refusal::Exit), "{\"refused\":\"Exit\"}\n"),
+    (Said::Refused(Refusal::Zones), "{\"refused\":\"Zones\"}\n"),
+    (Said::Refused(Refusal::Inlets), "{\"refused\":\"Inlets\"}\n"),
+    (
+        Said::Refused(Refusal::Detectors),
+        "{\"refused\":\"Detectors\"}\n",
+    ),
+    (
+        Said::Refused(Refusal::Default),
+        "{\"refused\":\"Default\"}\n",
+    ),
+    (
+        Said::Refused(Refusal::NotACommand),
+        "{\"refused\":\"not a command\"}\n",
+    ),
+    (
+        Said::Refused(Refusal::UnknownForm),
+        "{\"refused\":\"unknown form\"}\n",
+    ),
+    (
+        Said::Refused(Refusal::NoReplica),
+        "{\"refused\":\"NoReplica\"}\n",
+    ),
+    (
+        Said::Refused(Refusal::NoMessage),
+        "{\"refused\":\"NoMessage\"}\n",
+    ),
+    (
+        Said::Refused(Refusal::NameTaken),
+        "{\"refused\":\"NameTaken\"}\n",
+    ),
+    (
+        Said::Refused(Refusal::NoObject),
+        "{\"refused\":\"NoObject\"}\n",
+    ),
+    (Said::Refused(Refusal::Step), "{\"refused\":\"Step\"}\n"),
+    (
+        Said::Refused(Refusal::ValueOutOfRange),
         "{\"refused\":\"ValueOutOfRange\"}\n",
     ),
-    (Refusal::CountsSpent, "{\"refused\":\"CountsSpent\"}\n"),
-    (Refusal::Count, "{\"refused\":\"Count\"}\n"),
-    (Refusal::Insider, "{\"refused\":\"Insider\"}\n"),
-    (Refusal::Horizon, "{\"refused\":\"Horizon\"}\n"),
-    (Refusal::NoDetector, "{\"refused\":\"NoDetector\"}\n"),
-    (Refusal::Range, "{\"refused\":\"Range\"}\n"),
-    (Refusal::NotSimulated, "{\"refused\":\"NotSimulated\"}\n"),
+    (
+        Said::Refused(Refusal::CountsSpent),
+        "{\"refused\":\"CountsSpent\"}\n",
+    ),
+    (Said::Refused(Refusal::Count), "{\"refused\":\"Count\"}\n"),
+    (
+        Said::Refused(Refusal::Insider),
+        "{\"refused\":\"Insider\"}\n",
+    ),
+    (
+        Said::Refused(Refusal::Horizon),
+        "{\"refused\":\"Horizon\"}\n",
+    ),
+    (
+        Said::Refused(Refusal::NoDetector),
+        "{\"refused\":\"NoDetector\"}\n",
+    ),
+    (Said::Refused(Refusal::Range), "{\"refused\":\"Range\"}\n"),
+    (
+        Said::Refused(Refusal::NotSimulated),
+        "{\"refused\":\"NotSimulated\"}\n",
+    ),
 ];
 
 #[test]
-fn writes_refusals(rt: HostRuntime) -> Result<(), Fail> {
-    for (refusal, want) in REFUSALS {
-        is_written(&rt, rt.alloc(), &Answer::Refused(*refusal), want)?;
+fn writes_answers(rt: HostRuntime) -> Result<(), Fail> {
+    for (said, want) in ANSWERS {
+        let line = line_of(rt.alloc(), said)?;
+        assert_eq!(rt; line.as_str(), *want);
     }
     Ok(())
 }

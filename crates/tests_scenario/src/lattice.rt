@@ -72,18 +72,24 @@ fn map_of(alloc: Global, puts: &[Entry]) -> Result<LatMap<u32, Register>, OutOfM
     Ok(map)
 }
 
-// Whether a map has these entries and no other, by rising keys, each found by its key too.
-fn holds(
-    alloc: Global,
-    map: &LatMap<u32, Register>,
-    entries: &[Entry],
-) -> Result<bool, OutOfMemory> {
+// The entries of a map that are found by their keys too.
+fn found(alloc: Global, map: &LatMap<u32, Register>) -> Result<Vec<Entry>, OutOfMemory> {
     let mut all = Vec::new(alloc);
     for (step, register) in map.iter() {
         if map.get(*step) == Some(register) {
             all.push((*step, *register))?;
         }
     }
+    Ok(all)
+}
+
+// Whether a map has these entries and no other, by rising keys, each found by its key too.
+fn holds(
+    alloc: Global,
+    map: &LatMap<u32, Register>,
+    entries: &[Entry],
+) -> Result<bool, OutOfMemory> {
+    let all = found(alloc, map)?;
     Ok(all.as_slice() == entries && map.keys().count() == entries.len())
 }
 
@@ -127,6 +133,28 @@ fn replica(alloc: Global, puts: &[Entry], horizon: Greatest<u32>) -> Result<Repl
     })
 }
 
+// Whether two replicas merge to one of these entries that is advanced to 6.
+fn both_merge_to(
+    alloc: Global,
+    first: &Replica,
+    second: &Replica,
+    entries: &[Entry],
+) -> Result<bool, OutOfMemory> {
+    let both = replica(alloc, entries, Greatest::Of(6))?;
+    joins_to(first, second, &both)
+}
+
+// Whether a replica and one of these puts that is advanced to nothing do.
+fn joined_merge_to(
+    alloc: Global,
+    first: &Replica,
+    theirs: &[Entry],
+    entries: &[Entry],
+) -> Result<bool, OutOfMemory> {
+    let second = replica(alloc, theirs, Greatest::Nothing)?;
+    both_merge_to(alloc, first, &second, entries)
+}
+
 // Whether two replicas that are advanced to 6 and to nothing merge to one of these entries that is advanced to 6.
 fn merge_to(
     alloc: Global,
@@ -134,15 +162,19 @@ fn merge_to(
     theirs: &[Entry],
     entries: &[Entry],
 ) -> Result<bool, OutOfMemory> {
-    let a = replica(alloc, ours, Greatest::Of(6))?;
-    let b = replica(alloc, theirs, Greatest::Nothing)?;
-    let both = replica(alloc, entries, Greatest::Of(6))?;
-    joins_to(&a, &b, &both)
+    let first = replica(alloc, ours, Greatest::Of(6))?;
+    joined_merge_to(alloc, &first, theirs, entries)
+}
+
+// Whether a replica that holds nothing and is advanced to nothing is the least.
+fn nothing_is_least(alloc: Global) -> Result<bool, OutOfMemory> {
+    let nothing = replica(alloc, &[], Greatest::Nothing)?;
+    Ok(nothing.is_bottom())
 }
 
 #[test]
 fn replicas_merge(rt: HostRuntime) -> Result<(), Fail> {
-    assert!(rt; replica(rt.alloc(), &[], Greatest::Nothing)?.is_bottom());
+    assert!(rt; nothing_is_least(rt.alloc())?);
     for (ours, theirs, entries) in MERGES {
         assert!(rt;
             merge_to(rt.alloc(), ours, theirs, entries)?,

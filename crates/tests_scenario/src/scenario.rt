@@ -276,11 +276,27 @@ fn is_left(
     )
 }
 
+// Whether a replica is left as a row says by a scenario that comes.
+fn joins(
+    alloc: Global,
+    merge: &Merge,
+    before: &Scenario,
+    come: &Scenario,
+) -> Result<bool, OutOfMemory> {
+    let after = before.joined(come)?;
+    is_left(alloc, merge, before, &after)
+}
+
+// Whether it is by the edits of the row.
+fn comes_to(alloc: Global, merge: &Merge, before: &Scenario) -> Result<bool, OutOfMemory> {
+    let come = scenario(alloc, merge.come)?;
+    joins(alloc, merge, before, &come)
+}
+
 // Whether the edits of a row come to a replica as they should.
 fn comes(alloc: Global, merge: &Merge) -> Result<bool, OutOfMemory> {
     let before = scenario(alloc, merge.held)?;
-    let after = before.joined(&scenario(alloc, merge.come)?)?;
-    is_left(alloc, merge, &before, &after)
+    comes_to(alloc, merge, &before)
 }
 
 #[test]
@@ -308,11 +324,16 @@ const LISTS: &[(&[Edit], &[Edit])] = &[
     ),
 ];
 
+// Whether a list makes a scenario that lists these edits.
+fn makes(alloc: Global, edits: &[Edit], listed: &[Edit]) -> Result<bool, OutOfMemory> {
+    let made = Scenario::of_edits(alloc, edits)?;
+    lists(alloc, &made, listed)
+}
+
 #[test]
 fn lists_make_scenarios(rt: HostRuntime) -> Result<(), Fail> {
     for (edits, listed) in LISTS {
-        let made = Scenario::of_edits(rt.alloc(), edits)?;
-        assert!(rt; lists(rt.alloc(), &made, listed)?, "{edits:?}");
+        assert!(rt; makes(rt.alloc(), edits, listed)?, "{edits:?}");
     }
     Ok(())
 }
@@ -369,20 +390,35 @@ fn limit_at(rt: &impl Abort, scenario: &Scenario, plan: &Plan, step: u32) -> u32
     scenario.setting(plan, LIMIT, step)
 }
 
-// Looks at the limits of a scenario at some steps.
-fn look_at_limits(rt: &impl Abort, scenario: &Scenario, plan: &Plan, limits: &[u32; 4]) {
-    for (step, limit) in [2, 4, 5, 65_535].iter().zip(limits) {
-        assert_eq!(rt; limit_at(rt, scenario, plan, *step), *limit, "step {step}");
+// The limits of the first zone at the steps of the table.
+fn limits_after(
+    rt: &impl Abort,
+    alloc: Global,
+    plan: &Plan,
+    edits: &[Edit],
+) -> Result<[u32; 4], OutOfMemory> {
+    let made = scenario(alloc, edits)?;
+    Ok([
+        limit_at(rt, &made, plan, 2),
+        limit_at(rt, &made, plan, 4),
+        limit_at(rt, &made, plan, 5),
+        limit_at(rt, &made, plan, 65_535),
+    ])
+}
+
+// The limits of each row are as it says.
+fn limits_act(rt: &impl Abort, alloc: Global, plan: &Plan) -> Result<(), Fail> {
+    for (edits, limits) in LIMITS {
+        let made = limits_after(rt, alloc, plan, edits)?;
+        assert_eq!(rt; made, *limits, "{edits:?}");
     }
+    Ok(())
 }
 
 #[test]
 fn an_earlier_put_acts_on(rt: HostRuntime) -> Result<(), Fail> {
     let plan = plan_of(rt.alloc(), &FREE)?;
-    for (edits, limits) in LIMITS {
-        look_at_limits(&rt, &scenario(rt.alloc(), edits)?, &plan, limits);
-    }
-    Ok(())
+    limits_act(&rt, rt.alloc(), &plan)
 }
 
 /// One edit of each kind from step 2 on, a block that is withdrawn, and another limit from step 3 on.
@@ -535,19 +571,23 @@ fn look_at_settings(
     alloc: Global,
     plan: &Plan,
     scenario: &Scenario,
-) -> Result<(), OutOfMemory> {
+) -> Result<(), Fail> {
     for (step, numbers) in SETTINGS {
         assert!(rt; acts(alloc, plan, scenario, *step, numbers)?, "step {step}");
     }
     Ok(())
 }
 
+// Looks at what edits of all kinds do on a plan.
+fn all_kinds_act(rt: &impl Abort, alloc: Global, plan: &Plan) -> Result<(), Fail> {
+    let made = scenario(alloc, ALL_KINDS)?;
+    look_at_settings(rt, alloc, plan, &made)
+}
+
 #[test]
 fn edits_of_all_kinds_act(rt: HostRuntime) -> Result<(), Fail> {
     let plan = plan_of(rt.alloc(), &FREE)?;
-    let made = scenario(rt.alloc(), ALL_KINDS)?;
-    look_at_settings(&rt, rt.alloc(), &plan, &made)?;
-    Ok(())
+    all_kinds_act(&rt, rt.alloc(), &plan)
 }
 
 /// An edit, and how the plan of the free road refuses it. A count is 1 to 2^48.
@@ -788,14 +828,28 @@ fn faults_are_named_in_order(rt: HostRuntime) -> Result<(), Fail> {
     Ok(())
 }
 
+// The fault of the first faulty edit of a scenario.
+fn first_fault(
+    alloc: Global,
+    plan: &Plan,
+    edits: &[Edit],
+) -> Result<Option<EditFault>, OutOfMemory> {
+    let made = scenario(alloc, edits)?;
+    Ok(made.fits(plan))
+}
+
+// The first fault of each row is as it says.
+fn first_faults_are_named(rt: &impl Abort, alloc: Global, plan: &Plan) -> Result<(), Fail> {
+    for (edits, fault) in FIRST_FAULTS {
+        assert_eq!(rt; first_fault(alloc, plan, edits)?, *fault, "{edits:?}");
+    }
+    Ok(())
+}
+
 #[test]
 fn the_first_faulty_edit_is_named(rt: HostRuntime) -> Result<(), Fail> {
     let plan = plan_of(rt.alloc(), &FREE)?;
-    for (edits, fault) in FIRST_FAULTS {
-        let made = scenario(rt.alloc(), edits)?;
-        assert_eq!(rt; made.fits(&plan), *fault, "{edits:?}");
-    }
-    Ok(())
+    first_faults_are_named(&rt, rt.alloc(), &plan)
 }
 
 // Twice the same, by the calls of the trait.

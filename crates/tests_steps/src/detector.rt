@@ -122,17 +122,22 @@ fn total(
     Ok(totals)
 }
 
-#[test]
-fn counts_the_cars_of_the_worked_road(rt: HostRuntime) -> Result<(), Fail> {
-    let plan = Arc::new(rt.alloc(), plan_of(rt.alloc(), &FREE)?)?;
+// The detector of the free road counts as each row says.
+fn totals_are_counted(rt: &impl Abort, alloc: Global, plan: &Arc<Plan>) -> Result<(), Fail> {
     for count in COUNTS {
-        let totals = total(&rt, rt.alloc(), &plan, count)?;
+        let totals = total(rt, alloc, plan, count)?;
         assert!(rt;
             totals.cars == count.cars && totals.speeds == count.speeds,
             "{count:?}"
         );
     }
     Ok(())
+}
+
+#[test]
+fn counts_the_cars_of_the_worked_road(rt: HostRuntime) -> Result<(), Fail> {
+    let plan = Arc::new(rt.alloc(), plan_of(rt.alloc(), &FREE)?)?;
+    totals_are_counted(&rt, rt.alloc(), &plan)
 }
 
 /// A road of 400 cells where nobody enters.
@@ -145,7 +150,7 @@ const LONG: Parts = Parts {
 };
 
 /// Six cars on it.
-const CARS: [Car; 6] = [
+const CARS: &[Car] = &[
     Car {
         number: 1,
         cell: 0,
@@ -194,24 +199,43 @@ const PASSES: &[(&[u8], u32, u32, u32)] = &[
     (&[0, 0, 0, 0, 98, 0], 3, 0, 0),
 ];
 
-#[test]
-fn counts_by_any_speeds(rt: HostRuntime) -> Result<(), Fail> {
-    let alloc = rt.alloc();
-    let plan = Arc::new(alloc, plan_of(alloc, &LONG)?)?;
-    let road = Road::of(CARS.to_vec(alloc)?);
-    let input = input_of(&rt, alloc, &plan, 1, &road, true)?;
+// The detectors count as each row says.
+fn passes_are_counted(rt: &impl Abort, input: &StepInput) {
     for (speeds, detector, cars, sum) in PASSES {
-        let counts = counted(&rt, &input, speeds, *detector);
+        let counts = counted(rt, input, speeds, *detector);
         assert!(rt;
             counts.cars == *cars && counts.speeds == *sum,
             "{speeds:?} at {detector}"
         );
     }
+}
+
+// They do on a road of the plan.
+fn count_on_road(
+    rt: &impl Abort,
+    alloc: Global,
+    plan: &Arc<Plan>,
+    road: &Road,
+) -> Result<(), Fail> {
+    let input = input_of(rt, alloc, plan, 1, road, true)?;
+    passes_are_counted(rt, &input);
     Ok(())
 }
 
+// They do on the road of the six cars.
+fn count_six_cars(rt: &impl Abort, alloc: Global, plan: &Arc<Plan>) -> Result<(), Fail> {
+    let road = Road::of(CARS.to_vec(alloc)?);
+    count_on_road(rt, alloc, plan, &road)
+}
+
+#[test]
+fn counts_by_any_speeds(rt: HostRuntime) -> Result<(), Fail> {
+    let plan = Arc::new(rt.alloc(), plan_of(rt.alloc(), &LONG)?)?;
+    count_six_cars(&rt, rt.alloc(), &plan)
+}
+
 /// Cars on and past a row of 12 cells.
-const DRAWN: [Car; 4] = [
+const DRAWN: &[Car] = &[
     Car {
         number: 1,
         cell: 0,
@@ -242,12 +266,17 @@ const ROWS: &[(&[u32], &str)] = &[
     (&[4_294_967_295], "9..0.......1"),
 ];
 
-#[test]
-fn draws_blocks_in_any_order(rt: HostRuntime) -> Result<(), Fail> {
-    let road = Road::of(DRAWN.to_vec(rt.alloc())?);
+// The cars of a road are drawn as each row says.
+fn rows_are_drawn(rt: &impl Abort, alloc: Global, road: &Road) -> Result<(), Fail> {
     for (blocks, text) in ROWS {
-        let drawn = row_of(&rt, rt.alloc(), &road, blocks, 12)?;
+        let drawn = row_of(rt, alloc, road, blocks, 12)?;
         assert_eq!(rt; drawn.as_str(), *text, "blocks {blocks:?}");
     }
     Ok(())
+}
+
+#[test]
+fn draws_blocks_in_any_order(rt: HostRuntime) -> Result<(), Fail> {
+    let road = Road::of(DRAWN.to_vec(rt.alloc())?);
+    rows_are_drawn(&rt, rt.alloc(), &road)
 }

@@ -9,7 +9,7 @@ use std::alloc::Global;
 use std::process::Abort;
 use std::sync::Arc;
 use std::test::Fail;
-use tests_plans::{DENSE, FREE, HALF_SLOWED, Parts, car, plan_of};
+use tests_plans::{DENSE, FREE, HALF_SLOWED, Parts, plan_of};
 
 /// A road and its rows at rising steps. From a step on the only zone has another limit, from a step on a cell is
 /// blocked.
@@ -232,22 +232,59 @@ fn drawn(
     row_of(rt, alloc, road, settings.blocks(), plan.length())
 }
 
-// An example's rows, stepped alone, with the steps counted.
-fn steps_alone(rt: &impl Abort, alloc: Global, example: &Example) -> Result<(), Fail> {
-    let plan = Arc::new(alloc, plan_of(alloc, &example.parts)?)?;
+// The road of an example, stepped from one step to another.
+fn stepped_on(
+    rt: &impl Abort,
+    alloc: Global,
+    plan: &Arc<Plan>,
+    example: &Example,
+    (from, until): (u32, u32),
+    mut road: Road,
+    meter: &mut Meter,
+) -> Result<Road, OutOfMemory> {
+    for step in from..until {
+        road = stepped(rt, alloc, plan, example, step, &road, meter)?;
+    }
+    Ok(road)
+}
+
+// An example's road is drawn so at a step.
+fn is_drawn(
+    rt: &impl Abort,
+    alloc: Global,
+    plan: &Plan,
+    example: &Example,
+    (step, text): (u32, &str),
+    road: &Road,
+) -> Result<(), OutOfMemory> {
+    let row = drawn(rt, alloc, plan, example, step, road)?;
+    assert_eq!(rt; row.as_str(), text, "step {step}");
+    Ok(())
+}
+
+// An example's rows on its plan, stepped alone, with the steps counted.
+fn steps_rows(
+    rt: &impl Abort,
+    alloc: Global,
+    plan: &Arc<Plan>,
+    example: &Example,
+) -> Result<(), Fail> {
     let mut meter = Meter::new();
     let mut road = Road::empty(alloc);
     let mut step = 0;
     for (until, text) in example.rows {
-        for now in step..*until {
-            road = stepped(rt, alloc, &plan, example, now, &road, &mut meter)?;
-        }
+        road = stepped_on(rt, alloc, plan, example, (step, *until), road, &mut meter)?;
         step = *until;
-        let row = drawn(rt, alloc, &plan, example, step, &road)?;
-        assert_eq!(rt; row.as_str(), *text, "step {step}");
+        is_drawn(rt, alloc, plan, example, (step, text), &road)?;
     }
     assert_eq!(rt; meter.ticks(), u64::from(step));
     Ok(())
+}
+
+// An example's rows, stepped alone.
+fn steps_alone(rt: &impl Abort, alloc: Global, example: &Example) -> Result<(), Fail> {
+    let plan = Arc::new(alloc, plan_of(alloc, &example.parts)?)?;
+    steps_rows(rt, alloc, &plan, example)
 }
 
 /// Examples that nobody edits.
@@ -264,15 +301,18 @@ const EDITED: &[Example] = &[
     BLOCKED_INLET,
 ];
 
-#[test]
-fn steps_the_examples_alone(rt: HostRuntime) -> Result<(), Fail> {
-    for example in UNEDITED {
-        steps_alone(&rt, rt.alloc(), example)?;
-    }
-    for example in EDITED {
-        steps_alone(&rt, rt.alloc(), example)?;
+// Examples, stepped alone.
+fn step_alone_all(rt: &impl Abort, alloc: Global, examples: &[Example]) -> Result<(), Fail> {
+    for example in examples {
+        steps_alone(rt, alloc, example)?;
     }
     Ok(())
+}
+
+#[test]
+fn steps_the_examples_alone(rt: HostRuntime) -> Result<(), Fail> {
+    step_alone_all(&rt, rt.alloc(), UNEDITED)?;
+    step_alone_all(&rt, rt.alloc(), EDITED)
 }
 
 // An example's rows, by the plain program.
@@ -293,24 +333,38 @@ fn runs_the_examples_plainly(rt: HostRuntime) -> Result<(), Fail> {
     Ok(())
 }
 
+/// The cars of the free road at step 6.
+const NUMBERED: &[Car] = &[
+    Car {
+        number: 80,
+        cell: 0,
+        speed: 0,
+    },
+    Car {
+        number: 48,
+        cell: 3,
+        speed: 2,
+    },
+    Car {
+        number: 16,
+        cell: 7,
+        speed: 2,
+    },
+];
+
+// They are numbered so.
+fn are_numbered(rt: &impl Abort, alloc: Global, plan: &Arc<Plan>) -> Result<(), Fail> {
+    let empty = Road::empty(alloc);
+    let mut meter = Meter::new();
+    let road = stepped_on(rt, alloc, plan, &FREE_ROAD, (0, 6), empty, &mut meter)?;
+    assert!(rt; road.cars() == NUMBERED);
+    Ok(())
+}
+
 #[test]
 fn numbers_cars_by_step_and_inlet(rt: HostRuntime) -> Result<(), Fail> {
     let plan = Arc::new(rt.alloc(), plan_of(rt.alloc(), &FREE)?)?;
-    let mut road = Road::empty(rt.alloc());
-    for step in 0..6 {
-        road = stepped(
-            &rt,
-            rt.alloc(),
-            &plan,
-            &FREE_ROAD,
-            step,
-            &road,
-            &mut Meter::new(),
-        )?;
-    }
-    let cars = [car(80, 0, 0), car(48, 3, 2), car(16, 7, 2)];
-    assert!(rt; road.cars() == cars.as_slice());
-    Ok(())
+    are_numbered(&rt, rt.alloc(), &plan)
 }
 
 /// A steady road of 40 cells with limit 2 and no slowing.
@@ -350,34 +404,107 @@ fn after_step_one(alloc: Global, parts: &Parts, car: Option<Car>) -> Result<Vec<
     Ok(cars_after(alloc, &input)?)
 }
 
-#[test]
-fn lets_in_by_the_words_of_each_inlet(rt: HostRuntime) -> Result<(), Fail> {
+/// The car that enters at inlet 3 in step 1.
+const ENTERED: &[Car] = &[Car {
+    number: 19,
+    cell: 1,
+    speed: 1,
+}];
+
+/// A car, and where it is after step 1, once it is not slowed and once it is.
+const DRIVER: Car = Car {
+    number: 16,
+    cell: 7,
+    speed: 3,
+};
+
+const NOT_SLOWED: &[Car] = &[Car {
+    number: 16,
+    cell: 11,
+    speed: 4,
+}];
+
+const ONCE_SLOWED: &[Car] = &[Car {
+    number: 16,
+    cell: 10,
+    speed: 3,
+}];
+
+/// Parts of a plan, the car on its road, if there is one, and the cars after step 1.
+const FIRST_STEPS: &[(Parts, Option<Car>, &[Car])] = &[
     // inlet 3, at step 1: (3 * 40,503 + 30,011) mod 65,536 is 20,448, not below a chance of as much
-    let table: [(&[(u32, u32)], &[Car]); 4] = [
-        (&[(20, 0), (5, 0), (10, 0), (0, 0)], &[]),
-        (&[(20, 0), (5, 0), (10, 0), (0, 20_448)], &[]),
-        (&[(20, 0), (5, 0), (10, 0), (0, 20_449)], &[car(19, 1, 1)]),
-        (&[(20, 0), (5, 0), (10, 0), (0, 65_536)], &[car(19, 1, 1)]),
-    ];
-    for (inlets, want) in table {
-        let cars = after_step_one(rt.alloc(), &Parts { inlets, ..STEADY }, None)?;
-        assert!(rt; cars.as_slice() == want, "{inlets:?}");
-    }
-    Ok(())
-}
+    (
+        Parts {
+            inlets: &[(20, 0), (5, 0), (10, 0), (0, 0)],
+            ..STEADY
+        },
+        None,
+        &[],
+    ),
+    (
+        Parts {
+            inlets: &[(20, 0), (5, 0), (10, 0), (0, 20_448)],
+            ..STEADY
+        },
+        None,
+        &[],
+    ),
+    (
+        Parts {
+            inlets: &[(20, 0), (5, 0), (10, 0), (0, 20_449)],
+            ..STEADY
+        },
+        None,
+        ENTERED,
+    ),
+    (
+        Parts {
+            inlets: &[(20, 0), (5, 0), (10, 0), (0, 65_536)],
+            ..STEADY
+        },
+        None,
+        ENTERED,
+    ),
+    // car 16 at step 1: (16 * 40,503 + 30,011) mod 65,536 is 22,699; the limit 5 and a free road let it come to 4
+    (
+        Parts {
+            zones: &[(5, 0)],
+            ..STEADY
+        },
+        Some(DRIVER),
+        NOT_SLOWED,
+    ),
+    (
+        Parts {
+            zones: &[(5, 22_699)],
+            ..STEADY
+        },
+        Some(DRIVER),
+        NOT_SLOWED,
+    ),
+    (
+        Parts {
+            zones: &[(5, 22_700)],
+            ..STEADY
+        },
+        Some(DRIVER),
+        ONCE_SLOWED,
+    ),
+    (
+        Parts {
+            zones: &[(5, 65_536)],
+            ..STEADY
+        },
+        Some(DRIVER),
+        ONCE_SLOWED,
+    ),
+];
 
 #[test]
-fn slows_by_the_word_of_the_car(rt: HostRuntime) -> Result<(), Fail> {
-    // car 16 at step 1: (16 * 40,503 + 30,011) mod 65,536 is 22,699; the limit 5 and a free road let it come to 4
-    let table: [(&[(u32, u32)], Car); 4] = [
-        (&[(5, 0)], car(16, 11, 4)),
-        (&[(5, 22_699)], car(16, 11, 4)),
-        (&[(5, 22_700)], car(16, 10, 3)),
-        (&[(5, 65_536)], car(16, 10, 3)),
-    ];
-    for (zones, want) in table {
-        let cars = after_step_one(rt.alloc(), &Parts { zones, ..STEADY }, Some(car(16, 7, 3)))?;
-        assert!(rt; cars.as_slice() == [want].as_slice(), "{zones:?}");
+fn goes_by_the_words_of_each_inlet_and_car(rt: HostRuntime) -> Result<(), Fail> {
+    for (parts, car, want) in FIRST_STEPS {
+        let cars = after_step_one(rt.alloc(), parts, *car)?;
+        assert!(rt; cars.as_slice() == *want, "{parts:?}");
     }
     Ok(())
 }

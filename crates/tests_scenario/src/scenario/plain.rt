@@ -83,13 +83,25 @@ fn compare(rt: &impl Abort, plan: &Plan, edits: &[Edit], made: &Scenario) {
     }
 }
 
-// The edits of a row, as they are once they came, and which step they touch.
+// The settings of the edits of a row, as they are once they came, and which step they touch.
+fn looks_at(
+    rt: &impl Abort,
+    alloc: Global,
+    plan: &Plan,
+    merge: &Merge,
+    after: &[Edit],
+) -> Result<(), OutOfMemory> {
+    let made = scenario(alloc, merge.listed)?;
+    compare(rt, plan, after, &made);
+    assert_eq!(rt; touched(merge.held, after), merge.touched, "{merge:?}");
+    Ok(())
+}
+
+// The edits of a row come to those that were held.
 fn comes(rt: &impl Abort, alloc: Global, plan: &Plan, merge: &Merge) -> Result<(), OutOfMemory> {
     let mut after = merge.held.to_vec(alloc)?;
     after.extend_from_slice(merge.come)?;
-    compare(rt, plan, &after, &scenario(alloc, merge.listed)?);
-    assert_eq!(rt; touched(merge.held, &after), merge.touched, "{merge:?}");
-    Ok(())
+    looks_at(rt, alloc, plan, merge, &after)
 }
 
 #[test]
