@@ -12,6 +12,33 @@ use std::sync::{Arc, Wait};
 use std::thread::Threads;
 use std::time::{Clock, Instant};
 
+// Takes a replica up to a step by a crew: the cars on the road after it, and the nanoseconds that it took.
+fn advanced<R: Clock, C: Crew>(
+    rt: &R,
+    alloc: Global,
+    replica: &mut Replica,
+    steps: u32,
+    crew: &mut C,
+) -> Result<(usize, u128)> {
+    let start = Instant::now(rt)?;
+    replica.advance(alloc, steps, crew, &mut Meter::new())?;
+    let nanoseconds = start.elapsed(rt)?.as_nanos();
+    let cars = replica.state(alloc, steps)?.cars().len();
+    Ok((cars, nanoseconds))
+}
+
+// The same of a replica of a plan, from step zero.
+fn timed<R: Clock, C: Crew>(
+    rt: &R,
+    alloc: Global,
+    plan: &Arc<Plan>,
+    steps: u32,
+    crew: &mut C,
+) -> Result<(usize, u128)> {
+    let mut replica = Replica::open(alloc, Arc::try_clone(plan)?, 0)?;
+    advanced(rt, alloc, &mut replica, steps, crew)
+}
+
 // Times a run of a plan from step zero up to a step by a crew, and writes its line.
 fn time<R: Clock + Print, C: Crew>(
     rt: &R,
@@ -22,11 +49,7 @@ fn time<R: Clock + Print, C: Crew>(
     workers: u32,
     crew: &mut C,
 ) -> Result<()> {
-    let mut replica = Replica::open(alloc, Arc::try_clone(plan)?, 0)?;
-    let start = Instant::now(rt)?;
-    replica.advance(alloc, steps, crew, &mut Meter::new())?;
-    let nanoseconds = start.elapsed(rt)?.as_nanos();
-    let cars = replica.state(alloc, steps)?.cars().len();
+    let (cars, nanoseconds) = timed(rt, alloc, plan, steps, crew)?;
     println!(rt; "{name} {workers} {steps} {cars} {nanoseconds}")?;
     Ok(())
 }

@@ -12,9 +12,8 @@ use std::sync::{Arc, Wait};
 use std::thread::Threads;
 use tests_plans::{DENSE, DENSE_ROWS, plan_of};
 
-// Whether a crew takes the road through its worked rows.
-fn gives<C: Crew>(alloc: Global, plan: &Arc<Plan>, crew: &mut C) -> Result<bool> {
-    let mut replica = Replica::open(alloc, Arc::try_clone(plan)?, 0)?;
+// Whether a crew takes a replica of the road through its worked rows.
+fn takes_rows<C: Crew>(alloc: Global, replica: &mut Replica, crew: &mut C) -> Result<bool> {
     let last = DENSE_ROWS.len() as u32;
     replica.advance(alloc, last, crew, &mut Meter::new())?;
     let rows = replica.rows(alloc, 1, last)?;
@@ -23,6 +22,12 @@ fn gives<C: Crew>(alloc: Global, plan: &Arc<Plan>, crew: &mut C) -> Result<bool>
             .map(String::as_str)
             .eq(DENSE_ROWS.iter().copied()),
     )
+}
+
+// The same of a new replica.
+fn gives<C: Crew>(alloc: Global, plan: &Arc<Plan>, crew: &mut C) -> Result<bool> {
+    let mut replica = Replica::open(alloc, Arc::try_clone(plan)?, 0)?;
+    takes_rows(alloc, &mut replica, crew)
 }
 
 // How many of some runs give the worked rows, each by a new crew of threads made for each step.
@@ -69,6 +74,22 @@ fn runs_by_pools<R: Threads + Wait + Clone + Drop + Send + 'static>(
     Ok(good)
 }
 
+// Lets 1 to 16 workers take this plan's road through its rows.
+fn run_on<R: Threads + Wait + Print + Clone + Drop + Send + 'static>(
+    rt: &R,
+    alloc: Global,
+    plan: &Arc<Plan>,
+    workers: u32,
+    runs: u32,
+) -> Result<()> {
+    let workers = workers.clamp(1, 16);
+    let by_threads = runs_by_threads(rt, alloc, plan, workers, runs)?;
+    println!(rt; "{by_threads} of {runs} runs by threads made for each step gave the worked rows")?;
+    let by_pools = runs_by_pools(rt, alloc, plan, workers, runs)?;
+    println!(rt; "{by_pools} of {runs} runs by lasting workers gave the worked rows")?;
+    Ok(())
+}
+
 /// Lets 1 to 16 workers take the road through its worked rows, so many times by each kind of crew, and writes how often
 /// they gave them.
 pub(crate) fn run<R: Threads + Wait + Print + Clone + Drop + Send + 'static>(
@@ -78,10 +99,5 @@ pub(crate) fn run<R: Threads + Wait + Print + Clone + Drop + Send + 'static>(
     runs: u32,
 ) -> Result<()> {
     let plan = Arc::new(alloc, plan_of(alloc, &DENSE)?)?;
-    let workers = workers.clamp(1, 16);
-    let by_threads = runs_by_threads(rt, alloc, &plan, workers, runs)?;
-    println!(rt; "{by_threads} of {runs} runs by threads made for each step gave the worked rows")?;
-    let by_pools = runs_by_pools(rt, alloc, &plan, workers, runs)?;
-    println!(rt; "{by_pools} of {runs} runs by lasting workers gave the worked rows")?;
-    Ok(())
+    run_on(rt, alloc, &plan, workers, runs)
 }

@@ -14,14 +14,6 @@ use std::sync::Arc;
 /// How many steps before the horizon an edit acts.
 const BACK: u32 = 200;
 
-/// A sheet that has grown.
-#[derive(Drop)]
-struct Growth {
-    sheet: Sheet,
-    /// How many steps were computed for it.
-    steps: u64,
-}
-
 // The scenario of one edit of the first zone's limit, to 3 and 4 in turn; none for the first, which is the run itself.
 fn scenario_of(alloc: Global, step: u32, count: u32) -> Result<Scenario, OutOfMemory> {
     let nothing = Scenario::empty(alloc);
@@ -39,23 +31,16 @@ fn scenario_of(alloc: Global, step: u32, count: u32) -> Result<Scenario, OutOfMe
     })
 }
 
-// The sheet with one edit more, simulated up to a step; none where the edit does not fit or the step is too great.
-fn grown_by(
-    alloc: Global,
-    sheet: &Sheet,
-    count: u32,
-    to: u32,
-) -> Result<Option<Growth>, GrownFault> {
+// Gives a sheet one edit more and simulates it up to a step: how many steps were computed for that; none where the edit
+// does not fit or the step is too great.
+fn grow(alloc: Global, sheet: &mut Sheet, count: u32, to: u32) -> Result<Option<u64>, GrownFault> {
     let scenario = scenario_of(alloc, to.saturating_sub(BACK), count)?;
     if to > GREATEST_HORIZON || scenario.fits(sheet.plan()).is_some() {
         return Ok(None);
     }
     let mut meter = Meter::new();
-    let done = grown(alloc, sheet, &scenario, to, &mut Alone, &mut meter)?;
-    Ok(Some(Growth {
-        sheet: done.sheet,
-        steps: meter.ticks(),
-    }))
+    *sheet = grown(alloc, sheet, &scenario, to, &mut Alone, &mut meter)?.sheet;
+    Ok(Some(meter.ticks()))
 }
 
 // One number more.
@@ -63,23 +48,33 @@ fn push(numbers: &mut Vec<u64>, number: u64) -> Result<(), OutOfMemory> {
     Ok(numbers.push(number)?)
 }
 
-// How many steps are computed for a run up to a horizon, and then for each late edit; none where the horizon is too great.
+// How many steps are computed for a run of a sheet up to a horizon, and then for each late edit; none where the horizon is
+// too great.
+fn steps_from(
+    alloc: Global,
+    sheet: &mut Sheet,
+    horizon: u32,
+    edits: u32,
+) -> Result<Vec<u64>, GrownFault> {
+    let mut steps = Vec::new(alloc);
+    for count in 0..=edits {
+        let Some(computed) = grow(alloc, sheet, count, horizon)? else {
+            break;
+        };
+        push(&mut steps, computed)?;
+    }
+    Ok(steps)
+}
+
+// The same from step zero of a plan.
 fn steps_of(
     alloc: Global,
     plan: Arc<Plan>,
     horizon: u32,
     edits: u32,
 ) -> Result<Vec<u64>, GrownFault> {
-    let mut steps = Vec::new(alloc);
     let mut sheet = Sheet::opening(alloc, plan)?;
-    for count in 0..=edits {
-        let Some(done) = grown_by(alloc, &sheet, count, horizon)? else {
-            break;
-        };
-        sheet = done.sheet;
-        push(&mut steps, done.steps)?;
-    }
-    Ok(steps)
+    steps_from(alloc, &mut sheet, horizon, edits)
 }
 
 /// Writes how many steps are computed for a run up to a horizon, and then for each late edit; nothing where the horizon is
