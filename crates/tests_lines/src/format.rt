@@ -641,7 +641,7 @@ fn has_edits(rt: &impl Abort, command: &Command, count: usize) {
         Command::Import { edits, .. } => edits.as_slice(),
         _ => &[],
     };
-    assert_eq!(rt; edits.len(), count + 1);
+    assert_eq!(rt; edits.len(), count.saturating_add(1));
     assert!(rt;
         edits
             .iter()
