@@ -119,24 +119,6 @@ fn all_work<J: Naming + Send + Sync, R: Wait + Drop + Send, W: Threads + Wait + 
     Ok(([engineer, told, untold], is_shown && rises))
 }
 
-// The same of the three sessions of a store, in their order.
-fn three_work<J: Naming + Send + Sync, R: Wait + Drop + Send, W: Threads + Wait + Sync>(
-    rt: &W,
-    alloc: Global,
-    shared: &Shared<J, R>,
-    mut sessions: Vec<Session<J>>,
-) -> Result<(Vec<Session<J>>, bool), Fail> {
-    let (Some(untold), Some(told), Some(engineer)) = (
-        sessions.pop(),
-        sessions.pop(),
-        sessions.pop(),
-    ) else {
-        return Err(Fail::new("three sessions"));
-    };
-    let (sessions, well) = all_work(rt, alloc, shared, engineer, told, untold)?;
-    Ok((Vec::from_array(alloc, sessions)?, well))
-}
-
 // A store is opened, worked with and closed. What is left, where the dashboards saw what they should.
 fn day<J: Naming + Send + Sync, R: Wait + Drop + Send, W: Threads + Wait + Sync>(
     rt: &W,
@@ -147,9 +129,16 @@ fn day<J: Naming + Send + Sync, R: Wait + Drop + Send, W: Threads + Wait + Sync>
     requires replica { prepared.replica ≡ J.replica }
     requires ledger { (prepared.ledger.name ≡ J.name) × (prepared.ledger.parts ≡ J.parts) }
 {
-    let (shared, sessions) = open::<J, R>(prepared)?;
-    let (sessions, well) = three_work(rt, alloc, &shared, sessions)?;
-    match close(shared, sessions) {
+    let (shared, mut sessions) = open::<J, R>(prepared)?;
+    let (Some(untold), Some(told), Some(engineer)) = (
+        sessions.pop(),
+        sessions.pop(),
+        sessions.pop(),
+    ) else {
+        return Err(Fail::new("three sessions"));
+    };
+    let (sessions, well) = all_work(rt, alloc, &shared, engineer, told, untold)?;
+    match close(shared, Vec::from_array(alloc, sessions)?) {
         Ok(closed) if well => Ok(Some(closed)),
         _ => Ok(None),
     }

@@ -105,32 +105,6 @@ fn both<J: Naming + Send + Sync, R: Wait + Drop + Send, W: Threads + Wait + Sync
     )
 }
 
-// A session makes the first write of a store, up to step 6.
-fn writes_first<J: Naming, R: Wait + Drop, W: Wait>(
-    rt: &W,
-    shared: &Shared<J, R>,
-    session: &mut Session<J>,
-) -> Result<(), Fail> {
-    let first = session.advance(rt, shared, 6, &mut Alone, &mut Meter::new())?;
-    if first.place != 0 {
-        return Err(Fail::new("another place"));
-    }
-    Ok(())
-}
-
-// What the first of two sessions is answered, and the second is shown meanwhile, once the first has written.
-fn two_look<J: Naming + Send + Sync, R: Wait + Drop + Send, W: Threads + Wait + Sync>(
-    rt: &W,
-    shared: &Shared<J, R>,
-    mut sessions: Vec<Session<J>>,
-) -> Result<(Answer, Option<u32>), Fail> {
-    let (Some(reader), Some(mut writer)) = (sessions.pop(), sessions.pop()) else {
-        return Err(Fail::new("two sessions"));
-    };
-    writes_first(rt, shared, &mut writer)?;
-    Ok(both(rt, shared, writer, reader))
-}
-
 // Whether a session that was told nothing finds the write that is done, while another one holds the lock.
 fn looks_meanwhile<J: Naming + Send + Sync, R: Wait + Drop + Send, W: Threads + Wait + Sync>(
     rt: &W,
@@ -140,8 +114,15 @@ fn looks_meanwhile<J: Naming + Send + Sync, R: Wait + Drop + Send, W: Threads + 
     requires replica { prepared.replica ≡ J.replica }
     requires ledger { (prepared.ledger.name ≡ J.name) × (prepared.ledger.parts ≡ J.parts) }
 {
-    let (shared, sessions) = open::<J, R>(prepared)?;
-    two_look(rt, &shared, sessions)
+    let (shared, mut sessions) = open::<J, R>(prepared)?;
+    let (Some(reader), Some(mut writer)) = (sessions.pop(), sessions.pop()) else {
+        return Err(Fail::new("two sessions"));
+    };
+    let first = writer.advance(rt, &shared, 6, &mut Alone, &mut Meter::new())?;
+    if first.place != 0 {
+        return Err(Fail::new("another place"));
+    }
+    Ok(both(rt, &shared, writer, reader))
 }
 
 #[test]

@@ -85,7 +85,7 @@ pub(crate) const TOLD: Script = Script {
 };
 
 /// The same store is closed in each way.
-pub(crate) const CLOSINGS: &[Closing] = &[
+pub(crate) const CLOSINGS: [Closing; 4] = [
     Closing::InOrder,
     Closing::LastFirst,
     Closing::WithoutLast,
@@ -288,6 +288,3 @@ pub(crate) const KEPT: Script = Script {
     rows: &[(129, ".1.1.1.1.1.."), (130, "0.1.1.1.1.1.")],
     ..TOLD
 };
-
-/// Scripts that are played one after another.
-pub(crate) const WORKED: &[Script] = &[ALONE, WITHDRAWN, THREE];

@@ -1,7 +1,7 @@
 //! Worked runs of sessions, one after another in one thread.
 
 use crate::acts::{Script, goes};
-use crate::scripts::{CLOSINGS, KEPT, TOLD, WORKED};
+use crate::scripts::{ALONE, CLOSINGS, KEPT, THREE, TOLD, WITHDRAWN};
 use road_sessions::{OpenFault, Prepared, prepare};
 use std::alloc::Global;
 use std::marker::Brand;
@@ -46,18 +46,15 @@ fn runs<R: Wait + Drop + Copy>(rt: R, alloc: Global, script: &Script) -> bool {
 #[test]
 fn a_receipt_is_heard(rt: HostRuntime) {
     for closing in CLOSINGS {
-        let script = Script {
-            closing: *closing,
-            ..TOLD
-        };
+        let script = Script { closing, ..TOLD };
         assert!(rt; runs(&rt, rt.alloc(), &script));
     }
 }
 
 #[test]
 fn worked_scripts(rt: HostRuntime) {
-    for script in WORKED {
-        assert!(rt; runs(&rt, rt.alloc(), script));
+    for script in [ALONE, WITHDRAWN, THREE] {
+        assert!(rt; runs(&rt, rt.alloc(), &script));
     }
 }
 
