@@ -9,8 +9,6 @@ ghost use Rattle.road_workers.specs.Private.Gathered.{AreGathered};
 
 mod gathering;
 mod job;
-#[cfg(test)]
-mod tests;
 mod waiting;
 mod working;
 
