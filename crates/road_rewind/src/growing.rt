@@ -3,12 +3,14 @@
 ghost use Rattle.std.specs.Prelude.{◌≡◌, ◌≤◌, ◌<◌, ◌-◌, max, IfOk, OnOk, OnErr, MatchResult};
 ghost use Rattle.road_plan.specs.declared.limits.TheConstants.{GREATEST_HORIZON};
 ghost use Rattle.road_scenario.specs.Faults.{AreInRange};
+ghost use Rattle.road_scenario.specs.Winners.{join};
+ghost use Rattle.road_sheet.specs.Drafts.{draft_start};
 ghost use Rattle.road_sheet.specs.Sheets.{IsAtMost, sheet_after_step};
 ghost use Rattle.road_rewind.specs.Growth.{grown_sheet, touched_step, kept_step, most_steps, meter_after, TicksAtMost, gone_after_fault};
 
 use crate::faults::{GrownFault, growth_fault};
 use crate::growth::Grown;
-use road_ends::Meter;
+use road_ends::{Meter, OutOfMemory};
 use road_scenario::Scenario;
 use road_scenario::laws::winners_agree;
 use road_sheet::{Draft, Sheet};
@@ -53,12 +55,35 @@ pub fn grown<C: Crew>(
 {
     sheet.known();
     winners_agree();
+    let (mut draft, touched) = begun(alloc, sheet, scenario)?;
+    simulate(alloc, &mut draft, sheet.horizon().max(to), crew, meter)?;
+    Ok(Grown {
+        sheet: draft.sheet(),
+        touched,
+    })
+}
+
+// The draft of the joined scenario, which begins where its run is no longer that of the sheet, and the touched step.
+fn begun(
+    alloc: Global,
+    sheet: &Sheet,
+    scenario: &Scenario,
+) -> Result<(Draft, Option<u32>), OutOfMemory>
+    requires fits { AreInRange sheet.now.plan scenario.now }
+    ensures draft { IfOk result (λ begun. begun.0 ≡ record {
+      plan = sheet.now.plan;
+      edits = join sheet.now.edits scenario.now;
+      horizon = draft_start sheet.now.horizon (kept_step sheet.now.horizon (touched_step sheet.now scenario.now));
+    }) }
+    ensures touched { IfOk result (λ begun. begun.1 ≡ touched_step sheet.now scenario.now) }
+{
+    sheet.known();
+    winners_agree();
     let joined = sheet.scenario().joined(scenario)?;
     let touched = sheet.scenario().touched_by(scenario, &joined);
     let keep = kept_step(sheet.horizon(), touched);
     let draft = sheet.draft_of(alloc, joined, keep)?;
-    let sheet = simulated(alloc, draft, sheet.horizon().max(to), crew, meter)?;
-    Ok(Grown { sheet, touched })
+    Ok((draft, touched))
 }
 
 // Up to which step a run stays right.
@@ -71,27 +96,27 @@ fn kept_step(horizon: u32, touched: Option<u32>) -> u32
     }
 }
 
-// The sheet of a draft, simulated up to a step. The meter counts each step.
-fn simulated<C: Crew>(
+// Simulates a draft up to a step. The meter counts each step.
+fn simulate<C: Crew>(
     alloc: Global,
-    mut draft: Draft,
+    draft: &mut Draft,
     to: u32,
     crew: &mut C,
     meter: &mut Meter,
-) -> Result<Sheet, GrownFault>
-    requires before { draft.horizon ≤ to }
+) -> Result<(), GrownFault>
+    requires before { draft.old.horizon ≤ to }
     requires within_limit { to ≤ GREATEST_HORIZON }
-    ensures sheet { IfOk result (λ sheet. sheet ≡ record draft { horizon = to }) }
-    ensures steps { IfOk result (λ _. meter.new ≡ meter_after meter.old (to - draft.horizon)) }
-    ensures few { TicksAtMost (to - draft.horizon) meter.old meter.new }
+    ensures simulated { OnOk result (draft.new ≡ record draft.old { horizon = to }) }
+    ensures steps { OnOk result (meter.new ≡ meter_after meter.old (to - draft.old.horizon)) }
+    ensures few { TicksAtMost (to - draft.old.horizon) meter.old meter.new }
     ensures gone { MatchResult result (λ _. C.gone crew.new ≡ C.gone crew.old)
         (λ fault. C.gone crew.new ≡ gone_after_fault fault (C.gone crew.old)) }
 {
     for step in draft.horizon()..to {
-        one_step(alloc, &mut draft, crew)?;
+        one_step(alloc, draft, crew)?;
         meter.tick();
     }
-    Ok(draft.sheet())
+    Ok(())
 }
 
 // One step more.

@@ -1,8 +1,9 @@
 //! The known part of a run: blocks of steps up to the horizon, and what is read from them.
 
-ghost use Rattle.std.specs.Prelude.{◌≡◌, ◌≢◌, ◌<◌, ◌≤◌, ◌+◌, ◌*◌, ◌/◌, ◌%◌, IfOk, IfErr, OnErr, OnOk, None, length, map, min, take};
+ghost use Rattle.std.specs.Prelude.{◌≡◌, ◌≢◌, ◌<◌, ◌≤◌, ◌+◌, ◌*◌, ◌/◌, ◌%◌, ◌++◌, ◌∷◌, [], IfOk, IfErr, OnErr, OnOk, None, length, map, min, replicate, take};
 ghost use Rattle.std.specs.Arc.{arc_value};
 ghost use Rattle.road_plan.specs.declared.limits.TheConstants.{GREATEST_HORIZON};
+ghost use Rattle.road_detector.specs.Passes.{no_totals};
 ghost use Rattle.road_ends.specs.Input.{input_speeds};
 ghost use Rattle.road_scenario.specs.Faults.{AreInRange};
 ghost use Rattle.road_scenario.specs.Touched.{first_touched_step};
@@ -374,10 +375,8 @@ impl Sheet {
           horizon = self.now.horizon;
         }) }
     {
-        let whole = shared(alloc, &self.whole, self.whole.len())?;
-        let cut = self.cut.copied()?;
-        let last = self.last.copied()?;
-        let plan = Arc::try_clone(&self.plan)?;
+        let (cut, last) = copies(&self.cut, &self.last)?;
+        let (plan, whole) = shared_with_plan(alloc, &self.plan, &self.whole, self.whole.len())?;
         let known = Both {
             first: scenario,
             second: Greatest::Of(self.horizon()),
@@ -404,10 +403,8 @@ impl Sheet {
         }) }
     {
         let start = &self.block(block as usize).start;
-        let last = start.road(alloc)?;
-        let cut = Block::begin(alloc, start.copied()?, self.plan.detectors().len())?;
-        let whole = shared(alloc, &self.whole, block as usize)?;
-        let plan = Arc::try_clone(&self.plan)?;
+        let (cut, last) = begun(alloc, start, self.plan.detectors().len())?;
+        let (plan, whole) = shared_with_plan(alloc, &self.plan, &self.whole, block as usize)?;
         let known = Both {
             first: scenario,
             second: Greatest::Of(block * BLOCK_STEPS),
@@ -483,15 +480,18 @@ impl Sheet {
         last
     }
 
-    // The road of the next step, as it is kept.
-    fn checkpoint(&self, alloc: Global, road: &Road) -> Result<Checkpoint, OutOfMemory>
+    // The block that begins with the road of the next step.
+    fn next_block(&self, alloc: Global, road: &Road) -> Result<Block, OutOfMemory>
         requires within_limit { self.now.horizon < GREATEST_HORIZON }
         requires road { road.now ≡ state_of self.now (self.now.horizon + 1) }
-        ensures { IfOk result (λ kept. kept ≡ road.now) }
+        ensures start { IfOk result (λ block. block.start ≡ road.now) }
+        ensures totals { IfOk result (λ block. block.totals.items
+            ≡ replicate (length self.now.plan.detectors) no_totals) }
     {
         self.plan.known();
         cars_stay_on_road(&self.plan);
-        Checkpoint::of(alloc, road)
+        let kept = Checkpoint::of(alloc, road)?;
+        Block::begin(alloc, kept, self.plan.detectors().len())
     }
 
     // A step more that ends the block; what comes back is the road before it. What can fail for memory is done before
@@ -514,17 +514,61 @@ impl Sheet {
         cars_pass_one_by_one(&self.plan);
         totals_are_bounded(&self.plan);
         let horizon = self.horizon() + 1;
-        let kept = self.checkpoint(alloc, &road)?;
-        let next = Block::begin(alloc, kept, self.plan.detectors().len())?;
+        let next = self.next_block(alloc, &road)?;
         let mut ended = self.cut.copied()?;
         ended.count(input, speeds);
-        let block = Arc::new(alloc, ended)?;
-        self.whole.push(block)?;
+        push_shared(alloc, &mut self.whole, ended)?;
         self.cut = next;
         let last = mem::replace(&mut self.last, road);
         self.known.second = Greatest::Of(horizon);
         Ok(last)
     }
+}
+
+// The block that begins at a checkpoint, and the road there.
+fn begun(alloc: Global, start: &Checkpoint, detectors: usize) -> Result<(Block, Road), OutOfMemory>
+    ensures start { IfOk result (λ begun. begun.0.start ≡ start.now) }
+    ensures totals { IfOk result (λ begun. begun.0.totals.items ≡ replicate detectors no_totals) }
+    ensures road { IfOk result (λ begun. begun.1 ≡ start.now) }
+{
+    let road = start.road(alloc)?;
+    let block = Block::begin(alloc, start.copied()?, detectors)?;
+    Ok((block, road))
+}
+
+// An equal block and an equal road.
+fn copies(block: &Block, road: &Road) -> Result<(Block, Road), OutOfMemory>
+    ensures start { IfOk result (λ copies. copies.0.start ≡ block.now.start) }
+    ensures totals { IfOk result (λ copies. copies.0.totals.items ≡ block.now.totals.items) }
+    ensures road { IfOk result (λ copies. copies.1 ≡ road.now) }
+{
+    let copy = block.copied()?;
+    Ok((copy, road.copied()?))
+}
+
+// Puts a block behind the others, shared. Where it is refused, these are as they were.
+fn push_shared(alloc: Global, blocks: &mut Vec<Arc<Block>>, block: Block) -> Result<(), OutOfMemory>
+    ensures pushed { OnOk result (map arc_value blocks.new.items ≡ map arc_value blocks.old.items ++ block ∷ []) }
+    ensures unchanged { OnErr result (blocks.new.items ≡ blocks.old.items) }
+{
+    let block = Arc::new(alloc, block)?;
+    blocks.push(block)?;
+    Ok(())
+}
+
+// A plan, and the first of these blocks, shared.
+fn shared_with_plan(
+    alloc: Global,
+    plan: &Arc<Plan>,
+    blocks: &[Arc<Block>],
+    count: usize,
+) -> Result<(Arc<Plan>, Vec<Arc<Block>>), OutOfMemory>
+    requires { count ≤ length blocks.now }
+    ensures plan { IfOk result (λ shared. arc_value shared.0 ≡ arc_value plan.now) }
+    ensures blocks { IfOk result (λ shared. map arc_value shared.1.items ≡ map arc_value (take count blocks.now)) }
+{
+    let whole = shared(alloc, blocks, count)?;
+    Ok((Arc::try_clone(plan)?, whole))
 }
 
 // The first of these blocks, shared.

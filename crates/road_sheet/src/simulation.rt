@@ -3,7 +3,7 @@
 //! Who asks often hands in words of the plan and keeps them: what is drawn for the steps round the last one serves the
 //! next question too, whatever the edits.
 
-ghost use Rattle.std.specs.Prelude.{◌≡◌, IfOk, ◌≤◌, ◌<◌, ◌+◌, [], length, map, string_bytes};
+ghost use Rattle.std.specs.Prelude.{◌≡◌, IfOk, OnOk, ◌≤◌, ◌<◌, ◌+◌, [], length, map, string_bytes};
 ghost use Rattle.std.specs.Arc.{arc_value};
 ghost use Rattle.road_plan.specs.declared.limits.TheConstants.{GREATEST_HORIZON};
 ghost use Rattle.road_scenario.specs.Faults.{AreInRange};
@@ -250,22 +250,40 @@ pub fn rows_with(
     let mut rows = Vec::new(alloc);
     rows.push(row_of(alloc, plan, scenario, &state)?)?;
     for step in from..to {
-        let stepped = next(
-            alloc,
-            plan,
-            scenario,
-            step,
-            &state.road,
-            &mut settings,
-            words,
-        )?;
-        state = State {
-            step: step + 1,
-            road: stepped.road,
-        };
-        rows.push(row_of(alloc, plan, scenario, &state)?)?;
+        let row = next_row(alloc, plan, scenario, &mut state, &mut settings, words)?;
+        rows.push(row)?;
     }
     Ok((rows, state))
+}
+
+// Takes a state to the next step. The answer is the row of that.
+fn next_row(
+    alloc: Global,
+    plan: &Arc<Plan>,
+    scenario: &Scenario,
+    state: &mut State,
+    settings: &mut CarriedSettings,
+    words: &mut DrawnWords,
+) -> Result<String, OutOfMemory>
+    requires fits { AreInRange (arc_value plan.now) scenario.now }
+    requires horizon { state.old.step < GREATEST_HORIZON }
+    requires run { state.old.road ≡ run_at (arc_value plan.now) scenario.now state.old.step }
+    requires carried { AreCarried (arc_value plan.now) scenario.now settings.old }
+    requires words { words.old ≡ (arc_value plan.now).words }
+    ensures row { IfOk result (λ row. string_bytes row
+        ≡ row_at (arc_value plan.now) scenario.now (state.old.step + 1)) }
+    ensures step { OnOk result (state.new.step ≡ state.old.step + 1) }
+    ensures road { OnOk result (state.new.road ≡ run_at (arc_value plan.now) scenario.now (state.old.step + 1)) }
+    ensures carried { AreCarried (arc_value plan.now) scenario.now settings.new }
+    ensures unchanged { words.new ≡ words.old }
+{
+    let step = state.step;
+    let stepped = next(alloc, plan, scenario, step, &state.road, settings, words)?;
+    *state = State {
+        step: step + 1,
+        road: stepped.road,
+    };
+    row_of(alloc, plan, scenario, state)
 }
 
 /// What a detector counts in the steps from that of a state up to another, and the state after them.

@@ -11,10 +11,10 @@ use Rattle.road_sheet.proofs.sheet.Sheet.cut_back.Goals as goal
 pub invariant_of-result : goal.invariant_of-result
 invariant_of-result c =
     let now = c.args.self.now in
-    stays_below _ now c.args.scenario (arc_value c.in_ok-plan.plan) _ c.args.block _ _ _ c.in_ok-cut.cut _ c.in_ok-last.last c.self.invariant c.self.view_is c.requires.winners c.requires.fits c.requires.simulated c.requires.same
-    (c.in_ok-plan.ensures ∙ ap (λ (x : Sheet). x.plan) c.self.view_is)
+    stays_below _ now c.args.scenario (arc_value c.in_ok-plan.plan) _ c.args.block _ _ _ c.in_ok-cut.cut _ c.in_ok-cut.last c.self.invariant c.self.view_is c.requires.winners c.requires.fits c.requires.simulated c.requires.same
+    (c.in_ok-plan.ensures.plan ∙ ap (λ (x : Sheet). x.plan) c.self.view_is)
     (omega arith)
-    (c.in_ok-whole.ensures ∙ ap (λ xs. map arc_value (take c.args.block xs)) c.deref-2.ensures.value ∙ sym (take-map arc_value c.args.block c.self.inside.whole.items))
-    (c.in_ok-last.ensures ∙ c.block.ensures.start)
-    (c.in_ok-cut.ensures.start ∙ c.in_ok-copied.ensures ∙ sym c.in_ok-last.ensures)
-    (c.in_ok-cut.ensures.totals ∙ ap (λ n. replicate n no_totals) (ap length c.detectors.ensures ∙ ap (λ (q : Plan). length q.detectors) (c.deref.ensures ∙ sym c.in_ok-plan.ensures)))
+    (c.in_ok-plan.ensures.blocks ∙ ap (λ xs. map arc_value (take c.args.block xs)) c.deref-2.ensures.value ∙ sym (take-map arc_value c.args.block c.self.inside.whole.items))
+    (c.in_ok-cut.ensures.road ∙ c.block.ensures.start)
+    (c.in_ok-cut.ensures.start ∙ sym c.in_ok-cut.ensures.road)
+    (c.in_ok-cut.ensures.totals ∙ ap (λ n. replicate n no_totals) (ap length c.detectors.ensures ∙ ap (λ (q : Plan). length q.detectors) (c.deref.ensures ∙ sym c.in_ok-plan.ensures.plan)))

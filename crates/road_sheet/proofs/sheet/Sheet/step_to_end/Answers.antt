@@ -26,9 +26,9 @@ invariant_of-self-2 c =
     let counted =
     counted_next _ c.args.self.now _ c.self.inside.cut _ c.args.input.now c.args.speeds.now c.in_ok-ended.ended.totals.items ended.totals.items c.self.invariant c.self.view_is c.requires.input c.requires.speeds c.in_ok-ended.ensures.totals
     c.count.ensures.each c.count.ensures.totals in
-    ends_block _ c.args.self.now c.horizon-horizon.result (map arc_value c.self.inside.whole.items) (map arc_value c.push.new.self.items) c.self.inside.cut ended c.in_ok-next.next _ c.replace-last.new.dest c.self.invariant c.self.view_is c.requires.within_limit (c.replace-last.ensures.after ∙ c.requires.road)
+    ends_block _ c.args.self.now c.horizon-horizon.result (map arc_value c.self.inside.whole.items) (map arc_value c.push_shared.new.blocks.items) c.self.inside.cut ended c.in_ok-next.next _ c.replace-last.new.dest c.self.invariant c.self.view_is c.requires.within_limit (c.replace-last.ensures.after ∙ c.requires.road)
     counted c.requires.at_end c.horizon-horizon.ensures
-    (c.in_ok-next.ensures.totals ∙ ap (λ n. replicate n no_totals) (ap length c.detectors.ensures ∙ ap (λ (q : Plan). length q.detectors) (c.deref-3.ensures ∙ ap (λ (x : Sheet). x.plan) c.self.view_is)))
+    c.in_ok-next.ensures.totals
     (c.count.ensures.start ∙ c.in_ok-ended.ensures.start)
-    (c.in_ok-next.ensures.start ∙ c.in_ok-kept.ensures ∙ sym c.replace-last.ensures.after)
-    (ap (map arc_value) c.in_ok-push.ensures.items ∙ map-append arc_value c.self.inside.whole.items (c.in_ok-block.block ∷ []) ∙ ap (λ (b : Block). map arc_value c.self.inside.whole.items ++ b ∷ []) c.in_ok-block.ensures.ok)
+    (c.in_ok-next.ensures.start ∙ sym c.replace-last.ensures.after)
+    c.in_ok-push_shared.ensures.pushed
