@@ -22,15 +22,15 @@ vehicle_at a c = standing (slice_get a c)
     standing (Some place) = place
 
 -- a place in front of others: an empty one is left out where all others are
-abbrev pub array_behind : Option Vehicle → Array → Array
-array_behind None [] = []
-array_behind None (y ∷ ys) = None ∷ y ∷ ys
-array_behind (Some x) ys = Some x ∷ ys
+abbrev pub with_first_place : Option Vehicle → Array → Array
+with_first_place None [] = []
+with_first_place None (y ∷ ys) = None ∷ y ∷ ys
+with_first_place (Some x) ys = Some x ∷ ys
 
 -- the places, without the empty ones at the end
 abbrev pub array_of_places : List (Option Vehicle) → Array
 array_of_places [] = []
-array_of_places (x ∷ xs) = array_behind x (array_of_places xs)
+array_of_places (x ∷ xs) = with_first_place x (array_of_places xs)
 
 -- the array that has at each cell below n what the function gives, and nothing from n on
 abbrev pub array : ℕ → (ℕ → Option Vehicle) → Array

@@ -54,9 +54,9 @@ later_replies lab (line ∷ lines) =
     ++ later_replies (laboratory_after_line lab (command_reading line)) lines
 
 -- the reply to the plan line, and where it is accepted the replies to the lines after it
-abbrev pub session_replies : Result PlanLine Refusal → List (List ℕ) → List ℕ
-session_replies (Err refusal) lines = reply (opening_answer (Err refusal))
-session_replies (Ok plan) lines =
+abbrev pub input_replies : Result PlanLine Refusal → List (List ℕ) → List ℕ
+input_replies (Err refusal) lines = reply (opening_answer (Err refusal))
+input_replies (Ok plan) lines =
     reply (opening_answer (Ok plan)) ++ later_replies (opening_laboratory plan) lines
 
 -- how the plan line is read: not yet, where there is none and the input goes on
@@ -73,7 +73,7 @@ later_lines (first ∷ lines) = lines
 -- the replies by how the plan line is read: none before that
 abbrev pub replies_by : Option (Result PlanLine Refusal) → List (List ℕ) → List ℕ
 replies_by None lines = []
-replies_by (Some reading) lines = session_replies reading lines
+replies_by (Some reading) lines = input_replies reading lines
 
 -- the replies to these lines, of an input that has ended or goes on
 abbrev pub line_replies : Bool → List (List ℕ) → List ℕ

@@ -32,8 +32,8 @@ plan_of parts = record {
 }
 
 -- the first cell of the deleted zone, past which no car stays
-abbrev pub road_end : Plan → ℕ
-road_end p = p.cells - p.exit
+abbrev pub exit_start : Plan → ℕ
+exit_start p = p.cells - p.exit
 
 -- the number of the zone in which a cell lies
 abbrev pub zone_of : Plan → ℕ → ℕ
@@ -54,10 +54,10 @@ pub record IsWithinLimits (p : Plan) : Type 0 where
   pub some_inlet : 0 < length p.inlets
   pub few_inlets : length p.inlets ≤ MOST_INLETS
   pub inlets_apart : IsDistinct nat_eq (map (λ inlet. inlet.0) p.inlets)
-  pub inlets_before_exit : All (λ inlet. inlet.0 < road_end p) p.inlets
+  pub inlets_before_exit : All (λ inlet. inlet.0 < exit_start p) p.inlets
   pub few_detectors : length p.detectors ≤ MOST_DETECTORS
   pub sites_after_start : All (λ site. 0 < site) p.detectors
-  pub sites_before_exit : All (λ site. site < road_end p) p.detectors
+  pub sites_before_exit : All (λ site. site < exit_start p) p.detectors
   pub speed_limits_allowed : All (λ zone. zone.0 ≤ GREATEST_LIMIT) p.zones
   pub chances_allowed : All (λ zone. zone.1 ≤ CERTAIN) p.zones
   pub inflows_allowed : All (λ inlet. inlet.1 ≤ CERTAIN) p.inlets

@@ -3,7 +3,7 @@
 ghost use Rattle.std.specs.Prelude.{◌≡◌, ◌==◌, ◌&&◌, length, map, nat_eq, nat_le, nat_lt};
 ghost use Rattle.std.specs.List.{list_all, list_any};
 ghost use Rattle.std.specs.Set.{distinct_count};
-ghost use Rattle.road_plan.specs.Plan.{plan_of, road_end};
+ghost use Rattle.road_plan.specs.Plan.{plan_of, exit_start};
 ghost use Rattle.road_plan.specs.Refusals as refusals;
 
 use crate::faults::PlanFault;

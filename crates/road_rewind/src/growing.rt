@@ -48,8 +48,8 @@ pub fn grown<C: Crew>(
     ensures few_steps { TicksAtMost
         (most_steps sheet.now.horizon (max sheet.now.horizon to) (touched_step sheet.now scenario.now))
         meter.old meter.new }
-    ensures gone { MatchResult result (λ _. C.gone crew.new ≡ C.gone crew.old)
-        (λ fault. C.gone crew.new ≡ gone_after_fault fault (C.gone crew.old)) }
+    ensures gone { MatchResult result (λ _. C.times_gone crew.new ≡ C.times_gone crew.old)
+        (λ fault. C.times_gone crew.new ≡ gone_after_fault fault (C.times_gone crew.old)) }
 {
     sheet.known();
     winners_agree();
@@ -84,8 +84,8 @@ fn simulated<C: Crew>(
     ensures sheet { IfOk result (λ sheet. sheet ≡ record draft { horizon = to }) }
     ensures steps { IfOk result (λ _. meter.new ≡ meter_after meter.old (to - draft.horizon)) }
     ensures few { TicksAtMost (to - draft.horizon) meter.old meter.new }
-    ensures gone { MatchResult result (λ _. C.gone crew.new ≡ C.gone crew.old)
-        (λ fault. C.gone crew.new ≡ gone_after_fault fault (C.gone crew.old)) }
+    ensures gone { MatchResult result (λ _. C.times_gone crew.new ≡ C.times_gone crew.old)
+        (λ fault. C.times_gone crew.new ≡ gone_after_fault fault (C.times_gone crew.old)) }
 {
     for step in draft.horizon()..to {
         one_step(alloc, &mut draft, crew)?;
@@ -99,8 +99,8 @@ fn one_step<C: Crew>(alloc: Global, draft: &mut Draft, crew: &mut C) -> Result<(
     requires within_limit { draft.old.horizon < GREATEST_HORIZON }
     ensures grown { OnOk result (draft.new ≡ sheet_after_step draft.old) }
     ensures unchanged { OnErr result (draft.new ≡ draft.old) }
-    ensures gone { MatchResult result (λ _. C.gone crew.new ≡ C.gone crew.old)
-        (λ fault. C.gone crew.new ≡ gone_after_fault fault (C.gone crew.old)) }
+    ensures gone { MatchResult result (λ _. C.times_gone crew.new ≡ C.times_gone crew.old)
+        (λ fault. C.times_gone crew.new ≡ gone_after_fault fault (C.times_gone crew.old)) }
 {
     let input = draft.input(alloc)?;
     match crew.speeds(alloc, &input) {
