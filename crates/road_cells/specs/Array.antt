@@ -9,7 +9,8 @@ pub record Vehicle : Type 0 where
   pub number : ℕ
   pub speed : ℕ
 
--- Places past the end of the list are empty, and the list ends in a vehicle, so each array is written in one way only.
+-- A road: for each cell from 0 on nothing or the vehicle there. Places past the end of the list are empty, and the list
+-- ends in a vehicle, so each road is written in one way only.
 abbrev pub Array : Type 0
 Array = List (Option Vehicle)
 
@@ -21,7 +22,7 @@ vehicle_at a c = standing (slice_get a c)
     standing None = None
     standing (Some place) = place
 
--- a place in front of others: an empty one is left out where all others are
+-- the array with one more place in front; an empty place in front of no vehicle is left out
 abbrev pub with_first_place : Option Vehicle → Array → Array
 with_first_place None [] = []
 with_first_place None (y ∷ ys) = None ∷ y ∷ ys

@@ -85,7 +85,7 @@ line_replies ended lines = replies_by (first_reading ended lines) (later_lines l
 unfoldable pub answers : ℕ → List ℕ → Bool → List ℕ
 answers lines bytes ended = line_replies ended (take (suc lines) (lines_of bytes ended))
 
--- whether the plan line is refused
+-- whether the plan line, as read, is refused
 abbrev pub is_refusal : Option (Result PlanLine Refusal) → Bool
 is_refusal (Some (Err refusal)) = true
 is_refusal (Some (Ok plan)) = false
@@ -105,11 +105,12 @@ has_more_lines lines bytes = nat_lt (suc lines) (length (lines_of bytes true))
 abbrev pub ends_within : ℕ → List ℕ → Bool → Bool
 ends_within limit bytes ended = ended && nat_le (length bytes) limit
 
--- what is answered to the bytes of an input, which has ended or goes on
+-- what is answered to the first `limit` bytes of an input; where more came, these have not ended, so what stands behind
+-- their last newline is no line
 unfoldable pub answers_within : ℕ → ℕ → List ℕ → Bool → List ℕ
 answers_within lines limit bytes ended = answers lines (take limit bytes) (ends_within limit bytes ended)
 
--- whether the plan line is refused
+-- whether the plan line of the first `limit` bytes of an input is refused
 unfoldable pub is_plan_refused_within : ℕ → List ℕ → Bool → Bool
 is_plan_refused_within limit bytes ended = is_plan_refused (take limit bytes) (ends_within limit bytes ended)
 

@@ -1,4 +1,4 @@
--- A run, and what it promises.
+-- One call of `serve`, and what it promises.
 use Rattle.std.specs.Prelude.{◌≡◌, ℕ, List, Bool, true, false, Result, Ok, Err}
 use Rattle.std.specs.Io.KnownBytes.{Appends, Consumes, IsAtEnd}
 use Rattle.road_plan.specs.declared.limits.TheConstants.{MOST_LINES, MOST_BYTES}
@@ -9,8 +9,8 @@ use Rattle.road_dialogue.specs.declared.faults.ServeFault.{ServeFault}
 use Rattle.road_dialogue.specs.declared.faults.ServeFault.TheVariants as faults
 use Rattle.road_dialogue.specs.declared.serving.Served.{Served}
 
--- A run: how many lines may come after the plan line, and how many bytes in all; its source and its sink before and
--- after it; and its result.
+-- One call of `serve`, below a run: how many lines may come after the plan line, and how many bytes in all; its source
+-- and its sink before and after it; and its result.
 pub record Serving : Type 0 where
   pub most_lines : ℕ
   pub most_bytes : ℕ

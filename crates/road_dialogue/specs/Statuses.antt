@@ -16,7 +16,7 @@ fault_status faults.Read = 5
 fault_status faults.TooMany = 6
 fault_status faults.WorkersGone = 7
 
--- and its line on standard error
+-- the line on standard error of a run that failed
 abbrev pub fault_line : ServeFault → List ℕ
 fault_line faults.BadPlan = codes "bad plan"
 fault_line faults.OutOfMemory = codes "no memory"

@@ -31,7 +31,7 @@ plan_of parts = record {
   words = parts.words;
 }
 
--- the first cell of the deleted zone, past which no car stays
+-- the first cell of the exit, from which on no car stays
 abbrev pub exit_start : Plan → ℕ
 exit_start p = p.cells - p.exit
 
@@ -40,7 +40,7 @@ abbrev pub zone_of : Plan → ℕ → ℕ
 zone_of p c = c / p.width
 
 -- a plan is within the limits of the laboratory: it has a road with a deleted zone at its end, one entry for each zone
--- up to that of the last cell, inlets at different cells before the deleted zone, detectors behind the first cell and
+-- up to that of the last cell, inlets at different cells before the deleted zone, detectors past the first cell and
 -- before the deleted zone, and allowed speed limits, slowing chances and inflows
 pub record IsWithinLimits (p : Plan) : Type 0 where
   pub long_enough : LEAST_LENGTH ≤ p.cells

@@ -30,7 +30,7 @@ has_inlets p =
     && list_all (λ inlet. nat_lt inlet.0 (exit_start p)) p.inlets
     && distinct_count nat_eq (map (λ inlet. inlet.0) p.inlets) == length p.inlets
 
--- whether the detectors are few enough, behind the first cell and before the deleted zone
+-- whether the detectors are few enough, past the first cell and before the deleted zone
 abbrev pub has_detectors : Plan → Bool
 has_detectors p =
     nat_le (length p.detectors) MOST_DETECTORS

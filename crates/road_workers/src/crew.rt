@@ -12,7 +12,7 @@ use std::sync::Arc;
 
 /// Whoever computes the speeds of a step.
 pub trait Crew {
-    /// How often it has answered `WorkersGone`, at most 2^64 - 1. Contracts alone see this count.
+    /// A count: how often it has answered `WorkersGone`, at most 2^64 - 1. Contracts alone see it.
     ghost times_gone: { Self → ℕ };
 
     /// The new speeds of all cars of a step, in their order, by rules 1 to 3. They are the same for every crew and
