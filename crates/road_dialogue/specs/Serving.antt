@@ -9,8 +9,8 @@ use Rattle.road_dialogue.specs.declared.faults.ServeFault.{ServeFault}
 use Rattle.road_dialogue.specs.declared.faults.ServeFault.TheVariants as faults
 use Rattle.road_dialogue.specs.declared.serving.Served.{Served}
 
--- One call of `serve`, below a run: how many lines may come after the plan line, and how many bytes in all; its source
--- and its sink before and after it; and its result.
+-- One call of `serve` or `serve_within`, here called a run: how many lines may come after the plan line, and how many
+-- bytes in all; its source and its sink before and after it; and its result.
 pub record Serving : Type 0 where
   pub most_lines : ℕ
   pub most_bytes : ℕ
