@@ -1,4 +1,4 @@
--- Lemmas on maps to a lattice, on sets and on their greatest elements.
+-- Lemmas on maps to a lattice, on sets and on their maximal elements.
 pub mod MapLoops
 pub mod MapJoins
 pub mod MapOrder

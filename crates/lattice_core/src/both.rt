@@ -6,7 +6,9 @@ use crate::lattice::Lattice;
 /// A pair of lattices, joined part by part.
 #[derive(Debug, Drop)]
 pub struct Both<A, B> {
+    /// The first part.
     pub first: A,
+    /// The second part.
     pub second: B,
 }
 

@@ -1,4 +1,4 @@
-//! What holds of all lattices, of all maps and of all sets of greatest elements, each on a function that does nothing.
+//! What holds of all lattices, of all maps and of all sets of maximal elements, each on a function that does nothing.
 
 ghost use Rattle.std.specs.Prelude.{◌≡◌, Bool, true};
 ghost use Rattle.std.specs.FinMap.Entries.{find};
@@ -65,7 +65,7 @@ pub fn reading_keeps_joins<K: Exact, V: Lattice, S>(a: &LatMap<K, V>, b: &LatMap
     b.known();
 }
 
-/// The greatest elements of a union are the join of the greatest elements of its parts, and so such joins agree in any
+/// The maximal elements of a union are the join of the maximal elements of its parts, and so such joins agree in any
 /// order, grouping and repetition.
 pub fn greatest_elements_agree<T: Exact>()
     ensures { (exceeded : T → T → Bool) → IsStrict exceeded → TopsLaws T.cmp exceeded }

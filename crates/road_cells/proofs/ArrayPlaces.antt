@@ -6,10 +6,10 @@ use Rattle.std.specs.declared.option.Option.TheVariants.{None, Some}
 use Rattle.std.proofs.Common.{sym, ap, ◌∙◌, inl, inr, arith}
 use Rattle.std.proofs.lemmas.List.FromFn.{length-map-range_with_len}
 use Rattle.std.proofs.lemmas.Bool.{cases_lt}
-use Rattle.road_cells.specs.Array.{Array, Vehicle, vehicle_at, array, array_of_places, array_behind}
+use Rattle.road_cells.specs.Array.{Array, Vehicle, vehicle_at, array, array_of_places, with_first_place}
 
 -- a place in front of lists that agree, one of them cut
-vehicle_at-before : (xs ys : Array) (x : Option Vehicle) → ((j : ℕ) → vehicle_at xs j ≡ vehicle_at ys j) → (j : ℕ) → vehicle_at (x ∷ xs) j ≡ vehicle_at (array_behind x ys) j
+vehicle_at-before : (xs ys : Array) (x : Option Vehicle) → ((j : ℕ) → vehicle_at xs j ≡ vehicle_at ys j) → (j : ℕ) → vehicle_at (x ∷ xs) j ≡ vehicle_at (with_first_place x ys) j
 vehicle_at-before xs ys (Some v) same zero = refl
 vehicle_at-before xs ys (Some v) same (suc j) = same j
 vehicle_at-before xs [] None same zero = refl
@@ -25,14 +25,14 @@ vehicle_at-array_of_places (x ∷ xs) j = sym (vehicle_at-before xs (array_of_pl
 -- where nothing stands there is no place left
 array_of_places-empty : (xs : List (Option Vehicle)) → ((j : ℕ) → vehicle_at xs j ≡ None) → array_of_places xs ≡ []
 array_of_places-empty [] empty = refl
-array_of_places-empty (None ∷ xs) empty = ap (array_behind None) (array_of_places-empty xs (λ j. empty (suc j)))
+array_of_places-empty (None ∷ xs) empty = ap (with_first_place None) (array_of_places-empty xs (λ j. empty (suc j)))
 array_of_places-empty (Some v ∷ xs) empty = let taken : Some v ≡ None = empty 0 in cc
 
 -- lists that agree at each cell are the same array
 pub array_of_places-same : (xs ys : List (Option Vehicle)) → ((j : ℕ) → vehicle_at xs j ≡ vehicle_at ys j) → array_of_places xs ≡ array_of_places ys
 array_of_places-same [] ys same = sym (array_of_places-empty ys (λ j. sym (same j)))
 array_of_places-same (x ∷ xs) [] same = array_of_places-empty (x ∷ xs) same
-array_of_places-same (x ∷ xs) (y ∷ ys) same = λ i. array_behind (same 0 i) (array_of_places-same xs ys (λ j. same (suc j)) i)
+array_of_places-same (x ∷ xs) (y ∷ ys) same = λ i. with_first_place (same 0 i) (array_of_places-same xs ys (λ j. same (suc j)) i)
 
 -- what a function gives at n numbers from a on
 vehicle_at-range_with_len : (f : ℕ → Option Vehicle) (n a j : ℕ) → j < n → vehicle_at (map f (range_with_len a n)) j ≡ f (a + j)
@@ -59,7 +59,7 @@ pub array-same : (n m : ℕ) (f g : ℕ → Option Vehicle) → ((j : ℕ) → v
 array-same n m f g same = array_of_places-same (map f (range_with_len 0 n)) (map g (range_with_len 0 m)) (λ j. sym (vehicle_at-array_of_places (map f (range_with_len 0 n)) j) ∙ same j ∙ vehicle_at-array_of_places (map g (range_with_len 0 m)) j)
 
 -- cutting makes no list longer
-length-before : (x : Option Vehicle) (xs : Array) → length (array_behind x xs) ≤ suc (length xs)
+length-before : (x : Option Vehicle) (xs : Array) → length (with_first_place x xs) ≤ suc (length xs)
 length-before None [] = omega arith
 length-before None (y ∷ ys) = omega arith
 length-before (Some v) xs = omega arith

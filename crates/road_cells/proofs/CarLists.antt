@@ -5,7 +5,7 @@ use Rattle.std.specs.declared.option.Option.{Option}
 use Rattle.std.specs.declared.option.Option.TheVariants.{None, Some}
 use Rattle.std.proofs.Common.{sym, ap, subst, ◌∙◌, inl, inr, arith}
 use Rattle.std.proofs.lemmas.Bool.{cases_eq, cases_lt, eq-eqb, ne_eqb}
-use Rattle.road_cells.specs.Array.{Array, Vehicle, vehicle_at, array, array_of_places, array_behind}
+use Rattle.road_cells.specs.Array.{Array, Vehicle, vehicle_at, array, array_of_places, with_first_place}
 use Rattle.road_cells.proofs.ArrayPlaces.{vehicle_at-array, past_array, array-same, vehicle_at-array_of_places}
 use Rattle.road_cells.specs.Cars.{cars_from, cars_of, car_of, vehicle_of, AreRisingFrom, AreRising, vehicle_among, end_of, array_of}
 use Rattle.road_cells.specs.declared.car.Car.{Car}
@@ -38,7 +38,7 @@ vehicle_at-array_of cars c = elim (cases_lt c (end_of cars)) as (λ _. vehicle_a
 ]
 
 -- an empty place that is left out in front of others has no car
-cars_from-before : (k : ℕ) (x : Option Vehicle) (xs ys : Array) → ((j : ℕ) → cars_from j ys ≡ cars_from j xs) → cars_from k (array_behind x ys) ≡ cars_from k (x ∷ xs)
+cars_from-before : (k : ℕ) (x : Option Vehicle) (xs ys : Array) → ((j : ℕ) → cars_from j ys ≡ cars_from j xs) → cars_from k (with_first_place x ys) ≡ cars_from k (x ∷ xs)
 cars_from-before k (Some v) xs ys same = ap (λ cars. car_of k v ∷ cars) (same (k + 1))
 cars_from-before k None xs [] same = same (k + 1)
 cars_from-before k None xs (y ∷ ys) same = same (k + 1)

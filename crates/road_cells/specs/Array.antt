@@ -9,7 +9,8 @@ pub record Vehicle : Type 0 where
   pub number : ℕ
   pub speed : ℕ
 
--- Places past the end of the list are empty, and the list ends in a vehicle, so each array is written in one way only.
+-- A road: for each cell from 0 on nothing or the vehicle there. Places past the end of the list are empty, and the list
+-- ends in a vehicle, so each road is written in one way only.
 abbrev pub Array : Type 0
 Array = List (Option Vehicle)
 
@@ -21,16 +22,16 @@ vehicle_at a c = standing (slice_get a c)
     standing None = None
     standing (Some place) = place
 
--- a place in front of others: an empty one is left out where all others are
-abbrev pub array_behind : Option Vehicle → Array → Array
-array_behind None [] = []
-array_behind None (y ∷ ys) = None ∷ y ∷ ys
-array_behind (Some x) ys = Some x ∷ ys
+-- the array with one more place in front; an empty place in front of no vehicle is left out
+abbrev pub with_first_place : Option Vehicle → Array → Array
+with_first_place None [] = []
+with_first_place None (y ∷ ys) = None ∷ y ∷ ys
+with_first_place (Some x) ys = Some x ∷ ys
 
 -- the places, without the empty ones at the end
 abbrev pub array_of_places : List (Option Vehicle) → Array
 array_of_places [] = []
-array_of_places (x ∷ xs) = array_behind x (array_of_places xs)
+array_of_places (x ∷ xs) = with_first_place x (array_of_places xs)
 
 -- the array that has at each cell below n what the function gives, and nothing from n on
 abbrev pub array : ℕ → (ℕ → Option Vehicle) → Array

@@ -12,16 +12,16 @@ pub record PassesOneByOne (p : Plan) (course : Course) (d t : ℕ) : Type 0 wher
   pub one : (passes p course d t).cars ≤ 1
   pub slow : (passes p course d t).speeds ≤ GREATEST_SPEED
 
--- and so in every step of every run
+-- in every step of every run at most one car passes each site, none faster than the greatest speed
 abbrev pub PassOneByOne : Plan → Type 0
 PassOneByOne p = (course : Course) (d t : ℕ) → PassesOneByOne p course d t
 
--- so totals are bounded by the number of steps
+-- a total over b - a steps of a run is at most one car for each step, and the greatest speed for each
 pub record IsTotalBounded (p : Plan) (course : Course) (d a b : ℕ) : Type 0 where
   pub few : (total p course d a b).cars ≤ b - a
   pub slow : (total p course d a b).speeds ≤ GREATEST_SPEED * (b - a)
 
--- all totals of every run
+-- every total of every run is at most one car for each of its steps, and the greatest speed for each
 abbrev pub BoundTotals : Plan → Type 0
 BoundTotals p = (course : Course) (d a b : ℕ) → IsTotalBounded p course d a b
 

@@ -8,7 +8,7 @@ use Rattle.road_format.specs.Replies.{reply}
 use Rattle.road_format.specs.declared.refusal.Refusal.{Refusal}
 use Rattle.road_format.proofs.CutLines.{lines_go_on, pieces_of-append}
 use Rattle.road_laboratory.specs.Laboratory.{Laboratory, opening_laboratory}
-use Rattle.road_dialogue.specs.Answers.{plan_reading, command_reading, opening_answer, line_answer, laboratory_after_line, later_replies, session_replies, first_reading, line_replies, answers, ends_within, answers_within, is_refusal, is_plan_refused, has_more_lines}
+use Rattle.road_dialogue.specs.Answers.{plan_reading, command_reading, opening_answer, line_answer, laboratory_after_line, later_replies, input_replies, first_reading, line_replies, answers, ends_within, answers_within, is_refusal, is_plan_refused, has_more_lines}
 use Rattle.road_dialogue.specs.Laws.{AnswersGoOn}
 use Rattle.road_dialogue.proofs.CutBytes.{IsLine, cut-more, cut-newline}
 
@@ -28,7 +28,7 @@ later_front lab (l ∷ a) b =
     let one = reply (line_answer lab (command_reading l)) in
     (t.0, ap (λ (x : List ℕ). one ++ x) t.1 ∙ sym (append_assoc one (later_replies after a) t.0))
 
-session_front : (reading : Result PlanLine Refusal) (a b : List (List ℕ)) → (rest : List ℕ) × (session_replies reading (a ++ b) ≡ session_replies reading a ++ rest)
+session_front : (reading : Result PlanLine Refusal) (a b : List (List ℕ)) → (rest : List ℕ) × (input_replies reading (a ++ b) ≡ input_replies reading a ++ rest)
 session_front (Err refusal) a b = ([], sym (append-nil (reply (opening_answer (Err refusal)))))
 session_front (Ok plan) a b =
     let lab = opening_laboratory plan in
@@ -153,7 +153,7 @@ pub refused_some : (a : List ℕ) → is_plan_refused a false ≡ true → 0 < l
 unfolding is_plan_refused
 refused_some a is = some_refused (pieces_of a).0 (ap (λ (ls : List (List ℕ)). is_refusal (first_reading false ls)) (sym (append-nil (pieces_of a).0)) ∙ is)
 
-alone : (reading : Result PlanLine Refusal) (ls ls' : List (List ℕ)) → is_refusal (Some reading) ≡ true → session_replies reading ls ≡ session_replies reading ls'
+alone : (reading : Result PlanLine Refusal) (ls ls' : List (List ℕ)) → is_refusal (Some reading) ≡ true → input_replies reading ls ≡ input_replies reading ls'
 alone (Err refusal) ls ls' is = refl
 alone (Ok plan) ls ls' is = absurd (cc)
 

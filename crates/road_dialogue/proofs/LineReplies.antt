@@ -11,7 +11,7 @@ use Rattle.road_laboratory.specs.Laboratory.{Laboratory, laboratory_of_winners, 
 use Rattle.road_laboratory.proofs.WinnersSuffice.{after-of_winners, answer-of_winners}
 use Rattle.road_world.proofs.WinnersSuffice.{opening_world-of_winners}
 use Rattle.road_world.specs.Events.{World}
-use Rattle.road_dialogue.specs.Answers.{is_long, reading_unless, plan_reading, command_reading, opening_answer, line_answer, laboratory_after_line, later_replies, session_replies, first_reading, line_replies, is_refusal}
+use Rattle.road_dialogue.specs.Answers.{is_long, reading_unless, plan_reading, command_reading, opening_answer, line_answer, laboratory_after_line, later_replies, input_replies, first_reading, line_replies, is_refusal}
 use Rattle.road_dialogue.specs.Dialogue.{laboratory_after_lines, IsAfterLines, Holds, Whole, TooLong}
 use Rattle.road_dialogue.specs.Private.KeptLaboratory.{kept_after_line, opened_laboratory}
 
@@ -72,14 +72,14 @@ abbrev kept_after_lines : PlanLine → List (List ℕ) → Laboratory
 kept_after_lines plan ls = laboratory_of_winners (laboratory_after_lines (opening_laboratory plan) ls)
 
 session-snoc : (plan : PlanLine) (reading : Result PlanLine Refusal) (later : List (List ℕ)) (l : List ℕ) → reading ≡ Ok plan
-    → session_replies reading (later ++ l ∷ []) ≡ session_replies reading later ++ reply (line_answer (kept_after_lines plan later) (command_reading l))
+    → input_replies reading (later ++ l ∷ []) ≡ input_replies reading later ++ reply (line_answer (kept_after_lines plan later) (command_reading l))
 session-snoc plan (Err refusal) later l is = absurd (cc)
 session-snoc plan (Ok read) later l is =
     let same : read ≡ plan = cc in
     let opened = reply (opening_answer (Ok read)) in
     let next : List ℕ = reply (line_answer (kept_after_lines read later) (command_reading l)) in
     ap (λ (t : List ℕ). opened ++ t) (later_more (opening_laboratory read) later l) ∙ sym (append_assoc opened (later_replies (opening_laboratory read) later) next)
-    ∙ ap (λ (p : PlanLine). session_replies (Ok read) later ++ reply (line_answer (kept_after_lines p later) (command_reading l))) same
+    ∙ ap (λ (p : PlanLine). input_replies (Ok read) later ++ reply (line_answer (kept_after_lines p later) (command_reading l))) same
 
 pub later_replied : (n : ℕ) (ls : List (List ℕ)) (kept : Laboratory) (held : List ℕ) (long : Bool) (left : ℕ) (l : List ℕ) → IsAfterLines n ls (Some kept) left → Holds held long l
     → line_replies false (ls ++ l ∷ []) ≡ line_replies false ls ++ reply (line_answer kept (reading_unless long (command_of held)))
@@ -87,8 +87,8 @@ later_replied n [] kept held long left l after holds = absurd after
 later_replied n (first ∷ later) kept held long left l after holds =
     let read = held_reading command_of held long l holds in
     session-snoc after.0 (plan_reading first) later l after.1
-    ∙ ap (λ (k : Laboratory). session_replies (plan_reading first) later ++ reply (line_answer k (command_reading l))) (sym after.2)
-    ∙ ap (λ (r : Result Command Refusal). session_replies (plan_reading first) later ++ reply (line_answer kept r)) (sym read)
+    ∙ ap (λ (k : Laboratory). input_replies (plan_reading first) later ++ reply (line_answer k (command_reading l))) (sym after.2)
+    ∙ ap (λ (r : Result Command Refusal). input_replies (plan_reading first) later ++ reply (line_answer kept r)) (sym read)
 
 pub later_kept : (n : ℕ) (ls : List (List ℕ)) (kept : Laboratory) (held : List ℕ) (long : Bool) (left : ℕ) (l : List ℕ) → IsAfterLines n ls (Some kept) left → Holds held long l → length (ls ++ l ∷ []) ≤ suc n
     → IsAfterLines n (ls ++ l ∷ []) (Some (kept_after_line kept (reading_unless long (command_of held)))) (left - 1)
@@ -105,7 +105,7 @@ later_kept n (first ∷ later) kept held long left l after holds few =
 
 -- ---- it ends as the plan line
 
-opened : (reading : Result PlanLine Refusal) → session_replies reading [] ≡ reply (opening_answer reading)
+opened : (reading : Result PlanLine Refusal) → input_replies reading [] ≡ reply (opening_answer reading)
 unfolding later_replies
 opened (Err refusal) = refl
 opened (Ok plan) = append-nil (reply (opening_answer (Ok plan)))

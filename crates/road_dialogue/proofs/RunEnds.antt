@@ -14,7 +14,7 @@ use Rattle.road_dialogue.specs.Failures.{RisesByOne}
 use Rattle.road_workers.specs.declared.faults.CrewFault.{CrewFault}
 use Rattle.road_workers.specs.declared.faults.CrewFault.TheVariants as crew_faults
 use Rattle.road_dialogue.specs.Faults.{crew_fault, early_fault, gone_after_call}
-use Rattle.road_dialogue.specs.Run.{Run, run_answers, WritesAll, Ends, AnswersInput}
+use Rattle.road_dialogue.specs.Serving.{Serving, run_answers, WritesAll, Ends, AnswersInput}
 use Rattle.road_dialogue.specs.StreamViews.{SourceView, SinkView, Stops}
 use Rattle.road_dialogue.specs.declared.dialogue.Dialogue.{Dialogue}
 use Rattle.road_dialogue.specs.declared.faults.EarlyEnd.{EarlyEnd}
@@ -146,7 +146,7 @@ read_on lines limit room room' n m source s1 s2 sink k1 k2 d d' piece so more le
       reads_well = more.well ∙ so.reads_well;
     }
 
-abbrev run_of : ℕ → ℕ → SourceView → SourceView → SinkView → SinkView → Result Served ServeFault → Run
+abbrev run_of : ℕ → ℕ → SourceView → SourceView → SinkView → SinkView → Result Served ServeFault → Serving
 run_of lines limit source source' sink sink' result = record {
   most_lines = lines;
   most_bytes = limit;
@@ -176,7 +176,7 @@ unread lines limit room source s1 s2 sink k1 d so keeps rises =
 
 -- ---- a call of the dialogue stopped
 
-ends_stopped : (run : Run) (input : List ℕ) (fault : ServeFault) → Stops run.sink_before run.sink_after (run_answers run input) fault → run.source_after.failures ≡ run.source_before.failures → Ends run input (Err fault)
+ends_stopped : (run : Serving) (input : List ℕ) (fault : ServeFault) → Stops run.sink_before run.sink_after (run_answers run input) fault → run.source_after.failures ≡ run.source_before.failures → Ends run input (Err fault)
 ends_stopped run input faults.OutOfMemory s well = record { stops = s; reads_well = well }
 ends_stopped run input faults.WorkersGone s well = record { stops = s; reads_well = well }
 ends_stopped run input faults.Write s well = record { stops = s; reads_well = well }
@@ -204,7 +204,7 @@ stopped lines limit room n m source s1 s2 sink k1 k2 d piece fault so more some 
 
 -- ---- the run is over before the end of its input
 
-over_ends : (run : Run) (input z : List ℕ) (d : Dialogue) (end : EarlyEnd) → take run.most_bytes input ≡ z → run.source_after.at_end ≡ false → WritesAll run input → Stands run.most_lines z d (Some end) → Ends run input (Err (early_fault end))
+over_ends : (run : Serving) (input z : List ℕ) (d : Dialogue) (end : EarlyEnd) → take run.most_bytes input ≡ z → run.source_after.at_end ≡ false → WritesAll run input → Stands run.most_lines z d (Some end) → Ends run input (Err (early_fault end))
 over_ends run input z d ends.BadPlan part going writes s =
     (writes, ap (is_plan_refused_within run.most_bytes input) going ∙ refused_going run.most_bytes input ∙ ap (λ (x : List ℕ). is_plan_refused x false) part ∙ s)
 over_ends run input z d ends.TooMany part going writes s = (
@@ -301,7 +301,7 @@ writes_ended lines limit room n source s1 s2 sink k1 k2 d d' piece result so mor
 ends_at : (n : ℕ) (a : List ℕ) (d : Dialogue) (o o' : Option EarlyEnd) → o ≡ o' → StandsAtEnd n a d o → StandsAtEnd n a d o'
 ends_at n a d o o' e s = let Family : Option EarlyEnd → Type 0 = λ x. StandsAtEnd n a d x in subst Family e s
 
-refused_ends : (run : Run) (input : List ℕ) (d : Dialogue) (end : EarlyEnd) → run.source_after.at_end ≡ true → length input ≤ run.most_bytes → WritesAll run input → StandsAtEnd run.most_lines input d (Some end) → Ends run input (Err (early_fault end))
+refused_ends : (run : Serving) (input : List ℕ) (d : Dialogue) (end : EarlyEnd) → run.source_after.at_end ≡ true → length input ≤ run.most_bytes → WritesAll run input → StandsAtEnd run.most_lines input d (Some end) → Ends run input (Err (early_fault end))
 refused_ends run input d ends.BadPlan ended short writes s = (writes, ap (is_plan_refused_within run.most_bytes input) ended ∙ refused_ended run.most_bytes input short ∙ s)
 refused_ends run input d ends.TooMany ended short writes s = absurd s
 

@@ -54,9 +54,9 @@ later_replies lab (line ∷ lines) =
     ++ later_replies (laboratory_after_line lab (command_reading line)) lines
 
 -- the reply to the plan line, and where it is accepted the replies to the lines after it
-abbrev pub session_replies : Result PlanLine Refusal → List (List ℕ) → List ℕ
-session_replies (Err refusal) lines = reply (opening_answer (Err refusal))
-session_replies (Ok plan) lines =
+abbrev pub input_replies : Result PlanLine Refusal → List (List ℕ) → List ℕ
+input_replies (Err refusal) lines = reply (opening_answer (Err refusal))
+input_replies (Ok plan) lines =
     reply (opening_answer (Ok plan)) ++ later_replies (opening_laboratory plan) lines
 
 -- how the plan line is read: not yet, where there is none and the input goes on
@@ -73,7 +73,7 @@ later_lines (first ∷ lines) = lines
 -- the replies by how the plan line is read: none before that
 abbrev pub replies_by : Option (Result PlanLine Refusal) → List (List ℕ) → List ℕ
 replies_by None lines = []
-replies_by (Some reading) lines = session_replies reading lines
+replies_by (Some reading) lines = input_replies reading lines
 
 -- the replies to these lines, of an input that has ended or goes on
 abbrev pub line_replies : Bool → List (List ℕ) → List ℕ
@@ -85,7 +85,7 @@ line_replies ended lines = replies_by (first_reading ended lines) (later_lines l
 unfoldable pub answers : ℕ → List ℕ → Bool → List ℕ
 answers lines bytes ended = line_replies ended (take (suc lines) (lines_of bytes ended))
 
--- whether the plan line is refused
+-- whether the plan line, as read, is refused
 abbrev pub is_refusal : Option (Result PlanLine Refusal) → Bool
 is_refusal (Some (Err refusal)) = true
 is_refusal (Some (Ok plan)) = false
@@ -105,11 +105,12 @@ has_more_lines lines bytes = nat_lt (suc lines) (length (lines_of bytes true))
 abbrev pub ends_within : ℕ → List ℕ → Bool → Bool
 ends_within limit bytes ended = ended && nat_le (length bytes) limit
 
--- what is answered to the bytes of an input, which has ended or goes on
+-- what is answered to the first `limit` bytes of an input; where more came, these have not ended, so what stands behind
+-- their last newline is no line
 unfoldable pub answers_within : ℕ → ℕ → List ℕ → Bool → List ℕ
 answers_within lines limit bytes ended = answers lines (take limit bytes) (ends_within limit bytes ended)
 
--- whether the plan line is refused
+-- whether the plan line of the first `limit` bytes of an input is refused
 unfoldable pub is_plan_refused_within : ℕ → List ℕ → Bool → Bool
 is_plan_refused_within limit bytes ended = is_plan_refused (take limit bytes) (ends_within limit bytes ended)
 

@@ -33,7 +33,7 @@ IsAfterLines lines (first ∷ later) (Some kept) left =
 
 -- ---- the line that has not ended
 
--- its bytes are held, or, where they are more than the longest line has, that they are
+-- what is held of the line that has not ended: its bytes, or, where it is too long, only that it is
 pub data Holds (held : List ℕ) (long : Bool) (line : List ℕ) : Type 0 where
   Whole : held ≡ line → length line ≤ LONGEST_LINE → long ≡ false → Holds held long line
   TooLong : LONGEST_LINE < length line → long ≡ true → Holds held long line
@@ -46,7 +46,7 @@ pub record GoesOn (lines : ℕ) (bytes : List ℕ) (d : Dialogue) : Type 0 where
   pub holds : Holds d.held.items d.long (pieces_of bytes).1
   pub few : has_more_lines lines bytes ≡ false
 
--- whether it goes on, and if not, why
+-- after these bytes the dialogue goes on, or why it does not
 abbrev pub Stands : ℕ → List ℕ → Dialogue → Option EarlyEnd → Type 0
 Stands lines bytes d None = GoesOn lines bytes d
 Stands lines bytes d (Some ends.BadPlan) = is_plan_refused bytes false ≡ true

@@ -1,7 +1,7 @@
 -- How the program ends: its exit status, and the line on standard error.
 use Rattle.std.specs.Prelude.{◌≡◌, ◌⊎◌, ℕ, List, codes, Option, Some, None, Result, Ok, Err}
 use Rattle.std.specs.Option.{option_map}
-use Rattle.road_dialogue.specs.Run.{Run, AnswersInput}
+use Rattle.road_dialogue.specs.Serving.{Serving, AnswersInput}
 use Rattle.road_dialogue.specs.declared.faults.ServeFault.{ServeFault}
 use Rattle.road_dialogue.specs.declared.faults.ServeFault.TheVariants as faults
 use Rattle.road_dialogue.specs.declared.serving.Served.{Served}
@@ -16,7 +16,7 @@ fault_status faults.Read = 5
 fault_status faults.TooMany = 6
 fault_status faults.WorkersGone = 7
 
--- and its line on standard error
+-- the line on standard error of a run that failed
 abbrev pub fault_line : ServeFault → List ℕ
 fault_line faults.BadPlan = codes "bad plan"
 fault_line faults.OutOfMemory = codes "no memory"
@@ -44,6 +44,6 @@ abbrev pub IsRefused : Ended → Type 0
 IsRefused ended = HasStatus ended 2 (Some (codes "bad arguments")) ⊎ HasStatus ended 3 (Some (codes "no memory"))
 
 -- the program ends after this run, which answered what it read
-pub record EndsAfter (ended : Ended) (run : Run) : Type 0 where
+pub record EndsAfter (ended : Ended) (run : Serving) : Type 0 where
   pub status : HasStatus ended (status_of run.result) (line_of run.result)
   pub answers : AnswersInput run

@@ -43,7 +43,7 @@ pub record TakesAllBut (old new : SinkView) (text rest : List ℕ) : Type 0 wher
   pub taken : Appends old.contents new.contents front
   pub whole : front ++ rest ≡ text
 
--- it took some of this text, from the front on
+-- the sink took some front of this text
 abbrev pub TakesFront : SinkView → SinkView → List ℕ → Type 0
 TakesFront old new text = (rest : List ℕ) × TakesAllBut old new text rest
 

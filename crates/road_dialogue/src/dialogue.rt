@@ -106,7 +106,7 @@ fn later_reply<C: Crew>(
         ≡ reply (line_answer laboratory.old (reading_unless long (command_of held.now)))) }
     ensures after { OnOk result (laboratory.new
         ≡ kept_after_line laboratory.old (reading_unless long (command_of held.now))) }
-    ensures gone { C.gone crew.new ≡ gone_after result (C.gone crew.old) }
+    ensures gone { C.times_gone crew.new ≡ gone_after result (C.times_gone crew.old) }
 {
     match later_line(alloc, held, long)? {
         Ok(command) => {
@@ -198,7 +198,7 @@ impl Dialogue {
             (answers lines (bytes ++ newline ∷ []) false ≡ answers lines bytes false ++ string_bytes text)
             × Stands lines (bytes ++ newline ∷ []) self.new self.new.over) }
         ensures waiting { self.new.waiting ≡ self.old.waiting }
-        ensures gone { C.gone crew.new ≡ gone_after result (C.gone crew.old) }
+        ensures gone { C.times_gone crew.new ≡ gone_after result (C.times_gone crew.old) }
     {
         if let Some(laboratory) = &mut self.laboratory {
             let reply = later_reply(alloc, laboratory, self.held.as_slice(), self.long, crew)?;
@@ -232,7 +232,7 @@ impl Dialogue {
             → MatchResult result
             (λ _. HasAnswered lines (bytes ++ newline ∷ []) first (sink_view W.Sink writer.new) self.new)
             (λ fault. Stops first (sink_view W.Sink writer.new) (answers lines (bytes ++ newline ∷ []) false) fault) }
-        ensures gone { C.gone crew.new ≡ gone_after_call result (C.gone crew.old) }
+        ensures gone { C.times_gone crew.new ≡ gone_after_call result (C.times_gone crew.old) }
     {
         let reply = self.reply(alloc, crew)?;
         put(&mut self.waiting, writer, reply.as_bytes())
@@ -253,7 +253,7 @@ impl Dialogue {
             → MatchResult result
             (λ n. HasAnswered lines (before ++ take n bytes.now) first (sink_view W.Sink writer.new) self.new)
             (λ fault. Stops first (sink_view W.Sink writer.new) (answers lines (before ++ bytes.now) false) fault) }
-        ensures gone { C.gone crew.new ≡ gone_after_call result (C.gone crew.old) }
+        ensures gone { C.times_gone crew.new ≡ gone_after_call result (C.times_gone crew.old) }
     {
         if self.over.is_some() {
             return Ok(bytes.len());
@@ -296,7 +296,7 @@ impl Dialogue {
             (λ fault. Stops first (sink_view W.Sink writer.new) (answers lines (before ++ bytes.now) false) fault) }
         ensures none_wait { OnOk result (self.new.waiting.items ≡ []) }
         ensures flushed { OnOk result (W.flushed writer.new ≡ true) }
-        ensures gone { C.gone crew.new ≡ gone_after_call result (C.gone crew.old) }
+        ensures gone { C.times_gone crew.new ≡ gone_after_call result (C.times_gone crew.old) }
     {
         let mut done = 0;
         while done < bytes.len() {
@@ -319,7 +319,7 @@ impl Dialogue {
             → MatchResult result
             (λ _. HasFinished lines bytes first (sink_view W.Sink writer.new) self.new)
             (λ fault. Stops first (sink_view W.Sink writer.new) (answers lines bytes true) fault) }
-        ensures gone { C.gone crew.new ≡ gone_after_call result (C.gone crew.old) }
+        ensures gone { C.times_gone crew.new ≡ gone_after_call result (C.times_gone crew.old) }
     {
         if !self.is_clear() {
             return self.answer(alloc, writer, crew);
@@ -352,7 +352,7 @@ impl Dialogue {
             (λ fault. Stops first (sink_view W.Sink writer.new) (answers lines bytes true) fault) }
         ensures none_wait { OnOk result (self.new.waiting.items ≡ []) }
         ensures flushed { OnOk result (W.flushed writer.new ≡ true) }
-        ensures gone { C.gone crew.new ≡ gone_after_call result (C.gone crew.old) }
+        ensures gone { C.times_gone crew.new ≡ gone_after_call result (C.times_gone crew.old) }
     {
         self.answer_last(alloc, writer, crew)?;
         flush(&mut self.waiting, writer)?;

@@ -5,7 +5,7 @@ ghost use Rattle.road_format.specs.Views.{texts};
 ghost use Rattle.road_plan.specs.declared.limits.TheConstants.{MOST_WORKERS};
 ghost use Rattle.road_dialogue.specs.Arguments.{are_accepted, script_of, workers_of};
 ghost use Rattle.road_dialogue.specs.Faults.{gone_after_call};
-ghost use Rattle.road_dialogue.specs.Run.{program_run};
+ghost use Rattle.road_dialogue.specs.Serving.{program_serving};
 ghost use Rattle.road_dialogue.specs.Statuses.{status_of, line_of, fault_status, fault_line, EndsAfter, HasStatus, IsRefused};
 ghost use Rattle.road_dialogue.specs.StreamViews.{SourceView, source_view, sink_view};
 ghost use Rattle.road_dialogue.specs.declared.serving.Served.{Served};
@@ -67,14 +67,14 @@ pub fn run<
     ensures served { are_accepted (texts words.now) ≡ true → script_of (texts words.now) ≡ None
         → (served : Result Served ServeFault)
         × (workers_of (texts words.now) ≡ None → served ≢ Err WorkersGone)
-        × EndsAfter result (program_run (source_view R.Source reader.old) (source_view R.Source reader.new)
+        × EndsAfter result (program_serving (source_view R.Source reader.old) (source_view R.Source reader.new)
         (sink_view W.Sink writer.old) (sink_view W.Sink writer.new) served) }
     // No contract says which bytes a file holds.
     ensures script { are_accepted (texts words.now) ≡ true → IsSome (script_of (texts words.now))
         → (reader.new ≡ reader.old) × (served : Result Served ServeFault)
         × (workers_of (texts words.now) ≡ None → served ≢ Err WorkersGone)
         × (before : SourceView) × (after : SourceView)
-        × EndsAfter result (program_run before after
+        × EndsAfter result (program_serving before after
         (sink_view W.Sink writer.old) (sink_view W.Sink writer.new) served) }
 {
     match arguments_in(rt.alloc(), words) {
@@ -97,7 +97,7 @@ fn run_script<F: Files + Threads + Wait + AllocGlobal + Clone + Drop + Send + 's
     requires { IfSome workers (λ count. (0 < count) × (count ≤ MOST_WORKERS)) }
     ensures { (served : Result Served ServeFault) × (workers ≡ None → served ≢ Err WorkersGone)
         × (before : SourceView) × (after : SourceView)
-        × EndsAfter result (program_run before after
+        × EndsAfter result (program_serving before after
         (sink_view W.Sink writer.old) (sink_view W.Sink writer.new) served) }
 {
     match fs::open(rt, path) {
@@ -118,7 +118,7 @@ fn run_with<F: Threads + Wait + AllocGlobal + Clone + Drop + Send + 'static, R: 
 ) -> Ended
     requires { IfSome workers (λ count. (0 < count) × (count ≤ MOST_WORKERS)) }
     ensures { (served : Result Served ServeFault) × (workers ≡ None → served ≢ Err WorkersGone)
-        × EndsAfter result (program_run (source_view R.Source reader.old) (source_view R.Source reader.new)
+        × EndsAfter result (program_serving (source_view R.Source reader.old) (source_view R.Source reader.new)
         (sink_view W.Sink writer.old) (sink_view W.Sink writer.new) served) }
 {
     match workers {
@@ -130,7 +130,7 @@ fn run_with<F: Threads + Wait + AllocGlobal + Clone + Drop + Send + 'static, R: 
 // Runs the program by the crew of one, from a reader to a writer.
 fn run_alone<R: Source, W: Sink>(alloc: Global, reader: &mut R, writer: &mut W) -> Ended
     ensures { (served : Result Served ServeFault) × (served ≢ Err WorkersGone)
-        × EndsAfter result (program_run (source_view R.Source reader.old) (source_view R.Source reader.new)
+        × EndsAfter result (program_serving (source_view R.Source reader.old) (source_view R.Source reader.new)
         (sink_view W.Sink writer.old) (sink_view W.Sink writer.new) served) }
 {
     let mut crew = Alone;
@@ -149,7 +149,7 @@ fn run_by_workers<
     requires some { 0 < count }
     requires few { count ≤ MOST_WORKERS }
     ensures { (served : Result Served ServeFault)
-        × EndsAfter result (program_run (source_view R.Source reader.old) (source_view R.Source reader.new)
+        × EndsAfter result (program_serving (source_view R.Source reader.old) (source_view R.Source reader.new)
         (sink_view W.Sink writer.old) (sink_view W.Sink writer.new) served) }
 {
     match crew_of(rt, count) {
@@ -181,8 +181,8 @@ pub fn run_by<R: Source, W: Sink, C: Crew>(
     crew: &mut C,
 ) -> Ended
     ensures { (served : Result Served ServeFault)
-        × (C.gone crew.new ≡ gone_after_call served (C.gone crew.old))
-        × EndsAfter result (program_run (source_view R.Source reader.old) (source_view R.Source reader.new)
+        × (C.times_gone crew.new ≡ gone_after_call served (C.times_gone crew.old))
+        × EndsAfter result (program_serving (source_view R.Source reader.old) (source_view R.Source reader.new)
         (sink_view W.Sink writer.old) (sink_view W.Sink writer.new) served) }
 {
     after_run(&serve(alloc, reader, writer, crew))

@@ -3,7 +3,7 @@
 ghost use Rattle.std.specs.Prelude.{◌≡◌, ◌++◌, ℕ, List, [], length, min, take, true, None};
 ghost use Rattle.road_dialogue.specs.Dialogue.{HasAnswered};
 ghost use Rattle.road_dialogue.specs.Faults.{gone_after_call};
-ghost use Rattle.road_dialogue.specs.Run.{AnswersInput, program_run};
+ghost use Rattle.road_dialogue.specs.Serving.{AnswersInput, program_serving};
 ghost use Rattle.road_dialogue.specs.StreamViews.{SinkView, source_view, sink_view};
 
 use crate::dialogue::Dialogue;
@@ -38,9 +38,9 @@ pub fn serve<R: Source, W: Sink, C: Crew>(
     writer: &mut W,
     crew: &mut C,
 ) -> Result<Served, ServeFault>
-    ensures answers { AnswersInput (program_run (source_view R.Source reader.old) (source_view R.Source reader.new)
+    ensures answers { AnswersInput (program_serving (source_view R.Source reader.old) (source_view R.Source reader.new)
         (sink_view W.Sink writer.old) (sink_view W.Sink writer.new) result) }
-    ensures gone { C.gone crew.new ≡ gone_after_call result (C.gone crew.old) }
+    ensures gone { C.times_gone crew.new ≡ gone_after_call result (C.times_gone crew.old) }
 {
     serve_within(alloc, reader, writer, crew, MOST_LINES, MOST_BYTES)
 }
@@ -67,7 +67,7 @@ pub fn serve_within<R: Source, W: Sink, C: Crew>(
       sink_after = sink_view W.Sink writer.new;
       result = result;
     }) }
-    ensures gone { C.gone crew.new ≡ gone_after_call result (C.gone crew.old) }
+    ensures gone { C.times_gone crew.new ≡ gone_after_call result (C.times_gone crew.old) }
 {
     let mut dialogue = Dialogue::new(alloc, lines);
     answer_input(alloc, reader, writer, crew, &mut dialogue, lines, bytes)
@@ -98,7 +98,7 @@ fn answer_input<R: Source, W: Sink, C: Crew>(
       sink_after = sink_view W.Sink writer.new;
       result = result;
     }) }
-    ensures gone { C.gone crew.new ≡ gone_after_call result (C.gone crew.old) }
+    ensures gone { C.times_gone crew.new ≡ gone_after_call result (C.times_gone crew.old) }
 {
     let mut buffer = [0u8; PIECE];
     let mut room = bytes;

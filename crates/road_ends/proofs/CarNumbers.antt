@@ -4,7 +4,7 @@ use Rattle.std.specs.List.{slice_index_or}
 use Rattle.std.specs.declared.option.Option.TheVariants.{None, Some}
 use Rattle.std.proofs.Common.{sym, ap, ◌∙◌, inl, inr, arith}
 use Rattle.std.proofs.lemmas.Bool.Decides.{nat_tests}
-use Rattle.road_plan.specs.Plan.{Plan, road_end, IsWithinLimits}
+use Rattle.road_plan.specs.Plan.{Plan, exit_start, IsWithinLimits}
 use Rattle.road_plan.specs.declared.limits.TheConstants.{MOST_INLETS}
 use Rattle.road_cells.specs.Array.{Vehicle, vehicle_at}
 use Rattle.road_cells.proofs.ArrayPlaces.{vehicle_at-array}
@@ -19,8 +19,8 @@ module _ (p : Plan) (limits : IsWithinLimits p) (course : Course) where
   -- who is on the road at the next step came from a cell
   moved_from : (t j : ℕ) (car : Vehicle) → vehicle_at (run p course (suc t)) j ≡ Some car → CameFrom (speed p (course t) t (road_before_motion p course t)) (road_before_motion p course t) j car
   moved_from t j car here =
-      let below = within (road_end p) (arrival_at (speed p (course t) t (road_before_motion p course t)) (road_before_motion p course t)) j car here in
-      came_from _ (road_before_motion p course t) j car (sym (vehicle_at-array (road_end p) (arrival_at (speed p (course t) t (road_before_motion p course t)) (road_before_motion p course t)) j below) ∙ here)
+      let below = within (exit_start p) (arrival_at (speed p (course t) t (road_before_motion p course t)) (road_before_motion p course t)) j car here in
+      came_from _ (road_before_motion p course t) j car (sym (vehicle_at-array (exit_start p) (arrival_at (speed p (course t) t (road_before_motion p course t)) (road_before_motion p course t)) j below) ∙ here)
 
   -- a car that enters has a number of this step
   new_number : (t c : ℕ) (car : Vehicle) (by : EnteredBy p t c car) → (MOST_INLETS * t ≤ car.number) × (car.number < MOST_INLETS * (t + 1))
@@ -35,7 +35,7 @@ module _ (p : Plan) (limits : IsWithinLimits p) (course : Course) where
   stay (suc t) c car here =
       let from = moved_from t c car here in
       record {
-        before_exit = within (road_end p) (arrival_at (speed p (course t) t (road_before_motion p course t)) (road_before_motion p course t)) c car here;
+        before_exit = within (exit_start p) (arrival_at (speed p (course t) t (road_before_motion p course t)) (road_before_motion p course t)) c car here;
         slow_enough = let most = speed-most p (course t) t (road_before_motion p course t) from.cell from.earlier in let is = from.new_speed in omega arith;
         has_entered = number from (stood_or_entered p (course t) t (run p course t) from.cell from.earlier from.stood) (stay t from.cell from.earlier);
       }

@@ -19,7 +19,7 @@ use Rattle.road_cells.proofs.FreeCells.{free_before-or, free_before-same, free_b
 use Rattle.road_cells.specs.declared.car.TheConstants.{GREATEST_SPEED}
 use Rattle.road_cells.specs.declared.car.Car.{Car}
 use Rattle.road_rules.proofs.MotionOfCars.{cell_at-end}
-use Rattle.road_rules.specs.Speeds.{wanted_speed, slowed_speed, has_event}
+use Rattle.road_rules.specs.Speeds.{wanted_speed, slowed_speed, comes_about}
 use Rattle.road_ends.specs.Speed.{gap, speed, speeds, nth_car}
 use Rattle.road_ends.specs.Private.StepColumns.{AreHalves, IsHeldUp}
 use Rattle.road_ends.specs.Private.PassPlaces.{IsNthOrNowhere, AreOfZone, wanted_before}
@@ -102,7 +102,7 @@ module _ (p : Plan) (s : Settings) (t : ℕ) (a : Array) where
       → cars ≡ cars_of a → blocks ≡ s.blocks → limits ≡ s.limits → chances ≡ s.chances → zone ≡ zone_of p (cell_at (cars_of a) k) → step ≡ t
       → free ≡ free_cells blocks a (cell_at (cars_of a) k)
       → wished ≡ wanted_speed (nth_car cars k).speed (slice_index limits zone) free
-      → v ≡ slowed_speed wished (has_event (words (nth_car cars k).number step) (slice_index chances zone))
+      → v ≡ slowed_speed wished (comes_about (words (nth_car cars k).number step) (slice_index chances zone))
       → v ≡ speed p s t a (nth_car (cars_of a) k).cell (vehicle_of (nth_car (cars_of a) k))
   read_speed words cars blocks limits chances k zone step free wished v fits long named all blocked limited chanced in_zone now clear wishes is =
       let cell = cell_at (cars_of a) k in
@@ -111,14 +111,14 @@ module _ (p : Plan) (s : Settings) (t : ℕ) (a : Array) where
       wishes ∙ (λ i. wanted_speed (nth_car (all i) k).speed (slice_index (limited i) (in_zone i)) (in_front i)) in
       let drawn : words (nth_car cars k).number step ≡ word p.words (nth_car (cars_of a) k).number t =
       named (nth_car cars k).number step ∙ (λ i. word p.words (nth_car (all i) k).number (now i)) in
-      is ∙ (λ i. slowed_speed (wish i) (has_event (drawn i) (slice_index (chanced i) (in_zone i))))
+      is ∙ (λ i. slowed_speed (wish i) (comes_about (drawn i) (slice_index (chanced i) (in_zone i))))
 
   -- the same, by the half that is kept of the word
   pub read_kept_speed : (cars : List Car) (halves blocks limits chances : List ℕ) (k zone free wished v : ℕ) → Fits p s → length a ≤ p.cells → AreHalves p.words t a halves → k < length halves
       → cars ≡ cars_of a → blocks ≡ s.blocks → limits ≡ s.limits → chances ≡ s.chances → zone ≡ zone_of p (cell_at (cars_of a) k)
       → free ≡ free_cells blocks a (cell_at (cars_of a) k)
       → wished ≡ wanted_speed (nth_car cars k).speed (slice_index limits zone) free
-      → ((word : ℕ) → (0 < wished → slice_index halves k ≡ word / 65536) → v ≡ slowed_speed wished (has_event word (slice_index chances zone)))
+      → ((word : ℕ) → (0 < wished → slice_index halves k ≡ word / 65536) → v ≡ slowed_speed wished (comes_about word (slice_index chances zone)))
       → v ≡ speed p s t a (nth_car (cars_of a) k).cell (vehicle_of (nth_car (cars_of a) k))
   read_kept_speed cars halves blocks limits chances k zone free wished v fits long are inside all blocked limited chanced in_zone clear wishes is =
       let right : 0 < wished → slice_index halves k ≡ word p.words (nth_car cars k).number t / 65536 =
@@ -133,8 +133,8 @@ module _ (p : Plan) (s : Settings) (t : ℕ) (a : Array) where
       → IsNthOrNowhere (length (cars_of a)) (k + 1) (cell_at (cars_of a) (k + 1)) next → IsNthOrNowhere (length s.blocks) reached (slice_index s.blocks reached) block
       → zone ≡ zone_of p (cell_at (cars_of a) k) → AreOfZone s.limits s.chances zone limit chance
       → (k < length halves → (word : ℕ) → (0 < wanted_speed (nth_car cars k).speed limit (min GREATEST_SPEED (min next block - (cell_at cars k + 1))) → slice_index halves k ≡ word / 65536)
-      → v ≡ slowed_speed (wanted_speed (nth_car cars k).speed limit (min GREATEST_SPEED (min next block - (cell_at cars k + 1)))) (has_event word chance))
-      → (length halves ≤ k → v ≡ slowed_speed (wanted_speed (nth_car cars k).speed limit (min GREATEST_SPEED (min next block - (cell_at cars k + 1)))) (has_event (words (nth_car cars k).number t) chance))
+      → v ≡ slowed_speed (wanted_speed (nth_car cars k).speed limit (min GREATEST_SPEED (min next block - (cell_at cars k + 1)))) (comes_about word chance))
+      → (length halves ≤ k → v ≡ slowed_speed (wanted_speed (nth_car cars k).speed limit (min GREATEST_SPEED (min next block - (cell_at cars k + 1)))) (comes_about (words (nth_car cars k).number t) chance))
       → v ≡ speed p s t a (nth_car (cars_of a) k).cell (vehicle_of (nth_car (cars_of a) k))
   pass_speed words cars halves k reached next block zone limit chance v fits long short rising are named all below parted is_next is_block in_zone of_zone by_half by_word =
       let free = min GREATEST_SPEED (min next block - (cell_at cars k + 1)) in
@@ -144,9 +144,9 @@ module _ (p : Plan) (s : Settings) (t : ℕ) (a : Array) where
       let wishes : wished ≡ wanted_speed (nth_car cars k).speed (slice_index s.limits zone) free = ap (λ l. wanted_speed (nth_car cars k).speed l free) of_zone.limit_is in
       elim (cases_lt k (length halves)) as (λ _. v ≡ speed p s t a (nth_car (cars_of a) k).cell (vehicle_of (nth_car (cars_of a) k))) [
         | inl inside ↦ read_kept_speed cars halves s.blocks s.limits s.chances k zone free wished v fits long are inside all refl refl refl in_zone clear wishes
-            (λ word right. by_half inside word right ∙ ap (λ ch. slowed_speed wished (has_event word ch)) of_zone.chance_is)
+            (λ word right. by_half inside word right ∙ ap (λ ch. slowed_speed wished (comes_about word ch)) of_zone.chance_is)
         | inr none ↦ read_speed words cars s.blocks s.limits s.chances k zone t free wished v fits long named all refl refl refl in_zone refl clear wishes
-            (by_word none ∙ ap (λ ch. slowed_speed wished (has_event (words (nth_car cars k).number t) ch)) of_zone.chance_is)
+            (by_word none ∙ ap (λ ch. slowed_speed wished (comes_about (words (nth_car cars k).number t) ch)) of_zone.chance_is)
       ]
 
   -- one speed for each car
@@ -175,8 +175,8 @@ module _ (p : Plan) (s : Settings) (t : ℕ) (a : Array) where
       → ((c : ℕ) → start ≤ c → c ≤ cell_at (cars_of a) front → AreOfZone s.limits s.chances (zone_of p c) limit chance)
       → start ≤ low → ((i : ℕ) → i < reached → slice_index s.blocks i ≤ low) → low ≤ cell_at (cars_of a) k
       → (front ≤ length halves → (word : ℕ) → (0 < wanted_before cars limit (cell_at cars (k + 1)) block k → slice_index halves k ≡ word / 65536)
-      → v ≡ slowed_speed (wanted_before cars limit (cell_at cars (k + 1)) block k) (has_event word chance))
-      → (length halves < front → v ≡ slowed_speed (wanted_before cars limit (cell_at cars (k + 1)) block k) (has_event (words (nth_car cars k).number t) chance))
+      → v ≡ slowed_speed (wanted_before cars limit (cell_at cars (k + 1)) block k) (comes_about word chance))
+      → (length halves < front → v ≡ slowed_speed (wanted_before cars limit (cell_at cars (k + 1)) block k) (comes_about (words (nth_car cars k).number t) chance))
       → v ≡ speed p s t a (nth_car (cars_of a) k).cell (vehicle_of (nth_car (cars_of a) k))
   stretch_speed words cars halves k front reached block start limit chance low v fits long short rising are named all behind below parted is_block alike from_zone from_blocks from by_half by_word =
       let cell = cell_at (cars_of a) k in

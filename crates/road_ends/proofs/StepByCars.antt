@@ -10,7 +10,7 @@ use Rattle.std.proofs.Math.Nat.{div-lt_iff_lt-mul}
 use Rattle.std.proofs.lemmas.Bool.{lt-ltb, cases_lt}
 use Rattle.std.proofs.lemmas.Bool.Decides.{nat_tests}
 use Rattle.std.proofs.lemmas.List.{get_or_default, get_or-map}
-use Rattle.road_plan.specs.Plan.{Plan, road_end, IsWithinLimits}
+use Rattle.road_plan.specs.Plan.{Plan, exit_start, IsWithinLimits}
 use Rattle.road_plan.specs.Settings.{Settings, Fits}
 use Rattle.road_cells.specs.Array.{Array, Vehicle, vehicle_at, array}
 use Rattle.road_cells.proofs.ArrayPlaces.{past_end, vehicle_at-array, past_array, array-same, array-agree}
@@ -114,7 +114,7 @@ may_move p s t a long = record {
 pub left-array_after_motion_at : (p : Plan) (s : Settings) (t : ℕ) (a : Array) → road_before_exit p (array_after_motion_at (speeds p s t a) a) ≡ road_after_motion p s t a
 left-array_after_motion_at p s t a =
     ap (road_before_exit p) (array_after_motion_at-listed (speed p s t a) a)
-    ∙ array-agree (road_end p) (vehicle_at (array_after_motion (speed p s t a) a)) (arrival_at (speed p s t a) a) (λ j below. vehicle_at-array_after_motion (speed p s t a) a j (speed-most p s t a))
+    ∙ array-agree (exit_start p) (vehicle_at (array_after_motion (speed p s t a) a)) (arrival_at (speed p s t a) a) (λ j below. vehicle_at-array_after_motion (speed p s t a) a j (speed-most p s t a))
 
 -- the cars in front of the deleted zone
 first_cars : (m n : ℕ) (cars : List Car) → AreRisingFrom m cars → AreRisingFrom m (take n cars)
@@ -187,11 +187,11 @@ module _ (f : ℕ → Option Vehicle) (n : ℕ) where
 
 -- the cars before the deleted zone make the array without those in it
 pub left-take : (p : Plan) (a : Array) (cars : List Car) (n : ℕ) → cars ≡ cars_of a → AreRising cars
-    → IsPartitionPoint (λ car. nat_lt car.cell (road_end p) ≡ true) (λ car. nat_lt car.cell (road_end p) ≡ false) cars n → array_of (take n cars) ≡ road_before_exit p a
+    → IsPartitionPoint (λ car. nat_lt car.cell (exit_start p) ≡ true) (λ car. nat_lt car.cell (exit_start p) ≡ false) cars n → array_of (take n cars) ≡ road_before_exit p a
 left-take p a cars n all rise point =
-    array_of-take (road_end p) n cars rise
-    (λ k lt below. let test : nat_lt (cell_at cars k) (road_end p) ≡ true = point.0 k (car_of 0 (record { number = 0; speed = 0 })) (omega arith) lt in grind (arith, nat_tests))
-    (λ k le below. let test : nat_lt (cell_at cars k) (road_end p) ≡ false = point.1 k (car_of 0 (record { number = 0; speed = 0 })) le below in grind (arith, nat_tests))
-    ∙ array-agree (road_end p) (vehicle_at (array_of cars)) (vehicle_at a) (λ j below.
+    array_of-take (exit_start p) n cars rise
+    (λ k lt below. let test : nat_lt (cell_at cars k) (exit_start p) ≡ true = point.0 k (car_of 0 (record { number = 0; speed = 0 })) (omega arith) lt in grind (arith, nat_tests))
+    (λ k le below. let test : nat_lt (cell_at cars k) (exit_start p) ≡ false = point.1 k (car_of 0 (record { number = 0; speed = 0 })) le below in grind (arith, nat_tests))
+    ∙ array-agree (exit_start p) (vehicle_at (array_of cars)) (vehicle_at a) (λ j below.
     let here : j ≡ 0 + j = omega arith in
     vehicle_at-array_of cars j ∙ ap (vehicle_among j) all ∙ ap (λ c. vehicle_among c (cars_of a)) here ∙ vehicle_among-cars_from 0 j a)

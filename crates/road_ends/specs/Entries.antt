@@ -10,7 +10,7 @@ use Rattle.road_plan.specs.declared.limits.TheConstants.{MOST_INLETS}
 use Rattle.road_words.specs.Words.{word}
 use Rattle.road_cells.specs.Array.{Array, Vehicle, vehicle_at, array}
 use Rattle.road_cells.specs.Gap.{is_blocked}
-use Rattle.road_rules.specs.Speeds.{has_event}
+use Rattle.road_rules.specs.Speeds.{comes_about}
 
 -- the number of the car that enters inlet i at step t: numbers are never given twice
 abbrev pub car_number : ℕ → ℕ → ℕ
@@ -23,7 +23,7 @@ inlet_stream i = 2 ^ 63 + i
 -- whether inlet i, at cell c, lets a car in at step t: its cell is not blocked, and its word has its event
 abbrev pub is_admitting : Plan → Settings → ℕ → ℕ → ℕ → Bool
 is_admitting p s t c i = not (is_blocked s.blocks c)
-    && has_event (word p.words (inlet_stream i) t) (slice_index s.inflows i)
+    && comes_about (word p.words (inlet_stream i) t) (slice_index s.inflows i)
 
 -- the car that inlet i lets in
 abbrev pub admitted_car : Plan → Settings → ℕ → ℕ → Option ℕ → Option Vehicle

@@ -1,7 +1,7 @@
 -- Laws of every step and of every run of a plan.
 use Rattle.std.specs.Prelude.{◌≡◌, ℕ, ◌+◌, ◌*◌, ◌<◌, ◌≤◌, true, length}
 use Rattle.std.specs.declared.option.Option.TheVariants.{Some}
-use Rattle.road_plan.specs.Plan.{Plan, road_end}
+use Rattle.road_plan.specs.Plan.{Plan, exit_start}
 use Rattle.road_plan.specs.Settings.{Settings, Fits}
 use Rattle.road_plan.specs.declared.limits.TheConstants.{MOST_INLETS}
 use Rattle.road_cells.specs.Array.{Array, Vehicle, vehicle_at}
@@ -56,7 +56,7 @@ HaveOwnNumbers p = (course : Course) (t c d : ℕ) (x y : Vehicle)
 
 -- at step t each car is before the deleted zone, not too fast, and numbered by a step before t
 pub record IsOnRoad (p : Plan) (t c : ℕ) (car : Vehicle) : Type 0 where
-  pub before_exit : c < road_end p
+  pub before_exit : c < exit_start p
   pub slow_enough : car.speed ≤ GREATEST_SPEED
   pub has_entered : car.number < MOST_INLETS * t
 

@@ -1,6 +1,6 @@
 -- One step of the road, and the run.
 use Rattle.std.specs.Prelude.{ℕ, zero, suc, []}
-use Rattle.road_plan.specs.Plan.{Plan, road_end}
+use Rattle.road_plan.specs.Plan.{Plan, exit_start}
 use Rattle.road_plan.specs.Settings.{Settings}
 use Rattle.road_cells.specs.Array.{Array, vehicle_at, array}
 use Rattle.road_rules.specs.Motion.{arrival_at}
@@ -14,11 +14,11 @@ Course = ℕ → Settings
 -- the array after the motion: each place before the deleted zone holds the car that arrives there; all others are empty
 -- (rule 4, and the deleted zone)
 abbrev pub road_after_motion : Plan → Settings → ℕ → Array → Array
-road_after_motion p s t a = array (road_end p) (arrival_at (speed p s t a) a)
+road_after_motion p s t a = array (exit_start p) (arrival_at (speed p s t a) a)
 
 -- the array without the cars in the deleted zone or past it
 abbrev pub road_before_exit : Plan → Array → Array
-road_before_exit p a = array (road_end p) (vehicle_at a)
+road_before_exit p a = array (exit_start p) (vehicle_at a)
 
 -- one step: entries, then motion and deletion
 abbrev pub road_after_step : Plan → Settings → ℕ → Array → Array

@@ -10,7 +10,7 @@ use Rattle.road_cells.specs.Gap as cells
 use Rattle.road_cells.specs.Gap.{free_before}
 use Rattle.road_cells.specs.declared.car.TheConstants.{GREATEST_SPEED}
 use Rattle.road_cells.specs.declared.car.Car.{Car}
-use Rattle.road_rules.specs.Speeds.{wanted_speed, slowed_speed, has_event}
+use Rattle.road_rules.specs.Speeds.{wanted_speed, slowed_speed, comes_about}
 
 -- whether a cell is on the road and holds a car or is blocked
 abbrev pub is_taken_on_road : Plan → Settings → Array → ℕ → Bool
@@ -22,7 +22,7 @@ gap p s a c = free_before (is_taken_on_road p s a) (c + 1) GREATEST_SPEED
 
 -- whether the car is slowed by chance: its word at this step has its event under the chance of a zone
 abbrev pub is_slowed : Plan → Settings → ℕ → ℕ → Vehicle → Bool
-is_slowed p s t zone car = has_event (word p.words car.number t) (slice_index s.chances zone)
+is_slowed p s t zone car = comes_about (word p.words car.number t) (slice_index s.chances zone)
 
 -- the new speed of a car at cell c: rules 1 to 3 with the limit and the chance of the zone where it stands
 -- (Nagel and Schreckenberg 1992)

@@ -2,7 +2,7 @@
 
 ghost use Rattle.std.specs.Prelude.{◌≡◌, ◌<◌, ◌/◌, ℕ, IfOk};
 ghost use Rattle.road_plan.specs.declared.limits.TheConstants.{MOST_INLETS};
-ghost use Rattle.road_rules.specs.Speeds.{has_event, slowed_speed};
+ghost use Rattle.road_rules.specs.Speeds.{comes_about, slowed_speed};
 ghost use Rattle.road_words.specs.Words.{word};
 ghost use Rattle.road_ends.specs.Entries.{inlet_stream};
 
@@ -24,7 +24,7 @@ pub(crate) fn has_inflow(
     chance: u32,
 ) -> Result<bool, OutOfMemory>
     requires { inlet < MOST_INLETS }
-    ensures event { IfOk result (λ event. event ≡ has_event (word words.old (inlet_stream inlet) step) chance) }
+    ensures event { IfOk result (λ event. event ≡ comes_about (word words.old (inlet_stream inlet) step) chance) }
     ensures unchanged { words.new ≡ words.old }
 {
     if chance == 0 {
@@ -40,7 +40,7 @@ pub(crate) fn has_inflow(
 // Whether the word at a place of a stream has its event under a chance. It is drawn only where the chance leaves that
 // open.
 fn has_event(words: &PlanWords, stream: u64, place: u64, chance: u32) -> bool
-    ensures { result ≡ has_event (⟦<PlanWords as Words>⟧.word_of words.now stream place) chance }
+    ensures { result ≡ comes_about (⟦<PlanWords as Words>⟧.word_of words.now stream place) chance }
 {
     if chance == 0 {
         return false;
@@ -57,7 +57,7 @@ pub(crate) fn slowed_by_chance(
     speed: u8,
     chance: u32,
 ) -> u8
-    ensures { result ≡ slowed_speed speed (has_event (⟦<PlanWords as Words>⟧.word_of words.now stream place) chance) }
+    ensures { result ≡ slowed_speed speed (comes_about (⟦<PlanWords as Words>⟧.word_of words.now stream place) chance) }
 {
     if speed > 0 && has_event(words, stream, place, chance) {
         speed - 1
@@ -68,7 +68,7 @@ pub(crate) fn slowed_by_chance(
 
 // A speed after rule 3, by the upper half of its word. Where the speed is 0 it may be any number.
 pub(crate) fn slowed_by_half(half: u16, speed: u8, chance: u32) -> u8
-    ensures { (word : ℕ) → (0 < speed → half ≡ word / 65536) → result ≡ slowed_speed speed (has_event word chance) }
+    ensures { (word : ℕ) → (0 < speed → half ≡ word / 65536) → result ≡ slowed_speed speed (comes_about word chance) }
 {
     speed.saturating_sub(u8::from(u32::from(half) < chance))
 }

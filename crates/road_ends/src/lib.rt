@@ -1,4 +1,5 @@
-//! The ends of the road: entries, the whole step with its deletions, the laws of runs, and the letters of rows.
+//! The step and the run of the road: entries, the speeds of all cars, motion and the deletions at the exit; the laws of
+//! runs, and the letters of rows.
 //!
 //! A step goes from inlet to inlet and from car to car.
 //!

@@ -6,7 +6,7 @@ ghost use Rattle.road_plan.specs.Settings.{Fits};
 ghost use Rattle.road_cells.specs.Cars.{cars_of, cell_at};
 ghost use Rattle.road_cells.specs.Gap.{ArePartedAt};
 ghost use Rattle.road_cells.specs.declared.car.TheConstants.{GREATEST_SPEED};
-ghost use Rattle.road_rules.specs.Speeds.{has_event, slowed_speed, wanted_speed};
+ghost use Rattle.road_rules.specs.Speeds.{comes_about, slowed_speed, wanted_speed};
 ghost use Rattle.road_ends.specs.Speed.{nth_car, speeds};
 ghost use Rattle.road_ends.specs.Private.StepColumns.{AreColumns, AreHalves};
 ghost use Rattle.road_ends.specs.Private.PassPlaces.{IsNthOrNowhere, AreOfZone, wanted_before};
@@ -150,11 +150,11 @@ fn speeds_behind(
     ensures by_half { to ≤ length columns.now.halves.items → (k : ℕ) → from ≤ k → k < to →
         let wished = wanted_before cars.now cursor.zone.limit (cell_at cars.now (k + 1)) cursor.block.cell k in
         (word : ℕ) → (0 < wished → slice_index columns.now.halves.items k ≡ word / 65536)
-        → slice_index new.new (k - first) ≡ slowed_speed wished (has_event word cursor.zone.chance) }
+        → slice_index new.new (k - first) ≡ slowed_speed wished (comes_about word cursor.zone.chance) }
     ensures by_word { length columns.now.halves.items < to → (k : ℕ) → from ≤ k → k < to →
         let wished = wanted_before cars.now cursor.zone.limit (cell_at cars.now (k + 1)) cursor.block.cell k in
         let word = ⟦<PlanWords as Words>⟧.word_of words.now (nth_car cars.now k).number step in
-        slice_index new.new (k - first) ≡ slowed_speed wished (has_event word cursor.zone.chance) }
+        slice_index new.new (k - first) ≡ slowed_speed wished (comes_about word cursor.zone.chance) }
 {
     if from == to {
         return;
@@ -277,11 +277,11 @@ fn new_speed(
     ensures by_half { let wished = wanted_speed car.speed cursor.zone.limit
         (min GREATEST_SPEED (min cursor.next cursor.block.cell - (car.cell + 1))) in
         place < length halves.now → (word : ℕ) → (0 < wished → slice_index halves.now place ≡ word / 65536)
-        → result ≡ slowed_speed wished (has_event word cursor.zone.chance) }
+        → result ≡ slowed_speed wished (comes_about word cursor.zone.chance) }
     ensures by_word { let wished = wanted_speed car.speed cursor.zone.limit
         (min GREATEST_SPEED (min cursor.next cursor.block.cell - (car.cell + 1))) in
         let word = ⟦<PlanWords as Words>⟧.word_of words.now car.number step in
-        length halves.now ≤ place → result ≡ slowed_speed wished (has_event word cursor.zone.chance) }
+        length halves.now ≤ place → result ≡ slowed_speed wished (comes_about word cursor.zone.chance) }
 {
     let free = free_between(car.cell, cursor.next.min(cursor.block.cell));
     let wished = wanted(car.speed, cursor.zone.limit, free);

@@ -17,7 +17,7 @@ pub(crate) const NO_ROW: u32 = u32::MAX;
 
 // How many rows are kept at most: one for each cell of the longest road, and one for each car that can enter it in a
 // row's steps. Where there are more, as after calls for roads that do not follow one another, they are drawn anew.
-const MOST_ROWS: usize = 66_560;
+const MOST_WORD_ROWS: usize = 66_560;
 
 // Rows of the words of one kind, all for the same 64 steps: of a stream's words at these steps the upper 16 bits.
 //
@@ -97,7 +97,7 @@ impl WordRows {
         ensures kind { self.new.kind ≡ self.old.kind }
     {
         self.turn_to(step);
-        if self.streams.len() >= MOST_ROWS {
+        if self.streams.len() >= MOST_WORD_ROWS {
             self.streams.clear();
         }
         self.rows.truncate(self.streams.len());

@@ -1,20 +1,16 @@
 //! The lines of the laboratory: how an input is cut into lines, which lines are a plan line or a command, and what is
 //! written for an answer. Every line is one JSON value, and so is every reply.
 //!
-//! A program that answers each line, once its first one was a plan line:
-//!
 //! ```
-//! fn reply_to(alloc: Global, line: &[u8]) -> Result<String, OutOfMemory> {
-//!     let answer = match read_command(alloc, line) {
-//!         Ok(Command::Cells { at, step }) => Answer::Cells(row_of(alloc, &at, step)?),
-//!         Ok(_) => Answer::Refused(Refusal::NoReplica),
-//!         Err(fault) => match fault.refusal() {
-//!             Some(refusal) => Answer::Refused(refusal),
-//!             None => return Err(OutOfMemory),
-//!         },
-//!     };
-//!     reply_line(alloc, &answer)
-//! }
+//! // A plan line is read, and answered: how many replicas it opens, or why it is refused.
+//! let answer = match read_plan(alloc, line) {
+//!     Ok(plan_line) => Answer::Open { replicas: plan_line.names.len() as u32 },
+//!     Err(fault) => match fault.refusal() {
+//!         Some(refusal) => Answer::Refused(refusal),
+//!         None => return Err(OutOfMemory),
+//!     },
+//! };
+//! let reply = reply_line(alloc, &answer)?;
 //! ```
 #![tactic(auto)]
 

@@ -16,7 +16,7 @@ pub(crate) fn local_of_name(name: &str, at: String, fields: &Value) -> Option<Co
     ensures { option_map command_view result ≡ grammar.local_of_name name.now (string_bytes at) (view fields.now) }
 {
     match name {
-        "edit" => edit_in(at, fields),
+        "edit" => edit_command_in(at, fields),
         "withdraw" => withdraw_in(at, fields),
         "advance" => Some(Command::Advance {
             at,
@@ -49,7 +49,7 @@ fn only_number(field: &str, fields: &Value) -> Option<u32>
 
 // The `edit` at a replica, of exactly its fields.
 #[tactic(auto, unfolding(crate::specs::CommandGrammar::edit_command_in))]
-fn edit_in(at: String, fields: &Value) -> Option<Command>
+fn edit_command_in(at: String, fields: &Value) -> Option<Command>
     ensures { option_map command_view result ≡ grammar.edit_command_in (string_bytes at) (view fields.now) }
 {
     if !has_fields(4, fields) {

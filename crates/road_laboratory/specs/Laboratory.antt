@@ -145,7 +145,8 @@ stamp_answer w r object step value = Stamped (local_edit r (replica_at w r).edit
 abbrev pub touched_answer : World → ℕ → Edits → Answer
 touched_answer w r edits = Touched (first_touched_step (replica_at w r).edits (union (replica_at w r).edits edits))
 
--- edits reach replica r from outside, unless it refuses them
+-- Edits reach replica r from outside, unless it refuses them. It is what the event `Import` comes to; that event owns a
+-- list of the program, which a definition does not make, so none stands here.
 abbrev pub import_outcome : Laboratory → ℕ → List edit.Edit → Outcome
 import_outcome lab r edits =
     outcome_unless lab (option_and_then replica_refusal (import_fault lab.world.plan edits)) (record {

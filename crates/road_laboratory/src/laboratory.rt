@@ -113,7 +113,7 @@ impl Laboratory {
         ensures after { OnOk result (self.new
             ≡ laboratory_of_winners (laboratory_after self.old (command_view command.now))) }
         ensures unchanged { OnErr result (self.new ≡ self.old) }
-        ensures gone { C.gone crew.new ≡ gone_after result (C.gone crew.old) }
+        ensures gone { C.times_gone crew.new ≡ gone_after result (C.times_gone crew.old) }
     {
         self.known();
         let Some(at) = self.replica_of(name_of(command)) else {
@@ -155,7 +155,7 @@ impl Laboratory {
         ensures after { OnOk result (self.new
             ≡ laboratory_of_winners (outcome_at self.old at (command_view command.now)).after) }
         ensures unchanged { OnErr result (self.new ≡ self.old) }
-        ensures gone { C.gone crew.new ≡ gone_after result (C.gone crew.old) }
+        ensures gone { C.times_gone crew.new ≡ gone_after result (C.times_gone crew.old) }
     {
         self.known();
         match command {
@@ -249,7 +249,7 @@ impl Laboratory {
         ensures after { (given : replies.Answer) → OnOk result (self.new
             ≡ laboratory_of_winners (change_outcome self.old event.now given).after) }
         ensures unchanged { OnErr result (self.new ≡ self.old) }
-        ensures gone { C.gone crew.new ≡ gone_after result (C.gone crew.old) }
+        ensures gone { C.times_gone crew.new ≡ gone_after result (C.times_gone crew.old) }
     {
         self.known();
         match self.apply(alloc, event, crew) {
@@ -275,7 +275,7 @@ impl Laboratory {
         ensures after { OnOk result (self.new
             ≡ laboratory_of_winners (import_outcome self.old at edits.now.items).after) }
         ensures unchanged { OnErr result (self.new ≡ self.old) }
-        ensures gone { C.gone crew.new ≡ gone_after result (C.gone crew.old) }
+        ensures gone { C.times_gone crew.new ≡ gone_after result (C.times_gone crew.old) }
     {
         let edits = edits.to_vec(alloc)?;
         self.change(alloc, &Event::Import { at, edits }, crew)
@@ -293,7 +293,7 @@ impl Laboratory {
         ensures answer { IfOk result (λ answer. answer_view answer ≡ (take_outcome self.old at name.now).answer) }
         ensures after { OnOk result (self.new ≡ laboratory_of_winners (take_outcome self.old at name.now).after) }
         ensures unchanged { OnErr result (self.new ≡ self.old) }
-        ensures gone { C.gone crew.new ≡ gone_after result (C.gone crew.old) }
+        ensures gone { C.times_gone crew.new ≡ gone_after result (C.times_gone crew.old) }
     {
         self.known();
         match self.messages.number_of(name) {
@@ -319,7 +319,7 @@ impl Laboratory {
         ensures answer { IfOk result (λ answer. answer_view answer ≡ (send_outcome self.old at name.now).answer) }
         ensures after { OnOk result (self.new ≡ laboratory_of_winners (send_outcome self.old at name.now).after) }
         ensures unchanged { OnErr result (self.new ≡ self.old) }
-        ensures gone { C.gone crew.new ≡ gone_after result (C.gone crew.old) }
+        ensures gone { C.times_gone crew.new ≡ gone_after result (C.times_gone crew.old) }
     {
         self.known();
         if self.messages.number_of(name).is_some() {
@@ -343,7 +343,7 @@ impl Laboratory {
         ensures answer { IfOk result (λ answer. answer_view answer ≡ (heads_outcome self.old at name.now).answer) }
         ensures after { OnOk result (self.new ≡ laboratory_of_winners (heads_outcome self.old at name.now).after) }
         ensures unchanged { OnErr result (self.new ≡ self.old) }
-        ensures gone { C.gone crew.new ≡ gone_after result (C.gone crew.old) }
+        ensures gone { C.times_gone crew.new ≡ gone_after result (C.times_gone crew.old) }
     {
         self.known();
         if self.messages.number_of(name).is_some() {
@@ -370,7 +370,7 @@ impl Laboratory {
         ensures after { OnOk result (self.new
             ≡ laboratory_of_winners (beyond_outcome self.old at asked.now name.now).after) }
         ensures unchanged { OnErr result (self.new ≡ self.old) }
-        ensures gone { C.gone crew.new ≡ gone_after result (C.gone crew.old) }
+        ensures gone { C.times_gone crew.new ≡ gone_after result (C.times_gone crew.old) }
     {
         self.known();
         let Some(number) = self.number_of_heads(asked) else {
@@ -405,7 +405,7 @@ impl Laboratory {
           world = world_after_event event.now self.old.world;
         })) }
         ensures unchanged { OnErr result (self.new ≡ self.old) }
-        ensures gone { C.gone crew.new ≡ gone_after result (C.gone crew.old) }
+        ensures gone { C.times_gone crew.new ≡ gone_after result (C.times_gone crew.old) }
     {
         let count = self.messages.len();
         self.messages.put(String::from_str(alloc, name)?)?;
@@ -488,7 +488,7 @@ impl Laboratory {
         ensures after { OnOk result (self.new
             ≡ laboratory_of_winners (record self.old { world = world_after_event event.now self.old.world })) }
         ensures unchanged { OnErr result (self.new ≡ self.old) }
-        ensures gone { C.gone crew.new ≡ gone_after_answer result (C.gone crew.old) }
+        ensures gone { C.times_gone crew.new ≡ gone_after_answer result (C.times_gone crew.old) }
     {
         let reply = self.world.apply(alloc, event, crew, &mut self.meter)?;
         if !keeps_edits(event) {

@@ -12,7 +12,7 @@ use Rattle.std.proofs.lemmas.Cmp.{nat_eq_equiv}
 use Rattle.std.proofs.lemmas.List.{length-map}
 use Rattle.std.proofs.lemmas.Map.Made.{IsDistinct-from_count, distinct_count-from_IsDistinct}
 use Rattle.std.proofs.lemmas.Option.{none-some}
-use Rattle.road_plan.specs.Plan.{Plan, IsWithinLimits, road_end, zone_of}
+use Rattle.road_plan.specs.Plan.{Plan, IsWithinLimits, exit_start, zone_of}
 use Rattle.road_plan.specs.Refusals.{fault_of_plan, has_length, has_exit, has_zones, has_inlets, has_detectors, has_defaults}
 use Rattle.road_plan.specs.declared.faults.PlanFault.{PlanFault}
 use Rattle.road_plan.specs.declared.limits.TheConstants.{LEAST_LENGTH, GREATEST_LENGTH, GREATEST_EXIT, MOST_ZONES, MOST_INLETS, MOST_DETECTORS, GREATEST_LIMIT, CERTAIN}
@@ -44,15 +44,15 @@ cells_test p =
       λ h. same.1 (distinct_count-from_IsDistinct nat_eq_equiv cells h ∙ length-map p.inlets (λ inlet. inlet.0)),
     )
 
-inlets_test : (p : Plan) → Decides (has_inlets p) ((((0 < length p.inlets) × (length p.inlets ≤ MOST_INLETS)) × All (λ inlet. inlet.0 < road_end p) p.inlets) × IsDistinct nat_eq (map (λ inlet. inlet.0) p.inlets))
+inlets_test : (p : Plan) → Decides (has_inlets p) ((((0 < length p.inlets) × (length p.inlets ≤ MOST_INLETS)) × All (λ inlet. inlet.0 < exit_start p) p.inlets) × IsDistinct nat_eq (map (λ inlet. inlet.0) p.inlets))
 inlets_test p =
     let few = Decides-and _ _ (below 0 (length p.inlets)) (at_most (length p.inlets) MOST_INLETS) in
-    Decides-and _ _ (Decides-and _ _ few (each _ (λ inlet. inlet.0 < road_end p) (λ inlet. below inlet.0 (road_end p)) p.inlets)) (cells_test p)
+    Decides-and _ _ (Decides-and _ _ few (each _ (λ inlet. inlet.0 < exit_start p) (λ inlet. below inlet.0 (exit_start p)) p.inlets)) (cells_test p)
 
-detectors_test : (p : Plan) → Decides (has_detectors p) ((length p.detectors ≤ MOST_DETECTORS) × All (λ site. (0 < site) × (site < road_end p)) p.detectors)
+detectors_test : (p : Plan) → Decides (has_detectors p) ((length p.detectors ≤ MOST_DETECTORS) × All (λ site. (0 < site) × (site < exit_start p)) p.detectors)
 detectors_test p =
     Decides-and _ _ (at_most (length p.detectors) MOST_DETECTORS)
-    (each _ (λ site. (0 < site) × (site < road_end p)) (λ site. Decides-and _ _ (below 0 site) (below site (road_end p))) p.detectors)
+    (each _ (λ site. (0 < site) × (site < exit_start p)) (λ site. Decides-and _ _ (below 0 site) (below site (exit_start p))) p.detectors)
 
 defaults_test : (p : Plan) → Decides (has_defaults p) (All (λ zone. (zone.0 ≤ GREATEST_LIMIT) × (zone.1 ≤ CERTAIN)) p.zones × All (λ inlet. inlet.1 ≤ CERTAIN) p.inlets)
 defaults_test p =

@@ -31,16 +31,16 @@ plan_of parts = record {
   words = parts.words;
 }
 
--- the first cell of the deleted zone, past which no car stays
-abbrev pub road_end : Plan → ℕ
-road_end p = p.cells - p.exit
+-- the first cell of the exit, from which on no car stays
+abbrev pub exit_start : Plan → ℕ
+exit_start p = p.cells - p.exit
 
 -- the number of the zone in which a cell lies
 abbrev pub zone_of : Plan → ℕ → ℕ
 zone_of p c = c / p.width
 
 -- a plan is within the limits of the laboratory: it has a road with a deleted zone at its end, one entry for each zone
--- up to that of the last cell, inlets at different cells before the deleted zone, detectors behind the first cell and
+-- up to that of the last cell, inlets at different cells before the deleted zone, detectors past the first cell and
 -- before the deleted zone, and allowed speed limits, slowing chances and inflows
 pub record IsWithinLimits (p : Plan) : Type 0 where
   pub long_enough : LEAST_LENGTH ≤ p.cells
@@ -54,10 +54,10 @@ pub record IsWithinLimits (p : Plan) : Type 0 where
   pub some_inlet : 0 < length p.inlets
   pub few_inlets : length p.inlets ≤ MOST_INLETS
   pub inlets_apart : IsDistinct nat_eq (map (λ inlet. inlet.0) p.inlets)
-  pub inlets_before_exit : All (λ inlet. inlet.0 < road_end p) p.inlets
+  pub inlets_before_exit : All (λ inlet. inlet.0 < exit_start p) p.inlets
   pub few_detectors : length p.detectors ≤ MOST_DETECTORS
   pub sites_after_start : All (λ site. 0 < site) p.detectors
-  pub sites_before_exit : All (λ site. site < road_end p) p.detectors
+  pub sites_before_exit : All (λ site. site < exit_start p) p.detectors
   pub speed_limits_allowed : All (λ zone. zone.0 ≤ GREATEST_LIMIT) p.zones
   pub chances_allowed : All (λ zone. zone.1 ≤ CERTAIN) p.zones
   pub inflows_allowed : All (λ inlet. inlet.1 ≤ CERTAIN) p.inlets

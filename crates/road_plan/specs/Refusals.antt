@@ -4,7 +4,7 @@ use Rattle.std.specs.List.{list_all}
 use Rattle.std.specs.Set.{distinct_count}
 use Rattle.std.specs.declared.option.Option.{Option}
 use Rattle.std.specs.declared.option.Option.TheVariants.{None, Some}
-use Rattle.road_plan.specs.Plan.{Plan, road_end, zone_of}
+use Rattle.road_plan.specs.Plan.{Plan, exit_start, zone_of}
 use Rattle.road_plan.specs.declared.faults.PlanFault.{PlanFault}
 use Rattle.road_plan.specs.declared.faults.PlanFault.TheVariants.{Length, Exit, Zones, Inlets, Detectors, Default}
 use Rattle.road_plan.specs.declared.limits.TheConstants.{LEAST_LENGTH, GREATEST_LENGTH, GREATEST_EXIT}
@@ -27,14 +27,14 @@ has_zones p = nat_lt 0 p.width && nat_le (length p.zones) MOST_ZONES && length p
 abbrev pub has_inlets : Plan → Bool
 has_inlets p =
     nat_lt 0 (length p.inlets) && nat_le (length p.inlets) MOST_INLETS
-    && list_all (λ inlet. nat_lt inlet.0 (road_end p)) p.inlets
+    && list_all (λ inlet. nat_lt inlet.0 (exit_start p)) p.inlets
     && distinct_count nat_eq (map (λ inlet. inlet.0) p.inlets) == length p.inlets
 
--- whether the detectors are few enough, behind the first cell and before the deleted zone
+-- whether the detectors are few enough, past the first cell and before the deleted zone
 abbrev pub has_detectors : Plan → Bool
 has_detectors p =
     nat_le (length p.detectors) MOST_DETECTORS
-    && list_all (λ site. nat_lt 0 site && nat_lt site (road_end p)) p.detectors
+    && list_all (λ site. nat_lt 0 site && nat_lt site (exit_start p)) p.detectors
 
 -- whether each speed limit, slowing chance and inflow is in its range
 abbrev pub has_defaults : Plan → Bool

@@ -3,7 +3,7 @@
 ghost use Rattle.std.specs.Prelude.{◌≡◌, ◌==◌, ◌&&◌, length, map, nat_eq, nat_le, nat_lt};
 ghost use Rattle.std.specs.List.{list_all, list_any};
 ghost use Rattle.std.specs.Set.{distinct_count};
-ghost use Rattle.road_plan.specs.Plan.{plan_of, road_end};
+ghost use Rattle.road_plan.specs.Plan.{plan_of, exit_start};
 ghost use Rattle.road_plan.specs.Refusals as refusals;
 
 use crate::faults::PlanFault;
@@ -96,7 +96,7 @@ fn has_inlet_at(cell: u32, inlets: &[(u32, u32)]) -> bool
     inlets.iter().any(|inlet| cell == inlet.0)
 }
 
-// Whether the detectors are few enough, behind the first cell and before the deleted zone.
+// Whether the detectors are few enough, past the first cell and before the deleted zone.
 fn has_detectors(parts: &PlanParts) -> bool
     ensures { result ≡ refusals.has_detectors (plan_of parts.now) }
 {
@@ -104,7 +104,7 @@ fn has_detectors(parts: &PlanParts) -> bool
     parts.detectors.len() <= MOST_DETECTORS && are_between(&parts.detectors, end)
 }
 
-// Whether these sites are behind the first cell and before the deleted zone, which begins at `end`.
+// Whether these sites are past the first cell and before the deleted zone, which begins at `end`.
 fn are_between(sites: &[u32], end: u32) -> bool
     ensures { result ≡ list_all (λ site. nat_lt 0 site && nat_lt site end) sites.now }
 {

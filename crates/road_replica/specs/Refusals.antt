@@ -25,18 +25,18 @@ use Rattle.road_replica.specs.declared.faults.ReplicaFault.TheVariants.{NotSimul
 -- ---- causes by other names
 
 -- the refusal of an edit that comes from elsewhere
-abbrev pub arrived_fault : EditFault → ReplicaFault
-arrived_fault edits.NoObject = NoObject
-arrived_fault edits.Step = Step
-arrived_fault edits.ValueOutOfRange = ValueOutOfRange
-arrived_fault edits.Count = Count
+abbrev pub arrived_edit_fault : EditFault → ReplicaFault
+arrived_edit_fault edits.NoObject = NoObject
+arrived_edit_fault edits.Step = Step
+arrived_edit_fault edits.ValueOutOfRange = ValueOutOfRange
+arrived_edit_fault edits.Count = Count
 
 -- the refusal of an edit that the replica would make: its count, one more than the greatest held, can only be too great
-abbrev pub made_fault : EditFault → ReplicaFault
-made_fault edits.NoObject = NoObject
-made_fault edits.Step = Step
-made_fault edits.ValueOutOfRange = ValueOutOfRange
-made_fault edits.Count = CountsSpent
+abbrev pub made_edit_fault : EditFault → ReplicaFault
+made_edit_fault edits.NoObject = NoObject
+made_edit_fault edits.Step = Step
+made_edit_fault edits.ValueOutOfRange = ValueOutOfRange
+made_edit_fault edits.Count = CountsSpent
 
 -- the refusal of a question, where the sheet refuses it
 abbrev pub question_fault : SheetFault → ReplicaFault
@@ -49,21 +49,21 @@ question_fault sheet_faults.OutOfMemory = OutOfMemory
 
 -- the first named cause for which an edit is refused that the replica would make
 abbrev pub edit_fault : Replica → Object → ℕ → Value → Option ReplicaFault
-edit_fault r object step value = option_map made_fault (fault_of_edit r.sheet.plan (edit_made r object step value))
+edit_fault r object step value = option_map made_edit_fault (fault_of_edit r.sheet.plan (edit_made r object step value))
 
 -- the first named cause for which one imported edit is refused: it must not bear a replica's number
-abbrev pub imported_fault : Plan → Edit → Option ReplicaFault
-imported_fault plan edit = option_or (option_map arrived_fault (fault_of_edit plan edit))
+abbrev pub imported_edit_fault : Plan → Edit → Option ReplicaFault
+imported_edit_fault plan edit = option_or (option_map arrived_edit_fault (fault_of_edit plan edit))
     (if nat_lt edit.stamp.number FIRST_IMPORT_NUMBER then Some Insider else None)
 
 -- the cause for which an import is refused: that of its first faulty edit
 abbrev pub import_fault : Plan → List Edit → Option ReplicaFault
 import_fault plan [] = None
-import_fault plan (edit ∷ edits) = option_or (imported_fault plan edit) (import_fault plan edits)
+import_fault plan (edit ∷ edits) = option_or (imported_edit_fault plan edit) (import_fault plan edits)
 
 -- the cause for which a scenario is not taken: that of its first faulty edit, by object and step
 abbrev pub take_fault : Plan → Edits → Option ReplicaFault
-take_fault plan edits = option_map arrived_fault (fault_in plan edits)
+take_fault plan edits = option_map arrived_edit_fault (fault_in plan edits)
 
 -- the cause for which an advance to a step is refused
 abbrev pub advance_fault : ℕ → Option ReplicaFault

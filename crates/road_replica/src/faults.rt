@@ -66,7 +66,7 @@ impl From<AllocError> for ReplicaFault {
 
 // The refusal of an edit that comes from elsewhere.
 pub(crate) fn arrived_fault(fault: EditFault) -> ReplicaFault
-    ensures { result ≡ refusals.arrived_fault fault }
+    ensures { result ≡ refusals.arrived_edit_fault fault }
 {
     match fault {
         EditFault::NoObject => ReplicaFault::NoObject,
@@ -78,7 +78,7 @@ pub(crate) fn arrived_fault(fault: EditFault) -> ReplicaFault
 
 // The refusal of an edit that the replica would make.
 pub(crate) fn made_fault(fault: EditFault) -> ReplicaFault
-    ensures { result ≡ refusals.made_fault fault }
+    ensures { result ≡ refusals.made_edit_fault fault }
 {
     match fault {
         EditFault::NoObject => ReplicaFault::NoObject,

@@ -175,8 +175,8 @@ impl Replica {
         ensures few_steps { TicksAtMost
             (most_steps_taking self.old.sheet (single_edit (edit_made self.old object step (Put value))))
             meter.old meter.new }
-        ensures gone { MatchResult result (λ _. C.gone crew.new ≡ C.gone crew.old)
-            (λ fault. C.gone crew.new ≡ gone_after_fault fault (C.gone crew.old)) }
+        ensures gone { MatchResult result (λ _. C.times_gone crew.new ≡ C.times_gone crew.old)
+            (λ fault. C.times_gone crew.new ≡ gone_after_fault fault (C.times_gone crew.old)) }
     {
         self.make(alloc, object, step, Value::Put(value), crew, meter)
     }
@@ -207,8 +207,8 @@ impl Replica {
         ensures few_steps { TicksAtMost
             (most_steps_taking self.old.sheet (single_edit (edit_made self.old object step Withdrawn)))
             meter.old meter.new }
-        ensures gone { MatchResult result (λ _. C.gone crew.new ≡ C.gone crew.old)
-            (λ fault. C.gone crew.new ≡ gone_after_fault fault (C.gone crew.old)) }
+        ensures gone { MatchResult result (λ _. C.times_gone crew.new ≡ C.times_gone crew.old)
+            (λ fault. C.times_gone crew.new ≡ gone_after_fault fault (C.times_gone crew.old)) }
     {
         self.make(alloc, object, step, Value::Withdrawn, crew, meter)
     }
@@ -234,8 +234,8 @@ impl Replica {
         ensures unchanged { OnErr result (self.new ≡ self.old) }
         ensures few_steps { TicksAtMost (most_steps_taking self.old.sheet (from_list edits.now))
             meter.old meter.new }
-        ensures gone { MatchResult result (λ _. C.gone crew.new ≡ C.gone crew.old)
-            (λ fault. C.gone crew.new ≡ gone_after_fault fault (C.gone crew.old)) }
+        ensures gone { MatchResult result (λ _. C.times_gone crew.new ≡ C.times_gone crew.old)
+            (λ fault. C.times_gone crew.new ≡ gone_after_fault fault (C.times_gone crew.old)) }
     {
         if let Some(fault) = import_fault(self.sheet.plan(), edits) {
             return Err(fault);
@@ -267,8 +267,8 @@ impl Replica {
         ensures unchanged { OnErr result (self.new ≡ self.old) }
         ensures few_steps { TicksAtMost (most_steps_taking self.old.sheet scenario.now)
             meter.old meter.new }
-        ensures gone { MatchResult result (λ _. C.gone crew.new ≡ C.gone crew.old)
-            (λ fault. C.gone crew.new ≡ gone_after_fault fault (C.gone crew.old)) }
+        ensures gone { MatchResult result (λ _. C.times_gone crew.new ≡ C.times_gone crew.old)
+            (λ fault. C.times_gone crew.new ≡ gone_after_fault fault (C.times_gone crew.old)) }
     {
         match scenario.fits(self.sheet.plan()) {
             Some(fault) => Err(arrived_fault(fault)),
@@ -299,8 +299,8 @@ impl Replica {
         ensures new_steps { IfOk result (λ _. meter.new
             ≡ meter_after meter.old (max self.old.sheet.horizon to - self.old.sheet.horizon)) }
         ensures few_steps { TicksAtMost (max self.old.sheet.horizon to - self.old.sheet.horizon) meter.old meter.new }
-        ensures gone { MatchResult result (λ _. C.gone crew.new ≡ C.gone crew.old)
-            (λ fault. C.gone crew.new ≡ gone_after_fault fault (C.gone crew.old)) }
+        ensures gone { MatchResult result (λ _. C.times_gone crew.new ≡ C.times_gone crew.old)
+            (λ fault. C.times_gone crew.new ≡ gone_after_fault fault (C.times_gone crew.old)) }
     {
         if to > GREATEST_HORIZON {
             return Err(ReplicaFault::Horizon);
@@ -331,8 +331,8 @@ impl Replica {
         ensures few_steps { TicksAtMost
             (most_steps_taking self.old.sheet (single_edit (edit_made self.old object step value)))
             meter.old meter.new }
-        ensures gone { MatchResult result (λ _. C.gone crew.new ≡ C.gone crew.old)
-            (λ fault. C.gone crew.new ≡ gone_after_fault fault (C.gone crew.old)) }
+        ensures gone { MatchResult result (λ _. C.times_gone crew.new ≡ C.times_gone crew.old)
+            (λ fault. C.times_gone crew.new ≡ gone_after_fault fault (C.times_gone crew.old)) }
     {
         let edit = self.edit_made(object, step, value);
         match edit.fault(self.sheet.plan()) {
@@ -383,8 +383,8 @@ impl Replica {
             (most_steps self.old.sheet.horizon (max self.old.sheet.horizon to)
             (touched_step self.old.sheet scenario.now))
             meter.old meter.new }
-        ensures gone { MatchResult result (λ _. C.gone crew.new ≡ C.gone crew.old)
-            (λ fault. C.gone crew.new ≡ gone_after_fault fault (C.gone crew.old)) }
+        ensures gone { MatchResult result (λ _. C.times_gone crew.new ≡ C.times_gone crew.old)
+            (λ fault. C.times_gone crew.new ≡ gone_after_fault fault (C.times_gone crew.old)) }
     {
         match grown(alloc, &self.sheet, scenario, to, crew, meter) {
             Ok(Grown { sheet, touched }) => {
@@ -521,7 +521,7 @@ fn import_fault(plan: &Plan, edits: &[Edit]) -> Option<ReplicaFault>
 
 // The cause for which one imported edit is refused.
 fn imported_fault(plan: &Plan, edit: &Edit) -> Option<ReplicaFault>
-    ensures { result ≡ refusals.imported_fault plan.now edit.now }
+    ensures { result ≡ refusals.imported_edit_fault plan.now edit.now }
 {
     match edit.fault(plan) {
         Some(fault) => Some(arrived_fault(fault)),

@@ -50,8 +50,8 @@ pub fn grown<C: Crew>(
     ensures few_steps { TicksAtMost
         (most_steps sheet.now.horizon (max sheet.now.horizon to) (touched_step sheet.now scenario.now))
         meter.old meter.new }
-    ensures gone { MatchResult result (λ _. C.gone crew.new ≡ C.gone crew.old)
-        (λ fault. C.gone crew.new ≡ gone_after_fault fault (C.gone crew.old)) }
+    ensures gone { MatchResult result (λ _. C.times_gone crew.new ≡ C.times_gone crew.old)
+        (λ fault. C.times_gone crew.new ≡ gone_after_fault fault (C.times_gone crew.old)) }
 {
     sheet.known();
     winners_agree();
@@ -109,8 +109,8 @@ fn simulate<C: Crew>(
     ensures simulated { OnOk result (draft.new ≡ record draft.old { horizon = to }) }
     ensures steps { OnOk result (meter.new ≡ meter_after meter.old (to - draft.old.horizon)) }
     ensures few { TicksAtMost (to - draft.old.horizon) meter.old meter.new }
-    ensures gone { MatchResult result (λ _. C.gone crew.new ≡ C.gone crew.old)
-        (λ fault. C.gone crew.new ≡ gone_after_fault fault (C.gone crew.old)) }
+    ensures gone { MatchResult result (λ _. C.times_gone crew.new ≡ C.times_gone crew.old)
+        (λ fault. C.times_gone crew.new ≡ gone_after_fault fault (C.times_gone crew.old)) }
 {
     for step in draft.horizon()..to {
         one_step(alloc, draft, crew)?;
@@ -124,8 +124,8 @@ fn one_step<C: Crew>(alloc: Global, draft: &mut Draft, crew: &mut C) -> Result<(
     requires within_limit { draft.old.horizon < GREATEST_HORIZON }
     ensures grown { OnOk result (draft.new ≡ sheet_after_step draft.old) }
     ensures unchanged { OnErr result (draft.new ≡ draft.old) }
-    ensures gone { MatchResult result (λ _. C.gone crew.new ≡ C.gone crew.old)
-        (λ fault. C.gone crew.new ≡ gone_after_fault fault (C.gone crew.old)) }
+    ensures gone { MatchResult result (λ _. C.times_gone crew.new ≡ C.times_gone crew.old)
+        (λ fault. C.times_gone crew.new ≡ gone_after_fault fault (C.times_gone crew.old)) }
 {
     let input = draft.input(alloc)?;
     match crew.speeds(alloc, &input) {

@@ -3,7 +3,7 @@ use Rattle.std.specs.Prelude.{◌≡◌, ℕ, ◌*◌, ◌+◌, true, false, [],
 use Rattle.road_cells.specs.Array.{Array}
 use Rattle.road_cells.specs.Cars.{array_of, cars_of}
 use Rattle.road_cells.specs.declared.car.Car.{Car}
-use Rattle.road_rules.specs.Speeds.{wanted_speed, speed_after_acceleration, speed_after_braking, has_event, slowed_speed}
+use Rattle.road_rules.specs.Speeds.{wanted_speed, speed_after_acceleration, speed_after_braking, comes_about, slowed_speed}
 use Rattle.road_rules.specs.Motion.{array_after_motion, array_after_motion_at, speed_at}
 
 -- ---- rules 1 and 2
@@ -49,18 +49,18 @@ braked-free = refl
 -- ---- rule 3
 
 -- the upper 16 bits of the word have to be below the chance
-has_event-below : has_event (30011 * 65536) 30012 ≡ true
-has_event-below = refl
+comes_about-below : comes_about (30011 * 65536) 30012 ≡ true
+comes_about-below = refl
 
-has_event-equal : has_event (30011 * 65536 + 65535) 30011 ≡ false
-has_event-equal = refl
+comes_about-equal : comes_about (30011 * 65536 + 65535) 30011 ≡ false
+comes_about-equal = refl
 
 -- chance 0 never, chance 65,536 always
-has_event-never : has_event 0 0 ≡ false
-has_event-never = refl
+comes_about-never : comes_about 0 0 ≡ false
+comes_about-never = refl
 
-has_event-always : has_event 4294967295 65536 ≡ true
-has_event-always = refl
+comes_about-always : comes_about 4294967295 65536 ≡ true
+comes_about-always = refl
 
 slowed_speed-event : slowed_speed 3 true ≡ 2
 slowed_speed-event = refl

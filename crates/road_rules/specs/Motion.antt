@@ -14,13 +14,13 @@ abbrev pub first_some : {X : Type 0} → (ℕ → Option X) → List ℕ → Opt
 first_some f [] = None
 first_some f (c ∷ cs) = option_or (f c) (first_some f cs)
 
--- what stands at c where it comes to j at a speed, at that speed
+-- the vehicle at cell c, at its new speed, if that brings it to cell j
 abbrev pub arrival_from : ℕ → ℕ → (Vehicle → ℕ) → Option Vehicle → Option Vehicle
 arrival_from j c speed None = None
 arrival_from j c speed (Some v) = if c + speed v == j then Some (record { number = v.number; speed = speed v })
     else None
 
--- the vehicle of the cell c with c + its speed = j, at its new speed
+-- what comes to cell j: the first vehicle whose new speed brings it there, at that speed
 abbrev pub arrival_at : (ℕ → Vehicle → ℕ) → Array → ℕ → Option Vehicle
 arrival_at speed a j = first_some (λ c. arrival_from j c (speed c) (vehicle_at a c)) (range_with_len 0 (length a))
 

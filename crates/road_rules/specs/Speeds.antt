@@ -13,10 +13,10 @@ speed_after_acceleration v greatest distance = if nat_lt v greatest && nat_lt (v
 abbrev pub speed_after_braking : ℕ → ℕ → ℕ
 speed_after_braking v distance = if nat_le distance v then distance - 1 else v
 
--- whether a word has its event under a chance in 1/65,536
-abbrev pub has_event : ℕ → ℕ → Bool
-has_event word chance = nat_lt (word / 65536) chance
+-- whether what has this chance, in 1/65,536, comes about by this word: its upper 16 bits are below the chance
+abbrev pub comes_about : ℕ → ℕ → Bool
+comes_about word chance = nat_lt (word / 65536) chance
 
--- rule 3: where the event comes, the speed falls by one, but not below 0
+-- rule 3: where slowing comes about, the speed falls by one, but not below 0
 abbrev pub slowed_speed : ℕ → Bool → ℕ
 slowed_speed v event = if event then v - 1 else v

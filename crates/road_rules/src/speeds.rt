@@ -1,7 +1,7 @@
 //! Rules 1 to 3, on the speed of one car.
 
 ghost use Rattle.std.specs.Prelude.{◌≡◌, ◌-◌, ◌<◌, ◌≤◌};
-ghost use Rattle.road_rules.specs.Speeds.{wanted_speed, speed_after_acceleration, speed_after_braking, has_event, slowed_speed};
+ghost use Rattle.road_rules.specs.Speeds.{wanted_speed, speed_after_acceleration, speed_after_braking, comes_about, slowed_speed};
 
 /// Rules 1 and 2 as one: the speed grows by one, but neither above the limit nor above the free cells in front, so it
 /// is the least of `speed + 1`, `limit` and `gap`. A car above a lowered limit drops to it at once.
@@ -39,7 +39,7 @@ pub fn two_rules(speed: u8, vmax: u8, distance: u32) -> u8
 /// The chance is in 1/65,536. Its event comes where the upper 16 bits of the word are below it: never at 0, and always
 /// from 65,536 on.
 pub fn slowed(speed: u8, word: u32, chance: u32) -> u8
-    ensures { result ≡ slowed_speed speed (has_event word chance) }
+    ensures { result ≡ slowed_speed speed (comes_about word chance) }
 {
     if word >> 16 < chance {
         speed.saturating_sub(1)

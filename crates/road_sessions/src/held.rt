@@ -199,8 +199,8 @@ impl<J: Naming, R: Wait + Drop> Held<J, R> {
         ensures limit { self.new.limit ≡ self.old.limit }
         ensures share { (mine.new.parts ≡ mine.old.parts) × MatchResult result
             (λ _. mine.new.amount ≡ mine.old.amount + 1) (λ _. mine.new.amount ≡ mine.old.amount) }
-        ensures gone { MatchResult result (λ _. C.gone crew.new ≡ C.gone crew.old)
-            (λ fault. C.gone crew.new ≡ gone_after_fault fault (C.gone crew.old)) }
+        ensures gone { MatchResult result (λ _. C.times_gone crew.new ≡ C.times_gone crew.old)
+            (λ fault. C.times_gone crew.new ≡ gone_after_fault fault (C.times_gone crew.old)) }
     {
         if self.journal.len() as u64 >= self.limit {
             return Err(WriteFault::JournalFull);
@@ -226,8 +226,8 @@ impl<J: Naming, R: Wait + Drop> Held<J, R> {
         ensures made { IfOk result (λ next. IsMade wish.now self.now.replica next.1.command next.2 next.0) }
         ensures session { IfOk result (λ next. next.1.session ≡ session) }
         ensures refused { IfErr result (refusals.IsWriteRefusal None) }
-        ensures gone { MatchResult result (λ _. C.gone crew.new ≡ C.gone crew.old)
-            (λ fault. C.gone crew.new ≡ refusals.gone_after_fault fault (C.gone crew.old)) }
+        ensures gone { MatchResult result (λ _. C.times_gone crew.new ≡ C.times_gone crew.old)
+            (λ fault. C.times_gone crew.new ≡ refusals.gone_after_fault fault (C.times_gone crew.old)) }
     {
         let mut replica = self.replica.copied()?;
         let (command, reply) = made(self.alloc, &mut replica, wish, crew, meter)?;
@@ -289,8 +289,8 @@ impl<J: Naming, R: Wait + Drop> Held<J, R> {
             (λ _. (seen.new ≡ seen.old) × (view reader.new.place ≡ view reader.old.place)) }
         ensures share { (mine.new.parts ≡ mine.old.parts) × MatchResult result
             (λ _. mine.new.amount ≡ mine.old.amount + 1) (λ _. mine.new.amount ≡ mine.old.amount) }
-        ensures gone { MatchResult result (λ _. C.gone crew.new ≡ C.gone crew.old)
-            (λ fault. C.gone crew.new ≡ gone_after_fault fault (C.gone crew.old)) }
+        ensures gone { MatchResult result (λ _. C.times_gone crew.new ≡ C.times_gone crew.old)
+            (λ fault. C.times_gone crew.new ≡ gone_after_fault fault (C.times_gone crew.old)) }
     {
         // Whatever a session has seen was published. No contract says so, and the refusal stands here.
         if !seen.begins(&self.history) {

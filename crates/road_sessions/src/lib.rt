@@ -4,31 +4,15 @@
 //! wrote. Once all is closed, the journal is exactly who wrote what.
 //!
 //! ```
-//! // A store for an engineer and two dashboards, each on a thread of its own, and up to 1,000 writes.
-//! let prepared = prepare(rt, alloc, plan, 0, 3, 1_000)?;
-//! let (shared, sessions) = open::<J, R>(prepared)?;
-//! let [mut engineer, mut told, mut untold] = three(sessions)?;
-//! let letter = Mutex::new(None);
-//! // The engineer blocks a cell from step 4 on, and leaves the receipt.
-//! let writes = || {
-//!     engineer.advance(rt, &shared, 6, &mut Alone, &mut Meter::new())?;
-//!     let wrote = engineer.edit(rt, &shared, Object::Block(8), 4, 1, &mut Alone, &mut Meter::new())?;
-//!     *letter.lock(rt) = Some(wrote.receipt);
-//!     Ok(engineer)
-//! };
-//! // A dashboard that has the receipt is shown no less; one that has none may be shown less.
-//! let looks = || {
-//!     told.hear(taken(rt, &letter));
-//!     let road = told.state(alloc, &shared, 6)?;
-//!     Ok((told, road))
-//! };
-//! let watches = || {
-//!     let sheet = untold.look(&shared)?;
-//!     Ok((untold, sheet))
-//! };
-//! let (engineer, (told, untold)) = join(rt, writes, || join(rt, looks, watches));
+//! // A store of two sessions, which may go to threads of their own, and up to 1,000 writes.
+//! let prepared = prepare(rt, alloc, plan, 0, 2, 1_000)?;
+//! let (shared, mut sessions) = open::<J, R>(prepared)?;
+//! // The first blocks a cell from step 4 on; the second is told of that, so what it is shown holds it.
+//! sessions[0].advance(rt, &shared, 6, &mut Alone, &mut Meter::new())?;
+//! let wrote = sessions[0].edit(rt, &shared, Object::Block(8), 4, 1, &mut Alone, &mut Meter::new())?;
+//! sessions[1].hear(wrote.receipt);
+//! let road = sessions[1].state(alloc, &shared, 6)?;
 //! // Once all sessions are given back, the journal is who wrote what: an advance and an edit of session 0.
-//! let sessions = Vec::from_array(alloc, [engineer?, told?.0, untold?.0])?;
 //! let closed = close(shared, sessions)?;
 //! ```
 #![tactic(auto)]

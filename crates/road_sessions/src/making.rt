@@ -42,8 +42,8 @@ pub(crate) fn made<C: Crew>(
     ensures made { IfOk result (λ made. IsMade wish.now replica.old made.0 made.1 replica.new) }
     ensures accepted { IfOk result (λ _. wish_fault wish.now replica.old ≡ None) }
     ensures refused { IfErr result (refusals.IsWriteRefusal (wish_fault wish.now replica.old)) }
-    ensures gone { MatchResult result (λ _. C.gone crew.new ≡ C.gone crew.old)
-        (λ fault. C.gone crew.new ≡ refusals.gone_after_fault fault (C.gone crew.old)) }
+    ensures gone { MatchResult result (λ _. C.times_gone crew.new ≡ C.times_gone crew.old)
+        (λ fault. C.times_gone crew.new ≡ refusals.gone_after_fault fault (C.times_gone crew.old)) }
 {
     match *wish {
         Wish::Take(edits) => taken(alloc, replica, edits, crew, meter),
@@ -64,8 +64,8 @@ fn taken<C: Crew>(
     ensures made { IfOk result (λ made. IsMade (wishes.Take edits.entry) replica.old made.0 made.1 replica.new) }
     ensures accepted { IfOk result (λ _. wish_fault (wishes.Take edits.entry) replica.old ≡ None) }
     ensures refused { IfErr result (refusals.IsWriteRefusal (wish_fault (wishes.Take edits.entry) replica.old)) }
-    ensures gone { MatchResult result (λ _. C.gone crew.new ≡ C.gone crew.old)
-        (λ fault. C.gone crew.new ≡ refusals.gone_after_fault fault (C.gone crew.old)) }
+    ensures gone { MatchResult result (λ _. C.times_gone crew.new ≡ C.times_gone crew.old)
+        (λ fault. C.times_gone crew.new ≡ refusals.gone_after_fault fault (C.times_gone crew.old)) }
 {
     let asked = replica.take_fault(edits);
     let touched = replica.take(alloc, edits, crew, meter)?;
@@ -85,8 +85,8 @@ fn advanced<C: Crew>(
     ensures made { IfOk result (λ made. IsMade (wishes.Advance to) replica.old made.0 made.1 replica.new) }
     ensures accepted { IfOk result (λ _. wish_fault (wishes.Advance to) replica.old ≡ None) }
     ensures refused { IfErr result (refusals.IsWriteRefusal (wish_fault (wishes.Advance to) replica.old)) }
-    ensures gone { MatchResult result (λ _. C.gone crew.new ≡ C.gone crew.old)
-        (λ fault. C.gone crew.new ≡ refusals.gone_after_fault fault (C.gone crew.old)) }
+    ensures gone { MatchResult result (λ _. C.times_gone crew.new ≡ C.times_gone crew.old)
+        (λ fault. C.times_gone crew.new ≡ refusals.gone_after_fault fault (C.times_gone crew.old)) }
 {
     let horizon = replica.advance(alloc, to, crew, meter)?;
     Ok((Command::Advance(to), Reply::Horizon(horizon)))
@@ -105,8 +105,8 @@ fn put<C: Crew>(
     ensures made { IfOk result (λ made. IsMade (wishes.Edit object step value) replica.old made.0 made.1 replica.new) }
     ensures accepted { IfOk result (λ _. wish_fault (wishes.Edit object step value) replica.old ≡ None) }
     ensures refused { IfErr result (refusals.IsWriteRefusal (wish_fault (wishes.Edit object step value) replica.old)) }
-    ensures gone { MatchResult result (λ _. C.gone crew.new ≡ C.gone crew.old)
-        (λ fault. C.gone crew.new ≡ refusals.gone_after_fault fault (C.gone crew.old)) }
+    ensures gone { MatchResult result (λ _. C.times_gone crew.new ≡ C.times_gone crew.old)
+        (λ fault. C.times_gone crew.new ≡ refusals.gone_after_fault fault (C.times_gone crew.old)) }
 {
     let stamp = replica.edit(alloc, object, step, value, crew, meter)?;
     let value = Value::Put(value);
@@ -134,8 +134,8 @@ fn withdrawn<C: Crew>(
     ensures made { IfOk result (λ made. IsMade (wishes.Withdraw object step) replica.old made.0 made.1 replica.new) }
     ensures accepted { IfOk result (λ _. wish_fault (wishes.Withdraw object step) replica.old ≡ None) }
     ensures refused { IfErr result (refusals.IsWriteRefusal (wish_fault (wishes.Withdraw object step) replica.old)) }
-    ensures gone { MatchResult result (λ _. C.gone crew.new ≡ C.gone crew.old)
-        (λ fault. C.gone crew.new ≡ refusals.gone_after_fault fault (C.gone crew.old)) }
+    ensures gone { MatchResult result (λ _. C.times_gone crew.new ≡ C.times_gone crew.old)
+        (λ fault. C.times_gone crew.new ≡ refusals.gone_after_fault fault (C.times_gone crew.old)) }
 {
     let stamp = replica.withdraw(alloc, object, step, crew, meter)?;
     let value = Value::Withdrawn;

@@ -133,8 +133,8 @@ impl<J: Naming> Session<J> {
             (λ wrote. IsWrite J.replica (wishes.Take scenario.entry) self.old wrote.place wrote.reply self.new
             × (wrote.receipt ≡ self.new.seen))
             (λ _. self.new ≡ self.old) }
-        ensures gone { MatchResult result (λ _. C.gone crew.new ≡ C.gone crew.old)
-            (λ fault. C.gone crew.new ≡ gone_after_fault fault (C.gone crew.old)) }
+        ensures gone { MatchResult result (λ _. C.times_gone crew.new ≡ C.times_gone crew.old)
+            (λ fault. C.times_gone crew.new ≡ gone_after_fault fault (C.times_gone crew.old)) }
     {
         self.write(rt, shared, &Wish::Take(scenario), crew, meter)
     }
@@ -156,8 +156,8 @@ impl<J: Naming> Session<J> {
             (λ wrote. IsWrite J.replica (wishes.Advance to) self.old wrote.place wrote.reply self.new
             × (wrote.receipt ≡ self.new.seen))
             (λ _. self.new ≡ self.old) }
-        ensures gone { MatchResult result (λ _. C.gone crew.new ≡ C.gone crew.old)
-            (λ fault. C.gone crew.new ≡ gone_after_fault fault (C.gone crew.old)) }
+        ensures gone { MatchResult result (λ _. C.times_gone crew.new ≡ C.times_gone crew.old)
+            (λ fault. C.times_gone crew.new ≡ gone_after_fault fault (C.times_gone crew.old)) }
     {
         self.write(rt, shared, &Wish::Advance(to), crew, meter)
     }
@@ -181,8 +181,8 @@ impl<J: Naming> Session<J> {
             (λ wrote. IsWrite J.replica (wishes.Edit object step value) self.old wrote.place wrote.reply self.new
             × (wrote.receipt ≡ self.new.seen))
             (λ _. self.new ≡ self.old) }
-        ensures gone { MatchResult result (λ _. C.gone crew.new ≡ C.gone crew.old)
-            (λ fault. C.gone crew.new ≡ gone_after_fault fault (C.gone crew.old)) }
+        ensures gone { MatchResult result (λ _. C.times_gone crew.new ≡ C.times_gone crew.old)
+            (λ fault. C.times_gone crew.new ≡ gone_after_fault fault (C.times_gone crew.old)) }
     {
         self.write(rt, shared, &Wish::Edit(object, step, value), crew, meter)
     }
@@ -205,8 +205,8 @@ impl<J: Naming> Session<J> {
             (λ wrote. IsWrite J.replica (wishes.Withdraw object step) self.old wrote.place wrote.reply self.new
             × (wrote.receipt ≡ self.new.seen))
             (λ _. self.new ≡ self.old) }
-        ensures gone { MatchResult result (λ _. C.gone crew.new ≡ C.gone crew.old)
-            (λ fault. C.gone crew.new ≡ gone_after_fault fault (C.gone crew.old)) }
+        ensures gone { MatchResult result (λ _. C.times_gone crew.new ≡ C.times_gone crew.old)
+            (λ fault. C.times_gone crew.new ≡ gone_after_fault fault (C.times_gone crew.old)) }
     {
         self.write(rt, shared, &Wish::Withdraw(object, step), crew, meter)
     }
@@ -224,8 +224,8 @@ impl<J: Naming> Session<J> {
             (λ wrote. IsWrite J.replica wish.now self.old wrote.place wrote.reply self.new
             × (wrote.receipt ≡ self.new.seen))
             (λ _. self.new ≡ self.old) }
-        ensures gone { MatchResult result (λ _. C.gone crew.new ≡ C.gone crew.old)
-            (λ fault. C.gone crew.new ≡ gone_after_fault fault (C.gone crew.old)) }
+        ensures gone { MatchResult result (λ _. C.times_gone crew.new ≡ C.times_gone crew.old)
+            (λ fault. C.times_gone crew.new ≡ gone_after_fault fault (C.times_gone crew.old)) }
     {
         let number = self.number;
         let (place, reply) = shared.held.lock(rt).serve(

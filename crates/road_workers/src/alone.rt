@@ -19,7 +19,7 @@ pub struct Alone;
 impl Alone {
     /// Tells a proof that it has never answered `WorkersGone`. It does nothing.
     pub fn known(&self)
-        ensures { ⟦<Alone as Crew>⟧.gone self.now ≡ 0 }
+        ensures { ⟦<Alone as Crew>⟧.times_gone self.now ≡ 0 }
     {
         let _ = self;
     }
@@ -27,11 +27,12 @@ impl Alone {
 
 impl Crew for Alone {
     // It has no worker that could go, so its count stays 0.
-    ghost gone = { λ _. 0 };
+    ghost times_gone = { λ _. 0 };
 
     fn speeds(&mut self, alloc: Global, input: &Arc<StepInput>) -> Result<Vec<u8>, CrewFault>
         ensures speeds { IfOk result (λ new. new.items ≡ input_speeds (arc_value input.now)) }
-        ensures gone { ⟦<Alone as Crew>⟧.gone self.new ≡ gone_after result (⟦<Alone as Crew>⟧.gone self.old) }
+        ensures gone { ⟦<Alone as Crew>⟧.times_gone self.new
+            ≡ gone_after result (⟦<Alone as Crew>⟧.times_gone self.old) }
         ensures memory_at_most { result ≢ Err WorkersGone }
     {
         Ok(input.speeds(alloc)?)

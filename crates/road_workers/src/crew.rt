@@ -12,8 +12,8 @@ use std::sync::Arc;
 
 /// Whoever computes the speeds of a step.
 pub trait Crew {
-    /// How often it has answered `WorkersGone`, at most 2^64 - 1. Contracts alone see this count.
-    ghost gone: { Self → ℕ };
+    /// A count: how often it has answered `WorkersGone`, at most 2^64 - 1. Contracts alone see it.
+    ghost times_gone: { Self → ℕ };
 
     /// The new speeds of all cars of a step, in their order, by rules 1 to 3. They are the same for every crew and
     /// every number of workers.
@@ -23,7 +23,7 @@ pub trait Crew {
     /// `WorkersGone` where a worker could not be started or has gone, else `OutOfMemory` where a growth is refused.
     fn speeds(&mut self, alloc: Global, input: &Arc<StepInput>) -> Result<Vec<u8>, CrewFault>
         ensures speeds { IfOk result (λ new. new.items ≡ input_speeds (arc_value input.now)) }
-        ensures gone { gone self.new ≡ gone_after result (gone self.old) };
+        ensures gone { times_gone self.new ≡ gone_after result (times_gone self.old) };
 }
 
 // A crew's count of answers `WorkersGone` after one more answer.

@@ -69,7 +69,7 @@ impl<R: Threads + Wait + Clone + Drop + Send + 'static> Pool<R> {
     pub fn start(rt: R, alloc: Global, workers: u32) -> Result<Pool<R>, CrewFault>
         requires some { 0 < workers }
         requires few { workers ≤ MOST_WORKERS }
-        ensures { IfOk result (λ pool. ⟦<Pool<R> as Crew>⟧.gone pool ≡ 0) }
+        ensures { IfOk result (λ pool. ⟦<Pool<R> as Crew>⟧.times_gone pool ≡ 0) }
     {
         Pool::start_gated(rt, alloc, workers, no_gate(alloc)?)
     }
@@ -87,7 +87,7 @@ impl<R: Threads + Wait + Clone + Drop + Send + 'static> Pool<R> {
     ) -> Result<Pool<R>, CrewFault>
         requires some { 0 < workers }
         requires few { workers ≤ MOST_WORKERS }
-        ensures { IfOk result (λ pool. ⟦<Pool<R> as Crew>⟧.gone pool ≡ 0) }
+        ensures { IfOk result (λ pool. ⟦<Pool<R> as Crew>⟧.times_gone pool ≡ 0) }
     {
         let mut started = Vec::with_capacity(alloc, workers as usize)?;
         let (done, results) = bounded(alloc, workers as usize)?;
@@ -123,7 +123,7 @@ impl<R: Threads + Wait + Clone + Drop + Send + 'static> Pool<R> {
 }
 
 impl<R: Wait> Crew for Pool<R> {
-    ghost gone = { λ gone. gone };
+    ghost times_gone = { λ gone. gone };
 
     fn speeds(&mut self, alloc: Global, input: &Arc<StepInput>) -> Result<Vec<u8>, CrewFault> {
         let answer = if self.is_broken {

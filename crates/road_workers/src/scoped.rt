@@ -49,7 +49,7 @@ impl<R: Threads + Wait> Scoped<R> {
     pub fn new(rt: R, workers: u32, gate: SharedGate) -> Scoped<R>
         requires some { 0 < workers }
         requires few { workers ≤ MOST_WORKERS }
-        ensures { ⟦<Scoped<R> as Crew>⟧.gone result ≡ 0 }
+        ensures { ⟦<Scoped<R> as Crew>⟧.times_gone result ≡ 0 }
     {
         Scoped {
             rt,
@@ -61,7 +61,7 @@ impl<R: Threads + Wait> Scoped<R> {
 }
 
 impl<R: Threads + Wait> Crew for Scoped<R> {
-    ghost gone = { λ gone. gone };
+    ghost times_gone = { λ gone. gone };
 
     fn speeds(&mut self, alloc: Global, input: &Arc<StepInput>) -> Result<Vec<u8>, CrewFault> {
         let answer = speeds_by(&self.rt, alloc, input, self.workers, &self.gate);

@@ -24,7 +24,7 @@ use Rattle.road_delta.proofs.DeltaEdits.{from_set, winners-beyond}
 use Rattle.road_sheet.specs.Commands.{Command, Advance, Take, sheet_after}
 use Rattle.road_sheet.specs.Sheets.{Sheet, IsSheet, opening_sheet}
 use Rattle.road_rewind.specs.Growth.{touched_step}
-use Rattle.road_replica.specs.Refusals.{arrived_fault, take_fault}
+use Rattle.road_replica.specs.Refusals.{arrived_edit_fault, take_fault}
 use Rattle.road_replica.specs.Replicas.{Replica, edit_made, replica_after, single_edit}
 use Rattle.road_world.specs.Answers.{edits_wanted_fault, replica_with_sheet, sheet_at}
 use Rattle.road_world.specs.Events.{World, WorldReplica, opening_replica, replica_at, carried_edits, replica_of_winners, message_of_winners, world_of_winners}
@@ -165,7 +165,7 @@ module _ (plan : Plan) (xs : List Replica) (ms : List Message) (kept : IsWorldKe
     pub carried_without_fault : (r : ℕ) (x : Replica) (m : ℕ) → x ≡ slice_index_or xs r x → r < length xs → edits_wanted_fault (slice_get ms m) ≡ None → take_fault x.sheet.plan (carried_edits (slice_get ms m)) ≡ None
     carried_without_fault r x m is below wanted =
         let edits = carried_edits (slice_get ms m) in
-        ap (option_map arrived_fault) (ap (λ (p : Plan). fault_in p edits) (is_replica r x is below).plan_is ∙ in_range-faultless plan edits (carried m wanted).in_range)
+        ap (option_map arrived_edit_fault) (ap (λ (p : Plan). fault_in p edits) (is_replica r x is below).plan_is ∙ in_range-faultless plan edits (carried m wanted).in_range)
 
     -- what a replica would answer to edits, the world does
     pub same_touched : (r : ℕ) (x : Replica) (edits : Edits) → x ≡ slice_index_or xs r x → r < length xs → touched_step x.sheet edits ≡ first_touched_step (replica_at k r).edits (union (replica_at k r).edits edits)

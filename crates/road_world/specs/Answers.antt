@@ -70,14 +70,14 @@ replica_number (Beyond r message) = r
 replica_number (Take r message) = r
 replica_number (Advance r to) = r
 
--- a message that carries edits is wanted
+-- the refusal of a message where one with edits is wanted
 abbrev pub edits_wanted_fault : Option Message → Option WorldFault
 edits_wanted_fault (Some (Whole edits)) = None
 edits_wanted_fault (Some (Answer edits)) = None
 edits_wanted_fault (Some (Asked hs)) = Some NoMessage
 edits_wanted_fault None = Some NoMessage
 
--- a message that asks with heads is wanted
+-- the refusal of a message where one with heads is wanted
 abbrev pub heads_wanted_fault : Option Message → Option WorldFault
 heads_wanted_fault (Some (Whole edits)) = Some NoMessage
 heads_wanted_fault (Some (Answer edits)) = Some NoMessage

@@ -58,7 +58,7 @@ pub fn play<C: Crew>(
     ensures stamps { IfOk result (λ played. AreFresh (issued_stamps played.replies.items)
         (imported_stamps (accepted_events events.now played.replies.items))) }
     ensures gone { IfOk result (λ played.
-        C.gone crew.new ≡ gone_after_answers played.replies.items (C.gone crew.old)) }
+        C.times_gone crew.new ≡ gone_after_answers played.replies.items (C.times_gone crew.old)) }
 {
     let mut world = World::open(alloc, plan, replicas)?;
     let mut replies = Vec::with_capacity(alloc, events.len())?;

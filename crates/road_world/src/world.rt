@@ -126,7 +126,7 @@ impl World {
         ensures after { OnOk result (self.new ≡ world_of_winners (world_after_event event.now self.old)) }
         ensures unchanged { OnErr result (self.new ≡ self.old) }
         ensures few_steps { TicksAtMost (most_steps_of_event self.old event.now) meter.old meter.new }
-        ensures gone { C.gone crew.new ≡ gone_after_answer result (C.gone crew.old) }
+        ensures gone { C.times_gone crew.new ≡ gone_after_answer result (C.times_gone crew.old) }
     {
         if event.replica() as usize >= self.replicas.len() {
             return Err(WorldFault::NoReplica);
@@ -170,7 +170,7 @@ impl World {
         ensures unchanged { OnErr result (self.new ≡ self.old) }
         ensures few_steps { TicksAtMost (most_steps_of_event self.old (events.Edit at object step value))
             meter.old meter.new }
-        ensures gone { C.gone crew.new ≡ gone_after_answer result (C.gone crew.old) }
+        ensures gone { C.times_gone crew.new ≡ gone_after_answer result (C.times_gone crew.old) }
     {
         let replica = &mut self.replicas[at as usize];
         let stamp = replica.edit(alloc, object, step, value, crew, meter)?;
@@ -195,7 +195,7 @@ impl World {
         ensures unchanged { OnErr result (self.new ≡ self.old) }
         ensures few_steps { TicksAtMost (most_steps_of_event self.old (events.Withdraw at object step))
             meter.old meter.new }
-        ensures gone { C.gone crew.new ≡ gone_after_answer result (C.gone crew.old) }
+        ensures gone { C.times_gone crew.new ≡ gone_after_answer result (C.times_gone crew.old) }
     {
         let replica = &mut self.replicas[at as usize];
         let stamp = replica.withdraw(alloc, object, step, crew, meter)?;
@@ -219,7 +219,7 @@ impl World {
         ensures unchanged { OnErr result (self.new ≡ self.old) }
         ensures few_steps { TicksAtMost (most_steps_of_event self.old (events.Import at edits.now))
             meter.old meter.new }
-        ensures gone { C.gone crew.new ≡ gone_after_answer result (C.gone crew.old) }
+        ensures gone { C.times_gone crew.new ≡ gone_after_answer result (C.times_gone crew.old) }
     {
         let replica = &mut self.replicas[at as usize];
         let touched = replica.import(alloc, edits, crew, meter)?;
@@ -243,7 +243,7 @@ impl World {
         ensures unchanged { OnErr result (self.new ≡ self.old) }
         ensures few_steps { TicksAtMost (most_steps_of_event self.old (events.Take at message))
             meter.old meter.new }
-        ensures gone { C.gone crew.new ≡ gone_after_answer result (C.gone crew.old) }
+        ensures gone { C.times_gone crew.new ≡ gone_after_answer result (C.times_gone crew.old) }
     {
         let Some(scenario) = carried_edits(&self.messages, message) else {
             return Err(WorldFault::NoMessage);
@@ -270,7 +270,7 @@ impl World {
         ensures unchanged { OnErr result (self.new ≡ self.old) }
         ensures few_steps { TicksAtMost (most_steps_of_event self.old (events.Advance at to))
             meter.old meter.new }
-        ensures gone { C.gone crew.new ≡ gone_after_answer result (C.gone crew.old) }
+        ensures gone { C.times_gone crew.new ≡ gone_after_answer result (C.times_gone crew.old) }
     {
         let replica = &mut self.replicas[at as usize];
         let horizon = replica.advance(alloc, to, crew, meter)?;

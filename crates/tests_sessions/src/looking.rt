@@ -40,7 +40,7 @@ struct Waiting<'a> {
 }
 
 impl Crew for Waiting<'_> {
-    ghost gone = { λ crew. crew.gone };
+    ghost times_gone = { λ crew. crew.gone };
 
     fn speeds(&mut self, alloc: Global, input: &Arc<StepInput>) -> Result<Vec<u8>, CrewFault> {
         if self.gone == 0 && !self.has_waited {

@@ -18,7 +18,7 @@ struct Counting {
 }
 
 impl Crew for Counting {
-    ghost gone = { λ _. 0 };
+    ghost times_gone = { λ _. 0 };
 
     fn speeds(&mut self, alloc: Global, input: &Arc<StepInput>) -> Result<Vec<u8>, CrewFault> {
         self.calls = self.calls.saturating_add(1);

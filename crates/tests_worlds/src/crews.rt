@@ -18,7 +18,7 @@ struct Failing {
 }
 
 impl Crew for Failing {
-    ghost gone = { λ crew. crew.gone };
+    ghost times_gone = { λ crew. crew.gone };
 
     fn speeds(&mut self, alloc: Global, input: &Arc<StepInput>) -> Result<Vec<u8>, CrewFault> {
         if self.gone == 0 && self.calls_left == 0 {

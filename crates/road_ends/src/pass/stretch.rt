@@ -6,7 +6,7 @@ ghost use Rattle.std.specs.Prelude.{◌≡◌, ℕ, ◌+◌, ◌-◌, ◌/◌, �
 ghost use Rattle.std.specs.List.Sorted.{IsNonDecreasing};
 ghost use Rattle.road_cells.specs.Cars.{cars_of, cell_at};
 ghost use Rattle.road_cells.specs.declared.car.TheConstants.{GREATEST_SPEED};
-ghost use Rattle.road_rules.specs.Speeds.{has_event, slowed_speed, wanted_speed};
+ghost use Rattle.road_rules.specs.Speeds.{comes_about, slowed_speed, wanted_speed};
 ghost use Rattle.road_ends.specs.Speed.{nth_car};
 ghost use Rattle.road_ends.specs.Private.PassPlaces.{wanted_before};
 
@@ -173,7 +173,7 @@ pub(super) fn slow_by_halves(
     ensures rest { (k : ℕ) → to ≤ k → slice_index new.new (k - first) ≡ slice_index new.old (k - first) }
     ensures slowed { (k : ℕ) → from ≤ k → k < to → (word : ℕ)
         → (0 < slice_index new.old (k - first) → slice_index halves.now k ≡ word / 65536)
-        → slice_index new.new (k - first) ≡ slowed_speed (slice_index new.old (k - first)) (has_event word chance) }
+        → slice_index new.new (k - first) ≡ slowed_speed (slice_index new.old (k - first)) (comes_about word chance) }
 {
     for place in from..to {
         new[place - first] = slowed_by_half(halves[place], new[place - first], chance);
@@ -199,7 +199,7 @@ pub(super) fn slow_by_words(
     ensures rest { (k : ℕ) → to ≤ k → slice_index new.new (k - first) ≡ slice_index new.old (k - first) }
     ensures slowed { (k : ℕ) → from ≤ k → k < to →
         slice_index new.new (k - first) ≡ slowed_speed (slice_index new.old (k - first))
-        (has_event (⟦<PlanWords as Words>⟧.word_of words.now (nth_car cars.now k).number step) chance) }
+        (comes_about (⟦<PlanWords as Words>⟧.word_of words.now (nth_car cars.now k).number step) chance) }
 {
     for place in from..to {
         let number = cars[place].number;

@@ -1,7 +1,7 @@
 -- A crew that does not start ends the program before it has read or written anything.
 use Rattle.std.proofs.Common.{Err, sym, subst}
 use Rattle.road_plan.specs.declared.limits.TheConstants.{MOST_LINES, MOST_BYTES}
-use Rattle.road_dialogue.specs.Run.{AnswersInput, program_run}
+use Rattle.road_dialogue.specs.Serving.{AnswersInput, program_serving}
 use Rattle.road_dialogue.specs.StreamViews.{source_view, sink_view}
 use Rattle.road_dialogue.specs.declared.faults.ServeFault.{ServeFault}
 use Rattle.road_dialogue.proofs.RunEnds.{not_manned}
@@ -14,6 +14,6 @@ returns-in-Err g c =
       Err c.from.result,
       record {
         status = c.after_fault.ensures;
-        answers = subst (λ (f : ServeFault). AnswersInput (program_run source source sink sink (Err f))) (sym c.from.ensures) (not_manned MOST_LINES MOST_BYTES source sink c.in-Err.fault);
+        answers = subst (λ (f : ServeFault). AnswersInput (program_serving source source sink sink (Err f))) (sym c.from.ensures) (not_manned MOST_LINES MOST_BYTES source sink c.in-Err.fault);
       },
     )

@@ -52,7 +52,7 @@ returns-in-Some-over-clause-answers g c =
 pub returns-in-Some-over-clause-gone : goal.returns-in-Some-over-clause-gone
 returns-in-Some-over-clause-gone g c =
     c.in_ok-take.ensures.gone ∙ c.loop-count.invariant.1
-    ∙ sym (early_gone c.in-Some-over.end c.fault-in-Some-over.result (g.C.Crew.gone c.args.crew.now) c.fault-in-Some-over.ensures)
+    ∙ sym (early_gone c.in-Some-over.end c.fault-in-Some-over.result (g.C.Crew.times_gone c.args.crew.now) c.fault-in-Some-over.ensures)
 
 pub returns-then-within-count-clause-answers : goal.returns-then-within-count-clause-answers
 returns-then-within-count-clause-answers g c =

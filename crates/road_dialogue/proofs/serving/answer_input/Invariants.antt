@@ -9,7 +9,7 @@ abbrev pub invariant-loop-count : goal.invariant-loop-count
 invariant-loop-count g l =
     SoFar l.lines l.bytes l.room (source_view g.R.Source l.initial.reader) (source_view g.R.Source l.reader)
     (sink_view g.W.Sink l.initial.writer) (sink_view g.W.Sink l.writer) l.dialogue
-    × (g.C.Crew.gone l.crew ≡ g.C.Crew.gone l.initial.crew)
+    × (g.C.Crew.times_gone l.crew ≡ g.C.Crew.times_gone l.initial.crew)
 
 abbrev pub decreases-loop-count : goal.decreases-loop-count
 decreases-loop-count g l = l.room

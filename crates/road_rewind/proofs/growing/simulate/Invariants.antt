@@ -8,5 +8,5 @@ abbrev pub invariant-loop-step : goal.invariant-loop-step
 invariant-loop-step g l = record {
   draft : l.draft ≡ record l.fn.draft { horizon = l.step };
   meter : l.meter ≡ meter_after l.fn.meter (l.step - l.fn.draft.horizon);
-  gone : g.C.Crew.gone l.crew ≡ g.C.Crew.gone l.fn.crew;
+  gone : g.C.Crew.times_gone l.crew ≡ g.C.Crew.times_gone l.fn.crew;
 }

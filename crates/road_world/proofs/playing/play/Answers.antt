@@ -25,7 +25,7 @@ loop-event-init g c =
     let none = sym c.in_ok-replies.ensures.items in
     let opened = subst (λ (w : World). IsPlayed plan c.args.replicas [] [] w) (sym c.in_ok-world.ensures) (played_none plan c.args.replicas) in record {
       played = subst (λ (replies : List (Result Reply WorldFault)). IsPlayed plan c.args.replicas [] replies c.in_ok-world.world) none opened;
-      gone = ap (λ (replies : List (Result Reply WorldFault)). gone_after_answers replies (g.C.Crew.gone c.args.crew.now)) none;
+      gone = ap (λ (replies : List (Result Reply WorldFault)). gone_after_answers replies (g.C.Crew.times_gone c.args.crew.now)) none;
     }
 
 pub loop-event-preserved : goal.loop-event-preserved
@@ -36,7 +36,7 @@ loop-event-preserved g c =
     let event = c.event-item.result in
     let reply = c.apply-reply.result in
     let new = c.apply-reply.new.self in
-    let start = g.C.Crew.gone c.args.crew.now in
+    let start = g.C.Crew.times_gone c.args.crew.now in
     let more : events ++ event ∷ [] ≡ take (c.loop-event.event-index + 1) c.args.events.now =
     ap (λ (e : Event). events ++ e ∷ []) c.event-item.is ∙ sym (take_more c.args.events.now c.loop-event.event-index event c.loop-event-test.true) in
     let added = sym c.in_ok-add.ensures in

@@ -9,5 +9,5 @@ use Rattle.road_world.proofs.playing.play.Given as goal
 abbrev pub invariant-loop-event : goal.invariant-loop-event
 invariant-loop-event g l = record {
   played : IsPlayed (arc_value l.fn.plan) l.fn.replicas (take l.event-index l.events) l.replies.items l.world;
-  gone : g.C.Crew.gone l.crew ≡ gone_after_answers l.replies.items (g.C.Crew.gone l.fn.crew);
+  gone : g.C.Crew.times_gone l.crew ≡ gone_after_answers l.replies.items (g.C.Crew.times_gone l.fn.crew);
 }

@@ -10,7 +10,7 @@ invariant-loop-done g l =
     (l.done ≤ length l.bytes)
     × ((lines : ℕ) (before : List ℕ) (first : SinkView) → HasAnswered lines before first (sink_view g.W.Sink l.initial.writer) l.initial.self
     → HasAnswered lines (before ++ take l.done l.bytes) first (sink_view g.W.Sink l.writer) l.self)
-    × (g.C.Crew.gone l.crew ≡ g.C.Crew.gone l.initial.crew)
+    × (g.C.Crew.times_gone l.crew ≡ g.C.Crew.times_gone l.initial.crew)
 
 abbrev pub decreases-loop-done : goal.decreases-loop-done
 decreases-loop-done g l = length l.bytes - l.done

@@ -14,7 +14,7 @@ use Rattle.road_replica.proofs.replica.Replica.import.Goals as goal
 
 pub returns-in-Some-clause-gone : goal.returns-in-Some-clause-gone
 returns-in-Some-clause-gone g c =
-    let n = g.C.Crew.gone c.args.crew.now in
+    let n = g.C.Crew.times_gone c.args.crew.now in
     subst (λ (cause : Option ReplicaFault). IfSome cause (λ fault. n ≡ gone_after_fault fault n)) (sym c.in-Some.ensures) (refused_import_loses_none c.deref-2.result.now c.args.edits.now n)
 
 pub grow-requires-clause-fits : goal.grow-requires-clause-fits

@@ -1,4 +1,4 @@
--- A run, and what it promises.
+-- One call of `serve`, and what it promises.
 use Rattle.std.specs.Prelude.{◌≡◌, ℕ, List, Bool, true, false, Result, Ok, Err}
 use Rattle.std.specs.Io.KnownBytes.{Appends, Consumes, IsAtEnd}
 use Rattle.road_plan.specs.declared.limits.TheConstants.{MOST_LINES, MOST_BYTES}
@@ -9,9 +9,9 @@ use Rattle.road_dialogue.specs.declared.faults.ServeFault.{ServeFault}
 use Rattle.road_dialogue.specs.declared.faults.ServeFault.TheVariants as faults
 use Rattle.road_dialogue.specs.declared.serving.Served.{Served}
 
--- A run: how many lines may come after the plan line, and how many bytes in all; its source and its sink before and
--- after it; and its result.
-pub record Run : Type 0 where
+-- One call of `serve` or `serve_within`, here called a run: how many lines may come after the plan line, and how many
+-- bytes in all; its source and its sink before and after it; and its result.
+pub record Serving : Type 0 where
   pub most_lines : ℕ
   pub most_bytes : ℕ
   pub source_before : SourceView
@@ -21,8 +21,8 @@ pub record Run : Type 0 where
   pub result : Result Served ServeFault
 
 -- a run within the program's own limits
-abbrev pub program_run : SourceView → SourceView → SinkView → SinkView → Result Served ServeFault → Run
-program_run source_before source_after sink_before sink_after result = record {
+abbrev pub program_serving : SourceView → SourceView → SinkView → SinkView → Result Served ServeFault → Serving
+program_serving source_before source_after sink_before sink_after result = record {
   most_lines = MOST_LINES;
   most_bytes = MOST_BYTES;
   source_before = source_before;
@@ -33,27 +33,27 @@ program_run source_before source_after sink_before sink_after result = record {
 }
 
 -- what is answered to this input
-abbrev pub run_answers : Run → List ℕ → List ℕ
+abbrev pub run_answers : Serving → List ℕ → List ℕ
 run_answers run input = answers_within run.most_lines run.most_bytes input run.source_after.at_end
 
 -- the answers to the input were written, all of them and nothing else, and flushed; no call failed
-pub record WritesAll (run : Run) (input : List ℕ) : Type 0 where
+pub record WritesAll (run : Serving) (input : List ℕ) : Type 0 where
   pub written : Appends run.sink_before.contents run.sink_after.contents (run_answers run input)
   pub flushed : run.sink_after.flushed ≡ true
   pub reads_well : run.source_after.failures ≡ run.source_before.failures
   pub writes_well : run.sink_after.failures ≡ run.sink_before.failures
 
 -- whether the plan line of this input is refused
-abbrev pub RefusesPlan : Run → List ℕ → Bool → Type 0
+abbrev pub RefusesPlan : Serving → List ℕ → Bool → Type 0
 RefusesPlan run input answer = is_plan_refused_within run.most_bytes input run.source_after.at_end ≡ answer
 
 -- whether this input goes past the most lines or the most bytes
-abbrev pub PassesMost : Run → List ℕ → Bool → Type 0
+abbrev pub PassesMost : Serving → List ℕ → Bool → Type 0
 PassesMost run input answer = has_byte_past_most run.most_lines run.most_bytes input ≡ answer
 
 -- A run that ends well: at the end of input, with nothing left. The plan line is accepted, and the input does not go
 -- past the most lines or the most bytes.
-pub record EndsWell (run : Run) (input : List ℕ) (served : Served) : Type 0 where
+pub record EndsWell (run : Serving) (input : List ℕ) (served : Served) : Type 0 where
   pub writes : WritesAll run input
   pub at_end : run.source_after.at_end ≡ true
   pub nothing_left : IsAtEnd run.source_after.remaining
@@ -62,7 +62,7 @@ pub record EndsWell (run : Run) (input : List ℕ) (served : Served) : Type 0 wh
   pub counted : served.lines ≡ reply_count run.most_lines run.most_bytes input
 
 -- A run that a failed read ends: the answers to the lines that were read whole were written.
-pub record EndsUnread (run : Run) (input : List ℕ) : Type 0 where
+pub record EndsUnread (run : Serving) (input : List ℕ) : Type 0 where
   pub written : Appends run.sink_before.contents run.sink_after.contents
       (answers_within run.most_lines run.most_bytes input false)
   pub reads_failed : RisesByOne run.source_before.failures run.source_after.failures
@@ -70,12 +70,12 @@ pub record EndsUnread (run : Run) (input : List ℕ) : Type 0 where
 
 -- A run that a failed write, or want of memory or of workers ends: some of the answers were written, from the first
 -- on.
-pub record EndsUnwritten (run : Run) (input : List ℕ) (fault : ServeFault) : Type 0 where
+pub record EndsUnwritten (run : Serving) (input : List ℕ) (fault : ServeFault) : Type 0 where
   pub stops : Stops run.sink_before run.sink_after (run_answers run input) fault
   pub reads_well : run.source_after.failures ≡ run.source_before.failures
 
 -- how a run ends that read this input, by its result
-abbrev pub Ends : Run → List ℕ → Result Served ServeFault → Type 0
+abbrev pub Ends : Serving → List ℕ → Result Served ServeFault → Type 0
 Ends run input (Ok served) = EndsWell run input served
 Ends run input (Err faults.BadPlan) = WritesAll run input × RefusesPlan run input true
 Ends run input (Err faults.TooMany) = WritesAll run input × RefusesPlan run input false × PassesMost run input true
@@ -85,7 +85,7 @@ Ends run input (Err faults.OutOfMemory) = EndsUnwritten run input faults.OutOfMe
 Ends run input (Err faults.WorkersGone) = EndsUnwritten run input faults.WorkersGone
 
 -- The run read some input, the front of what the source had left, and answered it.
-pub record AnswersInput (run : Run) : Type 0 where
+pub record AnswersInput (run : Serving) : Type 0 where
   pub input : List ℕ
   pub read : Consumes run.source_before.remaining run.source_after.remaining input
   pub ends : Ends run input run.result
