@@ -5,7 +5,7 @@ import subprocess
 import sys
 import time
 
-BENCH = os.path.dirname(os.path.abspath(__file__))
+CRATES = os.path.join(os.path.dirname(os.path.abspath(__file__)), "..", "crates")
 
 # 12 cells, where a car enters whenever it can.
 FREE_ROAD = {
@@ -96,12 +96,10 @@ SCRIPTS = [
 
 
 def built(name):
-    """Builds a program, proved, and says where it is."""
-    if os.path.isdir(os.path.join(BENCH, "programs", name)):
-        subprocess.run([os.path.join(BENCH, "build"), name], check=True)
-        return os.path.join(BENCH, "out", name)
-    crate = os.path.join(BENCH, "..", "crates", name)
-    with open(os.path.join(crate, "stdin"), "rb") as given:
+    """Builds the program of a crate, proved, and says where it is. A program that reads lines gets those beside its source."""
+    crate = os.path.join(CRATES, name)
+    lines = os.path.join(crate, "stdin")
+    with open(lines if os.path.exists(lines) else os.devnull, "rb") as given:
         subprocess.run(["rt", "run"], cwd=crate, stdin=given, stdout=subprocess.DEVNULL, check=True)
     return os.path.join(crate, "out", name)
 
