@@ -1,15 +1,15 @@
 //! What serves lines: bytes become lines, and lines replies.
 
-ghost use Rattle.std.specs.Prelude.{◌≡◌, ◌≢◌, ◌↔◌, ◌==◌, ◌++◌, ◌∷◌, ◌<◌, ◌≤◌, ℕ, List, [], IfOk, OnOk, MatchResult, IsTrue, IsSome, length, vec_len, take, true, false, None, string_bytes};
+ghost use Rattle.std.specs.Prelude.{◌≡◌, ◌≢◌, ◌↔◌, ◌==◌, ◌++◌, ◌∷◌, ◌<◌, ◌≤◌, ℕ, List, [], IfOk, OnOk, MatchResult, IsTrue, IsSome, length, vec_len, take, true, false, None, Ok, Some, string_bytes};
 ghost use Rattle.std.specs.List.{position};
 ghost use Rattle.road_format.specs.Cut.{newline};
 ghost use Rattle.road_format.specs.CommandGrammar.{command_of};
 ghost use Rattle.std.specs.List.{IsDistinct};
 ghost use Rattle.std.specs.Str.{bytes_eq};
 ghost use Rattle.road_format.specs.PlanGrammar.{plan_line_of};
-ghost use Rattle.road_format.specs.Replies.{reply};
+ghost use Rattle.road_format.specs.Replies.{Refused, reply};
 ghost use Rattle.road_format.specs.Views.{texts, plan_line_view, command_view, answer_view};
-ghost use Rattle.road_laboratory.specs.Laboratory.{gone_after};
+ghost use Rattle.road_laboratory.specs.Laboratory.{answer_to, gone_after, laboratory_after, laboratory_of_winners};
 ghost use Rattle.road_dialogue.specs.Answers.{reading_unless, opening_answer, line_answer, answers, has_more_lines};
 ghost use Rattle.road_dialogue.specs.Dialogue.{Holds, GoesOn, Stands, HasAnswered, HasFinished};
 ghost use Rattle.road_dialogue.specs.Private.KeptLaboratory.{kept_after_line, opened_laboratory};
@@ -82,16 +82,31 @@ fn opening(
 {
     match first_line(alloc, held, long)? {
         Ok(line) => {
-            let replicas = line.names.len() as u32;
-            let reply = reply_line(alloc, &Answer::Open { replicas })?;
-            let laboratory = Laboratory::open(alloc, line)?;
+            let (reply, laboratory) = opened(alloc, line)?;
             Ok((reply, Some(laboratory)))
         }
-        Err(refusal) => {
-            let reply = reply_line(alloc, &Answer::Refused(refusal))?;
-            Ok((reply, None))
-        }
+        Err(refusal) => Ok((refusal_reply(alloc, refusal)?, None)),
     }
+}
+
+// The reply to a plan line that is accepted, and its laboratory.
+fn opened(alloc: Global, line: PlanLine) -> Result<(String, Laboratory), OutOfMemory>
+    requires few { vec_len line.names ≤ 64 }
+    requires apart { IsDistinct bytes_eq (texts line.names.items) }
+    ensures text { IfOk result (λ opened. string_bytes opened.0 ≡ reply (opening_answer (Ok (plan_line_view line)))) }
+    ensures laboratory { IfOk result (λ opened. Some opened.1 ≡ opened_laboratory (Ok (plan_line_view line))) }
+{
+    let replicas = line.names.len() as u32;
+    let laboratory = Laboratory::open(alloc, line)?;
+    let reply = reply_line(alloc, &Answer::Open { replicas })?;
+    Ok((reply, laboratory))
+}
+
+// The reply to a line that is refused.
+fn refusal_reply(alloc: Global, refusal: Refusal) -> Result<String, OutOfMemory>
+    ensures { IfOk result (λ text. string_bytes text ≡ reply (Refused refusal)) }
+{
+    reply_line(alloc, &Answer::Refused(refusal))
 }
 
 // The reply to a line after the first.
@@ -109,12 +124,26 @@ fn later_reply<C: Crew>(
     ensures gone { C.times_gone crew.new ≡ gone_after result (C.times_gone crew.old) }
 {
     match later_line(alloc, held, long)? {
-        Ok(command) => {
-            let answer = laboratory.answer(alloc, &command, crew)?;
-            Ok(reply_line(alloc, &answer)?)
-        }
-        Err(refusal) => Ok(reply_line(alloc, &Answer::Refused(refusal))?),
+        Ok(command) => command_reply(alloc, laboratory, &command, crew),
+        Err(refusal) => Ok(refusal_reply(alloc, refusal)?),
     }
+}
+
+// The reply to a command.
+fn command_reply<C: Crew>(
+    alloc: Global,
+    laboratory: &mut Laboratory,
+    command: &Command,
+    crew: &mut C,
+) -> Result<String, LaboratoryFault>
+    ensures text { IfOk result (λ text. string_bytes text
+        ≡ reply (answer_to laboratory.old (command_view command.now))) }
+    ensures after { OnOk result (laboratory.new
+        ≡ laboratory_of_winners (laboratory_after laboratory.old (command_view command.now))) }
+    ensures gone { C.times_gone crew.new ≡ gone_after result (C.times_gone crew.old) }
+{
+    let answer = laboratory.answer(alloc, command, crew)?;
+    Ok(reply_line(alloc, &answer)?)
 }
 
 // Where the first line of these bytes ends.
@@ -327,7 +356,7 @@ impl Dialogue {
         if self.laboratory.is_some() {
             return Ok(());
         }
-        let reply = reply_line(alloc, &Answer::Refused(Refusal::NoPlan))?;
+        let reply = refusal_reply(alloc, Refusal::NoPlan)?;
         self.over = Some(EarlyEnd::BadPlan);
         put(&mut self.waiting, writer, reply.as_bytes())
     }
