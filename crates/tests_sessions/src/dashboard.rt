@@ -2,12 +2,13 @@
 
 ghost use Rattle.std.specs.Prelude.{◌≡◌};
 
+use crate::journals::{Closing, closed};
 use crate::questions::shows;
 use crate::worked::opened_for;
 use crate::writes::BLOCK;
 use road_ends::Meter;
 use road_sessions::{
-    Closed, LookFault, Naming, Prepared, Receipt, Session, Shared, WriteFault, close, open,
+    Closed, LookFault, Naming, Prepared, Receipt, Session, Shared, WriteFault, open,
 };
 use road_workers::Alone;
 use std::alloc::Global;
@@ -38,12 +39,11 @@ fn writes<J: Naming, R: Wait + Drop, W: Wait>(
 fn works<J: Naming, R: Wait + Drop, W: Wait>(
     rt: &W,
     shared: &Shared<J, R>,
-    mut session: Session<J>,
+    session: &mut Session<J>,
     letter: &Letter<J>,
-) -> Session<J> {
-    let news = writes(rt, shared, &mut session);
+) {
+    let news = writes(rt, shared, session);
     *letter.lock(rt) = Some(news);
-    session
 }
 
 /// How often a dashboard asks whether the news have come. Where no thread could be made for the engineer, it works after
@@ -67,22 +67,22 @@ fn is_told<J: Naming, R: Wait + Drop, W: Wait>(
     rt: &W,
     alloc: Global,
     shared: &Shared<J, R>,
-    mut session: Session<J>,
+    session: &mut Session<J>,
     letter: &Letter<J>,
-) -> Result<(Session<J>, bool), Fail> {
+) -> Result<bool, Fail> {
     let Some(news) = news(rt, letter) else {
         return Err(Fail::new("no news"));
     };
     session.hear(news?);
     let sheet = session.look(shared)?;
-    Ok((session, shows(alloc, &sheet, &[(6, "0..2..10#...")])))
+    Ok(shows(alloc, &sheet, &[(6, "0..2..10#...")]))
 }
 
 // The second one is told nothing. It may be shown less, but never less than before.
 fn watches<J: Naming, R: Wait + Drop>(
     shared: &Shared<J, R>,
-    mut session: Session<J>,
-) -> Result<(Session<J>, bool), LookFault> {
+    session: &mut Session<J>,
+) -> Result<bool, LookFault> {
     let mut horizon = 0;
     let mut rises = true;
     for _ in 0..1_000 {
@@ -90,20 +90,20 @@ fn watches<J: Naming, R: Wait + Drop>(
         rises = rises && sheet.horizon() >= horizon;
         horizon = sheet.horizon();
     }
-    Ok((session, rises))
+    Ok(rises)
 }
 
-// The engineer and the dashboards at work, each on a thread of its own; their sessions, and what the dashboards saw.
+// The engineer and the dashboards at work, each on a thread of its own. Whether the dashboards saw what they should.
 fn all_work<J: Naming + Send + Sync, R: Wait + Drop + Send, W: Threads + Wait + Sync>(
     rt: &W,
     alloc: Global,
     shared: &Shared<J, R>,
-    engineer: Session<J>,
-    told: Session<J>,
-    untold: Session<J>,
-) -> Result<([Session<J>; 3], bool), Fail> {
+    engineer: &mut Session<J>,
+    told: &mut Session<J>,
+    untold: &mut Session<J>,
+) -> Result<bool, Fail> {
     let letter = Mutex::new(None);
-    let (engineer, (told, untold)) = join(
+    let (_, (is_shown, rises)) = join(
         rt,
         || works(rt, shared, engineer, &letter),
         || {
@@ -114,9 +114,26 @@ fn all_work<J: Naming + Send + Sync, R: Wait + Drop + Send, W: Threads + Wait + 
             )
         },
     );
-    let (told, is_shown) = told?;
-    let (untold, rises) = untold?;
-    Ok(([engineer, told, untold], is_shown && rises))
+    Ok(is_shown? && rises?)
+}
+
+// The same for the three sessions of a store.
+fn three_work<J: Naming + Send + Sync, R: Wait + Drop + Send, W: Threads + Wait + Sync>(
+    rt: &W,
+    alloc: Global,
+    shared: &Shared<J, R>,
+    sessions: &mut [Session<J>],
+) -> Result<bool, Fail> {
+    let Some((engineer, dashboards)) = sessions.split_first_mut() else {
+        return Err(Fail::new("three sessions"));
+    };
+    let Some((told, others)) = dashboards.split_first_mut() else {
+        return Err(Fail::new("three sessions"));
+    };
+    match others.first_mut() {
+        Some(untold) => all_work(rt, alloc, shared, engineer, told, untold),
+        None => Err(Fail::new("three sessions")),
+    }
 }
 
 // A store is opened, worked with and closed. What is left, where the dashboards saw what they should.
@@ -130,18 +147,9 @@ fn day<J: Naming + Send + Sync, R: Wait + Drop + Send, W: Threads + Wait + Sync>
     requires ledger { (prepared.ledger.name ≡ J.name) × (prepared.ledger.parts ≡ J.parts) }
 {
     let (shared, mut sessions) = open::<J, R>(prepared)?;
-    let (Some(untold), Some(told), Some(engineer)) = (
-        sessions.pop(),
-        sessions.pop(),
-        sessions.pop(),
-    ) else {
-        return Err(Fail::new("three sessions"));
-    };
-    let (sessions, well) = all_work(rt, alloc, &shared, engineer, told, untold)?;
-    match close(shared, Vec::from_array(alloc, sessions)?) {
-        Ok(closed) if well => Ok(Some(closed)),
-        _ => Ok(None),
-    }
+    let well = three_work(rt, alloc, &shared, sessions.as_mut_slice());
+    let closed = closed(shared, sessions, Closing::InOrder);
+    if well? { Ok(closed) } else { Ok(None) }
 }
 
 #[test]

@@ -93,16 +93,45 @@ fn finds<J: Naming, R: Wait + Drop>(
 fn both<J: Naming + Send + Sync, R: Wait + Drop + Send, W: Threads + Wait + Sync>(
     rt: &W,
     shared: &Shared<J, R>,
-    mut writer: Session<J>,
-    mut reader: Session<J>,
+    writer: &mut Session<J>,
+    reader: &mut Session<J>,
 ) -> (Answer, Option<u32>) {
     let called = AtomicBool::new(false);
     let looked = AtomicBool::new(false);
     join(
         rt,
-        || advances(rt, shared, &mut writer, &called, &looked),
-        || finds(shared, &mut reader, &called, &looked),
+        || advances(rt, shared, writer, &called, &looked),
+        || finds(shared, reader, &called, &looked),
     )
+}
+
+// A session advances to 6, as the first entry of the journal.
+fn begins<J: Naming, R: Wait + Drop, W: Wait>(
+    rt: &W,
+    shared: &Shared<J, R>,
+    session: &mut Session<J>,
+) -> Result<(), Fail> {
+    let wrote = session.advance(rt, shared, 6, &mut Alone, &mut Meter::new())?;
+    if wrote.place != 0 {
+        return Err(Fail::new("another place"));
+    }
+    Ok(())
+}
+
+// The first session begins; then what it is answered, and what the second is shown meanwhile.
+fn one_after_another<J: Naming + Send + Sync, R: Wait + Drop + Send, W: Threads + Wait + Sync>(
+    rt: &W,
+    shared: &Shared<J, R>,
+    sessions: &mut [Session<J>],
+) -> Result<(Answer, Option<u32>), Fail> {
+    let Some((writer, others)) = sessions.split_first_mut() else {
+        return Err(Fail::new("two sessions"));
+    };
+    let Some(reader) = others.first_mut() else {
+        return Err(Fail::new("two sessions"));
+    };
+    begins(rt, shared, writer)?;
+    Ok(both(rt, shared, writer, reader))
 }
 
 // Whether a session that was told nothing finds the write that is done, while another one holds the lock.
@@ -115,14 +144,7 @@ fn looks_meanwhile<J: Naming + Send + Sync, R: Wait + Drop + Send, W: Threads + 
     requires ledger { (prepared.ledger.name ≡ J.name) × (prepared.ledger.parts ≡ J.parts) }
 {
     let (shared, mut sessions) = open::<J, R>(prepared)?;
-    let (Some(reader), Some(mut writer)) = (sessions.pop(), sessions.pop()) else {
-        return Err(Fail::new("two sessions"));
-    };
-    let first = writer.advance(rt, &shared, 6, &mut Alone, &mut Meter::new())?;
-    if first.place != 0 {
-        return Err(Fail::new("another place"));
-    }
-    Ok(both(rt, &shared, writer, reader))
+    one_after_another(rt, &shared, sessions.as_mut_slice())
 }
 
 #[test]
