@@ -1,2 +1,3 @@
 -- Lemmas on the pieces of workers.
 pub mod PiecesInOrder
+pub mod OneMore

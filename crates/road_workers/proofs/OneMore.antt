@@ -1,0 +1,40 @@
+-- What is so of each worker is so with one more.
+use Rattle.std.specs.Prelude.{◌≡◌, ℕ, ◌+◌, ◌<◌, List, ◌++◌, ◌∷◌, [], length, slice_index_or, slice_set, IfSome}
+use Rattle.std.specs.declared.option.Option.{Option}
+use Rattle.std.specs.declared.option.Option.TheVariants.{Some}
+use Rattle.std.specs.declared.thread.PromisedHandle.{PromisedHandle}
+use Rattle.std.proofs.Common.{arith, sym, subst, inl, inr}
+use Rattle.std.proofs.lemmas.Bool.{cases_eq, cases_lt}
+use Rattle.std.proofs.lemmas.Grind.{get_or-set_at}
+use Rattle.std.proofs.lemmas.List.{length-append, length-set, get_or_append_left, get_or_push, get_or-set_other}
+use Rattle.road_ends.specs.Input.{StepInput}
+use Rattle.road_workers.specs.Private.Gathered.{AreGathered, IsAnswerOf, PieceAnswer}
+use Rattle.road_workers.specs.Private.Started.{AreStartedFrom, IsOfWorker}
+use Rattle.road_workers.specs.declared.scoped.SpeedsOf.{SpeedsOf}
+
+-- one answer put at its worker's place
+pub gathered_set : (input : StepInput) (places : List (Option PieceAnswer)) (w : ℕ) (answer : PieceAnswer)
+    → AreGathered input places → w < length places → IsAnswerOf input (length places) w answer → AreGathered input (slice_set places w (Some answer))
+gathered_set input places w answer was inside its = λ k d below.
+    let same : length (slice_set places w (Some answer)) ≡ length places = length-set places w (Some answer) in
+    subst (λ n. IfSome (slice_index_or (slice_set places w (Some answer)) k d) (IsAnswerOf input n k)) (sym same)
+    (elim (cases_eq k w) as (λ _. IfSome (slice_index_or (slice_set places w (Some answer)) k d) (IsAnswerOf input (length places) k)) [
+      | inl at ↦ subst (λ p. IfSome p (IsAnswerOf input (length places) k)) (sym (get_or-set_at places w k (Some answer) d at inside))
+          (subst (λ k. IsAnswerOf input (length places) k answer) (sym at) its)
+      | inr other ↦ subst (λ p. IfSome p (IsAnswerOf input (length places) k)) (sym (get_or-set_other places w k (Some answer) d other))
+          (was k d (omega (arith, below, same)))
+    ])
+
+-- one thread started behind those of the first workers
+pub started_one_more : {T : Type 0} → (input : StepInput) (n : ℕ) (threads : List (PromisedHandle T SpeedsOf)) (thread : PromisedHandle T SpeedsOf)
+    → AreStartedFrom input n 0 threads → IsOfWorker input n (length threads) thread.promise → AreStartedFrom input n 0 (threads ++ thread ∷ [])
+started_one_more input n threads thread was its = λ k d below.
+    let more : length (threads ++ thread ∷ []) ≡ length threads + 1 = length-append threads (thread ∷ []) in
+    elim (cases_lt k (length threads)) as (λ _. IsOfWorker input n (0 + k) (slice_index_or (threads ++ thread ∷ []) k d).promise) [
+      | inl before ↦ subst (λ h. IsOfWorker input n (0 + k) h.promise) (sym (get_or_append_left threads (thread ∷ []) d k before)) (was k d before)
+      | inr behind ↦
+          let at : length threads ≡ k = omega (arith, below, behind, more) in
+          let its_place : length threads ≡ 0 + k = omega (arith, at) in
+          subst (λ h. IsOfWorker input n (0 + k) h.promise) (sym (get_or_push threads thread d k at))
+          (subst (λ w. IsOfWorker input n w thread.promise) its_place its)
+    ]
