@@ -11,8 +11,8 @@ use Rattle.road_replica.specs.declared.faults.ReplicaFault.{ReplicaFault}
 use Rattle.road_replica.specs.declared.faults.ReplicaFault.TheVariants as causes
 use Rattle.road_replica.specs.declared.reply.Reply.{Reply}
 use Rattle.road_replica.specs.declared.reply.Reply.TheVariants.{Stamped, Touched, Horizon}
-use Rattle.road_sessions.specs.declared.entry.Command.{Command}
-use Rattle.road_sessions.specs.declared.entry.Command.TheVariants as commands
+use Rattle.road_sessions.specs.declared.entry.SheetCommand.{SheetCommand}
+use Rattle.road_sessions.specs.declared.entry.SheetCommand.TheVariants as commands
 use Rattle.road_sessions.specs.declared.entry.Entry.{Entry}
 use Rattle.road_sessions.specs.declared.wish.Wish.{Wish}
 use Rattle.road_sessions.specs.declared.wish.Wish.TheVariants.{Take, Advance, Edit, Withdraw}
@@ -21,7 +21,7 @@ use Rattle.road_sessions.specs.declared.faults.WriteFault.TheVariants.{JournalFu
 use Rattle.road_sessions.specs.Journals.{replay}
 
 -- the command that a wish comes to at a replica: an edit that the replica makes is journalled as the taking of it
-abbrev pub wish_command : Wish → Replica → Command
+abbrev pub wish_command : Wish → Replica → SheetCommand
 wish_command (Take edits) r = commands.Take edits.now
 wish_command (Advance to) r = commands.Advance to
 wish_command (Edit object step value) r = commands.Take (single_edit (edit_made r object step (Put value)))
