@@ -48,8 +48,8 @@ abbrev pub Stand : List Write → List Entry → Type 0
 Stand writes journal = AllByRecursion (λ w. slice_get journal w.0 ≡ Some w.1) writes
 
 -- all these writes are of one session
-abbrev pub AreOf : ℕ → List Write → Type 0
-AreOf session writes = AllByRecursion (λ w. w.1.session ≡ session) writes
+abbrev pub AreWritesOf : ℕ → List Write → Type 0
+AreWritesOf session writes = AllByRecursion (λ w. w.1.session ≡ session) writes
 
 -- their places rise
 abbrev pub Rise : List Write → Type 0

@@ -1,4 +1,4 @@
-//! The lines of a journal.
+//! The entries of a journal.
 
 use road_scenario::Scenario;
 
@@ -14,7 +14,7 @@ pub enum SheetCommand {
     Advance(u32),
 }
 
-/// A line of the journal.
+/// An entry of the journal: one write.
 #[derive(Drop)]
 pub struct Entry {
     /// The session that wrote, numbered from 0.

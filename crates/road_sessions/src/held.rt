@@ -214,7 +214,7 @@ impl<J: Naming, R: Wait + Drop> Held<J, R> {
         Ok((place, reply))
     }
 
-    // The write on a copy of the replica, and its line of the journal.
+    // The write on a copy of the replica, and its entry of the journal.
     fn next<C: Crew>(
         &self,
         session: u32,
@@ -234,7 +234,7 @@ impl<J: Naming, R: Wait + Drop> Held<J, R> {
         Ok((replica, Entry { session, command }, reply))
     }
 
-    // Puts the next replica in place, with its line of the journal, and publishes its sheet. What may be refused comes
+    // Puts the next replica in place, with its entry of the journal, and publishes its sheet. What may be refused comes
     // before anything has changed.
     fn put(
         &mut self,
@@ -270,7 +270,7 @@ impl<J: Naming, R: Wait + Drop> Held<J, R> {
         Ok(())
     }
 
-    // The write of a session, of which `seen` is what it has seen and `reader` its place in the store. Where it is
+    // The write of a session, of which `seen` is what it has seen and `reader` its reader of the store. Where it is
     // accepted, the session has seen the history that it ends, and has found it in the store.
     pub(crate) fn serve<C: Crew>(
         &mut self,

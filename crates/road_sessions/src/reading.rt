@@ -1,4 +1,4 @@
-//! What a session does at its place in the store.
+//! What a session's reader does in the store.
 ghost use Rattle.std.specs.Prelude.{◌≡◌, IfSome, IfNone, MatchResult};
 ghost use Rattle.std.specs.Arc.{arc_value};
 ghost use Rattle.left_right.specs.Sides.{view};

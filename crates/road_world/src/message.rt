@@ -3,8 +3,8 @@
 use road_delta::Heads;
 use road_scenario::Scenario;
 
-/// A message from one replica to the others. It is what its sender held when it was made, whatever comes later. One with
-/// edits may be taken at any replica, however often; one with heads may be answered by any.
+/// A message from one replica to the others. It is what its sender held when it was made, whatever comes later. One
+/// with edits may be taken at any replica, however often; one with heads may be answered by any.
 #[derive(Drop)]
 pub enum Message {
     /// All that its sender held, by the event `Send`.
