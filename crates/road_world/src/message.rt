@@ -11,7 +11,7 @@ pub enum Message {
     Whole(Scenario),
     /// The answer to a message of heads, by the event `Beyond`: what its sender held beyond those heads.
     Answer(Scenario),
-    /// The heads that its sender asked with, by the event `Heads`: those of all that it held. The answer is what another
-    /// holds beyond them.
+    /// The heads that its sender asked with, by the event `Heads`: those of all that it held. The answer is what
+    /// another holds beyond them.
     Asked(Heads),
 }
