@@ -1,4 +1,4 @@
-//! Spans of steps.
+//! Spans: steps that a sheet keeps together.
 
 ghost use Rattle.std.specs.Prelude.{◌≡◌, ◌<◌, ◌+◌, ◌^◌, ℕ, length, replicate, IfOk};
 ghost use Rattle.std.specs.List.{slice_index_or};
@@ -10,10 +10,10 @@ use road_detector::{OutOfMemory, Totals, greatest_speed, passes_from};
 use road_ends::StepInput;
 use std::alloc::Global;
 
-/// How many steps a span has.
+/// How many steps a span has, which a sheet keeps together.
 pub const SPAN_STEPS: u32 = 64;
 
-/// The road at the first step of a span, and what each detector counts in the steps of the span that are simulated.
+/// A span: the road at its first step, and what each detector counts in those of its steps that are simulated.
 #[derive(Drop)]
 pub struct Span {
     pub(crate) start: Checkpoint,
