@@ -18,7 +18,7 @@ use crate::entry::Entry;
 use crate::faults::{OpenFault, WriteFault};
 use crate::making::{made, wish_fault};
 use crate::naming::Naming;
-use crate::reading::own;
+use crate::reading::enter_after_write_here;
 use crate::session::Session;
 use crate::store::{Published, StoreReader, StoreWriter, publish};
 use crate::wish::Wish;
@@ -299,7 +299,7 @@ impl<J: Naming, R: Wait + Drop> Held<J, R> {
         let (place, reply) = self.write(session, wish, crew, meter, mine)?;
         self.history.known();
         *seen = self.history.again();
-        own(&self.rt, reader, seen);
+        enter_after_write_here(&self.rt, reader, seen);
         Ok((place, reply))
     }
 
