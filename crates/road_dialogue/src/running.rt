@@ -24,7 +24,7 @@ use std::rt::Files;
 use std::sync::Wait;
 use std::thread::Threads;
 
-/// How the program ends.
+/// How the program has ended: what its process tells whoever started it.
 #[derive(Clone, Copy, Debug)]
 pub struct Ended {
     /// The exit status.

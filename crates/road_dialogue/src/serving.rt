@@ -16,7 +16,7 @@ use std::alloc::Global;
 // How many bytes are read at once, at most.
 const PIECE: usize = 16_384;
 
-/// A run that went well.
+/// What a run of `serve` that went well has served: the lines after the plan line.
 #[derive(Debug, Drop)]
 pub struct Served {
     /// How many replies there were after the plan line's.

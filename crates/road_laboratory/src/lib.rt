@@ -15,6 +15,7 @@
 mod faults;
 mod kept;
 mod laboratory;
+pub mod laws;
 mod names;
 mod question;
 mod translation;

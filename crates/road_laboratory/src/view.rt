@@ -17,12 +17,12 @@ use road_format::{Answer, Refusal};
 use road_plan::OutOfMemory;
 use road_plan::limits::MOST_ROWS;
 use road_sheet::simulation::{State, row_of, rows_with, state_with, totals_with};
-use road_sheet::{BLOCK_STEPS, Sheet};
+use road_sheet::{SPAN_STEPS, Sheet};
 use std::alloc::Global;
 
-// The most steps that are counted one after another, and not by the blocks of the sheet: to begin and to end a block
-// takes two blocks' steps at most, and the state after it one.
-const MOST_COUNTED_STEPS: u32 = 3 * BLOCK_STEPS;
+// The most steps that are counted one after another, and not by the spans of the sheet: to begin and to end a span
+// takes two spans' steps at most, and the state after it one.
+const MOST_COUNTED_STEPS: u32 = 3 * SPAN_STEPS;
 
 // What a question is answered. What is kept becomes the state that was computed last for it, and the words drawn.
 pub(crate) fn answer(
@@ -153,7 +153,7 @@ fn scenario(alloc: Global, sheet: &Sheet) -> Result<Answer, OutOfMemory>
 }
 
 // The state at a step: from the last one where that is the nearest before it, and else from what the sheet keeps, the
-// road at the first step of each block and at the horizon. Words drawn for another way through the block are let go then.
+// road at the first step of each span and at the horizon. Words drawn for another way through the span are let go then.
 fn state_near(
     alloc: Global,
     sheet: &Sheet,
@@ -167,7 +167,7 @@ fn state_near(
     ensures kept { IsKeptOf sheet.now kept.new }
 {
     let last = &kept.state;
-    let is_nearest = last.step <= step && step - last.step < step % BLOCK_STEPS;
+    let is_nearest = last.step <= step && step - last.step < step % SPAN_STEPS;
     if is_nearest && step < sheet.horizon() {
         sheet.known();
         return state_with(

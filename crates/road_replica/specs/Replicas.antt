@@ -6,7 +6,7 @@ use Rattle.road_scenario.specs.Counts.{greatest_count}
 use Rattle.road_scenario.specs.Edits.{Edits}
 use Rattle.road_scenario.specs.declared.edit.Edit.{Edit}
 use Rattle.road_scenario.specs.declared.edit.Value.{Value}
-use Rattle.road_sheet.specs.Commands.{Command, sheet_after}
+use Rattle.road_sheet.specs.Commands.{SheetCommand, sheet_after}
 use Rattle.road_sheet.specs.Sheets.{Sheet}
 use Rattle.road_rewind.specs.Growth.{most_steps, touched_step}
 
@@ -34,7 +34,7 @@ abbrev pub single_edit : Edit → Edits
 single_edit edit = from_list (edit ∷ [])
 
 -- the replica after a command to its sheet
-abbrev pub replica_after : Command → Replica → Replica
+abbrev pub replica_after : SheetCommand → Replica → Replica
 replica_after command r = record r { sheet = sheet_after command r.sheet }
 
 -- the most steps that are computed where a sheet takes edits: none where no simulated step is touched, else those from

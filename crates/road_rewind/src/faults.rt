@@ -8,7 +8,7 @@ use road_workers::CrewFault;
 use std::alloc::AllocError;
 use thiserror::Error;
 
-/// Why a sheet has not grown.
+/// Why a sheet has not grown: the causes for which `grown` is refused.
 #[derive(Clone, Copy, Debug, PartialEq, Eq, Error)]
 pub enum GrownFault {
     /// A worker's thread could not be started, or has gone.

@@ -18,7 +18,7 @@ use road_workers::Crew;
 use std::alloc::Global;
 
 /// The sheet with a scenario joined in, simulated at least up to the step `to`: that of the joined scenario, at the
-/// greater of the old horizon and `to`. The old sheet stays as it is, and the new one shares with it each block that
+/// greater of the old horizon and `to`. The old sheet stays as it is, and the new one shares with it each span that
 /// is right in both.
 ///
 /// The scenario must fit the sheet's plan, and `to` must be at most 65,536. The meter counts each step that is

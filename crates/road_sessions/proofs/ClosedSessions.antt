@@ -4,8 +4,8 @@ use Rattle.std.specs.Prelude.{nat_eq, if◌then◌else◌}
 use Rattle.std.specs.List.{AllByRecursion}
 use native.Mathlib.Decide.{ℕ_discrete}
 use Rattle.road_sessions.specs.declared.entry.Entry.{Entry}
-use Rattle.road_sessions.specs.Journals.{AreOf, Rise, Stand, Write, writes_from, writes_of}
-use Rattle.road_sessions.specs.Closings.{AreApart, IsJust, IsTold, write_count}
+use Rattle.road_sessions.specs.Journals.{AreWritesOf, Rise, Stand, Write, writes_from, writes_of}
+use Rattle.road_sessions.specs.Closings.{AreApart, HasWritesOf, IsWrittenBy, write_count}
 use Rattle.road_sessions.specs.Private.ClosingSeats.{Brings}
 use Rattle.road_sessions.specs.Seats.{Seat}
 
@@ -65,7 +65,7 @@ covers_step n place e es w ws (suc k) at got after mine stand later all =
     covers_beside (nat_eq e.session n) (place, e) (writes_from n (place + 1) es) (w ∷ ws)
     (all (all_in_rest place e es (w ∷ ws) (omega arith, after_lower place w.0 ws (omega arith) after) stand))
 
-covers : (n place : ℕ) (journal : List Entry) (writes : List Write) → Rise writes → AreOf n writes → AllByRecursion (StandsFrom place journal) writes → Covers (writes_from n place journal) writes
+covers : (n place : ℕ) (journal : List Entry) (writes : List Write) → Rise writes → AreWritesOf n writes → AllByRecursion (StandsFrom place journal) writes → Covers (writes_from n place journal) writes
 covers n place [] [] rise mine stand = (omega arith, λ short. refl)
 covers n place [] (w ∷ ws) rise mine stand = absurd (let got = stand.0.2 in cc (got))
 covers n place (e ∷ es) [] rise mine stand = (omega arith, λ short. none_left (writes_from n place (e ∷ es)) short)
@@ -123,18 +123,18 @@ many_entries journal (s ∷ ss) bring =
     let rest = many_entries journal ss bring.1 in
     let first = (covers s.number 0 journal s.view.own bring.0.0 bring.0.1 (from_zero journal s.view.own bring.0.2)).0 in omega arith
 
-all_told : (journal : List Entry) (ss : List Seat) → AllByRecursion (Brings journal) ss → entries_of 0 journal ss ≤ write_count ss → AllByRecursion (IsTold journal) ss
-all_told journal [] bring few = tt
-all_told journal (s ∷ ss) bring few =
+all_have_writes : (journal : List Entry) (ss : List Seat) → AllByRecursion (Brings journal) ss → entries_of 0 journal ss ≤ write_count ss → AllByRecursion (HasWritesOf journal) ss
+all_have_writes journal [] bring few = tt
+all_have_writes journal (s ∷ ss) bring few =
     let many = many_entries journal ss bring.1 in
     let c = covers s.number 0 journal s.view.own bring.0.0 bring.0.1 (from_zero journal s.view.own bring.0.2) in
     let first = c.0 in
     let short : length (writes_of s.number journal) ≤ length s.view.own = omega arith in
     let others : entries_of 0 journal ss ≤ write_count ss = omega arith in
-    ((c.1 short, bring.0.3), all_told journal ss bring.1 others)
+    ((c.1 short, bring.0.3), all_have_writes journal ss bring.1 others)
 
-pub just : (journal : List Entry) (ss : List Seat) → AreApart ss → AllByRecursion (Brings journal) ss → length journal ≡ write_count ss → IsJust journal ss
-just journal ss apart bring count = let few = few_entries 0 journal ss apart in (count, all_told journal ss bring (omega arith))
+pub written_by : (journal : List Entry) (ss : List Seat) → AreApart ss → AllByRecursion (Brings journal) ss → length journal ≡ write_count ss → IsWrittenBy journal ss
+written_by journal ss apart bring count = let few = few_entries 0 journal ss apart in (count, all_have_writes journal ss bring (omega arith))
 
 pub write_count_one_more : (ss : List Seat) (s : Seat) → write_count (ss ++ s ∷ []) ≡ write_count ss + length s.view.own
 write_count_one_more [] s = omega arith

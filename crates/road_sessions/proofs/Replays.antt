@@ -9,7 +9,7 @@ use Rattle.road_sessions.specs.declared.entry.Entry.{Entry}
 use Rattle.road_sessions.specs.Journals.{IsLegal, entry_command, replay, history_of_journal}
 
 -- no command changes the plan
-plan_after : (command : commands.Command) (s : Sheet) → (sheet_after command s).plan ≡ s.plan
+plan_after : (command : commands.SheetCommand) (s : Sheet) → (sheet_after command s).plan ≡ s.plan
 plan_after (commands.Take edits) s = refl
 plan_after (commands.Advance to) s = refl
 

@@ -8,7 +8,7 @@ use Rattle.road_replica.specs.declared.reply.Reply.{Reply}
 use Rattle.road_sessions.specs.declared.entry.Entry.{Entry}
 use Rattle.road_sessions.specs.declared.view.View.{View}
 use Rattle.road_sessions.specs.declared.wish.Wish.{Wish}
-use Rattle.road_sessions.specs.Journals.{AreOf, IsLegal, Rise, Stand, Write, entry, replay}
+use Rattle.road_sessions.specs.Journals.{AreWritesOf, IsLegal, Rise, Stand, Write, entry, replay}
 use Rattle.road_sessions.specs.Looks.{HasEntered}
 use Rattle.road_sessions.specs.Private.Stores.{EntersAfterWrite, EntersToLook, last_write_from}
 use Rattle.road_sessions.specs.Seats.{AreNewSeats, IsSeat, IsWrite, Seat, newcomer, seat}
@@ -67,7 +67,7 @@ seat_after_write r wish s t place reply w is =
     let all = each_of_both (λ (u : Write). slice_get t.seen u.0 ≡ Some u.1) s.view.own ((place, e) ∷ []) stands (there, tt) in
     record {
       legal = w.legal;
-      own = subst (λ (n : ℕ). AreOf n t.view.own) (sym w.number) (subst (λ (o : List Write). AreOf s.number o) (sym w.own) mine);
+      own = subst (λ (n : ℕ). AreWritesOf n t.view.own) (sym w.number) (subst (λ (o : List Write). AreWritesOf s.number o) (sym w.own) mine);
       rising = subst Rise (sym w.own) (rise_more s.view.own place e is.rising low);
       standing = subst (λ (o : List Write). Stand o t.seen) (sym w.own) all;
     }
@@ -82,7 +82,7 @@ one_more_write r wish s t place reply w =
 pub seat_later : (r : Replica) (session : ℕ) (seen after : List Entry) (v w : View) → IsPrefix seen after → IsLegal r after → w.own ≡ v.own → IsSeat r (seat session seen v) → IsSeat r (seat session after w)
 seat_later r session seen after v w grows legal own is = record {
   legal = legal;
-  own = subst (λ (o : List Write). AreOf session o) (sym own) is.own;
+  own = subst (λ (o : List Write). AreWritesOf session o) (sym own) is.own;
   rising = subst Rise (sym own) is.rising;
   standing = subst (λ (o : List Write). Stand o after) (sym own) (stand_later v.own seen after grows is.standing);
 }

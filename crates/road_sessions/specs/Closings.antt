@@ -22,14 +22,14 @@ abbrev pub write_count : List Seat → ℕ
 write_count [] = 0
 write_count (s ∷ ss) = length s.view.own + write_count ss
 
--- the journal's entries of a session's number are that session's writes, each once, at their places and in order, and
--- what the session has seen begins the journal
-abbrev pub IsTold : List Entry → Seat → Type 0
-IsTold journal s = (writes_of s.number journal ≡ s.view.own) × IsPrefix s.seen journal
+-- a journal has the writes of a session: its entries of the session's number are those, each once, at their places and
+-- in order, and what the session has seen begins it
+abbrev pub HasWritesOf : List Entry → Seat → Type 0
+HasWritesOf journal s = (writes_of s.number journal ≡ s.view.own) × IsPrefix s.seen journal
 
--- the journal is just what these sessions wrote
-abbrev pub IsJust : List Entry → List Seat → Type 0
-IsJust journal ss = (length journal ≡ write_count ss) × AllByRecursion (IsTold journal) ss
+-- a journal is written by just these sessions: it has the writes of each, and as many entries as they made writes
+abbrev pub IsWrittenBy : List Entry → List Seat → Type 0
+IsWrittenBy journal ss = (length journal ≡ write_count ss) × AllByRecursion (HasWritesOf journal) ss
 
 -- a closing is refused as `Missing` where these are not all the sessions, and else for want of memory
 abbrev pub IsCloseRefusal : ℕ → List Seat → CloseCause → Type 0

@@ -7,8 +7,8 @@ use Rattle.road_sheet.specs.Commands as commands
 use Rattle.road_sheet.specs.Commands.{IsHistoryFrom, sheet_after}
 use Rattle.road_sheet.specs.Sheets.{Sheet, opening_sheet}
 use Rattle.road_replica.specs.Replicas.{Replica, replica_after}
-use Rattle.road_sessions.specs.declared.entry.Command.{Command}
-use Rattle.road_sessions.specs.declared.entry.Command.TheVariants.{Take, Advance}
+use Rattle.road_sessions.specs.declared.entry.SheetCommand.{SheetCommand}
+use Rattle.road_sessions.specs.declared.entry.SheetCommand.TheVariants.{Take, Advance}
 use Rattle.road_sessions.specs.declared.entry.Entry.{Entry}
 
 -- the replica that is opened: without edits, and nothing is simulated
@@ -16,12 +16,12 @@ abbrev pub replica_of_plan : Plan → ℕ → Replica
 replica_of_plan plan number = record { number = number; sheet = opening_sheet plan }
 
 -- a command of a journal, as a command to the replica
-abbrev pub entry_command : Command → commands.Command
+abbrev pub entry_command : SheetCommand → commands.SheetCommand
 entry_command (Take edits) = commands.Take edits
 entry_command (Advance to) = commands.Advance to
 
 -- a session's command, as it stands in the journal
-abbrev pub entry : ℕ → Command → Entry
+abbrev pub entry : ℕ → SheetCommand → Entry
 entry session command = record { session = session; command = command }
 
 -- the replica after all commands of a journal, one after another
@@ -29,7 +29,7 @@ abbrev pub replay : Replica → List Entry → Replica
 replay r journal = fold (λ q e. replica_after (entry_command e.command) q) r journal
 
 -- the history of a journal: its entries, each with the sheet after it
-abbrev pub history_of_journal : Sheet → List Entry → List commands.Entry
+abbrev pub history_of_journal : Sheet → List Entry → List commands.HistoryEntry
 history_of_journal s [] = []
 history_of_journal s (e ∷ es) =
     let after = sheet_after (entry_command e.command) s in
@@ -48,8 +48,8 @@ abbrev pub Stand : List Write → List Entry → Type 0
 Stand writes journal = AllByRecursion (λ w. slice_get journal w.0 ≡ Some w.1) writes
 
 -- all these writes are of one session
-abbrev pub AreOf : ℕ → List Write → Type 0
-AreOf session writes = AllByRecursion (λ w. w.1.session ≡ session) writes
+abbrev pub AreWritesOf : ℕ → List Write → Type 0
+AreWritesOf session writes = AllByRecursion (λ w. w.1.session ≡ session) writes
 
 -- their places rise
 abbrev pub Rise : List Write → Type 0

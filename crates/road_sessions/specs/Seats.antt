@@ -6,7 +6,7 @@ use Rattle.road_replica.specs.declared.reply.Reply.{Reply}
 use Rattle.road_sessions.specs.declared.entry.Entry.{Entry}
 use Rattle.road_sessions.specs.declared.view.View.{View}
 use Rattle.road_sessions.specs.declared.wish.Wish.{Wish}
-use Rattle.road_sessions.specs.Journals.{IsLegal, Write, Stand, AreOf, Rise, entry, replay}
+use Rattle.road_sessions.specs.Journals.{IsLegal, Write, Stand, AreWritesOf, Rise, entry, replay}
 use Rattle.road_sessions.specs.Writes.{wish_command, reply_to}
 
 -- what the store knows of a reader: the history that was published when it last entered, its own writes, and how often
@@ -32,7 +32,7 @@ seat number seen view = record { number = number; seen = seen; view = view }
 -- what every session meets: the history that it has seen is legal, and its own writes stand there, at rising places
 pub record IsSeat (r : Replica) (s : Seat) : Type 0 where
   pub legal : IsLegal r s.seen
-  pub own : AreOf s.number s.view.own
+  pub own : AreWritesOf s.number s.view.own
   pub rising : Rise s.view.own
   pub standing : Stand s.view.own s.seen
 

@@ -1,4 +1,4 @@
--- What a session asks the replica for, what is answered, and for which cause it is refused.
+-- What a session wishes of the replica, the reply, and for which cause it is refused.
 use Rattle.std.specs.Prelude.{◌≡◌, ◌⊎◌, ℕ, max, nat_le, List, length, if◌then◌else◌}
 use Rattle.std.specs.Option.{option_map}
 use Rattle.std.specs.declared.option.Option.{Option}
@@ -11,8 +11,8 @@ use Rattle.road_replica.specs.declared.faults.ReplicaFault.{ReplicaFault}
 use Rattle.road_replica.specs.declared.faults.ReplicaFault.TheVariants as causes
 use Rattle.road_replica.specs.declared.reply.Reply.{Reply}
 use Rattle.road_replica.specs.declared.reply.Reply.TheVariants.{Stamped, Touched, Horizon}
-use Rattle.road_sessions.specs.declared.entry.Command.{Command}
-use Rattle.road_sessions.specs.declared.entry.Command.TheVariants as commands
+use Rattle.road_sessions.specs.declared.entry.SheetCommand.{SheetCommand}
+use Rattle.road_sessions.specs.declared.entry.SheetCommand.TheVariants as commands
 use Rattle.road_sessions.specs.declared.entry.Entry.{Entry}
 use Rattle.road_sessions.specs.declared.wish.Wish.{Wish}
 use Rattle.road_sessions.specs.declared.wish.Wish.TheVariants.{Take, Advance, Edit, Withdraw}
@@ -21,20 +21,20 @@ use Rattle.road_sessions.specs.declared.faults.WriteFault.TheVariants.{JournalFu
 use Rattle.road_sessions.specs.Journals.{replay}
 
 -- the command that a wish comes to at a replica: an edit that the replica makes is journalled as the taking of it
-abbrev pub wish_command : Wish → Replica → Command
+abbrev pub wish_command : Wish → Replica → SheetCommand
 wish_command (Take edits) r = commands.Take edits.now
 wish_command (Advance to) r = commands.Advance to
 wish_command (Edit object step value) r = commands.Take (single_edit (edit_made r object step (Put value)))
 wish_command (Withdraw object step) r = commands.Take (single_edit (edit_made r object step Withdrawn))
 
--- the answer to it: the touched step, the horizon, or the fresh stamp
+-- the reply to a wish: the touched step, the horizon, or the fresh stamp
 abbrev pub reply_to : Wish → Replica → Reply
 reply_to (Take edits) r = Touched (touched_step r.sheet edits.now)
 reply_to (Advance to) r = Horizon (max r.sheet.horizon to)
 reply_to (Edit object step value) r = Stamped (edit_made r object step (Put value)).stamp
 reply_to (Withdraw object step) r = Stamped (edit_made r object step Withdrawn).stamp
 
--- the named cause for which the replica refuses it
+-- the named cause for which the replica refuses a wish
 abbrev pub wish_fault : Wish → Replica → Option ReplicaFault
 wish_fault (Take edits) r = refusals.take_fault r.sheet.plan edits.now
 wish_fault (Advance to) r = refusals.advance_fault to

@@ -12,9 +12,9 @@ use logbook::{Gain, Offer, Plain, Play, Rule, Seen, Start, Word};
 use std::marker::{Model, PhantomData};
 
 /// The rule of a book: its word is the length of its history.
-pub struct Counted;
+pub struct LengthRule;
 
-impl Rule<Entry, u64> for Counted {
+impl Rule<Entry, u64> for LengthRule {
     ghost use Rattle.std.specs.Prelude.{[]};
     ghost use base.Fml.{ftrue};
     ghost use Rattle.road_sessions.specs.Private.Books.{HasLength};
@@ -61,8 +61,8 @@ impl Plain<Entry, Entry, u64> for Append {
 /// An empty book, of no store yet.
 #[derive(Drop)]
 pub struct EmptyBook {
-    word: Word<Entry, u64, Counted>,
-    seen: Seen<Entry, u64, Counted>,
+    word: Word<Entry, u64, LengthRule>,
+    seen: Seen<Entry, u64, LengthRule>,
     pub ghost empty: { seen.log ≡ [] },
     pub ghost word_is: { word ≡ length_word seen.book },
 }
@@ -97,7 +97,7 @@ impl EmptyBook {
 /// The length of a store's history.
 #[derive(Drop)]
 pub struct Length<J: Naming> {
-    word: Word<Entry, u64, Counted>,
+    word: Word<Entry, u64, LengthRule>,
     of: PhantomData<J>,
     ghost word_is: { word ≡ length_word J.book },
 }
@@ -107,7 +107,7 @@ pub struct Length<J: Naming> {
 #[derive(Drop)]
 pub struct Beginning<J: Naming> {
     count: u64,
-    seen: Seen<Entry, u64, Counted>,
+    seen: Seen<Entry, u64, LengthRule>,
     of: PhantomData<J>,
 }
 
@@ -181,7 +181,7 @@ impl<J: Naming> Beginning<J> {
         ensures { MatchBool result (self.new ≡ self.old ++ entry.now ∷ []) (self.new ≡ self.old) }
     {
         let mut seen = self.seen.again();
-        let mut offer: Offer<Entry, u64, Counted, NoGain> = seen.plain::<NoGain, Entry, Append>(
+        let mut offer: Offer<Entry, u64, LengthRule, NoGain> = seen.plain::<NoGain, Entry, Append>(
             entry,
         );
         let mut pen = seen.no_pen();

@@ -2,7 +2,7 @@
 ghost use Rattle.std.specs.Prelude.{◌≡◌, ◌≢◌, ◌+◌, IfErr, IfOk, IsTrue, MatchBool, MatchResult, length};
 ghost use Rattle.std.specs.Arc.{arc_value};
 ghost use Rattle.std.specs.List.{AllByRecursion};
-ghost use Rattle.road_sessions.specs.Closings.{AreAll, AreApart, IsCloseRefusal, IsJust, write_count};
+ghost use Rattle.road_sessions.specs.Closings.{AreAll, AreApart, IsCloseRefusal, IsWrittenBy, write_count};
 ghost use Rattle.road_sessions.specs.Private.ClosingSeats.{Brings};
 ghost use Rattle.road_sessions.specs.Journals.{replay};
 
@@ -54,7 +54,7 @@ pub fn close<J: Naming, R: Wait + Drop>(
     shared: Shared<J, R>,
     sessions: Vec<Session<J>>,
 ) -> Result<Closed, CloseFault<J, R>>
-    ensures just { IfOk result (λ closed. IsJust closed.journal.items sessions.items) }
+    ensures journal { IfOk result (λ closed. IsWrittenBy closed.journal.items sessions.items) }
     ensures sheet { IfOk result
         (λ closed. arc_value closed.sheet ≡ (replay J.replica closed.journal.items).sheet) }
     ensures all { MatchResult result (λ _. AreAll J.parts sessions.items)

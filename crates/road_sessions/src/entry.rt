@@ -1,24 +1,24 @@
-//! The lines of a journal.
+//! The entries of a journal.
 
 use road_scenario::Scenario;
 
 /// The most writes that a journal has room for.
 pub const MOST_WRITES: u64 = 1_000_000;
 
-/// What a session has done to the replica. A local edit stands here as the taking of that one edit.
+/// A command to the replica's sheet: what a write did to it. A local edit stands here as the taking of that one edit.
 #[derive(Drop)]
-pub enum Command {
+pub enum SheetCommand {
     /// These edits were taken.
     Take(Scenario),
     /// The run was simulated up to this step.
     Advance(u32),
 }
 
-/// A line of the journal.
+/// An entry of the journal: one write.
 #[derive(Drop)]
 pub struct Entry {
     /// The session that wrote, numbered from 0.
     pub session: u32,
     /// What it wrote.
-    pub command: Command,
+    pub command: SheetCommand,
 }

@@ -18,7 +18,7 @@ use crate::entry::Entry;
 use crate::faults::{OpenFault, WriteFault};
 use crate::making::{made, wish_fault};
 use crate::naming::Naming;
-use crate::reading::own;
+use crate::reading::enter_after_write_here;
 use crate::session::Session;
 use crate::store::{Published, StoreReader, StoreWriter, publish};
 use crate::wish::Wish;
@@ -214,7 +214,7 @@ impl<J: Naming, R: Wait + Drop> Held<J, R> {
         Ok((place, reply))
     }
 
-    // The write on a copy of the replica, and its line of the journal.
+    // The write on a copy of the replica, and its entry of the journal.
     fn next<C: Crew>(
         &self,
         session: u32,
@@ -234,7 +234,7 @@ impl<J: Naming, R: Wait + Drop> Held<J, R> {
         Ok((replica, Entry { session, command }, reply))
     }
 
-    // Puts the next replica in place, with its line of the journal, and publishes its sheet. What may be refused comes
+    // Puts the next replica in place, with its entry of the journal, and publishes its sheet. What may be refused comes
     // before anything has changed.
     fn put(
         &mut self,
@@ -270,7 +270,7 @@ impl<J: Naming, R: Wait + Drop> Held<J, R> {
         Ok(())
     }
 
-    // The write of a session, of which `seen` is what it has seen and `reader` its place in the store. Where it is
+    // The write of a session, of which `seen` is what it has seen and `reader` its reader of the store. Where it is
     // accepted, the session has seen the history that it ends, and has found it in the store.
     pub(crate) fn serve<C: Crew>(
         &mut self,
@@ -299,7 +299,7 @@ impl<J: Naming, R: Wait + Drop> Held<J, R> {
         let (place, reply) = self.write(session, wish, crew, meter, mine)?;
         self.history.known();
         *seen = self.history.again();
-        own(&self.rt, reader, seen);
+        enter_after_write_here(&self.rt, reader, seen);
         Ok((place, reply))
     }
 

@@ -32,7 +32,7 @@ mod view;
 mod wish;
 
 pub use closing::{CloseFault, Closed, close};
-pub use entry::{Command, Entry, MOST_WRITES};
+pub use entry::{Entry, MOST_WRITES, SheetCommand};
 pub use faults::{CloseCause, LookFault, OpenFault, WriteFault};
 pub use naming::Naming;
 pub use session::{Receipt, Session, Wrote};

@@ -8,7 +8,7 @@ ghost use Rattle.road_sessions.specs.Writes.{wish_fault};
 ghost use Rattle.road_sessions.specs.Private.MadeWrites.{IsMade};
 ghost use Rattle.road_sessions.specs.declared.wish.Wish.TheVariants as wishes;
 
-use crate::entry::Command;
+use crate::entry::SheetCommand;
 use crate::wish::Wish;
 use road_ends::Meter;
 use road_plan::limits::GREATEST_HORIZON;
@@ -38,7 +38,7 @@ pub(crate) fn made<C: Crew>(
     wish: &Wish<'_>,
     crew: &mut C,
     meter: &mut Meter,
-) -> Result<(Command, Reply), ReplicaFault>
+) -> Result<(SheetCommand, Reply), ReplicaFault>
     ensures made { IfOk result (λ made. IsMade wish.now replica.old made.0 made.1 replica.new) }
     ensures accepted { IfOk result (λ _. wish_fault wish.now replica.old ≡ None) }
     ensures refused { IfErr result (refusals.IsWriteRefusal (wish_fault wish.now replica.old)) }
@@ -60,7 +60,7 @@ fn taken<C: Crew>(
     edits: &Scenario,
     crew: &mut C,
     meter: &mut Meter,
-) -> Result<(Command, Reply), ReplicaFault>
+) -> Result<(SheetCommand, Reply), ReplicaFault>
     ensures made { IfOk result (λ made. IsMade (wishes.Take edits.entry) replica.old made.0 made.1 replica.new) }
     ensures accepted { IfOk result (λ _. wish_fault (wishes.Take edits.entry) replica.old ≡ None) }
     ensures refused { IfErr result (refusals.IsWriteRefusal (wish_fault (wishes.Take edits.entry) replica.old)) }
@@ -71,7 +71,7 @@ fn taken<C: Crew>(
     let touched = replica.take(alloc, edits, crew, meter)?;
     prove!(asked.is_none());
     let copy = edits.copied()?;
-    Ok((Command::Take(copy), Reply::Touched(touched)))
+    Ok((SheetCommand::Take(copy), Reply::Touched(touched)))
 }
 
 // A replica simulates up to a step.
@@ -81,7 +81,7 @@ fn advanced<C: Crew>(
     to: u32,
     crew: &mut C,
     meter: &mut Meter,
-) -> Result<(Command, Reply), ReplicaFault>
+) -> Result<(SheetCommand, Reply), ReplicaFault>
     ensures made { IfOk result (λ made. IsMade (wishes.Advance to) replica.old made.0 made.1 replica.new) }
     ensures accepted { IfOk result (λ _. wish_fault (wishes.Advance to) replica.old ≡ None) }
     ensures refused { IfErr result (refusals.IsWriteRefusal (wish_fault (wishes.Advance to) replica.old)) }
@@ -89,7 +89,7 @@ fn advanced<C: Crew>(
         (λ fault. C.times_gone crew.new ≡ refusals.gone_after_fault fault (C.times_gone crew.old)) }
 {
     let horizon = replica.advance(alloc, to, crew, meter)?;
-    Ok((Command::Advance(to), Reply::Horizon(horizon)))
+    Ok((SheetCommand::Advance(to), Reply::Horizon(horizon)))
 }
 
 // A replica puts a number.
@@ -101,7 +101,7 @@ fn put<C: Crew>(
     value: u32,
     crew: &mut C,
     meter: &mut Meter,
-) -> Result<(Command, Reply), ReplicaFault>
+) -> Result<(SheetCommand, Reply), ReplicaFault>
     ensures made { IfOk result (λ made. IsMade (wishes.Edit object step value) replica.old made.0 made.1 replica.new) }
     ensures accepted { IfOk result (λ _. wish_fault (wishes.Edit object step value) replica.old ≡ None) }
     ensures refused { IfErr result (refusals.IsWriteRefusal (wish_fault (wishes.Edit object step value) replica.old)) }
@@ -119,7 +119,7 @@ fn put<C: Crew>(
             value,
         },
     )?;
-    Ok((Command::Take(single), Reply::Stamped(stamp)))
+    Ok((SheetCommand::Take(single), Reply::Stamped(stamp)))
 }
 
 // A replica withdraws what is put.
@@ -130,7 +130,7 @@ fn withdrawn<C: Crew>(
     step: u32,
     crew: &mut C,
     meter: &mut Meter,
-) -> Result<(Command, Reply), ReplicaFault>
+) -> Result<(SheetCommand, Reply), ReplicaFault>
     ensures made { IfOk result (λ made. IsMade (wishes.Withdraw object step) replica.old made.0 made.1 replica.new) }
     ensures accepted { IfOk result (λ _. wish_fault (wishes.Withdraw object step) replica.old ≡ None) }
     ensures refused { IfErr result (refusals.IsWriteRefusal (wish_fault (wishes.Withdraw object step) replica.old)) }
@@ -148,7 +148,7 @@ fn withdrawn<C: Crew>(
             value,
         },
     )?;
-    Ok((Command::Take(single), Reply::Stamped(stamp)))
+    Ok((SheetCommand::Take(single), Reply::Stamped(stamp)))
 }
 
 // The scenario of one edit.

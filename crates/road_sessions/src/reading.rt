@@ -1,4 +1,4 @@
-//! What a session does at its place in the store.
+//! What a session's reader does in the store.
 ghost use Rattle.std.specs.Prelude.{◌≡◌, IfSome, IfNone, MatchResult};
 ghost use Rattle.std.specs.Arc.{arc_value};
 ghost use Rattle.left_right.specs.Sides.{view};
@@ -110,10 +110,14 @@ fn enter_after_write<J: Naming, R: Wait>(
     }
 }
 
-// A session's reader enters the store at the end of its write, which is published. The writer's lock is held, so nobody
-// else has published since, and the store lets its readers in while its writer lives. Were it not so, it would wait
-// for ever.
-pub(crate) fn own<J: Naming, R: Wait>(rt: &R, reader: &mut StoreReader<J>, written: &Beginning<J>)
+// The same of a reader in its place, at the end of its session's write, which is published. The writer's lock is
+// held, so nobody else has published since, and the store lets its readers in while its writer lives. Were it not so,
+// it would wait for ever.
+pub(crate) fn enter_after_write_here<J: Naming, R: Wait>(
+    rt: &R,
+    reader: &mut StoreReader<J>,
+    written: &Beginning<J>,
+)
     ensures { EntersAfterWrite (view reader.old.place) written.now (view reader.new.place) }
 {
     replace_with(

@@ -144,7 +144,7 @@ impl<J: Naming> Outcome<Published<J>, View> for ToPublish {
     ghost then = { λ v before after w. w ≡ v };
 }
 
-/// A session's place at the store.
+/// A session's reader of the store.
 pub type StoreReader<J> = Reader<Published<J>, View, FoundFirst>;
 
 /// The one writer of a store.

@@ -1,4 +1,4 @@
--- Commands to one replica, and the histories that they make.
+-- Commands to a sheet, and the histories that they make.
 use Rattle.std.specs.Prelude.{◌≡◌, ◌≤◌, ℕ, max, List, [], ◌∷◌}
 use Rattle.road_plan.specs.Plan.{Plan}
 use Rattle.road_plan.specs.declared.limits.TheConstants.{GREATEST_HORIZON}
@@ -7,29 +7,29 @@ use Rattle.road_scenario.specs.Faults.{AreInRange}
 use Rattle.road_scenario.specs.Winners.{join}
 use Rattle.road_sheet.specs.Sheets.{Sheet}
 
--- edits are taken, or the run is simulated up to a step
-pub data Command : Type 0 where
-  Take : Edits → Command
-  Advance : ℕ → Command
+-- a command to a sheet: edits are taken, or the run is simulated up to a step
+pub data SheetCommand : Type 0 where
+  Take : Edits → SheetCommand
+  Advance : ℕ → SheetCommand
 
 -- the sheet after a command: the edits are joined in, the horizon becomes the step where it was less
-abbrev pub sheet_after : Command → Sheet → Sheet
+abbrev pub sheet_after : SheetCommand → Sheet → Sheet
 sheet_after (Take edits) s = record s { edits = join s.edits edits }
 sheet_after (Advance to) s = record s { horizon = max s.horizon to }
 
 -- a command is allowed at a plan: its edits are in the plan and its ranges, its step is within the limit
-abbrev pub IsAllowed : Plan → Command → Type 0
+abbrev pub IsAllowed : Plan → SheetCommand → Type 0
 IsAllowed plan (Take edits) = AreInRange plan edits
 IsAllowed plan (Advance to) = to ≤ GREATEST_HORIZON
 
--- a command of a session, and the sheet after it
-pub record Entry : Type 0 where
+-- an entry of a history: a session, its command, and the sheet after it
+pub record HistoryEntry : Type 0 where
   pub session : ℕ
-  pub command : Command
+  pub command : SheetCommand
   pub sheet : Sheet
 
--- each command is allowed, and each sheet is its command applied to the sheet before; the first follows a given sheet
-abbrev pub IsHistoryFrom : Sheet → List Entry → Type 0
+-- a legal history from a sheet on: each command is allowed, and each sheet is its command applied to the sheet before
+abbrev pub IsHistoryFrom : Sheet → List HistoryEntry → Type 0
 IsHistoryFrom s [] = Unit {0}
 IsHistoryFrom s (entry ∷ entries) =
     IsAllowed s.plan entry.command × (entry.sheet ≡ sheet_after entry.command s) × IsHistoryFrom entry.sheet entries

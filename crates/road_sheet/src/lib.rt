@@ -14,17 +14,17 @@
 //! ```
 #![tactic(auto)]
 
-mod block;
 mod carried;
 mod checkpoint;
 mod draft;
 mod faults;
 mod sheet;
 pub mod simulation;
+mod span;
 
-pub use block::{BLOCK_STEPS, Block};
 pub use draft::Draft;
 pub use faults::SheetFault;
 pub use sheet::Sheet;
+pub use span::{SPAN_STEPS, Span};
 /// Want of memory, answered only where a growth was refused.
 pub use std::alloc::AllocError as OutOfMemory;

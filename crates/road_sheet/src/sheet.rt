@@ -1,4 +1,4 @@
-//! The known part of a run: blocks of steps up to the horizon, and what is read from them.
+//! The known part of a run: spans of steps up to the horizon, and what is read from them.
 
 ghost use Rattle.std.specs.Prelude.{◌≡◌, ◌≢◌, ◌<◌, ◌≤◌, ◌+◌, ◌*◌, ◌/◌, ◌%◌, ◌++◌, ◌∷◌, [], IfOk, IfErr, OnErr, OnOk, None, length, map, min, replicate, take};
 ghost use Rattle.std.specs.Arc.{arc_value};
@@ -9,16 +9,16 @@ ghost use Rattle.road_scenario.specs.Faults.{AreInRange};
 ghost use Rattle.road_scenario.specs.Touched.{first_touched_step};
 ghost use Rattle.road_scenario.specs.Winners.{AreWinners, join};
 ghost use Rattle.road_sheet.specs.Drafts.{IsUpTo, draft_start};
-ghost use Rattle.road_sheet.specs.Private.Blocks.{AreTotals, IsBlock, GiveSameRun};
+ghost use Rattle.road_sheet.specs.Private.Spans.{AreTotals, IsSpan, GiveSameRun};
 ghost use Rattle.road_sheet.specs.Sheets.{IsSheet, opening_sheet, state_of, total_of, next_input, sheet_after_step};
 ghost use Rattle.road_sheet.specs.Sheets.{IsRefusalBy, state_fault, totals_fault};
 
-use crate::block::{BLOCK_STEPS, Block};
 use crate::carried::CarriedSettings;
 use crate::checkpoint::Checkpoint;
 use crate::draft::Draft;
 use crate::faults::SheetFault;
 use crate::simulation::{State, run_on, totals_with};
+use crate::span::{SPAN_STEPS, Span};
 use lattice_core::both::Both;
 use lattice_core::greatest::Greatest;
 use lattice_core::lattice::Lattice;
@@ -38,14 +38,14 @@ use std::sync::Arc;
 /// A scenario, a horizon, and the run so far: it shows the road at each step up to the horizon, and what the
 /// detectors count up to there. It never changes; [`Sheet::draft`] goes on from it.
 ///
-/// The run is kept as blocks of 64 steps, which sheets share: of each the road at its first step and what each
-/// detector counts in it; then the block that the horizon cuts, and the road at the horizon.
+/// The run is kept as spans of 64 steps, which sheets share: of each the road at its first step and what each
+/// detector counts in it; then the span that the horizon cuts, and the road at the horizon.
 #[derive(Drop)]
 pub struct Sheet {
     plan: Arc<Plan>,
     known: Both<Scenario, Greatest<u32>>,
-    whole: Vec<Arc<Block>>,
-    cut: Block,
+    whole: Vec<Arc<Span>>,
+    cut: Span,
     last: Road,
 }
 
@@ -54,7 +54,7 @@ impl Model for Sheet {
     ghost use Rattle.std.specs.Arc.{arc_value};
     ghost use Rattle.std.specs.Coded.{codes};
     ghost use Rattle.road_scenario.specs.Instances.EditOrder.{edits_code};
-    ghost use Rattle.road_sheet.specs.Private.Blocks.{IsRunOf};
+    ghost use Rattle.road_sheet.specs.Private.Spans.{IsRunOf};
     ghost use Rattle.road_sheet.specs.Sheets.{Sheet, horizon_of};
 
     ghost Value = { Sheet };
@@ -83,7 +83,7 @@ impl Sheet {
     pub fn opening(alloc: Global, plan: Arc<Plan>) -> Result<Sheet, OutOfMemory>
         ensures { IfOk result (λ sheet. sheet ≡ opening_sheet (arc_value plan)) }
     {
-        let cut = Block::begin(alloc, Checkpoint::empty(alloc), plan.detectors().len())?;
+        let cut = Span::begin(alloc, Checkpoint::empty(alloc), plan.detectors().len())?;
         Ok(Sheet {
             plan,
             known: Both {
@@ -167,7 +167,7 @@ impl Sheet {
         Ok(self.road_at(alloc, step, words)?)
     }
 
-    /// What a detector counts in the steps from one up to another, that one not among them. The steps of the blocks
+    /// What a detector counts in the steps from one up to another, that one not among them. The steps of the spans
     /// that `from` and `to` cut are computed for it; of the others the counts are kept.
     ///
     /// # Errors
@@ -207,20 +207,20 @@ impl Sheet {
         if step == self.horizon() {
             return self.last.copied();
         }
-        let block = step / BLOCK_STEPS;
-        let state = self.state_in(alloc, block, step, words)?;
+        let span = step / SPAN_STEPS;
+        let state = self.state_in(alloc, span, step, words)?;
         Ok(state.road)
     }
 
-    // The state at a step of a block, from the road at the block's first step.
+    // The state at a step of a span, from the road at the span's first step.
     fn state_in(
         &self,
         alloc: Global,
-        block: u32,
+        span: u32,
         step: u32,
         words: &mut DrawnWords,
     ) -> Result<State, OutOfMemory>
-        requires begun { BLOCK_STEPS * block ≤ step }
+        requires begun { SPAN_STEPS * span ≤ step }
         requires simulated { step ≤ self.now.horizon }
         requires words { words.old ≡ self.now.plan.words }
         ensures step { IfOk result (λ state. state.step ≡ step) }
@@ -228,26 +228,26 @@ impl Sheet {
         ensures unchanged { words.new ≡ words.old }
     {
         let first = State {
-            step: block * BLOCK_STEPS,
-            road: self.block(block as usize).start.road(alloc)?,
+            step: span * SPAN_STEPS,
+            road: self.span(span as usize).start.road(alloc)?,
         };
         run_on(alloc, &self.plan, &self.known.first, first, step, words)
     }
 
-    // A block.
-    fn block(&self, block: usize) -> &Block
-        requires { BLOCK_STEPS * block ≤ self.now.horizon }
-        ensures { IsBlock self.now.plan self.now.edits (BLOCK_STEPS * block)
-            (min (BLOCK_STEPS * block + BLOCK_STEPS) self.now.horizon) result.now }
+    // A span.
+    fn span(&self, span: usize) -> &Span
+        requires { SPAN_STEPS * span ≤ self.now.horizon }
+        ensures { IsSpan self.now.plan self.now.edits (SPAN_STEPS * span)
+            (min (SPAN_STEPS * span + SPAN_STEPS) self.now.horizon) result.now }
     {
-        if block < self.whole.len() {
-            &self.whole[block]
+        if span < self.whole.len() {
+            &self.whole[span]
         } else {
             &self.cut
         }
     }
 
-    // What a detector counts in some steps, block by block.
+    // What a detector counts in some steps, span by span.
     fn totals_between(
         &self,
         alloc: Global,
@@ -263,40 +263,40 @@ impl Sheet {
         self.known();
         totals_are_bounded(&self.plan);
         let mut totals = Totals { cars: 0, speeds: 0 };
-        for block in from / BLOCK_STEPS..to.div_ceil(BLOCK_STEPS) {
-            let first = block * BLOCK_STEPS;
+        for span in from / SPAN_STEPS..to.div_ceil(SPAN_STEPS) {
+            let first = span * SPAN_STEPS;
             let begin = first.max(from);
-            let end = (first + BLOCK_STEPS).min(to);
-            let counted = self.totals_in(alloc, detector, block, begin, end)?;
+            let end = (first + SPAN_STEPS).min(to);
+            let counted = self.totals_in(alloc, detector, span, begin, end)?;
             totals = totals.plus(counted);
         }
         Ok(totals)
     }
 
-    // What a detector counts in some steps of a block: it is kept where these are all that are simulated.
+    // What a detector counts in some steps of a span: it is kept where these are all that are simulated.
     fn totals_in(
         &self,
         alloc: Global,
         detector: u32,
-        block: u32,
+        span: u32,
         from: u32,
         to: u32,
     ) -> Result<Totals, OutOfMemory>
         requires in_plan { detector < length self.now.plan.detectors }
-        requires begun { BLOCK_STEPS * block ≤ from }
+        requires begun { SPAN_STEPS * span ≤ from }
         requires order { from ≤ to }
-        requires ended { to ≤ BLOCK_STEPS * block + BLOCK_STEPS }
+        requires ended { to ≤ SPAN_STEPS * span + SPAN_STEPS }
         requires simulated { to ≤ self.now.horizon }
         ensures { IfOk result (λ totals. totals ≡ total_of self.now detector from to) }
     {
         self.known();
-        let first = block * BLOCK_STEPS;
-        let end = (first + BLOCK_STEPS).min(self.horizon());
+        let first = span * SPAN_STEPS;
+        let end = (first + SPAN_STEPS).min(self.horizon());
         if from == first && to == end {
-            return Ok(self.block(block as usize).totals[detector as usize]);
+            return Ok(self.span(span as usize).totals[detector as usize]);
         }
         let mut words = DrawnWords::of(alloc, &self.plan);
-        let state = self.state_in(alloc, block, from, &mut words)?;
+        let state = self.state_in(alloc, span, from, &mut words)?;
         let (totals, _) = totals_with(
             alloc,
             &self.plan,
@@ -310,14 +310,14 @@ impl Sheet {
     }
 
     /// The run of this sheet's edits with a scenario joined in, as far as it is there already: a draft that goes on
-    /// from the horizon where that is `keep`, and else from the first step of the block of `keep`.
+    /// from the horizon where that is `keep`, and else from the first step of the span of `keep`.
     ///
     /// The scenario must fit the plan; `keep` must not be above the horizon, nor above the first step at which the
     /// joined scenario puts other numbers.
     ///
     /// # Errors
     ///
-    /// `OutOfMemory` where a growth was refused, or a block can have no more owners.
+    /// `OutOfMemory` where a growth was refused, or a span can have no more owners.
     pub fn draft(&self, alloc: Global, scenario: &Scenario, keep: u32) -> Result<Draft, OutOfMemory>
         requires fits { AreInRange self.now.plan scenario.now }
         requires simulated { keep ≤ self.now.horizon }
@@ -337,7 +337,7 @@ impl Sheet {
     ///
     /// # Errors
     ///
-    /// `OutOfMemory` where a growth was refused, or a block can have no more owners.
+    /// `OutOfMemory` where a growth was refused, or a span can have no more owners.
     pub fn draft_of(&self, alloc: Global, joined: Scenario, keep: u32) -> Result<Draft, OutOfMemory>
         requires fits { AreInRange self.now.plan joined }
         requires simulated { keep ≤ self.now.horizon }
@@ -354,7 +354,7 @@ impl Sheet {
         let sheet = if keep == self.horizon() {
             self.going_on(alloc, joined)?
         } else {
-            self.cut_back(alloc, joined, keep / BLOCK_STEPS)?
+            self.cut_back(alloc, joined, keep / SPAN_STEPS)?
         };
         let words = DrawnWords::of(alloc, &self.plan);
         Ok(Draft {
@@ -390,24 +390,24 @@ impl Sheet {
         })
     }
 
-    // The sheet with other edits, which give the same run up to the first step of a block; that step is its horizon.
-    fn cut_back(&self, alloc: Global, scenario: Scenario, block: u32) -> Result<Sheet, OutOfMemory>
+    // The sheet with other edits, which give the same run up to the first step of a span; that step is its horizon.
+    fn cut_back(&self, alloc: Global, scenario: Scenario, span: u32) -> Result<Sheet, OutOfMemory>
         requires winners { AreWinners scenario }
         requires fits { AreInRange self.now.plan scenario }
-        requires simulated { BLOCK_STEPS * block ≤ self.now.horizon }
-        requires same { GiveSameRun self.now.plan self.now.edits scenario (BLOCK_STEPS * block) }
+        requires simulated { SPAN_STEPS * span ≤ self.now.horizon }
+        requires same { GiveSameRun self.now.plan self.now.edits scenario (SPAN_STEPS * span) }
         ensures { IfOk result (λ sheet. sheet ≡ record {
           plan = self.now.plan;
           edits = scenario;
-          horizon = BLOCK_STEPS * block;
+          horizon = SPAN_STEPS * span;
         }) }
     {
-        let start = &self.block(block as usize).start;
+        let start = &self.span(span as usize).start;
         let (cut, last) = begun(alloc, start, self.plan.detectors().len())?;
-        let (plan, whole) = shared_with_plan(alloc, &self.plan, &self.whole, block as usize)?;
+        let (plan, whole) = shared_with_plan(alloc, &self.plan, &self.whole, span as usize)?;
         let known = Both {
             first: scenario,
-            second: Greatest::Of(block * BLOCK_STEPS),
+            second: Greatest::Of(span * SPAN_STEPS),
         };
         Ok(Sheet {
             plan,
@@ -453,7 +453,7 @@ impl Sheet {
         ensures words { words.new ≡ words.old }
     {
         let road = finish_with(alloc, input, speeds, words)?;
-        let last = if (self.horizon() + 1) % BLOCK_STEPS == 0 {
+        let last = if (self.horizon() + 1) % SPAN_STEPS == 0 {
             self.step_to_end(alloc, input, speeds, road)?
         } else {
             self.step_within(input, speeds, road)
@@ -462,12 +462,12 @@ impl Sheet {
         Ok(())
     }
 
-    // A step more that does not end the block; what comes back is the road before it.
+    // A step more that does not end the span; what comes back is the road before it.
     fn step_within(&mut self, input: &StepInput, speeds: &[u8], road: Road) -> Road
         requires input { input.now ≡ next_input self.old }
         requires speeds { speeds.now ≡ input_speeds input.now }
         requires within_limit { self.old.horizon < GREATEST_HORIZON }
-        requires within_block { (self.old.horizon + 1) % BLOCK_STEPS ≢ 0 }
+        requires within_span { (self.old.horizon + 1) % SPAN_STEPS ≢ 0 }
         requires road { road ≡ state_of self.old (self.old.horizon + 1) }
         ensures { self.new ≡ sheet_after_step self.old }
     {
@@ -480,21 +480,21 @@ impl Sheet {
         last
     }
 
-    // The block that begins with the road of the next step.
-    fn next_block(&self, alloc: Global, road: &Road) -> Result<Block, OutOfMemory>
+    // The span that begins with the road of the next step.
+    fn next_span(&self, alloc: Global, road: &Road) -> Result<Span, OutOfMemory>
         requires within_limit { self.now.horizon < GREATEST_HORIZON }
         requires road { road.now ≡ state_of self.now (self.now.horizon + 1) }
-        ensures start { IfOk result (λ block. block.start ≡ road.now) }
-        ensures totals { IfOk result (λ block. block.totals.items
+        ensures start { IfOk result (λ span. span.start ≡ road.now) }
+        ensures totals { IfOk result (λ span. span.totals.items
             ≡ replicate (length self.now.plan.detectors) no_totals) }
     {
         self.plan.known();
         cars_stay_on_road(&self.plan);
         let kept = Checkpoint::of(alloc, road)?;
-        Block::begin(alloc, kept, self.plan.detectors().len())
+        Span::begin(alloc, kept, self.plan.detectors().len())
     }
 
-    // A step more that ends the block; what comes back is the road before it. What can fail for memory is done before
+    // A step more that ends the span; what comes back is the road before it. What can fail for memory is done before
     // the sheet is changed.
     fn step_to_end(
         &mut self,
@@ -506,7 +506,7 @@ impl Sheet {
         requires input { input.now ≡ next_input self.old }
         requires speeds { speeds.now ≡ input_speeds input.now }
         requires within_limit { self.old.horizon < GREATEST_HORIZON }
-        requires at_end { (self.old.horizon + 1) % BLOCK_STEPS ≡ 0 }
+        requires at_end { (self.old.horizon + 1) % SPAN_STEPS ≡ 0 }
         requires road { road ≡ state_of self.old (self.old.horizon + 1) }
         ensures grown { OnOk result (self.new ≡ sheet_after_step self.old) }
         ensures unchanged { OnErr result (self.new ≡ self.old) }
@@ -514,7 +514,7 @@ impl Sheet {
         cars_pass_one_by_one(&self.plan);
         totals_are_bounded(&self.plan);
         let horizon = self.horizon() + 1;
-        let next = self.next_block(alloc, &road)?;
+        let next = self.next_span(alloc, &road)?;
         let mut ended = self.cut.copied()?;
         ended.count(input, speeds);
         push_shared(alloc, &mut self.whole, ended)?;
@@ -525,64 +525,60 @@ impl Sheet {
     }
 }
 
-// The block that begins at a checkpoint, and the road there.
-fn begun(alloc: Global, start: &Checkpoint, detectors: usize) -> Result<(Block, Road), OutOfMemory>
+// The span that begins at a checkpoint, and the road there.
+fn begun(alloc: Global, start: &Checkpoint, detectors: usize) -> Result<(Span, Road), OutOfMemory>
     ensures start { IfOk result (λ begun. begun.0.start ≡ start.now) }
     ensures totals { IfOk result (λ begun. begun.0.totals.items ≡ replicate detectors no_totals) }
     ensures road { IfOk result (λ begun. begun.1 ≡ start.now) }
 {
     let road = start.road(alloc)?;
-    let block = Block::begin(alloc, start.copied()?, detectors)?;
-    Ok((block, road))
+    let span = Span::begin(alloc, start.copied()?, detectors)?;
+    Ok((span, road))
 }
 
-// An equal block and an equal road.
-fn copies(block: &Block, road: &Road) -> Result<(Block, Road), OutOfMemory>
-    ensures start { IfOk result (λ copies. copies.0.start ≡ block.now.start) }
-    ensures totals { IfOk result (λ copies. copies.0.totals.items ≡ block.now.totals.items) }
+// An equal span and an equal road.
+fn copies(span: &Span, road: &Road) -> Result<(Span, Road), OutOfMemory>
+    ensures start { IfOk result (λ copies. copies.0.start ≡ span.now.start) }
+    ensures totals { IfOk result (λ copies. copies.0.totals.items ≡ span.now.totals.items) }
     ensures road { IfOk result (λ copies. copies.1 ≡ road.now) }
 {
-    let copy = block.copied()?;
+    let copy = span.copied()?;
     Ok((copy, road.copied()?))
 }
 
-// Puts a block behind the others, shared. Where it is refused, these are as they were.
-fn push_shared(alloc: Global, blocks: &mut Vec<Arc<Block>>, block: Block) -> Result<(), OutOfMemory>
-    ensures pushed { OnOk result (map arc_value blocks.new.items ≡ map arc_value blocks.old.items ++ block ∷ []) }
-    ensures unchanged { OnErr result (blocks.new.items ≡ blocks.old.items) }
+// Puts a span behind the others, shared. Where it is refused, these are as they were.
+fn push_shared(alloc: Global, spans: &mut Vec<Arc<Span>>, span: Span) -> Result<(), OutOfMemory>
+    ensures pushed { OnOk result (map arc_value spans.new.items ≡ map arc_value spans.old.items ++ span ∷ []) }
+    ensures unchanged { OnErr result (spans.new.items ≡ spans.old.items) }
 {
-    let block = Arc::new(alloc, block)?;
-    blocks.push(block)?;
+    let span = Arc::new(alloc, span)?;
+    spans.push(span)?;
     Ok(())
 }
 
-// A plan, and the first of these blocks, shared.
+// A plan, and the first of these spans, shared.
 fn shared_with_plan(
     alloc: Global,
     plan: &Arc<Plan>,
-    blocks: &[Arc<Block>],
+    spans: &[Arc<Span>],
     count: usize,
-) -> Result<(Arc<Plan>, Vec<Arc<Block>>), OutOfMemory>
-    requires { count ≤ length blocks.now }
+) -> Result<(Arc<Plan>, Vec<Arc<Span>>), OutOfMemory>
+    requires { count ≤ length spans.now }
     ensures plan { IfOk result (λ shared. arc_value shared.0 ≡ arc_value plan.now) }
-    ensures blocks { IfOk result (λ shared. map arc_value shared.1.items ≡ map arc_value (take count blocks.now)) }
+    ensures spans { IfOk result (λ shared. map arc_value shared.1.items ≡ map arc_value (take count spans.now)) }
 {
-    let whole = shared(alloc, blocks, count)?;
+    let whole = shared(alloc, spans, count)?;
     Ok((Arc::try_clone(plan)?, whole))
 }
 
-// The first of these blocks, shared.
-fn shared(
-    alloc: Global,
-    blocks: &[Arc<Block>],
-    count: usize,
-) -> Result<Vec<Arc<Block>>, OutOfMemory>
-    requires { count ≤ length blocks.now }
-    ensures { IfOk result (λ shared. map arc_value shared.items ≡ map arc_value (take count blocks.now)) }
+// The first of these spans, shared.
+fn shared(alloc: Global, spans: &[Arc<Span>], count: usize) -> Result<Vec<Arc<Span>>, OutOfMemory>
+    requires { count ≤ length spans.now }
+    ensures { IfOk result (λ shared. map arc_value shared.items ≡ map arc_value (take count spans.now)) }
 {
     let mut shared = Vec::with_capacity(alloc, count)?;
-    for block in &blocks[..count] {
-        shared.push(Arc::try_clone(block)?)?;
+    for span in &spans[..count] {
+        shared.push(Arc::try_clone(span)?)?;
     }
     Ok(shared)
 }

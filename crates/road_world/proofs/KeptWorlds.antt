@@ -21,7 +21,7 @@ use Rattle.road_scenario.proofs.EditRanges.{in_range-empty, in_range-faultless}
 use Rattle.road_delta.specs.Deltas.{heads, beyond}
 use Rattle.road_delta.specs.declared.heads.Head.{Head}
 use Rattle.road_delta.proofs.DeltaEdits.{from_set, winners-beyond}
-use Rattle.road_sheet.specs.Commands.{Command, Advance, Take, sheet_after}
+use Rattle.road_sheet.specs.Commands.{SheetCommand, Advance, Take, sheet_after}
 use Rattle.road_sheet.specs.Sheets.{Sheet, IsSheet, opening_sheet}
 use Rattle.road_rewind.specs.Growth.{touched_step}
 use Rattle.road_replica.specs.Refusals.{arrived_edit_fault, take_fault}
@@ -86,7 +86,7 @@ messages_win plan (m ∷ ms) all =
     ap (λ (n : Message). n ∷ map message_of_winners ms) (message_wins plan m (all 0 m (omega arith)))
     ∙ ap (λ (ns : List Message). m ∷ ns) (messages_win plan ms (λ k d below. all (suc k) d (omega (arith, below))))
 
-plan_after : (command : Command) (s : Sheet) → (sheet_after command s).plan ≡ s.plan
+plan_after : (command : SheetCommand) (s : Sheet) → (sheet_after command s).plan ≡ s.plan
 plan_after (Take edits) s = refl
 plan_after (Advance to) s = refl
 
@@ -176,7 +176,7 @@ module _ (plan : Plan) (xs : List Replica) (ms : List Message) (kept : IsWorldKe
     -- ---- a write
 
     -- a replica after a command
-    pub written : (r : ℕ) (x y : Replica) (command : Command) → x ≡ slice_index_or xs r x → r < length xs → y ≡ replica_after command x → IsSheet y.sheet → IsReplicaOf plan r y
+    pub written : (r : ℕ) (x y : Replica) (command : SheetCommand) → x ≡ slice_index_or xs r x → r < length xs → y ≡ replica_after command x → IsSheet y.sheet → IsReplicaOf plan r y
     written r x y command is below after sheet =
         let of = is_replica r x is below in record {
           number_is = ap (λ (z : Replica). z.number) after ∙ of.number_is;

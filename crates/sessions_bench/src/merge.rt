@@ -3,7 +3,7 @@
 use crate::crowd::SESSIONS;
 use road_plan::Object;
 use road_scenario::{Edit, Stamp, Value};
-use road_sessions::{Command, Entry, OutOfMemory};
+use road_sessions::{Entry, OutOfMemory, SheetCommand};
 use road_sheet::Sheet;
 use std::alloc::Global;
 
@@ -39,8 +39,8 @@ pub(crate) fn is_shown(sheet: &Sheet, write: u32) -> bool {
 // Whether an entry of a journal is this write of its session.
 fn is_write(alloc: Global, entry: &Entry, write: u32) -> Result<bool, OutOfMemory> {
     match &entry.command {
-        Command::Advance(to) => Ok(write % 2 == 1 && *to == write),
-        Command::Take(edits) => {
+        SheetCommand::Advance(to) => Ok(write % 2 == 1 && *to == write),
+        SheetCommand::Take(edits) => {
             let edits = edits.edits(alloc)?;
             Ok(write % 2 == 0 && edits.as_slice() == [edit_of(entry.session, write)].as_slice())
         }

@@ -2,7 +2,7 @@
 
 use road_scenario::{Edit, Scenario};
 use road_sessions::{
-    CloseCause, CloseFault, Closed, Command, Entry, Naming, Session, Shared, close,
+    CloseCause, CloseFault, Closed, Entry, Naming, Session, Shared, SheetCommand, close,
 };
 use std::alloc::Global;
 use std::sync::Wait;
@@ -25,11 +25,11 @@ fn has_edits(alloc: Global, scenario: &Scenario, edits: &[Edit]) -> bool {
 // Whether an entry of a journal is this. Its edits are listed again where there was no memory.
 fn is_line(alloc: Global, entry: &Entry, line: Line) -> bool {
     match (line, &entry.command) {
-        (Line::Took(session, edits), Command::Take(taken)) => {
+        (Line::Took(session, edits), SheetCommand::Take(taken)) => {
             entry.session == session
                 && (has_edits(alloc, taken, edits) || has_edits(alloc, taken, edits))
         }
-        (Line::Advanced(session, to), Command::Advance(step)) => {
+        (Line::Advanced(session, to), SheetCommand::Advance(step)) => {
             entry.session == session && *step == to
         }
         _ => false,

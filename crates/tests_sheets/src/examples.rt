@@ -131,7 +131,7 @@ const BLOCKED_LATE: Example = Example {
     counts: &[],
 };
 
-/// The cell of the only inlet is blocked, up to the greatest horizon; an edit of the last step computes one block.
+/// The cell of the only inlet is blocked, up to the greatest horizon; an edit of the last step computes one span.
 const CLOSED: Example = Example {
     growths: &[
         Growth {

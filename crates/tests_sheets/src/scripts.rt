@@ -1,4 +1,4 @@
-//! Scripts of edits and advances at steps round the ends of blocks: each state and each total against a run from step zero.
+//! Scripts of edits and advances at steps round the ends of spans: each state and each total against a run from step zero.
 //! One script in two has steady words, each other one seeded words of its own.
 
 use crate::sheets::{grow, opening};

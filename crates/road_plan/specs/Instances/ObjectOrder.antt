@@ -9,6 +9,7 @@ use Rattle.road_plan.specs.declared.object.Object.{Object}
 use Rattle.road_plan.specs.declared.object.Object.TheVariants.{Limit, Slow, Block, Inflow, Watch}
 use Rattle.road_plan.specs.contracts.object.ObjectOrd.TheImpl as derived
 
+-- the derived order of objects is that of their keys
 pub ordered : (x y : Object) → derived.ghosts.cmp x y ≡ object_order x y
 ordered (Limit i) (Limit j) = refl
 ordered (Limit i) (Slow j) = refl
@@ -44,6 +45,7 @@ object_of (suc (suc zero), i) = Block i
 object_of (suc (suc (suc zero)), i) = Inflow i
 object_of (suc (suc (suc (suc k))), i) = Watch i
 
+-- an object is that of its key
 pub object_back : (x : Object) → object_of (order_key x) ≡ x
 object_back (Limit i) = refl
 object_back (Slow i) = refl
@@ -51,9 +53,11 @@ object_back (Block i) = refl
 object_back (Inflow i) = refl
 object_back (Watch i) = refl
 
+-- objects with the same key are the same
 pub same_object : (x y : Object) → order_key x ≡ order_key y → x ≡ y
 same_object x y e = sym (object_back x) ∙ ap object_of e ∙ object_back y
 
+-- the order of objects tells them apart
 pub object_exact : IsExact derived.ghosts.cmp
 object_exact =
     exact_by order_key derived.ghosts.cmp (pair_cmp nat_cmp nat_cmp) ordered same_object

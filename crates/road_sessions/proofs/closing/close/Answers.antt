@@ -1,15 +1,15 @@
 -- All shares of the ledger count as many writes as the journal has entries, so it is just what the sessions wrote.
 use Rattle.std.proofs.Common.{◌≡◌, List, length, sym, ap, subst, arith, refl}
 use Rattle.std.specs.List.{AllByRecursion}
-use Rattle.road_sessions.specs.Closings.{AreApart, IsJust, write_count}
+use Rattle.road_sessions.specs.Closings.{AreApart, IsWrittenBy, write_count}
 use Rattle.road_sessions.specs.Private.ClosingSeats.{Brings}
 use Rattle.road_sessions.specs.Seats.{Seat}
 use Rattle.road_sessions.specs.declared.entry.Entry.{Entry}
-use Rattle.road_sessions.proofs.ClosedSessions.{just}
+use Rattle.road_sessions.proofs.ClosedSessions.{written_by}
 use Rattle.road_sessions.proofs.closing.close.Goals as goal
 
-pub returns-clause-just : goal.returns-clause-just
-returns-clause-just g c =
+pub returns-clause-journal : goal.returns-clause-journal
+returns-clause-journal g c =
     let sessions : List Seat = c.args.sessions.items in
     let held = c.into_inner-held.result in
     let journal : List Entry = held.journal.items in
@@ -19,4 +19,4 @@ returns-clause-just g c =
     let all : AllByRecursion (Brings journal) sessions = subst (λ (ss : List Seat). AllByRecursion (Brings journal) ss) c.as_slice-2.ensures.value bring in
     let whole : c.shares-all.result.parts ≡ g.J.Ledger.parts = (let shares = c.shares-all.ensures.0 in let none = c.empty-all.ensures.parts in let len = c.len.ensures in let is = c.if-len-held.false in let parts = held.parts in omega arith) in
     let count : length journal ≡ write_count sessions = (let audited = c.audit.ensures.whole whole in let shares = c.shares-all.ensures.1 in let none = c.empty-all.ensures.amount in let counted = held.counted in omega arith) in
-    subst (λ (l : List Entry). IsJust l sessions) (sym same) (just journal sessions apart all count)
+    subst (λ (l : List Entry). IsWrittenBy l sessions) (sym same) (written_by journal sessions apart all count)

@@ -3,7 +3,7 @@ use Rattle.std.proofs.Common.{◌∙◌, ap, subst, arith, ◌/◌, ◌*◌}
 use Rattle.road_ends.specs.Laws.{DependOnEarlierSettings}
 use Rattle.road_sheet.specs.Sheets.{Sheet}
 use Rattle.road_sheet.proofs.SameRuns.{same_run}
-use Rattle.road_sheet.proofs.SheetBlocks.{same_less}
+use Rattle.road_sheet.proofs.SheetSpans.{same_less}
 use Rattle.road_sheet.proofs.sheet.Sheet.draft_of.Goals as goal
 
 pub going_on-requires-clause-same : goal.going_on-requires-clause-same

@@ -5,7 +5,7 @@ use Rattle.std.specs.Arc.{arc_value}
 use Rattle.road_plan.specs.Plan.{Plan}
 use Rattle.road_scenario.specs.Winners.{AreWinners}
 use Rattle.road_scenario.proofs.NoEdits.{winners-empty}
-use Rattle.road_sheet.proofs.SheetBlocks.{opened}
+use Rattle.road_sheet.proofs.SheetSpans.{opened}
 use Rattle.road_sheet.proofs.sheet.Sheet.opening.Goals as goal
 
 pub invariant_of-result : goal.invariant_of-result

@@ -1,7 +1,7 @@
--- A step within the block that the horizon cuts.
+-- A step within the span that the horizon cuts.
 use Rattle.std.proofs.Common.{◌∙◌, subst, refl}
 use Rattle.road_detector.specs.Laws.{PassOneByOne, BoundTotals}
-use Rattle.road_sheet.proofs.SheetBlocks.{counted_next, next_cars_fit, next_speeds_fit, stays_in_block}
+use Rattle.road_sheet.proofs.SheetSpans.{counted_next, next_cars_fit, next_speeds_fit, stays_in_span}
 use Rattle.road_sheet.proofs.sheet.Sheet.step_within.Goals as goal
 
 pub count-requires-clause-cars : goal.count-requires-clause-cars
@@ -16,6 +16,6 @@ count-requires-clause-speeds c =
 
 pub invariant_of-self : goal.invariant_of-self
 invariant_of-self c =
-    stays_in_block _ c.args.self.now c.horizon-horizon.result _ c.self.inside.cut c.count.new.self _ c.replace-last.new.dest c.self.invariant c.self.view_is c.requires.within_limit (c.replace-last.ensures.after ∙ c.requires.road)
+    stays_in_span _ c.args.self.now c.horizon-horizon.result _ c.self.inside.cut c.count.new.self _ c.replace-last.new.dest c.self.invariant c.self.view_is c.requires.within_limit (c.replace-last.ensures.after ∙ c.requires.road)
     (counted_next _ c.args.self.now _ c.self.inside.cut _ c.args.input.now c.args.speeds.now c.self.inside.cut.totals.items c.count.new.self.totals.items c.self.invariant c.self.view_is c.requires.input c.requires.speeds refl c.count.ensures.each c.count.ensures.totals)
-    c.requires.within_block c.horizon-horizon.ensures c.count.ensures.start
+    c.requires.within_span c.horizon-horizon.ensures c.count.ensures.start

@@ -7,7 +7,7 @@ use Rattle.road_scenario.specs.Settings.{settings_of}
 use Rattle.road_sheet.specs.Private.Checkpoints.{AreSmall}
 use Rattle.road_sheet.specs.Sheets.{Sheet}
 use Rattle.road_sheet.proofs.SmallCars.{small_cars}
-use Rattle.road_sheet.proofs.sheet.Sheet.next_block.Goals as goal
+use Rattle.road_sheet.proofs.sheet.Sheet.next_span.Goals as goal
 
 pub of-requires : goal.of-requires
 of-requires c =

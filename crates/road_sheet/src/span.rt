@@ -1,4 +1,4 @@
-//! Blocks of steps.
+//! Spans: steps that a sheet keeps together.
 
 ghost use Rattle.std.specs.Prelude.{◌≡◌, ◌<◌, ◌+◌, ◌^◌, ℕ, length, replicate, IfOk};
 ghost use Rattle.std.specs.List.{slice_index_or};
@@ -10,38 +10,38 @@ use road_detector::{OutOfMemory, Totals, greatest_speed, passes_from};
 use road_ends::StepInput;
 use std::alloc::Global;
 
-/// How many steps a block has.
-pub const BLOCK_STEPS: u32 = 64;
+/// How many steps a span has, which a sheet keeps together.
+pub const SPAN_STEPS: u32 = 64;
 
-/// The road at the first step of a block, and what each detector counts in the steps of the block that are simulated.
+/// A span: the road at its first step, and what each detector counts in those of its steps that are simulated.
 #[derive(Drop)]
-pub struct Block {
+pub struct Span {
     pub(crate) start: Checkpoint,
     pub(crate) totals: Vec<Totals>,
 }
 
-impl Block {
-    // A block of which no step is simulated.
+impl Span {
+    // A span of which no step is simulated.
     pub(crate) fn begin(
         alloc: Global,
         start: Checkpoint,
         detectors: usize,
-    ) -> Result<Block, OutOfMemory>
-        ensures start { IfOk result (λ block. block.start ≡ start) }
-        ensures totals { IfOk result (λ block. block.totals.items ≡ replicate detectors no_totals) }
+    ) -> Result<Span, OutOfMemory>
+        ensures start { IfOk result (λ span. span.start ≡ start) }
+        ensures totals { IfOk result (λ span. span.totals.items ≡ replicate detectors no_totals) }
     {
         let totals = vec![in alloc; Totals { cars: 0, speeds: 0 }; detectors]?;
-        Ok(Block { start, totals })
+        Ok(Span { start, totals })
     }
 
-    // An equal block with memory of its own.
-    pub(crate) fn copied(&self) -> Result<Block, OutOfMemory>
-        ensures start { IfOk result (λ block. block.start ≡ self.now.start) }
-        ensures totals { IfOk result (λ block. block.totals.items ≡ self.now.totals.items) }
+    // An equal span with memory of its own.
+    pub(crate) fn copied(&self) -> Result<Span, OutOfMemory>
+        ensures start { IfOk result (λ span. span.start ≡ self.now.start) }
+        ensures totals { IfOk result (λ span. span.totals.items ≡ self.now.totals.items) }
     {
         let start = self.start.copied()?;
         let totals = self.totals.clone()?;
-        Ok(Block { start, totals })
+        Ok(Span { start, totals })
     }
 
     // Counts a step more. It takes no memory.

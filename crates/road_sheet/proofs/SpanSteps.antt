@@ -1,18 +1,18 @@
--- The steps of a block among those from one up to another.
+-- The steps of a span among those from one up to another.
 use Rattle.std.proofs.Common.{◌≡◌, ◌≤◌, ◌<◌, ◌+◌, ◌*◌, ◌/◌, ◌%◌, ℕ, min, max, arith}
 
--- up to which step the blocks below one are counted
+-- up to which step the spans below one are counted
 abbrev pub counted_to : ℕ → ℕ → ℕ → ℕ
-counted_to from to block = min to (max from (64 * block))
+counted_to from to span = min to (max from (64 * span))
 
 pub nothing_before : (from to : ℕ) → from ≤ to → from ≡ counted_to from to (from / 64)
 nothing_before from to order = omega arith
 
-pub block_begin : (from to b begin : ℕ) → b < to / 64 + min 1 (to % 64) → from ≤ to → begin ≡ max (b * 64) from → begin ≡ counted_to from to b
-block_begin from to b begin inside order is = omega arith
+pub span_begin : (from to b begin : ℕ) → b < to / 64 + min 1 (to % 64) → from ≤ to → begin ≡ max (b * 64) from → begin ≡ counted_to from to b
+span_begin from to b begin inside order is = omega arith
 
-pub block_end : (from to b end : ℕ) → from / 64 ≤ b → end ≡ min (b * 64 + 64) to → end ≡ counted_to from to (b + 1)
-block_end from to b end after is = omega arith
+pub span_end : (from to b end : ℕ) → from / 64 ≤ b → end ≡ min (b * 64 + 64) to → end ≡ counted_to from to (b + 1)
+span_end from to b end after is = omega arith
 
 pub all_counted : (from to b : ℕ) → from ≤ to → to / 64 + min 1 (to % 64) ≤ b → counted_to from to b ≡ to
 all_counted from to b order past = omega arith

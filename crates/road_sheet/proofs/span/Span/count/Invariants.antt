@@ -1,8 +1,8 @@
--- The detectors of a block count one more step, one after another.
+-- The detectors of a span count one more step, one after another.
 use Rattle.std.proofs.Common.{◌≡◌, ◌<◌, ◌≤◌, ℕ, length}
 use Rattle.std.specs.List.{slice_index_or}
 use Rattle.road_detector.specs.Passes.{no_totals, passes_at, plus}
-use Rattle.road_sheet.proofs.block.Block.count.Given as goal
+use Rattle.road_sheet.proofs.span.Span.count.Given as goal
 
 -- the totals of the detectors so far, and those of the others as they were
 abbrev pub invariant-loop-detector : goal.invariant-loop-detector

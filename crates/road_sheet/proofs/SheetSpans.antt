@@ -1,4 +1,4 @@
--- The blocks of a sheet: one step more, cut back, and the same run by other edits.
+-- The spans of a sheet: one step more, cut back, and the same run by other edits.
 use Rattle.std.proofs.Common.{◌≡◌, ◌≢◌, ◌≤◌, ◌<◌, ◌+◌, ◌*◌, ◌/◌, ◌%◌, ◌^◌, ◌∙◌, ◌⊎◌, inl, inr, ℕ, zero, suc, List, [], ◌∷◌, ◌++◌, length, map, take, replicate, min, Some, ap, sym, subst, arith, refl}
 use Rattle.std.proofs.lemmas.List.{get_or-replicate, length-replicate, length-take-le, length_push}
 use Rattle.std.proofs.lemmas.Option.{slice_get_within, slice_get_read, slice_get-map}
@@ -15,16 +15,16 @@ use Rattle.road_scenario.specs.Winners.{AreWinners}
 use Rattle.road_detector.specs.Laws.{PassOneByOne, BoundTotals}
 use Rattle.road_detector.specs.Passes.{no_totals, passes, passes_at, plus}
 use Rattle.road_detector.specs.declared.counts.Totals.{Totals}
-use Rattle.road_sheet.specs.Private.Blocks.{AreTotals, IsBlock, IsRunOf, GiveSameRun}
+use Rattle.road_sheet.specs.Private.Spans.{AreTotals, IsSpan, IsRunOf, GiveSameRun}
 use Rattle.road_sheet.specs.Sheets.{Sheet, IsSheet, next_input, sheet_after_step}
 use Rattle.road_sheet.specs.Shown.{run_at}
-use Rattle.road_sheet.specs.declared.block.Block.{Block}
+use Rattle.road_sheet.specs.declared.span.Span.{Span}
 use Rattle.road_sheet.proofs.RunTotals.{cars_fit, none_yet, passed_next, speeds_fit, total_more}
 
--- ---- blocks
+-- ---- spans
 
--- a block of which no step is simulated
-pub fresh : (p : Plan) (e : Edits) (a : ℕ) (b : Block) → b.start ≡ run_at p e a → b.totals.items ≡ replicate (length p.detectors) no_totals → IsBlock p e a a b
+-- a span of which no step is simulated
+pub fresh : (p : Plan) (e : Edits) (a : ℕ) (b : Span) → b.start ≡ run_at p e a → b.totals.items ≡ replicate (length p.detectors) no_totals → IsSpan p e a a b
 fresh p e a b start is = record {
   start = start;
   totals = record {
@@ -41,19 +41,19 @@ counted_more p e a h xs ys before are many more = record {
   counted = λ d l. more d (omega (arith, l, are.each)) ∙ ap (λ (x : Totals). plus x (passes p (settings_of p e) d h)) (are.counted d l) ∙ total_more p (settings_of p e) d a h before;
 }
 
--- edits with the same run have the same blocks
-pub moved : (p : Plan) (s t : Edits) (h a b : ℕ) (block : Block) → GiveSameRun p s t h → a ≤ b → b ≤ h → IsBlock p s a b block → IsBlock p t a b block
-moved p s t h a b block same before early is = record {
+-- edits with the same run have the same spans
+pub moved : (p : Plan) (s t : Edits) (h a b : ℕ) (span : Span) → GiveSameRun p s t h → a ≤ b → b ≤ h → IsSpan p s a b span → IsSpan p t a b span
+moved p s t h a b span same before early is = record {
   start = is.start ∙ same.state a (omega (arith, before, early));
   totals = record { each = is.totals.each; counted = λ d l. is.totals.counted d l ∙ same.total d a b early };
 }
 
--- ---- lists of blocks
+-- ---- lists of spans
 
-get_push : (xs : List Block) (y x : Block) (k : ℕ) → slice_get (xs ++ y ∷ []) k ≡ Some x → (slice_get xs k ≡ Some x) ⊎ ((k ≡ length xs) × (y ≡ x))
+get_push : (xs : List Span) (y x : Span) (k : ℕ) → slice_get (xs ++ y ∷ []) k ≡ Some x → (slice_get xs k ≡ Some x) ⊎ ((k ≡ length xs) × (y ≡ x))
 get_push [] y x zero h = inr (refl, the_one h)
   where
-    the_one : {a b : Block} → Some a ≡ Some b → a ≡ b
+    the_one : {a b : Span} → Some a ≡ Some b → a ≡ b
     the_one h = cc
 get_push [] y x (suc k) h = absurd (cc)
 get_push (z ∷ xs) y x zero h = inl h
@@ -62,7 +62,7 @@ get_push (z ∷ xs) y x (suc k) h = elim (get_push xs y x k h) as (λ _. (slice_
   | inr i ↦ inr (ap suc i.0, i.1)
 ]
 
-get_take : (n : ℕ) (xs : List Block) (x : Block) (k : ℕ) → slice_get (take n xs) k ≡ Some x → (slice_get xs k ≡ Some x) × (k < n)
+get_take : (n : ℕ) (xs : List Span) (x : Span) (k : ℕ) → slice_get (take n xs) k ≡ Some x → (slice_get xs k ≡ Some x) × (k < n)
 get_take zero xs x k h = absurd (cc)
 get_take (suc n) [] x k h = absurd (cc)
 get_take (suc n) (y ∷ xs) x zero h = (h, omega arith)
@@ -73,12 +73,12 @@ get_take (suc n) (y ∷ xs) x (suc k) h = let r = get_take n xs x k h in (r.0, o
 later : (s : Sheet) → IsSheet s → s.horizon < GREATEST_HORIZON → IsSheet (sheet_after_step s)
 later s is early = record { winners = is.winners; in_range = is.in_range; within_limit = omega (arith, early) }
 
--- the first step of the block that the horizon cuts
+-- the first step of the span that the horizon cuts
 cut_start : (n h : ℕ) → 64 * n ≤ h → h < 64 * n + 64 → 64 * (h / 64) ≡ 64 * n
 cut_start n h begun going = omega arith
 
--- within the block
-pub step_within : (s : Sheet) (whole : List Block) (cut new : Block) (last road : Array) → IsRunOf s whole cut last → s.horizon < GREATEST_HORIZON → road ≡ run_at s.plan s.edits (s.horizon + 1) → new.start ≡ cut.start
+-- within the span
+pub step_within : (s : Sheet) (whole : List Span) (cut new : Span) (last road : Array) → IsRunOf s whole cut last → s.horizon < GREATEST_HORIZON → road ≡ run_at s.plan s.edits (s.horizon + 1) → new.start ≡ cut.start
     → AreTotals s.plan s.edits (64 * (s.horizon / 64)) (s.horizon + 1) new.totals.items → (s.horizon + 1) % 64 ≢ 0 → IsRunOf (sheet_after_step s) whole new road
 step_within s whole cut new last road is early next start totals off = record {
   sheet = later s is.sheet early;
@@ -92,26 +92,26 @@ step_within s whole cut new last road is early next start totals off = record {
     going : (n h : ℕ) → 64 * n ≤ h → h < 64 * n + 64 → (h + 1) % 64 ≢ 0 → h + 1 < 64 * n + 64
     going n h a b c = omega (arith, a, b, c)
 
--- to the end of the block
-pub step_to_end : (s : Sheet) (whole more : List Block) (cut new begun : Block) (last road : Array) → IsRunOf s whole cut last → s.horizon < GREATEST_HORIZON → road ≡ run_at s.plan s.edits (s.horizon + 1) → new.start ≡ cut.start
+-- to the end of the span
+pub step_to_end : (s : Sheet) (whole more : List Span) (cut new begun : Span) (last road : Array) → IsRunOf s whole cut last → s.horizon < GREATEST_HORIZON → road ≡ run_at s.plan s.edits (s.horizon + 1) → new.start ≡ cut.start
     → AreTotals s.plan s.edits (64 * (s.horizon / 64)) (s.horizon + 1) new.totals.items
     → begun.start ≡ road → begun.totals.items ≡ replicate (length s.plan.detectors) no_totals → more ≡ whole ++ new ∷ []
     → (s.horizon + 1) % 64 ≡ 0 → IsRunOf (sheet_after_step s) more begun road
 step_to_end s whole more cut new begun last road is early next start totals first zeros all on =
     let many_more = length_push whole new in
     let end : s.horizon + 1 ≡ 64 * length whole + 64 = at_end (length whole) s.horizon is.begun is.not_ended on in
-    let next_block : 64 * length (whole ++ new ∷ []) ≡ s.horizon + 1 = omega (arith, many_more, end) in
+    let next_span : 64 * length (whole ++ new ∷ []) ≡ s.horizon + 1 = omega (arith, many_more, end) in
     let counted = subst (λ n. AreTotals s.plan s.edits n (s.horizon + 1) new.totals.items) (cut_start (length whole) s.horizon is.begun is.not_ended) totals in
-    let here : IsBlock s.plan s.edits (64 * length whole) (64 * length whole + 64) new = record { start = start ∙ is.cut.start; totals = subst (λ n. AreTotals s.plan s.edits (64 * length whole) n new.totals.items) end counted } in
+    let here : IsSpan s.plan s.edits (64 * length whole) (64 * length whole + 64) new = record { start = start ∙ is.cut.start; totals = subst (λ n. AreTotals s.plan s.edits (64 * length whole) n new.totals.items) end counted } in
     rw all (record {
       sheet = later s is.sheet early;
-      begun = omega (arith, next_block);
-      not_ended = omega (arith, next_block);
-      whole = λ k b g. elim (get_push whole new b k g) as (λ _. IsBlock s.plan s.edits (64 * k) (64 * k + 64) b) [
+      begun = omega (arith, next_span);
+      not_ended = omega (arith, next_span);
+      whole = λ k b g. elim (get_push whole new b k g) as (λ _. IsSpan s.plan s.edits (64 * k) (64 * k + 64) b) [
         | inl i ↦ is.whole k b i
-        | inr i ↦ subst (λ c. IsBlock s.plan s.edits (64 * k) (64 * k + 64) c) i.1 (subst (λ n. IsBlock s.plan s.edits (64 * n) (64 * n + 64) new) (sym i.0) here)
+        | inr i ↦ subst (λ c. IsSpan s.plan s.edits (64 * k) (64 * k + 64) c) i.1 (subst (λ n. IsSpan s.plan s.edits (64 * n) (64 * n + 64) new) (sym i.0) here)
       ];
-      cut = subst (λ n. IsBlock s.plan s.edits n (s.horizon + 1) begun) (sym next_block) (fresh s.plan s.edits (s.horizon + 1) begun (first ∙ next) zeros);
+      cut = subst (λ n. IsSpan s.plan s.edits n (s.horizon + 1) begun) (sym next_span) (fresh s.plan s.edits (s.horizon + 1) begun (first ∙ next) zeros);
       last = next;
     })
   where
@@ -119,26 +119,26 @@ step_to_end s whole more cut new begun last road is early next start totals firs
     at_end n h a b c = omega (arith, a, b, c)
 
 -- the same, by the sheet that contracts see
-pub ends_block : (s now : Sheet) (h : ℕ) (whole more : List Block) (cut new begun : Block) (last road : Array) → IsRunOf s whole cut last → s ≡ now → now.horizon < GREATEST_HORIZON → road ≡ run_at now.plan now.edits (now.horizon + 1)
+pub ends_span : (s now : Sheet) (h : ℕ) (whole more : List Span) (cut new begun : Span) (last road : Array) → IsRunOf s whole cut last → s ≡ now → now.horizon < GREATEST_HORIZON → road ≡ run_at now.plan now.edits (now.horizon + 1)
     → AreTotals now.plan now.edits (64 * (now.horizon / 64)) (now.horizon + 1) new.totals.items → (now.horizon + 1) % 64 ≡ 0 → h ≡ now.horizon → begun.totals.items ≡ replicate (length now.plan.detectors) no_totals
     → new.start ≡ cut.start → begun.start ≡ road → more ≡ whole ++ new ∷ [] → IsRunOf (record { plan = s.plan; edits = s.edits; horizon = h + 1 }) more begun road
-ends_block s now h whole more cut new begun last road is view early next totals on same zeros start first all =
+ends_span s now h whole more cut new begun last road is view early next totals on same zeros start first all =
     subst
     (λ (x : Sheet). x.horizon < GREATEST_HORIZON → road ≡ run_at x.plan x.edits (x.horizon + 1) → AreTotals x.plan x.edits (64 * (x.horizon / 64)) (x.horizon + 1) new.totals.items → (x.horizon + 1) % 64 ≡ 0 → h ≡ x.horizon
     → begun.totals.items ≡ replicate (length x.plan.detectors) no_totals → IsRunOf (record { plan = s.plan; edits = s.edits; horizon = h + 1 }) more begun road) view
     (λ e n t o k z. subst (λ (u : ℕ). IsRunOf (record { plan = s.plan; edits = s.edits; horizon = u + 1 }) more begun road) (sym k) (step_to_end s whole more cut new begun last road is e n start t first z all o)) early next totals on same zeros
 
--- a step within the block, by the sheet that contracts see
-pub stays_in_block : (s now : Sheet) (h : ℕ) (whole : List Block) (cut new : Block) (last road : Array) → IsRunOf s whole cut last → s ≡ now → now.horizon < GREATEST_HORIZON → road ≡ run_at now.plan now.edits (now.horizon + 1)
+-- a step within the span, by the sheet that contracts see
+pub stays_in_span : (s now : Sheet) (h : ℕ) (whole : List Span) (cut new : Span) (last road : Array) → IsRunOf s whole cut last → s ≡ now → now.horizon < GREATEST_HORIZON → road ≡ run_at now.plan now.edits (now.horizon + 1)
     → AreTotals now.plan now.edits (64 * (now.horizon / 64)) (now.horizon + 1) new.totals.items → (now.horizon + 1) % 64 ≢ 0 → h ≡ now.horizon → new.start ≡ cut.start → IsRunOf (record { plan = s.plan; edits = s.edits; horizon = h + 1 }) whole new road
-stays_in_block s now h whole cut new last road is view early next totals off same start =
+stays_in_span s now h whole cut new last road is view early next totals off same start =
     subst
     (λ (x : Sheet). x.horizon < GREATEST_HORIZON → road ≡ run_at x.plan x.edits (x.horizon + 1) → AreTotals x.plan x.edits (64 * (x.horizon / 64)) (x.horizon + 1) new.totals.items → (x.horizon + 1) % 64 ≢ 0 → h ≡ x.horizon
     → IsRunOf (record { plan = s.plan; edits = s.edits; horizon = h + 1 }) whole new road) view
     (λ e n t o k. subst (λ (u : ℕ). IsRunOf (record { plan = s.plan; edits = s.edits; horizon = u + 1 }) whole new road) (sym k) (step_within s whole cut new last road is e n start t o)) early next totals off same
 
--- the totals of the cut block
-pub cut_totals : (s t : Sheet) (whole : List Block) (cut : Block) (last : Array) → IsRunOf s whole cut last → s ≡ t → AreTotals t.plan t.edits (64 * (t.horizon / 64)) t.horizon cut.totals.items
+-- the totals of the cut span
+pub cut_totals : (s t : Sheet) (whole : List Span) (cut : Span) (last : Array) → IsRunOf s whole cut last → s ≡ t → AreTotals t.plan t.edits (64 * (t.horizon / 64)) t.horizon cut.totals.items
 cut_totals s t whole cut last is same =
     subst (λ (x : Sheet). AreTotals x.plan x.edits (64 * (x.horizon / 64)) x.horizon cut.totals.items) same
     (subst (λ n. AreTotals s.plan s.edits n s.horizon cut.totals.items) (sym (cut_start (length whole) s.horizon is.begun is.not_ended)) is.cut.totals)
@@ -146,7 +146,7 @@ cut_totals s t whole cut last is same =
 -- ---- what the detectors have counted with the next step
 
 -- the cars fit
-pub next_cars_fit : (s t : Sheet) (whole : List Block) (cut : Block) (last : Array) (input : StepInput) (speeds : List ℕ) (xs : List Totals) → IsRunOf s whole cut last → s ≡ t → BoundTotals s.plan → PassOneByOne s.plan → t.horizon < GREATEST_HORIZON
+pub next_cars_fit : (s t : Sheet) (whole : List Span) (cut : Span) (last : Array) (input : StepInput) (speeds : List ℕ) (xs : List Totals) → IsRunOf s whole cut last → s ≡ t → BoundTotals s.plan → PassOneByOne s.plan → t.horizon < GREATEST_HORIZON
     → input ≡ next_input t → speeds ≡ input_speeds input → xs ≡ cut.totals.items → (d : ℕ) → d < length xs → (slice_index_or xs d no_totals).cars + (passes_at input speeds d).cars < 2 ^ 32
 next_cars_fit s t whole cut last input speeds xs is same bounded alone early at new kept d below =
     let counted = subst (AreTotals t.plan t.edits (64 * (t.horizon / 64)) t.horizon) (sym kept) (cut_totals s t whole cut last is same) in
@@ -155,7 +155,7 @@ next_cars_fit s t whole cut last input speeds xs is same bounded alone early at 
     (counted.counted d (omega (arith, counted.each, below))) (passed_next t input speeds d at new)
 
 -- their speeds fit
-pub next_speeds_fit : (s t : Sheet) (whole : List Block) (cut : Block) (last : Array) (input : StepInput) (speeds : List ℕ) (xs : List Totals) → IsRunOf s whole cut last → s ≡ t → BoundTotals s.plan → PassOneByOne s.plan → t.horizon < GREATEST_HORIZON
+pub next_speeds_fit : (s t : Sheet) (whole : List Span) (cut : Span) (last : Array) (input : StepInput) (speeds : List ℕ) (xs : List Totals) → IsRunOf s whole cut last → s ≡ t → BoundTotals s.plan → PassOneByOne s.plan → t.horizon < GREATEST_HORIZON
     → input ≡ next_input t → speeds ≡ input_speeds input → xs ≡ cut.totals.items → (d : ℕ) → d < length xs → (slice_index_or xs d no_totals).speeds + (passes_at input speeds d).speeds < 2 ^ 32
 next_speeds_fit s t whole cut last input speeds xs is same bounded alone early at new kept d below =
     let counted = subst (AreTotals t.plan t.edits (64 * (t.horizon / 64)) t.horizon) (sym kept) (cut_totals s t whole cut last is same) in
@@ -164,7 +164,7 @@ next_speeds_fit s t whole cut last input speeds xs is same bounded alone early a
     (counted.counted d (omega (arith, counted.each, below))) (passed_next t input speeds d at new)
 
 -- they are the totals up to the step after it
-pub counted_next : (s t : Sheet) (whole : List Block) (cut : Block) (last : Array) (input : StepInput) (speeds : List ℕ) (xs ys : List Totals) → IsRunOf s whole cut last → s ≡ t → input ≡ next_input t → speeds ≡ input_speeds input → xs ≡ cut.totals.items
+pub counted_next : (s t : Sheet) (whole : List Span) (cut : Span) (last : Array) (input : StepInput) (speeds : List ℕ) (xs ys : List Totals) → IsRunOf s whole cut last → s ≡ t → input ≡ next_input t → speeds ≡ input_speeds input → xs ≡ cut.totals.items
     → length ys ≡ length xs → ((d : ℕ) → d < length xs → slice_index_or ys d no_totals ≡ plus (slice_index_or xs d no_totals) (passes_at input speeds d)) → AreTotals t.plan t.edits (64 * (t.horizon / 64)) (t.horizon + 1) ys
 counted_next s t whole cut last input speeds xs ys is same at new kept many more =
     let counted = subst (AreTotals t.plan t.edits (64 * (t.horizon / 64)) t.horizon) (sym kept) (cut_totals s t whole cut last is same) in
@@ -179,13 +179,13 @@ same_less p s t h k l same = record {
   total = λ d a b m. same.total d a b (omega (arith, l, m));
 }
 
-copied : (p : Plan) (e : Edits) (a h : ℕ) (b c : Block) → c.start ≡ b.start → c.totals.items ≡ b.totals.items → IsBlock p e a h b → IsBlock p e a h c
+copied : (p : Plan) (e : Edits) (a h : ℕ) (b c : Span) → c.start ≡ b.start → c.totals.items ≡ b.totals.items → IsSpan p e a h b → IsSpan p e a h c
 copied p e a h b c start totals is = record { start = start ∙ is.start; totals = subst (AreTotals p e a h) (sym totals) is.totals }
 
 abbrev with_edits : Sheet → Edits → ℕ → Sheet
 with_edits s t h = record { plan = s.plan; edits = t; horizon = h }
 
-went_on : (s : Sheet) (t : Edits) (whole shared : List Block) (cut new : Block) (last road : Array) → IsRunOf s whole cut last → AreWinners t → AreInRange s.plan t → GiveSameRun s.plan s.edits t s.horizon
+went_on : (s : Sheet) (t : Edits) (whole shared : List Span) (cut new : Span) (last road : Array) → IsRunOf s whole cut last → AreWinners t → AreInRange s.plan t → GiveSameRun s.plan s.edits t s.horizon
     → shared ≡ whole → new.start ≡ cut.start → new.totals.items ≡ cut.totals.items → road ≡ last → IsRunOf (with_edits s t s.horizon) shared new road
 went_on s t whole shared cut new last road is won fits same all start totals at = rw all (record {
   sheet = record { winners = won; in_range = fits; within_limit = is.sheet.within_limit };
@@ -196,7 +196,7 @@ went_on s t whole shared cut new last road is won fits same all start totals at 
   last = at ∙ is.last ∙ same.state s.horizon (omega arith);
 })
 
-went_back : (s : Sheet) (t : Edits) (m : ℕ) (whole shared : List Block) (cut new : Block) (last road : Array) → IsRunOf s whole cut last → AreWinners t → AreInRange s.plan t → 64 * m ≤ s.horizon → GiveSameRun s.plan s.edits t (64 * m)
+went_back : (s : Sheet) (t : Edits) (m : ℕ) (whole shared : List Span) (cut new : Span) (last road : Array) → IsRunOf s whole cut last → AreWinners t → AreInRange s.plan t → 64 * m ≤ s.horizon → GiveSameRun s.plan s.edits t (64 * m)
     → shared ≡ take m whole → road ≡ run_at s.plan s.edits (64 * m) → new.start ≡ road → new.totals.items ≡ replicate (length s.plan.detectors) no_totals → IsRunOf (with_edits s t (64 * m)) shared new road
 went_back s t m whole shared cut new last road is won fits below same some at start zeros =
     let n = is.not_ended in
@@ -208,7 +208,7 @@ went_back s t m whole shared cut new last road is won fits below same some at st
       begun = omega (arith, many);
       not_ended = omega (arith, many);
       whole = λ k b g. let r = get_take m whole b k g in let q = r.1 in moved s.plan s.edits t (64 * m) (64 * k) (64 * k + 64) b same (omega arith) (omega (arith, q)) (is.whole k b r.0);
-      cut = subst (λ x. IsBlock s.plan t (64 * x) (64 * m) new) (sym many) (fresh s.plan t (64 * m) new (start ∙ here) zeros);
+      cut = subst (λ x. IsSpan s.plan t (64 * x) (64 * m) new) (sym many) (fresh s.plan t (64 * m) new (start ∙ here) zeros);
       last = here;
     })
 
@@ -216,16 +216,16 @@ went_back s t m whole shared cut new last road is won fits below same some at st
 sheet_of : (now : Sheet) (t : Edits) (p : Plan) (h k : ℕ) → p ≡ now.plan → h ≡ k → record { plan = p; edits = t; horizon = h } ≡ with_edits now t k
 sheet_of now t p h k plan same = λ i. record { plan = plan i; edits = t; horizon = same i }
 
--- other edits that give the same run up to the horizon: all blocks stay
-pub stays_whole : (s now : Sheet) (t : Edits) (p : Plan) (h : ℕ) (whole shared : List Block) (cut new : Block) (last road : Array) → IsRunOf s whole cut last → s ≡ now → AreWinners t → AreInRange now.plan t
+-- other edits that give the same run up to the horizon: all spans stay
+pub stays_whole : (s now : Sheet) (t : Edits) (p : Plan) (h : ℕ) (whole shared : List Span) (cut new : Span) (last road : Array) → IsRunOf s whole cut last → s ≡ now → AreWinners t → AreInRange now.plan t
     → GiveSameRun now.plan now.edits t now.horizon → p ≡ now.plan → h ≡ now.horizon → shared ≡ whole → new.start ≡ cut.start → new.totals.items ≡ cut.totals.items → road ≡ last
     → IsRunOf (record { plan = p; edits = t; horizon = h }) shared new road
 stays_whole s now t p h whole shared cut new last road is view win fit same plan horizon all start totals at =
     subst (λ (x : Sheet). IsRunOf x shared new road) (sym (sheet_of now t p h now.horizon plan horizon))
     (went_on now t whole shared cut new last road (subst (λ (x : Sheet). IsRunOf x whole cut last) view is) win fit same all start totals at)
 
--- other edits that give the same run up to the first step of a block: the blocks before it stay
-pub stays_below : (s now : Sheet) (t : Edits) (p : Plan) (h m : ℕ) (whole shared : List Block) (cut new : Block) (last road : Array) → IsRunOf s whole cut last → s ≡ now → AreWinners t → AreInRange now.plan t
+-- other edits that give the same run up to the first step of a span: the spans before it stay
+pub stays_below : (s now : Sheet) (t : Edits) (p : Plan) (h m : ℕ) (whole shared : List Span) (cut new : Span) (last road : Array) → IsRunOf s whole cut last → s ≡ now → AreWinners t → AreInRange now.plan t
     → 64 * m ≤ now.horizon → GiveSameRun now.plan now.edits t (64 * m) → p ≡ now.plan → h ≡ 64 * m → shared ≡ take m whole → road ≡ run_at now.plan now.edits (64 * m) → new.start ≡ road
     → new.totals.items ≡ replicate (length p.detectors) no_totals → IsRunOf (record { plan = p; edits = t; horizon = h }) shared new road
 stays_below s now t p h m whole shared cut new last road is view win fit below same plan horizon some at start zeros =
@@ -235,9 +235,9 @@ stays_below s now t p h m whole shared cut new last road is view win fit below s
 
 -- ---- the opening sheet
 
-pub opened : (p : Plan) (e : Edits) (blocks : List Block) (cut : Block) (last : Array) → AreWinners e → AreInRange p e → blocks ≡ [] → cut.start ≡ [] → cut.totals.items ≡ replicate (length p.detectors) no_totals → last ≡ []
-    → IsRunOf (record { plan = p; edits = e; horizon = 0 }) blocks cut last
-opened p e blocks cut last win fit none bare zeros road = rw none (record {
+pub opened : (p : Plan) (e : Edits) (spans : List Span) (cut : Span) (last : Array) → AreWinners e → AreInRange p e → spans ≡ [] → cut.start ≡ [] → cut.totals.items ≡ replicate (length p.detectors) no_totals → last ≡ []
+    → IsRunOf (record { plan = p; edits = e; horizon = 0 }) spans cut last
+opened p e spans cut last win fit none bare zeros road = rw none (record {
   sheet = record { winners = win; in_range = fit; within_limit = omega arith };
   begun = omega arith;
   not_ended = omega arith;
@@ -246,28 +246,28 @@ opened p e blocks cut last win fit none bare zeros road = rw none (record {
   last = road;
 })
 
--- ---- one block
+-- ---- one span
 
 -- a whole one
-pub whole_block : (s t : Sheet) (blocks : List Block) (part : Block) (road : Array) (k : ℕ) (b : Block) → IsRunOf s blocks part road → s ≡ t → slice_get blocks k ≡ Some b
-    → IsBlock t.plan t.edits (64 * k) (min (64 * k + 64) t.horizon) b
-whole_block s t blocks part road k b is same here =
-    let below = slice_get_within blocks k b here in
+pub whole_span : (s t : Sheet) (spans : List Span) (part : Span) (road : Array) (k : ℕ) (b : Span) → IsRunOf s spans part road → s ≡ t → slice_get spans k ≡ Some b
+    → IsSpan t.plan t.edits (64 * k) (min (64 * k + 64) t.horizon) b
+whole_span s t spans part road k b is same here =
+    let below = slice_get_within spans k b here in
     let begun = is.begun in
     let end : 64 * k + 64 ≡ min (64 * k + 64) s.horizon = omega (arith, below, begun) in
-    subst (λ (x : Sheet). IsBlock x.plan x.edits (64 * k) (min (64 * k + 64) x.horizon) b) same (subst (λ n. IsBlock s.plan s.edits (64 * k) n b) end (is.whole k b here))
+    subst (λ (x : Sheet). IsSpan x.plan x.edits (64 * k) (min (64 * k + 64) x.horizon) b) same (subst (λ n. IsSpan s.plan s.edits (64 * k) n b) end (is.whole k b here))
 
--- the block that the horizon cuts
-pub cut_block : (s t : Sheet) (blocks : List Block) (part : Block) (road : Array) (k : ℕ) → IsRunOf s blocks part road → s ≡ t → length blocks ≤ k → 64 * k ≤ t.horizon
-    → IsBlock t.plan t.edits (64 * k) (min (64 * k + 64) t.horizon) part
-cut_block s t blocks part road k is same past begun =
+-- the span that the horizon cuts
+pub cut_span : (s t : Sheet) (spans : List Span) (part : Span) (road : Array) (k : ℕ) → IsRunOf s spans part road → s ≡ t → length spans ≤ k → 64 * k ≤ t.horizon
+    → IsSpan t.plan t.edits (64 * k) (min (64 * k + 64) t.horizon) part
+cut_span s t spans part road k is same past begun =
     let h : s.horizon ≡ t.horizon = ap (λ (x : Sheet). x.horizon) same in
     let ended = is.not_ended in
-    let here : length blocks ≡ k = omega (arith, h, past, begun, ended) in
+    let here : length spans ≡ k = omega (arith, h, past, begun, ended) in
     let end : s.horizon ≡ min (64 * k + 64) s.horizon = omega (arith, here, ended) in
-    subst (λ (x : Sheet). IsBlock x.plan x.edits (64 * k) (min (64 * k + 64) x.horizon) part) same
-    (subst (λ n. IsBlock s.plan s.edits (64 * k) n part) end (subst (λ n. IsBlock s.plan s.edits (64 * n) s.horizon part) here is.cut))
+    subst (λ (x : Sheet). IsSpan x.plan x.edits (64 * k) (min (64 * k + 64) x.horizon) part) same
+    (subst (λ n. IsSpan s.plan s.edits (64 * k) n part) end (subst (λ n. IsSpan s.plan s.edits (64 * n) s.horizon part) here is.cut))
 
 -- what is read at a place
-pub read_block : {X Y : Type 0} (f : X → Y) (xs : List X) (k : ℕ) (x : X) (y : Y) → k < length xs → x ≡ slice_index_or xs k x → y ≡ f x → slice_get (map f xs) k ≡ Some y
-read_block f xs k x y below is read = slice_get-map f xs k ∙ ap (option_map f) (slice_get_read xs (length xs) k x refl below is) ∙ ap Some (sym read)
+pub read_span : {X Y : Type 0} (f : X → Y) (xs : List X) (k : ℕ) (x : X) (y : Y) → k < length xs → x ≡ slice_index_or xs k x → y ≡ f x → slice_get (map f xs) k ≡ Some y
+read_span f xs k x y below is read = slice_get-map f xs k ∙ ap (option_map f) (slice_get_read xs (length xs) k x refl below is) ∙ ap Some (sym read)
