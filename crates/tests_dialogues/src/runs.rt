@@ -55,7 +55,7 @@ const ALL: Failing = Failing::Never;
 const WHOLE: &str = "Ok(Served { lines: 3 })";
 
 // The plan line has 121 bytes, and the input 211.
-const RUNS: [Run; 13] = [
+const RUNS: &[Run] = &[
     ((3, 1000), (7, ALL), (1000, ALL, ALL), WHOLE, Some(53)),
     ((3, 211), (7, ALL), (1000, ALL, ALL), WHOLE, Some(53)),
     (
@@ -135,7 +135,7 @@ const RUNS: [Run; 13] = [
 #[test]
 fn limits_and_faults(rt: HostRuntime) -> Result<(), Fail> {
     let input = format!(in rt.alloc(); "{FREE_ROAD}{COMMANDS}")?;
-    for ((lines, bytes), (piece, reads), (room, writes, flushes), end, written) in RUNS {
+    for &((lines, bytes), (piece, reads), (room, writes, flushes), end, written) in RUNS {
         assert!(rt; piece > 0);
         let mut reader = MemorySource::new(input.as_bytes(), piece, reads);
         let taken = Vec::with_capacity(rt.alloc(), 1000)?;
@@ -186,7 +186,7 @@ const STEPS: &str = r#"{"advance":{"at":"A","to":6}}
 "#;
 
 // How many calls of the crew succeed, the status, and how many bytes of the replies are written.
-const WORKERS: [(u64, u8, usize); 6] = [
+const WORKERS: &[(u64, u8, usize)] = &[
     (0, 7, 11),
     (5, 7, 11),
     (6, 7, 25),
@@ -200,7 +200,7 @@ fn workers_that_leave(rt: HostRuntime) -> Result<(), Fail> {
     let alloc = rt.alloc();
     let input = format!(in alloc; "{FREE_ROAD}{STEPS}")?;
     let replies = "{\"open\":3}\n{\"horizon\":6}\n{\"stamp\":[1,0]}\n{\"horizon\":6}\n";
-    for (calls_left, status, written) in WORKERS {
+    for &(calls_left, status, written) in WORKERS {
         let mut writer = sink(alloc)?;
         let mut crew = Leaving {
             calls_left,

@@ -31,18 +31,18 @@ impl Crew for Failing {
 }
 
 /// What is put before the crew fails: the limit is 1 from step 2 on.
-const BEFORE: [Write; 2] = [Write::Edit(LIMIT, 2, 1), Write::Advance(6)];
+const BEFORE: &[Write] = &[Write::Edit(LIMIT, 2, 1), Write::Advance(6)];
 
-const HELD: [Entry; 1] = [(LIMIT, 2, (1, 0), Value::Put(1))];
+const HELD: &[Entry] = &[(LIMIT, 2, (1, 0), Value::Put(1))];
 
-const BLOCKED: [Entry; 1] = [(BLOCK, 4, (1, 64), Value::Put(1))];
+const BLOCKED: &[Entry] = &[(BLOCK, 4, (1, 64), Value::Put(1))];
 
 /// Each computes six steps.
-const WRITES: [Write; 5] = [
+const WRITES: &[Write] = &[
     Write::Edit(BLOCK, 4, 1),
     Write::Withdraw(LIMIT, 2),
-    Write::Import(&BLOCKED),
-    Write::Take(&BLOCKED),
+    Write::Import(BLOCKED),
+    Write::Take(BLOCKED),
     Write::Advance(12),
 ];
 
@@ -57,20 +57,20 @@ fn is_left(alloc: Global, replica: &mut Replica, write: Write, calls: u64) -> Re
     Ok(
         answer == Err(ReplicaFault::WorkersGone)
             && (meter.ticks(), crew.gone, replica.sheet().horizon()) == (calls, 1, 6)
-            && holds(alloc, replica, &HELD)?
+            && holds(alloc, replica, HELD)?
             && shows(alloc, replica, 6, "0.1.1..1....")?,
     )
 }
 
 // Whether a replica of the free road with the lower limit is.
 fn leaves_it(alloc: Global, write: Write, calls: u64) -> Result<bool, Fail> {
-    let mut replica = replica_after(alloc, 0, &BEFORE)?;
+    let mut replica = replica_after(alloc, 0, BEFORE)?;
     is_left(alloc, &mut replica, write, calls)
 }
 
 #[test]
 fn lost_workers_leave_the_replica(rt: HostRuntime) -> Result<(), Fail> {
-    for write in WRITES {
+    for &write in WRITES {
         for calls in 0..6 {
             assert!(&rt; leaves_it(rt.alloc(), write, calls)?);
         }

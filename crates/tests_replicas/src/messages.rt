@@ -10,22 +10,22 @@ use std::alloc::Global;
 use std::test::Fail;
 
 /// What the second replica took of the first.
-const TAKEN: [Entry; 2] = [
+const TAKEN: &[Entry] = &[
     (LIMIT, 3, (1, 0), Value::Put(1)),
     (BLOCK, 4, (2, 0), Value::Put(1)),
 ];
 
 /// The writes of the first replica, and those of the second.
-const FIRST: [Write; 3] = [
+const FIRST: &[Write] = &[
     Write::Edit(LIMIT, 3, 1),
     Write::Edit(BLOCK, 4, 1),
     Write::Edit(LIMIT, 5, 0),
 ];
 
-const SECOND: [Write; 2] = [Write::Take(&TAKEN), Write::Edit(LIMIT, 3, 0)];
+const SECOND: &[Write] = &[Write::Take(TAKEN), Write::Edit(LIMIT, 3, 0)];
 
 /// What the second replica asks by.
-const ASKED: [Head; 2] = [
+const ASKED: &[Head] = &[
     Head {
         object: LIMIT,
         step: 3,
@@ -45,13 +45,13 @@ const ASKED: [Head; 2] = [
 ];
 
 /// What the first answers: its edit that lost stays away.
-const SENT: [Entry; 2] = [
+const SENT: &[Entry] = &[
     (LIMIT, 5, (3, 0), Value::Put(0)),
     (BLOCK, 4, (2, 0), Value::Put(1)),
 ];
 
 /// What the second holds then.
-const JOINED: [Entry; 3] = [
+const JOINED: &[Entry] = &[
     (LIMIT, 3, (3, 1), Value::Put(0)),
     (LIMIT, 5, (3, 0), Value::Put(0)),
     (BLOCK, 4, (2, 0), Value::Put(1)),
@@ -87,16 +87,13 @@ fn takes(
 // Whether a replica asks as it should, and takes what the other one sends it.
 fn is_answered(alloc: Global, asked: &Replica, mut asking: Replica) -> Result<bool, Fail> {
     let sent = answer(alloc, asked, &asking)?;
-    Ok(
-        asks(alloc, &asking, &ASKED)?
-            && takes(alloc, &mut asking, &sent, &[Some(5), None], &JOINED)?,
-    )
+    Ok(asks(alloc, &asking, ASKED)? && takes(alloc, &mut asking, &sent, &[Some(5), None], JOINED)?)
 }
 
 #[test]
 fn a_replica_is_sent_what_it_lacks(rt: HostRuntime) -> Result<(), Fail> {
-    let first = replica_after(rt.alloc(), 0, &FIRST)?;
-    let second = replica_after(rt.alloc(), 1, &SECOND)?;
+    let first = replica_after(rt.alloc(), 0, FIRST)?;
+    let second = replica_after(rt.alloc(), 1, SECOND)?;
     assert!(&rt; is_answered(rt.alloc(), &first, second)?);
     Ok(())
 }
@@ -104,12 +101,12 @@ fn a_replica_is_sent_what_it_lacks(rt: HostRuntime) -> Result<(), Fail> {
 // Whether a new replica takes the whole message of another.
 fn is_told(alloc: Global, message: &Scenario) -> Result<bool, Fail> {
     let mut replica = opened(alloc, 2)?;
-    Ok(takes(alloc, &mut replica, message, &[Some(4)], &SENT)?)
+    Ok(takes(alloc, &mut replica, message, &[Some(4)], SENT)?)
 }
 
 #[test]
 fn a_message_holds_all(rt: HostRuntime) -> Result<(), Fail> {
-    let message = replica_after(rt.alloc(), 2, &[Write::Take(&SENT)])?.message()?;
+    let message = replica_after(rt.alloc(), 2, &[Write::Take(SENT)])?.message()?;
     assert!(&rt; is_told(rt.alloc(), &message)?);
     Ok(())
 }

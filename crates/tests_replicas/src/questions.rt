@@ -7,7 +7,7 @@ use std::alloc::Global;
 use std::test::Fail;
 
 /// The cars at step 6.
-const CARS: [Car; 3] = [
+const CARS: &[Car] = &[
     Car {
         number: 80,
         cell: 0,
@@ -29,7 +29,7 @@ const CARS: [Car; 3] = [
 type Count = ((u32, u32, u32), Result<(u32, u32), ReplicaFault>);
 
 /// The first car drives from cell 3 to 5 in step 2, the second one in step 4.
-const COUNTS: [Count; 9] = [
+const COUNTS: &[Count] = &[
     ((0, 0, 3), Ok((1, 2))),
     ((0, 0, 6), Ok((2, 4))),
     ((0, 3, 6), Ok((1, 2))),
@@ -42,7 +42,7 @@ const COUNTS: [Count; 9] = [
 ];
 
 /// The first and the last row of a diagram, and how many rows it has where the horizon is 1,024.
-const DIAGRAMS: [(u32, u32, Result<usize, ReplicaFault>); 6] = [
+const DIAGRAMS: &[(u32, u32, Result<usize, ReplicaFault>)] = &[
     (4, 6, Ok(3)),
     (0, 1_023, Ok(1_024)),
     (5, 4, Err(ReplicaFault::Range)),
@@ -52,7 +52,7 @@ const DIAGRAMS: [(u32, u32, Result<usize, ReplicaFault>); 6] = [
 ];
 
 /// The rows from 4 to 6 with the cell 8 blocked from step 4 on.
-const BLOCKED: [&str; 3] = ["0..2...2#...", ".1...2.0#...", "0..2..10#..."];
+const BLOCKED: &[&str] = &["0..2...2#...", ".1...2.0#...", "0..2..10#..."];
 
 // Whether a replica has these cars at a step.
 fn has_cars(
@@ -66,7 +66,7 @@ fn has_cars(
 
 // Whether a replica counts as a table says.
 fn counts(alloc: Global, replica: &Replica) -> bool {
-    for ((detector, from, to), counted) in COUNTS {
+    for &((detector, from, to), counted) in COUNTS {
         let totals = replica.totals(alloc, detector, from, to);
         if totals.map(|totals| (totals.cars, totals.speeds)) != counted {
             return false;
@@ -83,7 +83,7 @@ fn at_six(alloc: Global) -> Result<Replica, Fail> {
 // Whether it shows the worked cars, and none of a step that was not simulated.
 fn has_worked_cars(alloc: Global, replica: &Replica) -> Result<bool, ReplicaFault> {
     Ok(
-        has_cars(alloc, replica, 6, &CARS)?
+        has_cars(alloc, replica, 6, CARS)?
             && replica.state(alloc, 7).err() == Some(ReplicaFault::NotSimulated),
     )
 }
@@ -114,12 +114,12 @@ fn are_rows(rows: &[String], texts: &[&str]) -> bool {
 
 // Whether the rows of a replica are refused as a table says, and those that are given are the worked ones.
 fn has_diagrams(alloc: Global, replica: &Replica) -> Result<bool, ReplicaFault> {
-    for (from, to, rows) in DIAGRAMS {
+    for &(from, to, rows) in DIAGRAMS {
         if replica.rows(alloc, from, to).map(|rows| rows.len()) != rows {
             return Ok(false);
         }
     }
-    Ok(are_rows(&replica.rows(alloc, 4, 6)?, &BLOCKED))
+    Ok(are_rows(&replica.rows(alloc, 4, 6)?, BLOCKED))
 }
 
 #[test]

@@ -10,7 +10,7 @@ use std::process::Abort;
 use std::test::Fail;
 
 /// The three cars of the road `0..2...2....`, where each digit is a car's speed.
-const CARS: [Car; 3] = [
+const CARS: &[Car] = &[
     Car {
         number: 80,
         cell: 0,
@@ -37,11 +37,11 @@ fn road_of(alloc: Global, cars: &[Car]) -> Result<Road, OutOfMemory>
 
 #[test]
 fn keeps_and_copies_the_cars(rt: HostRuntime) -> Result<(), Fail> {
-    let road = road_of(rt.alloc(), &CARS)?;
+    let road = road_of(rt.alloc(), CARS)?;
     let copied = road.copied();
-    assert!(rt; road.cars() == CARS.as_slice(), "copied or refused");
+    assert!(rt; road.cars() == CARS, "copied or refused");
     let cars = copied?.into_cars();
-    assert!(rt; cars.as_slice() == CARS.as_slice());
+    assert!(rt; cars.as_slice() == CARS);
     Ok(())
 }
 
@@ -68,7 +68,7 @@ const FOUND: &[(u32, Option<u64>, usize)] = &[
 
 #[test]
 fn finds_the_car_of_a_cell(rt: HostRuntime) -> Result<(), Fail> {
-    let road = road_of(rt.alloc(), &CARS)?;
+    let road = road_of(rt.alloc(), CARS)?;
     for (cell, number, before) in FOUND {
         let found = road.car_at(*cell).map(|car| car.number);
         assert!(rt;
@@ -117,7 +117,7 @@ fn sees(rt: &impl Abort, road: &Road, place: usize, (blocks, gap): &(&[u32], u8)
 
 #[test]
 fn sees_the_next_car_or_block(rt: HostRuntime) -> Result<(), Fail> {
-    let road = road_of(rt.alloc(), &CARS)?;
+    let road = road_of(rt.alloc(), CARS)?;
     for row in TO_BLOCK {
         sees(&rt, &road, 2, row);
     }
@@ -128,7 +128,7 @@ fn sees_the_next_car_or_block(rt: HostRuntime) -> Result<(), Fail> {
 }
 
 /// Cars with the next one in the next, ninth, tenth and eleventh cell.
-const FAR: [Car; 5] = [
+const FAR: &[Car] = &[
     Car {
         number: 1,
         cell: 5,
@@ -161,7 +161,7 @@ const GAPS: &[u8] = &[0, 8, 9, 9];
 
 #[test]
 fn sees_nine_cells_far(rt: HostRuntime) -> Result<(), Fail> {
-    let road = road_of(rt.alloc(), &FAR)?;
+    let road = road_of(rt.alloc(), FAR)?;
     for (place, gap) in GAPS.iter().enumerate() {
         sees(&rt, &road, place, &(&[], *gap));
     }

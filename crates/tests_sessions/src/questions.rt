@@ -43,7 +43,7 @@ pub(crate) struct Run {
 }
 
 /// The rows of the free road, of which the last two go on by turns.
-const FREE_ROWS: [&str; 6] = [
+const FREE_ROWS: &[&str] = &[
     "............",
     ".1..........",
     "0..2........",
@@ -53,7 +53,7 @@ const FREE_ROWS: [&str; 6] = [
 ];
 
 /// The rows after an even step from which on the limit is 1. The last two go on by turns.
-const SLOW_ROWS: [&str; 11] = [
+const SLOW_ROWS: &[&str] = &[
     "0..2...2....",
     ".1..1...1...",
     "0.1..1...1..",
@@ -85,12 +85,9 @@ fn by_turns<'a>(rows: &[&'a str], number: usize) -> &'a str {
 // The row of a run at a step.
 fn row_of_run(run: Run, step: u32) -> &'static str {
     if step <= run.slow_from {
-        by_turns(FREE_ROWS.as_slice(), step as usize)
+        by_turns(FREE_ROWS, step as usize)
     } else {
-        by_turns(
-            SLOW_ROWS.as_slice(),
-            step.saturating_sub(run.slow_from) as usize,
-        )
+        by_turns(SLOW_ROWS, step.saturating_sub(run.slow_from) as usize)
     }
 }
 

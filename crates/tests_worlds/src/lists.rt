@@ -190,7 +190,7 @@ const BLOCKED: Edit = Edit {
 };
 
 /// What the second replica holds when it asks.
-const HEADS: [Head; 2] = [
+const HEADS: &[Head] = &[
     Head {
         object: LIMIT,
         step: 3,
@@ -215,7 +215,7 @@ fn asks(rt: &impl Abort, world: &World, number: u64, heads: &[Head]) {
 fn a_replica_is_sent_what_it_lacks(rt: HostRuntime) -> Result<(), Fail> {
     let played = played(rt.alloc(), &ASKED)?;
     answers(&rt, &played, &ASKED_ANSWERED);
-    asks(&rt, &played.world, 1, &HEADS);
+    asks(&rt, &played.world, 1, HEADS);
     all_hold(
         &rt,
         rt.alloc(),

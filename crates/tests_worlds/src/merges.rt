@@ -18,7 +18,7 @@ const ORDERS: [[u64; 6]; 6] = [
 ];
 
 /// What they agree on: of the two edits of the limit, with one count, that of the greater number.
-const AGREED: [Edit; 2] = [
+const AGREED: &[Edit] = &[
     Edit {
         object: LIMIT,
         step: 3,
@@ -34,7 +34,7 @@ const AGREED: [Edit; 2] = [
 ];
 
 /// No car moves from step 3 on.
-const ROWS: [(u32, &str); 3] = [
+const ROWS: &[(u32, &str)] = &[
     (3, ".1...2......"),
     (4, "00...0..#..."),
     (6, "00...0..#..."),
@@ -80,8 +80,8 @@ fn exchanged(alloc: Global, first: usize) -> Result<Vec<Event>, Fail> {
 // That all replicas of a world hold the same edits and show the same rows.
 fn agree(rt: &impl Abort, alloc: Global, world: &World) -> Result<(), Fail> {
     for number in 0..3 {
-        holds(rt, alloc, world, number, &AGREED)?;
-        shows(rt, alloc, world, number, &ROWS)?;
+        holds(rt, alloc, world, number, AGREED)?;
+        shows(rt, alloc, world, number, ROWS)?;
     }
     Ok(())
 }
