@@ -10,7 +10,7 @@ ghost use Rattle.road_format.specs.Private.UncheckedViews.{formed_view};
 ghost use Rattle.road_format.specs.declared.faults.LineFault.TheVariants as line_faults;
 
 use crate::command::Command;
-use crate::exchange::{beyond_in, import_in, only_name};
+use crate::exchange::{beyond_in, heads_in, import_in, send_in, take_in};
 use crate::faults::LineFault;
 use crate::fields::{long_number_at, name_at, only_field};
 use crate::local::local_of_name;
@@ -93,13 +93,10 @@ fn command_of_name(
 {
     match name {
         "import" => import_in(alloc, at, fields),
-        "send" => Ok(only_name(alloc, "name", fields)?.map(|name| Command::Send { at, name })),
-        "heads" => Ok(only_name(alloc, "name", fields)?.map(|name| Command::Heads { at, name })),
+        "send" => send_in(alloc, at, fields),
+        "heads" => heads_in(alloc, at, fields),
         "beyond" => beyond_in(alloc, at, fields),
-        "take" => Ok(only_name(alloc, "message", fields)?.map(|message| Command::Take {
-            at,
-            message,
-        })),
+        "take" => take_in(alloc, at, fields),
         _ => Ok(local_of_name(name, at, fields)),
     }
 }
