@@ -4,7 +4,8 @@ ghost use Rattle.std.specs.Prelude.{◌≡◌, ◌<◌, length, IfOk, IfErr, OnE
 ghost use Rattle.serde_json.specs.View.{view};
 ghost use Rattle.road_format.specs.CommandGrammar as grammar;
 ghost use Rattle.road_format.specs.Fields as fields;
-ghost use Rattle.road_format.specs.Refusals.{line_refusal};
+ghost use Rattle.road_format.specs.Refusals.{line_refusal, result_or_refusal};
+ghost use Rattle.road_format.specs.declared.refusal.Refusal.TheVariants.{NotACommand};
 ghost use Rattle.road_format.specs.Views.{Gives, command_view};
 ghost use Rattle.road_format.specs.Private.UncheckedViews.{formed_view};
 ghost use Rattle.road_format.specs.declared.faults.LineFault.TheVariants as line_faults;
@@ -41,7 +42,15 @@ pub fn read_command(alloc: Global, line: &[u8]) -> Result<Command, LineFault>
     let Some(value) = value_in(alloc, line)? else {
         return Err(LineFault::NotJson);
     };
-    match command_in(alloc, &value)? {
+    command_of_value(alloc, &value)
+}
+
+// The command that a value is, if its form is known.
+fn command_of_value(alloc: Global, value: &Value) -> Result<Command, LineFault>
+    ensures { Gives command_view line_refusal result
+        (result_or_refusal NotACommand (grammar.command_in (view value.now)) grammar.command_of_form) }
+{
+    match command_in(alloc, value)? {
         Some((1, command)) => Ok(command),
         Some(_) => Err(LineFault::UnknownForm),
         None => Err(LineFault::NotACommand),

@@ -1,6 +1,6 @@
 //! Commands that take edits from outside, and those that make messages and take them.
 
-ghost use Rattle.std.specs.Prelude.{◌≡◌, codes, IfOk, option_map, string_bytes};
+ghost use Rattle.std.specs.Prelude.{◌≡◌, ℕ, List, codes, IfOk, option_map, string_bytes};
 ghost use Rattle.serde_json.specs.View.{view};
 ghost use Rattle.road_format.specs.CommandGrammar as grammar;
 ghost use Rattle.road_format.specs.Fields as spec_fields;
@@ -63,7 +63,6 @@ pub(crate) fn heads_in(
 }
 
 // The `beyond` at a replica, of exactly its fields.
-#[tactic(auto, unfolding(crate::specs::CommandGrammar::beyond_in))]
 pub(crate) fn beyond_in(
     alloc: Global,
     at: String,
@@ -71,6 +70,19 @@ pub(crate) fn beyond_in(
 ) -> Result<Option<Command>, OutOfMemory>
     ensures { IfOk result (λ command. option_map command_view command
         ≡ grammar.beyond_in (string_bytes at) (view fields.now)) }
+{
+    match heads_and_name(alloc, fields)? {
+        Some((heads, name)) => Ok(Some(Command::Beyond { at, heads, name })),
+        None => Ok(None),
+    }
+}
+
+// The names at `heads` and `name`, of an object that has exactly these fields and `at`.
+#[tactic(auto, unfolding(crate::specs::CommandGrammar::beyond_in))]
+fn heads_and_name(alloc: Global, fields: &Value) -> Result<Option<(String, String)>, OutOfMemory>
+    ensures { IfOk result (λ found. (at : List ℕ)
+        → option_map (λ names. grammar.Beyond at (string_bytes names.0) (string_bytes names.1)) found
+        ≡ grammar.beyond_in at (view fields.now)) }
 {
     if !has_fields(3, fields) {
         return Ok(None);
@@ -81,7 +93,7 @@ pub(crate) fn beyond_in(
     let Some(name) = owned_name_at(alloc, "name", fields)? else {
         return Ok(None);
     };
-    Ok(Some(Command::Beyond { at, heads, name }))
+    Ok(Some((heads, name)))
 }
 
 // The `take` at a replica, of exactly its fields.

@@ -1,9 +1,18 @@
 //! What is written for an answer.
 
-ghost use Rattle.std.specs.Prelude.{◌≡◌, IfOk, string_bytes, map};
-ghost use Rattle.serde_json.specs.View.{view};
+ghost use Rattle.std.specs.Prelude.{◌≡◌, IfOk, codes, string_bytes, map};
+ghost use Rattle.serde_json.specs.Data.{string, member, no_members, put as with_member};
+ghost use Rattle.serde_json.specs.View.{view, members_view};
 ghost use Rattle.road_format.specs.Replies as replies;
-ghost use Rattle.road_format.specs.Replies.{field_data, step_data, data_of, reply};
+ghost use Rattle.road_format.specs.Replies.{
+  number_data,
+  list_data,
+  field_data,
+  edit_data,
+  step_data,
+  data_of,
+  reply,
+};
 ghost use Rattle.road_format.specs.Views.{texts, car_view, answer_view};
 
 use crate::answer::Answer;
@@ -13,7 +22,7 @@ use road_cells::Car;
 use road_delta::Head;
 use road_plan::OutOfMemory;
 use road_scenario::{Edit, Stamp};
-use serde_json::{Value, json};
+use serde_json::{Map, Value, put};
 use std::alloc::Global;
 
 /// The line that is written for an answer, its newline too: one compact JSON object, whose fields stand in the order of
@@ -51,11 +60,40 @@ fn answer_value(alloc: Global, answer: &Answer) -> Result<Value, OutOfMemory>
     }
 }
 
+// These fields of an object, and one more.
+fn with_field(
+    alloc: Global,
+    mut fields: Map<String, Value>,
+    name: &str,
+    value: Value,
+) -> Result<Map<String, Value>, OutOfMemory>
+    ensures { IfOk result (λ all. members_view all.entries
+        ≡ with_member name.now (view value) (members_view fields.entries)) }
+{
+    put(&mut fields, alloc, name, value)?;
+    Ok(fields)
+}
+
+// These fields of an object, and one more that is a text.
+fn with_text(
+    alloc: Global,
+    fields: Map<String, Value>,
+    name: &str,
+    text: &str,
+) -> Result<Map<String, Value>, OutOfMemory>
+    ensures { IfOk result (λ all. members_view all.entries
+        ≡ with_member name.now (string text.now) (members_view fields.entries)) }
+{
+    let text = Value::try_from_str(alloc, text)?;
+    with_field(alloc, fields, name, text)
+}
+
 // The object of one field.
 fn field_value(alloc: Global, name: &str, value: Value) -> Result<Value, OutOfMemory>
     ensures { IfOk result (λ made. view made ≡ field_data name.now (view value)) }
 {
-    json!(in alloc; {name: value})
+    let fields = with_field(alloc, Map::new(alloc), name, value)?;
+    Ok(Value::Object(fields))
 }
 
 // That the plan is open, with so many replicas.
@@ -100,7 +138,9 @@ fn cars_value(alloc: Global, cars: &[Car]) -> Result<Value, OutOfMemory>
 fn counted_value(alloc: Global, cars: u32, speeds: u32) -> Result<Value, OutOfMemory>
     ensures { IfOk result (λ value. view value ≡ data_of (replies.Counted cars speeds)) }
 {
-    json!(in alloc; {"cars": cars, "speeds": speeds})
+    let fields = with_field(alloc, Map::new(alloc), "cars", Value::from(cars))?;
+    let fields = with_field(alloc, fields, "speeds", Value::from(speeds))?;
+    Ok(Value::Object(fields))
 }
 
 // Rows of cells.
@@ -123,8 +163,18 @@ fn stamped_value(alloc: Global, stamp: Stamp) -> Result<Value, OutOfMemory>
 fn edits_value(alloc: Global, edits: &[Edit]) -> Result<Value, OutOfMemory>
     ensures { IfOk result (λ value. view value ≡ data_of (replies.Edits edits.now)) }
 {
+    let fields = edits_fields(alloc, edits)?;
+    Ok(Value::Object(fields))
+}
+
+// The fields of edits: the list of them, and its form.
+fn edits_fields(alloc: Global, edits: &[Edit]) -> Result<Map<String, Value>, OutOfMemory>
+    ensures { IfOk result (λ fields. members_view fields.entries
+        ≡ member (codes "edits") (list_data (map edit_data edits.now)) (member (codes "form") (number_data 1) no_members)) }
+{
     let edits = list_value(alloc, edits)?;
-    json!(in alloc; {"edits": edits, "form": 1u32})
+    let fields = with_field(alloc, Map::new(alloc), "edits", edits)?;
+    with_field(alloc, fields, "form", Value::from(1u32))
 }
 
 // The first step at which a number put is another than before.
@@ -138,7 +188,9 @@ fn touched_value(alloc: Global, step: Option<u32>) -> Result<Value, OutOfMemory>
 fn sent_value(alloc: Global, message: &str, size: u64) -> Result<Value, OutOfMemory>
     ensures { IfOk result (λ value. view value ≡ data_of (replies.Sent message.now size)) }
 {
-    json!(in alloc; {"message": message, "size": size})
+    let fields = with_text(alloc, Map::new(alloc), "message", message)?;
+    let fields = with_field(alloc, fields, "size", Value::from(size))?;
+    Ok(Value::Object(fields))
 }
 
 // A message of heads.
@@ -146,15 +198,19 @@ fn heads_value(alloc: Global, message: &str, heads: &[Head]) -> Result<Value, Ou
     ensures { IfOk result (λ value. view value ≡ data_of (replies.Heads message.now heads.now)) }
 {
     let heads = list_value(alloc, heads)?;
-    json!(in alloc; {"form": 1u32, "heads": heads, "message": message})
+    let fields = with_field(alloc, Map::new(alloc), "form", Value::from(1u32))?;
+    let fields = with_field(alloc, fields, "heads", heads)?;
+    let fields = with_text(alloc, fields, "message", message)?;
+    Ok(Value::Object(fields))
 }
 
 // A message of the edits that are beyond heads.
 fn delta_value(alloc: Global, message: &str, edits: &[Edit]) -> Result<Value, OutOfMemory>
     ensures { IfOk result (λ value. view value ≡ data_of (replies.Delta message.now edits.now)) }
 {
-    let edits = list_value(alloc, edits)?;
-    json!(in alloc; {"edits": edits, "form": 1u32, "message": message})
+    let fields = edits_fields(alloc, edits)?;
+    let fields = with_text(alloc, fields, "message", message)?;
+    Ok(Value::Object(fields))
 }
 
 // The JSON value of a step, or null where there is none.
