@@ -1,10 +1,11 @@
 -- Members and items of JSON values.
-use Rattle.std.proofs.Common.{◌≡◌, ◌≢◌, string_bytes, slice_get, suc, List, [], ◌∷◌, ◌++◌, length, map, refl, ap, arith, Option, Some, None, String}
+use Rattle.std.proofs.Common.{◌≡◌, ◌≢◌, ◌<◌, ◌+◌, ◌∙◌, ℕ, string_bytes, slice_get, get_or, drop, drop-cons, add-one, append_assoc, sym, suc, List, [], ◌∷◌, ◌++◌, length, map, refl, ap, arith, Option, Some, None, String}
 use Rattle.std.specs.declared.alloc.Global.{Global}
+use Rattle.std.proofs.lemmas.List.{map-append}
 use Rattle.serde_json.specs.Data.{Data}
 use Rattle.serde_json.specs.View.{members_of, members_view, items_view, view}
 use Rattle.serde_json.specs.declared.value.Value.{Value}
-use Rattle.road_format.specs.Fields.{member_count, only_member, item_count, two_items}
+use Rattle.road_format.specs.Fields.{◌>>=◌, member_count, only_member, item_count, values_of_items, two_items}
 
 -- an object has as many members as the map has entries
 pub member_count-members_of : {V : Type 0} (f : V → Data) (ms : List (String Global × V)) → member_count (members_of (map (λ m. (m.0, f m.1)) ms)) ≡ length ms
@@ -21,6 +22,29 @@ item_count-items_view (v ∷ vs) = ap suc (item_count-items_view vs)
 abbrev pub with_front : {A : Type 0} → List A → Option (List A) → Option (List A)
 with_front front None = None
 with_front front (Some xs) = Some (front ++ xs)
+
+-- what is read behind what was found
+with_front-behind : {A : Type 0} (found : List A) (x : A) (later : Option (List A)) → with_front (found ++ x ∷ []) later ≡ with_front found (later >>= λ xs. Some (x ∷ xs))
+with_front-behind found x None = refl
+with_front-behind found x (Some xs) = ap Some (append_assoc found (x ∷ []) xs)
+
+drop_at : {A : Type 0} (xs : List A) (i : ℕ) (x : A) → i < length xs → x ≡ get_or xs i x → drop i xs ≡ x ∷ drop (i + 1) xs
+drop_at {A = A} xs i x inside is = rw add-one (drop-cons xs i x inside ∙ ap (λ (y : A). y ∷ drop (suc i) xs) (sym is))
+
+-- the next item is read as the next of what is found
+pub next_is_read : {A : Type 0} (read : Data → Option A) (vs : List Value) (i : ℕ) (found : List A) (v : Value) (x : A)
+    → i < length vs → v ≡ get_or vs i v → Some x ≡ read (view v)
+    → with_front (found ++ x ∷ []) (values_of_items read (items_view (drop (i + 1) vs))) ≡ with_front found (values_of_items read (items_view (drop i vs)))
+next_is_read read vs i found v x inside is reads =
+    rw (drop_at vs i v inside is) (rw (sym reads) (with_front-behind found x (values_of_items read (items_view (drop (i + 1) vs)))))
+
+-- the next item is written behind those before it
+pub next_is_written : {A : Type 0} (data_of : A → Data) (xs : List A) (i : ℕ) (values : List Value) (x : A) (v : Value)
+    → i < length xs → x ≡ get_or xs i x → view v ≡ data_of x
+    → map view (values ++ v ∷ []) ++ map data_of (drop (i + 1) xs) ≡ map view values ++ map data_of (drop i xs)
+next_is_written data_of xs i values x v inside is written =
+    rw (drop_at xs i x inside is) (rw (map-append view values (v ∷ [])) (append_assoc (map view values) (view v ∷ []) (map data_of (drop (i + 1) xs))
+    ∙ ap (λ (d : Data). map view values ++ d ∷ map data_of (drop (i + 1) xs)) written))
 
 pub two_items-other : (vs : List Value) → length vs ≢ 2 → two_items (items_view vs) ≡ None
 two_items-other [] other = refl

@@ -4,13 +4,14 @@ ghost use Rattle.std.specs.Prelude.{◌≡◌, ◌<◌, length, IfOk, IfErr, OnE
 ghost use Rattle.serde_json.specs.View.{view};
 ghost use Rattle.road_format.specs.CommandGrammar as grammar;
 ghost use Rattle.road_format.specs.Fields as fields;
-ghost use Rattle.road_format.specs.Refusals.{line_refusal};
+ghost use Rattle.road_format.specs.Refusals.{line_refusal, result_or_refusal};
+ghost use Rattle.road_format.specs.declared.refusal.Refusal.TheVariants.{NotACommand};
 ghost use Rattle.road_format.specs.Views.{Gives, command_view};
 ghost use Rattle.road_format.specs.Private.UncheckedViews.{formed_view};
 ghost use Rattle.road_format.specs.declared.faults.LineFault.TheVariants as line_faults;
 
 use crate::command::Command;
-use crate::exchange::{beyond_in, import_in, only_name};
+use crate::exchange::{beyond_in, heads_in, import_in, send_in, take_in};
 use crate::faults::LineFault;
 use crate::fields::{long_number_at, name_at, only_field};
 use crate::local::local_of_name;
@@ -41,7 +42,15 @@ pub fn read_command(alloc: Global, line: &[u8]) -> Result<Command, LineFault>
     let Some(value) = value_in(alloc, line)? else {
         return Err(LineFault::NotJson);
     };
-    match command_in(alloc, &value)? {
+    command_of_value(alloc, &value)
+}
+
+// The command that a value is, if its form is known.
+fn command_of_value(alloc: Global, value: &Value) -> Result<Command, LineFault>
+    ensures { Gives command_view line_refusal result
+        (result_or_refusal NotACommand (grammar.command_in (view value.now)) grammar.command_of_form) }
+{
+    match command_in(alloc, value)? {
         Some((1, command)) => Ok(command),
         Some(_) => Err(LineFault::UnknownForm),
         None => Err(LineFault::NotACommand),
@@ -93,13 +102,10 @@ fn command_of_name(
 {
     match name {
         "import" => import_in(alloc, at, fields),
-        "send" => Ok(only_name(alloc, "name", fields)?.map(|name| Command::Send { at, name })),
-        "heads" => Ok(only_name(alloc, "name", fields)?.map(|name| Command::Heads { at, name })),
+        "send" => send_in(alloc, at, fields),
+        "heads" => heads_in(alloc, at, fields),
         "beyond" => beyond_in(alloc, at, fields),
-        "take" => Ok(only_name(alloc, "message", fields)?.map(|message| Command::Take {
-            at,
-            message,
-        })),
+        "take" => take_in(alloc, at, fields),
         _ => Ok(local_of_name(name, at, fields)),
     }
 }

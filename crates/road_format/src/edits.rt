@@ -1,47 +1,21 @@
-//! Lists of edits in a line. They are read where they stand: no value is copied.
+//! Edits in a line. They are read where they stand: no value is copied.
 
-ghost use Rattle.std.specs.Prelude.{◌≡◌, ◌<◌, length, IfOk, OnErr, option_map};
-ghost use Rattle.serde_json.specs.View.{items_view, view};
+ghost use Rattle.std.specs.Prelude.{◌≡◌};
+ghost use Rattle.serde_json.specs.View.{view};
 ghost use Rattle.road_format.specs.EditGrammar as grammar;
-ghost use Rattle.road_format.specs.Fields as fields;
 
 use crate::fields::{has_items, long_number_in, number_in, short_number_in};
-use crate::lists::items_at;
+use crate::lists::Listed;
 use crate::object::object_in_front;
-use road_plan::OutOfMemory;
 use road_scenario::{Edit, Stamp, Value as Put};
 use serde_json::Value;
-use std::alloc::Global;
 
-// The edits of the list of edits at this field.
-pub(crate) fn edits_at(
-    alloc: Global,
-    field: &str,
-    value: &Value,
-) -> Result<Option<Vec<Edit>>, OutOfMemory>
-    ensures { IfOk result (λ found. option_map (λ found. found.items) found
-        ≡ fields.list_at grammar.edit_in field.now (view value.now)) }
-{
-    match items_at(field, value) {
-        Some(items) => edits_in(alloc, items),
-        None => Ok(None),
-    }
-}
+impl Listed for Edit {
+    ghost read = { grammar.edit_in };
 
-// The edits of a list of edits.
-fn edits_in(alloc: Global, items: &[Value]) -> Result<Option<Vec<Edit>>, OutOfMemory>
-    ensures edits { IfOk result (λ found. option_map (λ found. found.items) found
-        ≡ fields.values_of_items grammar.edit_in (items_view items.now)) }
-    ensures memory { OnErr result (0 < length items.now) }
-{
-    let mut found = Vec::new(alloc);
-    for item in items {
-        let Some(edit) = edit_in(item) else {
-            return Ok(None);
-        };
-        found.push(edit)?;
+    fn of_item(item: &Value) -> Option<Edit> {
+        edit_in(item)
     }
-    Ok(Some(found))
 }
 
 // The edit that a list of just six items is: kind, index, step, count, number, value.
@@ -53,9 +27,9 @@ fn edit_in(value: &Value) -> Option<Edit>
         return None;
     }
     let object = object_in_front(value)?;
-    let step = number_in(value.get(2)?)?;
+    let step = value.get(2).and_then(number_in)?;
     let stamp = stamp_in(value)?;
-    let value = put_in(value.get(5)?)?;
+    let value = value.get(5).and_then(put_in)?;
     Some(Edit {
         object,
         step,
@@ -69,8 +43,8 @@ fn edit_in(value: &Value) -> Option<Edit>
 fn stamp_in(value: &Value) -> Option<Stamp>
     ensures { result ≡ grammar.stamp_in (view value.now) }
 {
-    let count = long_number_in(value.get(3)?)?;
-    let number = short_number_in(value.get(4)?)?;
+    let count = value.get(3).and_then(long_number_in)?;
+    let number = value.get(4).and_then(short_number_in)?;
     Some(Stamp { count, number })
 }
 

@@ -1,14 +1,14 @@
 //! Commands that take edits from outside, and those that make messages and take them.
 
-ghost use Rattle.std.specs.Prelude.{◌≡◌, IfOk, option_map, string_bytes};
+ghost use Rattle.std.specs.Prelude.{◌≡◌, ℕ, List, codes, IfOk, option_map, string_bytes};
 ghost use Rattle.serde_json.specs.View.{view};
 ghost use Rattle.road_format.specs.CommandGrammar as grammar;
 ghost use Rattle.road_format.specs.Fields as spec_fields;
 ghost use Rattle.road_format.specs.Views.{command_view};
 
 use crate::command::Command;
-use crate::edits::edits_at;
 use crate::fields::{has_fields, name_at};
+use crate::lists::list_at;
 use road_plan::OutOfMemory;
 use serde_json::Value;
 use std::alloc::Global;
@@ -26,14 +26,43 @@ pub(crate) fn import_in(
     if !has_fields(3, fields) {
         return Ok(None);
     }
-    let Some(edits) = edits_at(alloc, "edits", fields)? else {
+    let Some(edits) = list_at(alloc, "edits", fields)? else {
         return Ok(None);
     };
     Ok(Some(Command::Import { at, edits }))
 }
 
+// The `send` at a replica, of exactly its fields.
+pub(crate) fn send_in(
+    alloc: Global,
+    at: String,
+    fields: &Value,
+) -> Result<Option<Command>, OutOfMemory>
+    ensures { IfOk result (λ command. option_map command_view command
+        ≡ option_map (grammar.Send (string_bytes at)) (grammar.only_name (codes "name") (view fields.now))) }
+{
+    match only_name(alloc, "name", fields)? {
+        Some(name) => Ok(Some(Command::Send { at, name })),
+        None => Ok(None),
+    }
+}
+
+// The `heads` at a replica, of exactly its fields.
+pub(crate) fn heads_in(
+    alloc: Global,
+    at: String,
+    fields: &Value,
+) -> Result<Option<Command>, OutOfMemory>
+    ensures { IfOk result (λ command. option_map command_view command
+        ≡ option_map (grammar.Heads (string_bytes at)) (grammar.only_name (codes "name") (view fields.now))) }
+{
+    match only_name(alloc, "name", fields)? {
+        Some(name) => Ok(Some(Command::Heads { at, name })),
+        None => Ok(None),
+    }
+}
+
 // The `beyond` at a replica, of exactly its fields.
-#[tactic(auto, unfolding(crate::specs::CommandGrammar::beyond_in))]
 pub(crate) fn beyond_in(
     alloc: Global,
     at: String,
@@ -41,6 +70,19 @@ pub(crate) fn beyond_in(
 ) -> Result<Option<Command>, OutOfMemory>
     ensures { IfOk result (λ command. option_map command_view command
         ≡ grammar.beyond_in (string_bytes at) (view fields.now)) }
+{
+    match heads_and_name(alloc, fields)? {
+        Some((heads, name)) => Ok(Some(Command::Beyond { at, heads, name })),
+        None => Ok(None),
+    }
+}
+
+// The names at `heads` and `name`, of an object that has exactly these fields and `at`.
+#[tactic(auto, unfolding(crate::specs::CommandGrammar::beyond_in))]
+fn heads_and_name(alloc: Global, fields: &Value) -> Result<Option<(String, String)>, OutOfMemory>
+    ensures { IfOk result (λ found. (at : List ℕ)
+        → option_map (λ names. grammar.Beyond at (string_bytes names.0) (string_bytes names.1)) found
+        ≡ grammar.beyond_in at (view fields.now)) }
 {
     if !has_fields(3, fields) {
         return Ok(None);
@@ -51,15 +93,26 @@ pub(crate) fn beyond_in(
     let Some(name) = owned_name_at(alloc, "name", fields)? else {
         return Ok(None);
     };
-    Ok(Some(Command::Beyond { at, heads, name }))
+    Ok(Some((heads, name)))
+}
+
+// The `take` at a replica, of exactly its fields.
+pub(crate) fn take_in(
+    alloc: Global,
+    at: String,
+    fields: &Value,
+) -> Result<Option<Command>, OutOfMemory>
+    ensures { IfOk result (λ command. option_map command_view command
+        ≡ option_map (grammar.Take (string_bytes at)) (grammar.only_name (codes "message") (view fields.now))) }
+{
+    match only_name(alloc, "message", fields)? {
+        Some(message) => Ok(Some(Command::Take { at, message })),
+        None => Ok(None),
+    }
 }
 
 // The name at this field, of an object that has exactly this field and `at`.
-pub(crate) fn only_name(
-    alloc: Global,
-    field: &str,
-    fields: &Value,
-) -> Result<Option<String>, OutOfMemory>
+fn only_name(alloc: Global, field: &str, fields: &Value) -> Result<Option<String>, OutOfMemory>
     ensures { IfOk result (λ name. option_map string_bytes name ≡ grammar.only_name field.now (view fields.now)) }
 {
     if !has_fields(2, fields) {

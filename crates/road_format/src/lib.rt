@@ -30,6 +30,7 @@ mod plan_line;
 mod reading;
 mod refusal;
 mod reply;
+mod written;
 
 pub use answer::Answer;
 pub use command::Command;

@@ -1,6 +1,7 @@
 //! The lists of a line. A list that is refused, and one without items, takes no memory.
 
-ghost use Rattle.std.specs.Prelude.{◌≡◌, ◌<◌, length, IfOk, OnErr, option_map};
+ghost use Rattle.std.specs.Prelude.{◌≡◌, ◌<◌, length, Option, IfOk, OnErr, option_map};
+ghost use Rattle.serde_json.specs.Data.{Data};
 ghost use Rattle.serde_json.specs.View.{items_view, view};
 ghost use Rattle.serde_json.specs.Find.{as_str};
 ghost use Rattle.road_format.specs.Fields as fields;
@@ -10,6 +11,35 @@ use crate::fields::number_in;
 use road_plan::OutOfMemory;
 use serde_json::Value;
 use std::alloc::Global;
+
+// What the items of a list are read as.
+pub(crate) trait Listed: Drop {
+    // What a value is read as.
+    ghost read: { Data → Option Self };
+
+    // What an item is read as.
+    fn of_item(item: &Value) -> Option<Self>
+        ensures { result ≡ read (view item.now) };
+}
+
+impl Listed for u32 {
+    ghost read = { fields.number_in };
+
+    fn of_item(item: &Value) -> Option<u32> {
+        number_in(item)
+    }
+}
+
+// The two numbers of a list of just two.
+impl Listed for (u32, u32) {
+    ghost read = { fields.pair_in };
+
+    fn of_item(item: &Value) -> Option<(u32, u32)> {
+        let items = item.as_array()?;
+        let (first, second) = two_items(items.as_slice())?;
+        Some((number_in(first)?, number_in(second)?))
+    }
+}
 
 // The items of the list at this field.
 pub(crate) fn items_at<'a>(field: &str, value: &'a Value) -> Option<&'a [Value]>
@@ -36,32 +66,17 @@ pub(crate) fn texts_at(
     }
 }
 
-// The numbers of the list of numbers at this field.
-pub(crate) fn numbers_at(
+// What the items of the list at this field are read as.
+pub(crate) fn list_at<T: Listed>(
     alloc: Global,
     field: &str,
     value: &Value,
-) -> Result<Option<Vec<u32>>, OutOfMemory>
+) -> Result<Option<Vec<T>>, OutOfMemory>
     ensures { IfOk result (λ found. option_map (λ found. found.items) found
-        ≡ fields.list_at fields.number_in field.now (view value.now)) }
+        ≡ fields.list_at T.read field.now (view value.now)) }
 {
     match items_at(field, value) {
-        Some(items) => numbers_in(alloc, items),
-        None => Ok(None),
-    }
-}
-
-// The pairs of the list of pairs of numbers at this field.
-pub(crate) fn pairs_at(
-    alloc: Global,
-    field: &str,
-    value: &Value,
-) -> Result<Option<Vec<(u32, u32)>>, OutOfMemory>
-    ensures { IfOk result (λ found. option_map (λ found. found.items) found
-        ≡ fields.list_at fields.pair_in field.now (view value.now)) }
-{
-    match items_at(field, value) {
-        Some(items) => pairs_in(alloc, items),
+        Some(items) => list_in(alloc, items),
         None => Ok(None),
     }
 }
@@ -82,45 +97,20 @@ fn texts_in(alloc: Global, items: &[Value]) -> Result<Option<Vec<String>>, OutOf
     Ok(Some(found))
 }
 
-// The numbers of a list of numbers.
-fn numbers_in(alloc: Global, items: &[Value]) -> Result<Option<Vec<u32>>, OutOfMemory>
-    ensures numbers { IfOk result (λ found. option_map (λ found. found.items) found
-        ≡ fields.values_of_items fields.number_in (items_view items.now)) }
+// What the items of a list are read as.
+fn list_in<T: Listed>(alloc: Global, items: &[Value]) -> Result<Option<Vec<T>>, OutOfMemory>
+    ensures items { IfOk result (λ found. option_map (λ found. found.items) found
+        ≡ fields.values_of_items T.read (items_view items.now)) }
     ensures memory { OnErr result (0 < length items.now) }
 {
     let mut found = Vec::new(alloc);
     for item in items {
-        let Some(number) = number_in(item) else {
+        let Some(read) = T::of_item(item) else {
             return Ok(None);
         };
-        found.push(number)?;
+        found.push(read)?;
     }
     Ok(Some(found))
-}
-
-// The pairs of a list of pairs of numbers.
-fn pairs_in(alloc: Global, items: &[Value]) -> Result<Option<Vec<(u32, u32)>>, OutOfMemory>
-    ensures pairs { IfOk result (λ found. option_map (λ found. found.items) found
-        ≡ fields.values_of_items fields.pair_in (items_view items.now)) }
-    ensures memory { OnErr result (0 < length items.now) }
-{
-    let mut found = Vec::new(alloc);
-    for item in items {
-        let Some(pair) = pair_in(item) else {
-            return Ok(None);
-        };
-        found.push(pair)?;
-    }
-    Ok(Some(found))
-}
-
-// The two numbers of a list of just two.
-fn pair_in(value: &Value) -> Option<(u32, u32)>
-    ensures { result ≡ fields.pair_in (view value.now) }
-{
-    let items = value.as_array()?;
-    let (first, second) = two_items(items.as_slice())?;
-    Some((number_in(first)?, number_in(second)?))
 }
 
 // The two items of just two.

@@ -1,6 +1,6 @@
 //! Commands that tell or ask one replica.
 
-ghost use Rattle.std.specs.Prelude.{◌≡◌, option_map, string_bytes};
+ghost use Rattle.std.specs.Prelude.{◌≡◌, codes, option_map, string_bytes};
 ghost use Rattle.serde_json.specs.View.{view};
 ghost use Rattle.road_format.specs.CommandGrammar as grammar;
 ghost use Rattle.road_format.specs.Views.{command_view};
@@ -18,18 +18,9 @@ pub(crate) fn local_of_name(name: &str, at: String, fields: &Value) -> Option<Co
     match name {
         "edit" => edit_command_in(at, fields),
         "withdraw" => withdraw_in(at, fields),
-        "advance" => Some(Command::Advance {
-            at,
-            to: only_number("to", fields)?,
-        }),
-        "cells" => Some(Command::Cells {
-            at,
-            step: only_number("step", fields)?,
-        }),
-        "cars" => Some(Command::Cars {
-            at,
-            step: only_number("step", fields)?,
-        }),
+        "advance" => advance_in(at, fields),
+        "cells" => cells_in(at, fields),
+        "cars" => cars_in(at, fields),
         "count" => count_in(at, fields),
         "diagram" => diagram_in(at, fields),
         "scenario" => scenario_in(at, fields),
@@ -77,6 +68,33 @@ fn withdraw_in(at: String, fields: &Value) -> Option<Command>
     let object = object_at("object", fields)?;
     let step = number_at("step", fields)?;
     Some(Command::Withdraw { at, object, step })
+}
+
+// The `advance` at a replica, of exactly its fields.
+fn advance_in(at: String, fields: &Value) -> Option<Command>
+    ensures { option_map command_view result
+        ≡ option_map (grammar.Advance (string_bytes at)) (grammar.only_number (codes "to") (view fields.now)) }
+{
+    let to = only_number("to", fields)?;
+    Some(Command::Advance { at, to })
+}
+
+// The `cells` at a replica, of exactly its fields.
+fn cells_in(at: String, fields: &Value) -> Option<Command>
+    ensures { option_map command_view result
+        ≡ option_map (grammar.Cells (string_bytes at)) (grammar.only_number (codes "step") (view fields.now)) }
+{
+    let step = only_number("step", fields)?;
+    Some(Command::Cells { at, step })
+}
+
+// The `cars` at a replica, of exactly its fields.
+fn cars_in(at: String, fields: &Value) -> Option<Command>
+    ensures { option_map command_view result
+        ≡ option_map (grammar.Cars (string_bytes at)) (grammar.only_number (codes "step") (view fields.now)) }
+{
+    let step = only_number("step", fields)?;
+    Some(Command::Cars { at, step })
 }
 
 // The steps at `from` and `to`.

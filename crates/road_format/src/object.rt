@@ -13,7 +13,7 @@ use serde_json::Value;
 pub(crate) fn object_at(field: &str, value: &Value) -> Option<Object>
     ensures { result ≡ objects.object_at field.now (view value.now) }
 {
-    let (kind, index) = two_items(items_at(field, value)?)?;
+    let (kind, index) = items_at(field, value).and_then(two_items)?;
     object_of(kind.as_str()?, number_in(index)?)
 }
 
@@ -21,8 +21,8 @@ pub(crate) fn object_at(field: &str, value: &Value) -> Option<Object>
 pub(crate) fn object_in_front(value: &Value) -> Option<Object>
     ensures { result ≡ objects.object_in_front (view value.now) }
 {
-    let kind = value.get(0)?.as_str()?;
-    let index = number_in(value.get(1)?)?;
+    let kind = value.get(0).and_then(Value::as_str)?;
+    let index = value.get(1).and_then(number_in)?;
     object_of(kind, index)
 }
 

@@ -15,7 +15,7 @@ ghost use Rattle.road_format.specs.declared.faults.PlanLineFault.TheVariants as 
 
 use crate::faults::PlanLineFault;
 use crate::fields::{has_fields, number_at};
-use crate::lists::{numbers_at, pairs_at, texts_at};
+use crate::lists::{list_at, texts_at};
 use crate::names::are_names;
 use crate::reading::value_in;
 use road_plan::{OutOfMemory, Plan, PlanParts, WordKind};
@@ -132,13 +132,13 @@ fn plan_in(alloc: Global, value: &Value) -> Result<Option<PlanParts>, OutOfMemor
     let Some(words) = words_at("words", value) else {
         return Ok(None);
     };
-    let Some(zones) = pairs_at(alloc, "zones", value)? else {
+    let Some(zones) = list_at(alloc, "zones", value)? else {
         return Ok(None);
     };
-    let Some(inlets) = pairs_at(alloc, "inlets", value)? else {
+    let Some(inlets) = list_at(alloc, "inlets", value)? else {
         return Ok(None);
     };
-    let Some(detectors) = numbers_at(alloc, "detectors", value)? else {
+    let Some(detectors) = list_at(alloc, "detectors", value)? else {
         return Ok(None);
     };
     Ok(Some(PlanParts {

@@ -1,15 +1,14 @@
 //! What is written for an answer.
 
-ghost use Rattle.std.specs.Prelude.{◌≡◌, IfOk, string_bytes, map};
-ghost use Rattle.serde_json.specs.Data.{string};
-ghost use Rattle.serde_json.specs.View.{view};
+ghost use Rattle.std.specs.Prelude.{◌≡◌, IfOk, codes, string_bytes, map};
+ghost use Rattle.serde_json.specs.Data.{string, member, no_members, put as with_member};
+ghost use Rattle.serde_json.specs.View.{view, members_view};
 ghost use Rattle.road_format.specs.Replies as replies;
 ghost use Rattle.road_format.specs.Replies.{
+  number_data,
   list_data,
-  car_data,
-  value_data,
+  field_data,
   edit_data,
-  head_data,
   step_data,
   data_of,
   reply,
@@ -17,13 +16,13 @@ ghost use Rattle.road_format.specs.Replies.{
 ghost use Rattle.road_format.specs.Views.{texts, car_view, answer_view};
 
 use crate::answer::Answer;
-use crate::object::{index_of, kind_of};
 use crate::refusal::Refusal;
+use crate::written::list_value;
 use road_cells::Car;
 use road_delta::Head;
 use road_plan::OutOfMemory;
-use road_scenario::{Edit, Stamp, Value as Put};
-use serde_json::{Value, json};
+use road_scenario::{Edit, Stamp};
+use serde_json::{Map, Value, put};
 use std::alloc::Global;
 
 /// The line that is written for an answer, its newline too: one compact JSON object, whose fields stand in the order of
@@ -61,199 +60,165 @@ fn answer_value(alloc: Global, answer: &Answer) -> Result<Value, OutOfMemory>
     }
 }
 
+// These fields of an object, and one more.
+fn with_field(
+    alloc: Global,
+    mut fields: Map<String, Value>,
+    name: &str,
+    value: Value,
+) -> Result<Map<String, Value>, OutOfMemory>
+    ensures { IfOk result (λ all. members_view all.entries
+        ≡ with_member name.now (view value) (members_view fields.entries)) }
+{
+    put(&mut fields, alloc, name, value)?;
+    Ok(fields)
+}
+
+// These fields of an object, and one more that is a text.
+fn with_text(
+    alloc: Global,
+    fields: Map<String, Value>,
+    name: &str,
+    text: &str,
+) -> Result<Map<String, Value>, OutOfMemory>
+    ensures { IfOk result (λ all. members_view all.entries
+        ≡ with_member name.now (string text.now) (members_view fields.entries)) }
+{
+    let text = Value::try_from_str(alloc, text)?;
+    with_field(alloc, fields, name, text)
+}
+
+// The object of one field.
+fn field_value(alloc: Global, name: &str, value: Value) -> Result<Value, OutOfMemory>
+    ensures { IfOk result (λ made. view made ≡ field_data name.now (view value)) }
+{
+    let fields = with_field(alloc, Map::new(alloc), name, value)?;
+    Ok(Value::Object(fields))
+}
+
 // That the plan is open, with so many replicas.
 fn open_value(alloc: Global, replicas: u32) -> Result<Value, OutOfMemory>
     ensures { IfOk result (λ value. view value ≡ data_of (replies.Open replicas)) }
 {
-    json!(in alloc; {"open": replicas})
+    field_value(alloc, "open", Value::from(replicas))
 }
 
 // That a line is refused.
 fn refused_value(alloc: Global, refusal: Refusal) -> Result<Value, OutOfMemory>
     ensures { IfOk result (λ value. view value ≡ data_of (replies.Refused refusal)) }
 {
-    json!(in alloc; {"refused": refusal.text()})
+    let text = Value::try_from_str(alloc, refusal.text())?;
+    field_value(alloc, "refused", text)
 }
 
 // A replica's horizon.
 fn horizon_value(alloc: Global, horizon: u32) -> Result<Value, OutOfMemory>
     ensures { IfOk result (λ value. view value ≡ data_of (replies.Horizon horizon)) }
 {
-    json!(in alloc; {"horizon": horizon})
+    field_value(alloc, "horizon", Value::from(horizon))
 }
 
 // One row of cells.
 fn cells_value(alloc: Global, row: &str) -> Result<Value, OutOfMemory>
     ensures { IfOk result (λ value. view value ≡ data_of (replies.Cells row.now)) }
 {
-    let row = row_value(alloc, row)?;
-    json!(in alloc; {"cells": row})
+    let row = Value::try_from_str(alloc, row)?;
+    field_value(alloc, "cells", row)
 }
 
 // The cars of a road.
 fn cars_value(alloc: Global, cars: &[Car]) -> Result<Value, OutOfMemory>
     ensures { IfOk result (λ value. view value ≡ data_of (replies.Cars (map car_view cars.now))) }
 {
-    let cars = car_values(alloc, cars)?;
-    json!(in alloc; {"cars": cars})
+    let cars = list_value(alloc, cars)?;
+    field_value(alloc, "cars", cars)
 }
 
 // What a detector counted.
 fn counted_value(alloc: Global, cars: u32, speeds: u32) -> Result<Value, OutOfMemory>
     ensures { IfOk result (λ value. view value ≡ data_of (replies.Counted cars speeds)) }
 {
-    json!(in alloc; {"cars": cars, "speeds": speeds})
+    let fields = with_field(alloc, Map::new(alloc), "cars", Value::from(cars))?;
+    let fields = with_field(alloc, fields, "speeds", Value::from(speeds))?;
+    Ok(Value::Object(fields))
 }
 
 // Rows of cells.
 fn rows_value(alloc: Global, rows: &[String]) -> Result<Value, OutOfMemory>
     ensures { IfOk result (λ value. view value ≡ data_of (replies.Rows (texts rows.now))) }
 {
-    let rows = row_values(alloc, rows)?;
-    json!(in alloc; {"rows": rows})
+    let rows = list_value(alloc, rows)?;
+    field_value(alloc, "rows", rows)
 }
 
 // The stamp of an edit.
 fn stamped_value(alloc: Global, stamp: Stamp) -> Result<Value, OutOfMemory>
     ensures { IfOk result (λ value. view value ≡ data_of (replies.Stamped stamp)) }
 {
-    json!(in alloc; {"stamp": [stamp.count, stamp.number]})
+    let numbers = vec![in alloc; Value::from(stamp.count), Value::from(stamp.number)]?;
+    field_value(alloc, "stamp", Value::Array(numbers))
 }
 
 // The edits that a replica holds.
 fn edits_value(alloc: Global, edits: &[Edit]) -> Result<Value, OutOfMemory>
     ensures { IfOk result (λ value. view value ≡ data_of (replies.Edits edits.now)) }
 {
-    let edits = edit_values(alloc, edits)?;
-    json!(in alloc; {"edits": edits, "form": 1u32})
+    let fields = edits_fields(alloc, edits)?;
+    Ok(Value::Object(fields))
+}
+
+// The fields of edits: the list of them, and its form.
+fn edits_fields(alloc: Global, edits: &[Edit]) -> Result<Map<String, Value>, OutOfMemory>
+    ensures { IfOk result (λ fields. members_view fields.entries
+        ≡ member (codes "edits") (list_data (map edit_data edits.now)) (member (codes "form") (number_data 1) no_members)) }
+{
+    let edits = list_value(alloc, edits)?;
+    let fields = with_field(alloc, Map::new(alloc), "edits", edits)?;
+    with_field(alloc, fields, "form", Value::from(1u32))
 }
 
 // The first step at which a number put is another than before.
 fn touched_value(alloc: Global, step: Option<u32>) -> Result<Value, OutOfMemory>
     ensures { IfOk result (λ value. view value ≡ data_of (replies.Touched step)) }
 {
-    let step = step_value(alloc, step)?;
-    json!(in alloc; {"touched": step})
+    field_value(alloc, "touched", step_value(step))
 }
 
 // A message of all the edits that a replica holds.
 fn sent_value(alloc: Global, message: &str, size: u64) -> Result<Value, OutOfMemory>
     ensures { IfOk result (λ value. view value ≡ data_of (replies.Sent message.now size)) }
 {
-    json!(in alloc; {"message": message, "size": size})
+    let fields = with_text(alloc, Map::new(alloc), "message", message)?;
+    let fields = with_field(alloc, fields, "size", Value::from(size))?;
+    Ok(Value::Object(fields))
 }
 
 // A message of heads.
 fn heads_value(alloc: Global, message: &str, heads: &[Head]) -> Result<Value, OutOfMemory>
     ensures { IfOk result (λ value. view value ≡ data_of (replies.Heads message.now heads.now)) }
 {
-    let heads = head_values(alloc, heads)?;
-    json!(in alloc; {"form": 1u32, "heads": heads, "message": message})
+    let heads = list_value(alloc, heads)?;
+    let fields = with_field(alloc, Map::new(alloc), "form", Value::from(1u32))?;
+    let fields = with_field(alloc, fields, "heads", heads)?;
+    let fields = with_text(alloc, fields, "message", message)?;
+    Ok(Value::Object(fields))
 }
 
 // A message of the edits that are beyond heads.
 fn delta_value(alloc: Global, message: &str, edits: &[Edit]) -> Result<Value, OutOfMemory>
     ensures { IfOk result (λ value. view value ≡ data_of (replies.Delta message.now edits.now)) }
 {
-    let edits = edit_values(alloc, edits)?;
-    json!(in alloc; {"edits": edits, "form": 1u32, "message": message})
-}
-
-// The JSON list of these cars.
-fn car_values(alloc: Global, cars: &[Car]) -> Result<Value, OutOfMemory>
-    ensures { IfOk result (λ value. view value ≡ list_data (map car_data (map car_view cars.now))) }
-{
-    let mut values = Vec::new(alloc);
-    for car in cars {
-        values.push(car_value(alloc, *car)?)?;
-    }
-    Ok(Value::Array(values))
-}
-
-// The JSON value of a car: number, cell, speed.
-fn car_value(alloc: Global, car: Car) -> Result<Value, OutOfMemory>
-    ensures { IfOk result (λ value. view value ≡ car_data (car_view car)) }
-{
-    json!(in alloc; [car.number, car.cell, car.speed])
-}
-
-// The JSON list of these rows of cells.
-fn row_values(alloc: Global, rows: &[String]) -> Result<Value, OutOfMemory>
-    ensures { IfOk result (λ value. view value ≡ list_data (map string (texts rows.now))) }
-{
-    let mut values = Vec::new(alloc);
-    for row in rows {
-        values.push(row_value(alloc, row.as_str())?)?;
-    }
-    Ok(Value::Array(values))
-}
-
-// The JSON value of a row of cells: its text.
-fn row_value(alloc: Global, row: &str) -> Result<Value, OutOfMemory>
-    ensures { IfOk result (λ value. view value ≡ string row.now) }
-{
-    json!(in alloc; row)
-}
-
-// The JSON list of these edits.
-fn edit_values(alloc: Global, edits: &[Edit]) -> Result<Value, OutOfMemory>
-    ensures { IfOk result (λ value. view value ≡ list_data (map edit_data edits.now)) }
-{
-    let mut values = Vec::new(alloc);
-    for edit in edits {
-        values.push(edit_value(alloc, *edit)?)?;
-    }
-    Ok(Value::Array(values))
-}
-
-// The JSON value of an edit: kind, index, step, count, number, value.
-fn edit_value(alloc: Global, edit: Edit) -> Result<Value, OutOfMemory>
-    ensures { IfOk result (λ value. view value ≡ edit_data edit) }
-{
-    let kind = kind_of(edit.object);
-    let index = index_of(edit.object);
-    let stamp = edit.stamp;
-    let value = put_value(alloc, edit.value)?;
-    json!(in alloc; [kind, index, edit.step, stamp.count, stamp.number, value])
-}
-
-// The JSON list of these heads.
-fn head_values(alloc: Global, heads: &[Head]) -> Result<Value, OutOfMemory>
-    ensures { IfOk result (λ value. view value ≡ list_data (map head_data heads.now)) }
-{
-    let mut values = Vec::new(alloc);
-    for head in heads {
-        values.push(head_value(alloc, *head)?)?;
-    }
-    Ok(Value::Array(values))
-}
-
-// The JSON value of a head: kind, index, step, count, number.
-fn head_value(alloc: Global, head: Head) -> Result<Value, OutOfMemory>
-    ensures { IfOk result (λ value. view value ≡ head_data head) }
-{
-    let kind = kind_of(head.object);
-    let index = index_of(head.object);
-    let stamp = head.stamp;
-    json!(in alloc; [kind, index, head.step, stamp.count, stamp.number])
+    let fields = edits_fields(alloc, edits)?;
+    let fields = with_text(alloc, fields, "message", message)?;
+    Ok(Value::Object(fields))
 }
 
 // The JSON value of a step, or null where there is none.
-fn step_value(alloc: Global, step: Option<u32>) -> Result<Value, OutOfMemory>
-    ensures { IfOk result (λ value. view value ≡ step_data step) }
+fn step_value(step: Option<u32>) -> Value
+    ensures { view result ≡ step_data step }
 {
     match step {
-        Some(step) => json!(in alloc; step),
-        None => Ok(Value::Null),
-    }
-}
-
-// The number that an edit puts, or null for a withdrawal.
-fn put_value(alloc: Global, value: Put) -> Result<Value, OutOfMemory>
-    ensures { IfOk result (λ made. view made ≡ value_data value) }
-{
-    match value {
-        Put::Put(n) => json!(in alloc; n),
-        Put::Withdrawn => Ok(Value::Null),
+        Some(step) => Value::from(step),
+        None => Value::Null,
     }
 }
