@@ -30,6 +30,20 @@ fn gives<C: Crew>(alloc: Global, plan: &Arc<Plan>, crew: &mut C) -> Result<bool>
     takes_rows(alloc, &mut replica, crew)
 }
 
+// Whether a new crew of threads made for each step takes a new replica of the road through its worked rows.
+fn gives_by_threads<R: Threads + Wait>(
+    rt: &R,
+    alloc: Global,
+    plan: &Arc<Plan>,
+    workers: u32,
+) -> Result<bool>
+    requires some { 0 < workers }
+    requires few { workers ≤ 16 }
+{
+    let mut crew = Scoped::new(rt, workers, Box::new(alloc, NoGate)?);
+    gives(alloc, plan, &mut crew)
+}
+
 // How many of some runs give the worked rows, each by a new crew of threads made for each step.
 fn runs_by_threads<R: Threads + Wait>(
     rt: &R,
@@ -43,12 +57,27 @@ fn runs_by_threads<R: Threads + Wait>(
 {
     let mut good = 0u32;
     for _ in 0..runs {
-        let mut crew = Scoped::new(rt, workers, Box::new(alloc, NoGate)?);
-        if gives(alloc, plan, &mut crew)? {
+        if gives_by_threads(rt, alloc, plan, workers)? {
             good = good.saturating_add(1);
         }
     }
     Ok(good)
+}
+
+// Whether a new crew of lasting workers takes a new replica of the road through its worked rows.
+fn gives_by_pool<R: Threads + Wait + Clone + Drop + Send + 'static>(
+    rt: &R,
+    alloc: Global,
+    plan: &Arc<Plan>,
+    workers: u32,
+) -> Result<bool>
+    requires some { 0 < workers }
+    requires few { workers ≤ 16 }
+{
+    let mut crew = Pool::start(rt.clone()?, alloc, workers)?;
+    let is_good = gives(alloc, plan, &mut crew);
+    crew.finish();
+    is_good
 }
 
 // How many of some runs give the worked rows, each by a new crew of lasting workers.
@@ -64,10 +93,7 @@ fn runs_by_pools<R: Threads + Wait + Clone + Drop + Send + 'static>(
 {
     let mut good = 0u32;
     for _ in 0..runs {
-        let mut crew = Pool::start(rt.clone()?, alloc, workers)?;
-        let is_good = gives(alloc, plan, &mut crew);
-        crew.finish();
-        if is_good? {
+        if gives_by_pool(rt, alloc, plan, workers)? {
             good = good.saturating_add(1);
         }
     }

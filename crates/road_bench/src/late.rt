@@ -31,16 +31,26 @@ fn scenario_of(alloc: Global, step: u32, count: u32) -> Result<Scenario, OutOfMe
     })
 }
 
-// Gives a sheet one edit more and simulates it up to a step: how many steps were computed for that; none where the edit
-// does not fit or the step is too great.
-fn grow(alloc: Global, sheet: &mut Sheet, count: u32, to: u32) -> Result<Option<u64>, GrownFault> {
-    let scenario = scenario_of(alloc, to.saturating_sub(BACK), count)?;
+// Gives a sheet a scenario more and simulates it up to a step: how many steps were computed for that; none where the
+// scenario does not fit or the step is too great.
+fn grow_by(
+    alloc: Global,
+    sheet: &mut Sheet,
+    scenario: &Scenario,
+    to: u32,
+) -> Result<Option<u64>, GrownFault> {
     if to > GREATEST_HORIZON || scenario.fits(sheet.plan()).is_some() {
         return Ok(None);
     }
     let mut meter = Meter::new();
-    *sheet = grown(alloc, sheet, &scenario, to, &mut Alone, &mut meter)?.sheet;
+    *sheet = grown(alloc, sheet, scenario, to, &mut Alone, &mut meter)?.sheet;
     Ok(Some(meter.ticks()))
+}
+
+// The same by one edit more.
+fn grow(alloc: Global, sheet: &mut Sheet, count: u32, to: u32) -> Result<Option<u64>, GrownFault> {
+    let scenario = scenario_of(alloc, to.saturating_sub(BACK), count)?;
+    grow_by(alloc, sheet, &scenario, to)
 }
 
 // One number more.
@@ -69,11 +79,11 @@ fn steps_from(
 // The same from step zero of a plan.
 fn steps_of(
     alloc: Global,
-    plan: Arc<Plan>,
+    plan: &Arc<Plan>,
     horizon: u32,
     edits: u32,
 ) -> Result<Vec<u64>, GrownFault> {
-    let mut sheet = Sheet::opening(alloc, plan)?;
+    let mut sheet = Sheet::opening(alloc, Arc::try_clone(plan)?)?;
     steps_from(alloc, &mut sheet, horizon, edits)
 }
 
@@ -82,7 +92,7 @@ fn steps_of(
 pub(crate) fn tell<R: Print>(
     rt: &R,
     alloc: Global,
-    plan: Arc<Plan>,
+    plan: &Arc<Plan>,
     horizon: u32,
     edits: u32,
 ) -> Result<()> {

@@ -27,37 +27,81 @@ mod stepping;
 use anyhow::{Context, Result};
 use road_format::read_plan;
 use road_plan::Plan;
-use std::sync::Arc;
+use std::alloc::Global;
+use std::io::Input;
+use std::sync::{Arc, Wait};
+use std::thread::Threads;
+use std::time::Clock;
 use std::{env, io};
 
-// The plan of the first line of standard input.
-fn plan(rt: &HostRuntime) -> Result<Arc<Plan>> {
-    let script = io::read_to_string(rt.alloc(), rt.stdin())?;
-    let line = script.lines().next().context("no plan line")?;
-    Ok(Arc::new(rt.alloc(), read_plan(rt.alloc(), line.as_bytes())?.plan)?)
+// The plan of a text's first line.
+fn plan_in(alloc: Global, text: &str) -> Result<Arc<Plan>> {
+    let line = text.lines().next().context("no plan line")?;
+    let read = read_plan(alloc, line.as_bytes())?;
+    Ok(Arc::new(alloc, read.plan)?)
 }
 
-fn main(rt: HostRuntime) -> Result<()> {
-    let mut words = env::args(&rt)?;
-    let Some(what) = words.nth(1) else {
-        return Ok(());
-    };
-    let mut numbers = Vec::new(rt.alloc());
-    for word in words {
-        numbers.push(word.parse::<u32>().context("no number")?)?;
-    }
-    match (what.as_str(), numbers.as_slice()) {
-        ("steps", [steps]) => stepping::time(&rt, rt.alloc(), &plan(&rt)?, *steps),
-        ("late", [horizon, edits]) => late::tell(&rt, rt.alloc(), plan(&rt)?, *horizon, *edits),
-        ("crews", [steps, turns]) => crews::time_all(&rt, rt.alloc(), &plan(&rt)?, *steps, *turns),
+// The plan of the first line of standard input.
+fn plan<R: Input>(rt: &R, alloc: Global) -> Result<Arc<Plan>> {
+    let text = io::read_to_string(alloc, rt.reader())?;
+    plan_in(alloc, &text)
+}
+
+// Does a kind of work with these numbers; nothing where there is none of that kind.
+fn work<R: Threads + Wait + Clock + Input + Print + Clone + Drop + Send + 'static>(
+    rt: &R,
+    alloc: Global,
+    kind: &str,
+    numbers: &[u32],
+) -> Result<()> {
+    match (kind, numbers) {
+        ("steps", [steps]) => stepping::time(rt, alloc, &plan(rt, alloc)?, *steps),
+        ("late", [horizon, edits]) => late::tell(rt, alloc, &plan(rt, alloc)?, *horizon, *edits),
+        ("crews", [steps, turns]) => crews::time_all(rt, alloc, &plan(rt, alloc)?, *steps, *turns),
         ("alone", [steps, turns]) => crews::time_alone(
-            &rt,
-            rt.alloc(),
-            &plan(&rt)?,
+            rt,
+            alloc,
+            &plan(rt, alloc)?,
             *steps,
             *turns,
         ),
-        ("runs", [workers, runs]) => dense::run(&rt, rt.alloc(), *workers, *runs),
+        ("runs", [workers, runs]) => dense::run(rt, alloc, *workers, *runs),
         _ => Ok(()),
     }
+}
+
+// The numbers that words spell.
+fn numbers_of(alloc: Global, words: &[String]) -> Result<Vec<u32>> {
+    let mut numbers = Vec::new(alloc);
+    for word in words {
+        numbers.push(word.parse::<u32>().context("no number")?)?;
+    }
+    Ok(numbers)
+}
+
+// Does what the program's words ask for, of which the first is its name.
+fn obey<R: Threads + Wait + Clock + Input + Print + Clone + Drop + Send + 'static>(
+    rt: &R,
+    alloc: Global,
+    words: &[String],
+) -> Result<()> {
+    let [_, kind, words @ ..] = words else {
+        return Ok(());
+    };
+    let numbers = numbers_of(alloc, words)?;
+    work(rt, alloc, kind, &numbers)
+}
+
+// The program's words.
+fn words_of(rt: &HostRuntime) -> io::Result<Vec<String>> {
+    let mut words = Vec::new(rt.alloc());
+    for word in env::args(rt)? {
+        words.push(word)?;
+    }
+    Ok(words)
+}
+
+fn main(rt: HostRuntime) -> Result<()> {
+    let words = words_of(&rt)?;
+    obey(&rt, rt.alloc(), &words)
 }

@@ -4,7 +4,7 @@ ghost use Rattle.std.specs.Arc.{arc_value};
 
 use anyhow::Result;
 use road_cells::Road;
-use road_ends::{Meter, OutOfMemory, StepInput, step_alone};
+use road_ends::{Meter, OutOfMemory, StepInput, Stepped, step_alone};
 use road_plan::limits::CERTAIN;
 use road_plan::{Plan, Settings};
 use road_words::{PlanWords, Words};
@@ -25,44 +25,104 @@ pub(crate) fn time<R: Clock + Print>(
     let words = words_of(alloc, plan, steps)?;
     let source = PlanWords::of(plan);
     for _ in 0..RUNS {
-        let start = Instant::now(rt)?;
-        let cars = stepped(alloc, plan, steps)?;
-        let stepping = start.elapsed(rt)?.as_nanos();
-        let start = Instant::now(rt)?;
-        let mixed = drawn(&source, words);
-        let drawing = start.elapsed(rt)?.as_nanos();
-        println!(rt; "{steps} {cars} {words} {stepping} {drawing} {mixed}")?;
+        time_once(rt, alloc, plan, steps, &source, words)?;
     }
     Ok(())
 }
 
-// Steps the empty road with the plan's own settings, and gives the number of cars moved, each counted once a step.
-fn stepped(alloc: Global, plan: &Arc<Plan>, steps: u32) -> Result<u64, OutOfMemory> {
-    let mut meter = Meter::new();
-    let mut road = Road::empty(alloc);
+// Times so many steps and so many words of a source, and writes a line.
+fn time_once<R: Clock + Print>(
+    rt: &R,
+    alloc: Global,
+    plan: &Arc<Plan>,
+    steps: u32,
+    source: &PlanWords,
+    words: u64,
+) -> Result<()> {
+    let start = Instant::now(rt)?;
+    let cars = cars_of(alloc, plan, steps)?;
+    let stepping = start.elapsed(rt)?.as_nanos();
+    let start = Instant::now(rt)?;
+    let mixed = drawn(source, words);
+    let drawing = start.elapsed(rt)?.as_nanos();
+    println!(rt; "{steps} {cars} {words} {stepping} {drawing} {mixed}")?;
+    Ok(())
+}
+
+// A step of a road with the plan's own settings, which are made anew.
+fn stepped(
+    alloc: Global,
+    plan: &Arc<Plan>,
+    step: u32,
+    road: &Road,
+) -> Result<Stepped, OutOfMemory> {
+    let settings = Settings::of_plan(alloc, plan)?;
+    step_alone(alloc, plan, settings, step, road, &mut Meter::new())
+}
+
+// Takes a road through a step, and gives the number of cars moved.
+fn cars_of_step(
+    alloc: Global,
+    plan: &Arc<Plan>,
+    step: u32,
+    road: &mut Road,
+) -> Result<u64, OutOfMemory> {
+    let done = stepped(alloc, plan, step, road)?;
+    *road = done.road;
+    Ok(done.speeds.len() as u64)
+}
+
+// Takes a road through some steps, and gives the number of cars moved, each counted once a step.
+fn cars_from(
+    alloc: Global,
+    plan: &Arc<Plan>,
+    steps: u32,
+    road: &mut Road,
+) -> Result<u64, OutOfMemory> {
     let mut cars = 0u64;
     for step in 0..steps {
-        let settings = Settings::of_plan(alloc, plan)?;
-        let done = step_alone(alloc, plan, settings, step, &road, &mut meter)?;
-        cars = cars.saturating_add(done.speeds.len() as u64);
-        road = done.road;
+        cars = cars.saturating_add(cars_of_step(alloc, plan, step, road)?);
     }
     Ok(cars)
 }
 
-// The number of words that these steps draw.
-fn words_of(alloc: Global, plan: &Arc<Plan>, steps: u32) -> Result<u64, OutOfMemory> {
-    let mut meter = Meter::new();
+// The same from the empty road.
+fn cars_of(alloc: Global, plan: &Arc<Plan>, steps: u32) -> Result<u64, OutOfMemory> {
     let mut road = Road::empty(alloc);
+    cars_from(alloc, plan, steps, &mut road)
+}
+
+// Takes a road through a step, and gives the number of words that it draws.
+fn words_of_step(
+    alloc: Global,
+    plan: &Arc<Plan>,
+    step: u32,
+    road: &mut Road,
+) -> Result<u64, OutOfMemory> {
+    let words = words_of_entries(plan, road);
+    let done = stepped(alloc, plan, step, road)?;
+    *road = done.road;
+    Ok(words.saturating_add(words_of_cars(&done.input)))
+}
+
+// Takes a road through some steps, and gives the number of words that they draw.
+fn words_from(
+    alloc: Global,
+    plan: &Arc<Plan>,
+    steps: u32,
+    road: &mut Road,
+) -> Result<u64, OutOfMemory> {
     let mut words = 0u64;
     for step in 0..steps {
-        words = words.saturating_add(words_of_entries(plan, &road));
-        let settings = Settings::of_plan(alloc, plan)?;
-        let done = step_alone(alloc, plan, settings, step, &road, &mut meter)?;
-        words = words.saturating_add(words_of_cars(&done.input));
-        road = done.road;
+        words = words.saturating_add(words_of_step(alloc, plan, step, road)?);
     }
     Ok(words)
+}
+
+// The same from the empty road.
+fn words_of(alloc: Global, plan: &Arc<Plan>, steps: u32) -> Result<u64, OutOfMemory> {
+    let mut road = Road::empty(alloc);
+    words_from(alloc, plan, steps, &mut road)
 }
 
 // The words drawn for the inlets of a step: one for each that is free and whose inflow leaves its entry open.

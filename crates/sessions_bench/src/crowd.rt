@@ -3,16 +3,17 @@
 ghost use Rattle.std.specs.Prelude.{◌≡◌};
 
 use crate::merge::{edit_of, is_merge, is_shown};
-use anyhow::{Context, Result};
+use anyhow::Result;
 use road_ends::Meter;
 use road_plan::Plan;
 use road_scenario::Scenario;
-use road_sessions::{Naming, OutOfMemory, Prepared, Session, Shared, close, open, prepare};
+use road_sessions::{Closed, Naming, OutOfMemory, Prepared, Session, Shared, close, open, prepare};
 use road_workers::Alone;
 use std::alloc::Global;
 use std::marker::Brand;
+use std::sync::atomic::{AtomicBool, Ordering};
 use std::sync::{Arc, Wait};
-use std::thread::{Threads, map_vec};
+use std::thread::{Threads, for_each_mut};
 
 /// How many sessions write.
 pub(crate) const SESSIONS: u32 = 8;
@@ -52,43 +53,71 @@ fn finds<J: Naming, R: Wait + Drop>(
     }
 }
 
-/// A session that has written and looked, and whether all was as it should be.
-#[derive(Drop)]
-struct Worked<J: Naming> {
-    session: Session<J>,
-    well: bool,
-}
-
-// A session writes and looks.
+// Whether all is as it should be with a session that writes and looks.
 fn works<J: Naming, R: Wait + Drop, W: Wait>(
     rt: &W,
     alloc: Global,
     shared: &Shared<J, R>,
-    mut session: Session<J>,
+    session: &mut Session<J>,
     count: u32,
-) -> Worked<J> {
+) -> bool {
     let mut well = true;
     for write in 0..count {
-        well = well
-            && writes(rt, alloc, shared, &mut session, write)
-            && finds(shared, &mut session, write);
+        well = well && writes(rt, alloc, shared, session, write) && finds(shared, session, write);
     }
-    Worked { session, well }
+    well
 }
 
-// The sessions, and whether all has gone well.
-fn sessions_of<J: Naming>(
+// Whether all is as it should be with sessions at work, each on a thread of its own.
+fn all_work<J: Naming + Send + Sync, R: Wait + Drop + Send, W: Threads + Wait + Sync>(
+    rt: &W,
     alloc: Global,
-    worked: Vec<Worked<J>>,
-) -> Result<(Vec<Session<J>>, bool), OutOfMemory> {
-    let mut sessions = Vec::new(alloc);
-    let mut all_well = true;
-    for one in worked {
-        let Worked { session, well } = one;
-        all_well = all_well && well;
-        sessions.push(session)?;
+    shared: &Shared<J, R>,
+    sessions: &mut [Session<J>],
+    count: u32,
+) -> bool {
+    let well = AtomicBool::new(true);
+    for_each_mut(
+        rt,
+        sessions,
+        SESSIONS as usize,
+        &|_, session| {
+            if !works(rt, alloc, shared, session, count) {
+                well.store(false, Ordering::SeqCst);
+            }
+        },
+    );
+    well.load(Ordering::SeqCst)
+}
+
+// What a store leaves; nothing where it could not be closed.
+fn left<J: Naming, R: Wait + Drop>(
+    shared: Shared<J, R>,
+    sessions: Vec<Session<J>>,
+) -> Option<Closed> {
+    match close(shared, sessions) {
+        Ok(closed) => Some(closed),
+        Err(_fault) => None,
     }
-    Ok((sessions, all_well))
+}
+
+// Whether what is left has the merge of all writes as its journal.
+fn is_left(alloc: Global, closed: &Option<Closed>, count: u32) -> Result<bool, OutOfMemory> {
+    match closed {
+        Some(closed) => is_merge(alloc, &closed.journal, count),
+        None => Ok(false),
+    }
+}
+
+// Whether a store leaves the merge of all writes.
+fn leaves_merge<J: Naming, R: Wait + Drop>(
+    alloc: Global,
+    shared: Shared<J, R>,
+    sessions: Vec<Session<J>>,
+    count: u32,
+) -> Result<bool, OutOfMemory> {
+    let closed = left(shared, sessions);
+    is_left(alloc, &closed, count)
 }
 
 // Whether the journal is the merge of all writes, once all sessions have worked.
@@ -102,27 +131,20 @@ fn is_merged<J: Naming + Send + Sync, R: Wait + Drop + Send, W: Threads + Wait +
     requires replica { prepared.replica ≡ J.replica }
     requires ledger { (prepared.ledger.name ≡ J.name) × (prepared.ledger.parts ≡ J.parts) }
 {
-    let (shared, sessions) = open::<J, R>(prepared)?;
-    let worked = map_vec(
-        rt,
-        sessions,
-        &|session| works(rt, alloc, &shared, session, count),
-    )?;
-    let (sessions, well) = sessions_of(alloc, worked)?;
-    match close(shared, sessions) {
-        Ok(closed) => Ok(well && is_merge(alloc, &closed.journal, count)?),
-        Err(_fault) => Ok(false),
-    }
+    let (shared, mut sessions) = open::<J, R>(prepared)?;
+    let well = all_work(rt, alloc, &shared, sessions.as_mut_slice(), count);
+    let is_merged = leaves_merge(alloc, shared, sessions, count);
+    Ok(well && is_merged?)
 }
 
 /// Whether the journal of eight sessions, each on a thread of its own, is the merge of their writes.
 pub(crate) fn merges<W: Threads + Wait + Sync>(
     rt: &W,
     alloc: Global,
-    plan: Arc<Plan>,
+    plan: &Arc<Plan>,
     count: u32,
 ) -> Result<bool> {
     let limit = u64::from(count).saturating_mul(8).max(1).min(1_000_000);
-    let prepared = prepare(rt, alloc, plan, 0, SESSIONS, limit)?;
+    let prepared = prepare(rt, alloc, Arc::try_clone(plan)?, 0, SESSIONS, limit)?;
     is_merged::<Brand, _, _>(rt, alloc, prepared, count)
 }

@@ -77,20 +77,34 @@ fn publishes<J: Naming, R: Wait + Drop, W: Wait>(
 }
 
 // The first session publishes, each other one looks; and how long that took.
-fn works<J: Naming, R: Wait + Drop, W: Wait + Clock>(
+fn does<J: Naming, R: Wait + Drop, W: Wait + Clock>(
     rt: &W,
     shared: &Shared<J, R>,
-    mut session: Session<J>,
+    session: &mut Session<J>,
     task: &Task,
 ) -> Option<Done> {
     let start = Instant::now(rt).ok()?;
     let times = if session.number() == 0 {
-        publishes(rt, shared, &mut session, task)
+        publishes(rt, shared, session, task)
     } else {
-        looks(shared, &mut session, task)
+        looks(shared, session, task)
     };
     let nanoseconds = start.elapsed(rt).ok()?.as_nanos();
     Some(Done { times, nanoseconds })
+}
+
+// What sessions do, each on a thread of its own.
+fn all_do<J: Naming + Send + Sync, R: Wait + Drop + Send, W: Threads + Wait + Clock + Sync>(
+    rt: &W,
+    shared: &Shared<J, R>,
+    sessions: Vec<Session<J>>,
+    task: &Task,
+) -> Result<Vec<Option<Done>>> {
+    Ok(map_vec(
+        rt,
+        sessions,
+        &|mut session| does(rt, shared, &mut session, task),
+    )?)
 }
 
 // What each session has done.
@@ -104,19 +118,19 @@ fn all_done<J: Naming + Send + Sync, R: Wait + Drop + Send, W: Threads + Wait + 
     requires ledger { (prepared.ledger.name ≡ J.name) × (prepared.ledger.parts ≡ J.parts) }
 {
     let (shared, sessions) = open::<J, R>(prepared)?;
-    Ok(map_vec(rt, sessions, &|session| works(rt, &shared, session, task))?)
+    all_do(rt, &shared, sessions, task)
 }
 
 /// What the writer and each of so many readers have done, the writer first; none where the clock could not be read.
 pub(crate) fn timed<W: Threads + Wait + Clock + Sync>(
     rt: &W,
     alloc: Global,
-    plan: Arc<Plan>,
+    plan: &Arc<Plan>,
     readers: u32,
     work: Work,
 ) -> Result<Vec<Option<Done>>> {
     let readers = readers.min(7);
-    let prepared = prepare(rt, alloc, plan, 0, readers + 1, 1_000_000)?;
+    let prepared = prepare(rt, alloc, Arc::try_clone(plan)?, 0, readers + 1, 1_000_000)?;
     let task = Task {
         work,
         looking: AtomicU64::new(u64::from(readers)),

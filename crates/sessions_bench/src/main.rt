@@ -23,10 +23,10 @@ use crate::looking::{Done, Work, timed};
 use anyhow::{Context, Result};
 use road_plan::{Plan, WordKind};
 use std::alloc::Global;
-use std::env;
 use std::sync::{Arc, Wait};
 use std::thread::Threads;
 use std::time::Clock;
+use std::{env, io};
 use tests_plans::{FREE, Parts, plan_of};
 
 /// 8,192 cells with limit 5 and slowing chance one half, and an inlet at the first cell that always lets in.
@@ -38,6 +38,33 @@ const LONG: Parts = Parts {
     words: WordKind::Seeded(7),
 };
 
+// The plan on which a kind of work is timed.
+fn plan_for(alloc: Global, kind: &str) -> Result<Arc<Plan>> {
+    let plan = if kind == "steps" {
+        plan_of(alloc, &LONG)
+    } else {
+        plan_of(alloc, &FREE)
+    };
+    Ok(Arc::new(alloc, plan?)?)
+}
+
+// How many of some runs leave the merge of all writes as their journal.
+fn merged_runs<R: Threads + Wait + Sync>(
+    rt: &R,
+    alloc: Global,
+    plan: &Arc<Plan>,
+    writes: u32,
+    runs: u32,
+) -> Result<u32> {
+    let mut good = 0u32;
+    for _ in 0..runs {
+        if merges(rt, alloc, plan, writes)? {
+            good = good.saturating_add(1);
+        }
+    }
+    Ok(good)
+}
+
 fn merge_all<R: Threads + Wait + Print + Sync>(
     rt: &R,
     alloc: Global,
@@ -45,12 +72,7 @@ fn merge_all<R: Threads + Wait + Print + Sync>(
     writes: u32,
     runs: u32,
 ) -> Result<()> {
-    let mut good = 0u32;
-    for _ in 0..runs {
-        if merges(rt, alloc, Arc::try_clone(plan)?, writes)? {
-            good = good.saturating_add(1);
-        }
-    }
+    let good = merged_runs(rt, alloc, plan, writes, runs)?;
     println!(rt; "{good} of {runs} journals are the merge of all writes")?;
     Ok(())
 }
@@ -58,11 +80,22 @@ fn merge_all<R: Threads + Wait + Print + Sync>(
 fn time_looks<R: Threads + Wait + Clock + Print + Sync>(
     rt: &R,
     alloc: Global,
-    plan: Arc<Plan>,
+    plan: &Arc<Plan>,
     readers: u32,
     work: Work,
 ) -> Result<()> {
-    print_all(rt, timed(rt, alloc, plan, readers, work)?.as_slice())
+    let all = timed(rt, alloc, plan, readers, work)?;
+    print_all(rt, all.as_slice())
+}
+
+fn time_bare<R: Threads + Wait + Clock + Print + Clone + Drop + Sync>(
+    rt: &R,
+    alloc: Global,
+    looks: u32,
+    writes: u32,
+) -> Result<()> {
+    let all = bare::timed(rt, alloc, looks, writes)?;
+    print_all(rt, all.as_slice())
 }
 
 // A line for each.
@@ -74,35 +107,62 @@ fn print_all<R: Print>(rt: &R, all: &[Option<Done>]) -> Result<()> {
     Ok(())
 }
 
-fn main(rt: HostRuntime) -> Result<()> {
-    let mut words = env::args(&rt)?;
-    let Some(what) = words.nth(1) else {
-        return Ok(());
-    };
-    let mut numbers = Vec::new(rt.alloc());
-    for word in words {
-        numbers.push(word.parse::<u32>().context("no number")?)?;
-    }
-    let (parts, steps) = match what.as_str() {
-        "steps" => (LONG, 1),
-        "advances" => (FREE, 1),
-        _ => (FREE, 0),
-    };
-    let plan = Arc::new(rt.alloc(), plan_of(rt.alloc(), &parts)?)?;
-    match (what.as_str(), numbers.as_slice()) {
-        ("merge", [writes, runs]) => merge_all(&rt, rt.alloc(), &plan, *writes, *runs),
-        ("bare", [looks, writes]) => {
-            let done = bare::timed(&rt, rt.alloc(), *looks, *writes)?;
-            print_all(&rt, done.as_slice())
-        }
+// Does a kind of work with these numbers; nothing where there is none of that kind.
+fn work<R: Threads + Wait + Clock + Print + Clone + Drop + Sync>(
+    rt: &R,
+    alloc: Global,
+    plan: &Arc<Plan>,
+    kind: &str,
+    numbers: &[u32],
+) -> Result<()> {
+    match (kind, numbers) {
+        ("merge", [writes, runs]) => merge_all(rt, alloc, plan, *writes, *runs),
+        ("bare", [looks, writes]) => time_bare(rt, alloc, *looks, *writes),
         ("looks" | "advances" | "steps", [readers, looks, writes]) => {
             let work = Work {
                 looks: *looks,
                 writes: *writes,
-                steps,
+                steps: if kind == "looks" { 0 } else { 1 },
             };
-            time_looks(&rt, rt.alloc(), plan, *readers, work)
+            time_looks(rt, alloc, plan, *readers, work)
         }
         _ => Ok(()),
     }
+}
+
+// The numbers that words spell.
+fn numbers_of(alloc: Global, words: &[String]) -> Result<Vec<u32>> {
+    let mut numbers = Vec::new(alloc);
+    for word in words {
+        numbers.push(word.parse::<u32>().context("no number")?)?;
+    }
+    Ok(numbers)
+}
+
+// Does what the program's words ask for, of which the first is its name.
+fn obey<R: Threads + Wait + Clock + Print + Clone + Drop + Sync>(
+    rt: &R,
+    alloc: Global,
+    words: &[String],
+) -> Result<()> {
+    let [_, kind, words @ ..] = words else {
+        return Ok(());
+    };
+    let numbers = numbers_of(alloc, words)?;
+    let plan = plan_for(alloc, kind)?;
+    work(rt, alloc, &plan, kind, &numbers)
+}
+
+// The program's words.
+fn words_of(rt: &HostRuntime) -> io::Result<Vec<String>> {
+    let mut words = Vec::new(rt.alloc());
+    for word in env::args(rt)? {
+        words.push(word)?;
+    }
+    Ok(words)
+}
+
+fn main(rt: HostRuntime) -> Result<()> {
+    let words = words_of(&rt)?;
+    obey(&rt, rt.alloc(), &words)
 }
