@@ -170,7 +170,8 @@ fn edits_value(alloc: Global, edits: &[Edit]) -> Result<Value, OutOfMemory>
 // The fields of edits: the list of them, and its form.
 fn edits_fields(alloc: Global, edits: &[Edit]) -> Result<Map<String, Value>, OutOfMemory>
     ensures { IfOk result (λ fields. members_view fields.entries
-        ≡ member (codes "edits") (list_data (map edit_data edits.now)) (member (codes "form") (number_data 1) no_members)) }
+        ≡ member (codes "edits") (list_data (map edit_data edits.now))
+        (member (codes "form") (number_data 1) no_members)) }
 {
     let edits = list_value(alloc, edits)?;
     let fields = with_field(alloc, Map::new(alloc), "edits", edits)?;
