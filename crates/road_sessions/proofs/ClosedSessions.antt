@@ -4,10 +4,10 @@ use Rattle.std.specs.Prelude.{nat_eq, if◌then◌else◌}
 use Rattle.std.specs.List.{AllByRecursion}
 use native.Mathlib.Decide.{ℕ_discrete}
 use Rattle.road_sessions.specs.declared.entry.Entry.{Entry}
-use Rattle.road_sessions.specs.Journals.{AreWritesOf, Rise, Stand, Write, writes_from, writes_of}
+use Rattle.road_sessions.specs.Journals.{AreWritesOf, AreAtRisingPlaces, AreInJournal, Write, writes_from, writes_of}
 use Rattle.road_sessions.specs.Closings.{AreApart, HasWritesOf, IsWrittenBy, write_count}
-use Rattle.road_sessions.specs.Private.ClosingSeats.{Brings}
-use Rattle.road_sessions.specs.Seats.{Seat}
+use Rattle.road_sessions.specs.Private.ClosingSessions.{IsSessionOf}
+use Rattle.road_sessions.specs.Sessions.{Session}
 
 -- ---- one session: it has no fewer entries in the journal than writes that stand there
 
@@ -15,7 +15,7 @@ use Rattle.road_sessions.specs.Seats.{Seat}
 abbrev StandsFrom : ℕ → List Entry → Write → Type 0
 StandsFrom place journal w = (k : ℕ) × (w.0 ≡ place + k) × (slice_get journal k ≡ Some w.1)
 
-from_zero : (journal : List Entry) (writes : List Write) → Stand writes journal → AllByRecursion (StandsFrom 0 journal) writes
+from_zero : (journal : List Entry) (writes : List Write) → AreInJournal writes journal → AllByRecursion (StandsFrom 0 journal) writes
 from_zero journal [] stand = tt
 from_zero journal (w ∷ ws) stand = ((w.0, omega arith, stand.0), from_zero journal ws stand.1)
 
@@ -65,7 +65,7 @@ covers_step n place e es w ws (suc k) at got after mine stand later all =
     covers_beside (nat_eq e.session n) (place, e) (writes_from n (place + 1) es) (w ∷ ws)
     (all (all_in_rest place e es (w ∷ ws) (omega arith, after_lower place w.0 ws (omega arith) after) stand))
 
-covers : (n place : ℕ) (journal : List Entry) (writes : List Write) → Rise writes → AreWritesOf n writes → AllByRecursion (StandsFrom place journal) writes → Covers (writes_from n place journal) writes
+covers : (n place : ℕ) (journal : List Entry) (writes : List Write) → AreAtRisingPlaces writes → AreWritesOf n writes → AllByRecursion (StandsFrom place journal) writes → Covers (writes_from n place journal) writes
 covers n place [] [] rise mine stand = (omega arith, λ short. refl)
 covers n place [] (w ∷ ws) rise mine stand = absurd (let got = stand.0.2 in cc (got))
 covers n place (e ∷ es) [] rise mine stand = (omega arith, λ short. none_left (writes_from n place (e ∷ es)) short)
@@ -75,7 +75,7 @@ covers n place (e ∷ es) (w ∷ ws) rise mine stand =
 -- ---- all sessions: they have no more entries than the journal
 
 -- how many entries they have, in a journal whose first place has this number
-abbrev entries_of : ℕ → List Entry → List Seat → ℕ
+abbrev entries_of : ℕ → List Entry → List Session → ℕ
 entries_of place journal [] = 0
 entries_of place journal (s ∷ ss) = length (writes_from s.number place journal) + entries_of place journal ss
 
@@ -88,54 +88,54 @@ no_entry true x entries other = absurd (cc (other))
 no_entry false x entries other = refl
 
 -- an entry of none of these sessions adds nothing
-of_none : (place : ℕ) (e : Entry) (es : List Entry) (ss : List Seat) → AllByRecursion (λ (t : Seat). e.session ≢ t.number) ss → entries_of place (e ∷ es) ss ≡ entries_of (place + 1) es ss
+of_none : (place : ℕ) (e : Entry) (es : List Entry) (ss : List Session) → AllByRecursion (λ (t : Session). e.session ≢ t.number) ss → entries_of place (e ∷ es) ss ≡ entries_of (place + 1) es ss
 of_none place e es [] other = refl
 of_none place e es (s ∷ ss) other =
     let rest = of_none place e es ss other.1 in
     let here = no_entry (nat_eq e.session s.number) (place, e) (writes_from s.number (place + 1) es) (ne_eqb e.session s.number other.0) in omega arith
 
-of_first_or_not : (place : ℕ) (e : Entry) (es : List Entry) (s : Seat) (ss : List Seat) → AreApart (s ∷ ss) → Dec (e.session ≡ s.number) → entries_of place (e ∷ es) ss ≤ suc (entries_of (place + 1) es ss)
+of_first_or_not : (place : ℕ) (e : Entry) (es : List Entry) (s : Session) (ss : List Session) → AreApart (s ∷ ss) → Dec (e.session ≡ s.number) → entries_of place (e ∷ es) ss ≤ suc (entries_of (place + 1) es ss)
     → entries_of place (e ∷ es) (s ∷ ss) ≤ suc (entries_of (place + 1) es (s ∷ ss))
 of_first_or_not place e es s ss apart (yes is) rest =
-    let others = of_none place e es ss (subst (λ (k : ℕ). AllByRecursion (λ (t : Seat). k ≢ t.number) ss) (sym is) apart.0) in
+    let others = of_none place e es ss (subst (λ (k : ℕ). AllByRecursion (λ (t : Session). k ≢ t.number) ss) (sym is) apart.0) in
     let here = one_at_most (nat_eq e.session s.number) (place, e) (writes_from s.number (place + 1) es) in omega arith
 of_first_or_not place e es s ss apart (no not) rest =
     let here = no_entry (nat_eq e.session s.number) (place, e) (writes_from s.number (place + 1) es) (ne_eqb e.session s.number not) in omega arith
 
 -- an entry is of one session at most
-of_one : (place : ℕ) (e : Entry) (es : List Entry) (ss : List Seat) → AreApart ss → entries_of place (e ∷ es) ss ≤ suc (entries_of (place + 1) es ss)
+of_one : (place : ℕ) (e : Entry) (es : List Entry) (ss : List Session) → AreApart ss → entries_of place (e ∷ es) ss ≤ suc (entries_of (place + 1) es ss)
 of_one place e es [] apart = omega arith
 of_one place e es (s ∷ ss) apart = of_first_or_not place e es s ss apart (ℕ_discrete e.session s.number) (of_one place e es ss apart.1)
 
-none_of_none : (place : ℕ) (ss : List Seat) → entries_of place [] ss ≡ 0
+none_of_none : (place : ℕ) (ss : List Session) → entries_of place [] ss ≡ 0
 none_of_none place [] = refl
 none_of_none place (s ∷ ss) = let rest = none_of_none place ss in omega arith
 
-few_entries : (place : ℕ) (journal : List Entry) (ss : List Seat) → AreApart ss → entries_of place journal ss ≤ length journal
+few_entries : (place : ℕ) (journal : List Entry) (ss : List Session) → AreApart ss → entries_of place journal ss ≤ length journal
 few_entries place [] ss apart = let none = none_of_none place ss in omega arith
 few_entries place (e ∷ es) ss apart = let rest = few_entries (place + 1) es ss apart in let first = of_one place e es ss apart in omega arith
 
 -- ---- both together
 
-many_entries : (journal : List Entry) (ss : List Seat) → AllByRecursion (Brings journal) ss → write_count ss ≤ entries_of 0 journal ss
-many_entries journal [] bring = omega arith
-many_entries journal (s ∷ ss) bring =
-    let rest = many_entries journal ss bring.1 in
-    let first = (covers s.number 0 journal s.view.own bring.0.0 bring.0.1 (from_zero journal s.view.own bring.0.2)).0 in omega arith
+many_entries : (journal : List Entry) (ss : List Session) → AllByRecursion (IsSessionOf journal) ss → write_count ss ≤ entries_of 0 journal ss
+many_entries journal [] known = omega arith
+many_entries journal (s ∷ ss) known =
+    let rest = many_entries journal ss known.1 in
+    let first = (covers s.number 0 journal s.view.own known.0.0 known.0.1 (from_zero journal s.view.own known.0.2)).0 in omega arith
 
-all_have_writes : (journal : List Entry) (ss : List Seat) → AllByRecursion (Brings journal) ss → entries_of 0 journal ss ≤ write_count ss → AllByRecursion (HasWritesOf journal) ss
-all_have_writes journal [] bring few = tt
-all_have_writes journal (s ∷ ss) bring few =
-    let many = many_entries journal ss bring.1 in
-    let c = covers s.number 0 journal s.view.own bring.0.0 bring.0.1 (from_zero journal s.view.own bring.0.2) in
+all_have_writes : (journal : List Entry) (ss : List Session) → AllByRecursion (IsSessionOf journal) ss → entries_of 0 journal ss ≤ write_count ss → AllByRecursion (HasWritesOf journal) ss
+all_have_writes journal [] known few = tt
+all_have_writes journal (s ∷ ss) known few =
+    let many = many_entries journal ss known.1 in
+    let c = covers s.number 0 journal s.view.own known.0.0 known.0.1 (from_zero journal s.view.own known.0.2) in
     let first = c.0 in
     let short : length (writes_of s.number journal) ≤ length s.view.own = omega arith in
     let others : entries_of 0 journal ss ≤ write_count ss = omega arith in
-    ((c.1 short, bring.0.3), all_have_writes journal ss bring.1 others)
+    ((c.1 short, known.0.3), all_have_writes journal ss known.1 others)
 
-pub written_by : (journal : List Entry) (ss : List Seat) → AreApart ss → AllByRecursion (Brings journal) ss → length journal ≡ write_count ss → IsWrittenBy journal ss
-written_by journal ss apart bring count = let few = few_entries 0 journal ss apart in (count, all_have_writes journal ss bring (omega arith))
+pub written_by : (journal : List Entry) (ss : List Session) → AreApart ss → AllByRecursion (IsSessionOf journal) ss → length journal ≡ write_count ss → IsWrittenBy journal ss
+written_by journal ss apart known count = let few = few_entries 0 journal ss apart in (count, all_have_writes journal ss known (omega arith))
 
-pub write_count_one_more : (ss : List Seat) (s : Seat) → write_count (ss ++ s ∷ []) ≡ write_count ss + length s.view.own
+pub write_count_one_more : (ss : List Session) (s : Session) → write_count (ss ++ s ∷ []) ≡ write_count ss + length s.view.own
 write_count_one_more [] s = omega arith
 write_count_one_more (t ∷ ss) s = let rest = write_count_one_more ss s in omega arith

@@ -8,10 +8,10 @@ use Rattle.road_replica.specs.declared.reply.Reply.{Reply}
 use Rattle.road_sessions.specs.declared.entry.Entry.{Entry}
 use Rattle.road_sessions.specs.declared.view.View.{View}
 use Rattle.road_sessions.specs.declared.wish.Wish.{Wish}
-use Rattle.road_sessions.specs.Journals.{AreWritesOf, IsLegal, Rise, Stand, Write, entry, replay}
+use Rattle.road_sessions.specs.Journals.{AreWritesOf, IsLegal, AreAtRisingPlaces, AreInJournal, Write, entry, replay}
 use Rattle.road_sessions.specs.Looks.{HasEntered}
 use Rattle.road_sessions.specs.Private.Stores.{EntersAfterWrite, EntersToLook, last_write_from}
-use Rattle.road_sessions.specs.Seats.{AreNewSeats, IsSeat, IsWrite, Seat, newcomer, seat}
+use Rattle.road_sessions.specs.Sessions.{AreNewSessions, IsSession, IsWrite, Session, new_view, session_of}
 use Rattle.road_sessions.specs.Writes.{reply_to, wish_command}
 use Rattle.road_sessions.proofs.Beginnings.{each_of_both, got_last, stand_later}
 
@@ -31,7 +31,7 @@ own_more own front after e place is at =
 
 pub is_write : (r : Replica) (session : ℕ) (wish : Wish) (seen front after : List Entry) (v w : View) (place : ℕ) (reply : Reply) → IsPrefix seen front
     → after ≡ front ++ entry session (wish_command wish (replay r front)) ∷ [] → IsLegal r after → place ≡ length front → reply ≡ reply_to wish (replay r front) → EntersAfterWrite v after w
-    → IsWrite r wish (seat session seen v) place reply (seat session after w)
+    → IsWrite r wish (session_of session seen v) place reply (session_of session after w)
 is_write r session wish seen front after v w place reply before is legal at answer enters = record {
   front = front;
   before = before;
@@ -46,21 +46,21 @@ is_write r session wish seen front after v w place reply before is legal at answ
   entered = ap (λ (u : View). u.entered) enters.1;
 }
 
-all_before : (writes : List Write) (journal : List Entry) → Stand writes journal → AllByRecursion (λ (w : Write). w.0 < length journal) writes
+all_before : (writes : List Write) (journal : List Entry) → AreInJournal writes journal → AllByRecursion (λ (w : Write). w.0 < length journal) writes
 all_before [] journal stand = tt
 all_before (w ∷ ws) journal stand = (slice_get_within journal w.0 w.1 stand.0, all_before ws journal stand.1)
 
-rise_more : (writes : List Write) (place : ℕ) (e : Entry) → Rise writes → AllByRecursion (λ (w : Write). w.0 < place) writes → Rise (writes ++ (place, e) ∷ [])
+rise_more : (writes : List Write) (place : ℕ) (e : Entry) → AreAtRisingPlaces writes → AllByRecursion (λ (w : Write). w.0 < place) writes → AreAtRisingPlaces (writes ++ (place, e) ∷ [])
 rise_more [] place e rise low = (tt, tt)
 rise_more (w ∷ ws) place e rise low =
     (each_of_both (λ (v : Write). w.0 < v.0) ws ((place, e) ∷ []) rise.0 (low.0, tt), rise_more ws place e rise.1 low.1)
 
 -- after an accepted write a session meets what every session meets
-pub seat_after_write : (r : Replica) (wish : Wish) (s t : Seat) (place : ℕ) (reply : Reply) → IsWrite r wish s place reply t → IsSeat r s → IsSeat r t
-seat_after_write r wish s t place reply w is =
+pub session_after_write : (r : Replica) (wish : Wish) (s t : Session) (place : ℕ) (reply : Reply) → IsWrite r wish s place reply t → IsSession r s → IsSession r t
+session_after_write r wish s t place reply w is =
     let e = entry s.number (wish_command wish (replay r w.front)) in
-    let stood : Stand s.view.own w.front = stand_later s.view.own s.seen w.front w.before is.standing in
-    let stands : Stand s.view.own t.seen = stand_later s.view.own w.front t.seen (e ∷ [], sym w.seen) stood in
+    let stood : AreInJournal s.view.own w.front = stand_later s.view.own s.seen w.front w.before is.standing in
+    let stands : AreInJournal s.view.own t.seen = stand_later s.view.own w.front t.seen (e ∷ [], sym w.seen) stood in
     let low : AllByRecursion (λ (u : Write). u.0 < place) s.view.own = subst (λ (n : ℕ). AllByRecursion (λ (u : Write). u.0 < n) s.view.own) (sym w.place_is) (all_before s.view.own w.front stood) in
     let there : slice_get t.seen place ≡ Some e = subst (λ (l : List Entry). slice_get l place ≡ Some e) (sym w.seen) (subst (λ (n : ℕ). slice_get (w.front ++ e ∷ []) n ≡ Some e) (sym w.place_is) (got_last w.front e)) in
     let mine = each_of_both (λ (u : Write). u.1.session ≡ s.number) s.view.own ((place, e) ∷ []) is.own (refl, tt) in
@@ -68,30 +68,30 @@ seat_after_write r wish s t place reply w is =
     record {
       legal = w.legal;
       own = subst (λ (n : ℕ). AreWritesOf n t.view.own) (sym w.number) (subst (λ (o : List Write). AreWritesOf s.number o) (sym w.own) mine);
-      rising = subst Rise (sym w.own) (rise_more s.view.own place e is.rising low);
-      standing = subst (λ (o : List Write). Stand o t.seen) (sym w.own) all;
+      rising = subst AreAtRisingPlaces (sym w.own) (rise_more s.view.own place e is.rising low);
+      standing = subst (λ (o : List Write). AreInJournal o t.seen) (sym w.own) all;
     }
 
-pub one_more_write : (r : Replica) (wish : Wish) (s t : Seat) (place : ℕ) (reply : Reply) → IsWrite r wish s place reply t → length t.view.own ≡ length s.view.own + 1
+pub one_more_write : (r : Replica) (wish : Wish) (s t : Session) (place : ℕ) (reply : Reply) → IsWrite r wish s place reply t → length t.view.own ≡ length s.view.own + 1
 one_more_write r wish s t place reply w =
     ap (λ (o : List Write). length o) w.own ∙ (let n = length-append s.view.own ((place, entry s.number (wish_command wish (replay r w.front))) ∷ []) in omega arith)
 
 -- ---- a look, and what was told
 
 -- having seen more, a session meets what every session meets
-pub seat_later : (r : Replica) (session : ℕ) (seen after : List Entry) (v w : View) → IsPrefix seen after → IsLegal r after → w.own ≡ v.own → IsSeat r (seat session seen v) → IsSeat r (seat session after w)
-seat_later r session seen after v w grows legal own is = record {
+pub session_later : (r : Replica) (session : ℕ) (seen after : List Entry) (v w : View) → IsPrefix seen after → IsLegal r after → w.own ≡ v.own → IsSession r (session_of session seen v) → IsSession r (session_of session after w)
+session_later r session seen after v w grows legal own is = record {
   legal = legal;
   own = subst (λ (o : List Write). AreWritesOf session o) (sym own) is.own;
-  rising = subst Rise (sym own) is.rising;
-  standing = subst (λ (o : List Write). Stand o after) (sym own) (stand_later v.own seen after grows is.standing);
+  rising = subst AreAtRisingPlaces (sym own) is.rising;
+  standing = subst (λ (o : List Write). AreInJournal o after) (sym own) (stand_later v.own seen after grows is.standing);
 }
 
 -- the store was entered, where this was published
-pub has_entered : (r : Replica) (session : ℕ) (seen after published : List Entry) (v w : View) → IsPrefix seen after → IsLegal r after → EntersToLook v published w → IsSeat r (seat session seen v) → HasEntered r (seat session seen v) (seat session after w)
+pub has_entered : (r : Replica) (session : ℕ) (seen after published : List Entry) (v w : View) → IsPrefix seen after → IsLegal r after → EntersToLook v published w → IsSession r (session_of session seen v) → HasEntered r (session_of session seen v) (session_of session after w)
 has_entered r session seen after published v w grows legal enters is =
     let own : w.own ≡ v.own = ap (λ (u : View). u.own) enters.1 in
-    let after_is = seat_later r session seen after v w grows legal own is in record {
+    let after_is = session_later r session seen after v w grows legal own is in record {
       entered = ap (λ (u : View). u.entered) enters.1;
       later = subst (λ (u : View). IsPrefix v.found u.found) (sym enters.1) enters.0;
       seen = grows;
@@ -103,13 +103,13 @@ has_entered r session seen after published v w grows legal enters is =
 
 -- ---- opening
 
-fresh_from : (n : ℕ) (ss : List Seat) → AreNewSeats n ss → AreNewSeats n (ss ++ seat (n + length ss) [] newcomer ∷ [])
-fresh_from n [] fresh = (ap (λ (k : ℕ). seat k [] newcomer) (omega arith), tt)
+fresh_from : (n : ℕ) (ss : List Session) → AreNewSessions n ss → AreNewSessions n (ss ++ session_of (n + length ss) [] new_view ∷ [])
+fresh_from n [] fresh = (ap (λ (k : ℕ). session_of k [] new_view) (omega arith), tt)
 fresh_from n (s ∷ ss) fresh =
-    (fresh.0, subst (λ (k : ℕ). AreNewSeats (n + 1) (ss ++ seat k [] newcomer ∷ [])) (omega arith) (fresh_from (n + 1) ss fresh.1))
+    (fresh.0, subst (λ (k : ℕ). AreNewSessions (n + 1) (ss ++ session_of k [] new_view ∷ [])) (omega arith) (fresh_from (n + 1) ss fresh.1))
 
 -- a session more, with the next number
-pub fresh_more : (ss : List Seat) (n : ℕ) (s : Seat) → AreNewSeats 0 ss → length ss ≡ n → s ≡ seat n [] newcomer → AreNewSeats 0 (ss ++ s ∷ [])
+pub fresh_more : (ss : List Session) (n : ℕ) (s : Session) → AreNewSessions 0 ss → length ss ≡ n → s ≡ session_of n [] new_view → AreNewSessions 0 (ss ++ s ∷ [])
 fresh_more ss n s fresh at is =
     let next : 0 + length ss ≡ n = omega arith in
-    subst (λ (t : Seat). AreNewSeats 0 (ss ++ t ∷ [])) (ap (λ (k : ℕ). seat k [] newcomer) next ∙ sym is) (fresh_from 0 ss fresh)
+    subst (λ (t : Session). AreNewSessions 0 (ss ++ t ∷ [])) (ap (λ (k : ℕ). session_of k [] new_view) next ∙ sym is) (fresh_from 0 ss fresh)

@@ -6,32 +6,32 @@ use Rattle.road_sessions.specs.declared.entry.Entry.{Entry}
 use Rattle.road_sessions.specs.declared.faults.CloseCause.{CloseCause}
 use Rattle.road_sessions.specs.declared.faults.CloseCause.TheVariants.{Missing, OutOfMemory}
 use Rattle.road_sessions.specs.Journals.{writes_of}
-use Rattle.road_sessions.specs.Seats.{Seat}
+use Rattle.road_sessions.specs.Sessions.{Session}
 
 -- no two of these sessions have one number
-abbrev pub AreApart : List Seat → Type 0
+abbrev pub AreApart : List Session → Type 0
 AreApart [] = Unit {0}
 AreApart (s ∷ ss) = AllByRecursion (λ t. s.number ≢ t.number) ss × AreApart ss
 
 -- they are all the sessions of a store that was opened with so many
-abbrev pub AreAll : ℕ → List Seat → Type 0
+abbrev pub AreAll : ℕ → List Session → Type 0
 AreAll count ss = (length ss ≡ count) × AreApart ss
 
 -- how many writes they made together
-abbrev pub write_count : List Seat → ℕ
+abbrev pub write_count : List Session → ℕ
 write_count [] = 0
 write_count (s ∷ ss) = length s.view.own + write_count ss
 
 -- a journal has the writes of a session: its entries of the session's number are those, each once, at their places and
 -- in order, and what the session has seen begins it
-abbrev pub HasWritesOf : List Entry → Seat → Type 0
+abbrev pub HasWritesOf : List Entry → Session → Type 0
 HasWritesOf journal s = (writes_of s.number journal ≡ s.view.own) × IsPrefix s.seen journal
 
 -- a journal is written by just these sessions: it has the writes of each, and as many entries as they made writes
-abbrev pub IsWrittenBy : List Entry → List Seat → Type 0
+abbrev pub IsWrittenBy : List Entry → List Session → Type 0
 IsWrittenBy journal ss = (length journal ≡ write_count ss) × AllByRecursion (HasWritesOf journal) ss
 
 -- a closing is refused as `Missing` where these are not all the sessions, and else for want of memory
-abbrev pub IsCloseRefusal : ℕ → List Seat → CloseCause → Type 0
+abbrev pub IsCloseRefusal : ℕ → List Session → CloseCause → Type 0
 IsCloseRefusal count ss Missing = ¬ AreAll count ss
 IsCloseRefusal count ss OutOfMemory = AreAll count ss

@@ -44,17 +44,17 @@ abbrev pub Write : Type 0
 Write = ℕ × Entry
 
 -- each of these writes stands in the journal at its place
-abbrev pub Stand : List Write → List Entry → Type 0
-Stand writes journal = AllByRecursion (λ w. slice_get journal w.0 ≡ Some w.1) writes
+abbrev pub AreInJournal : List Write → List Entry → Type 0
+AreInJournal writes journal = AllByRecursion (λ w. slice_get journal w.0 ≡ Some w.1) writes
 
 -- all these writes are of one session
 abbrev pub AreWritesOf : ℕ → List Write → Type 0
 AreWritesOf session writes = AllByRecursion (λ w. w.1.session ≡ session) writes
 
 -- their places rise
-abbrev pub Rise : List Write → Type 0
-Rise [] = Unit {0}
-Rise (w ∷ ws) = AllByRecursion (λ v. w.0 < v.0) ws × Rise ws
+abbrev pub AreAtRisingPlaces : List Write → Type 0
+AreAtRisingPlaces [] = Unit {0}
+AreAtRisingPlaces (w ∷ ws) = AllByRecursion (λ v. w.0 < v.0) ws × AreAtRisingPlaces ws
 
 -- the writes of one session in a journal whose first place has this number
 abbrev pub writes_from : ℕ → ℕ → List Entry → List Write

@@ -3,4 +3,4 @@
 pub mod MadeWrites
 pub mod Books
 pub mod Stores
-pub mod ClosingSeats
+pub mod ClosingSessions

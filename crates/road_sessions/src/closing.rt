@@ -3,7 +3,7 @@ ghost use Rattle.std.specs.Prelude.{◌≡◌, ◌≢◌, ◌+◌, IfErr, IfOk, 
 ghost use Rattle.std.specs.Arc.{arc_value};
 ghost use Rattle.std.specs.List.{AllByRecursion};
 ghost use Rattle.road_sessions.specs.Closings.{AreAll, AreApart, IsCloseRefusal, IsWrittenBy, write_count};
-ghost use Rattle.road_sessions.specs.Private.ClosingSeats.{Brings};
+ghost use Rattle.road_sessions.specs.Private.ClosingSessions.{IsSessionOf};
 ghost use Rattle.road_sessions.specs.Journals.{replay};
 
 use crate::book::Beginning;
@@ -67,13 +67,13 @@ pub fn close<J: Naming, R: Wait + Drop>(
         return Err(refusal(CloseCause::Missing, held, sessions));
     }
     // What a session has seen was published, and begins the journal. No contract says so, and the refusal stands here.
-    if !all_bring(sessions.as_slice(), &held.history) {
+    if !are_sessions_of(sessions.as_slice(), &held.history) {
         return Err(refusal(CloseCause::OutOfMemory, held, sessions));
     }
     let mut all = held.spare.empty();
     all = shares(sessions, all);
     held.accepted.audit(&mut all);
-    let (sheet, journal) = held.taken();
+    let (sheet, journal) = held.into_sheet_and_journal();
     Ok(Closed { sheet, journal })
 }
 
@@ -117,12 +117,12 @@ fn are_apart<J: Naming>(sessions: &[Session<J>]) -> bool
 }
 
 // Whether what each of them has seen begins a history, where their writes stand then.
-fn all_bring<J: Naming>(sessions: &[Session<J>], history: &Beginning<J>) -> bool
-    ensures { IsTrue result → AllByRecursion (Brings history.now) sessions.now }
+fn are_sessions_of<J: Naming>(sessions: &[Session<J>], history: &Beginning<J>) -> bool
+    ensures { IsTrue result → AllByRecursion (IsSessionOf history.now) sessions.now }
 {
     match sessions.split_first() {
         None => true,
-        Some((first, rest)) => first.brings(history) && all_bring(rest, history),
+        Some((first, rest)) => first.is_session_of(history) && are_sessions_of(rest, history),
     }
 }
 

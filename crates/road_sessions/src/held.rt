@@ -8,7 +8,7 @@ ghost use Rattle.road_replica.specs.Replicas.{replica_after};
 ghost use Rattle.road_replica.specs.declared.faults.ReplicaFault.TheVariants as replica_faults;
 ghost use Rattle.road_sessions.specs.declared.entry.TheConstants.{MOST_WRITES};
 ghost use Rattle.road_sessions.specs.Journals.{entry_command, entry, replay};
-ghost use Rattle.road_sessions.specs.Seats.{AreNewSeats, IsWrite, seat};
+ghost use Rattle.road_sessions.specs.Sessions.{AreNewSessions, IsWrite, session_of};
 ghost use Rattle.road_sessions.specs.Writes.{IsWriteRefusal, gone_after_fault, reply_to, wish_fault};
 ghost use Rattle.road_sessions.specs.Private.MadeWrites.{IsMade};
 ghost use Rattle.road_sessions.specs.Writes.{wish_command, write_fault};
@@ -284,8 +284,8 @@ impl<J: Naming, R: Wait + Drop> Held<J, R> {
     ) -> Result<(u64, Reply), WriteFault>
         requires { 0 < mine.old.parts }
         ensures wrote { MatchResult result
-            (λ wrote. IsWrite J.replica wish.now (seat session seen.old (view reader.old.place)) wrote.0 wrote.1
-            (seat session seen.new (view reader.new.place)))
+            (λ wrote. IsWrite J.replica wish.now (session_of session seen.old (view reader.old.place)) wrote.0 wrote.1
+            (session_of session seen.new (view reader.new.place)))
             (λ _. (seen.new ≡ seen.old) × (view reader.new.place ≡ view reader.old.place)) }
         ensures share { (mine.new.parts ≡ mine.old.parts) × MatchResult result
             (λ _. mine.new.amount ≡ mine.old.amount + 1) (λ _. mine.new.amount ≡ mine.old.amount) }
@@ -304,42 +304,44 @@ impl<J: Naming, R: Wait + Drop> Held<J, R> {
     }
 
     // The sessions of a store that was just opened, numbered from 0.
-    pub(crate) fn seats(&self, mut whole: Share<J>) -> Result<Vec<Session<J>>, OpenFault>
+    pub(crate) fn new_sessions(&self, mut whole: Share<J>) -> Result<Vec<Session<J>>, OpenFault>
         requires empty { self.now.journal.items ≡ [] }
         requires whole { (whole.parts ≡ self.now.sessions) × (whole.amount ≡ 0) }
-        ensures { IfOk result (λ seats. (length seats.items ≡ self.now.sessions) × AreNewSeats 0 seats.items) }
+        ensures { IfOk result
+            (λ sessions. (length sessions.items ≡ self.now.sessions) × AreNewSessions 0 sessions.items) }
     {
-        let mut seats = Vec::new(self.alloc);
+        let mut sessions = Vec::new(self.alloc);
         for number in 0..self.sessions {
             let Ok(reader) = self.writer.factory().reader() else {
                 return Err(OpenFault::NoPlace);
             };
             let seen = self.history.again();
             let share = whole.split_off(1, 0);
-            let Ok(()) = seats.push(Session::new(number, seen, reader, share)) else {
+            let Ok(()) = sessions.push(Session::new(number, seen, reader, share)) else {
                 return Err(OpenFault::OutOfMemory);
             };
         }
-        Ok(seats)
+        Ok(sessions)
     }
 
     // The sessions of a store that was just opened, once the writer's queue has its memory.
-    pub(crate) fn seated(
+    pub(crate) fn opening_sessions(
         &mut self,
         published: Published<J>,
         whole: Share<J>,
     ) -> Result<Vec<Session<J>>, OpenFault>
         requires empty { self.old.journal.items ≡ [] }
         requires whole { (whole.parts ≡ J.parts) × (whole.amount ≡ 0) }
-        ensures seats { IfOk result (λ seats. (length seats.items ≡ J.parts) × AreNewSeats 0 seats.items) }
+        ensures sessions { IfOk result
+            (λ sessions. (length sessions.items ≡ J.parts) × AreNewSessions 0 sessions.items) }
         ensures journal { self.new.journal ≡ self.old.journal }
     {
         self.warm(published)?;
-        self.seats(whole)
+        self.new_sessions(whole)
     }
 
     // The sheet and the journal, without the store.
-    pub(crate) fn taken(self) -> (Arc<Sheet>, Vec<Entry>)
+    pub(crate) fn into_sheet_and_journal(self) -> (Arc<Sheet>, Vec<Entry>)
         ensures journal { result.1 ≡ self.journal }
         ensures sheet { arc_value result.0 ≡ (replay J.replica result.1.items).sheet }
     {

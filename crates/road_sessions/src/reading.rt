@@ -5,7 +5,7 @@ ghost use Rattle.left_right.specs.Sides.{view};
 ghost use Rattle.road_sessions.specs.Journals.{IsLegal, replay};
 ghost use Rattle.road_sessions.specs.Looks.{HasLooked, IsLookRefusal};
 ghost use Rattle.road_sessions.specs.Private.Stores.{EntersAfterWrite, EntersToLook};
-ghost use Rattle.road_sessions.specs.Seats.{IsSeat, seat};
+ghost use Rattle.road_sessions.specs.Sessions.{IsSession, session_of};
 
 use crate::book::Beginning;
 use crate::faults::LookFault;
@@ -52,15 +52,15 @@ pub(crate) fn look<J: Naming>(
     seen: &mut Beginning<J>,
     reader: &mut StoreReader<J>,
 ) -> Result<Arc<Sheet>, LookFault>
-    requires { IsSeat J.replica (seat _number seen.old (view reader.old.place)) }
-    ensures seat { IsSeat J.replica (seat _number seen.new (view reader.new.place)) }
+    requires { IsSession J.replica (session_of _number seen.old (view reader.old.place)) }
+    ensures session { IsSession J.replica (session_of _number seen.new (view reader.new.place)) }
     ensures own { (view reader.new.place).own ≡ (view reader.old.place).own }
     ensures looked { MatchResult result
-        (λ sheet. HasLooked J.replica (seat _number seen.old (view reader.old.place))
-        (seat _number seen.new (view reader.new.place))
+        (λ sheet. HasLooked J.replica (session_of _number seen.old (view reader.old.place))
+        (session_of _number seen.new (view reader.new.place))
         × (arc_value sheet ≡ (replay J.replica seen.new).sheet))
-        (λ fault. IsLookRefusal J.replica fault (seat _number seen.old (view reader.old.place))
-        (seat _number seen.new (view reader.new.place))) }
+        (λ fault. IsLookRefusal J.replica fault (session_of _number seen.old (view reader.old.place))
+        (session_of _number seen.new (view reader.new.place))) }
 {
     let Some((history, sheet)) = enter_here(reader) else {
         return Err(LookFault::NotEntered);

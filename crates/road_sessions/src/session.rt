@@ -4,9 +4,9 @@ ghost use Rattle.std.specs.Arc.{arc_value};
 ghost use mathlib.Core.List.{IsPrefix};
 ghost use Rattle.left_right.specs.Sides.{view as view_at};
 ghost use Rattle.road_sheet.specs.Sheets.{state_fault, state_of, total_of, totals_fault};
-ghost use Rattle.road_sessions.specs.Private.ClosingSeats.{Brings};
+ghost use Rattle.road_sessions.specs.Private.ClosingSessions.{IsSessionOf};
 ghost use Rattle.road_sessions.specs.Looks.{HasLooked, IsLookRefusal, IsQuestionRefusal, sheet_seen};
-ghost use Rattle.road_sessions.specs.Seats.{IsSeat, IsWrite, newcomer, seat};
+ghost use Rattle.road_sessions.specs.Sessions.{IsSession, IsWrite, new_view, session_of};
 ghost use Rattle.road_sessions.specs.Writes.{gone_after_fault};
 ghost use Rattle.road_sessions.specs.declared.wish.Wish.TheVariants as wishes;
 
@@ -75,15 +75,15 @@ impl<J: Naming> Model for Session<J> {
     ghost use Rattle.left_right.specs.Sides.{view as view_at};
     ghost use Rattle.std.specs.Coded.{codes};
     ghost use Rattle.road_scenario.specs.Instances.EditOrder.{edits_code};
-    ghost use Rattle.road_sessions.specs.Seats.{IsSeat, Seat, seat};
+    ghost use Rattle.road_sessions.specs.Sessions.{IsSession, Session, session_of};
 
-    ghost Value = { Seat };
+    ghost Value = { Session };
 
     ghost coded = { Prim.hlevel (codes, edits_code) };
 
-    ghost view = { λ s. seat s.number s.seen (view_at s.reader.place) };
+    ghost view = { λ s. session_of s.number s.seen (view_at s.reader.place) };
 
-    ghost invariant = { λ s. IsSeat J.replica (seat s.number s.seen (view_at s.reader.place))
+    ghost invariant = { λ s. IsSession J.replica (session_of s.number s.seen (view_at s.reader.place))
         × (s.share.parts ≡ 1) × (s.share.amount ≡ length (view_at s.reader.place).own) };
 }
 
@@ -95,9 +95,9 @@ impl<J: Naming> Session<J> {
         reader: StoreReader<J>,
         share: Share<J>,
     ) -> Session<J>
-        requires fresh { (seen ≡ []) × (view_at reader.place ≡ newcomer) }
+        requires fresh { (seen ≡ []) × (view_at reader.place ≡ new_view) }
         requires share { (share.parts ≡ 1) × (share.amount ≡ 0) }
-        ensures { result ≡ seat number [] newcomer }
+        ensures { result ≡ session_of number [] new_view }
     {
         Session {
             number,
@@ -330,8 +330,8 @@ impl<J: Naming> Session<J> {
     // ---- closing
 
     // Whether all that it has seen begins this history, where its writes stand then.
-    pub(crate) fn brings(&self, history: &Beginning<J>) -> bool
-        ensures { IsTrue result → Brings history.now self.now }
+    pub(crate) fn is_session_of(&self, history: &Beginning<J>) -> bool
+        ensures { IsTrue result → IsSessionOf history.now self.now }
     {
         self.seen.begins(history)
     }

@@ -4,7 +4,7 @@ ghost use Rattle.std.specs.Arc.{arc_value};
 ghost use Rattle.road_plan.specs.declared.limits.TheConstants.{MOST_REPLICAS, MOST_SESSIONS};
 ghost use Rattle.road_sessions.specs.declared.entry.TheConstants.{MOST_WRITES};
 ghost use Rattle.road_sessions.specs.Journals.{replica_of_plan, replay};
-ghost use Rattle.road_sessions.specs.Seats.{AreNewSeats};
+ghost use Rattle.road_sessions.specs.Sessions.{AreNewSessions};
 
 use crate::book::{Beginning, EmptyBook};
 use crate::faults::OpenFault;
@@ -97,7 +97,7 @@ pub fn open<J: Naming, R: Wait + Drop>(
     requires book { prepared.book.seen.book ≡ J.book }
     requires replica { prepared.replica ≡ J.replica }
     requires ledger { (prepared.ledger.name ≡ J.name) × (prepared.ledger.parts ≡ J.parts) }
-    ensures { IfOk result (λ opened. (length opened.1.items ≡ prepared.sessions) × AreNewSeats 0 opened.1.items) }
+    ensures { IfOk result (λ opened. (length opened.1.items ≡ prepared.sessions) × AreNewSessions 0 opened.1.items) }
 {
     let (held, sessions) = opened::<J, R>(prepared)?;
     let shared = Shared {
@@ -119,7 +119,7 @@ pub fn opened<J: Naming, R: Wait + Drop>(
     requires ledger { (prepared.ledger.name ≡ J.name) × (prepared.ledger.parts ≡ J.parts) }
     ensures journal { IfOk result (λ opened. opened.0.journal.items ≡ []) }
     ensures sessions { IfOk result (λ opened. (length opened.1.items ≡ prepared.sessions)
-        × AreNewSeats 0 opened.1.items) }
+        × AreNewSessions 0 opened.1.items) }
 {
     let Prepared {
         rt,
@@ -146,8 +146,8 @@ pub fn opened<J: Naming, R: Wait + Drop>(
         accepted,
         spare,
     );
-    let seats = held.seated(published, whole)?;
-    Ok((held, seats))
+    let sessions = held.opening_sessions(published, whole)?;
+    Ok((held, sessions))
 }
 
 // A store with room for so many readers, which shows a sheet and the history that leaves it; and the two once more.

@@ -110,11 +110,11 @@ pub struct FoundFirst;
 
 impl<J: Naming> Protocol<Published<J>, View> for FoundFirst {
     ghost use Rattle.road_sessions.specs.Private.Stores.{FoundBegins};
-    ghost use Rattle.road_sessions.specs.Seats.{newcomer};
+    ghost use Rattle.road_sessions.specs.Sessions.{new_view};
 
     ghost holds = { FoundBegins };
 
-    ghost first = { newcomer };
+    ghost first = { new_view };
 }
 
 /// A reader enters to look.

@@ -6,11 +6,11 @@ use lib.ListN.{get_elem?}
 use Rattle.road_sessions.specs.declared.entry.Entry.{Entry}
 use Rattle.road_sessions.specs.declared.view.View.{View}
 use Rattle.road_sessions.specs.Journals.{Write}
-use Rattle.road_sessions.specs.Seats.{view_of}
+use Rattle.road_sessions.specs.Sessions.{view_of}
 
 -- what each reader found when it last entered begins the published history
 abbrev pub FoundBegins : List Entry → List View → Type 0
-FoundBegins published views = (seat : ℕ) (v : View) → get_elem? views seat ≡ some v → IsPrefix v.found published
+FoundBegins published views = (reader : ℕ) (v : View) → get_elem? views reader ≡ some v → IsPrefix v.found published
 
 -- a reader entered to look: it found what was published, which goes on from what it had found before
 abbrev pub EntersToLook : View → List Entry → View → Type 0

@@ -1,18 +1,18 @@
 -- After an accepted write a session is as sessions are, and its share counts one write more.
 use Rattle.std.proofs.Common.{◌∙◌, arith}
 use Rattle.left_right.specs.Sides.{view as view_at}
-use Rattle.road_sessions.specs.Seats.{Seat, seat}
-use Rattle.road_sessions.proofs.SessionWrites.{one_more_write, seat_after_write}
+use Rattle.road_sessions.specs.Sessions.{Session, session_of}
+use Rattle.road_sessions.proofs.SessionWrites.{one_more_write, session_after_write}
 use Rattle.road_sessions.proofs.session.Session.write.Goals as goal
 
 pub invariant_of-self-2 : goal.invariant_of-self-2
 invariant_of-self-2 g c =
     let r = g.J.Naming.replica in
-    let s : Seat = seat c.self.inside.number c.self.inside.seen (view_at c.self.inside.reader.place) in
-    let t : Seat = seat c.self.inside.number c.serve.new.seen (view_at c.serve.new.reader.place) in
+    let s : Session = session_of c.self.inside.number c.self.inside.seen (view_at c.self.inside.reader.place) in
+    let t : Session = session_of c.self.inside.number c.serve.new.seen (view_at c.serve.new.reader.place) in
     let wrote = c.in_ok-place.ensures.wrote in
     let wish = c.args.wish.now in (
-      seat_after_write r wish s t c.in_ok-place.place c.in_ok-place.reply wrote c.self.invariant.0,
+      session_after_write r wish s t c.in_ok-place.place c.in_ok-place.reply wrote c.self.invariant.0,
       c.serve.ensures.share.0 ∙ c.self.invariant.1,
       (let more = one_more_write r wish s t c.in_ok-place.place c.in_ok-place.reply wrote in let counted = c.in_ok-place.ensures.share.1 in let before = c.self.invariant.2 in omega arith),
     )

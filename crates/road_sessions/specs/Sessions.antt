@@ -6,7 +6,7 @@ use Rattle.road_replica.specs.declared.reply.Reply.{Reply}
 use Rattle.road_sessions.specs.declared.entry.Entry.{Entry}
 use Rattle.road_sessions.specs.declared.view.View.{View}
 use Rattle.road_sessions.specs.declared.wish.Wish.{Wish}
-use Rattle.road_sessions.specs.Journals.{IsLegal, Write, Stand, AreWritesOf, Rise, entry, replay}
+use Rattle.road_sessions.specs.Journals.{IsLegal, Write, AreInJournal, AreWritesOf, AreAtRisingPlaces, entry, replay}
 use Rattle.road_sessions.specs.Writes.{wish_command, reply_to}
 
 -- what the store knows of a reader: the history that was published when it last entered, its own writes, and how often
@@ -15,35 +15,35 @@ abbrev pub view_of : List Entry → List Write → ℕ → View
 view_of found own entered = record { found = found; own = own; entered = entered }
 
 -- a reader that has neither entered nor written
-abbrev pub newcomer : View
-newcomer = view_of [] [] 0
+abbrev pub new_view : View
+new_view = view_of [] [] 0
 
 -- a session: its number, the history of all that it has seen, heard of or written, and what the store knows of its
 -- reader
-pub record Seat : Type 0 where
+pub record Session : Type 0 where
   pub number : ℕ
   pub seen : List Entry
   pub view : View
 
 -- a session by its parts
-abbrev pub seat : ℕ → List Entry → View → Seat
-seat number seen view = record { number = number; seen = seen; view = view }
+abbrev pub session_of : ℕ → List Entry → View → Session
+session_of number seen view = record { number = number; seen = seen; view = view }
 
 -- what every session meets: the history that it has seen is legal, and its own writes stand there, at rising places
-pub record IsSeat (r : Replica) (s : Seat) : Type 0 where
+pub record IsSession (r : Replica) (s : Session) : Type 0 where
   pub legal : IsLegal r s.seen
   pub own : AreWritesOf s.number s.view.own
-  pub rising : Rise s.view.own
-  pub standing : Stand s.view.own s.seen
+  pub rising : AreAtRisingPlaces s.view.own
+  pub standing : AreInJournal s.view.own s.seen
 
 -- sessions that have seen and written nothing, numbered one after another from n
-abbrev pub AreNewSeats : ℕ → List Seat → Type 0
-AreNewSeats n [] = Unit {0}
-AreNewSeats n (s ∷ ss) = (s ≡ seat n [] newcomer) × AreNewSeats (n + 1) ss
+abbrev pub AreNewSessions : ℕ → List Session → Type 0
+AreNewSessions n [] = Unit {0}
+AreNewSessions n (s ∷ ss) = (s ≡ session_of n [] new_view) × AreNewSessions (n + 1) ss
 
 -- an accepted write: the session has seen a legal history that goes on from all that it had seen and heard of and ends
 -- with the write, at its place; that history was published, and the write is one more of its own
-pub record IsWrite (r : Replica) (wish : Wish) (s : Seat) (place : ℕ) (reply : Reply) (t : Seat) : Type 0 where
+pub record IsWrite (r : Replica) (wish : Wish) (s : Session) (place : ℕ) (reply : Reply) (t : Session) : Type 0 where
   pub front : List Entry
   pub before : IsPrefix s.seen front
   pub seen : t.seen ≡ front ++ entry s.number (wish_command wish (replay r front)) ∷ []

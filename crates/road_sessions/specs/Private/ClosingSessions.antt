@@ -1,0 +1,12 @@
+-- The sessions of a journal, as a closing finds them.
+use Rattle.std.specs.Prelude.{List}
+use mathlib.Core.List.{IsPrefix}
+use Rattle.road_sessions.specs.declared.entry.Entry.{Entry}
+use Rattle.road_sessions.specs.Journals.{AreInJournal, AreWritesOf, AreAtRisingPlaces}
+use Rattle.road_sessions.specs.Sessions.{Session}
+
+-- what is known of a session whose history begins the journal: its writes stand there, at rising places
+abbrev pub IsSessionOf : List Entry → Session → Type 0
+IsSessionOf journal s =
+    AreAtRisingPlaces s.view.own × AreWritesOf s.number s.view.own × AreInJournal s.view.own journal
+    × IsPrefix s.seen journal
