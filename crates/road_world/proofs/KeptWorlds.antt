@@ -23,9 +23,9 @@ use Rattle.road_delta.specs.declared.heads.Head.{Head}
 use Rattle.road_delta.proofs.DeltaEdits.{from_set, winners-beyond}
 use Rattle.road_sheet.specs.Commands.{SheetCommand, Advance, Take, sheet_after}
 use Rattle.road_sheet.specs.Sheets.{Sheet, IsSheet, opening_sheet}
-use Rattle.road_rewind.specs.Growth.{touched_step}
+use Rattle.road_rewind.specs.Growth.{TicksAtMost, touched_step}
 use Rattle.road_replica.specs.Refusals.{arrived_edit_fault, take_fault}
-use Rattle.road_replica.specs.Replicas.{Replica, edit_made, replica_after, single_edit}
+use Rattle.road_replica.specs.Replicas.{Replica, edit_made, most_steps_taking, replica_after, single_edit}
 use Rattle.road_world.specs.Answers.{edits_wanted_fault, replica_with_sheet, sheet_at}
 use Rattle.road_world.specs.Events.{World, WorldReplica, opening_replica, replica_at, carried_edits, replica_of_winners, message_of_winners, world_of_winners}
 use Rattle.road_world.specs.Events.{world_with_advance, world_with_edits, world_with_local_edit, world_with_message}
@@ -172,6 +172,15 @@ module _ (plan : Plan) (xs : List Replica) (ms : List Message) (kept : IsWorldKe
     same_touched r x edits is below =
         ap (λ (s : Edits). first_touched_step_in (items (winners x.sheet.edits)) (items s)) (winners_laws.of_tops (union x.sheet.edits edits))
         ∙ ap (λ (q : WorldReplica). first_touched_step q.edits (union q.edits edits)) (sym (read r x is below))
+
+    -- what a write costs the replica, it costs the world
+    pub few_steps_there : (r : ℕ) (x : Replica) (most : Sheet → ℕ) (meter later : ℕ) → x ≡ slice_index_or xs r x → r < length xs → TicksAtMost (most x.sheet) meter later → TicksAtMost (most (sheet_at k r)) meter later
+    few_steps_there r x most meter later is below few = subst (λ (y : Replica). TicksAtMost (most y.sheet) meter later) (with_sheet r x is below) few
+
+    pub few_steps_taking : (r : ℕ) (x : Replica) (edits given : Edits) (meter later : ℕ) → x ≡ slice_index_or xs r x → r < length xs → edits ≡ given → TicksAtMost (most_steps_taking x.sheet edits) meter later
+        → TicksAtMost (most_steps_taking (sheet_at k r) given) meter later
+    few_steps_taking r x edits given meter later is below same few =
+        few_steps_there r x (λ (s : Sheet). most_steps_taking s given) meter later is below (subst (λ (es : Edits). TicksAtMost (most_steps_taking x.sheet es) meter later) same few)
 
     -- ---- a write
 

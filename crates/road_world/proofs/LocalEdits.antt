@@ -8,16 +8,18 @@ use Rattle.road_plan.specs.Plan.{Plan}
 use Rattle.road_plan.specs.declared.object.Object.{Object}
 use Rattle.road_scenario.specs.declared.edit.Stamp.{Stamp}
 use Rattle.road_scenario.specs.declared.edit.Value.{Value}
+use Rattle.road_rewind.specs.Growth.{TicksAtMost}
 use Rattle.road_sheet.specs.Commands.{Take}
 use Rattle.road_sheet.specs.Sheets.{IsSheet}
 use Rattle.road_replica.specs.Refusals.{IsWriteRefusal, edit_fault}
-use Rattle.road_replica.specs.Replicas.{Replica, edit_made, replica_after, single_edit}
+use Rattle.road_replica.specs.Replicas.{Replica, edit_made, most_steps_taking, replica_after, single_edit}
 use Rattle.road_replica.specs.declared.faults.ReplicaFault.{ReplicaFault}
 use Rattle.road_replica.specs.declared.reply.Reply.{Reply}
 use Rattle.road_replica.specs.declared.reply.Reply.TheVariants as replies
 use Rattle.road_world.specs.Answers.{IsAnswer, IsRefusal, fault_at_replica, replica_number, replica_with_sheet, reply_to_event, stamp_reply}
 use Rattle.road_world.specs.Events.{World, world_of_winners, world_with_local_edit}
 use Rattle.road_world.specs.Private.Worlds.{IsWorldKept}
+use Rattle.road_world.specs.Steps.{most_steps_of_edit}
 use Rattle.road_world.specs.declared.event.Event.{Event}
 use Rattle.road_world.specs.declared.faults.WorldFault.{WorldFault}
 use Rattle.road_world.specs.declared.faults.WorldFault.TheVariants as faults
@@ -52,6 +54,10 @@ module _ (plan : Plan) (xs : List Replica) (ms : List Message) (kept : IsWorldKe
     fault_there k event at ∙ local ∙ ap (λ (y : Replica). option_map faults.Replica (edit_fault y object step value)) (sym same) ∙ ap (option_map faults.Replica) accepted,
     ap replies.Stamped (stamp_is ∙ ap (λ (y : Replica). (edit_made y object step value).stamp) same) ∙ sym reply,
   )
+
+  -- what it costs the replica, it costs the world
+  pub local_few_steps : (meter later : ℕ) → TicksAtMost (most_steps_taking x.sheet (single_edit (edit_made x object step value))) meter later → TicksAtMost (most_steps_of_edit k r object step value) meter later
+  local_few_steps meter later few = subst (λ (y : Replica). TicksAtMost (most_steps_taking y.sheet (single_edit (edit_made y object step value))) meter later) same few
 
   module _ (y : Replica) (after : y ≡ replica_after (Take (single_edit (edit_made x object step value))) x) where
     -- the replica that made it is put back

@@ -12,7 +12,7 @@ use Rattle.road_scenario.specs.Edits.{Edits}
 use Rattle.road_scenario.specs.declared.edit.Edit.{Edit}
 use Rattle.road_sheet.specs.Commands.{Take}
 use Rattle.road_world.proofs.EventAnswers.{fault_there, handed_on, refused}
-use Rattle.road_world.proofs.KeptWorlds.{below_kept, is_replica, plan_same, same_touched, still_kept, taken, written}
+use Rattle.road_world.proofs.KeptWorlds.{below_kept, few_steps_taking, is_replica, plan_same, same_touched, still_kept, taken, written}
 use Rattle.road_world.specs.Answers.{touched_reply}
 use Rattle.road_world.specs.Events.{world_of_winners, world_with_edits}
 use Rattle.road_world.specs.declared.event.Event.TheVariants as events
@@ -68,3 +68,23 @@ returns-clause-after g c =
     let below = below_kept plan xs ms c.self.invariant k c.self.view_is c.args.at c.requires in
     taken plan xs ms c.self.invariant k c.self.view_is c.args.at c.index_mut-replica.result.now c.import.new.self (from_list c.deref.result.now) c.index_mut-replica.ensures.value below c.in_ok-touched.ensures.taken
     ∙ ap (λ (es : List Edit). world_of_winners (world_with_edits c.args.at (from_list es) k)) c.deref.ensures.value
+
+pub returns-in_err-touched-clause-few_steps : goal.returns-in_err-touched-clause-few_steps
+returns-in_err-touched-clause-few_steps g c =
+    let plan = arc_value c.self.inside.plan in
+    let xs = c.self.inside.replicas.items in
+    let ms = c.self.inside.messages.items in
+    let k = c.args.self.now in
+    let x = c.index_mut-replica.result.now in
+    let below = below_kept plan xs ms c.self.invariant k c.self.view_is c.args.at c.requires in
+    few_steps_taking plan xs ms c.self.invariant k c.self.view_is c.args.at x (from_list c.deref.result.now) (from_list c.args.edits.now.items) _ _ c.index_mut-replica.ensures.value below (ap from_list c.deref.ensures.value) c.import.ensures.few_steps
+
+pub returns-clause-few_steps : goal.returns-clause-few_steps
+returns-clause-few_steps g c =
+    let plan = arc_value c.self.inside.plan in
+    let xs = c.self.inside.replicas.items in
+    let ms = c.self.inside.messages.items in
+    let k = c.args.self.now in
+    let x = c.index_mut-replica.result.now in
+    let below = below_kept plan xs ms c.self.invariant k c.self.view_is c.args.at c.requires in
+    few_steps_taking plan xs ms c.self.invariant k c.self.view_is c.args.at x (from_list c.deref.result.now) (from_list c.args.edits.now.items) _ _ c.index_mut-replica.ensures.value below (ap from_list c.deref.ensures.value) c.import.ensures.few_steps

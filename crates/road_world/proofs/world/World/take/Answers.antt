@@ -8,7 +8,7 @@ use Rattle.road_replica.specs.declared.faults.ReplicaFault.{ReplicaFault}
 use Rattle.road_scenario.specs.Edits.{Edits}
 use Rattle.road_sheet.specs.Commands.{Take}
 use Rattle.road_world.proofs.EventAnswers.{handed_on, refused}
-use Rattle.road_world.proofs.KeptWorlds.{below_kept, carried_without_fault, still_kept, taken, written}
+use Rattle.road_world.proofs.KeptWorlds.{below_kept, few_steps_taking, carried_without_fault, still_kept, taken, written}
 use Rattle.road_world.specs.Answers.{IsRefusal, edits_wanted_fault}
 use Rattle.road_world.specs.Events.{World, carried_edits, world_of_winners, world_with_edits}
 use Rattle.road_world.specs.declared.event.Event.TheVariants as events
@@ -57,3 +57,27 @@ returns-clause-after g c =
     c.in-Some.ensures.edits ∙ ap (λ (ns : List Message). carried_edits (slice_get ns m)) (c.deref.ensures.value ∙ ap (λ (w : World). w.messages) c.self.view_is) in
     taken plan xs ms c.self.invariant k c.self.view_is c.args.at c.index_mut-replica.result.now c.take.new.self c.in-Some.scenario.now c.index_mut-replica.ensures.value below c.in_ok-touched.ensures.taken
     ∙ ap (λ (s : Edits). world_of_winners (world_with_edits c.args.at s k)) same
+
+pub returns-in_err-touched-clause-few_steps : goal.returns-in_err-touched-clause-few_steps
+returns-in_err-touched-clause-few_steps g c =
+    let plan = arc_value c.self.inside.plan in
+    let xs = c.self.inside.replicas.items in
+    let ms = c.self.inside.messages.items in
+    let k = c.args.self.now in
+    let x = c.index_mut-replica.result.now in
+    let below = below_kept plan xs ms c.self.invariant k c.self.view_is c.args.at c.requires in
+    let carried : c.in-Some.scenario.now ≡ carried_edits (slice_get k.messages c.args.message) =
+    c.in-Some.ensures.edits ∙ ap (λ (ns : List Message). carried_edits (slice_get ns c.args.message)) (c.deref.ensures.value ∙ ap (λ (w : World). w.messages) c.self.view_is) in
+    few_steps_taking plan xs ms c.self.invariant k c.self.view_is c.args.at x c.in-Some.scenario.now (carried_edits (slice_get k.messages c.args.message)) _ _ c.index_mut-replica.ensures.value below carried c.take.ensures.few_steps
+
+pub returns-clause-few_steps : goal.returns-clause-few_steps
+returns-clause-few_steps g c =
+    let plan = arc_value c.self.inside.plan in
+    let xs = c.self.inside.replicas.items in
+    let ms = c.self.inside.messages.items in
+    let k = c.args.self.now in
+    let x = c.index_mut-replica.result.now in
+    let below = below_kept plan xs ms c.self.invariant k c.self.view_is c.args.at c.requires in
+    let carried : c.in-Some.scenario.now ≡ carried_edits (slice_get k.messages c.args.message) =
+    c.in-Some.ensures.edits ∙ ap (λ (ns : List Message). carried_edits (slice_get ns c.args.message)) (c.deref.ensures.value ∙ ap (λ (w : World). w.messages) c.self.view_is) in
+    few_steps_taking plan xs ms c.self.invariant k c.self.view_is c.args.at x c.in-Some.scenario.now (carried_edits (slice_get k.messages c.args.message)) _ _ c.index_mut-replica.ensures.value below carried c.take.ensures.few_steps

@@ -2,7 +2,7 @@
 use Rattle.std.proofs.Common.{refl}
 use Rattle.std.specs.Arc.{arc_value}
 use Rattle.road_scenario.specs.declared.edit.Value.TheVariants.{Withdrawn}
-use Rattle.road_world.proofs.LocalEdits.{local_after, local_answered, local_kept, local_refused}
+use Rattle.road_world.proofs.LocalEdits.{local_after, local_answered, local_few_steps, local_kept, local_refused}
 use Rattle.road_world.specs.declared.event.Event.TheVariants as events
 use Rattle.road_world.proofs.world.World.withdraw.Goals as goal
 
@@ -29,3 +29,15 @@ returns-clause-after g c =
     local_after (arc_value c.self.inside.plan) c.self.inside.replicas.items c.self.inside.messages.items c.self.invariant c.args.self.now c.self.view_is
     c.args.at c.index_mut-replica.result.now c.index_mut-replica.ensures.value c.requires c.args.object c.args.step Withdrawn
     c.withdraw.new.self c.in_ok-stamp.ensures.taken
+
+pub returns-in_err-stamp-clause-few_steps : goal.returns-in_err-stamp-clause-few_steps
+returns-in_err-stamp-clause-few_steps g c =
+    local_few_steps (arc_value c.self.inside.plan) c.self.inside.replicas.items c.self.inside.messages.items c.self.invariant c.args.self.now c.self.view_is
+    c.args.at c.index_mut-replica.result.now c.index_mut-replica.ensures.value c.requires c.args.object c.args.step Withdrawn
+    _ _ c.withdraw.ensures.few_steps
+
+pub returns-clause-few_steps : goal.returns-clause-few_steps
+returns-clause-few_steps g c =
+    local_few_steps (arc_value c.self.inside.plan) c.self.inside.replicas.items c.self.inside.messages.items c.self.invariant c.args.self.now c.self.view_is
+    c.args.at c.index_mut-replica.result.now c.index_mut-replica.ensures.value c.requires c.args.object c.args.step Withdrawn
+    _ _ c.withdraw.ensures.few_steps
