@@ -1,11 +1,11 @@
 //! The words after the program's name.
 
 ghost use Rattle.std.specs.Prelude.{◌≡◌, ◌≢◌, ◌<◌, ◌≤◌, IfOk, IfSome, Err, true, false, option_map};
-ghost use Rattle.clap.specs.Words.{found_of, kind_of, rows_of};
+ghost use Rattle.clap.specs.Words.{app_of, found_of, kind_of, rows_of};
 ghost use Rattle.clap.specs.declared.error.kind.ErrorKind.TheVariants as kinds;
 ghost use Rattle.road_format.specs.Views.{texts};
 ghost use Rattle.road_plan.specs.declared.limits.TheConstants.{MOST_WORKERS};
-ghost use Rattle.road_dialogue.specs.Arguments.{are_accepted, are_read, words_matches, script_of, worker_count, workers_of};
+ghost use Rattle.road_dialogue.specs.Arguments.{are_accepted, are_read, command_line, script_of, words_matches, worker_count, workers_of};
 ghost use Rattle.road_dialogue.specs.declared.arguments.ArgumentFault.TheVariants.{Refused};
 
 use clap::error::ErrorKind;
@@ -70,11 +70,9 @@ pub(crate) fn arguments_in<'a>(
     }
 }
 
-// What `clap` finds in the words.
-fn matches_in<'a>(alloc: Global, words: &'a [String]) -> Result<ArgMatches<'a>, ArgumentFault>
-    ensures read { IfOk result (λ found. are_read (texts words.now) ≡ true) }
-    ensures found { IfOk result (λ found. rows_of (found_of found) ≡ words_matches (texts words.now)) }
-    ensures refused { result ≡ Err Refused → are_read (texts words.now) ≡ false }
+// The command line of the program.
+fn program_command<'a>(alloc: Global) -> Result<Command<'a>, AllocError>
+    ensures { IfOk result (λ command. app_of command ≡ command_line) }
 {
     let script = Arg::new(alloc, "script").long("script");
     let workers = Arg::new(alloc, "workers").long("workers");
@@ -82,6 +80,16 @@ fn matches_in<'a>(alloc: Global, words: &'a [String]) -> Result<ArgMatches<'a>, 
         .no_binary_name(true)
         .arg(script)?
         .arg(workers)?;
+    Ok(command)
+}
+
+// What `clap` finds in the words.
+fn matches_in<'a>(alloc: Global, words: &'a [String]) -> Result<ArgMatches<'a>, ArgumentFault>
+    ensures read { IfOk result (λ found. are_read (texts words.now) ≡ true) }
+    ensures found { IfOk result (λ found. rows_of (found_of found) ≡ words_matches (texts words.now)) }
+    ensures refused { result ≡ Err Refused → are_read (texts words.now) ≡ false }
+{
+    let command = program_command(alloc)?;
     match command.try_get_matches_from(words) {
         Ok(matches) => Ok(matches),
         Err(error) => Err(fault_of(&error)),

@@ -1,5 +1,5 @@
 -- What a replica holds beyond heads is a message that any replica may take.
-use Rattle.std.proofs.Common.{◌≡◌, ◌∙◌, List, ap, subst}
+use Rattle.std.proofs.Common.{◌≡◌, ◌∙◌, List, ap}
 use Rattle.std.specs.Arc.{arc_value}
 use Rattle.std.specs.List.{slice_get}
 use Rattle.road_delta.specs.Deltas.{beyond}

@@ -8,7 +8,6 @@ use Rattle.road_plan.specs.Plan.{Plan}
 use Rattle.road_replica.specs.Refusals.{IsWriteRefusal, import_fault}
 use Rattle.road_replica.specs.declared.faults.ReplicaFault.{ReplicaFault}
 use Rattle.road_replica.specs.declared.reply.Reply.TheVariants as replies
-use Rattle.road_scenario.specs.Edits.{Edits}
 use Rattle.road_scenario.specs.declared.edit.Edit.{Edit}
 use Rattle.road_sheet.specs.Commands.{Take}
 use Rattle.road_world.proofs.EventAnswers.{fault_there, handed_on, refused}
