@@ -1,5 +1,5 @@
 -- Names in a set, and their numbers.
-use Rattle.std.proofs.Common.{◌≡◌, ◌+◌, ℕ, List, [], ◌∷◌, ◌++◌, Bool, true, false, ◌||◌, Some, None, cond, nat_lt, suc, length, arith, map, refl, ap, sym, ◌∙◌, subst, append_assoc, string_bytes, String, Global}
+use Rattle.std.proofs.Common.{◌≡◌, ◌+◌, ℕ, List, [], ◌∷◌, ◌++◌, Bool, true, false, Some, None, cond, nat_lt, suc, length, arith, map, refl, ap, sym, ◌∙◌, subst, append_assoc, string_bytes, String, Global}
 use Rattle.std.specs.Prelude.{not, take}
 use Rattle.std.specs.Str.{bytes_eq}
 use Rattle.std.specs.String.{string_eq}

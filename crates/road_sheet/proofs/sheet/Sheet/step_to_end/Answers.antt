@@ -1,12 +1,7 @@
 -- A step that ends its span: the span is whole, and a new one begins.
-use Rattle.std.proofs.Common.{sym, ◌∙◌, ◌∷◌, [], ◌++◌, ap, map, length, replicate, subst}
-use Rattle.std.proofs.lemmas.List.{map-append}
+use Rattle.std.proofs.Common.{sym, ◌∙◌, map, subst}
 use Rattle.std.specs.Arc.{arc_value}
 use Rattle.road_detector.specs.Laws.{PassOneByOne, BoundTotals}
-use Rattle.road_detector.specs.Passes.{no_totals}
-use Rattle.road_plan.specs.Plan.{Plan}
-use Rattle.road_sheet.specs.Sheets.{Sheet}
-use Rattle.road_sheet.specs.declared.span.Span.{Span}
 use Rattle.road_sheet.proofs.SheetSpans.{counted_next, ends_span, next_cars_fit, next_speeds_fit}
 use Rattle.road_sheet.proofs.sheet.Sheet.step_to_end.Goals as goal
 

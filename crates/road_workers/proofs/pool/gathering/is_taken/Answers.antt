@@ -4,7 +4,7 @@ use Rattle.std.specs.Arc.{arc_value}
 use Rattle.road_cells.specs.Cars.{cars_of}
 use Rattle.road_ends.specs.Input.{input_speeds_between}
 use Rattle.road_workers.specs.Private.Pieces.{piece_start}
-use Rattle.road_workers.specs.Private.Gathered.{AreGathered, IsAnswerOf}
+use Rattle.road_workers.specs.Private.Gathered.{IsAnswerOf}
 use Rattle.road_workers.proofs.OneMore.{gathered_set}
 use Rattle.road_workers.proofs.pool.gathering.is_taken.Goals as goal
 
