@@ -48,7 +48,7 @@ each_of_both P [] ys first second = second
 each_of_both P (x ∷ xs) ys first second = (first.0, each_of_both P xs ys first.1 second)
 
 -- what stands in a beginning stands in the whole
-pub stand_later : (writes : List Write) (xs all : List Entry) → IsPrefix xs all → AreInJournal writes xs → AreInJournal writes all
-stand_later [] xs all p stand = tt
-stand_later (w ∷ ws) xs all p stand =
-    (subst (λ (l : List Entry). slice_get l w.0 ≡ Some w.1) p.1 (got_later xs p.0 w.0 w.1 stand.0), stand_later ws xs all p stand.1)
+pub in_longer_journal : (writes : List Write) (xs all : List Entry) → IsPrefix xs all → AreInJournal writes xs → AreInJournal writes all
+in_longer_journal [] xs all p stand = tt
+in_longer_journal (w ∷ ws) xs all p stand =
+    (subst (λ (l : List Entry). slice_get l w.0 ≡ Some w.1) p.1 (got_later xs p.0 w.0 w.1 stand.0), in_longer_journal ws xs all p stand.1)

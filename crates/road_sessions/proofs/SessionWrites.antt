@@ -13,7 +13,7 @@ use Rattle.road_sessions.specs.Looks.{HasEntered}
 use Rattle.road_sessions.specs.Private.Stores.{EntersAfterWrite, EntersToLook, last_write_from}
 use Rattle.road_sessions.specs.Sessions.{AreNewSessions, IsSession, IsWrite, Session, new_view, session_of}
 use Rattle.road_sessions.specs.Writes.{reply_to, wish_command}
-use Rattle.road_sessions.proofs.Beginnings.{each_of_both, got_last, stand_later}
+use Rattle.road_sessions.proofs.Beginnings.{each_of_both, got_last, in_longer_journal}
 
 -- ---- a write
 
@@ -50,17 +50,17 @@ all_before : (writes : List Write) (journal : List Entry) → AreInJournal write
 all_before [] journal stand = tt
 all_before (w ∷ ws) journal stand = (slice_get_within journal w.0 w.1 stand.0, all_before ws journal stand.1)
 
-rise_more : (writes : List Write) (place : ℕ) (e : Entry) → AreAtRisingPlaces writes → AllByRecursion (λ (w : Write). w.0 < place) writes → AreAtRisingPlaces (writes ++ (place, e) ∷ [])
-rise_more [] place e rise low = (tt, tt)
-rise_more (w ∷ ws) place e rise low =
-    (each_of_both (λ (v : Write). w.0 < v.0) ws ((place, e) ∷ []) rise.0 (low.0, tt), rise_more ws place e rise.1 low.1)
+at_rising_places_with : (writes : List Write) (place : ℕ) (e : Entry) → AreAtRisingPlaces writes → AllByRecursion (λ (w : Write). w.0 < place) writes → AreAtRisingPlaces (writes ++ (place, e) ∷ [])
+at_rising_places_with [] place e rise low = (tt, tt)
+at_rising_places_with (w ∷ ws) place e rise low =
+    (each_of_both (λ (v : Write). w.0 < v.0) ws ((place, e) ∷ []) rise.0 (low.0, tt), at_rising_places_with ws place e rise.1 low.1)
 
 -- after an accepted write a session meets what every session meets
 pub session_after_write : (r : Replica) (wish : Wish) (s t : Session) (place : ℕ) (reply : Reply) → IsWrite r wish s place reply t → IsSession r s → IsSession r t
 session_after_write r wish s t place reply w is =
     let e = entry s.number (wish_command wish (replay r w.front)) in
-    let stood : AreInJournal s.view.own w.front = stand_later s.view.own s.seen w.front w.before is.standing in
-    let stands : AreInJournal s.view.own t.seen = stand_later s.view.own w.front t.seen (e ∷ [], sym w.seen) stood in
+    let stood : AreInJournal s.view.own w.front = in_longer_journal s.view.own s.seen w.front w.before is.in_journal in
+    let stands : AreInJournal s.view.own t.seen = in_longer_journal s.view.own w.front t.seen (e ∷ [], sym w.seen) stood in
     let low : AllByRecursion (λ (u : Write). u.0 < place) s.view.own = subst (λ (n : ℕ). AllByRecursion (λ (u : Write). u.0 < n) s.view.own) (sym w.place_is) (all_before s.view.own w.front stood) in
     let there : slice_get t.seen place ≡ Some e = subst (λ (l : List Entry). slice_get l place ≡ Some e) (sym w.seen) (subst (λ (n : ℕ). slice_get (w.front ++ e ∷ []) n ≡ Some e) (sym w.place_is) (got_last w.front e)) in
     let mine = each_of_both (λ (u : Write). u.1.session ≡ s.number) s.view.own ((place, e) ∷ []) is.own (refl, tt) in
@@ -68,8 +68,8 @@ session_after_write r wish s t place reply w is =
     record {
       legal = w.legal;
       own = subst (λ (n : ℕ). AreWritesOf n t.view.own) (sym w.number) (subst (λ (o : List Write). AreWritesOf s.number o) (sym w.own) mine);
-      rising = subst AreAtRisingPlaces (sym w.own) (rise_more s.view.own place e is.rising low);
-      standing = subst (λ (o : List Write). AreInJournal o t.seen) (sym w.own) all;
+      rising = subst AreAtRisingPlaces (sym w.own) (at_rising_places_with s.view.own place e is.rising low);
+      in_journal = subst (λ (o : List Write). AreInJournal o t.seen) (sym w.own) all;
     }
 
 pub one_more_write : (r : Replica) (wish : Wish) (s t : Session) (place : ℕ) (reply : Reply) → IsWrite r wish s place reply t → length t.view.own ≡ length s.view.own + 1
@@ -84,7 +84,7 @@ session_later r session seen after v w grows legal own is = record {
   legal = legal;
   own = subst (λ (o : List Write). AreWritesOf session o) (sym own) is.own;
   rising = subst AreAtRisingPlaces (sym own) is.rising;
-  standing = subst (λ (o : List Write). AreInJournal o after) (sym own) (stand_later v.own seen after grows is.standing);
+  in_journal = subst (λ (o : List Write). AreInJournal o after) (sym own) (in_longer_journal v.own seen after grows is.in_journal);
 }
 
 -- the store was entered, where this was published
@@ -96,20 +96,20 @@ has_entered r session seen after published v w grows legal enters is =
       later = subst (λ (u : View). IsPrefix v.found u.found) (sym enters.1) enters.0;
       seen = grows;
       legal = legal;
-      standing = after_is.standing;
+      in_journal = after_is.in_journal;
       own = own;
       number = refl;
     }
 
 -- ---- opening
 
-fresh_from : (n : ℕ) (ss : List Session) → AreNewSessions n ss → AreNewSessions n (ss ++ session_of (n + length ss) [] new_view ∷ [])
-fresh_from n [] fresh = (ap (λ (k : ℕ). session_of k [] new_view) (omega arith), tt)
-fresh_from n (s ∷ ss) fresh =
-    (fresh.0, subst (λ (k : ℕ). AreNewSessions (n + 1) (ss ++ session_of k [] new_view ∷ [])) (omega arith) (fresh_from (n + 1) ss fresh.1))
+new_sessions_from : (n : ℕ) (ss : List Session) → AreNewSessions n ss → AreNewSessions n (ss ++ session_of (n + length ss) [] new_view ∷ [])
+new_sessions_from n [] fresh = (ap (λ (k : ℕ). session_of k [] new_view) (omega arith), tt)
+new_sessions_from n (s ∷ ss) fresh =
+    (fresh.0, subst (λ (k : ℕ). AreNewSessions (n + 1) (ss ++ session_of k [] new_view ∷ [])) (omega arith) (new_sessions_from (n + 1) ss fresh.1))
 
 -- a session more, with the next number
-pub fresh_more : (ss : List Session) (n : ℕ) (s : Session) → AreNewSessions 0 ss → length ss ≡ n → s ≡ session_of n [] new_view → AreNewSessions 0 (ss ++ s ∷ [])
-fresh_more ss n s fresh at is =
+pub new_sessions_with : (ss : List Session) (n : ℕ) (s : Session) → AreNewSessions 0 ss → length ss ≡ n → s ≡ session_of n [] new_view → AreNewSessions 0 (ss ++ s ∷ [])
+new_sessions_with ss n s fresh at is =
     let next : 0 + length ss ≡ n = omega arith in
-    subst (λ (t : Session). AreNewSessions 0 (ss ++ t ∷ [])) (ap (λ (k : ℕ). session_of k [] new_view) next ∙ sym is) (fresh_from 0 ss fresh)
+    subst (λ (t : Session). AreNewSessions 0 (ss ++ t ∷ [])) (ap (λ (k : ℕ). session_of k [] new_view) next ∙ sym is) (new_sessions_from 0 ss fresh)

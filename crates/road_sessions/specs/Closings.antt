@@ -13,11 +13,11 @@ abbrev pub AreApart : List Session → Type 0
 AreApart [] = Unit {0}
 AreApart (s ∷ ss) = AllByRecursion (λ t. s.number ≢ t.number) ss × AreApart ss
 
--- they are all the sessions of a store that was opened with so many
+-- these are all the sessions of a store that was opened with so many
 abbrev pub AreAll : ℕ → List Session → Type 0
 AreAll count ss = (length ss ≡ count) × AreApart ss
 
--- how many writes they made together
+-- how many writes these sessions made together
 abbrev pub write_count : List Session → ℕ
 write_count [] = 0
 write_count (s ∷ ss) = length s.view.own + write_count ss

@@ -43,7 +43,7 @@ IsLegal r journal = IsHistoryFrom r.sheet (history_of_journal r.sheet journal)
 abbrev pub Write : Type 0
 Write = ℕ × Entry
 
--- each of these writes stands in the journal at its place
+-- each of these writes stands at its place in the journal, or in another history
 abbrev pub AreInJournal : List Write → List Entry → Type 0
 AreInJournal writes journal = AllByRecursion (λ w. slice_get journal w.0 ≡ Some w.1) writes
 
@@ -51,7 +51,7 @@ AreInJournal writes journal = AllByRecursion (λ w. slice_get journal w.0 ≡ So
 abbrev pub AreWritesOf : ℕ → List Write → Type 0
 AreWritesOf session writes = AllByRecursion (λ w. w.1.session ≡ session) writes
 
--- their places rise
+-- the places of these writes rise
 abbrev pub AreAtRisingPlaces : List Write → Type 0
 AreAtRisingPlaces [] = Unit {0}
 AreAtRisingPlaces (w ∷ ws) = AllByRecursion (λ v. w.0 < v.0) ws × AreAtRisingPlaces ws

@@ -19,7 +19,7 @@ pub record HasEntered (r : Replica) (s t : Session) : Type 0 where
   pub later : IsPrefix s.view.found t.view.found
   pub seen : IsPrefix s.seen t.seen
   pub legal : IsLegal r t.seen
-  pub standing : AreInJournal t.view.own t.seen
+  pub in_journal : AreInJournal t.view.own t.seen
   pub own : t.view.own ≡ s.view.own
   pub number : t.number ≡ s.number
 
@@ -27,7 +27,7 @@ pub record HasEntered (r : Replica) (s t : Session) : Type 0 where
 abbrev pub HasLooked : Replica → Session → Session → Type 0
 HasLooked r s t = HasEntered r s t × (t.seen ≡ t.view.found)
 
--- the sheet of a history
+-- the sheet of the history that a session has seen
 abbrev pub sheet_seen : Replica → Session → Sheet
 sheet_seen r t = (replay r t.seen).sheet
 

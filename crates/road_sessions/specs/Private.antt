@@ -1,5 +1,5 @@
--- What the book and the store keep, how a write is made and what is brought to a closing, of which no public contract
--- speaks.
+-- What the book and the store keep, how a write is made, and what is known of the sessions at a closing, of which no
+-- public contract speaks.
 pub mod MadeWrites
 pub mod Books
 pub mod Stores

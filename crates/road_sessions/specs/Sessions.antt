@@ -9,12 +9,12 @@ use Rattle.road_sessions.specs.declared.wish.Wish.{Wish}
 use Rattle.road_sessions.specs.Journals.{IsLegal, Write, AreInJournal, AreWritesOf, AreAtRisingPlaces, entry, replay}
 use Rattle.road_sessions.specs.Writes.{wish_command, reply_to}
 
--- what the store knows of a reader: the history that was published when it last entered, its own writes, and how often
--- it has entered to look
+-- what the store knows of a reader: the history that was published when it last entered, the writes of its session, and
+-- how often it has entered to look
 abbrev pub view_of : List Entry → List Write → ℕ → View
 view_of found own entered = record { found = found; own = own; entered = entered }
 
--- a reader that has neither entered nor written
+-- what it knows of a reader that has not entered, and whose session has written nothing
 abbrev pub new_view : View
 new_view = view_of [] [] 0
 
@@ -34,7 +34,7 @@ pub record IsSession (r : Replica) (s : Session) : Type 0 where
   pub legal : IsLegal r s.seen
   pub own : AreWritesOf s.number s.view.own
   pub rising : AreAtRisingPlaces s.view.own
-  pub standing : AreInJournal s.view.own s.seen
+  pub in_journal : AreInJournal s.view.own s.seen
 
 -- sessions that have seen and written nothing, numbered one after another from n
 abbrev pub AreNewSessions : ℕ → List Session → Type 0

@@ -55,7 +55,7 @@ where
     pub limit: u64,
     /// How many sessions were opened.
     pub sessions: u32,
-    /// How many writes were accepted.
+    /// The ledger's book of accepted writes, which counts them.
     pub accepted: Book<J>,
     /// A share of no session.
     pub spare: Share<J>,

@@ -1,7 +1,7 @@
--- The store takes a new_view, and the next session is fresh and has the next number.
+-- The store admits a reader whose view is new; the next session has seen and written nothing, and has the next number.
 use Rattle.std.proofs.Common.{◌≡◌, ◌+◌, ◌++◌, [], ◌∷◌, length, length-append, arith}
 use Rattle.road_sessions.specs.Sessions.{Session}
-use Rattle.road_sessions.proofs.SessionWrites.{fresh_more}
+use Rattle.road_sessions.proofs.SessionWrites.{new_sessions_with}
 use Rattle.road_sessions.proofs.StoreRule.{admits_new_view}
 use Rattle.road_sessions.proofs.held.Held.new_sessions.Goals as goal
 
@@ -13,6 +13,6 @@ loop-number-preserved g c =
     let kept = c.loop-number.invariant in
     let before = c.loop-number.sessions.items in
     let s : Session = c.new.result in
-    let fresh = fresh_more before c.loop-number.number s kept.1 kept.0 c.new.ensures in
+    let fresh = new_sessions_with before c.loop-number.number s kept.1 kept.0 c.new.ensures in
     let count : length (before ++ s ∷ []) ≡ c.loop-number.number + 1 = omega (arith, kept.0, length-append before (s ∷ [])) in
     rw c.in-Ok-push.ensures.items (count, fresh, omega arith, omega arith)

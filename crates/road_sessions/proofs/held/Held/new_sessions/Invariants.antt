@@ -1,4 +1,4 @@
--- What the loop keeps that makes the sessions: they are fresh, and a part of the ledger is left for each one to come.
+-- What the loop that makes the sessions keeps: they have seen and written nothing, and a part of the ledger is left for each one to come.
 use Rattle.std.proofs.Common.{◌≡◌, ◌+◌, length}
 use Rattle.road_sessions.specs.Sessions.{AreNewSessions}
 use Rattle.road_sessions.proofs.held.Held.new_sessions.Given as goal
