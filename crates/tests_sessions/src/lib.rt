@@ -4,11 +4,7 @@
 #[cfg(test)]
 mod acts;
 #[cfg(test)]
-mod dashboard;
-#[cfg(test)]
 mod journals;
-#[cfg(test)]
-mod looking;
 #[cfg(test)]
 mod questions;
 #[cfg(test)]

@@ -2,20 +2,20 @@
 
 ghost use Rattle.std.specs.Prelude.{◌≡◌};
 
-use crate::journals::{Closing, closed};
-use crate::questions::shows;
-use crate::worked::opened_for;
-use crate::writes::BLOCK;
 use road_ends::Meter;
+use road_plan::Object;
 use road_sessions::{
-    Closed, LookFault, Naming, Prepared, Receipt, Session, Shared, WriteFault, open,
+    Closed, LookFault, Naming, Prepared, Receipt, Session, Shared, WriteFault, close, open, prepare,
 };
+use road_sheet::simulation::{State, row_of};
+use road_sheet::{Sheet, SheetFault};
 use road_workers::Alone;
 use std::alloc::Global;
 use std::marker::Brand;
-use std::sync::{Mutex, Wait};
+use std::sync::{Arc, Mutex, Wait};
 use std::test::Fail;
 use std::thread::{Threads, join, yield_now};
+use tests_plans::{FREE, plan_of};
 
 /// What the engineer tells of the day: its last receipt, or why a write was refused.
 type News<J> = Result<Receipt<J>, WriteFault>;
@@ -31,7 +31,7 @@ fn writes<J: Naming, R: Wait + Drop, W: Wait>(
 ) -> News<J> {
     let mut meter = Meter::new();
     session.advance(rt, shared, 6, &mut Alone, &mut meter)?;
-    let wrote = session.edit(rt, shared, BLOCK, 4, 1, &mut Alone, &mut meter)?;
+    let wrote = session.edit(rt, shared, Object::Block(8), 4, 1, &mut Alone, &mut meter)?;
     Ok(wrote.receipt)
 }
 
@@ -62,6 +62,19 @@ fn news<J: Naming, W: Wait>(rt: &W, letter: &Letter<J>) -> Option<News<J>> {
     None
 }
 
+// The row of a sheet at a step.
+fn row(alloc: Global, sheet: &Sheet, step: u32) -> Result<String, SheetFault> {
+    let road = sheet.state(alloc, step)?;
+    sheet.known();
+    let state = State { step, road };
+    Ok(row_of(alloc, sheet.plan(), sheet.scenario(), &state)?)
+}
+
+// Whether a sheet shows the row of step 6 with the block.
+fn is_blocked_road(alloc: Global, sheet: &Sheet) -> Result<bool, SheetFault> {
+    Ok(row(alloc, sheet, 6)?.as_str() == "0..2..10#...")
+}
+
 // The first dashboard waits for the news. From then on it is shown no less. It leaves the row of step 6.
 fn is_told<J: Naming, R: Wait + Drop, W: Wait>(
     rt: &W,
@@ -75,7 +88,7 @@ fn is_told<J: Naming, R: Wait + Drop, W: Wait>(
     };
     session.hear(news?);
     let sheet = session.look(shared)?;
-    Ok(shows(alloc, &sheet, &[(6, "0..2..10#...")]))
+    Ok(is_blocked_road(alloc, &sheet)?)
 }
 
 // The second one is told nothing. It may be shown less, but never less than before.
@@ -136,6 +149,17 @@ fn three_work<J: Naming + Send + Sync, R: Wait + Drop + Send, W: Threads + Wait 
     }
 }
 
+// What is left of a store whose sessions are all given.
+fn left<J: Naming, R: Wait + Drop>(
+    shared: Shared<J, R>,
+    sessions: Vec<Session<J>>,
+) -> Option<Closed> {
+    match close(shared, sessions) {
+        Ok(closed) => Some(closed),
+        Err(_fault) => None,
+    }
+}
+
 // A store is opened, worked with and closed. What is left, where the dashboards saw what they should.
 fn day<J: Naming + Send + Sync, R: Wait + Drop + Send, W: Threads + Wait + Sync>(
     rt: &W,
@@ -148,13 +172,14 @@ fn day<J: Naming + Send + Sync, R: Wait + Drop + Send, W: Threads + Wait + Sync>
 {
     let (shared, mut sessions) = open::<J, R>(prepared)?;
     let well = three_work(rt, alloc, &shared, sessions.as_mut_slice());
-    let closed = closed(shared, sessions, Closing::InOrder);
+    let closed = left(shared, sessions);
     if well? { Ok(closed) } else { Ok(None) }
 }
 
 #[test]
 fn dashboards_look_while_an_engineer_writes(rt: HostRuntime) -> Result<(), Fail> {
-    let prepared = opened_for(&rt, rt.alloc(), 0, 3, 10)?;
+    let plan = Arc::new(rt.alloc(), plan_of(rt.alloc(), &FREE)?)?;
+    let prepared = prepare(&rt, rt.alloc(), plan, 0, 3, 10)?;
     let closed = day::<Brand, _, _>(&rt, rt.alloc(), prepared)?.ok_or("all went well")?;
     let sessions: [u32; 2] = [0, 0];
     assert!(rt;
@@ -164,6 +189,6 @@ fn dashboards_look_while_an_engineer_writes(rt: HostRuntime) -> Result<(), Fail>
             .map(|entry| entry.session)
             .eq(sessions)
     );
-    assert!(rt; shows(rt.alloc(), &closed.sheet, &[(6, "0..2..10#...")]));
+    assert!(rt; is_blocked_road(rt.alloc(), &closed.sheet)?);
     Ok(())
 }

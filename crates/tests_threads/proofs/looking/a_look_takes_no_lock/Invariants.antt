@@ -1,4 +1,4 @@
-use Rattle.tests_sessions.proofs.looking.a_look_takes_no_lock.Given as goal
+use Rattle.tests_threads.proofs.looking.a_look_takes_no_lock.Given as goal
 
 -- the store that was just prepared
 abbrev pub ghosts-looks_meanwhile-J-Naming : goal.ghosts-looks_meanwhile-J-Naming

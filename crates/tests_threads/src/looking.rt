@@ -2,11 +2,9 @@
 
 ghost use Rattle.std.specs.Prelude.{◌≡◌};
 
-use crate::worked::opened_for;
-use crate::writes::{Answer, parts};
 use road_ends::{Meter, StepInput};
 use road_replica::Reply;
-use road_sessions::{Naming, Prepared, Session, Shared, open};
+use road_sessions::{Naming, Prepared, Session, Shared, WriteFault, open, prepare};
 use road_workers::{Alone, Crew, CrewFault};
 use std::alloc::Global;
 use std::marker::Brand;
@@ -14,6 +12,10 @@ use std::sync::atomic::{AtomicBool, Ordering};
 use std::sync::{Arc, Wait};
 use std::test::Fail;
 use std::thread::{Threads, join, yield_now};
+use tests_plans::{FREE, plan_of};
+
+/// What a write is answered: its place in the journal and the reply.
+type Answer = Result<(u64, Reply), WriteFault>;
 
 /// How often a thread asks whether the other one has come so far.
 const TURNS: u32 = 1_000_000;
@@ -69,9 +71,8 @@ fn advances<J: Naming, R: Wait + Drop, W: Wait>(
         has_waited: false,
         gone: 0,
     };
-    let wrote = session.advance(rt, shared, 9, &mut crew, &mut Meter::new());
-    let (answer, _told) = parts(wrote);
-    answer
+    let wrote = session.advance(rt, shared, 9, &mut crew, &mut Meter::new())?;
+    Ok((wrote.place, wrote.reply))
 }
 
 // The horizon that a session is shown once the crew was called.
@@ -149,7 +150,8 @@ fn looks_meanwhile<J: Naming + Send + Sync, R: Wait + Drop + Send, W: Threads + 
 
 #[test]
 fn a_look_takes_no_lock(rt: HostRuntime) -> Result<(), Fail> {
-    let prepared = opened_for(&rt, rt.alloc(), 0, 2, 10)?;
+    let plan = Arc::new(rt.alloc(), plan_of(rt.alloc(), &FREE)?)?;
+    let prepared = prepare(&rt, rt.alloc(), plan, 0, 2, 10)?;
     let (answer, found) = looks_meanwhile::<Brand, _, _>(&rt, prepared)?;
     let wrote = answer?;
     assert!(rt; wrote == (1, Reply::Horizon(9)) && found == Some(6));

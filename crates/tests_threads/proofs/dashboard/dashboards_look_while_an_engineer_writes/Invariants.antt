@@ -1,4 +1,4 @@
-use Rattle.tests_sessions.proofs.dashboard.dashboards_look_while_an_engineer_writes.Given as goal
+use Rattle.tests_threads.proofs.dashboard.dashboards_look_while_an_engineer_writes.Given as goal
 
 -- the store that was just prepared
 abbrev pub ghosts-day-J-Naming : goal.ghosts-day-J-Naming
