@@ -1,0 +1,5 @@
+-- What is written is what the session wishes.
+use Rattle.road_sessions.proofs.session.Session.advance.Goals as goal
+
+pub returns-clause-wrote : goal.returns-clause-wrote
+returns-clause-wrote g c = c.write.ensures.wrote
