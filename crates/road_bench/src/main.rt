@@ -1,5 +1,5 @@
-//! Times a road: its steps beside the random words that they draw, late edits, and its crews. Each reads a plan line from
-//! standard input, but `runs`. Without words it does nothing.
+//! Times a road: its steps beside the random words that they draw, late edits, its crews, and the sessions that share a
+//! replica. Each reads a plan line from standard input, but `runs`, `checks` and `sessions`. Without words it does nothing.
 //!
 //! `road_bench steps STEPS` takes STEPS steps with the plan's own settings, and then draws as many words as these steps
 //! drew. It writes five lines, each: the steps, the cars moved, the words drawn, the nanoseconds that the steps took, those
@@ -17,11 +17,27 @@
 //! `road_bench runs WORKERS RUNS` takes the dense road of 32 cells through its worked rows, RUNS times by a crew of threads
 //! made for each step, and RUNS times by one of lasting workers, each time from step zero by a new crew of 1 to 16 workers.
 //! It prints how many runs gave these rows.
+//!
+//! `road_bench checks WORKERS RUNS WRITES TIMES` is `runs WORKERS RUNS` and then `sessions merge WRITES TIMES`: what the gate
+//! runs.
+//!
+//! `road_bench sessions merge WRITES RUNS`: eight sessions make WRITES writes each, an edit and an advance by turns, and look
+//! after each; RUNS times. It prints in how many runs the journal was the merge of their writes, and each look had the
+//! session's own.
+//!
+//! `road_bench sessions looks READERS LOOKS WRITES`: 1 to 7 sessions make LOOKS looks each, while another one publishes the
+//! same road again and again, at most WRITES times. It prints for each of them how often it did and the nanoseconds that
+//! it took, the writer first. `road_bench sessions steps READERS LOOKS WRITES` is the same on 8,192 cells with random
+//! slowing, where each write is one step more, and `road_bench sessions advances READERS LOOKS WRITES` on the 12 cells.
+//!
+//! `road_bench sessions bare LOOKS WRITES`: the same of one reader and a writer of `left_right` with nothing of this
+//! repository between them, which publishes a number.
 #![tactic(auto)]
 
 mod crews;
 mod dense;
 mod late;
+mod sessions;
 mod stepping;
 
 use anyhow::{Context, Result};
@@ -48,7 +64,7 @@ fn plan<R: Input>(rt: &R, alloc: Global) -> Result<Arc<Plan>> {
 }
 
 // Does a kind of work with these numbers; nothing where there is none of that kind.
-fn work<R: Threads + Wait + Clock + Input + Print + Clone + Drop + Send + 'static>(
+fn work<R: Threads + Wait + Clock + Input + Print + Clone + Drop + Send + Sync + 'static>(
     rt: &R,
     alloc: Global,
     kind: &str,
@@ -66,6 +82,10 @@ fn work<R: Threads + Wait + Clock + Input + Print + Clone + Drop + Send + 'stati
             *turns,
         ),
         ("runs", [workers, runs]) => dense::run(rt, alloc, *workers, *runs),
+        ("checks", [workers, runs, writes, times]) => {
+            dense::run(rt, alloc, *workers, *runs)?;
+            sessions::work(rt, alloc, "merge", &[*writes, *times])
+        }
         _ => Ok(()),
     }
 }
@@ -80,16 +100,18 @@ fn numbers_of(alloc: Global, words: &[String]) -> Result<Vec<u32>> {
 }
 
 // Does what the program's words ask for, of which the first is its name.
-fn obey<R: Threads + Wait + Clock + Input + Print + Clone + Drop + Send + 'static>(
+fn obey<R: Threads + Wait + Clock + Input + Print + Clone + Drop + Send + Sync + 'static>(
     rt: &R,
     alloc: Global,
     words: &[String],
 ) -> Result<()> {
-    let [_, kind, words @ ..] = words else {
-        return Ok(());
-    };
-    let numbers = numbers_of(alloc, words)?;
-    work(rt, alloc, kind, &numbers)
+    match words {
+        [_, sessions, kind, words @ ..] if sessions.as_str() == "sessions" => {
+            sessions::work(rt, alloc, kind, &numbers_of(alloc, words)?)
+        }
+        [_, kind, words @ ..] => work(rt, alloc, kind, &numbers_of(alloc, words)?),
+        _ => Ok(()),
+    }
 }
 
 // The program's words.

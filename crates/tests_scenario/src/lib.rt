@@ -1,6 +1,8 @@
-//! Tests of joins and of scenarios.
+//! Tests of joins, of scenarios and of deltas.
 #![tactic(auto)]
 
+#[cfg(test)]
+mod deltas;
 #[cfg(test)]
 mod lattice;
 #[cfg(test)]

@@ -1,32 +1,18 @@
-//! Lets sessions work on threads of their own, on a free road of 12 cells but where another is named.
-//!
-//! `sessions_bench merge WRITES RUNS`: eight sessions make WRITES writes each, an edit and an advance by turns, and look
-//! after each; RUNS times. It prints in how many runs the journal was the merge of their writes, and each look had the
-//! session's own.
-//!
-//! `sessions_bench looks READERS LOOKS WRITES`: 1 to 7 sessions make LOOKS looks each, while another one publishes the
-//! same road again and again, at most WRITES times. It prints for each of them how often it did and the nanoseconds that
-//! it took, the writer first. `sessions_bench steps READERS LOOKS WRITES` is the same on 8,192 cells with random
-//! slowing, where each write is one step more, and `sessions_bench advances READERS LOOKS WRITES` on the 12 cells.
-//!
-//! `sessions_bench bare LOOKS WRITES`: the same of one reader and a writer of `left_right` with nothing of this repository
-//! between them, which publishes a number. Without words it does nothing.
-#![tactic(auto)]
+//! Sessions at work on threads of their own, on a free road of 12 cells but where another is named.
 
 mod bare;
 mod crowd;
 mod looking;
 mod merge;
 
-use crate::crowd::merges;
-use crate::looking::{Done, Work, timed};
+use crate::sessions::crowd::merges;
+use crate::sessions::looking::{Done, Work, timed};
 use anyhow::{Context, Result};
 use road_plan::{Plan, WordKind};
 use std::alloc::Global;
 use std::sync::{Arc, Wait};
 use std::thread::Threads;
 use std::time::Clock;
-use std::{env, io};
 use tests_plans::{FREE, Parts, plan_of};
 
 /// 8,192 cells with limit 5 and slowing chance one half, and an inlet at the first cell that always lets in.
@@ -107,16 +93,16 @@ fn print_all<R: Print>(rt: &R, all: &[Option<Done>]) -> Result<()> {
     Ok(())
 }
 
-// Does a kind of work with these numbers; nothing where there is none of that kind.
-fn work<R: Threads + Wait + Clock + Print + Clone + Drop + Sync>(
+/// Does a kind of work with these numbers; nothing where there is none of that kind.
+pub(crate) fn work<R: Threads + Wait + Clock + Print + Clone + Drop + Sync>(
     rt: &R,
     alloc: Global,
-    plan: &Arc<Plan>,
     kind: &str,
     numbers: &[u32],
 ) -> Result<()> {
+    let plan = plan_for(alloc, kind)?;
     match (kind, numbers) {
-        ("merge", [writes, runs]) => merge_all(rt, alloc, plan, *writes, *runs),
+        ("merge", [writes, runs]) => merge_all(rt, alloc, &plan, *writes, *runs),
         ("bare", [looks, writes]) => time_bare(rt, alloc, *looks, *writes),
         ("looks" | "advances" | "steps", [readers, looks, writes]) => {
             let work = Work {
@@ -124,45 +110,8 @@ fn work<R: Threads + Wait + Clock + Print + Clone + Drop + Sync>(
                 writes: *writes,
                 steps: if kind == "looks" { 0 } else { 1 },
             };
-            time_looks(rt, alloc, plan, *readers, work)
+            time_looks(rt, alloc, &plan, *readers, work)
         }
         _ => Ok(()),
     }
-}
-
-// The numbers that words spell.
-fn numbers_of(alloc: Global, words: &[String]) -> Result<Vec<u32>> {
-    let mut numbers = Vec::new(alloc);
-    for word in words {
-        numbers.push(word.parse::<u32>().context("no number")?)?;
-    }
-    Ok(numbers)
-}
-
-// Does what the program's words ask for, of which the first is its name.
-fn obey<R: Threads + Wait + Clock + Print + Clone + Drop + Sync>(
-    rt: &R,
-    alloc: Global,
-    words: &[String],
-) -> Result<()> {
-    let [_, kind, words @ ..] = words else {
-        return Ok(());
-    };
-    let numbers = numbers_of(alloc, words)?;
-    let plan = plan_for(alloc, kind)?;
-    work(rt, alloc, &plan, kind, &numbers)
-}
-
-// The program's words.
-fn words_of(rt: &HostRuntime) -> io::Result<Vec<String>> {
-    let mut words = Vec::new(rt.alloc());
-    for word in env::args(rt)? {
-        words.push(word)?;
-    }
-    Ok(words)
-}
-
-fn main(rt: HostRuntime) -> Result<()> {
-    let words = words_of(&rt)?;
-    obey(&rt, rt.alloc(), &words)
 }

@@ -65,6 +65,36 @@ const BLOCKED: Edit = Edit {
     value: Value::Put(1),
 };
 
+/// What A holds, and the heads that it tells.
+const HELD_BY_A: &[Edit] = &[FIRST_LIMIT, LATER_LIMIT, BLOCKED];
+
+const HEADS_OF_A: &[Head] = &[
+    Head {
+        object: LIMIT,
+        step: 3,
+        stamp: Stamp {
+            count: 1,
+            number: 0,
+        },
+    },
+    Head {
+        object: LIMIT,
+        step: 5,
+        stamp: Stamp {
+            count: 3,
+            number: 0,
+        },
+    },
+    Head {
+        object: BLOCK,
+        step: 4,
+        stamp: Stamp {
+            count: 2,
+            number: 0,
+        },
+    },
+];
+
 /// What one replica holds and tells by heads, what another holds, and what it sends: the edits beyond those heads.
 #[derive(Clone, Copy, Debug)]
 struct Exchange {
@@ -96,72 +126,22 @@ const EXCHANGES: &[Exchange] = &[
                 },
             },
         ],
-        asked: &[FIRST_LIMIT, LATER_LIMIT, BLOCKED],
+        asked: HELD_BY_A,
         sent: &[LATER_LIMIT, BLOCKED],
     },
     // B's limit is newer than the head.
     Exchange {
-        asking: &[FIRST_LIMIT, LATER_LIMIT, BLOCKED],
-        heads: &[
-            Head {
-                object: LIMIT,
-                step: 3,
-                stamp: Stamp {
-                    count: 1,
-                    number: 0,
-                },
-            },
-            Head {
-                object: LIMIT,
-                step: 5,
-                stamp: Stamp {
-                    count: 3,
-                    number: 0,
-                },
-            },
-            Head {
-                object: BLOCK,
-                step: 4,
-                stamp: Stamp {
-                    count: 2,
-                    number: 0,
-                },
-            },
-        ],
+        asking: HELD_BY_A,
+        heads: HEADS_OF_A,
         asked: &[LIMIT_OF_B, BLOCKED],
         sent: &[LIMIT_OF_B, BLOCKED],
     },
     // Beyond one's own heads is all that one holds.
     Exchange {
-        asking: &[FIRST_LIMIT, LATER_LIMIT, BLOCKED],
-        heads: &[
-            Head {
-                object: LIMIT,
-                step: 3,
-                stamp: Stamp {
-                    count: 1,
-                    number: 0,
-                },
-            },
-            Head {
-                object: LIMIT,
-                step: 5,
-                stamp: Stamp {
-                    count: 3,
-                    number: 0,
-                },
-            },
-            Head {
-                object: BLOCK,
-                step: 4,
-                stamp: Stamp {
-                    count: 2,
-                    number: 0,
-                },
-            },
-        ],
-        asked: &[FIRST_LIMIT, LATER_LIMIT, BLOCKED],
-        sent: &[FIRST_LIMIT, LATER_LIMIT, BLOCKED],
+        asking: HELD_BY_A,
+        heads: HEADS_OF_A,
+        asked: HELD_BY_A,
+        sent: HELD_BY_A,
     },
     // Of equal counts the number decides.
     Exchange {
@@ -194,37 +174,12 @@ const EXCHANGES: &[Exchange] = &[
     Exchange {
         asking: &[],
         heads: &[],
-        asked: &[FIRST_LIMIT, LATER_LIMIT, BLOCKED],
-        sent: &[FIRST_LIMIT, LATER_LIMIT, BLOCKED],
+        asked: HELD_BY_A,
+        sent: HELD_BY_A,
     },
     Exchange {
-        asking: &[FIRST_LIMIT, LATER_LIMIT, BLOCKED],
-        heads: &[
-            Head {
-                object: LIMIT,
-                step: 3,
-                stamp: Stamp {
-                    count: 1,
-                    number: 0,
-                },
-            },
-            Head {
-                object: LIMIT,
-                step: 5,
-                stamp: Stamp {
-                    count: 3,
-                    number: 0,
-                },
-            },
-            Head {
-                object: BLOCK,
-                step: 4,
-                stamp: Stamp {
-                    count: 2,
-                    number: 0,
-                },
-            },
-        ],
+        asking: HELD_BY_A,
+        heads: HEADS_OF_A,
         asked: &[],
         sent: &[],
     },

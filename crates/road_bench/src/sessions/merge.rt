@@ -1,6 +1,6 @@
 //! The writes of sessions, and journals that merge them.
 
-use crate::crowd::SESSIONS;
+use crate::sessions::crowd::SESSIONS;
 use road_plan::Object;
 use road_scenario::{Edit, Stamp, Value};
 use road_sessions::{Entry, OutOfMemory, SheetCommand};

@@ -1,4 +1,4 @@
-use Rattle.sessions_bench.proofs.looking.timed.Given as goal
+use Rattle.road_bench.proofs.sessions.looking.timed.Given as goal
 
 -- the store that was just prepared
 abbrev pub ghosts-all_done-J-Naming : goal.ghosts-all_done-J-Naming

@@ -1,4 +1,4 @@
-use Rattle.sessions_bench.proofs.crowd.merges.Given as goal
+use Rattle.road_bench.proofs.sessions.crowd.merges.Given as goal
 
 -- the store that was just prepared
 abbrev pub ghosts-is_merged-J-Naming : goal.ghosts-is_merged-J-Naming

@@ -2,7 +2,7 @@
 
 ghost use Rattle.std.specs.Prelude.{◌≡◌};
 
-use crate::merge::{edit_of, is_merge, is_shown};
+use crate::sessions::merge::{edit_of, is_merge, is_shown};
 use anyhow::Result;
 use road_ends::Meter;
 use road_plan::Plan;

@@ -2,7 +2,7 @@
 
 ghost use Rattle.std.specs.Prelude.{max};
 
-use crate::looking::Done;
+use crate::sessions::looking::Done;
 use anyhow::Result;
 use left_right::{Absorb, ReadHandle, WriteHandle, new};
 use std::alloc::{AllocError, Global};

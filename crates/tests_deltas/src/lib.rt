@@ -1,5 +1,0 @@
-//! Tests of deltas.
-#![tactic(auto)]
-
-#[cfg(test)]
-mod deltas;
