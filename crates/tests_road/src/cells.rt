@@ -76,8 +76,27 @@ fn finds_the_car_of_a_cell(rt: HostRuntime) -> Result<(), Fail> {
             "cell {cell}"
         );
     }
-    assert!(rt; road.between(0, 3) == &CARS[..1] && road.between(3, 7) == &CARS[1..2]);
-    assert!(rt; road.between(1, 9) == &CARS[1..] && road.between(4, 7).is_empty());
+    Ok(())
+}
+
+/// Two cells, and which cars stand from the first to before the second: the first of them, and the one behind the last.
+const BETWEEN: &[((u32, u32), (usize, usize))] = &[
+    ((0, 3), (0, 1)),
+    ((3, 7), (1, 2)),
+    ((1, 9), (1, 3)),
+    ((4, 7), (2, 2)),
+];
+
+#[test]
+fn finds_the_cars_between_cells(rt: HostRuntime) -> Result<(), Fail> {
+    let road = road_of(rt.alloc(), CARS)?;
+    for ((from, to), (first, end)) in BETWEEN {
+        let between = road.between(*from, *to);
+        assert!(rt;
+            CARS.get(*first..*end) == Some(between),
+            "cells {from} to {to}"
+        );
+    }
     Ok(())
 }
 
@@ -112,7 +131,12 @@ fn rises(blocks: &[u32]) -> bool
 // A car of a road has so many free cells in front of it.
 fn sees(rt: &impl Abort, road: &Road, place: usize, (blocks, gap): &(&[u32], u8)) {
     assert!(rt; place < road.cars().len() && rises(blocks));
-    assert_eq!(rt; road.gap(place, blocks), *gap, "{blocks:?}");
+    assert_eq!(rt;
+        road.gap(place, blocks),
+        *gap,
+        "{} blocks before car {place}",
+        blocks.len()
+    );
 }
 
 #[test]

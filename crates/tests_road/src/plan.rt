@@ -414,9 +414,9 @@ const FAULTS: &[Judged] = &[
 
 // Each of these parts is refused by its fault, or accepted.
 fn are_judged(rt: &impl Abort, alloc: Global, table: &[Judged]) -> Result<(), OutOfMemory> {
-    for (parts, fault) in table {
+    for (row, (parts, fault)) in table.iter().enumerate() {
         let judged = Plan::new(parts_of(alloc, parts)?).err();
-        assert_eq!(rt; judged, *fault, "{parts:?}");
+        assert_eq!(rt; judged, *fault, "row {row}");
     }
     Ok(())
 }
@@ -443,10 +443,10 @@ const READ: &[Parts] = &[FREE, GREATEST];
 
 #[test]
 fn reads_the_parts(rt: HostRuntime) -> Result<(), Fail> {
-    for parts in READ {
+    for (row, parts) in READ.iter().enumerate() {
         let plan = plan_of(rt.alloc(), parts)?;
         plan.known();
-        assert!(rt; reads(&plan, parts), "{parts:?}");
+        assert!(rt; reads(&plan, parts), "row {row}");
     }
     Ok(())
 }
@@ -512,16 +512,21 @@ fn settings_of(
     })
 }
 
+// The settings of each row fit as it says.
+fn settings_fit(rt: &impl Abort, alloc: Global, plan: &Plan) -> Result<(), Fail> {
+    for (row, (numbers, fits)) in FITTING.iter().enumerate() {
+        let settings = settings_of(alloc, numbers)?;
+        assert!(rt; settings.fits(plan) == *fits, "row {row}");
+    }
+    Ok(())
+}
+
 #[test]
 fn knows_the_settings_that_fit(rt: HostRuntime) -> Result<(), Fail> {
     let plan = plan_of(rt.alloc(), &TWO_ZONES)?;
     let own = Settings::of_plan(rt.alloc(), &plan)?;
     assert!(rt; have(&own, &OWN));
-    for (numbers, fits) in FITTING {
-        let settings = settings_of(rt.alloc(), numbers)?;
-        assert_eq!(rt; settings.fits(&plan), *fits, "{numbers:?}");
-    }
-    Ok(())
+    settings_fit(&rt, rt.alloc(), &plan)
 }
 
 /// Objects in their order, each with its own number in the free road's plan, where it is there, and the greatest that
@@ -549,19 +554,19 @@ fn own_number(plan: &Plan, object: Object) -> Option<u32> {
     }
 }
 
+// Whether an object allows the numbers 0 and `greatest`, and not the next one.
+fn allows_up_to(object: Object, greatest: u32) -> bool {
+    object.allows(0) && object.allows(greatest) && !object.allows(greatest.saturating_add(1))
+}
+
 #[test]
 fn knows_the_objects_of_a_plan(rt: HostRuntime) -> Result<(), Fail> {
     let plan = plan_of(rt.alloc(), &FREE)?;
     let mut last = None;
-    for (object, own, greatest) in OBJECTS {
-        assert_eq!(rt; own_number(&plan, *object), *own, "{object:?}");
-        assert!(rt;
-            object.allows(0)
-                && object.allows(*greatest)
-                && !object.allows(greatest.saturating_add(1)),
-            "{object:?}"
-        );
-        assert!(rt; last < Some(*object), "{object:?}");
+    for (row, (object, own, greatest)) in OBJECTS.iter().enumerate() {
+        assert!(rt; own_number(&plan, *object) == *own, "row {row}");
+        assert!(rt; allows_up_to(*object, *greatest), "row {row}");
+        assert!(rt; last < Some(*object), "row {row}");
         last = Some(*object);
     }
     Ok(())

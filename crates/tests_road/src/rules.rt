@@ -110,7 +110,7 @@ fn moves(
     let result = moved(alloc, &road, speeds);
     assert!(rt; road.cars() == cars, "moved or refused");
     let next = result?;
-    assert!(rt; next.cars() == later, "{speeds:?}");
+    assert!(rt; next.cars() == later, "{} cars", cars.len());
     Ok(())
 }
 

@@ -96,7 +96,7 @@ const HEADS_OF_A: &[Head] = &[
 ];
 
 /// What one replica holds and tells by heads, what another holds, and what it sends: the edits beyond those heads.
-#[derive(Clone, Copy, Debug)]
+#[derive(Clone, Copy)]
 struct Exchange {
     asking: &'static [Edit],
     heads: &'static [Head],
@@ -243,8 +243,8 @@ fn goes(alloc: Global, plan: &Plan, exchange: &Exchange) -> Result<bool, OutOfMe
 #[test]
 fn replicas_exchange_edits(rt: HostRuntime) -> Result<(), Fail> {
     let plan = plan_of(rt.alloc(), &FREE)?;
-    for exchange in EXCHANGES {
-        assert!(rt; goes(rt.alloc(), &plan, exchange)?, "{exchange:?}");
+    for (row, exchange) in EXCHANGES.iter().enumerate() {
+        assert!(rt; goes(rt.alloc(), &plan, exchange)?, "row {row}");
     }
     Ok(())
 }

@@ -42,8 +42,8 @@ fn joins_to<L: Lattice>(first: &L, second: &L, both: &L) -> Result<bool, OutOfMe
 
 #[test]
 fn equal_stamps_go_by_value(rt: HostRuntime) -> Result<(), Fail> {
-    for (first, second, both) in REGISTERS {
-        assert!(rt; joins_to(first, second, both)?, "{first:?} {second:?}");
+    for (row, (first, second, both)) in REGISTERS.iter().enumerate() {
+        assert!(rt; joins_to(first, second, both)?, "row {row}");
     }
     Ok(())
 }
@@ -116,10 +116,10 @@ fn map_joins_to(
 
 #[test]
 fn maps_join_key_by_key(rt: HostRuntime) -> Result<(), Fail> {
-    for (ours, theirs, entries) in MERGES {
+    for (row, (ours, theirs, entries)) in MERGES.iter().enumerate() {
         assert!(rt;
             map_joins_to(rt.alloc(), ours, theirs, entries)?,
-            "{ours:?} {theirs:?}"
+            "row {row}"
         );
     }
     Ok(())
@@ -175,11 +175,8 @@ fn nothing_is_least(alloc: Global) -> Result<bool, OutOfMemory> {
 #[test]
 fn replicas_merge(rt: HostRuntime) -> Result<(), Fail> {
     assert!(rt; nothing_is_least(rt.alloc())?);
-    for (ours, theirs, entries) in MERGES {
-        assert!(rt;
-            merge_to(rt.alloc(), ours, theirs, entries)?,
-            "{ours:?} {theirs:?}"
-        );
+    for (row, (ours, theirs, entries)) in MERGES.iter().enumerate() {
+        assert!(rt; merge_to(rt.alloc(), ours, theirs, entries)?, "row {row}");
     }
     Ok(())
 }

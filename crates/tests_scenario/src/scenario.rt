@@ -26,7 +26,7 @@ fn scenario(alloc: Global, edits: &[Edit]) -> Result<Scenario, OutOfMemory> {
 }
 
 /// Edits come to a replica that holds others: what is listed then, the touched step, and the greatest count.
-#[derive(Clone, Copy, Debug)]
+#[derive(Clone, Copy)]
 struct Merge {
     held: &'static [Edit],
     come: &'static [Edit],
@@ -301,8 +301,8 @@ fn comes(alloc: Global, merge: &Merge) -> Result<bool, OutOfMemory> {
 
 #[test]
 fn edits_come_to_a_replica(rt: HostRuntime) -> Result<(), Fail> {
-    for merge in MERGES {
-        assert!(rt; comes(rt.alloc(), merge)?, "{merge:?}");
+    for (row, merge) in MERGES.iter().enumerate() {
+        assert!(rt; comes(rt.alloc(), merge)?, "row {row}");
     }
     Ok(())
 }
@@ -332,8 +332,8 @@ fn makes(alloc: Global, edits: &[Edit], listed: &[Edit]) -> Result<bool, OutOfMe
 
 #[test]
 fn lists_make_scenarios(rt: HostRuntime) -> Result<(), Fail> {
-    for (edits, listed) in LISTS {
-        assert!(rt; makes(rt.alloc(), edits, listed)?, "{edits:?}");
+    for (row, (edits, listed)) in LISTS.iter().enumerate() {
+        assert!(rt; makes(rt.alloc(), edits, listed)?, "row {row}");
     }
     Ok(())
 }
@@ -408,9 +408,9 @@ fn limits_after(
 
 // The limits of each row are as it says.
 fn limits_act(rt: &impl Abort, alloc: Global, plan: &Plan) -> Result<(), Fail> {
-    for (edits, limits) in LIMITS {
+    for (row, (edits, limits)) in LIMITS.iter().enumerate() {
         let made = limits_after(rt, alloc, plan, edits)?;
-        assert_eq!(rt; made, *limits, "{edits:?}");
+        assert!(rt; made == *limits, "row {row}");
     }
     Ok(())
 }
@@ -822,8 +822,8 @@ const FIRST_FAULTS: &[(&[Edit], Option<EditFault>)] = &[
 #[test]
 fn faults_are_named_in_order(rt: HostRuntime) -> Result<(), Fail> {
     let plan = plan_of(rt.alloc(), &FREE)?;
-    for (edit, fault) in FAULTS {
-        assert_eq!(rt; edit.fault(&plan), *fault, "{edit:?}");
+    for (row, (edit, fault)) in FAULTS.iter().enumerate() {
+        assert!(rt; edit.fault(&plan) == *fault, "row {row}");
     }
     Ok(())
 }
@@ -840,8 +840,8 @@ fn first_fault(
 
 // The first fault of each row is as it says.
 fn first_faults_are_named(rt: &impl Abort, alloc: Global, plan: &Plan) -> Result<(), Fail> {
-    for (edits, fault) in FIRST_FAULTS {
-        assert_eq!(rt; first_fault(alloc, plan, edits)?, *fault, "{edits:?}");
+    for (row, (edits, fault)) in FIRST_FAULTS.iter().enumerate() {
+        assert!(rt; first_fault(alloc, plan, edits)? == *fault, "row {row}");
     }
     Ok(())
 }

@@ -36,7 +36,7 @@ fn counted(rt: &impl Abort, input: &StepInput, speeds: &[u8], detector: u32) -> 
 }
 
 /// Steps of the free road, counted from the first to before the last.
-#[derive(Clone, Copy, Debug)]
+#[derive(Clone, Copy)]
 struct Count {
     /// The steps between which the detector is off.
     off: (u32, u32),
@@ -124,11 +124,11 @@ fn total(
 
 // The detector of the free road counts as each row says.
 fn totals_are_counted(rt: &impl Abort, alloc: Global, plan: &Arc<Plan>) -> Result<(), Fail> {
-    for count in COUNTS {
+    for (row, count) in COUNTS.iter().enumerate() {
         let totals = total(rt, alloc, plan, count)?;
         assert!(rt;
             totals.cars == count.cars && totals.speeds == count.speeds,
-            "{count:?}"
+            "row {row}"
         );
     }
     Ok(())
@@ -201,12 +201,9 @@ const PASSES: &[(&[u8], u32, u32, u32)] = &[
 
 // The detectors count as each row says.
 fn passes_are_counted(rt: &impl Abort, input: &StepInput) {
-    for (speeds, detector, cars, sum) in PASSES {
+    for (row, (speeds, detector, cars, sum)) in PASSES.iter().enumerate() {
         let counts = counted(rt, input, speeds, *detector);
-        assert!(rt;
-            counts.cars == *cars && counts.speeds == *sum,
-            "{speeds:?} at {detector}"
-        );
+        assert!(rt; counts.cars == *cars && counts.speeds == *sum, "row {row}");
     }
 }
 
@@ -268,9 +265,9 @@ const ROWS: &[(&[u32], &str)] = &[
 
 // The cars of a road are drawn as each row says.
 fn rows_are_drawn(rt: &impl Abort, alloc: Global, road: &Road) -> Result<(), Fail> {
-    for (blocks, text) in ROWS {
+    for (row, (blocks, text)) in ROWS.iter().enumerate() {
         let drawn = row_of(rt, alloc, road, blocks, 12)?;
-        assert_eq!(rt; drawn.as_str(), *text, "blocks {blocks:?}");
+        assert_eq!(rt; drawn.as_str(), *text, "row {row}");
     }
     Ok(())
 }

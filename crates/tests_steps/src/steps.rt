@@ -502,9 +502,9 @@ const FIRST_STEPS: &[(Parts, Option<Car>, &[Car])] = &[
 
 #[test]
 fn goes_by_the_words_of_each_inlet_and_car(rt: HostRuntime) -> Result<(), Fail> {
-    for (parts, car, want) in FIRST_STEPS {
+    for (row, (parts, car, want)) in FIRST_STEPS.iter().enumerate() {
         let cars = after_step_one(rt.alloc(), parts, *car)?;
-        assert!(rt; cars.as_slice() == *want, "{parts:?}");
+        assert!(rt; cars.as_slice() == *want, "row {row}");
     }
     Ok(())
 }

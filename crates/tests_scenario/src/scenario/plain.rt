@@ -70,14 +70,14 @@ fn touched(edits: &[Edit], others: &[Edit]) -> Option<u32> {
 }
 
 // The settings of a scenario against those of the edits that it came of.
-fn compare(rt: &impl Abort, plan: &Plan, edits: &[Edit], made: &Scenario) {
+fn compare(rt: &impl Abort, plan: &Plan, row: usize, edits: &[Edit], made: &Scenario) {
     for step in 0..=LAST {
         for object in OBJECTS {
             assert!(rt; object.in_plan(plan));
             assert_eq!(rt;
                 made.setting(plan, *object, step),
                 setting(plan, edits, *object, step),
-                "{object:?} {step} {edits:?}"
+                "{object:?} at step {step}, row {row}"
             );
         }
     }
@@ -88,27 +88,32 @@ fn looks_at(
     rt: &impl Abort,
     alloc: Global,
     plan: &Plan,
-    merge: &Merge,
+    (row, merge): (usize, &Merge),
     after: &[Edit],
 ) -> Result<(), OutOfMemory> {
     let made = scenario(alloc, merge.listed)?;
-    compare(rt, plan, after, &made);
-    assert_eq!(rt; touched(merge.held, after), merge.touched, "{merge:?}");
+    compare(rt, plan, row, after, &made);
+    assert!(rt; touched(merge.held, after) == merge.touched, "row {row}");
     Ok(())
 }
 
 // The edits of a row come to those that were held.
-fn comes(rt: &impl Abort, alloc: Global, plan: &Plan, merge: &Merge) -> Result<(), OutOfMemory> {
+fn comes(
+    rt: &impl Abort,
+    alloc: Global,
+    plan: &Plan,
+    (row, merge): (usize, &Merge),
+) -> Result<(), OutOfMemory> {
     let mut after = merge.held.to_vec(alloc)?;
     after.extend_from_slice(merge.come)?;
-    looks_at(rt, alloc, plan, merge, &after)
+    looks_at(rt, alloc, plan, (row, merge), &after)
 }
 
 #[test]
 fn the_plain_program_agrees(rt: HostRuntime) -> Result<(), Fail> {
     let plan = plan_of(rt.alloc(), &FREE)?;
-    for merge in MERGES {
-        comes(&rt, rt.alloc(), &plan, merge)?;
+    for row in MERGES.iter().enumerate() {
+        comes(&rt, rt.alloc(), &plan, row)?;
     }
     Ok(())
 }
