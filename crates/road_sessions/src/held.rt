@@ -141,7 +141,8 @@ impl<J: Naming, R: Wait + Drop> Held<J, R> {
         requires few { limit ≤ MOST_WRITES }
         requires parts { J.parts ≡ sessions }
         requires spared { (spare.parts ≡ 0) × (spare.amount ≡ 0) }
-        ensures { result.journal.items ≡ [] }
+        ensures journal { result.journal.items ≡ [] }
+        ensures limit { result.limit ≡ limit }
     {
         Held {
             rt,
@@ -160,7 +161,8 @@ impl<J: Naming, R: Wait + Drop> Held<J, R> {
 
     // The writer's queue gets its memory, so that no write has to wait for it. What it is given is published already.
     pub(crate) fn warm(&mut self, published: Published<J>) -> Result<(), OutOfMemory>
-        ensures { self.new.journal ≡ self.old.journal }
+        ensures journal { self.new.journal ≡ self.old.journal }
+        ensures limit { self.new.limit ≡ self.old.limit }
     {
         match self.writer.append(published) {
             Ok(()) => Ok(()),
@@ -335,6 +337,7 @@ impl<J: Naming, R: Wait + Drop> Held<J, R> {
         ensures sessions { IfOk result
             (λ sessions. (length sessions.items ≡ J.parts) × AreNewSessions 0 sessions.items) }
         ensures journal { self.new.journal ≡ self.old.journal }
+        ensures limit { self.new.limit ≡ self.old.limit }
     {
         self.warm(published)?;
         self.new_sessions(whole)

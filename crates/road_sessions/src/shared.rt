@@ -46,7 +46,8 @@ pub struct Prepared<R: Wait + Drop> {
     pub replica: Replica,
     /// How many sessions it is for.
     pub sessions: u32,
-    limit: u64,
+    /// How many writes its journal takes at most.
+    pub limit: u64,
     /// The ledger of accepted writes, with a part for each session.
     pub ledger: Blank,
     pub ghost parts: { ledger.parts ≡ sessions },
@@ -70,6 +71,7 @@ pub fn prepare<R: Wait + Drop>(
     requires sessions { (0 < sessions) × (sessions ≤ MOST_SESSIONS) }
     requires limit { (0 < limit) × (limit ≤ MOST_WRITES) }
     ensures sessions { IfOk result (λ prepared. prepared.sessions ≡ sessions) }
+    ensures limit { IfOk result (λ prepared. prepared.limit ≡ limit) }
     ensures replica { IfOk result (λ prepared. prepared.replica ≡ replica_of_plan (arc_value plan) number) }
 {
     let replica = Replica::open(alloc, plan, number)?;
@@ -118,6 +120,7 @@ pub fn opened<J: Naming, R: Wait + Drop>(
     requires replica { prepared.replica ≡ J.replica }
     requires ledger { (prepared.ledger.name ≡ J.name) × (prepared.ledger.parts ≡ J.parts) }
     ensures journal { IfOk result (λ opened. opened.0.journal.items ≡ []) }
+    ensures limit { IfOk result (λ opened. opened.0.limit ≡ prepared.limit) }
     ensures sessions { IfOk result (λ opened. (length opened.1.items ≡ prepared.sessions)
         × AreNewSessions 0 opened.1.items) }
 {

@@ -1,10 +1,13 @@
 -- One word more is drawn, and the generator moves to the next place.
-use Rattle.std.proofs.Common.{◌≡◌, ◌<◌, ◌+◌, ◌/◌, ◌%◌, ◌^◌, ◌∙◌, ℕ, ap, arith, length}
+use Rattle.std.proofs.Common.{◌≡◌, ◌<◌, ◌+◌, ◌/◌, ◌%◌, ◌^◌, ◌∙◌, ℕ, ap, arith, length, rules}
 use Rattle.std.proofs.lemmas.List.{length-set}
 use Rattle.rand_chacha.specs.ChaCha.{ChaCha, word_at}
 use Rattle.road_words.specs.Words.{chacha_word}
 use Rattle.road_words.proofs.RowsOfWords.{row_more}
 use Rattle.road_words.proofs.chacha.ChaChaWords.row.Goals as goal
+
+pub loop-place-init : goal.loop-place-init
+loop-place-init c = search rules
 
 pub loop-place-preserved : goal.loop-place-preserved
 loop-place-preserved c =

@@ -1,0 +1,6 @@
+-- Both parts are added.
+use Rattle.std.proofs.Common.{rules}
+use Rattle.road_detector.proofs.counts.Totals.plus.Goals as goal
+
+pub returns : goal.returns
+returns c = search rules

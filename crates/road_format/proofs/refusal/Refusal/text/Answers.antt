@@ -1,0 +1,6 @@
+-- The word of the refusal.
+use Rattle.std.proofs.Common.{rules}
+use Rattle.road_format.proofs.refusal.Refusal.text.Goals as goal
+
+pub returns-in-Names : goal.returns-in-Names
+returns-in-Names c = search rules

@@ -1,0 +1,6 @@
+-- No worker has begun.
+use Rattle.std.proofs.Common.{rules}
+use Rattle.road_workers.proofs.scoped.Scoped.new.Goals as goal
+
+pub returns : goal.returns
+returns g c = search rules
