@@ -1,12 +1,12 @@
 -- What holds of a dialogue at the end of the input.
-use Rattle.std.proofs.Common.{◌≡◌, ◌<◌, ◌+◌, ℕ, suc, List, [], ◌∷◌, ◌++◌, length, take, Bool, true, false, IsSome, Option, Some, None, Result, Ok, Err, refl, ap, sym, subst, ◌∙◌, append-nil, length-append, arith}
+use Rattle.std.proofs.Common.{◌≡◌, ◌<◌, ℕ, suc, List, [], ◌∷◌, ◌++◌, length, take, Bool, true, false, IsSome, Option, Some, None, Result, Ok, Err, refl, ap, sym, subst, ◌∙◌, append-nil, length-append, arith}
 use Rattle.std.specs.Prelude.{MatchResult}
 use Rattle.std.specs.Io.KnownBytes.{Appends}
 use Rattle.road_format.specs.Cut.{newline, Pieces, pieces_of, last_line, lines_of}
 use Rattle.road_format.specs.Replies.{Refused, reply}
 use Rattle.road_format.specs.declared.refusal.Refusal.TheVariants as refusals
 use Rattle.road_laboratory.specs.Laboratory.{Laboratory}
-use Rattle.road_dialogue.specs.Answers.{first_reading, later_lines, line_replies, answers, is_refusal, is_plan_refused, has_more_lines}
+use Rattle.road_dialogue.specs.Answers.{first_reading, line_replies, answers, is_refusal, is_plan_refused, has_more_lines}
 use Rattle.road_dialogue.specs.Dialogue.{IsAfterLines, Holds, Whole, TooLong, GoesOn, Stands, StandsAtEnd, HasAnswered, HasFinished}
 use Rattle.road_dialogue.specs.StreamViews.{SinkView, Stops}
 use Rattle.road_dialogue.specs.declared.dialogue.Dialogue.{Dialogue}
@@ -16,7 +16,7 @@ use Rattle.road_dialogue.specs.declared.faults.ServeFault.{ServeFault}
 use Rattle.road_dialogue.specs.declared.faults.ServeFault.TheVariants as faults
 use Rattle.road_dialogue.proofs.CutBytes.{cut-newline}
 use Rattle.road_dialogue.proofs.AnswersGrow.{few_lines, are_few, len_newline, refused_whole}
-use Rattle.road_dialogue.proofs.DialogueSteps.{goes_on}
+use Rattle.road_dialogue.proofs.DialogueSteps.{goes_on, after_same}
 use Rattle.road_dialogue.proofs.DialogueCalls.{Put, stops_same, stops_memory, flush_ends}
 use Rattle.road_dialogue.proofs.SinkTexts.{takes_same, takes_more, stops_after}
 
@@ -70,27 +70,25 @@ last_few n a few some =
 
 -- ---- the plan line was accepted
 
-abbrev Accepted : ℕ → ℕ → List (List ℕ) → Type 0
-Accepted n left ls = (is_refusal (first_reading true ls) ≡ false) × (left + length (later_lines ls) ≡ n)
-
-accepted_lines : (n : ℕ) (ls : List (List ℕ)) (lab : Option Laboratory) (left : ℕ) → IsAfterLines n ls lab left → 0 < length ls → Accepted n left ls
+accepted_lines : (n : ℕ) (ls : List (List ℕ)) (lab : Option Laboratory) (left : ℕ) → IsAfterLines n ls lab left → 0 < length ls → is_refusal (first_reading true ls) ≡ false
 accepted_lines n [] lab left after some = absurd (omega arith)
 accepted_lines n (first ∷ later) None left after some = absurd after
-accepted_lines n (first ∷ later) (Some kept) left after some = (rw (after.1) refl, after.3)
+accepted_lines n (first ∷ later) (Some kept) left after some = rw (after.1) refl
 
-stands_accepted : (n : ℕ) (a : List ℕ) (d : Dialogue) (ls : List (List ℕ)) → lines_of a true ≡ ls → has_more_lines n a ≡ false → Accepted n d.left ls → StandsAtEnd n a d None
+stands_accepted : (n : ℕ) (a : List ℕ) (d : Dialogue) (ls : List (List ℕ)) → lines_of a true ≡ ls → has_more_lines n a ≡ false → IsAfterLines n ls d.laboratory d.left → 0 < length ls → StandsAtEnd n a d None
 unfolding is_plan_refused
-stands_accepted n a d ls e few ok = (
-  ap (λ (x : List (List ℕ)). is_refusal (first_reading true x)) e ∙ ok.0,
-  few,
-  ap (λ (x : List (List ℕ)). d.left + length (later_lines x)) e ∙ ok.1,
-)
+stands_accepted n a d ls e few after some =
+    let Family : List (List ℕ) → Type 0 = λ x. IsAfterLines n x d.laboratory d.left in (
+      ap (λ (x : List (List ℕ)). is_refusal (first_reading true x)) e ∙ accepted_lines n ls d.laboratory d.left after some,
+      few,
+      subst Family (sym e) after,
+    )
 
 stands_line : (n : ℕ) (a : List ℕ) (d : Dialogue) (o : Option EarlyEnd) → has_more_lines n a ≡ false → 0 < length (pieces_of a).1 → Stands n (a ++ newline ∷ []) d o → StandsAtEnd n a d o
 stands_line n a d None few some on =
     let Family : List (List ℕ) → Type 0 = λ ls. IsAfterLines n ls d.laboratory d.left in
     let after = subst Family (ap (λ (p : Pieces). p.0) (cut-newline a)) on.after in
-    stands_accepted n a d _ (ended_line a some) few (accepted_lines n _ d.laboratory d.left after (omega (arith, length-append (pieces_of a).0 ((pieces_of a).1 ∷ []))))
+    stands_accepted n a d _ (ended_line a some) few after (omega (arith, length-append (pieces_of a).0 ((pieces_of a).1 ∷ [])))
 stands_line n a d (Some ends.BadPlan) few some refused = refused_ended a some ∙ refused
 stands_line n a d (Some ends.TooMany) few some many = let no = last_few n a few some in let yes_ = many.1 in absurd (cc)
 
@@ -136,7 +134,7 @@ clear_ends n a first sink d h none held short kept =
     record {
       answered = takes_same first sink _ _ _ _ (sym (answers_clear n a clear some)) refl h.answered;
       well = h.well;
-      stands = subst Family (sym none) (stands_accepted n a d (pieces_of a).0 (clear_lines a clear) on.few (accepted_lines n (pieces_of a).0 d.laboratory d.left on.after some));
+      stands = subst Family (sym none) (stands_accepted n a d (pieces_of a).0 (clear_lines a clear) on.few on.after some);
     }
 
 -- ---- no line came
@@ -188,19 +186,19 @@ no_plan_ends n a text all first sink sink' d d' (Err fault) h none held short ke
 
 -- ---- what waits is flushed
 
-stands_end_same : (n : ℕ) (a : List ℕ) (d d' : Dialogue) (o : Option EarlyEnd) → d'.left ≡ d.left → StandsAtEnd n a d o → StandsAtEnd n a d' o
-stands_end_same n a d d' None left s = (s.0, s.1, ap (λ (k : ℕ). k + length (later_lines (lines_of a true))) left ∙ s.2)
-stands_end_same n a d d' (Some ends.BadPlan) left s = s
-stands_end_same n a d d' (Some ends.TooMany) left s = s
+stands_end_same : (n : ℕ) (a : List ℕ) (d d' : Dialogue) (o : Option EarlyEnd) → d'.laboratory ≡ d.laboratory → d'.left ≡ d.left → StandsAtEnd n a d o → StandsAtEnd n a d' o
+stands_end_same n a d d' None lab left s = (s.0, s.1, after_same n _ _ d.laboratory d'.laboratory d.left d'.left refl (sym lab) (sym left) s.2)
+stands_end_same n a d d' (Some ends.BadPlan) lab left s = s
+stands_end_same n a d d' (Some ends.TooMany) lab left s = s
 
 pub finished_flushed : (n : ℕ) (a : List ℕ) (first sink sink' : SinkView) (d d' : Dialogue) → HasFinished n a first sink d → Appends sink.contents sink'.contents d.waiting.items → sink'.failures ≡ sink.failures → d'.waiting.items ≡ []
-    → d'.left ≡ d.left → d'.over ≡ d.over → HasFinished n a first sink' d'
-finished_flushed n a first sink sink' d d' h all well none left over =
+    → d'.laboratory ≡ d.laboratory → d'.left ≡ d.left → d'.over ≡ d.over → HasFinished n a first sink' d'
+finished_flushed n a first sink sink' d d' h all well none lab left over =
     let Family : Option EarlyEnd → Type 0 = λ o. StandsAtEnd n a d' o in
     record {
       answered = flush_ends first sink sink' (answers n a true) d.waiting.items d'.waiting.items h.answered all none;
       well = well ∙ h.well;
-      stands = subst Family (sym over) (stands_end_same n a d d' d.over left h.stands);
+      stands = subst Family (sym over) (stands_end_same n a d d' d.over lab left h.stands);
     }
 
 -- ---- there is no memory

@@ -95,7 +95,7 @@ room_newline n a b d g open_ line =
     let same = ap (λ (p : Pieces). length p.0) (cut-more a b line) in
     are_few n ((a ++ b) ++ newline ∷ []) (omega (arith, room, same, len_newline (a ++ b)))
 
-after_same : (n : ℕ) (ls ls' : List (List ℕ)) (lab lab' : Option Laboratory) (left left' : ℕ) → ls ≡ ls' → lab ≡ lab' → left ≡ left' → IsAfterLines n ls lab left → IsAfterLines n ls' lab' left'
+pub after_same : (n : ℕ) (ls ls' : List (List ℕ)) (lab lab' : Option Laboratory) (left left' : ℕ) → ls ≡ ls' → lab ≡ lab' → left ≡ left' → IsAfterLines n ls lab left → IsAfterLines n ls' lab' left'
 after_same n ls ls' lab lab' left left' e f g h =
     let Lines : List (List ℕ) → Type 0 = λ x. IsAfterLines n x lab left in
     let Keepers : Option Laboratory → Type 0 = λ x. IsAfterLines n ls' x left in

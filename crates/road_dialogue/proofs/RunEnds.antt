@@ -8,8 +8,9 @@ use Rattle.std.proofs.Math.Dec.{eqb-suc-zero}
 use Rattle.std.proofs.KnownBytes.{Appends-nil, Consumes-nil, Consumes-trans, Consumes-kept}
 use Rattle.std.specs.Io.KnownBytes.{Appends, Consumes, IsAtEnd, Keeps}
 use Rattle.road_format.specs.Cut.{lines_of}
+use Rattle.road_laboratory.specs.Laboratory.{Laboratory}
 use Rattle.road_dialogue.specs.Answers.{later_lines, answers, answers_within, is_plan_refused, is_plan_refused_within, has_more_lines, has_byte_past_most, reply_count}
-use Rattle.road_dialogue.specs.Dialogue.{HasAnswered, HasFinished, Stands, StandsAtEnd}
+use Rattle.road_dialogue.specs.Dialogue.{IsAfterLines, HasAnswered, HasFinished, GoesOn, Stands, StandsAtEnd}
 use Rattle.road_dialogue.specs.Failures.{RisesByOne}
 use Rattle.road_workers.specs.declared.faults.CrewFault.{CrewFault}
 use Rattle.road_workers.specs.declared.faults.CrewFault.TheVariants as crew_faults
@@ -159,16 +160,23 @@ run_of lines limit source source' sink sink' result = record {
 
 -- ---- a read failed
 
+accepted_so_far : (lines limit : ℕ) (h : List ℕ) (d : Dialogue) → length h ≤ limit → GoesOn lines h d → is_plan_refused_within limit h false ≡ false
+accepted_so_far lines limit h d short on =
+    refused_going limit h ∙ ap (λ (x : List ℕ). is_plan_refused x false) (whole limit h short) ∙ going_accepted lines h d on
+
 pub unread : (lines limit room : ℕ) (source s1 s2 : SourceView) (sink k1 : SinkView) (d : Dialogue) → SoFar lines limit room source s1 sink k1 d → Keeps s1.remaining s2.remaining → RisesByOne s1.failures s2.failures
     → AnswersInput (run_of lines limit source s2 sink k1 (Err faults.Read))
 unread lines limit room source s1 s2 sink k1 d so keeps rises =
     let short : length so.input ≤ limit = omega (arith, so.room_left) in
     let same : answers lines so.input false ≡ answers_within lines limit so.input false = ap (λ (x : List ℕ). answers lines x false) (sym (whole limit so.input short)) ∙ sym (answers_going lines limit so.input) in
+    let on = goes_on lines so.input sink k1 d so.answered so.going in
     record {
       input = so.input;
       read = Consumes-kept source.remaining s1.remaining s2.remaining so.input so.read keeps;
       ends = record {
         written = taken_all sink k1 _ (takes_same sink k1 _ _ _ _ same so.none_wait so.answered.answered);
+        accepted = accepted_so_far lines limit so.input d short on;
+        within = past_ended lines limit so.input short on.few;
         reads_failed = rises_after source.failures s1.failures s2.failures so.reads_well rises;
         writes_well = so.answered.well;
       };
@@ -314,6 +322,12 @@ refused_at_end lines limit room n source s1 s2 sink k1 k2 d d' piece end so more
       (writes_ended lines limit room n source s1 s2 sink k1 k2 d d' piece _ so more none h waits flushed) (ends_at lines so.input d' _ _ is h.stands);
 }
 
+left_after : (n : ℕ) (ls : List (List ℕ)) (lab : Option Laboratory) (left : ℕ) → IsAfterLines n ls lab left → left + length (later_lines ls) ≡ n
+left_after n [] None left after = omega (arith, after)
+left_after n [] (Some kept) left after = absurd after
+left_after n (first ∷ later) None left after = absurd after
+left_after n (first ∷ later) (Some kept) left after = after.3
+
 pub ended_well : (lines limit room n : ℕ) (source s1 s2 : SourceView) (sink k1 k2 : SinkView) (d d' : Dialogue) (piece : List ℕ) (served : Served) (so : SoFar lines limit room source s1 sink k1 d) → ReadMore s1 s2 n piece → n ≡ 0
     → IsAtEnd s2.remaining → HasFinished lines so.input sink k2 d' → d'.waiting.items ≡ [] → k2.flushed ≡ true → d'.over ≡ None → served.lines ≡ lines - d'.left → AnswersInput (run_of lines limit source s2 sink k2 (Ok served))
 ended_well lines limit room n source s1 s2 sink k1 k2 d d' piece served so more none nothing h waits flushed is count =
@@ -329,7 +343,7 @@ ended_well lines limit room n source s1 s2 sink k1 k2 d d' piece served so more 
         nothing_left = nothing;
         accepted = ap (is_plan_refused_within limit so.input) ended ∙ refused_ended limit so.input short ∙ s.0;
         within = past_ended lines limit so.input short s.1;
-        counted = omega (arith, count, s.2, count_ended lines limit so.input short s.1);
+        counted = omega (arith, count, left_after lines (lines_of so.input true) d'.laboratory d'.left s.2, count_ended lines limit so.input short s.1);
       };
     }
 
@@ -343,6 +357,14 @@ early_gone ends.TooMany fault n is = ap (λ (f : ServeFault). gone_after_call {A
 nothing_answered : (lines limit : ℕ) → answers_within lines limit [] false ≡ []
 unfolding answers
 nothing_answered lines limit = answers_going lines limit [] ∙ ap (λ (x : List ℕ). answers lines x false) (whole limit [] (omega arith))
+
+nothing_refused : (limit : ℕ) → is_plan_refused_within limit [] false ≡ false
+unfolding is_plan_refused
+nothing_refused limit = refused_going limit [] ∙ ap (λ (x : List ℕ). is_plan_refused x false) (whole limit [] (omega arith))
+
+few_of_none : (lines : ℕ) → has_more_lines lines [] ≡ false
+unfolding has_more_lines
+few_of_none lines = le-ltb (suc lines) zero (omega arith)
 
 appends_nothing : (contents : Option (List ℕ)) (text : List ℕ) → text ≡ [] → Appends contents contents text
 appends_nothing contents text none = let Family : List ℕ → Type 0 = λ x. Appends contents contents x in subst Family (sym none) (Appends-nil contents)
@@ -358,6 +380,8 @@ unopened lines limit sink = record {
   read = Consumes-nil None;
   ends = record {
     written = appends_nothing sink.contents _ (nothing_answered lines limit);
+    accepted = nothing_refused limit;
+    within = past_ended lines limit [] (omega arith) (few_of_none lines);
     reads_failed = refl;
     writes_well = refl;
   };

@@ -5,7 +5,7 @@ use Rattle.road_plan.specs.declared.limits.TheConstants.{LONGEST_LINE}
 use Rattle.road_format.specs.Cut.{pieces_of, lines_of}
 use Rattle.road_format.specs.PlanGrammar.{PlanLine}
 use Rattle.road_laboratory.specs.Laboratory.{Laboratory, laboratory_of_winners, opening_laboratory}
-use Rattle.road_dialogue.specs.Answers.{plan_reading, command_reading, laboratory_after_line, later_lines, answers}
+use Rattle.road_dialogue.specs.Answers.{plan_reading, command_reading, laboratory_after_line, answers}
 use Rattle.road_dialogue.specs.Answers.{is_plan_refused, has_more_lines}
 use Rattle.road_dialogue.specs.StreamViews.{SinkView, TakesAllBut}
 use Rattle.road_dialogue.specs.declared.dialogue.Dialogue.{Dialogue}
@@ -61,11 +61,11 @@ pub record HasAnswered (lines : ℕ) (bytes : List ℕ) (first sink : SinkView) 
 
 -- ---- the end of input
 
--- whether the plan line was accepted, and then how many more lines might have come
+-- the plan line was accepted, and the dialogue is after all lines; or the plan line was refused
 abbrev pub StandsAtEnd : ℕ → List ℕ → Dialogue → Option EarlyEnd → Type 0
 StandsAtEnd lines bytes d None =
     (is_plan_refused bytes true ≡ false) × (has_more_lines lines bytes ≡ false)
-    × (d.left + length (later_lines (lines_of bytes true)) ≡ lines)
+    × IsAfterLines lines (lines_of bytes true) d.laboratory d.left
 StandsAtEnd lines bytes d (Some ends.BadPlan) = is_plan_refused bytes true ≡ true
 StandsAtEnd lines bytes d (Some ends.TooMany) = ⊥
 

@@ -61,10 +61,13 @@ pub record EndsWell (run : Serving) (input : List ℕ) (served : Served) : Type 
   pub within : PassesMost run input false
   pub counted : served.lines ≡ reply_count run.most_lines run.most_bytes input
 
--- A run that a failed read ends: the answers to the lines that were read whole were written.
+-- A run that a failed read ends: the answers to the lines that were read whole were written. The plan line was not
+-- refused so far, nor did the input go past the most lines or the most bytes: nothing is read after that.
 pub record EndsUnread (run : Serving) (input : List ℕ) : Type 0 where
   pub written : Appends run.sink_before.contents run.sink_after.contents
       (answers_within run.most_lines run.most_bytes input false)
+  pub accepted : is_plan_refused_within run.most_bytes input false ≡ false
+  pub within : PassesMost run input false
   pub reads_failed : RisesByOne run.source_before.failures run.source_after.failures
   pub writes_well : run.sink_after.failures ≡ run.sink_before.failures
 

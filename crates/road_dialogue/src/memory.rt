@@ -1,6 +1,6 @@
 //! A source and a sink over memory, which know their bytes and can be made to fail.
 
-ghost use Rattle.std.specs.Prelude.{◌≡◌, ◌≤◌, ◌<◌, Some, drop, length};
+ghost use Rattle.std.specs.Prelude.{◌≡◌, ◌≤◌, ◌<◌, ◌+◌, Some, drop, false, length, min};
 ghost use Rattle.road_dialogue.specs.Private.Failing.{is_failing};
 
 use crate::faults::{ReadFailed, WriteFailed};
@@ -40,7 +40,9 @@ struct Calls {
 impl Calls {
     // Whether the next call fails. It is counted.
     fn next_fails(&mut self) -> bool
-        ensures { result ≡ is_failing self.old.failing self.old.made }
+        ensures fails { result ≡ is_failing self.old.failing self.old.made }
+        ensures counted { self.new.made ≡ min (self.old.made + 1) u64.MAX }
+        ensures unchanged { self.new.failing ≡ self.old.failing }
     {
         let fails = self.failing.fails(self.made);
         self.made = self.made.saturating_add(1);
@@ -67,8 +69,10 @@ impl<'a> MemorySource<'a> {
         requires { 0 < step }
         ensures remaining { ⟦<MemorySource<'a> as Source>⟧.remaining result ≡ Some bytes.now }
         ensures failures { ⟦<MemorySource<'a> as Source>⟧.failures result ≡ 0 }
+        ensures going { ⟦<MemorySource<'a> as Source>⟧.at_end result ≡ false }
         ensures step { result.step ≡ step }
         ensures failing { result.reads.failing ≡ failing }
+        ensures none_made { result.reads.made ≡ 0 }
     {
         MemorySource {
             bytes,
@@ -120,9 +124,11 @@ impl MemorySink {
     pub fn new(bytes: Vec<u8>, room: usize, writes: Failing, flushes: Failing) -> MemorySink
         ensures contents { ⟦<MemorySink as Sink>⟧.contents result ≡ Some bytes.items }
         ensures failures { ⟦<MemorySink as Sink>⟧.failures result ≡ 0 }
+        ensures unflushed { ⟦<MemorySink as Sink>⟧.flushed result ≡ false }
         ensures room { result.room ≡ room }
         ensures writes { result.writes.failing ≡ writes }
         ensures flushes { result.flushes.failing ≡ flushes }
+        ensures none_made { (result.writes.made ≡ 0) × (result.flushes.made ≡ 0) }
     {
         MemorySink {
             bytes,

@@ -1,6 +1,6 @@
 //! Readers and writers of std as a source and a sink.
 
-ghost use Rattle.std.specs.Prelude.{◌≡◌};
+ghost use Rattle.std.specs.Prelude.{◌≡◌, false};
 
 use crate::faults::{ReadFailed, WriteFailed};
 use crate::streams::{Sink, Source};
@@ -19,6 +19,7 @@ impl<R: io::Read + Drop> StdSource<R> {
     /// The source that reads from this reader.
     pub fn new(reader: R) -> StdSource<R>
         ensures remaining { ⟦<StdSource<R> as Source>⟧.remaining result ≡ R.remaining reader }
+        ensures going { ⟦<StdSource<R> as Source>⟧.at_end result ≡ false }
         ensures failures { ⟦<StdSource<R> as Source>⟧.failures result ≡ 0 }
     {
         StdSource {
@@ -63,6 +64,7 @@ impl<W: io::Write + Drop> StdSink<W> {
     /// The sink that writes to this writer.
     pub fn new(writer: W) -> StdSink<W>
         ensures contents { ⟦<StdSink<W> as Sink>⟧.contents result ≡ W.contents writer }
+        ensures unflushed { ⟦<StdSink<W> as Sink>⟧.flushed result ≡ false }
         ensures failures { ⟦<StdSink<W> as Sink>⟧.failures result ≡ 0 }
     {
         StdSink {

@@ -122,6 +122,21 @@ const RUNS: &[Run] = &[
         "Err(Read)",
         Some(0),
     ),
+    // Nothing is read past a limit: that read would fail.
+    (
+        (2, 1000),
+        (1000, Failing::From(1)),
+        (1000, ALL, ALL),
+        "Err(TooMany)",
+        Some(39),
+    ),
+    (
+        (3, 210),
+        (1000, Failing::From(1)),
+        (1000, ALL, ALL),
+        "Err(TooMany)",
+        Some(39),
+    ),
     // The read that would give the end of the input.
     (
         (3, 1000),
@@ -156,6 +171,16 @@ fn limits_and_faults(rt: HostRuntime) -> Result<(), Fail> {
             "{lines} lines, {bytes} bytes, {room} bytes of room: {said}"
         );
     }
+    Ok(())
+}
+
+// Nothing is read behind a plan line that is refused: that read would fail.
+#[test]
+fn a_refused_plan_is_the_end(rt: HostRuntime) -> Result<(), Fail> {
+    let mut writer = sink(rt.alloc())?;
+    let mut reader = MemorySource::new(b"{}\n", 3, Failing::From(1));
+    let result = end_of(serve(rt.alloc(), &mut reader, &mut writer, &mut Alone))?;
+    assert!(rt; matches!(result, Err(ServeFault::BadPlan)));
     Ok(())
 }
 
@@ -248,6 +273,27 @@ impl io::Write for Holding {
     }
 }
 
+// A writer whose first write fails. It counts its writes.
+#[derive(Drop)]
+struct Refusing {
+    writes: u32,
+}
+
+impl io::Write for Refusing {
+    fn write(&mut self, bytes: &[u8]) -> io::Result<usize> {
+        let write = self.writes;
+        self.writes = write.saturating_add(1);
+        if write == 0 {
+            return Err(io::Error::from(io::ErrorKind::BrokenPipe));
+        }
+        Ok(bytes.len())
+    }
+
+    fn flush(&mut self) -> io::Result<()> {
+        Ok(())
+    }
+}
+
 // A reader of three bytes whose second call fails.
 #[derive(Drop)]
 struct Faltering {
@@ -292,6 +338,18 @@ fn writers_of_std(rt: HostRuntime) -> Result<(), Fail> {
             );
         }
     }
+    Ok(())
+}
+
+// A write that fails is not tried again, though the next one would succeed.
+#[test]
+fn a_failed_write_of_std(rt: HostRuntime) -> Result<(), Fail> {
+    let mut refusing = Refusing { writes: 0 };
+    let mut writer = StdSink::new(&mut refusing);
+    let mut reader = MemorySource::new(FREE_ROAD.as_bytes(), usize::MAX, ALL);
+    let result = end_of(serve(rt.alloc(), &mut reader, &mut writer, &mut Alone))?;
+    drop(writer);
+    assert!(rt; matches!(result, Err(ServeFault::Write)) && refusing.writes == 1);
     Ok(())
 }
 

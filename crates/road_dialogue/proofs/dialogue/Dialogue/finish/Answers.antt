@@ -21,4 +21,4 @@ pub returns-clause-answered : goal.returns-clause-answered
 returns-clause-answered g c lines bytes first h =
     let all = c.in_ok-answer_last.ensures.answered lines bytes first h in
     finished_flushed lines bytes first (sink_view g.W.Sink c.answer_last.new.writer) (sink_view g.W.Sink c.flush.new.writer) c.answer_last.new.self (record c.answer_last.new.self { waiting = c.flush.new.waiting })
-    all c.in_ok-flush.ensures.all c.in_ok-flush.ensures.well c.in_ok-flush.ensures.none_wait refl refl
+    all c.in_ok-flush.ensures.all c.in_ok-flush.ensures.well c.in_ok-flush.ensures.none_wait refl refl refl
