@@ -230,8 +230,8 @@ greater_number_of_one_stamp_wins outside inside is also =
 -- ---- steps
 
 -- a replica is advanced twice, the second time to a step that it has simulated, and then another one
-abbrev advances : List Event
-advances = Advance 0 6 ∷ Advance 0 3 ∷ Advance 1 2 ∷ []
+abbrev counted_advances : List Event
+counted_advances = Advance 0 6 ∷ Advance 0 3 ∷ Advance 1 2 ∷ []
 
 -- all are accepted, or the last is refused for lost workers
 abbrev all_advance : EventAnswers
@@ -241,15 +241,15 @@ abbrev last_refused : EventAnswers
 last_refused = Ok (Horizon 6) ∷ Ok (Horizon 6) ∷ Err (Replica replica_faults.WorkersGone) ∷ []
 
 -- accepted, they compute eight steps,
-advances_compute_eight_at_most : most_steps_of_events (opening_world small 3) advances all_advance ≡ 8
+advances_compute_eight_at_most : most_steps_of_events (opening_world small 3) counted_advances all_advance ≡ 8
 advances_compute_eight_at_most = refl
 
-advances_compute_eight_at_least : least_steps_of_events (opening_world small 3) advances all_advance ≡ 8
+advances_compute_eight_at_least : least_steps_of_events (opening_world small 3) counted_advances all_advance ≡ 8
 advances_compute_eight_at_least = refl
 
 -- else six, and up to two more before the refusal
-refused_advance_computes_two_at_most : most_steps_of_events (opening_world small 3) advances last_refused ≡ 8
+refused_advance_computes_two_at_most : most_steps_of_events (opening_world small 3) counted_advances last_refused ≡ 8
 refused_advance_computes_two_at_most = refl
 
-refused_advance_may_compute_none : least_steps_of_events (opening_world small 3) advances last_refused ≡ 6
+refused_advance_may_compute_none : least_steps_of_events (opening_world small 3) counted_advances last_refused ≡ 6
 refused_advance_may_compute_none = refl
