@@ -21,6 +21,7 @@ use Rattle.road_replica.specs.declared.reply.Reply.{Reply}
 use Rattle.road_replica.specs.declared.reply.Reply.TheVariants.{Stamped, Touched, Message, Horizon}
 use Rattle.road_world.specs.Answers.{AreAnswers}
 use Rattle.road_world.specs.Events.{opening_world, replica_after_events}
+use Rattle.road_world.specs.Steps.{least_steps_of_events, most_steps_of_events}
 use Rattle.road_world.specs.declared.event.Event.{Event}
 use Rattle.road_world.specs.declared.event.Event.TheVariants.{Edit, Withdraw, Import, Send, Heads, Beyond, Take, Advance}
 use Rattle.road_world.specs.declared.faults.WorldFault.{WorldFault}
@@ -225,3 +226,30 @@ greater_number_of_one_stamp_wins : (outside inside : Vec edits.Edit) → FromOut
     → winners (reached (imports outside inside) imports_answers 0) ≡ from_list (edit (Limit 0) 3 7 64 (Put 3) ∷ edit (Limit 0) 5 8 0 (Put 1) ∷ [])
 greater_number_of_one_stamp_wins outside inside is also =
     computed_winners small 3 (imports outside inside) imports_answers (imports_computed outside inside is also) 0 _ (simp (is, also) refl)
+
+-- ---- steps
+
+-- a replica is advanced twice, the second time to a step that it has simulated, and then another one
+abbrev counted_advances : List Event
+counted_advances = Advance 0 6 ∷ Advance 0 3 ∷ Advance 1 2 ∷ []
+
+-- all are accepted, or the last is refused for lost workers
+abbrev all_advance : EventAnswers
+all_advance = Ok (Horizon 6) ∷ Ok (Horizon 6) ∷ Ok (Horizon 2) ∷ []
+
+abbrev last_refused : EventAnswers
+last_refused = Ok (Horizon 6) ∷ Ok (Horizon 6) ∷ Err (Replica replica_faults.WorkersGone) ∷ []
+
+-- accepted, they compute eight steps,
+advances_compute_eight_at_most : most_steps_of_events (opening_world small 3) counted_advances all_advance ≡ 8
+advances_compute_eight_at_most = refl
+
+advances_compute_eight_at_least : least_steps_of_events (opening_world small 3) counted_advances all_advance ≡ 8
+advances_compute_eight_at_least = refl
+
+-- else six, and up to two more before the refusal
+refused_advance_computes_two_at_most : most_steps_of_events (opening_world small 3) counted_advances last_refused ≡ 8
+refused_advance_computes_two_at_most = refl
+
+refused_advance_may_compute_none : least_steps_of_events (opening_world small 3) counted_advances last_refused ≡ 6
+refused_advance_may_compute_none = refl

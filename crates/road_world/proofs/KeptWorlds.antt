@@ -23,7 +23,7 @@ use Rattle.road_delta.specs.declared.heads.Head.{Head}
 use Rattle.road_delta.proofs.DeltaEdits.{from_set, winners-beyond}
 use Rattle.road_sheet.specs.Commands.{SheetCommand, Advance, Take, sheet_after}
 use Rattle.road_sheet.specs.Sheets.{Sheet, IsSheet, opening_sheet}
-use Rattle.road_rewind.specs.Growth.{TicksAtMost, touched_step}
+use Rattle.road_rewind.specs.Growth.{TicksAtMost, meter_after, touched_step}
 use Rattle.road_replica.specs.Refusals.{arrived_edit_fault, take_fault}
 use Rattle.road_replica.specs.Replicas.{Replica, edit_made, most_steps_taking, replica_after, single_edit}
 use Rattle.road_world.specs.Answers.{edits_wanted_fault, replica_with_sheet, sheet_at}
@@ -96,6 +96,13 @@ carried_by plan (Some (Whole edits)) sendable wanted = sendable (Whole edits) re
 carried_by plan (Some (Answer edits)) sendable wanted = sendable (Answer edits) refl
 carried_by plan (Some (Asked hs)) sendable wanted = absurd (some_fault_is_no_none _ wanted)
 
+-- what carries no edits carries winners, too
+carried_of_any : (plan : Plan) (o : Option Message) → ((m : Message) → o ≡ Some m → IsSendable plan m) → AreSendable plan (carried_edits o)
+carried_of_any plan None sendable = record { winners = winners-empty; in_range = in_range-empty plan }
+carried_of_any plan (Some (Whole edits)) sendable = sendable (Whole edits) refl
+carried_of_any plan (Some (Answer edits)) sendable = sendable (Answer edits) refl
+carried_of_any plan (Some (Asked hs)) sendable = record { winners = winners-empty; in_range = in_range-empty plan }
+
 -- ---- a world that is kept
 
 module _ (plan : Plan) (xs : List Replica) (ms : List Message) (kept : IsWorldKept plan xs ms) where
@@ -167,6 +174,10 @@ module _ (plan : Plan) (xs : List Replica) (ms : List Message) (kept : IsWorldKe
         let edits = carried_edits (slice_get ms m) in
         ap (option_map arrived_edit_fault) (ap (λ (p : Plan). fault_in p edits) (is_replica r x is below).plan_is ∙ in_range-faultless plan edits (carried m wanted).in_range)
 
+    -- and of any
+    pub carried_there : (m : ℕ) → AreSendable k.plan (carried_edits (slice_get k.messages m))
+    carried_there m = subst (λ (w : World). AreSendable w.plan (carried_edits (slice_get w.messages m))) v (carried_of_any plan (slice_get ms m) (λ x. is_sendable m x))
+
     -- what a replica would answer to edits, the world does
     pub same_touched : (r : ℕ) (x : Replica) (edits : Edits) → x ≡ slice_index_or xs r x → r < length xs → touched_step x.sheet edits ≡ first_touched_step (replica_at k r).edits (union (replica_at k r).edits edits)
     same_touched r x edits is below =
@@ -176,6 +187,9 @@ module _ (plan : Plan) (xs : List Replica) (ms : List Message) (kept : IsWorldKe
     -- what a write costs the replica, it costs the world
     pub few_steps_there : (r : ℕ) (x : Replica) (most : Sheet → ℕ) (meter later : ℕ) → x ≡ slice_index_or xs r x → r < length xs → TicksAtMost (most x.sheet) meter later → TicksAtMost (most (sheet_at k r)) meter later
     few_steps_there r x most meter later is below few = subst (λ (y : Replica). TicksAtMost (most y.sheet) meter later) (with_sheet r x is below) few
+
+    pub new_steps_there : (r : ℕ) (x : Replica) (steps : Sheet → ℕ) (meter later : ℕ) → x ≡ slice_index_or xs r x → r < length xs → later ≡ meter_after meter (steps x.sheet) → later ≡ meter_after meter (steps (sheet_at k r))
+    new_steps_there r x steps meter later is below counted = counted ∙ ap (λ (y : Replica). meter_after meter (steps y.sheet)) (with_sheet r x is below)
 
     pub few_steps_taking : (r : ℕ) (x : Replica) (edits given : Edits) (meter later : ℕ) → x ≡ slice_index_or xs r x → r < length xs → edits ≡ given → TicksAtMost (most_steps_taking x.sheet edits) meter later
         → TicksAtMost (most_steps_taking (sheet_at k r) given) meter later

@@ -5,6 +5,7 @@ pub mod GrowingCounts
 pub mod FreshStamps
 pub mod HeadlineOfWinners
 pub mod PlayedEvents
+pub mod EventSteps
 pub mod KeptWorlds
 pub mod EventAnswers
 pub mod LocalEdits

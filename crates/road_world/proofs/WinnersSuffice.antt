@@ -141,7 +141,7 @@ edits-of_winners w r s t e =
     same_world w.plan _ _ _ _ (set-of_winners w.replicas r reached known same) (messages_again w.messages)
 
 -- the edit that a replica makes has the same stamp
-local_edit-of_winners : (w : World) (r : ℕ) (o : Object) (step : ℕ) (v : Value) → local_edit r (replica_at (world_of_winners w) r).edits o step v ≡ local_edit r (replica_at w r).edits o step v
+pub local_edit-of_winners : (w : World) (r : ℕ) (o : Object) (step : ℕ) (v : Value) → local_edit r (replica_at (world_of_winners w) r).edits o step v ≡ local_edit r (replica_at w r).edits o step v
 local_edit-of_winners w r o step v =
     ap (λ (x : WorldReplica). local_edit r x.edits o step v) (replica-of_winners w r)
     ∙ ap (λ (n : ℕ). let e : edits.Edit = record { object = o; step = step; stamp = record { count = suc n; number = r }; value = v } in e) (greatest_count-winners (replica_at w r).edits)

@@ -1,13 +1,16 @@
 //! A list of events, played one after another from the opened world on.
 
-ghost use Rattle.std.specs.Prelude.{◌≡◌, ◌≤◌, ◌++◌, ◌∷◌, [], IfOk, OnOk, map};
+ghost use Rattle.std.specs.Prelude.{◌≡◌, ◌≤◌, ◌++◌, ◌∷◌, [], IfOk, OnErr, OnOk, map};
+ghost use Rattle.std.specs.Prelude.{vec_capacity, vec_len};
 ghost use Rattle.std.specs.Arc.{arc_value};
 ghost use Rattle.road_plan.specs.declared.limits.TheConstants.{MOST_REPLICAS};
+ghost use Rattle.road_rewind.specs.Growth.{TicksAtMost};
 ghost use Rattle.road_world.specs.Answers.{AreAnswers, gone_after_answers};
 ghost use Rattle.road_world.specs.Events.{accepted_events, message_of_winners, opening_world};
 ghost use Rattle.road_world.specs.Events.{world_of_events, world_of_winners};
 ghost use Rattle.road_world.specs.Headline.{Headline};
 ghost use Rattle.road_world.specs.Stamps.{AreFresh, imported_stamps, issued_stamps};
+ghost use Rattle.road_world.specs.Steps.{TicksAtLeast, least_steps_of_events, most_steps_of_events};
 
 use crate::event::Event;
 use crate::faults::{PlayFault, WorldFault};
@@ -29,11 +32,11 @@ pub struct Played {
 }
 
 /// The world of a plan and so many replicas, at most 64, after some events. A refused event does nothing, and the next
-/// ones go on; want of memory in an event is that event's reply.
+/// ones go on; want of memory in an event is that event's reply. The meter counts the steps that the events compute.
 ///
 /// # Errors
 ///
-/// `OutOfMemory` where the growth of the opened world or of the list of replies was refused.
+/// `OutOfMemory` where the growth of the opened world or of the list of replies was refused. No step is computed then.
 pub fn play<C: Crew>(
     alloc: Global,
     plan: Arc<Plan>,
@@ -57,8 +60,18 @@ pub fn play<C: Crew>(
     // No stamp is issued twice, and none is that of an import.
     ensures stamps { IfOk result (λ played. AreFresh (issued_stamps played.replies.items)
         (imported_stamps (accepted_events events.now played.replies.items))) }
+    // Each event computes at most the steps that it may cost in the world after those before it.
+    ensures few_steps { IfOk result (λ played. TicksAtMost
+        (most_steps_of_events (opening_world (arc_value plan) replicas) events.now played.replies.items)
+        meter.old meter.new) }
+    // Each accepted advance computes at least the steps that it adds.
+    ensures new_steps { IfOk result (λ played. TicksAtLeast
+        (least_steps_of_events (opening_world (arc_value plan) replicas) events.now played.replies.items)
+        meter.old meter.new) }
+    ensures no_steps { OnErr result (meter.new ≡ meter.old) }
     ensures gone { IfOk result (λ played.
         C.times_gone crew.new ≡ gone_after_answers played.replies.items (C.times_gone crew.old)) }
+    ensures not_gone { OnErr result (C.times_gone crew.new ≡ C.times_gone crew.old) }
 {
     let mut world = World::open(alloc, plan, replicas)?;
     let mut replies = Vec::with_capacity(alloc, events.len())?;
@@ -74,7 +87,9 @@ fn add(
     replies: &mut Vec<Result<Reply, WorldFault>>,
     reply: Result<Reply, WorldFault>,
 ) -> Result<(), OutOfMemory>
-    ensures { OnOk result (replies.new.items ≡ replies.old.items ++ reply ∷ []) }
+    ensures added { OnOk result (replies.new.items ≡ replies.old.items ++ reply ∷ []) }
+    ensures capacity { vec_capacity replies.old ≤ vec_capacity replies.new }
+    ensures full { OnErr result (vec_capacity replies.old ≤ vec_len replies.old) }
 {
     Ok(replies.push(reply)?)
 }

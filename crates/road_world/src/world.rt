@@ -6,14 +6,16 @@ ghost use Rattle.std.specs.Arc.{arc_value};
 ghost use Rattle.std.specs.List.{slice_get};
 ghost use Rattle.road_plan.specs.declared.limits.TheConstants.{MOST_REPLICAS};
 ghost use Rattle.road_replica.specs.declared.reply.Reply.TheVariants as replies;
+ghost use Rattle.road_scenario.specs.Faults.{AreInRange};
+ghost use Rattle.road_scenario.specs.Winners.{AreWinners};
 ghost use Rattle.road_sheet.specs.Sheets.{IsSheet, opening_sheet};
 ghost use Rattle.road_world.specs.Answers.{IsAnswer, gone_after_answer, sheet_at};
 ghost use Rattle.road_world.specs.Answers.{edits_wanted_fault, heads_wanted_fault};
 ghost use Rattle.road_world.specs.Events.{asked_heads, carried_edits, opening_world, world_after_event};
 ghost use Rattle.road_world.specs.Events.{world_of_winners, world_with_message};
-ghost use Rattle.road_rewind.specs.Growth.{TicksAtMost};
+ghost use Rattle.road_rewind.specs.Growth.{TicksAtMost, meter_after};
 ghost use Rattle.road_world.specs.Private.Worlds.{IsSendable};
-ghost use Rattle.road_world.specs.Steps.{most_steps_of_event};
+ghost use Rattle.road_world.specs.Steps.{added_steps, most_steps_of_event, new_steps_of_event};
 ghost use Rattle.road_world.specs.declared.event.Event.TheVariants as events;
 ghost use Rattle.road_world.specs.declared.faults.WorldFault.TheVariants.{NoMessage};
 
@@ -99,16 +101,21 @@ impl World {
     }
 
     /// That the replicas are at most 64, that the edits of each win and fit the plan, and its horizon is at most
-    /// 65,536, and that messages carry winners alone. It is a fact for proofs: the call does nothing.
+    /// 65,536, and that the edits that each message carries win and fit the plan. It is a fact for proofs: the call
+    /// does nothing.
     pub fn known(&self)
         ensures few { length self.now.replicas ≤ MOST_REPLICAS }
         ensures sheets { (number : ℕ) → number < length self.now.replicas → IsSheet (sheet_at self.now number) }
+        ensures messages { (number : ℕ) → AreWinners (carried_edits (slice_get self.now.messages number)) }
+        ensures messages_fit { (number : ℕ) →
+            AreInRange self.now.plan (carried_edits (slice_get self.now.messages number)) }
     {
         let _ = &self.plan;
     }
 
     /// What an event does: the replica at which it is writes, or makes a message. Each write computes anew every
-    /// simulated step that it touches before it answers, by the crew that it is given, and the meter counts the steps.
+    /// simulated step that it touches before it answers, by the crew that it is given, and the meter counts the steps:
+    /// for an accepted advance just those that it adds, for a message none.
     ///
     /// # Errors
     ///
@@ -125,6 +132,9 @@ impl World {
         ensures answer { IsAnswer self.old event.now result }
         ensures after { OnOk result (self.new ≡ world_of_winners (world_after_event event.now self.old)) }
         ensures unchanged { OnErr result (self.new ≡ self.old) }
+        // Where the event says how many steps it computes, just these are computed.
+        ensures new_steps { IfSome (new_steps_of_event self.old event.now) (λ steps.
+            OnOk result (meter.new ≡ meter_after meter.old steps)) }
         ensures few_steps { TicksAtMost (most_steps_of_event self.old event.now) meter.old meter.new }
         ensures gone { C.times_gone crew.new ≡ gone_after_answer result (C.times_gone crew.old) }
     {
@@ -268,6 +278,7 @@ impl World {
         ensures after { OnOk result (self.new
             ≡ world_of_winners (world_after_event (events.Advance at to) self.old)) }
         ensures unchanged { OnErr result (self.new ≡ self.old) }
+        ensures new_steps { OnOk result (meter.new ≡ meter_after meter.old (added_steps self.old at to)) }
         ensures few_steps { TicksAtMost (most_steps_of_event self.old (events.Advance at to))
             meter.old meter.new }
         ensures gone { C.times_gone crew.new ≡ gone_after_answer result (C.times_gone crew.old) }

@@ -1,8 +1,8 @@
 -- One more event is played, from the opened world on.
-use Rattle.std.proofs.Common.{◌≡◌, ◌≤◌, ◌+◌, ◌++◌, ◌∷◌, ◌∙◌, [], ℕ, List, length, take, ap, subst, sym}
+use Rattle.std.proofs.Common.{◌≡◌, ◌≤◌, ◌+◌, ◌++◌, ◌∷◌, ◌∙◌, [], ℕ, List, length, take, ap, arith, subst, sym}
 use Rattle.std.specs.Arc.{arc_value}
 use Rattle.std.specs.Prelude.{Result}
-use Rattle.std.proofs.lemmas.List.{take_more, take_all}
+use Rattle.std.proofs.lemmas.List.{length_push, take_more, take_all}
 use Rattle.road_plan.specs.Plan.{Plan}
 use Rattle.road_replica.specs.declared.reply.Reply.{Reply}
 use Rattle.road_world.specs.Answers.{gone_after_answer, gone_after_answers}
@@ -10,6 +10,7 @@ use Rattle.road_world.specs.Events.{World}
 use Rattle.road_world.specs.declared.event.Event.{Event}
 use Rattle.road_world.specs.declared.faults.WorldFault.{WorldFault}
 use Rattle.road_world.proofs.EventLists.{gone-one_more}
+use Rattle.road_world.proofs.EventSteps.{IsMetered, metered_all, metered_none, metered_one_more}
 use Rattle.road_world.proofs.FreshStamps.{stamps_are_fresh}
 use Rattle.road_world.proofs.HeadlineOfWinners.{headline}
 use Rattle.road_world.proofs.PlayedEvents.{IsPlayed, played_none, played_one_more, played_messages}
@@ -26,6 +27,9 @@ loop-event-init g c =
     let opened = subst (λ (w : World). IsPlayed plan c.args.replicas [] [] w) (sym c.in_ok-world.ensures) (played_none plan c.args.replicas) in record {
       played = subst (λ (replies : List (Result Reply WorldFault)). IsPlayed plan c.args.replicas [] replies c.in_ok-world.world) none opened;
       gone = ap (λ (replies : List (Result Reply WorldFault)). gone_after_answers replies (g.C.Crew.times_gone c.args.crew.now)) none;
+      metered = subst (λ (replies : List (Result Reply WorldFault)). IsMetered plan c.args.replicas [] replies c.args.meter.now c.args.meter.now) none (metered_none plan c.args.replicas c.args.meter.now);
+      answered = c.in_ok-replies.ensures.len;
+      room = c.in_ok-replies.ensures.capacity;
     }
 
 pub loop-event-preserved : goal.loop-event-preserved
@@ -39,12 +43,22 @@ loop-event-preserved g c =
     let start = g.C.Crew.times_gone c.args.crew.now in
     let more : events ++ event ∷ [] ≡ take (c.loop-event.event-index + 1) c.args.events.now =
     ap (λ (e : Event). events ++ e ∷ []) c.event-item.is ∙ sym (take_more c.args.events.now c.loop-event.event-index event c.loop-event-test.true) in
-    let added = sym c.in_ok-add.ensures in
+    let added = sym c.in_ok-add.ensures.added in
+    let grown = ap (λ (rs : List (Result Reply WorldFault)). length rs) c.in_ok-add.ensures.added ∙ length_push replies reply in
+    let answered = c.loop-event.invariant.answered in
+    let room = c.loop-event.invariant.room in
+    let kept = c.in_ok-add.ensures.capacity in
     let e = c.apply-reply.ensures in
-    let played = played_one_more plan c.args.replicas events replies c.loop-event.world new event c.loop-event.invariant.played reply e.answer e.after e.unchanged in record {
+    let played = played_one_more plan c.args.replicas events replies c.loop-event.world new event c.loop-event.invariant.played reply e.answer e.after e.unchanged in
+    let metered = metered_one_more plan c.args.replicas events replies c.loop-event.world event reply c.args.meter.now c.loop-event.meter c.apply-reply.new.meter
+    c.loop-event.invariant.played c.loop-event.invariant.metered e.few_steps e.new_steps in record {
       played = subst (λ (es : List Event). IsPlayed plan c.args.replicas es c.add.new.replies.items new) more
           (subst (λ (rs : List (Result Reply WorldFault)). IsPlayed plan c.args.replicas (events ++ event ∷ []) rs new) added played);
       gone = e.gone ∙ ap (gone_after_answer reply) c.loop-event.invariant.gone ∙ sym (gone-one_more replies reply start) ∙ ap (λ (rs : List (Result Reply WorldFault)). gone_after_answers rs start) added;
+      metered = subst (λ (es : List Event). IsMetered plan c.args.replicas es c.add.new.replies.items c.args.meter.now c.apply-reply.new.meter) more
+          (subst (λ (rs : List (Result Reply WorldFault)). IsMetered plan c.args.replicas (events ++ event ∷ []) rs c.args.meter.now c.apply-reply.new.meter) added metered);
+      answered = omega (arith, c.add.new.replies.ok.0, grown, c.loop-event.replies.ok.0, answered);
+      room = omega (arith, room, kept);
     }
 
 pub returns-clause-headline : goal.returns-clause-headline
@@ -69,3 +83,27 @@ returns-clause-messages g c =
 pub returns-clause-world : goal.returns-clause-world
 returns-clause-world g c =
     (played_all (arc_value c.args.plan) c.args.replicas c.loop-event.event-index c.args.events.now c.loop-event.replies.items c.loop-event.world c.loop-event-test.false c.loop-event.invariant.played).holds
+
+pub returns-clause-few_steps : goal.returns-clause-few_steps
+returns-clause-few_steps g c =
+    (metered_all (arc_value c.args.plan) c.args.replicas c.loop-event.event-index c.args.events.now c.loop-event.replies.items c.args.meter.now c.loop-event.meter c.loop-event-test.false c.loop-event.invariant.metered).few
+
+pub returns-clause-new_steps : goal.returns-clause-new_steps
+returns-clause-new_steps g c =
+    (metered_all (arc_value c.args.plan) c.args.replicas c.loop-event.event-index c.args.events.now c.loop-event.replies.items c.args.meter.now c.loop-event.meter c.loop-event-test.false c.loop-event.invariant.metered).many
+
+pub returns-in_err-add-clause-no_steps : goal.returns-in_err-add-clause-no_steps
+returns-in_err-add-clause-no_steps g c =
+    let answered = c.loop-event.invariant.answered in
+    let room = c.loop-event.invariant.room in
+    let more = c.loop-event-test.true in
+    let full = c.in_err-add.ensures.full in
+    absurd (omega (arith, answered, room, more, full))
+
+pub returns-in_err-add-clause-not_gone : goal.returns-in_err-add-clause-not_gone
+returns-in_err-add-clause-not_gone g c =
+    let answered = c.loop-event.invariant.answered in
+    let room = c.loop-event.invariant.room in
+    let more = c.loop-event-test.true in
+    let full = c.in_err-add.ensures.full in
+    absurd (omega (arith, answered, room, more, full))
