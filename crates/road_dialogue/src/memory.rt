@@ -192,7 +192,8 @@ impl Sink for MemorySink {
         // It takes as many bytes as there is room for, where the call is none of those that fail.
         ensures fails { OnOk result (is_failing self.old.writes.failing self.old.writes.made ≡ false) }
         ensures count { IfOk result (λ n. n ≡ min (length piece.now) self.old.room) }
-        ensures room { MatchResult result (λ n. self.new.room ≡ self.old.room - n) (λ _. self.new.room ≡ self.old.room) }
+        ensures room { MatchResult result
+            (λ n. self.new.room ≡ self.old.room - n) (λ _. self.new.room ≡ self.old.room) }
         ensures call { RisesByOne self.old.writes.made self.new.writes.made }
         ensures same_calls { self.new.writes.failing ≡ self.old.writes.failing }
         ensures same_flushes { self.new.flushes ≡ self.old.flushes }
