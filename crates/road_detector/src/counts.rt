@@ -3,7 +3,7 @@
 ghost use Rattle.std.specs.Prelude.{◌≡◌, ℕ, ◌<◌, ◌≤◌, ◌+◌, ◌^◌, length, slice_index};
 ghost use Rattle.road_plan.specs.declared.limits.TheConstants.{GREATEST_LENGTH};
 ghost use Rattle.road_cells.specs.Cars.{cars_before, cars_of};
-ghost use Rattle.road_detector.specs.Passes.{totals_of, drives, passes_at, plus};
+ghost use Rattle.road_detector.specs.Passes.{totals_of, drives, passes_at, before_at, plus};
 
 use road_cells::Road;
 use road_ends::StepInput;
@@ -51,7 +51,8 @@ pub fn passes(input: &StepInput, speeds: &[u8], detector: u32) -> Totals
 
 /// The greatest of these speeds, 0 where there is none. It takes no memory.
 pub fn greatest_speed(speeds: &[u8]) -> u8
-    ensures { (i : ℕ) → slice_index speeds.now i ≤ result }
+    ensures bound { (i : ℕ) → slice_index speeds.now i ≤ result }
+    ensures least { (most : ℕ) → ((i : ℕ) → slice_index speeds.now i ≤ most) → result ≤ most }
 {
     let mut greatest = 0;
     for speed in speeds {
@@ -83,7 +84,8 @@ pub fn passes_from(
     requires one_each { length speeds.now ≡ length (cars_of input.now.road) }
     requires in_plan { detector < length input.now.plan.detectors }
     requires greatest { (i : ℕ) → slice_index speeds.now i ≤ greatest }
-    ensures { result.totals ≡ passes_at input.now speeds.now detector }
+    ensures totals { result.totals ≡ passes_at input.now speeds.now detector }
+    ensures before { result.before ≡ before_at input.now detector }
 {
     input.known();
     if !input.settings().watched()[detector as usize] {

@@ -122,14 +122,18 @@ take_more zero a b few = refl
 take_more (suc n) [] b few = absurd (omega arith)
 take_more {A = A} (suc n) (x ∷ a) b few = ap (λ (l : List A). x ∷ l) (take_more n a b (omega arith))
 
--- where all lines that may come have ended, nothing is added
+-- where all lines that may come have ended, they stay
+pub lines_full : (n : ℕ) (a b : List ℕ) → suc n ≤ length (pieces_of a).0 → take (suc n) (lines_of (a ++ b) false) ≡ take (suc n) (pieces_of a).0
+lines_full n a b full = ap (take (suc n)) (lines-append a b false) ∙ take_more (suc n) (pieces_of a).0 (lines_of ((pieces_of a).1 ++ b) false) full
+
+-- the whole lines are those of bytes that go on
+pub lines_whole : (n : ℕ) (a : List ℕ) → take (suc n) (lines_of a false) ≡ take (suc n) (pieces_of a).0
+lines_whole n a = ap (take (suc n)) (append-nil (pieces_of a).0)
+
+-- so nothing is added
 pub answers_full : (n : ℕ) (a b : List ℕ) → suc n ≤ length (pieces_of a).0 → answers n (a ++ b) false ≡ answers n a false
 unfolding answers
-answers_full n a b full =
-    let whole = append-nil (pieces_of a).0 in
-    ap (λ (ls : List (List ℕ)). line_replies false (take (suc n) ls)) (lines-append a b false)
-    ∙ ap (line_replies false) (take_more (suc n) (pieces_of a).0 (lines_of ((pieces_of a).1 ++ b) false) full)
-    ∙ ap (λ (ls : List (List ℕ)). line_replies false (take (suc n) ls)) (sym whole)
+answers_full n a b full = ap (line_replies false) (lines_full n a b full ∙ sym (lines_whole n a))
 
 -- ---- how the plan line is read stays
 

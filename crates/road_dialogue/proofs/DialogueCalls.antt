@@ -19,7 +19,7 @@ use Rattle.road_dialogue.specs.declared.faults.ServeFault.{ServeFault}
 use Rattle.road_dialogue.specs.declared.faults.ServeFault.TheVariants as faults
 use Rattle.road_dialogue.proofs.AnswersGrow.{answers_more}
 use Rattle.road_dialogue.proofs.CutBytes.{IsLine, EndsAt}
-use Rattle.road_dialogue.proofs.DialogueSteps.{goes_on, room_line, room_newline, held_more}
+use Rattle.road_dialogue.proofs.DialogueSteps.{after_same, goes_on, room_line, room_newline, held_more}
 use Rattle.road_dialogue.proofs.SinkTexts.{takes_same, takes_all, takes_more, front_longer, stops_longer, stops_after}
 
 pub answered_same : (n : ℕ) (a a' : List ℕ) (first sink : SinkView) (d : Dialogue) → a ≡ a' → HasAnswered n a first sink d → HasAnswered n a' first sink d
@@ -55,8 +55,8 @@ goes_on_same n a d d' lab left held long g = record {
 
 stands_same : (n : ℕ) (a : List ℕ) (d d' : Dialogue) (o : Option EarlyEnd) → d'.laboratory ≡ d.laboratory → d'.left ≡ d.left → d'.held ≡ d.held → d'.long ≡ d.long → Stands n a d o → Stands n a d' o
 stands_same n a d d' None lab left held long s = goes_on_same n a d d' lab left held long s
-stands_same n a d d' (Some ends.BadPlan) lab left held long s = s
-stands_same n a d d' (Some ends.TooMany) lab left held long s = s
+stands_same n a d d' (Some ends.BadPlan) lab left held long s = (s.0, lab ∙ s.1, left ∙ s.2)
+stands_same n a d d' (Some ends.TooMany) lab left held long s = (s.0, s.1, after_same n _ _ d.laboratory d'.laboratory d.left d'.left refl (sym lab) (sym left) s.2)
 
 abbrev pub Put : SinkView → SinkView → List ℕ → List ℕ → Result (Unit {0}) ServeFault → Type 0
 Put sink sink' text rest r =

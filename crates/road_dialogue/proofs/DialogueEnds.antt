@@ -89,7 +89,7 @@ stands_line n a d None few some on =
     let Family : List (List ℕ) → Type 0 = λ ls. IsAfterLines n ls d.laboratory d.left in
     let after = subst Family (ap (λ (p : Pieces). p.0) (cut-newline a)) on.after in
     stands_accepted n a d _ (ended_line a some) few after (omega (arith, length-append (pieces_of a).0 ((pieces_of a).1 ∷ [])))
-stands_line n a d (Some ends.BadPlan) few some refused = refused_ended a some ∙ refused
+stands_line n a d (Some ends.BadPlan) few some refused = (refused_ended a some ∙ refused.0, refused.1, refused.2)
 stands_line n a d (Some ends.TooMany) few some many = let no = last_few n a few some in let yes_ = many.1 in absurd (cc)
 
 pub rest_of : (n : ℕ) (a : List ℕ) (d : Dialogue) → GoesOn n a d → (d.held.items ≡ [] → d.long ≡ false → ⊥) → 0 < length (pieces_of a).1
@@ -144,6 +144,12 @@ no_lines n [] lab left after none = refl
 no_lines n (first ∷ later) None left after none = absurd after
 no_lines n (first ∷ later) (Some kept) left after none = absurd (cc)
 
+all_left : (n : ℕ) (ls : List (List ℕ)) (lab : Option Laboratory) (left : ℕ) → IsAfterLines n ls lab left → lab ≡ None → left ≡ n
+all_left n [] None left after none = after
+all_left n [] (Some kept) left after none = absurd after
+all_left n (first ∷ later) None left after none = absurd after
+all_left n (first ∷ later) (Some kept) left after none = absurd (cc)
+
 none_at_all : (a : List ℕ) → (pieces_of a).1 ≡ [] → (pieces_of a).0 ≡ [] → lines_of a true ≡ []
 none_at_all a clear none = clear_lines a clear ∙ none
 
@@ -168,18 +174,18 @@ no_plan_facts n a d on held short kept =
     (answers_none n a none whole, refused_none a none)
 
 pub no_plan_ends : (n : ℕ) (a text all : List ℕ) (first sink sink' : SinkView) (d d' : Dialogue) (r : Result (Unit {0}) ServeFault) → HasAnswered n a first sink d → d.over ≡ None → d.held.items ≡ [] → d.long ≡ false → d.laboratory ≡ None
-    → text ≡ reply (Refused refusals.NoPlan) → all ≡ d.waiting.items ++ text → Put sink sink' all d'.waiting.items r → d'.over ≡ Some ends.BadPlan
+    → text ≡ reply (Refused refusals.NoPlan) → all ≡ d.waiting.items ++ text → Put sink sink' all d'.waiting.items r → d'.over ≡ Some ends.BadPlan → d'.laboratory ≡ d.laboratory → d'.left ≡ d.left
     → MatchResult r (λ _. HasFinished n a first sink' d') (λ fault. Stops first sink' (answers n a true) fault)
-no_plan_ends n a text all first sink sink' d d' (Ok done) h none held short kept says e put over =
+no_plan_ends n a text all first sink sink' d d' (Ok done) h none held short kept says e put over lab left =
     let f = no_plan_facts n a d (goes_on n a first sink d h none) held short kept in
     let Family : Option EarlyEnd → Type 0 = λ o. StandsAtEnd n a d' o in
     record {
       answered = takes_same first sink' _ _ _ _ (ap (λ (t : List ℕ). answers n a false ++ t) says ∙ sym f.0) refl
           (takes_more first sink sink' (answers n a false) d.waiting.items text d'.waiting.items h.answered (takes_same sink sink' all _ _ _ e refl put.0));
       well = put.1 ∙ h.well;
-      stands = subst Family (sym over) f.1;
+      stands = subst Family (sym over) (f.1, lab ∙ kept, left ∙ all_left n (pieces_of a).0 d.laboratory d.left (goes_on n a first sink d h none).after kept);
     }
-no_plan_ends n a text all first sink sink' d d' (Err fault) h none held short kept says e put over =
+no_plan_ends n a text all first sink sink' d d' (Err fault) h none held short kept says e put over lab left =
     let f = no_plan_facts n a d (goes_on n a first sink d h none) held short kept in
     stops_same first sink' _ _ fault (ap (λ (t : List ℕ). answers n a false ++ t) says ∙ sym f.0)
     (stops_after first sink sink' (answers n a false) d.waiting.items text fault h.answered h.well (stops_same sink sink' all _ fault e put.2))
@@ -188,7 +194,7 @@ no_plan_ends n a text all first sink sink' d d' (Err fault) h none held short ke
 
 stands_end_same : (n : ℕ) (a : List ℕ) (d d' : Dialogue) (o : Option EarlyEnd) → d'.laboratory ≡ d.laboratory → d'.left ≡ d.left → StandsAtEnd n a d o → StandsAtEnd n a d' o
 stands_end_same n a d d' None lab left s = (s.0, s.1, after_same n _ _ d.laboratory d'.laboratory d.left d'.left refl (sym lab) (sym left) s.2)
-stands_end_same n a d d' (Some ends.BadPlan) lab left s = s
+stands_end_same n a d d' (Some ends.BadPlan) lab left s = (s.0, lab ∙ s.1, left ∙ s.2)
 stands_end_same n a d d' (Some ends.TooMany) lab left s = s
 
 pub finished_flushed : (n : ℕ) (a : List ℕ) (first sink sink' : SinkView) (d d' : Dialogue) → HasFinished n a first sink d → Appends sink.contents sink'.contents d.waiting.items → sink'.failures ≡ sink.failures → d'.waiting.items ≡ []

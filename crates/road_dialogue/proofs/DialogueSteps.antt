@@ -1,5 +1,6 @@
 -- What holds of a dialogue as bytes come.
-use Rattle.std.proofs.Common.{◌≡◌, ◌≢◌, ◌≤◌, ◌<◌, ◌-◌, ℕ, zero, suc, List, [], ◌∷◌, ◌++◌, length, Bool, true, false, IsSome, Option, Some, None, refl, ap, sym, subst, ◌∙◌, length-append, arith}
+use Rattle.std.proofs.Common.{◌≡◌, ◌≢◌, ◌≤◌, ◌<◌, ◌-◌, ℕ, zero, suc, List, [], ◌∷◌, ◌++◌, length, take, Bool, true, false, IsSome, Option, Some, None, refl, ap, sym, subst, ◌∙◌, length-append, arith}
+use Rattle.std.proofs.lemmas.List.{take_all}
 use Rattle.road_format.specs.Cut.{newline, Pieces, pieces_of, last_line, lines_of}
 use Rattle.road_format.specs.CommandGrammar.{command_of}
 use Rattle.road_format.specs.PlanGrammar.{plan_line_of}
@@ -14,20 +15,32 @@ use Rattle.road_dialogue.specs.declared.faults.EarlyEnd.{EarlyEnd}
 use Rattle.road_dialogue.specs.declared.faults.EarlyEnd.TheVariants as ends
 use Rattle.road_dialogue.proofs.CutBytes.{IsLine, cut-more, cut-newline}
 use Rattle.road_dialogue.proofs.LineReplies.{no_bytes, later_replied, later_kept, opening_replied, opened_after, opening_refused}
-use Rattle.road_dialogue.proofs.AnswersGrow.{few_lines, are_few, many_lines, are_many, last_len, lines-append, lines_rise, answers_few, whole_few, answers_line, answers_full, refused_stays, refused_some, answers_refused, refused_whole, some_lines, len_line, len_newline}
+use Rattle.road_dialogue.proofs.AnswersGrow.{few_lines, are_few, many_lines, are_many, last_len, lines-append, lines_rise, answers_few, whole_few, answers_line, lines_full, lines_whole, answers_full, refused_stays, refused_some, answers_refused, refused_whole, some_lines, len_line, len_newline}
 use Rattle.road_dialogue.proofs.SinkTexts.{takes_none, takes_same}
+
+pub after_same : (n : ℕ) (ls ls' : List (List ℕ)) (lab lab' : Option Laboratory) (left left' : ℕ) → ls ≡ ls' → lab ≡ lab' → left ≡ left' → IsAfterLines n ls lab left → IsAfterLines n ls' lab' left'
+after_same n ls ls' lab lab' left left' e f g h =
+    let Lines : List (List ℕ) → Type 0 = λ x. IsAfterLines n x lab left in
+    let Keepers : Option Laboratory → Type 0 = λ x. IsAfterLines n ls' x left in
+    let Lefts : ℕ → Type 0 = λ x. IsAfterLines n ls' lab' x in
+    subst Lefts g (subst Keepers f (subst Lines e h))
 
 -- ---- over: further bytes change nothing
 
 stands_over : (n : ℕ) (a b : List ℕ) (d : Dialogue) (o : Option EarlyEnd) → IsSome o → Stands n a d o → Stands n (a ++ b) d o × (answers n (a ++ b) false ≡ answers n a false)
 stands_over n a b d None some s = absurd (cc)
-stands_over n a b d (Some ends.BadPlan) some s = (refused_stays a b false true (refused_some a s) s, answers_refused n a b false s)
+stands_over n a b d (Some ends.BadPlan) some s = ((refused_stays a b false true (refused_some a s.0) s.0, s.1, s.2), answers_refused n a b false s.0)
 stands_over n a b d (Some ends.TooMany) some s =
     let many = many_lines n a s.1 in
     let last = last_len (pieces_of a).1 in
     let rise = lines_rise a b in
-    let all = length-append (pieces_of a).0 (last_line true (pieces_of a).1) in (
-      (refused_stays a b false false (omega arith) s.0, are_many n (a ++ b) (omega arith)),
+    let all = length-append (pieces_of a).0 (last_line true (pieces_of a).1) in
+    let same = lines_whole n a ∙ sym (lines_full n a b (omega arith)) in (
+      (
+        refused_stays a b false false (omega arith) s.0,
+        are_many n (a ++ b) (omega arith),
+        after_same n _ _ d.laboratory d.laboratory d.left d.left same refl refl s.2,
+      ),
       answers_full n a b (omega arith),
     )
 
@@ -59,8 +72,8 @@ accepted_full n [] (Some kept) left after some none = absurd after
 accepted_full n (first ∷ later) (Some kept) left after some none = (omega (arith, after.3), rw (after.1) refl)
 
 pub full_more : (n : ℕ) (a b : List ℕ) (first sink : SinkView) (d d' : Dialogue) → HasAnswered n a first sink d → d.over ≡ None → IsSome d.laboratory → d.left ≡ 0 → 0 < length b
-    → d'.over ≡ Some ends.TooMany → d'.waiting ≡ d.waiting → HasAnswered n (a ++ b) first sink d'
-full_more n a b first sink d d' h none some spent more over waits =
+    → d'.over ≡ Some ends.TooMany → d'.waiting ≡ d.waiting → d'.laboratory ≡ d.laboratory → d'.left ≡ d.left → HasAnswered n (a ++ b) first sink d'
+full_more n a b first sink d d' h none some spent more over waits lab left =
     let g = goes_on n a first sink d h none in
     let f = accepted_full n (pieces_of a).0 d.laboratory d.left g.after some spent in
     let one = some_lines (pieces_of a).1 b more in
@@ -68,11 +81,12 @@ full_more n a b first sink d d' h none some spent more over waits =
     let refused = refused_stays a b false false (omega (arith, f.0)) (refused_whole a ∙ f.1) in
     let many = are_many n (a ++ b) (omega (arith, f.0, one, all, length-append (pieces_of a).0 (lines_of ((pieces_of a).1 ++ b) true))) in
     let same = answers_full n a b (omega (arith, f.0)) in
+    let lines = sym (lines_full n a b (omega (arith, f.0)) ∙ take_all (suc n) (pieces_of a).0 (omega (arith, f.0))) in
     let Family : Option EarlyEnd → Type 0 = λ o. Stands n (a ++ b) d' o in
     record {
       answered = takes_same first sink _ _ _ _ (sym same) (ap (λ w. w.items) (sym waits)) h.answered;
       well = h.well;
-      stands = subst Family (sym over) (refused, many);
+      stands = subst Family (sym over) (refused, many, after_same n _ _ d.laboratory d'.laboratory d.left d'.left lines (sym lab) (sym left) g.after);
     }
 
 -- ---- bytes of a line
@@ -94,13 +108,6 @@ room_newline n a b d g open_ line =
     let room = some_room n (pieces_of a).0 d.laboratory d.left g.after open_ in
     let same = ap (λ (p : Pieces). length p.0) (cut-more a b line) in
     are_few n ((a ++ b) ++ newline ∷ []) (omega (arith, room, same, len_newline (a ++ b)))
-
-pub after_same : (n : ℕ) (ls ls' : List (List ℕ)) (lab lab' : Option Laboratory) (left left' : ℕ) → ls ≡ ls' → lab ≡ lab' → left ≡ left' → IsAfterLines n ls lab left → IsAfterLines n ls' lab' left'
-after_same n ls ls' lab lab' left left' e f g h =
-    let Lines : List (List ℕ) → Type 0 = λ x. IsAfterLines n x lab left in
-    let Keepers : Option Laboratory → Type 0 = λ x. IsAfterLines n ls' x left in
-    let Lefts : ℕ → Type 0 = λ x. IsAfterLines n ls' lab' x in
-    subst Lefts g (subst Keepers f (subst Lines e h))
 
 holds_same : (held held' : List ℕ) (long long' : Bool) (line line' : List ℕ) → line ≡ line' → Holds held long line → Holds held long line'
 holds_same held held' long long' line line' e h = let Family : List ℕ → Type 0 = λ x. Holds held long x in subst Family e h
@@ -170,15 +177,23 @@ opening_step n a text d d' g is few says lab some left held short over =
       stands_on n (a ++ newline ∷ []) d' over (goes_on_cleared n a d' _ _ few next refl left held short),
     )
 
+none_left : (n : ℕ) (ls : List (List ℕ)) (left : ℕ) → IsAfterLines n ls None left → left ≡ n
+none_left n [] left after = after
+none_left n (first ∷ later) left after = absurd after
+
 pub refused_step : (n : ℕ) (a text : List ℕ) (d : Dialogue) (lab : Option Laboratory) → GoesOn n a d → d.laboratory ≡ None → has_more_lines n (a ++ newline ∷ []) ≡ false
     → text ≡ reply (opening_answer (reading_unless d.long (plan_line_of d.held.items))) → lab ≡ opened_laboratory (reading_unless d.long (plan_line_of d.held.items)) → lab ≡ None
-    → (answers n (a ++ newline ∷ []) false ≡ answers n a false ++ text) × (is_plan_refused (a ++ newline ∷ []) false ≡ true)
+    → (answers n (a ++ newline ∷ []) false ≡ answers n a false ++ text) × ((is_plan_refused (a ++ newline ∷ []) false ≡ true) × (lab ≡ None) × (d.left ≡ n))
 refused_step n a text d lab g is few says kept none =
     let after = lab_after n a d None g is in
     let one = opening_replied n (pieces_of a).0 d.held.items d.long d.left (pieces_of a).1 after g.holds in (
       answers_step n a text g.few few (one ∙ ap (λ (t : List ℕ). line_replies false (pieces_of a).0 ++ t) (sym says)),
-      refused_whole (a ++ newline ∷ []) ∙ ap (λ (p : Pieces). is_refusal (first_reading false p.0)) (cut-newline a)
-          ∙ opening_refused n (pieces_of a).0 d.held.items d.long d.left (pieces_of a).1 after g.holds (sym kept ∙ none),
+      (
+        refused_whole (a ++ newline ∷ []) ∙ ap (λ (p : Pieces). is_refusal (first_reading false p.0)) (cut-newline a)
+            ∙ opening_refused n (pieces_of a).0 d.held.items d.long d.left (pieces_of a).1 after g.holds (sym kept ∙ none),
+        none,
+        none_left n (pieces_of a).0 d.left after,
+      ),
     )
 
 -- ---- before any byte

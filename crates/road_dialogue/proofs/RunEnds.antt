@@ -214,7 +214,7 @@ stopped lines limit room n m source s1 s2 sink k1 k2 d piece fault so more some 
 
 over_ends : (run : Serving) (input z : List ℕ) (d : Dialogue) (end : EarlyEnd) → take run.most_bytes input ≡ z → run.source_after.at_end ≡ false → WritesAll run input → Stands run.most_lines z d (Some end) → Ends run input (Err (early_fault end))
 over_ends run input z d ends.BadPlan part going writes s =
-    (writes, ap (is_plan_refused_within run.most_bytes input) going ∙ refused_going run.most_bytes input ∙ ap (λ (x : List ℕ). is_plan_refused x false) part ∙ s)
+    (writes, ap (is_plan_refused_within run.most_bytes input) going ∙ refused_going run.most_bytes input ∙ ap (λ (x : List ℕ). is_plan_refused x false) part ∙ s.0)
 over_ends run input z d ends.TooMany part going writes s = (
   writes,
   ap (is_plan_refused_within run.most_bytes input) going ∙ refused_going run.most_bytes input ∙ ap (λ (x : List ℕ). is_plan_refused x false) part ∙ s.0,
@@ -310,7 +310,7 @@ ends_at : (n : ℕ) (a : List ℕ) (d : Dialogue) (o o' : Option EarlyEnd) → o
 ends_at n a d o o' e s = let Family : Option EarlyEnd → Type 0 = λ x. StandsAtEnd n a d x in subst Family e s
 
 refused_ends : (run : Serving) (input : List ℕ) (d : Dialogue) (end : EarlyEnd) → run.source_after.at_end ≡ true → length input ≤ run.most_bytes → WritesAll run input → StandsAtEnd run.most_lines input d (Some end) → Ends run input (Err (early_fault end))
-refused_ends run input d ends.BadPlan ended short writes s = (writes, ap (is_plan_refused_within run.most_bytes input) ended ∙ refused_ended run.most_bytes input short ∙ s)
+refused_ends run input d ends.BadPlan ended short writes s = (writes, ap (is_plan_refused_within run.most_bytes input) ended ∙ refused_ended run.most_bytes input short ∙ s.0)
 refused_ends run input d ends.TooMany ended short writes s = absurd s
 
 pub refused_at_end : (lines limit room n : ℕ) (source s1 s2 : SourceView) (sink k1 k2 : SinkView) (d d' : Dialogue) (piece : List ℕ) (end : EarlyEnd) (so : SoFar lines limit room source s1 sink k1 d) → ReadMore s1 s2 n piece → n ≡ 0

@@ -1,6 +1,6 @@
 -- What serves lines, after the bytes that came to it.
-use Rattle.std.specs.Prelude.{◌≡◌, ℕ, ◌+◌, ◌<◌, ◌≤◌, List, [], ◌∷◌, Bool, true, false, length, Option, Some, None}
-use Rattle.std.specs.Prelude.{Ok}
+use Rattle.std.specs.Prelude.{◌≡◌, ℕ, suc, ◌+◌, ◌<◌, ◌≤◌, List, [], ◌∷◌, Bool, true, false, length, take}
+use Rattle.std.specs.Prelude.{Option, Some, None, Ok}
 use Rattle.road_plan.specs.declared.limits.TheConstants.{LONGEST_LINE}
 use Rattle.road_format.specs.Cut.{pieces_of, lines_of}
 use Rattle.road_format.specs.PlanGrammar.{PlanLine}
@@ -46,11 +46,15 @@ pub record GoesOn (lines : ℕ) (bytes : List ℕ) (d : Dialogue) : Type 0 where
   pub holds : Holds d.held.items d.long (pieces_of bytes).1
   pub few : has_more_lines lines bytes ≡ false
 
--- after these bytes the dialogue goes on, or why it does not
+-- after these bytes the dialogue goes on, or why it does not: there is no plan, or it stands after the last line that
+-- may come
 abbrev pub Stands : ℕ → List ℕ → Dialogue → Option EarlyEnd → Type 0
 Stands lines bytes d None = GoesOn lines bytes d
-Stands lines bytes d (Some ends.BadPlan) = is_plan_refused bytes false ≡ true
-Stands lines bytes d (Some ends.TooMany) = (is_plan_refused bytes false ≡ false) × (has_more_lines lines bytes ≡ true)
+Stands lines bytes d (Some ends.BadPlan) =
+    (is_plan_refused bytes false ≡ true) × (d.laboratory ≡ None) × (d.left ≡ lines)
+Stands lines bytes d (Some ends.TooMany) =
+    (is_plan_refused bytes false ≡ false) × (has_more_lines lines bytes ≡ true)
+    × IsAfterLines lines (take (suc lines) (lines_of bytes false)) d.laboratory d.left
 
 -- These bytes came since the sink was as it was first, and each whole line of them is answered: in the sink, or in
 -- what waits to be written. No call of the sink failed.
@@ -61,12 +65,13 @@ pub record HasAnswered (lines : ℕ) (bytes : List ℕ) (first sink : SinkView) 
 
 -- ---- the end of input
 
--- the plan line was accepted, and the dialogue is after all lines; or the plan line was refused
+-- the plan line was accepted, and the dialogue is after all lines; or there is no plan
 abbrev pub StandsAtEnd : ℕ → List ℕ → Dialogue → Option EarlyEnd → Type 0
 StandsAtEnd lines bytes d None =
     (is_plan_refused bytes true ≡ false) × (has_more_lines lines bytes ≡ false)
     × IsAfterLines lines (lines_of bytes true) d.laboratory d.left
-StandsAtEnd lines bytes d (Some ends.BadPlan) = is_plan_refused bytes true ≡ true
+StandsAtEnd lines bytes d (Some ends.BadPlan) =
+    (is_plan_refused bytes true ≡ true) × (d.laboratory ≡ None) × (d.left ≡ lines)
 StandsAtEnd lines bytes d (Some ends.TooMany) = ⊥
 
 -- The input has ended with these bytes, and all its lines are answered: in the sink, or in what waits to be written.

@@ -310,7 +310,8 @@ impl Dialogue {
     /// # Errors
     ///
     /// `Write` where the sink failed, `WorkersGone` where the crew did, `OutOfMemory` where a growth was refused. What
-    /// was written then begins the replies.
+    /// was written then begins the replies. The line that the dialogue held may have been answered or not, so it must
+    /// not be called again.
     pub fn take<W: Sink, C: Crew>(
         &mut self,
         alloc: Global,

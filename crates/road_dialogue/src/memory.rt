@@ -1,7 +1,9 @@
 //! A source and a sink over memory, which know their bytes and can be made to fail.
 
-ghost use Rattle.std.specs.Prelude.{◌≡◌, ◌≤◌, ◌<◌, ◌+◌, Some, drop, false, length, min};
-ghost use Rattle.road_dialogue.specs.Private.Failing.{is_failing};
+ghost use Rattle.std.specs.Prelude.{◌≡◌, ◌≤◌, ◌<◌, ◌-◌, ◌==◌, Some, drop, false, is_err, is_ok, length, min, IfOk, OnOk, OnErr, MatchResult};
+ghost use Rattle.std.specs.Io.KnownBytes.{Keeps, ReadConsumes, WriteAppends};
+ghost use Rattle.road_dialogue.specs.Failures.{RisesByOne};
+ghost use Rattle.road_dialogue.specs.MemoryStreams.{is_failing};
 
 use crate::faults::{ReadFailed, WriteFailed};
 use crate::streams::{Sink, Source};
@@ -41,7 +43,7 @@ impl Calls {
     // Whether the next call fails. It is counted.
     fn next_fails(&mut self) -> bool
         ensures fails { result ≡ is_failing self.old.failing self.old.made }
-        ensures counted { self.new.made ≡ min (self.old.made + 1) u64.MAX }
+        ensures counted { RisesByOne self.old.made self.new.made }
         ensures unchanged { self.new.failing ≡ self.old.failing }
     {
         let fails = self.failing.fails(self.made);
@@ -92,7 +94,24 @@ impl<'a> Source for MemorySource<'a> {
 
     ghost failures = { λ source. source.failures };
 
-    fn read(&mut self, piece: &mut [u8]) -> Result<usize, ReadFailed> {
+    fn read(&mut self, piece: &mut [u8]) -> Result<usize, ReadFailed>
+        requires { 0 < length piece.old }
+        ensures within { IfOk result (λ n. n ≤ length piece.new) }
+        ensures bytes { ReadConsumes (⟦<MemorySource<'a> as Source>⟧.remaining self.old)
+            (⟦<MemorySource<'a> as Source>⟧.remaining self.new) result piece.new }
+        ensures ended { IfOk result (λ n. ⟦<MemorySource<'a> as Source>⟧.at_end self.new ≡ (n == 0)) }
+        ensures well { OnOk result (self.new.failures ≡ self.old.failures) }
+        ensures not_ended { OnErr result (⟦<MemorySource<'a> as Source>⟧.at_end self.new ≡ false) }
+        ensures failed { OnErr result (RisesByOne self.old.failures self.new.failures) }
+        // It fails where the call is one of those that fail, and else gives as many bytes as it may.
+        ensures fails { is_err result ≡ is_failing self.old.reads.failing self.old.reads.made }
+        ensures count { IfOk result (λ n. n
+            ≡ min (min (length self.old.bytes.now - self.old.place) self.old.step) (length piece.old)) }
+        ensures call { RisesByOne self.old.reads.made self.new.reads.made }
+        ensures same_calls { self.new.reads.failing ≡ self.old.reads.failing }
+        ensures same_step { self.new.step ≡ self.old.step }
+        ensures same_bytes { self.new.bytes ≡ self.old.bytes }
+    {
         if self.reads.next_fails() {
             self.at_end = false;
             self.failures = self.failures.saturating_add(1);
@@ -161,7 +180,23 @@ impl Sink for MemorySink {
 
     ghost failures = { λ sink. sink.failures };
 
-    fn write(&mut self, piece: &[u8]) -> Result<usize, WriteFailed> {
+    fn write(&mut self, piece: &[u8]) -> Result<usize, WriteFailed>
+        requires { 0 < length piece.now }
+        ensures some { IfOk result (λ n. 0 < n) }
+        ensures within { IfOk result (λ n. n ≤ length piece.now) }
+        ensures bytes { WriteAppends (⟦<MemorySink as Sink>⟧.contents self.old)
+            (⟦<MemorySink as Sink>⟧.contents self.new) result piece.now }
+        ensures unflushed { ⟦<MemorySink as Sink>⟧.flushed self.new ≡ false }
+        ensures well { OnOk result (self.new.failures ≡ self.old.failures) }
+        ensures failed { OnErr result (RisesByOne self.old.failures self.new.failures) }
+        // It takes as many bytes as there is room for, where the call is none of those that fail.
+        ensures fails { OnOk result (is_failing self.old.writes.failing self.old.writes.made ≡ false) }
+        ensures count { IfOk result (λ n. n ≡ min (length piece.now) self.old.room) }
+        ensures room { MatchResult result (λ n. self.new.room ≡ self.old.room - n) (λ _. self.new.room ≡ self.old.room) }
+        ensures call { RisesByOne self.old.writes.made self.new.writes.made }
+        ensures same_calls { self.new.writes.failing ≡ self.old.writes.failing }
+        ensures same_flushes { self.new.flushes ≡ self.old.flushes }
+    {
         self.flushed = false;
         let count = piece.len().min(self.room);
         if self.writes.next_fails()
@@ -175,7 +210,18 @@ impl Sink for MemorySink {
         Ok(count)
     }
 
-    fn flush(&mut self) -> Result<(), WriteFailed> {
+    fn flush(&mut self) -> Result<(), WriteFailed>
+        ensures bytes { Keeps (⟦<MemorySink as Sink>⟧.contents self.old) (⟦<MemorySink as Sink>⟧.contents self.new) }
+        ensures flushed { ⟦<MemorySink as Sink>⟧.flushed self.new ≡ is_ok result }
+        ensures well { OnOk result (self.new.failures ≡ self.old.failures) }
+        ensures failed { OnErr result (RisesByOne self.old.failures self.new.failures) }
+        // It fails where the call is one of those that fail, and only there.
+        ensures fails { is_err result ≡ is_failing self.old.flushes.failing self.old.flushes.made }
+        ensures call { RisesByOne self.old.flushes.made self.new.flushes.made }
+        ensures same_calls { self.new.flushes.failing ≡ self.old.flushes.failing }
+        ensures same_writes { self.new.writes ≡ self.old.writes }
+        ensures same_room { self.new.room ≡ self.old.room }
+    {
         self.flushed = !self.flushes.next_fails();
         if !self.flushed {
             self.failures = self.failures.saturating_add(1);

@@ -31,7 +31,8 @@ pub fn replies_are_lines()
     ensures { RepliesAreLines }
 {}
 
-/// The edits of a reply, read as those of an `import`, are the edits that it was written for.
+/// The values that a reply has for its edits, read as those of an `import`, are the edits that it was written for. It
+/// speaks of these values, not of their text.
 pub fn edits_read_back()
     ensures { EditsReadBack }
 {}

@@ -200,6 +200,7 @@ fn totals_near(
     requires order { from ≤ to }
     requires simulated { to ≤ sheet.now.horizon }
     ensures totals { IfOk result (λ seen. seen.0 ≡ total_of sheet.now detector from to) }
+    ensures step { IfOk result (λ seen. seen.1.step ≡ to) }
     ensures road { IfOk result (λ seen. seen.1.road ≡ state_of sheet.now seen.1.step) }
     ensures kept { IsKeptOf sheet.now kept.new }
 {

@@ -22,8 +22,8 @@ use std::alloc::Global;
 /// is right in both.
 ///
 /// The scenario must fit the sheet's plan, and `to` must be at most 65,536. The meter counts each step that is
-/// computed: exactly those after the old horizon where no step below it is touched, and else at most those from the
-/// touched step on and 63 more.
+/// computed: exactly those after the old horizon where no step below it is touched, and else those from the touched step
+/// on and at most 63 more.
 ///
 /// # Errors
 ///
@@ -42,6 +42,10 @@ pub fn grown<C: Crew>(
     ensures sheet { IfOk result (λ done. done.sheet ≡ grown_sheet sheet.now scenario.now to) }
     ensures above { IfOk result (λ done. IsAtMost sheet.now done.sheet) }
     ensures touched { IfOk result (λ done. done.touched ≡ touched_step sheet.now scenario.now) }
+    // Each step that is computed is counted: those from where its run is taken up.
+    ensures steps { IfOk result (λ _. meter.new
+        ≡ meter_after meter.old (max sheet.now.horizon to - draft_start sheet.now.horizon
+        (kept_step sheet.now.horizon (touched_step sheet.now scenario.now)))) }
     // Where no simulated step is touched, just the new steps are computed.
     ensures new_steps { IfOk result (λ _.
         kept_step sheet.now.horizon (touched_step sheet.now scenario.now) ≡ sheet.now.horizon

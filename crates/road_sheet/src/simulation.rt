@@ -213,6 +213,7 @@ pub fn rows_between(
     requires run { first.road ≡ run_at (arc_value plan.now) scenario.now first.step }
     ensures rows { IfOk result (λ seen. map string_bytes seen.0.items
         ≡ rows_at (arc_value plan.now) scenario.now first.step to) }
+    ensures step { IfOk result (λ seen. seen.1.step ≡ to) }
     ensures road { IfOk result (λ seen. seen.1.road ≡ run_at (arc_value plan.now) scenario.now seen.1.step) }
 {
     let mut words = DrawnWords::of(alloc, plan);
@@ -241,6 +242,7 @@ pub fn rows_with(
     requires words { words.old ≡ (arc_value plan.now).words }
     ensures rows { IfOk result (λ seen. map string_bytes seen.0.items
         ≡ rows_at (arc_value plan.now) scenario.now first.step to) }
+    ensures step { IfOk result (λ seen. seen.1.step ≡ to) }
     ensures road { IfOk result (λ seen. seen.1.road ≡ run_at (arc_value plan.now) scenario.now seen.1.step) }
     ensures unchanged { words.new ≡ words.old }
 {
@@ -308,6 +310,7 @@ pub fn totals_between(
     requires horizon { to ≤ GREATEST_HORIZON }
     requires run { first.road ≡ run_at (arc_value plan.now) scenario.now first.step }
     ensures totals { IfOk result (λ seen. seen.0 ≡ total_at (arc_value plan.now) scenario.now detector first.step to) }
+    ensures step { IfOk result (λ seen. seen.1.step ≡ to) }
     ensures road { IfOk result (λ seen. seen.1.road ≡ run_at (arc_value plan.now) scenario.now seen.1.step) }
 {
     let mut words = DrawnWords::of(alloc, plan);
@@ -337,6 +340,7 @@ pub fn totals_with(
     requires run { first.road ≡ run_at (arc_value plan.now) scenario.now first.step }
     requires words { words.old ≡ (arc_value plan.now).words }
     ensures totals { IfOk result (λ seen. seen.0 ≡ total_at (arc_value plan.now) scenario.now detector first.step to) }
+    ensures step { IfOk result (λ seen. seen.1.step ≡ to) }
     ensures road { IfOk result (λ seen. seen.1.road ≡ run_at (arc_value plan.now) scenario.now seen.1.step) }
     ensures unchanged { words.new ≡ words.old }
 {

@@ -1,11 +1,13 @@
 //! The crew of lasting workers.
 
-ghost use Rattle.std.specs.Prelude.{◌≡◌, ℕ, ◌<◌, ◌≤◌, length, vec_len, IfOk};
+ghost use Rattle.std.specs.Prelude.{◌≡◌, ◌<◌, ◌≤◌, length, vec_len, IfOk, Err};
 ghost use Rattle.std.specs.Arc.{arc_value};
 ghost use Rattle.road_plan.specs.declared.limits.TheConstants.{MOST_WORKERS, GREATEST_LENGTH};
 ghost use Rattle.road_cells.specs.Cars.{cars_of};
 ghost use Rattle.road_ends.specs.Input.{input_speeds};
+ghost use Rattle.road_workers.specs.Crews.{gone_after};
 ghost use Rattle.road_workers.specs.Private.Gathered.{AreGathered};
+ghost use Rattle.road_workers.specs.declared.faults.CrewFault.TheVariants.{WorkersGone};
 
 mod gathering;
 mod job;
@@ -36,7 +38,7 @@ struct Worker {
 }
 
 /// The crew whose workers are threads that live as long as the crew. Each call waits for them. Where a worker has gone,
-/// every later call answers `WorkersGone`. Contracts see it as its count of these answers.
+/// every later call answers `WorkersGone`. Contracts see it as how many workers it has, and its count of these answers.
 #[derive(Drop)]
 pub struct Pool<R> {
     rt: R,
@@ -45,17 +47,18 @@ pub struct Pool<R> {
     results: Receiver<Done>,
     // How often a thread of the crew looks for a message before it sleeps.
     looks: u32,
-    is_broken: bool,
+    // How often it has answered `WorkersGone`. After the first time no worker is asked.
     gone: u64,
 }
 
 impl<R> Model for Pool<R> {
-    ghost use Rattle.std.specs.Prelude.{ℕ, ◌<◌, ◌≤◌, vec_len};
+    ghost use Rattle.std.specs.Prelude.{◌<◌, ◌≤◌, vec_len};
     ghost use Rattle.road_plan.specs.declared.limits.TheConstants.{MOST_WORKERS};
+    ghost use Rattle.road_workers.specs.Crews.{CrewOfThreads};
 
-    ghost Value = { ℕ };
+    ghost Value = { CrewOfThreads };
 
-    ghost view = { λ pool. pool.gone };
+    ghost view = { λ pool. record { workers = vec_len pool.workers; gone = pool.gone } };
 
     ghost invariant = { λ pool. (0 < vec_len pool.workers) × (vec_len pool.workers ≤ MOST_WORKERS) };
 }
@@ -69,7 +72,8 @@ impl<R: Threads + Wait + Clone + Drop + Send + 'static> Pool<R> {
     pub fn start(rt: R, alloc: Global, workers: u32) -> Result<Pool<R>, CrewFault>
         requires some { 0 < workers }
         requires few { workers ≤ MOST_WORKERS }
-        ensures { IfOk result (λ pool. ⟦<Pool<R> as Crew>⟧.times_gone pool ≡ 0) }
+        ensures workers { IfOk result (λ pool. pool.workers ≡ workers) }
+        ensures gone { IfOk result (λ pool. ⟦<Pool<R> as Crew>⟧.times_gone pool ≡ 0) }
     {
         Pool::start_gated(rt, alloc, workers, no_gate(alloc)?)
     }
@@ -87,7 +91,8 @@ impl<R: Threads + Wait + Clone + Drop + Send + 'static> Pool<R> {
     ) -> Result<Pool<R>, CrewFault>
         requires some { 0 < workers }
         requires few { workers ≤ MOST_WORKERS }
-        ensures { IfOk result (λ pool. ⟦<Pool<R> as Crew>⟧.times_gone pool ≡ 0) }
+        ensures workers { IfOk result (λ pool. pool.workers ≡ workers) }
+        ensures gone { IfOk result (λ pool. ⟦<Pool<R> as Crew>⟧.times_gone pool ≡ 0) }
     {
         let mut started = Vec::with_capacity(alloc, workers as usize)?;
         let (done, results) = bounded(alloc, workers as usize)?;
@@ -103,7 +108,6 @@ impl<R: Threads + Wait + Clone + Drop + Send + 'static> Pool<R> {
             workers: started,
             results,
             looks,
-            is_broken: false,
             gone: 0,
         })
     }
@@ -115,7 +119,6 @@ impl<R: Threads + Wait + Clone + Drop + Send + 'static> Pool<R> {
             workers,
             results: _,
             looks: _,
-            is_broken: _,
             gone: _,
         } = self;
         finish_workers(&rt, workers);
@@ -123,10 +126,16 @@ impl<R: Threads + Wait + Clone + Drop + Send + 'static> Pool<R> {
 }
 
 impl<R: Wait> Crew for Pool<R> {
-    ghost times_gone = { λ gone. gone };
+    ghost times_gone = { λ crew. crew.gone };
 
-    fn speeds(&mut self, alloc: Global, input: &Arc<StepInput>) -> Result<Vec<u8>, CrewFault> {
-        let answer = if self.is_broken {
+    fn speeds(&mut self, alloc: Global, input: &Arc<StepInput>) -> Result<Vec<u8>, CrewFault>
+        ensures speeds { IfOk result (λ new. new.items ≡ input_speeds (arc_value input.now)) }
+        ensures gone { ⟦<Pool<R> as Crew>⟧.times_gone self.new
+            ≡ gone_after result (⟦<Pool<R> as Crew>⟧.times_gone self.old) }
+        ensures stays_gone { 0 < ⟦<Pool<R> as Crew>⟧.times_gone self.old → result ≡ Err WorkersGone }
+        ensures workers { self.new.workers ≡ self.old.workers }
+    {
+        let answer = if self.gone > 0 {
             Err(CrewFault::WorkersGone)
         } else {
             speeds_by(
@@ -138,7 +147,6 @@ impl<R: Wait> Crew for Pool<R> {
                 self.looks,
             )
         };
-        self.is_broken = matches!(answer, Err(CrewFault::WorkersGone));
         self.gone = gone_after(&answer, self.gone);
         answer
     }

@@ -1,6 +1,6 @@
 //! The crew whose workers are threads made for the call.
 
-ghost use Rattle.std.specs.Prelude.{◌≡◌, ℕ, ◌+◌, ◌<◌, ◌≤◌, length, take, slice_range, vec_len, [], IfOk, IfSome};
+ghost use Rattle.std.specs.Prelude.{◌≡◌, ◌+◌, ◌<◌, ◌≤◌, length, take, slice_range, vec_len, [], IfOk, IfSome};
 ghost use Rattle.std.specs.Arc.{arc_value};
 ghost use Rattle.road_plan.specs.declared.limits.TheConstants.{MOST_WORKERS};
 ghost use Rattle.road_cells.specs.Cars.{cars_of};
@@ -24,7 +24,7 @@ use std::thread::{Promise, PromisedHandle, Scope, Threads};
 pub type SharedGate = Box<dyn Gate + Send + Sync + Drop>;
 
 /// The crew whose workers are threads made for each call, and joined before it answers. So each call waits for them.
-/// Contracts see it as its count of answers `WorkersGone`.
+/// Contracts see it as how many workers it has, and its count of answers `WorkersGone`.
 #[derive(Drop)]
 pub struct Scoped<R> {
     rt: R,
@@ -34,12 +34,13 @@ pub struct Scoped<R> {
 }
 
 impl<R> Model for Scoped<R> {
-    ghost use Rattle.std.specs.Prelude.{ℕ, ◌<◌, ◌≤◌};
+    ghost use Rattle.std.specs.Prelude.{◌<◌, ◌≤◌};
     ghost use Rattle.road_plan.specs.declared.limits.TheConstants.{MOST_WORKERS};
+    ghost use Rattle.road_workers.specs.Crews.{CrewOfThreads};
 
-    ghost Value = { ℕ };
+    ghost Value = { CrewOfThreads };
 
-    ghost view = { λ crew. crew.gone };
+    ghost view = { λ crew. record { workers = crew.workers; gone = crew.gone } };
 
     ghost invariant = { λ crew. (0 < crew.workers) × (crew.workers ≤ MOST_WORKERS) };
 }
@@ -49,7 +50,8 @@ impl<R: Threads + Wait> Scoped<R> {
     pub fn new(rt: R, workers: u32, gate: SharedGate) -> Scoped<R>
         requires some { 0 < workers }
         requires few { workers ≤ MOST_WORKERS }
-        ensures { ⟦<Scoped<R> as Crew>⟧.times_gone result ≡ 0 }
+        ensures workers { result.workers ≡ workers }
+        ensures gone { ⟦<Scoped<R> as Crew>⟧.times_gone result ≡ 0 }
     {
         Scoped {
             rt,
@@ -61,9 +63,14 @@ impl<R: Threads + Wait> Scoped<R> {
 }
 
 impl<R: Threads + Wait> Crew for Scoped<R> {
-    ghost times_gone = { λ gone. gone };
+    ghost times_gone = { λ crew. crew.gone };
 
-    fn speeds(&mut self, alloc: Global, input: &Arc<StepInput>) -> Result<Vec<u8>, CrewFault> {
+    fn speeds(&mut self, alloc: Global, input: &Arc<StepInput>) -> Result<Vec<u8>, CrewFault>
+        ensures speeds { IfOk result (λ new. new.items ≡ input_speeds (arc_value input.now)) }
+        ensures gone { ⟦<Scoped<R> as Crew>⟧.times_gone self.new
+            ≡ gone_after result (⟦<Scoped<R> as Crew>⟧.times_gone self.old) }
+        ensures workers { self.new.workers ≡ self.old.workers }
+    {
         let answer = speeds_by(&self.rt, alloc, input, self.workers, &self.gate);
         self.gone = gone_after(&answer, self.gone);
         answer

@@ -18,7 +18,7 @@ returns-then-is_spent-clause-answered g c lines before first h =
     let isnt : is_some c.args.self.now.over ≡ false = cc in
     let spent = c.is_spent.ensures.0 c.if-is_spent.true in
     answered_same lines _ _ first _ _ (all_taken before c.args.bytes.now)
-    (full_more lines before c.args.bytes.now first _ c.args.self.now _ h (not_some c.args.self.now.over isnt) spent.0 spent.1 c.requires refl refl)
+    (full_more lines before c.args.bytes.now first _ c.args.self.now _ h (not_some c.args.self.now.over isnt) spent.0 spent.1 c.requires refl refl refl refl)
 
 pub returns-in_err-hold-in-Some-clause-answered : goal.returns-in_err-hold-in-Some-clause-answered
 returns-in_err-hold-in-Some-clause-answered g c lines before first h =

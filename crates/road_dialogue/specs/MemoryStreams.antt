@@ -1,4 +1,4 @@
--- The calls of a source or a sink over memory that are made to fail.
+-- Which calls of a source or a sink over memory fail.
 use Rattle.std.specs.Prelude.{ℕ, ◌==◌, Bool, false, nat_le}
 use Rattle.road_dialogue.specs.declared.memory.Failing.{Failing}
 use Rattle.road_dialogue.specs.declared.memory.Failing.TheVariants.{Never, Once, From}
