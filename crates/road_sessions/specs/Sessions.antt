@@ -1,13 +1,17 @@
 -- Sessions, as contracts see them.
-use Rattle.std.specs.Prelude.{◌≡◌, ◌+◌, ℕ, List, [], ◌∷◌, ◌++◌, length}
+use Rattle.std.specs.Prelude.{◌≡◌, ◌⊎◌, ◌+◌, ℕ, List, [], ◌∷◌, ◌++◌, length}
 use mathlib.Core.List.{IsPrefix}
+use Rattle.road_rewind.specs.Growth.{TicksAtMost}
 use Rattle.road_replica.specs.Replicas.{Replica}
+use Rattle.road_replica.specs.declared.faults.ReplicaFault.TheVariants as causes
 use Rattle.road_replica.specs.declared.reply.Reply.{Reply}
 use Rattle.road_sessions.specs.declared.entry.Entry.{Entry}
+use Rattle.road_sessions.specs.declared.faults.WriteFault.{WriteFault}
+use Rattle.road_sessions.specs.declared.faults.WriteFault.TheVariants.{Replica as OfReplica}
 use Rattle.road_sessions.specs.declared.view.View.{View}
 use Rattle.road_sessions.specs.declared.wish.Wish.{Wish}
 use Rattle.road_sessions.specs.Journals.{IsLegal, Write, AreInJournal, AreWritesOf, AreAtRisingPlaces, entry, replay}
-use Rattle.road_sessions.specs.Writes.{wish_command, reply_to}
+use Rattle.road_sessions.specs.Writes.{IsWriteRefusal, most_steps_of_wish, reply_to, wish_command, write_fault}
 
 -- what the store knows of a reader: the history that was published when it last entered, the writes of its session, and
 -- how often it has entered to look
@@ -55,3 +59,21 @@ pub record IsWrite (r : Replica) (wish : Wish) (s : Session) (place : ℕ) (repl
   pub own : t.view.own ≡ s.view.own ++ (place, entry s.number (wish_command wish (replay r front))) ∷ []
   pub number : t.number ≡ s.number
   pub entered : t.view.entered ≡ s.view.entered
+
+-- a refused write costs few steps: as many at most as at a legal history that goes on from what the session has seen
+pub record CostsFewSteps (r : Replica) (wish : Wish) (seen : List Entry) (meter later : ℕ) : Type 0 where
+  pub front : List Entry
+  pub before : IsPrefix seen front
+  pub legal : IsLegal r front
+  pub few : TicksAtMost (most_steps_of_wish wish (replay r front)) meter later
+
+-- the cause of a refused write stands at a legal history that goes on from what the session has seen
+pub record HasCause (limit : ℕ) (r : Replica) (wish : Wish) (seen : List Entry) (fault : WriteFault) : Type 0 where
+  pub front : List Entry
+  pub before : IsPrefix seen front
+  pub legal : IsLegal r front
+  pub cause : IsWriteRefusal (write_fault limit wish r front) fault
+
+-- a session's write is refused for such a cause, or else for want of memory
+abbrev pub IsRefusedWrite : ℕ → Replica → Wish → List Entry → WriteFault → Type 0
+IsRefusedWrite limit r wish seen fault = HasCause limit r wish seen fault ⊎ (fault ≡ OfReplica causes.OutOfMemory)

@@ -1,11 +1,11 @@
--- What a session wishes of the replica, the reply, and for which cause it is refused.
-use Rattle.std.specs.Prelude.{◌≡◌, ◌⊎◌, ℕ, max, nat_le, List, length, if◌then◌else◌}
+-- What a session wishes of the replica, the reply, how many steps it may cost, and for which cause it is refused.
+use Rattle.std.specs.Prelude.{◌≡◌, ◌⊎◌, ℕ, ◌-◌, max, nat_le, List, length, take, ⊤, if◌then◌else◌}
 use Rattle.std.specs.Option.{option_map}
 use Rattle.std.specs.declared.option.Option.{Option}
 use Rattle.std.specs.declared.option.Option.TheVariants.{None, Some}
 use Rattle.road_scenario.specs.declared.edit.Value.TheVariants.{Put, Withdrawn}
-use Rattle.road_rewind.specs.Growth.{touched_step}
-use Rattle.road_replica.specs.Replicas.{Replica, edit_made, single_edit}
+use Rattle.road_rewind.specs.Growth.{meter_after, touched_step}
+use Rattle.road_replica.specs.Replicas.{Replica, edit_made, most_steps_taking, single_edit}
 use Rattle.road_replica.specs.Refusals as refusals
 use Rattle.road_replica.specs.declared.faults.ReplicaFault.{ReplicaFault}
 use Rattle.road_replica.specs.declared.faults.ReplicaFault.TheVariants as causes
@@ -33,6 +33,27 @@ reply_to (Take edits) r = Touched (touched_step r.sheet edits.now)
 reply_to (Advance to) r = Horizon (max r.sheet.horizon to)
 reply_to (Edit object step value) r = Stamped (edit_made r object step (Put value)).stamp
 reply_to (Withdraw object step) r = Stamped (edit_made r object step Withdrawn).stamp
+
+-- the most steps that are computed for a wish: those that its edits touch and 63 more, or those that an advance adds
+abbrev pub most_steps_of_wish : Wish → Replica → ℕ
+most_steps_of_wish (Take edits) r = most_steps_taking r.sheet edits.now
+most_steps_of_wish (Advance to) r = max r.sheet.horizon to - r.sheet.horizon
+most_steps_of_wish (Edit object step value) r =
+    most_steps_taking r.sheet (single_edit (edit_made r object step (Put value)))
+most_steps_of_wish (Withdraw object step) r =
+    most_steps_taking r.sheet (single_edit (edit_made r object step Withdrawn))
+
+-- an accepted advance counts just the steps that it adds
+abbrev pub CountsNewSteps : Wish → Replica → ℕ → ℕ → Type 0
+CountsNewSteps (Take edits) r meter later = ⊤
+CountsNewSteps (Advance to) r meter later = later ≡ meter_after meter (most_steps_of_wish (Advance to) r)
+CountsNewSteps (Edit object step value) r meter later = ⊤
+CountsNewSteps (Withdraw object step) r meter later = ⊤
+
+-- the most steps that are computed for the write at a place of a journal: those at the replica that the entries before
+-- it leave
+abbrev pub most_steps_of_write : Wish → Replica → ℕ → List Entry → ℕ
+most_steps_of_write wish r place journal = most_steps_of_wish wish (replay r (take place journal))
 
 -- the named cause for which the replica refuses a wish
 abbrev pub wish_fault : Wish → Replica → Option ReplicaFault

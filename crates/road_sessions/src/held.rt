@@ -1,17 +1,19 @@
 //! What lies under the lock.
-ghost use Rattle.std.specs.Prelude.{◌≡◌, ◌+◌, ◌<◌, ◌≤◌, ◌++◌, ◌∷◌, [], IfErr, IfOk, MatchResult, None, OnErr, OnOk, length};
+ghost use Rattle.std.specs.Prelude.{◌≡◌, ◌+◌, ◌<◌, ◌≤◌, ◌++◌, ◌∷◌, [], IfErr, IfOk, MatchResult, None, OnErr, OnOk};
+ghost use Rattle.std.specs.Prelude.{length, take};
 ghost use Rattle.std.specs.Arc.{arc_value};
 ghost use Rattle.left_right.specs.Sides.{view};
+ghost use Rattle.road_rewind.specs.Growth.{TicksAtMost};
 ghost use Rattle.road_sheet.specs.Commands.{IsAllowed};
 ghost use Rattle.road_replica.specs.Refusals as refusals;
 ghost use Rattle.road_replica.specs.Replicas.{replica_after};
 ghost use Rattle.road_replica.specs.declared.faults.ReplicaFault.TheVariants as replica_faults;
 ghost use Rattle.road_sessions.specs.declared.entry.TheConstants.{MOST_WRITES};
 ghost use Rattle.road_sessions.specs.Journals.{entry_command, entry, replay};
-ghost use Rattle.road_sessions.specs.Sessions.{AreNewSessions, IsWrite, session_of};
-ghost use Rattle.road_sessions.specs.Writes.{IsWriteRefusal, gone_after_fault, reply_to, wish_fault};
+ghost use Rattle.road_sessions.specs.Sessions.{AreNewSessions, CostsFewSteps, IsRefusedWrite, IsWrite, session_of};
+ghost use Rattle.road_sessions.specs.Writes.{CountsNewSteps, IsWriteRefusal, gone_after_fault, most_steps_of_wish};
 ghost use Rattle.road_sessions.specs.Private.MadeWrites.{IsMade};
-ghost use Rattle.road_sessions.specs.Writes.{wish_command, write_fault};
+ghost use Rattle.road_sessions.specs.Writes.{most_steps_of_write, reply_to, wish_command, wish_fault, write_fault};
 
 use crate::book::{Beginning, Length};
 use crate::entry::Entry;
@@ -64,6 +66,7 @@ where
     pub ghost published: { writer.desk.shown.value ≡ journal.items },
     pub ghost counted: { accepted.total ≡ length journal.items },
     pub ghost few: { limit ≤ MOST_WRITES },
+    pub ghost room: { limit ≡ J.limit },
     pub ghost parts: { J.parts ≡ sessions },
     pub ghost spared: { (spare.parts ≡ 0) × (spare.amount ≡ 0) },
 }
@@ -139,6 +142,7 @@ impl<J: Naming, R: Wait + Drop> Held<J, R> {
         requires published { writer.desk.shown.value ≡ [] }
         requires accepted { accepted.total ≡ 0 }
         requires few { limit ≤ MOST_WRITES }
+        requires room { limit ≡ J.limit }
         requires parts { J.parts ≡ sessions }
         requires spared { (spare.parts ≡ 0) × (spare.amount ≡ 0) }
         ensures journal { result.journal.items ≡ [] }
@@ -172,7 +176,7 @@ impl<J: Naming, R: Wait + Drop> Held<J, R> {
 
     /// The write of a session, whose share of the ledger has a part. Where it is accepted, its command stands at the end
     /// of the journal, readers see its sheet, and the share is one more. The answer is its place in the journal, and the
-    /// reply.
+    /// reply. The meter counts at most the steps that its edits touch and 63 more, or those that an advance adds.
     ///
     /// # Errors
     ///
@@ -195,6 +199,10 @@ impl<J: Naming, R: Wait + Drop> Held<J, R> {
             (λ _. write_fault self.old.limit wish.now J.replica self.old.journal.items ≡ None) }
         ensures refused { IfErr result
             (IsWriteRefusal (write_fault self.old.limit wish.now J.replica self.old.journal.items)) }
+        ensures few_steps { TicksAtMost (most_steps_of_wish wish.now (replay J.replica self.old.journal.items))
+            meter.old meter.new }
+        ensures new_steps { IfOk result
+            (λ _. CountsNewSteps wish.now (replay J.replica self.old.journal.items) meter.old meter.new) }
         ensures unchanged { OnErr result ((self.new.journal.items ≡ self.old.journal.items)
             × (self.new.replica ≡ self.old.replica)
             × (self.new.writer.desk.shown.value ≡ self.old.writer.desk.shown.value)) }
@@ -228,6 +236,8 @@ impl<J: Naming, R: Wait + Drop> Held<J, R> {
         ensures made { IfOk result (λ next. IsMade wish.now self.now.replica next.1.command next.2 next.0) }
         ensures session { IfOk result (λ next. next.1.session ≡ session) }
         ensures refused { IfErr result (refusals.IsWriteRefusal None) }
+        ensures few_steps { TicksAtMost (most_steps_of_wish wish.now self.now.replica) meter.old meter.new }
+        ensures new_steps { IfOk result (λ _. CountsNewSteps wish.now self.now.replica meter.old meter.new) }
         ensures gone { MatchResult result (λ _. C.times_gone crew.new ≡ C.times_gone crew.old)
             (λ fault. C.times_gone crew.new ≡ refusals.gone_after_fault fault (C.times_gone crew.old)) }
     {
@@ -289,11 +299,21 @@ impl<J: Naming, R: Wait + Drop> Held<J, R> {
             (λ wrote. IsWrite J.replica wish.now (session_of session seen.old (view reader.old.place)) wrote.0 wrote.1
             (session_of session seen.new (view reader.new.place)))
             (λ _. (seen.new ≡ seen.old) × (view reader.new.place ≡ view reader.old.place)) }
+        ensures accepted { IfOk result
+            (λ wrote. write_fault J.limit wish.now J.replica (take wrote.0 seen.new) ≡ None) }
+        ensures refused { IfErr result (IsRefusedWrite J.limit J.replica wish.now seen.old) }
+        ensures few_steps { MatchResult result
+            (λ wrote. TicksAtMost (most_steps_of_write wish.now J.replica wrote.0 seen.new) meter.old meter.new)
+            (λ _. CostsFewSteps J.replica wish.now seen.old meter.old meter.new) }
+        ensures new_steps { IfOk result (λ wrote. CountsNewSteps wish.now (replay J.replica (take wrote.0 seen.new))
+            meter.old meter.new) }
         ensures share { (mine.new.parts ≡ mine.old.parts) × MatchResult result
             (λ _. mine.new.amount ≡ mine.old.amount + 1) (λ _. mine.new.amount ≡ mine.old.amount) }
         ensures gone { MatchResult result (λ _. C.times_gone crew.new ≡ C.times_gone crew.old)
             (λ fault. C.times_gone crew.new ≡ gone_after_fault fault (C.times_gone crew.old)) }
     {
+        seen.known();
+        self.history.known();
         // Whatever a session has seen was published. No contract says so, and the refusal stands here.
         if !seen.begins(&self.history) {
             return Err(WriteFault::Replica(ReplicaFault::OutOfMemory));

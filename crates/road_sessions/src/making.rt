@@ -4,7 +4,8 @@ ghost use Rattle.road_plan.specs.Plan.{Plan};
 ghost use Rattle.road_scenario.specs.Faults.{AreInRange, fault_of_edit};
 ghost use Rattle.road_replica.specs.Refusals as refusals;
 ghost use Rattle.road_replica.specs.Replicas.{single_edit};
-ghost use Rattle.road_sessions.specs.Writes.{wish_fault};
+ghost use Rattle.road_rewind.specs.Growth.{TicksAtMost};
+ghost use Rattle.road_sessions.specs.Writes.{CountsNewSteps, most_steps_of_wish, wish_fault};
 ghost use Rattle.road_sessions.specs.Private.MadeWrites.{IsMade};
 ghost use Rattle.road_sessions.specs.declared.wish.Wish.TheVariants as wishes;
 
@@ -42,6 +43,8 @@ pub(crate) fn made<C: Crew>(
     ensures made { IfOk result (λ made. IsMade wish.now replica.old made.0 made.1 replica.new) }
     ensures accepted { IfOk result (λ _. wish_fault wish.now replica.old ≡ None) }
     ensures refused { IfErr result (refusals.IsWriteRefusal (wish_fault wish.now replica.old)) }
+    ensures few_steps { TicksAtMost (most_steps_of_wish wish.now replica.old) meter.old meter.new }
+    ensures new_steps { IfOk result (λ _. CountsNewSteps wish.now replica.old meter.old meter.new) }
     ensures gone { MatchResult result (λ _. C.times_gone crew.new ≡ C.times_gone crew.old)
         (λ fault. C.times_gone crew.new ≡ refusals.gone_after_fault fault (C.times_gone crew.old)) }
 {
@@ -64,6 +67,7 @@ fn taken<C: Crew>(
     ensures made { IfOk result (λ made. IsMade (wishes.Take edits.entry) replica.old made.0 made.1 replica.new) }
     ensures accepted { IfOk result (λ _. wish_fault (wishes.Take edits.entry) replica.old ≡ None) }
     ensures refused { IfErr result (refusals.IsWriteRefusal (wish_fault (wishes.Take edits.entry) replica.old)) }
+    ensures few_steps { TicksAtMost (most_steps_of_wish (wishes.Take edits.entry) replica.old) meter.old meter.new }
     ensures gone { MatchResult result (λ _. C.times_gone crew.new ≡ C.times_gone crew.old)
         (λ fault. C.times_gone crew.new ≡ refusals.gone_after_fault fault (C.times_gone crew.old)) }
 {
@@ -85,6 +89,8 @@ fn advanced<C: Crew>(
     ensures made { IfOk result (λ made. IsMade (wishes.Advance to) replica.old made.0 made.1 replica.new) }
     ensures accepted { IfOk result (λ _. wish_fault (wishes.Advance to) replica.old ≡ None) }
     ensures refused { IfErr result (refusals.IsWriteRefusal (wish_fault (wishes.Advance to) replica.old)) }
+    ensures few_steps { TicksAtMost (most_steps_of_wish (wishes.Advance to) replica.old) meter.old meter.new }
+    ensures new_steps { IfOk result (λ _. CountsNewSteps (wishes.Advance to) replica.old meter.old meter.new) }
     ensures gone { MatchResult result (λ _. C.times_gone crew.new ≡ C.times_gone crew.old)
         (λ fault. C.times_gone crew.new ≡ refusals.gone_after_fault fault (C.times_gone crew.old)) }
 {
@@ -105,6 +111,8 @@ fn put<C: Crew>(
     ensures made { IfOk result (λ made. IsMade (wishes.Edit object step value) replica.old made.0 made.1 replica.new) }
     ensures accepted { IfOk result (λ _. wish_fault (wishes.Edit object step value) replica.old ≡ None) }
     ensures refused { IfErr result (refusals.IsWriteRefusal (wish_fault (wishes.Edit object step value) replica.old)) }
+    ensures few_steps { TicksAtMost (most_steps_of_wish (wishes.Edit object step value) replica.old)
+        meter.old meter.new }
     ensures gone { MatchResult result (λ _. C.times_gone crew.new ≡ C.times_gone crew.old)
         (λ fault. C.times_gone crew.new ≡ refusals.gone_after_fault fault (C.times_gone crew.old)) }
 {
@@ -134,6 +142,7 @@ fn withdrawn<C: Crew>(
     ensures made { IfOk result (λ made. IsMade (wishes.Withdraw object step) replica.old made.0 made.1 replica.new) }
     ensures accepted { IfOk result (λ _. wish_fault (wishes.Withdraw object step) replica.old ≡ None) }
     ensures refused { IfErr result (refusals.IsWriteRefusal (wish_fault (wishes.Withdraw object step) replica.old)) }
+    ensures few_steps { TicksAtMost (most_steps_of_wish (wishes.Withdraw object step) replica.old) meter.old meter.new }
     ensures gone { MatchResult result (λ _. C.times_gone crew.new ≡ C.times_gone crew.old)
         (λ fault. C.times_gone crew.new ≡ refusals.gone_after_fault fault (C.times_gone crew.old)) }
 {

@@ -3,8 +3,10 @@ use std::marker::Brand;
 use std::sync::ledger::Ledger;
 
 /// Names a store in the types of its sessions and receipts, so that those of another store don't fit it. A program
-/// passes [`Brand`], and each call of it that does so names a store of its own.
+/// passes [`Brand`], and each call of it that does so names a store of its own, with the book, the replica and the
+/// limit of what it prepared.
 pub trait Naming: Ledger {
+    ghost use Rattle.std.specs.Prelude.{ℕ};
     ghost use Rattle.logbook.specs.Pages.{Book};
     ghost use Rattle.road_replica.specs.Replicas.{Replica};
 
@@ -13,6 +15,9 @@ pub trait Naming: Ledger {
 
     /// The replica that was opened.
     ghost replica: { Replica };
+
+    /// How many writes the journal takes at most.
+    ghost limit: { ℕ };
 }
 
 impl Naming for Brand {
@@ -24,4 +29,6 @@ impl Naming for Brand {
 
     ghost replica = { replica_of_plan
         (record { cells = 0; exit = 0; width = 0; zones = []; inlets = []; detectors = []; words = Steady }) 0 };
+
+    ghost limit = { 0 };
 }

@@ -1,13 +1,16 @@
 //! Sessions: their writes under the lock, and their looks without it.
-ghost use Rattle.std.specs.Prelude.{◌≡◌, ◌⊎◌, [], IsTrue, MatchResult, None, length};
+ghost use Rattle.std.specs.Prelude.{◌≡◌, ◌⊎◌, [], IfErr, IfOk, IsTrue, MatchResult, None, length, take};
 ghost use Rattle.std.specs.Arc.{arc_value};
 ghost use mathlib.Core.List.{IsPrefix};
 ghost use Rattle.left_right.specs.Sides.{view as view_at};
+ghost use Rattle.road_rewind.specs.Growth.{TicksAtMost, meter_after};
 ghost use Rattle.road_sheet.specs.Sheets.{state_fault, state_of, total_of, totals_fault};
 ghost use Rattle.road_sessions.specs.Private.ClosingSessions.{IsSessionOf};
+ghost use Rattle.road_sessions.specs.Journals.{replay};
 ghost use Rattle.road_sessions.specs.Looks.{HasLooked, IsLookRefusal, IsQuestionRefusal, sheet_seen};
-ghost use Rattle.road_sessions.specs.Sessions.{IsSession, IsWrite, new_view, session_of};
-ghost use Rattle.road_sessions.specs.Writes.{gone_after_fault};
+ghost use Rattle.road_sessions.specs.Sessions.{CostsFewSteps, IsRefusedWrite, IsSession, IsWrite, new_view};
+ghost use Rattle.road_sessions.specs.Sessions.{session_of};
+ghost use Rattle.road_sessions.specs.Writes.{CountsNewSteps, gone_after_fault, most_steps_of_write, write_fault};
 ghost use Rattle.road_sessions.specs.declared.wish.Wish.TheVariants as wishes;
 
 use crate::book::Beginning;
@@ -116,11 +119,13 @@ impl<J: Naming> Session<J> {
 
     // ---- writes, under the lock
 
-    /// The replica takes edits. The reply is the touched step.
+    /// The replica takes edits. The reply is the touched step. The meter counts at most the steps that the edits touch
+    /// where their write stands, and 63 more.
     ///
     /// # Errors
     ///
-    /// `JournalFull`, then the replica's: those of `Replica::take`. The session has seen and written no more then.
+    /// `JournalFull` where the journal holds as many writes as the store was prepared for, then the replica's: those of
+    /// `Replica::take`. The session has seen and written no more then.
     pub fn take<R: Wait + Drop, W: Wait, C: Crew>(
         &mut self,
         rt: &W,
@@ -133,17 +138,27 @@ impl<J: Naming> Session<J> {
             (λ wrote. IsWrite J.replica (wishes.Take scenario.entry) self.old wrote.place wrote.reply self.new
             × (wrote.receipt ≡ self.new.seen))
             (λ _. self.new ≡ self.old) }
+        ensures accepted { IfOk result (λ wrote. write_fault J.limit (wishes.Take scenario.entry) J.replica
+            (take wrote.place self.new.seen) ≡ None) }
+        ensures refused { IfErr result
+            (IsRefusedWrite J.limit J.replica (wishes.Take scenario.entry) self.old.seen) }
+        ensures few_steps { MatchResult result
+            (λ wrote. TicksAtMost (most_steps_of_write (wishes.Take scenario.entry) J.replica
+            wrote.place self.new.seen) meter.old meter.new)
+            (λ _. CostsFewSteps J.replica (wishes.Take scenario.entry) self.old.seen meter.old meter.new) }
         ensures gone { MatchResult result (λ _. C.times_gone crew.new ≡ C.times_gone crew.old)
             (λ fault. C.times_gone crew.new ≡ gone_after_fault fault (C.times_gone crew.old)) }
     {
         self.write(rt, shared, &Wish::Take(scenario), crew, meter)
     }
 
-    /// The replica simulates up to a step. The reply is its horizon.
+    /// The replica simulates up to a step. The reply is its horizon. The meter counts just the steps that are added
+    /// where it is accepted, and no more where it is refused.
     ///
     /// # Errors
     ///
-    /// `JournalFull`, then the replica's: those of `Replica::advance`. The session has seen and written no more then.
+    /// `JournalFull`, as for [`Session::take`], then the replica's: those of `Replica::advance`. The session has seen
+    /// and written no more then.
     pub fn advance<R: Wait + Drop, W: Wait, C: Crew>(
         &mut self,
         rt: &W,
@@ -156,6 +171,17 @@ impl<J: Naming> Session<J> {
             (λ wrote. IsWrite J.replica (wishes.Advance to) self.old wrote.place wrote.reply self.new
             × (wrote.receipt ≡ self.new.seen))
             (λ _. self.new ≡ self.old) }
+        ensures accepted { IfOk result (λ wrote. write_fault J.limit (wishes.Advance to) J.replica
+            (take wrote.place self.new.seen) ≡ None) }
+        ensures refused { IfErr result
+            (IsRefusedWrite J.limit J.replica (wishes.Advance to) self.old.seen) }
+        ensures few_steps { MatchResult result
+            (λ wrote. TicksAtMost (most_steps_of_write (wishes.Advance to) J.replica
+            wrote.place self.new.seen) meter.old meter.new)
+            (λ _. CostsFewSteps J.replica (wishes.Advance to) self.old.seen meter.old meter.new) }
+        // An accepted one computes just the steps that it adds.
+        ensures new_steps { IfOk result (λ wrote. meter.new
+            ≡ meter_after meter.old (most_steps_of_write (wishes.Advance to) J.replica wrote.place self.new.seen)) }
         ensures gone { MatchResult result (λ _. C.times_gone crew.new ≡ C.times_gone crew.old)
             (λ fault. C.times_gone crew.new ≡ gone_after_fault fault (C.times_gone crew.old)) }
     {
@@ -163,10 +189,12 @@ impl<J: Naming> Session<J> {
     }
 
     /// The replica puts a number for an object from a step on, in the object's units. The reply is the edit's stamp.
+    /// The meter counts as for [`Session::take`].
     ///
     /// # Errors
     ///
-    /// `JournalFull`, then the replica's: those of `Replica::edit`. The session has seen and written no more then.
+    /// `JournalFull`, as for [`Session::take`], then the replica's: those of `Replica::edit`. The session has seen and
+    /// written no more then.
     pub fn edit<R: Wait + Drop, W: Wait, C: Crew>(
         &mut self,
         rt: &W,
@@ -181,17 +209,27 @@ impl<J: Naming> Session<J> {
             (λ wrote. IsWrite J.replica (wishes.Edit object step value) self.old wrote.place wrote.reply self.new
             × (wrote.receipt ≡ self.new.seen))
             (λ _. self.new ≡ self.old) }
+        ensures accepted { IfOk result (λ wrote. write_fault J.limit (wishes.Edit object step value) J.replica
+            (take wrote.place self.new.seen) ≡ None) }
+        ensures refused { IfErr result
+            (IsRefusedWrite J.limit J.replica (wishes.Edit object step value) self.old.seen) }
+        ensures few_steps { MatchResult result
+            (λ wrote. TicksAtMost (most_steps_of_write (wishes.Edit object step value) J.replica
+            wrote.place self.new.seen) meter.old meter.new)
+            (λ _. CostsFewSteps J.replica (wishes.Edit object step value) self.old.seen meter.old meter.new) }
         ensures gone { MatchResult result (λ _. C.times_gone crew.new ≡ C.times_gone crew.old)
             (λ fault. C.times_gone crew.new ≡ gone_after_fault fault (C.times_gone crew.old)) }
     {
         self.write(rt, shared, &Wish::Edit(object, step, value), crew, meter)
     }
 
-    /// The replica withdraws what is put for an object at a step. The reply is the withdrawal's stamp.
+    /// The replica withdraws what is put for an object at a step. The reply is the withdrawal's stamp. The meter counts
+    /// as for [`Session::take`].
     ///
     /// # Errors
     ///
-    /// `JournalFull`, then the replica's: those of `Replica::withdraw`. The session has seen and written no more then.
+    /// `JournalFull`, as for [`Session::take`], then the replica's: those of `Replica::withdraw`. The session has seen
+    /// and written no more then.
     pub fn withdraw<R: Wait + Drop, W: Wait, C: Crew>(
         &mut self,
         rt: &W,
@@ -205,6 +243,14 @@ impl<J: Naming> Session<J> {
             (λ wrote. IsWrite J.replica (wishes.Withdraw object step) self.old wrote.place wrote.reply self.new
             × (wrote.receipt ≡ self.new.seen))
             (λ _. self.new ≡ self.old) }
+        ensures accepted { IfOk result (λ wrote. write_fault J.limit (wishes.Withdraw object step) J.replica
+            (take wrote.place self.new.seen) ≡ None) }
+        ensures refused { IfErr result
+            (IsRefusedWrite J.limit J.replica (wishes.Withdraw object step) self.old.seen) }
+        ensures few_steps { MatchResult result
+            (λ wrote. TicksAtMost (most_steps_of_write (wishes.Withdraw object step) J.replica
+            wrote.place self.new.seen) meter.old meter.new)
+            (λ _. CostsFewSteps J.replica (wishes.Withdraw object step) self.old.seen meter.old meter.new) }
         ensures gone { MatchResult result (λ _. C.times_gone crew.new ≡ C.times_gone crew.old)
             (λ fault. C.times_gone crew.new ≡ gone_after_fault fault (C.times_gone crew.old)) }
     {
@@ -224,6 +270,15 @@ impl<J: Naming> Session<J> {
             (λ wrote. IsWrite J.replica wish.now self.old wrote.place wrote.reply self.new
             × (wrote.receipt ≡ self.new.seen))
             (λ _. self.new ≡ self.old) }
+        ensures accepted { IfOk result
+            (λ wrote. write_fault J.limit wish.now J.replica (take wrote.place self.new.seen) ≡ None) }
+        ensures refused { IfErr result (IsRefusedWrite J.limit J.replica wish.now self.old.seen) }
+        ensures few_steps { MatchResult result
+            (λ wrote. TicksAtMost (most_steps_of_write wish.now J.replica wrote.place self.new.seen)
+            meter.old meter.new)
+            (λ _. CostsFewSteps J.replica wish.now self.old.seen meter.old meter.new) }
+        ensures new_steps { IfOk result
+            (λ wrote. CountsNewSteps wish.now (replay J.replica (take wrote.place self.new.seen)) meter.old meter.new) }
         ensures gone { MatchResult result (λ _. C.times_gone crew.new ≡ C.times_gone crew.old)
             (λ fault. C.times_gone crew.new ≡ gone_after_fault fault (C.times_gone crew.old)) }
     {

@@ -1,8 +1,9 @@
 //! How a store is prepared and opened, and what its sessions share.
-ghost use Rattle.std.specs.Prelude.{◌≡◌, ◌<◌, ◌≤◌, [], IfOk, length};
+ghost use Rattle.std.specs.Prelude.{◌≡◌, ◌<◌, ◌≤◌, [], IfErr, IfOk, length};
 ghost use Rattle.std.specs.Arc.{arc_value};
 ghost use Rattle.road_plan.specs.declared.limits.TheConstants.{MOST_REPLICAS, MOST_SESSIONS};
 ghost use Rattle.road_sessions.specs.declared.entry.TheConstants.{MOST_WRITES};
+ghost use Rattle.road_sessions.specs.declared.faults.OpenFault.TheVariants as openings;
 ghost use Rattle.road_sessions.specs.Journals.{replica_of_plan, replay};
 ghost use Rattle.road_sessions.specs.Sessions.{AreNewSessions};
 
@@ -73,6 +74,7 @@ pub fn prepare<R: Wait + Drop>(
     ensures sessions { IfOk result (λ prepared. prepared.sessions ≡ sessions) }
     ensures limit { IfOk result (λ prepared. prepared.limit ≡ limit) }
     ensures replica { IfOk result (λ prepared. prepared.replica ≡ replica_of_plan (arc_value plan) number) }
+    ensures refused { IfErr result (λ fault. fault ≡ openings.OutOfMemory) }
 {
     let replica = Replica::open(alloc, plan, number)?;
     Ok(Prepared {
@@ -87,7 +89,9 @@ pub fn prepare<R: Wait + Drop>(
 }
 
 /// Opens what was prepared under the name `J`: its sessions have seen and written nothing and are numbered from 0, the
-/// opening sheet is published, and the journal is empty.
+/// opening sheet is published, and the journal is empty. It has room for as many writes as were prepared for, as long
+/// as the store is open. `J` has to be picked with what was prepared: its book, its replica, its ledger's name and
+/// parts, and its limit.
 ///
 /// # Errors
 ///
@@ -99,6 +103,7 @@ pub fn open<J: Naming, R: Wait + Drop>(
     requires book { prepared.book.seen.book ≡ J.book }
     requires replica { prepared.replica ≡ J.replica }
     requires ledger { (prepared.ledger.name ≡ J.name) × (prepared.ledger.parts ≡ J.parts) }
+    requires limit { prepared.limit ≡ J.limit }
     ensures { IfOk result (λ opened. (length opened.1.items ≡ prepared.sessions) × AreNewSessions 0 opened.1.items) }
 {
     let (held, sessions) = opened::<J, R>(prepared)?;
@@ -108,7 +113,7 @@ pub fn open<J: Naming, R: Wait + Drop>(
     Ok((shared, sessions))
 }
 
-/// What [`open`] puts under the lock, and the sessions, of what was prepared for the name `J`.
+/// What [`open`] puts under the lock, and the sessions, of what was prepared for the name `J`, picked as for [`open`].
 ///
 /// # Errors
 ///
@@ -119,6 +124,7 @@ pub fn opened<J: Naming, R: Wait + Drop>(
     requires book { prepared.book.seen.book ≡ J.book }
     requires replica { prepared.replica ≡ J.replica }
     requires ledger { (prepared.ledger.name ≡ J.name) × (prepared.ledger.parts ≡ J.parts) }
+    requires limit { prepared.limit ≡ J.limit }
     ensures journal { IfOk result (λ opened. opened.0.journal.items ≡ []) }
     ensures limit { IfOk result (λ opened. opened.0.limit ≡ prepared.limit) }
     ensures sessions { IfOk result (λ opened. (length opened.1.items ≡ prepared.sessions)
@@ -162,7 +168,8 @@ fn store_of<J: Naming>(
 ) -> Result<(StoreWriter<J>, Published<J>), OpenFault>
     requires left { arc_value sheet.now ≡ (replay J.replica history.now).sheet }
     requires readers { (0 < readers) × (readers ≤ MOST_SESSIONS) }
-    ensures { IfOk result (λ made. made.0.desk.shown.value ≡ history.now) }
+    ensures shown { IfOk result (λ made. made.0.desk.shown.value ≡ history.now) }
+    ensures refused { IfErr result (λ fault. fault ≡ openings.OutOfMemory) }
 {
     let sheet = Arc::try_clone(sheet)?;
     let published = Published::new(sheet, history.again());
@@ -181,7 +188,8 @@ fn new_store<J: Naming>(
 ) -> Result<StoreWriter<J>, OpenFault>
     requires same { first ≡ second }
     requires readers { (0 < readers) × (readers ≤ MOST_SESSIONS) }
-    ensures { IfOk result (λ writer. writer.desk.shown.value ≡ first) }
+    ensures shown { IfOk result (λ writer. writer.desk.shown.value ≡ first) }
+    ensures refused { IfErr result (λ fault. fault ≡ openings.OutOfMemory) }
 {
     match Writer::new(alloc, first, second, readers as usize) {
         Ok(writer) => Ok(writer),

@@ -167,6 +167,7 @@ pub(crate) fn goes<J: Naming, R: Wait + Drop, W: Wait>(
     requires book { prepared.book.seen.book ≡ J.book }
     requires replica { prepared.replica ≡ J.replica }
     requires ledger { (prepared.ledger.name ≡ J.name) × (prepared.ledger.parts ≡ J.parts) }
+    requires limit { prepared.limit ≡ J.limit }
 {
     let Ok((shared, mut sessions)) = open::<J, R>(prepared) else {
         return None;

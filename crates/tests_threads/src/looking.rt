@@ -143,6 +143,7 @@ fn looks_meanwhile<J: Naming + Send + Sync, R: Wait + Drop + Send, W: Threads + 
     requires book { prepared.book.seen.book ≡ J.book }
     requires replica { prepared.replica ≡ J.replica }
     requires ledger { (prepared.ledger.name ≡ J.name) × (prepared.ledger.parts ≡ J.parts) }
+    requires limit { prepared.limit ≡ J.limit }
 {
     let (shared, mut sessions) = open::<J, R>(prepared)?;
     one_after_another(rt, &shared, sessions.as_mut_slice())

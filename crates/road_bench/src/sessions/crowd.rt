@@ -130,6 +130,7 @@ fn is_merged<J: Naming + Send + Sync, R: Wait + Drop + Send, W: Threads + Wait +
     requires book { prepared.book.seen.book ≡ J.book }
     requires replica { prepared.replica ≡ J.replica }
     requires ledger { (prepared.ledger.name ≡ J.name) × (prepared.ledger.parts ≡ J.parts) }
+    requires limit { prepared.limit ≡ J.limit }
 {
     let (shared, mut sessions) = open::<J, R>(prepared)?;
     let well = all_work(rt, alloc, &shared, sessions.as_mut_slice(), count);

@@ -116,6 +116,7 @@ fn all_done<J: Naming + Send + Sync, R: Wait + Drop + Send, W: Threads + Wait + 
     requires book { prepared.book.seen.book ≡ J.book }
     requires replica { prepared.replica ≡ J.replica }
     requires ledger { (prepared.ledger.name ≡ J.name) × (prepared.ledger.parts ≡ J.parts) }
+    requires limit { prepared.limit ≡ J.limit }
 {
     let (shared, sessions) = open::<J, R>(prepared)?;
     all_do(rt, &shared, sessions, task)

@@ -14,6 +14,6 @@ returns-clause-wrote g c =
     let journal : List Entry = c.args.self.now.journal.items in
     let before : IsPrefix seen journal = subst (λ (l : List Entry). IsPrefix seen l) c.args.self.now.journalled c.if-not-begins.ensures.begins in
     let after : c.again.result ≡ c.write.new.self.journal.items = c.again.ensures ∙ c.write.new.self.journalled in
-    let legal : IsLegal r c.again.result = subst (λ (l : List Entry). IsLegal r l) (sym c.again.ensures) c.known.ensures in
+    let legal : IsLegal r c.again.result = subst (λ (l : List Entry). IsLegal r l) (sym c.again.ensures) c.known-3.ensures in
     is_write r c.args.session c.args.wish.now seen journal c.again.result (view c.args.reader.now.place) (view c.enter_after_write_here.new.reader.place) c.in_ok-place.place c.in_ok-place.reply
     before (after ∙ c.in_ok-place.ensures.journal) legal c.in_ok-place.ensures.reply.0 c.in_ok-place.ensures.reply.1 c.enter_after_write_here.ensures
