@@ -1,22 +1,19 @@
 -- What a session's write or look leaves of it.
-use Rattle.std.proofs.Common.{◌≡◌, ◌∙◌, ℕ, ◌+◌, ◌<◌, List, [], ◌∷◌, ◌++◌, length, length-append, slice_get, None, Some, take, refl, sym, ap, subst, arith, inl}
-use Rattle.std.proofs.Math.Seq.{take-append_seam}
+use Rattle.std.proofs.Common.{◌≡◌, ◌∙◌, ℕ, ◌+◌, ◌<◌, List, [], ◌∷◌, ◌++◌, length, length-append, slice_get, Some, refl, sym, ap, subst, arith}
 use Rattle.std.proofs.lemmas.Option.{slice_get_within}
 use Rattle.std.specs.List.{AllByRecursion}
 use mathlib.Core.List.{IsPrefix}
-use Rattle.road_rewind.specs.Growth.{TicksAtMost}
 use Rattle.road_replica.specs.Replicas.{Replica}
 use Rattle.road_replica.specs.declared.reply.Reply.{Reply}
 use Rattle.road_sessions.specs.declared.entry.Entry.{Entry}
 use Rattle.road_sessions.specs.declared.view.View.{View}
-use Rattle.road_sessions.specs.declared.faults.WriteFault.{WriteFault}
 use Rattle.road_sessions.specs.declared.wish.Wish.{Wish}
 use Rattle.road_sessions.specs.Journals.{AreWritesOf, IsLegal, AreAtRisingPlaces, AreInJournal, Write, entry, replay}
 use Rattle.road_sessions.specs.Looks.{HasEntered}
 use Rattle.road_sessions.specs.Private.Stores.{EntersAfterWrite, EntersToLook, last_write_from}
-use Rattle.road_sessions.specs.Sessions.{AreNewSessions, CostsFewSteps, IsRefusedWrite, IsSession, IsWrite, Session, new_view, session_of}
-use Rattle.road_sessions.specs.Writes.{CountsNewSteps, IsWriteRefusal, most_steps_of_wish, most_steps_of_write, reply_to, wish_command, write_fault}
-use Rattle.road_sessions.proofs.Beginnings.{begins_itself, each_of_both, got_last, in_longer_journal}
+use Rattle.road_sessions.specs.Sessions.{AreNewSessions, IsSession, IsWrite, Session, new_view, session_of}
+use Rattle.road_sessions.specs.Writes.{reply_to, wish_command}
+use Rattle.road_sessions.proofs.Beginnings.{each_of_both, got_last, in_longer_journal}
 
 -- ---- a write
 
@@ -78,37 +75,6 @@ session_after_write r wish s t place reply w is =
 pub one_more_write : (r : Replica) (wish : Wish) (s t : Session) (place : ℕ) (reply : Reply) → IsWrite r wish s place reply t → length t.view.own ≡ length s.view.own + 1
 one_more_write r wish s t place reply w =
     ap (λ (o : List Write). length o) w.own ∙ (let n = length-append s.view.own ((place, entry s.number (wish_command wish (replay r w.front))) ∷ []) in omega arith)
-
--- ---- what a write costs, and why it is refused
-
-before_write : (front after : List Entry) (e : Entry) (place : ℕ) → after ≡ front ++ e ∷ [] → place ≡ length front → front ≡ take place after
-before_write front after e place is at =
-    sym (ap (λ (n : ℕ). take n after) at ∙ ap (λ (l : List Entry). take (length front) l) is ∙ take-append_seam front (e ∷ []))
-
--- an accepted write costs what its wish does at the journal before it
-pub few_steps_of_write : (r : Replica) (wish : Wish) (front after : List Entry) (e : Entry) (place meter later : ℕ) → after ≡ front ++ e ∷ [] → place ≡ length front
-    → TicksAtMost (most_steps_of_wish wish (replay r front)) meter later → TicksAtMost (most_steps_of_write wish r place after) meter later
-few_steps_of_write r wish front after e place meter later is at few =
-    subst (λ (l : List Entry). TicksAtMost (most_steps_of_wish wish (replay r l)) meter later) (before_write front after e place is at) few
-
-pub new_steps_of_write : (r : Replica) (wish : Wish) (front after : List Entry) (e : Entry) (place meter later : ℕ) → after ≡ front ++ e ∷ [] → place ≡ length front
-    → CountsNewSteps wish (replay r front) meter later → CountsNewSteps wish (replay r (take place after)) meter later
-new_steps_of_write r wish front after e place meter later is at new =
-    subst (λ (l : List Entry). CountsNewSteps wish (replay r l) meter later) (before_write front after e place is at) new
-
-pub accepted_by_journal : (limit here : ℕ) (r : Replica) (wish : Wish) (front after : List Entry) (e : Entry) (place : ℕ) → after ≡ front ++ e ∷ [] → place ≡ length front → here ≡ limit
-    → write_fault here wish r front ≡ None → write_fault limit wish r (take place after) ≡ None
-accepted_by_journal limit here r wish front after e place is at same none =
-    subst (λ (l : List Entry). write_fault limit wish r l ≡ None) (before_write front after e place is at) (subst (λ (n : ℕ). write_fault n wish r front ≡ None) same none)
-
--- where nothing is computed, few steps are
-pub no_steps : (r : Replica) (wish : Wish) (seen : List Entry) (meter : ℕ) → IsLegal r seen → CostsFewSteps r wish seen meter meter
-no_steps r wish seen meter legal = record { front = seen; before = begins_itself seen; legal = legal; few = record { ticks = 0; few = omega arith; counted = refl } }
-
-pub refused_by_journal : (limit here : ℕ) (r : Replica) (wish : Wish) (seen journal : List Entry) (fault : WriteFault) → IsPrefix seen journal → IsLegal r journal → here ≡ limit
-    → IsWriteRefusal (write_fault here wish r journal) fault → IsRefusedWrite limit r wish seen fault
-refused_by_journal limit here r wish seen journal fault before legal same cause =
-    inl (record { front = journal; before = before; legal = legal; cause = subst (λ (n : ℕ). IsWriteRefusal (write_fault n wish r journal) fault) same cause })
 
 -- ---- a look, and what was told
 
