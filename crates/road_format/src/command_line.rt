@@ -14,6 +14,7 @@ use crate::command::Command;
 use crate::exchange::{beyond_in, heads_in, import_in, send_in, take_in};
 use crate::faults::LineFault;
 use crate::fields::{long_number_at, name_at, only_field};
+use crate::form::{LAST_FORM, is_known};
 use crate::local::local_of_name;
 use crate::reading::value_in;
 use road_plan::OutOfMemory;
@@ -22,15 +23,16 @@ use std::alloc::Global;
 
 /// The command that a line is: an object of one field, whose name is that of a variant of `Command` in small letters,
 /// and whose value is an object of exactly the variant's fields, in any order; `import` has the number `form` beside
-/// them. A name is a text of 1 to 64 bytes; a number is whole, of at most 32 bits, and written without point and
-/// exponent; an object is a list of its kind and its index; an edit is a list of its kind, index, step, count (of at most
-/// 64 bits), number (of at most 16) and value, where null is a withdrawal. Of a field that stands twice the last counts.
+/// them, and in form 1 no edit of kind `start`. A name is a text of 1 to 64 bytes; a number is whole, of at most 32 bits,
+/// and written without point and exponent; an object is a list of its kind and its index; an edit is a list of its kind,
+/// index, step, count (of at most 64 bits), number (of at most 16) and value, where null is a withdrawal. Of a field that
+/// stands twice the last counts.
 ///
 /// # Errors
 ///
 /// `NotJson` where the line is no JSON value, then `NotACommand` where the value is no command, then `UnknownForm` where
-/// its `form` is not 1. `OutOfMemory` may come in the place of any of them where the line has a byte. The length of the
-/// line is not asked here.
+/// its `form` is neither 1 nor 2. `OutOfMemory` may come in the place of any of them where the line has a byte. The
+/// length of the line is not asked here.
 #[tactic(auto, using(crate::proofs::LineValues::length_of_value), unfolding(crate::specs::CommandGrammar::command_of))]
 pub fn read_command(alloc: Global, line: &[u8]) -> Result<Command, LineFault>
     // The grammar's command, or its refusal; want of memory is none.
@@ -51,7 +53,7 @@ fn command_of_value(alloc: Global, value: &Value) -> Result<Command, LineFault>
         (result_or_refusal NotACommand (grammar.command_in (view value.now)) grammar.command_of_form) }
 {
     match command_in(alloc, value)? {
-        Some((1, command)) => Ok(command),
+        Some((form, command)) if is_known(form) => Ok(command),
         Some(_) => Err(LineFault::UnknownForm),
         None => Err(LineFault::NotACommand),
     }
@@ -73,35 +75,36 @@ fn command_in(alloc: Global, value: &Value) -> Result<Option<(u64, Command)>, Ou
         return Ok(None);
     };
     let at = String::from_str(alloc, at)?;
-    match command_of_name(alloc, name, at, fields)? {
+    match command_of_name(alloc, name, form, at, fields)? {
         Some(command) => Ok(Some((form, command))),
         None => Ok(None),
     }
 }
 
-// The form of a command of a name: what its `form` says where it has one, and else 1.
+// The form of a command of a name: what its `form` says where it has one, and else the last.
 fn form_of_name(name: &str, fields: &Value) -> Option<u64>
     ensures { result ≡ grammar.form_of_name name.now (view fields.now) }
 {
     match name {
         "import" => long_number_at("form", fields),
-        _ => Some(1),
+        _ => Some(LAST_FORM),
     }
 }
 
-// The command of a name at a replica, with these fields.
+// The command of a name and a form at a replica, with these fields.
 #[tactic(auto, unfolding(crate::specs::CommandGrammar::command_of_name))]
 fn command_of_name(
     alloc: Global,
     name: &str,
+    form: u64,
     at: String,
     fields: &Value,
 ) -> Result<Option<Command>, OutOfMemory>
     ensures { IfOk result (λ command. option_map command_view command
-        ≡ grammar.command_of_name name.now (string_bytes at) (view fields.now)) }
+        ≡ grammar.command_of_name name.now form (string_bytes at) (view fields.now)) }
 {
     match name {
-        "import" => import_in(alloc, at, fields),
+        "import" => import_in(alloc, form, at, fields),
         "send" => send_in(alloc, at, fields),
         "heads" => heads_in(alloc, at, fields),
         "beyond" => beyond_in(alloc, at, fields),
