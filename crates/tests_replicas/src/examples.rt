@@ -29,10 +29,7 @@ const MOST: u64 = 281_474_976_710_656;
 const TO_SIX: Answered = (Write::Advance(6), Ok(Reply::Horizon(6)));
 
 /// The cell 8 is blocked from step 4 on, once the road is at step 6.
-const BLOCKED: Answered = (
-    Write::Edit(BLOCK, 4, 1),
-    Ok(Reply::Stamped(FIRST_STAMP)),
-);
+const BLOCKED: Answered = (Write::Edit(BLOCK, 4, 1), Ok(Reply::Stamped(FIRST_STAMP)));
 
 const FIRST_STAMP: Stamp = Stamp {
     count: 1,
@@ -298,7 +295,10 @@ const REFUSALS: Example = Example {
             Write::Edit(Object::Start(1), 1_048_576, 65_537),
             Err(ReplicaFault::NoObject),
         ),
-        (Write::Edit(START, 1_048_576, 65_537), Err(ReplicaFault::Step)),
+        (
+            Write::Edit(START, 1_048_576, 65_537),
+            Err(ReplicaFault::Step),
+        ),
         (
             Write::Edit(START, 1_048_575, 65_537),
             Err(ReplicaFault::ValueOutOfRange),

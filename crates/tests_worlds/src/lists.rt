@@ -1,8 +1,8 @@
 //! Worked lists of events.
 
 use crate::worlds::{
-    A1, A2, A3, Answer, B1, B2, B3, BLOCK, LIMIT, START, all_hold, all_show, answers, holds, played,
-    shows,
+    A1, A2, A3, Answer, B1, B2, B3, BLOCK, LIMIT, START, all_hold, all_show, answers, holds,
+    played, shows,
 };
 use road_delta::Head;
 use road_plan::Object;

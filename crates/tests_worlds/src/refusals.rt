@@ -25,7 +25,10 @@ const NOWHERE: [Event; 7] = [
     Event::Heads { at: 4_294_967_295 },
     Event::Beyond { at: 64, message: 0 },
     Event::Take { at: 3, message: 0 },
-    Event::Advance { at: 3, to: 1_048_577 },
+    Event::Advance {
+        at: 3,
+        to: 1_048_577,
+    },
 ];
 
 const NO_REPLICA: [Answer; 7] = [Err(WorldFault::NoReplica); 7];
@@ -94,7 +97,10 @@ const FAULTY: [Event; 5] = [
         object: BLOCK,
         step: 1_048_576,
     },
-    Event::Advance { at: 0, to: 1_048_577 },
+    Event::Advance {
+        at: 0,
+        to: 1_048_577,
+    },
     Event::Advance { at: 0, to: 0 },
 ];
 
