@@ -40,8 +40,8 @@ use std::sync::Arc;
 /// detectors count up to there. It never changes; [`Sheet::draft`] goes on from it.
 ///
 /// The run is kept as spans of 64 steps: of each the road at its first step and what each detector counts in it; then
-/// the span that the horizon cuts, and the road at the horizon. Sheets share the whole spans, on shelves of 64: what a
-/// sheet takes of another's does not grow with the horizon.
+/// the span that the horizon cuts, and the road at the horizon. Sheets share the whole spans, 64 on a shelf and all full
+/// shelves as one: to go on from a sheet costs no more at a far horizon.
 #[derive(Drop)]
 pub struct Sheet {
     plan: Arc<Plan>,
@@ -85,13 +85,14 @@ impl Sheet {
         ensures { IfOk result (λ sheet. sheet ≡ opening_sheet (arc_value plan)) }
     {
         let cut = Span::begin(alloc, Checkpoint::empty(alloc), plan.detectors().len())?;
+        let whole = SharedSpans::empty(alloc)?;
         Ok(Sheet {
             plan,
             known: Both {
                 first: Scenario::empty(alloc),
                 second: Greatest::Nothing,
             },
-            whole: SharedSpans::empty(alloc)?,
+            whole,
             cut,
             last: Road::empty(alloc),
         })
