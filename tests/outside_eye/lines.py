@@ -4,7 +4,7 @@ import re
 
 LONGEST_LINE = 65_536
 DEEPEST = 127
-KINDS = ("limit", "slow", "block", "inflow", "watch")
+KINDS = ("limit", "slow", "block", "inflow", "watch", "start")
 
 
 class Refused(Exception):
@@ -171,6 +171,9 @@ def command(value):
         found = fields(given, COMMANDS[verb])
     except Wrong:
         raise Refused("not a command") from None
-    if found.pop("form", 1) != 1:
+    form = found.pop("form", 2)
+    if form == 1 and any(kind == "start" for kind, *_ in found["edits"]):
+        raise Refused("not a command")
+    if form not in (1, 2):
         raise Refused("unknown form")
     return verb, found

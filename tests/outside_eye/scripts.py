@@ -11,7 +11,7 @@ import sys
 LONGEST_LINE = 65_536
 ALWAYS = 65_536
 GREATEST_COUNT = 2 ** 48
-KINDS = ("limit", "slow", "block", "inflow", "watch")
+KINDS = ("limit", "slow", "block", "inflow", "watch", "start")
 NAMES = ("A", "B", "C", "north ramp", "Ä", "\u8eca", "q\"\\\t\u0001/", "\b\f\n\r\x1f", "\U0001f697", "\x7f", "n" * 64, "\u8eca" * 21 + "n")
 BAD_NAMES = ("", "n" * 65, "\u8eca" * 22)
 # Texts of what is a JSON value or none, but nowhere a number, and texts that are a number at some places.
@@ -82,7 +82,7 @@ class Writer:
     def object(self):
         plan = self.plan
         sizes = {"limit": len(plan["zones"]), "slow": len(plan["zones"]), "block": plan["length"], "inflow": len(plan["inlets"]),
-                 "watch": len(plan["detectors"])}
+                 "watch": len(plan["detectors"]), "start": len(plan["zones"])}
         kind = self.random.choice([kind for kind in KINDS if sizes[kind]])
         return [kind, self.random.randrange(sizes[kind])]
 
@@ -96,7 +96,7 @@ class Writer:
     def value(self, kind):
         draw = self.random
         return {"limit": draw.choice((0, 1, 2, 3, 5, 8, 9)), "slow": self.new_chance((0, ALWAYS)), "block": draw.choice((0, 1, 1)),
-                "inflow": self.new_chance((0, ALWAYS)), "watch": draw.choice((0, 0, 1))}[kind]
+                "inflow": self.new_chance((0, ALWAYS)), "watch": draw.choice((0, 0, 1)), "start": self.new_chance((0, ALWAYS))}[kind]
 
     def outer_edit(self):
         """An edit from outside, at times one that was there before with another value."""
@@ -171,7 +171,7 @@ class Writer:
         edits = self.some(0, 6, self.outer_edit)
         if self.chance(20):
             edits.insert(self.random.randint(0, len(edits)), self.spoilt_edit())
-        return {"edits": edits, "form": 1}
+        return {"edits": edits, "form": self.random.choice((1, 2, 2))}
 
     def new_send(self, at):
         self.sent.append(self.new_name())
@@ -196,7 +196,7 @@ class Writer:
             "step": (65535, 65536, 65537, 2 ** 32 - 1), "value": (1, 2, 9, 10, ALWAYS, ALWAYS + 1, 2 ** 32 - 1),
             "to": (0, 65537, 2 ** 32 - 1, self.furthest + 1), "from": (0, 65537, 2 ** 32 - 1), "detector": (63, 64, 2 ** 32 - 1),
             "name": ("m1", "m2", *self.sent[-3:], *self.asked[-3:], *BAD_NAMES), "message": ("m1", "m2", *self.asked[-3:], "A"),
-            "heads": ("m1", "m2", *self.sent[-3:], *BAD_NAMES), "form": (0, 2, 2 ** 32, 2 ** 64 - 1)}
+            "heads": ("m1", "m2", *self.sent[-3:], *BAD_NAMES), "form": (0, 3, 2 ** 32, 2 ** 64 - 1)}
         for field in draw.sample(list(fields), draw.randint(1, len(fields))):
             if field == "edits":
                 fields["edits"] = self.some(1, 4, lambda: self.spoilt_edit() if self.chance(40) else self.outer_edit())
@@ -242,7 +242,7 @@ class Writer:
             lambda: self.inside(value, lambda fields: fields.pop(draw.choice(list(fields)))),
             lambda: self.inside(value, lambda fields: fields.update({draw.choice(list(fields)): draw.choice(
                 ([], {}, None, True, "A", 0, -1, [["limit", 0]], ["limit"], ["exit", 0], ["limit", 0, 0], *BAD_NAMES))})),
-            lambda: self.inside(value, lambda fields: fields.update({"form": draw.choice((0, 1, 2))})),
+            lambda: self.inside(value, lambda fields: fields.update({"form": draw.choice((0, 1, 2, 3))})),
             lambda: self.renumbered(value), lambda: self.renumbered(value), lambda: self.renumbered(value),
             lambda: self.doubled(value), lambda: self.doubled(value), lambda: self.doubled(value, deep),
             lambda: self.line({**value, "more": 1}), lambda: self.line([value]),

@@ -17,7 +17,7 @@ GREATEST_COUNT = 2 ** 48
 MOST_REPLICAS = 64
 MOST_ROWS = 1_024
 ALWAYS = 65_536
-GREATEST = {"limit": 9, "slow": ALWAYS, "block": 1, "inflow": ALWAYS, "watch": 1}
+GREATEST = {"limit": 9, "slow": ALWAYS, "block": 1, "inflow": ALWAYS, "watch": 1, "start": ALWAYS}
 
 
 # The plan
@@ -37,7 +37,8 @@ class Plan:
             **{("slow", zone): chance for zone, (_, chance) in enumerate(self.zones)},
             **{("block", cell): 0 for cell in range(self.length)},
             **{("inflow", inlet): chance for inlet, (_, chance) in enumerate(self.inlets)},
-            **{("watch", detector): 1 for detector in range(len(self.detectors))}}
+            **{("watch", detector): 1 for detector in range(len(self.detectors))},
+            **{("start", zone): None for zone in range(len(self.zones))}}
 
     def faults(self):
         """Each fault of a plan, and whether it stands, in their order."""
@@ -111,6 +112,9 @@ def settings_at(plan, listed, step):
     for kind, index, date, _, _, value in listed:
         if date <= step and value is not None:
             numbers[kind, index] = value
+    for zone in range(len(plan.zones)):
+        if numbers["start", zone] is None:
+            numbers["start", zone] = numbers["slow", zone]
     return numbers
 
 
@@ -162,12 +166,13 @@ def new_speed(plan, numbers, step, road, cell):
     """The speed of the car at the cell in a step."""
     number, speed = road[cell]
     zone = cell // plan.zone_width
+    chance = numbers["start" if speed == 0 else "slow", zone]
     speed = min(speed + 1, numbers["limit", zone])
     for ahead in range(speed):
         if not is_free(numbers, road, cell + 1 + ahead):
             speed = ahead
             break
-    if speed > 0 and plan.happens(numbers["slow", zone], number, step):
+    if speed > 0 and plan.happens(chance, number, step):
         speed -= 1
     return speed
 
@@ -255,18 +260,18 @@ class Laboratory:
     def answer_heads(self, replica, name):
         self.require_new(name)
         self.asked[name] = [head_of(edit) for edit in winners(replica.edits)]
-        return {"form": 1, "heads": self.asked[name], "message": name}
+        return {"form": 2, "heads": self.asked[name], "message": name}
 
     def answer_beyond(self, replica, heads, name):
         require(heads in self.asked, "NoMessage")
         self.require_new(name)
         self.sent[name] = beyond(replica.edits, self.asked[heads])
-        return {"edits": self.sent[name], "form": 1, "message": name}
+        return {"edits": self.sent[name], "form": 2, "message": name}
 
     # Questions
 
     def answer_scenario(self, replica):
-        return {"edits": winners(replica.edits), "form": 1}
+        return {"edits": winners(replica.edits), "form": 2}
 
     def answer_cells(self, replica, step):
         return {"cells": self.rows(replica, step, step)[0]}

@@ -124,7 +124,7 @@ lowered_at_7 = refl
 
 -- every car is slowed by chance at every step
 abbrev always_slowed : Course
-always_slowed step = record (defaults free_road) { chances = 65536 ∷ [] }
+always_slowed step = record (defaults free_road) { chances = 65536 ∷ []; starts = 65536 ∷ [] }
 
 always_slowed_at_1 : row free_road always_slowed 1 ≡ codes "0..........."
 unfolding free_before
@@ -136,7 +136,7 @@ always_slowed_at_6 = refl
 
 -- the slowing chance is one half
 abbrev half_slowed : Course
-half_slowed step = record (defaults free_road) { chances = 32768 ∷ [] }
+half_slowed step = record (defaults free_road) { chances = 32768 ∷ []; starts = 32768 ∷ [] }
 
 half_slowed_at_1 : row free_road half_slowed 1 ≡ codes "0..........."
 unfolding free_before
@@ -161,6 +161,50 @@ half_slowed_at_5 = refl
 half_slowed_at_6 : row free_road half_slowed 6 ≡ codes ".1...1......"
 unfolding free_before
 half_slowed_at_6 = refl
+
+-- standing cars never start before step 3, and always from there on (slow-to-start)
+abbrev late_start : Course
+late_start step = record (defaults free_road) { starts = (if nat_lt step 3 then 65536 else 0) ∷ [] }
+
+late_start_at_3 : row free_road late_start 3 ≡ codes "0..........."
+unfolding free_before
+late_start_at_3 = refl
+
+late_start_at_4 : row free_road late_start 4 ≡ codes ".1.........."
+unfolding free_before
+late_start_at_4 = refl
+
+late_start_at_5 : row free_road late_start 5 ≡ codes "0..2........"
+unfolding free_before
+late_start_at_5 = refl
+
+late_start_at_6 : row free_road late_start 6 ≡ codes ".1...2......"
+unfolding free_before
+late_start_at_6 = refl
+
+-- every moving car is slowed, and no standing one
+abbrev slow_drivers : Course
+slow_drivers step = record (defaults free_road) { chances = 65536 ∷ [] }
+
+slow_drivers_at_1 : row free_road slow_drivers 1 ≡ codes ".1.........."
+unfolding free_before
+slow_drivers_at_1 = refl
+
+slow_drivers_at_2 : row free_road slow_drivers 2 ≡ codes "0.1........."
+unfolding free_before
+slow_drivers_at_2 = refl
+
+slow_drivers_at_3 : row free_road slow_drivers 3 ≡ codes ".1.1........"
+unfolding free_before
+slow_drivers_at_3 = refl
+
+slow_drivers_at_4 : row free_road slow_drivers 4 ≡ codes "00..1......."
+unfolding free_before
+slow_drivers_at_4 = refl
+
+slow_drivers_at_5 : row free_road slow_drivers 5 ≡ codes "0.1..1......"
+unfolding free_before
+slow_drivers_at_5 = refl
 
 -- the inlet's word at step 1 is 30,011: not below a chance of as much, below one more
 abbrev let_in_below : ℕ → Course

@@ -1,5 +1,5 @@
 -- The new speed of a car.
-use Rattle.std.specs.Prelude.{ℕ, ◌+◌, ◌&&◌, Bool, List, map, nat_lt, slice_index}
+use Rattle.std.specs.Prelude.{ℕ, ◌+◌, ◌&&◌, Bool, List, map, nat_eq, nat_lt, slice_index, if◌then◌else◌}
 use Rattle.std.specs.List.{slice_index_or}
 use Rattle.road_plan.specs.Plan.{Plan, zone_of}
 use Rattle.road_plan.specs.Settings.{Settings}
@@ -20,11 +20,18 @@ is_taken_on_road p s a c = nat_lt c p.cells && cells.is_taken s.blocks a c
 abbrev pub gap : Plan → Settings → Array → ℕ → ℕ
 gap p s a c = free_before (is_taken_on_road p s a) (c + 1) GREATEST_SPEED
 
--- whether the car is slowed by chance: its word at this step has its event under the chance of a zone
-abbrev pub is_slowed : Plan → Settings → ℕ → ℕ → Vehicle → Bool
-is_slowed p s t zone car = comes_about (word p.words car.number t) (slice_index s.chances zone)
+-- the slowing chance of a car by its speed before the acceleration: that of standing cars where it is 0, and else that of
+-- moving cars (slow-to-start; Barlović, Santen, Schadschneider and Schreckenberg 1998)
+abbrev pub chance_at : ℕ → ℕ → ℕ → ℕ
+chance_at speed standing moving = if nat_eq speed 0 then standing else moving
 
--- the new speed of a car at cell c: rules 1 to 3 with the limit and the chance of the zone where it stands
+-- whether the car is slowed by chance: its word at this step has its event under its chance in a zone
+abbrev pub is_slowed : Plan → Settings → ℕ → ℕ → Vehicle → Bool
+is_slowed p s t zone car =
+    comes_about (word p.words car.number t)
+    (chance_at car.speed (slice_index s.starts zone) (slice_index s.chances zone))
+
+-- the new speed of a car at cell c: rules 1 to 3 with the limit and the chances of the zone where it stands
 -- (Nagel and Schreckenberg 1992)
 abbrev pub speed : Plan → Settings → ℕ → Array → ℕ → Vehicle → ℕ
 speed p s t a c car =

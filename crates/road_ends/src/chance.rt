@@ -1,19 +1,56 @@
 //! The events of chances: whether a car enters, and whether one is slowed.
 
-ghost use Rattle.std.specs.Prelude.{◌≡◌, ◌<◌, ◌/◌, ℕ, IfOk};
+ghost use Rattle.std.specs.Prelude.{◌≡◌, ◌<◌, ◌/◌, ◌^◌, ◌&&◌, ℕ, true, IfOk};
 ghost use Rattle.road_plan.specs.declared.limits.TheConstants.{MOST_INLETS};
 ghost use Rattle.road_rules.specs.Speeds.{comes_about, slowed_speed};
 ghost use Rattle.road_words.specs.Words.{word};
 ghost use Rattle.road_ends.specs.Entries.{inlet_stream};
+ghost use Rattle.road_ends.specs.Private.PassPlaces.{is_closed};
+ghost use Rattle.road_ends.specs.Speed.{chance_at};
 
 use crate::OutOfMemory;
 use crate::drawn::DrawnWords;
 use road_plan::limits::CERTAIN;
 use road_words::{PlanWords, Words};
 
-// Whether a chance leaves its event to the word.
-pub(crate) fn is_open(chance: u32) -> bool {
-    0 < chance && chance < CERTAIN
+// The slowing chances of a zone, of standing and of moving cars.
+#[derive(Clone, Copy)]
+pub(crate) struct Chances {
+    pub(crate) standing: u32,
+    pub(crate) moving: u32,
+}
+
+impl Chances {
+    // That of a car, by its speed before the acceleration.
+    #[inline(always)]
+    pub(crate) fn at(self, speed: u8) -> u32
+        ensures { result ≡ chance_at speed self.standing self.moving }
+    {
+        if speed == 0 {
+            self.standing
+        } else {
+            self.moving
+        }
+    }
+
+    // Whether neither leaves anything to a word.
+    pub(crate) fn are_closed(self) -> bool
+        ensures { result ≡ (is_closed self.standing && is_closed self.moving) }
+    {
+        is_closed(self.standing) && is_closed(self.moving)
+    }
+}
+
+// Whether a chance leaves nothing to a word: it never comes, or always.
+fn is_closed(chance: u32) -> bool
+    ensures { result ≡ is_closed chance }
+{
+    chance == 0 || chance >= CERTAIN
+}
+
+// Whether one of these chances leaves its event to a word.
+pub(crate) fn is_any_open(chances: &[u32]) -> bool {
+    chances.iter().any(|chance| !is_closed(*chance))
 }
 
 // Whether an inlet's word at a step has its event under a chance. It is drawn only where the chance leaves that open.
@@ -64,6 +101,14 @@ pub(crate) fn slowed_by_chance(
     } else {
         speed
     }
+}
+
+// A speed after rule 3, by a chance that leaves nothing to the word.
+pub(crate) fn slowed_without_word(speed: u8, chance: u32) -> u8
+    requires { is_closed chance ≡ true }
+    ensures { (word : ℕ) → word < 2 ^ 32 → result ≡ slowed_speed speed (comes_about word chance) }
+{
+    speed.saturating_sub(u8::from(chance > 0))
 }
 
 // A speed after rule 3, by the upper half of its word. Where the speed is 0 it may be any number.

@@ -12,7 +12,7 @@ mod pieces;
 mod sameness;
 
 use crate::OutOfMemory;
-use crate::chance::is_open;
+use crate::chance::is_any_open;
 use crate::columns::{Columns, write_cells, write_speeds};
 use crate::drawn::DrawnWords;
 use crate::entries::entered;
@@ -173,7 +173,7 @@ pub fn enter_with(
 {
     plan.known();
     let road = entered(alloc, plan, &settings, step, road, words)?;
-    let columns = columns_of(alloc, settings.chances(), step, &road, words)?;
+    let columns = columns_of(alloc, &settings, step, &road, words)?;
     let plan = Arc::try_clone(plan)?;
     let input = StepInput {
         plan,
@@ -188,7 +188,7 @@ pub fn enter_with(
 // The columns of a road's cars at a step; none where no chance leaves a slowing to the cars' words.
 fn columns_of(
     alloc: Global,
-    chances: &[u32],
+    settings: &Settings,
     step: u32,
     road: &Road,
     words: &mut DrawnWords,
@@ -200,7 +200,7 @@ fn columns_of(
         AreColumns road.now (box_value columns).cells.items (box_value columns).speeds.items)) }
     ensures unchanged { words.new ≡ words.old }
 {
-    if !chances.iter().any(|chance| is_open(*chance)) {
+    if !is_any_open(settings.chances()) && !is_any_open(settings.starts()) {
         return Ok(None);
     }
     let mut columns = words.columns(alloc)?;

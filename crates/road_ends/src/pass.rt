@@ -7,16 +7,18 @@ ghost use Rattle.road_cells.specs.Cars.{cars_of, cell_at};
 ghost use Rattle.road_cells.specs.Gap.{ArePartedAt};
 ghost use Rattle.road_cells.specs.declared.car.TheConstants.{GREATEST_SPEED};
 ghost use Rattle.road_rules.specs.Speeds.{comes_about, slowed_speed, wanted_speed};
-ghost use Rattle.road_ends.specs.Speed.{nth_car, speeds};
+ghost use Rattle.road_ends.specs.Speed.{chance_at, nth_car, speeds};
 ghost use Rattle.road_ends.specs.Private.StepColumns.{AreColumns, AreHalves};
 ghost use Rattle.road_ends.specs.Private.PassPlaces.{IsNthOrNowhere, AreOfZone, wanted_before};
 
 mod stretch;
 
 use crate::OutOfMemory;
-use crate::chance::{slowed_by_chance, slowed_by_half};
+use crate::chance::{Chances, slowed_by_chance, slowed_by_half};
 use crate::columns::Columns;
-use crate::pass::stretch::{first_car, first_cell, slow_by_halves, slow_by_words, write_wanted};
+use crate::pass::stretch::{
+    first_car, first_cell, slow_by_halves, slow_by_words, slow_without_words, write_wanted,
+};
 use road_cells::{Car, GREATEST_SPEED, Road, reached_blocks_below};
 use road_plan::{Plan, Settings};
 use road_rules::wanted;
@@ -44,13 +46,13 @@ struct Block {
     cell: u32,
 }
 
-// Zones side by side with the same speed limit and slowing chance, from the one where a car stands down: their first
+// Zones side by side with the same speed limit and slowing chances, from the one where a car stands down: their first
 // cell.
 #[derive(Clone, Copy)]
 struct Zone {
     start: u32,
     limit: u32,
-    chance: u32,
+    chances: Chances,
 }
 
 // The new speeds of all cars, in the order of the cars, in one growth.
@@ -100,6 +102,7 @@ pub(crate) fn speeds_between(
     let cars = road.cars();
     let width = plan.width();
     let limits = settings.limits();
+    let starts = settings.starts();
     let chances = settings.chances();
     let blocks = settings.blocks();
     let mut new = vec![in alloc; 0; end - first]?;
@@ -108,7 +111,7 @@ pub(crate) fn speeds_between(
     while place > first {
         place -= 1;
         let car = cars[place];
-        cursor.zone = zone_at(width, limits, chances, car.cell, cursor.zone);
+        cursor.zone = zone_at(width, limits, starts, chances, car.cell, cursor.zone);
         cursor.block = block_ahead(blocks, car.cell, cursor.block);
         new[place - first] = new_speed(&words, step, car, &columns.halves, place, cursor);
         let from = first_car(road, first_cell(blocks, cursor), first, place);
@@ -147,24 +150,38 @@ fn speeds_behind(
     requires room { to - first ≤ length new.old }
     ensures long { length new.new ≡ length new.old }
     ensures rest { (k : ℕ) → to ≤ k → slice_index new.new (k - first) ≡ slice_index new.old (k - first) }
-    ensures by_half { to ≤ length columns.now.halves.items → (k : ℕ) → from ≤ k → k < to →
+    ensures by_half { to ≤ min (length columns.now.halves.items) (length columns.now.speeds.items)
+        → (k : ℕ) → from ≤ k → k < to →
         let wished = wanted_before cars.now cursor.zone.limit (cell_at cars.now (k + 1)) cursor.block.cell k in
+        let chance = chance_at (nth_car cars.now k).speed cursor.zone.chances.standing cursor.zone.chances.moving in
         (word : ℕ) → (0 < wished → slice_index columns.now.halves.items k ≡ word / 65536)
-        → slice_index new.new (k - first) ≡ slowed_speed wished (comes_about word cursor.zone.chance) }
-    ensures by_word { length columns.now.halves.items < to → (k : ℕ) → from ≤ k → k < to →
+        → slice_index new.new (k - first) ≡ slowed_speed wished (comes_about word chance) }
+    ensures by_word { min (length columns.now.halves.items) (length columns.now.speeds.items) < to
+        → (k : ℕ) → from ≤ k → k < to →
         let wished = wanted_before cars.now cursor.zone.limit (cell_at cars.now (k + 1)) cursor.block.cell k in
+        let chance = chance_at (nth_car cars.now k).speed cursor.zone.chances.standing cursor.zone.chances.moving in
         let word = ⟦<PlanWords as Words>⟧.word_of words.now (nth_car cars.now k).number step in
-        slice_index new.new (k - first) ≡ slowed_speed wished (comes_about word cursor.zone.chance) }
+        slice_index new.new (k - first) ≡ slowed_speed wished (comes_about word chance) }
 {
     if from == to {
         return;
     }
     write_wanted(cars, columns, cursor, first, from, to, new);
-    let chance = cursor.zone.chance;
-    if to <= columns.halves.len() {
-        slow_by_halves(&columns.halves, chance, first, from, to, new);
+    let chances = cursor.zone.chances;
+    if to <= columns.halves.len().min(columns.speeds.len()) {
+        slow_by_halves(
+            &columns.halves,
+            &columns.speeds,
+            chances,
+            first,
+            from,
+            to,
+            new,
+        );
+    } else if chances.are_closed() {
+        slow_without_words(cars, chances, first, from, to, new);
     } else {
-        slow_by_words(words, step, cars, chance, first, from, to, new);
+        slow_by_words(words, step, cars, chances, first, from, to, new);
     }
 }
 
@@ -194,44 +211,63 @@ fn far_end(blocks: &[u32], next: u32) -> Cursor
         zone: Zone {
             start: NOWHERE,
             limit: 0,
-            chance: 0,
+            chances: Chances {
+                standing: 0,
+                moving: 0,
+            },
         },
     }
 }
 
 // The zone of a cell, with those before it that are alike: looked up where the cell lies before the last ones.
 #[inline(always)]
-fn zone_at(width: u32, limits: &[u32], chances: &[u32], cell: u32, last: Zone) -> Zone
+fn zone_at(
+    width: u32,
+    limits: &[u32],
+    starts: &[u32],
+    chances: &[u32],
+    cell: u32,
+    last: Zone,
+) -> Zone
     requires wide { 0 < width }
     requires limits { cell / width < length limits.now }
+    requires starts { cell / width < length starts.now }
     requires chances { cell / width < length chances.now }
-    requires last { (c : ℕ) → last.start ≤ c → c ≤ cell
-        → AreOfZone limits.now chances.now (c / width) last.limit last.chance }
+    requires last { (c : ℕ) → last.start ≤ c → c ≤ cell → AreOfZone limits.now starts.now chances.now (c / width)
+        last.limit last.chances.standing last.chances.moving }
     ensures start { result.start ≤ cell }
-    ensures alike { (c : ℕ) → result.start ≤ c → c ≤ cell
-        → AreOfZone limits.now chances.now (c / width) result.limit result.chance }
+    ensures alike { (c : ℕ) → result.start ≤ c → c ≤ cell → AreOfZone limits.now starts.now chances.now (c / width)
+        result.limit result.chances.standing result.chances.moving }
 {
     if last.start <= cell {
         return last;
     }
     let zone = (cell / width) as usize;
     Zone {
-        start: first_alike(limits, chances, zone) as u32 * width,
+        start: first_alike(limits, starts, chances, zone) as u32 * width,
         limit: limits[zone],
-        chance: chances[zone],
+        chances: Chances {
+            standing: starts[zone],
+            moving: chances[zone],
+        },
     }
 }
 
-// The first of the zones up to a zone that have its speed limit and its slowing chance, one beside the other.
-fn first_alike(limits: &[u32], chances: &[u32], zone: usize) -> usize
+// The first of the zones up to a zone that have its speed limit and its slowing chances, one beside the other.
+fn first_alike(limits: &[u32], starts: &[u32], chances: &[u32], zone: usize) -> usize
     requires limits { zone < length limits.now }
+    requires starts { zone < length starts.now }
     requires chances { zone < length chances.now }
     ensures up_to { result ≤ zone }
-    ensures alike { (z : ℕ) → result ≤ z → z ≤ zone
-        → AreOfZone limits.now chances.now z (slice_index limits.now zone) (slice_index chances.now zone) }
+    ensures alike { (z : ℕ) → result ≤ z → z ≤ zone → AreOfZone limits.now starts.now chances.now z
+        (slice_index limits.now zone) (slice_index starts.now zone) (slice_index chances.now zone) }
 {
     let mut first = zone;
-    while first > 0 && limits[first - 1] == limits[zone] && chances[first - 1] == chances[zone] {
+    while first > 0
+        && limits[first - 1] == limits[zone]
+        && starts[first - 1] == starts[zone]
+        && chances[first - 1] == chances[zone]
+    {
         first -= 1;
     }
     first
@@ -276,25 +312,22 @@ fn new_speed(
     requires block { car.cell < cursor.block.cell }
     ensures by_half { let wished = wanted_speed car.speed cursor.zone.limit
         (min GREATEST_SPEED (min cursor.next cursor.block.cell - (car.cell + 1))) in
+        let chance = chance_at car.speed cursor.zone.chances.standing cursor.zone.chances.moving in
         place < length halves.now → (word : ℕ) → (0 < wished → slice_index halves.now place ≡ word / 65536)
-        → result ≡ slowed_speed wished (comes_about word cursor.zone.chance) }
+        → result ≡ slowed_speed wished (comes_about word chance) }
     ensures by_word { let wished = wanted_speed car.speed cursor.zone.limit
         (min GREATEST_SPEED (min cursor.next cursor.block.cell - (car.cell + 1))) in
+        let chance = chance_at car.speed cursor.zone.chances.standing cursor.zone.chances.moving in
         let word = ⟦<PlanWords as Words>⟧.word_of words.now car.number step in
-        length halves.now ≤ place → result ≡ slowed_speed wished (comes_about word cursor.zone.chance) }
+        length halves.now ≤ place → result ≡ slowed_speed wished (comes_about word chance) }
 {
     let free = free_between(car.cell, cursor.next.min(cursor.block.cell));
     let wished = wanted(car.speed, cursor.zone.limit, free);
+    let chance = cursor.zone.chances.at(car.speed);
     if place < halves.len() {
-        return slowed_by_half(halves[place], wished, cursor.zone.chance);
+        return slowed_by_half(halves[place], wished, chance);
     }
-    slowed_by_chance(
-        words,
-        car.number,
-        u64::from(step),
-        wished,
-        cursor.zone.chance,
-    )
+    slowed_by_chance(words, car.number, u64::from(step), wished, chance)
 }
 
 // The cells between two cells, at most `GREATEST_SPEED`.

@@ -1,7 +1,7 @@
 -- Worked examples: the definitions, computed.
 use Rattle.std.proofs.Common.{◌≡◌, [], ◌∷◌, true, false, codes, refl, Ok, Err, Some, None, replicate}
 use Rattle.road_plan.specs.declared.parts.WordKind.TheVariants.{Seeded, Steady}
-use Rattle.road_plan.specs.declared.object.Object.TheVariants.{Limit, Block}
+use Rattle.road_plan.specs.declared.object.Object.TheVariants.{Limit, Block, Start}
 use Rattle.road_scenario.specs.declared.edit.Value.TheVariants.{Withdrawn, Put}
 use Rattle.road_format.specs.Cut.{lines_of}
 use Rattle.road_format.specs.Fields.{is_name}
@@ -113,12 +113,34 @@ an_import_of_nothing : command_of (codes "{\"import\":{\"at\":\"A\",\"edits\":[]
 unfolding road_format_on_literals
 an_import_of_nothing = refl
 
-another_form : command_of (codes "{\"import\":{\"at\":\"A\",\"edits\":[],\"form\":2}}") ≡ Err refusals.UnknownForm
+another_form : command_of (codes "{\"import\":{\"at\":\"A\",\"edits\":[],\"form\":3}}") ≡ Err refusals.UnknownForm
 unfolding road_format_on_literals
 another_form = refl
 
+no_form : command_of (codes "{\"import\":{\"at\":\"A\",\"edits\":[],\"form\":0}}") ≡ Err refusals.UnknownForm
+unfolding road_format_on_literals
+no_form = refl
+
+-- slowing chances for cars that stand came with the second form
+a_start : command_of (codes "{\"import\":{\"at\":\"A\",\"edits\":[[\"start\",0,0,1,64,5]],\"form\":2}}")
+    ≡ Ok (Import (codes "A") (record { object = Start 0; step = 0; stamp = record { count = 1; number = 64 }; value = Put 5 } ∷ []))
+unfolding road_format_on_literals
+a_start = refl
+
+a_start_in_the_first_form : command_of (codes "{\"import\":{\"at\":\"A\",\"edits\":[[\"start\",0,0,1,64,5]],\"form\":1}}") ≡ Err refusals.NotACommand
+unfolding road_format_on_literals
+a_start_in_the_first_form = refl
+
+a_start_in_the_third_form : command_of (codes "{\"import\":{\"at\":\"A\",\"edits\":[[\"start\",0,0,1,64,5]],\"form\":3}}") ≡ Err refusals.UnknownForm
+unfolding road_format_on_literals
+a_start_in_the_third_form = refl
+
+an_edit_of_a_start : command_of (codes "{\"edit\":{\"at\":\"A\",\"object\":[\"start\",0],\"step\":0,\"value\":65536}}") ≡ Ok (Edit (codes "A") (Start 0) 0 65536)
+unfolding road_format_on_literals
+an_edit_of_a_start = refl
+
 -- the edits are asked before the form
-no_edits_in_another_form : command_of (codes "{\"import\":{\"at\":\"A\",\"edits\":[[\"limit\",0,0,7,64]],\"form\":2}}") ≡ Err refusals.NotACommand
+no_edits_in_another_form : command_of (codes "{\"import\":{\"at\":\"A\",\"edits\":[[\"limit\",0,0,7,64]],\"form\":3}}") ≡ Err refusals.NotACommand
 unfolding road_format_on_literals
 no_edits_in_another_form = refl
 
@@ -245,7 +267,7 @@ an_edit_and_a_withdrawal : reply (replies.Edits (
     record { object = Limit 1; step = 10; stamp = record { count = 1; number = 0 }; value = Put 0 }
     ∷ record { object = Block 8; step = 4; stamp = record { count = 2; number = 0 }; value = Withdrawn }
     ∷ []))
-    ≡ codes "{\"edits\":[[\"limit\",1,10,1,0,0],[\"block\",8,4,2,0,null]],\"form\":1}\n"
+    ≡ codes "{\"edits\":[[\"limit\",1,10,1,0,0],[\"block\",8,4,2,0,null]],\"form\":2}\n"
 unfolding road_format_on_literals
 an_edit_and_a_withdrawal = refl
 
@@ -265,12 +287,12 @@ two_heads : reply (replies.Heads (codes "h") (
     record { object = Limit 1; step = 10; stamp = record { count = 1; number = 0 } }
     ∷ record { object = Block 8; step = 4; stamp = record { count = 2; number = 64 } }
     ∷ []))
-    ≡ codes "{\"form\":1,\"heads\":[[\"limit\",1,10,1,0],[\"block\",8,4,2,64]],\"message\":\"h\"}\n"
+    ≡ codes "{\"form\":2,\"heads\":[[\"limit\",1,10,1,0],[\"block\",8,4,2,64]],\"message\":\"h\"}\n"
 unfolding road_format_on_literals
 two_heads = refl
 
 a_withdrawal_beyond_heads : reply (replies.Delta (codes "d") (
     record { object = Block 8; step = 4; stamp = record { count = 2; number = 0 }; value = Withdrawn } ∷ []))
-    ≡ codes "{\"edits\":[[\"block\",8,4,2,0,null]],\"form\":1,\"message\":\"d\"}\n"
+    ≡ codes "{\"edits\":[[\"block\",8,4,2,0,null]],\"form\":2,\"message\":\"d\"}\n"
 unfolding road_format_on_literals
 a_withdrawal_beyond_heads = refl

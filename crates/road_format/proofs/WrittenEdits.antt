@@ -3,7 +3,7 @@ use Rattle.std.proofs.Common.{◌≡◌, ◌<◌, ◌^◌, ℕ, [], ◌∷◌, r
 use Rattle.std.proofs.lemmas.Bool.{lt-ltb}
 use Rattle.std.proofs.lemmas.List.Elements.{All-head, All-tail}
 use Rattle.road_plan.specs.declared.object.Object.{Object}
-use Rattle.road_plan.specs.declared.object.Object.TheVariants.{Limit, Slow, Block, Inflow, Watch}
+use Rattle.road_plan.specs.declared.object.Object.TheVariants.{Limit, Slow, Block, Inflow, Watch, Start}
 use Rattle.road_scenario.specs.declared.edit.Value.{Value}
 use Rattle.road_scenario.specs.declared.edit.Value.TheVariants.{Withdrawn, Put}
 use Rattle.road_scenario.specs.declared.edit.Edit.{Edit}
@@ -25,6 +25,7 @@ object_reads_back (Slow zone) = refl
 object_reads_back (Block cell) = refl
 object_reads_back (Inflow inlet) = refl
 object_reads_back (Watch detector) = refl
+object_reads_back (Start zone) = refl
 
 value_reads_back : (v : Value) → IsPutOf32Bits v → value_in (value_data v) ≡ Some v
 value_reads_back Withdrawn fits = refl

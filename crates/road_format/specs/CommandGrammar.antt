@@ -1,15 +1,17 @@
 -- Which lines are commands. A command is an object of one field, the command's name, whose value is the object of its
 -- fields: `at`, a replica's name, and those of the command.
-use Rattle.std.specs.Prelude.{ℕ, List, ◌==◌, codes, if◌then◌else◌, Option, Some, None, option_map, Result, Ok, Err}
+use Rattle.std.specs.Prelude.{ℕ, List, codes, if◌then◌else◌, Option, Some, None, option_map, Result, Ok, Err}
 use Rattle.std.specs.Str.{bytes_eq}
 use Rattle.serde_json.specs.Data.{Data}
 use Rattle.road_format.specs.Reading.{value_of}
 use Rattle.road_format.specs.Fields.{◌>>=◌, check, has_fields, only_field, name_at, number_at, long_number_at, list_at}
 use Rattle.road_format.specs.ObjectGrammar.{object_at}
 use Rattle.road_format.specs.EditGrammar as edit_grammar
+use Rattle.road_format.specs.Forms.{is_known, are_of_form}
 use Rattle.road_format.specs.Refusals.{result_or_refusal}
 use Rattle.road_scenario.specs.declared.edit.Edit as edit
 use Rattle.road_plan.specs.declared.object.Object.{Object}
+use Rattle.road_format.specs.declared.form.TheConstants.{LAST_FORM}
 use Rattle.road_format.specs.declared.refusal.Refusal.{Refusal}
 use Rattle.road_format.specs.declared.refusal.Refusal.TheVariants.{NotJson, NotACommand, UnknownForm}
 
@@ -110,11 +112,12 @@ local_of_name name at d =
 
 -- ---- edits from outside, and messages from replica to replica
 
--- exactly the fields `at`, `edits` and, which `form_of_name` reads, `form`
-unfoldable pub import_in : List ℕ → Data → Option Command
-import_in at d = do
+-- exactly the fields `at`, `edits` and, which `form_of_name` reads, `form`; the edits are such as the form has
+unfoldable pub import_in : ℕ → List ℕ → Data → Option Command
+import_in form at d = do
   exact ← check (has_fields 3 d)
   edits ← list_at edit_grammar.edit_in (codes "edits") d
+  formed ← check (are_of_form form edits)
   Some (Import at edits)
 
 -- the name at a field, of an object that has exactly this field and `at`
@@ -133,19 +136,19 @@ beyond_in at d = do
 
 -- ---- every command
 
--- the command of a name at a replica, with these fields
-unfoldable pub command_of_name : List ℕ → List ℕ → Data → Option Command
-command_of_name name at d =
-    if bytes_eq name (codes "import") then import_in at d
+-- the command of a name and a form at a replica, with these fields
+unfoldable pub command_of_name : List ℕ → ℕ → List ℕ → Data → Option Command
+command_of_name name form at d =
+    if bytes_eq name (codes "import") then import_in form at d
     else if bytes_eq name (codes "send") then option_map (Send at) (only_name (codes "name") d)
     else if bytes_eq name (codes "heads") then option_map (Heads at) (only_name (codes "name") d)
     else if bytes_eq name (codes "beyond") then beyond_in at d
     else if bytes_eq name (codes "take") then option_map (Take at) (only_name (codes "message") d)
     else local_of_name name at d
 
--- the form of a command of a name: what its `form` says where it has one, and else 1
+-- the form of a command of a name: what its `form` says where it has one, and else the last
 abbrev pub form_of_name : List ℕ → Data → Option ℕ
-form_of_name name d = if bytes_eq name (codes "import") then long_number_at (codes "form") d else Some 1
+form_of_name name d = if bytes_eq name (codes "import") then long_number_at (codes "form") d else Some LAST_FORM
 
 -- the form and the command that a value is
 unfoldable pub command_in : Data → Option (ℕ × Command)
@@ -153,12 +156,12 @@ command_in d = do
   field ← only_field d
   form ← form_of_name field.0 field.1
   at ← name_at (codes "at") field.1
-  command ← command_of_name field.0 at field.1
+  command ← command_of_name field.0 form at field.1
   Some (form, command)
 
--- the command, if its form is known: 1 alone is
+-- the command, if its form is known
 abbrev pub command_of_form : ℕ × Command → Result Command Refusal
-command_of_form read = if read.0 == 1 then Ok read.1 else Err UnknownForm
+command_of_form read = if is_known read.0 then Ok read.1 else Err UnknownForm
 
 -- the command that a line is, or its refusal: first a line that is no JSON, then a value that is no command, then a
 -- form that is not known

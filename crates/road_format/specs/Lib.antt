@@ -4,6 +4,7 @@ pub mod Reading
 pub mod Fields
 pub mod ObjectGrammar
 pub mod EditGrammar
+pub mod Forms
 pub mod Refusals
 pub mod CommandGrammar
 pub mod PlanGrammar

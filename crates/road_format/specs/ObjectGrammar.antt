@@ -4,7 +4,7 @@ use Rattle.std.specs.Str.{bytes_eq}
 use Rattle.serde_json.specs.Data.{Data}
 use Rattle.serde_json.specs.Find.{at, as_str}
 use Rattle.road_plan.specs.declared.object.Object.{Object}
-use Rattle.road_plan.specs.declared.object.Object.TheVariants.{Limit, Slow, Block, Inflow, Watch}
+use Rattle.road_plan.specs.declared.object.Object.TheVariants.{Limit, Slow, Block, Inflow, Watch, Start}
 use Rattle.road_format.specs.Fields.{◌>>=◌, number_in, items_at, two_items}
 
 -- the name of an object's kind
@@ -14,6 +14,7 @@ kind_of (Slow zone) = codes "slow"
 kind_of (Block cell) = codes "block"
 kind_of (Inflow inlet) = codes "inflow"
 kind_of (Watch detector) = codes "watch"
+kind_of (Start zone) = codes "start"
 
 -- its index among the objects of its kind
 abbrev pub index_of : Object → ℕ
@@ -22,6 +23,7 @@ index_of (Slow zone) = zone
 index_of (Block cell) = cell
 index_of (Inflow inlet) = inlet
 index_of (Watch detector) = detector
+index_of (Start zone) = zone
 
 -- the object of a kind and an index
 abbrev pub object_of : List ℕ → ℕ → Option Object
@@ -31,6 +33,7 @@ object_of kind index =
     else if bytes_eq kind (codes "block") then Some (Block index)
     else if bytes_eq kind (codes "inflow") then Some (Inflow index)
     else if bytes_eq kind (codes "watch") then Some (Watch index)
+    else if bytes_eq kind (codes "start") then Some (Start index)
     else None
 
 -- the object of these two values, a kind's name and an index

@@ -11,6 +11,7 @@ use Rattle.road_delta.specs.declared.heads.Head.{Head}
 use Rattle.road_format.specs.Cut.{newline}
 use Rattle.road_format.specs.ObjectGrammar.{kind_of, index_of}
 use Rattle.road_format.specs.Refusals.{text_of}
+use Rattle.road_format.specs.declared.form.TheConstants.{LAST_FORM}
 use Rattle.road_format.specs.declared.refusal.Refusal.{Refusal}
 
 -- what is answered to a line
@@ -92,15 +93,16 @@ data_of (Rows rows) = field_data (codes "rows") (list_data (map string rows))
 data_of (Stamped stamp) =
     field_data (codes "stamp") (list_data (number_data stamp.count ∷ number_data stamp.number ∷ []))
 data_of (Edits edits) =
-    object (member (codes "edits") (list_data (map edit_data edits)) (member (codes "form") (number_data 1) no_members))
+    object (member (codes "edits") (list_data (map edit_data edits))
+    (member (codes "form") (number_data LAST_FORM) no_members))
 data_of (Touched step) = field_data (codes "touched") (step_data step)
 data_of (Sent message size) =
     object (member (codes "message") (string message) (member (codes "size") (number_data size) no_members))
 data_of (Heads message heads) =
-    object (member (codes "form") (number_data 1) (member (codes "heads") (list_data (map head_data heads))
+    object (member (codes "form") (number_data LAST_FORM) (member (codes "heads") (list_data (map head_data heads))
     (member (codes "message") (string message) no_members)))
 data_of (Delta message edits) =
-    object (member (codes "edits") (list_data (map edit_data edits)) (member (codes "form") (number_data 1)
+    object (member (codes "edits") (list_data (map edit_data edits)) (member (codes "form") (number_data LAST_FORM)
     (member (codes "message") (string message) no_members)))
 
 -- the line that is written for an answer, as serde_json writes a value

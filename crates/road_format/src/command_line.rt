@@ -14,6 +14,7 @@ use crate::command::Command;
 use crate::exchange::{beyond_in, heads_in, import_in, send_in, take_in};
 use crate::faults::LineFault;
 use crate::fields::{long_number_at, name_at, only_field};
+use crate::form::{LAST_FORM, is_known};
 use crate::local::local_of_name;
 use crate::reading::value_in;
 use road_plan::OutOfMemory;
@@ -29,7 +30,7 @@ use std::alloc::Global;
 /// # Errors
 ///
 /// `NotJson` where the line is no JSON value, then `NotACommand` where the value is no command, then `UnknownForm` where
-/// its `form` is not 1. `OutOfMemory` may come in the place of any of them where the line has a byte. The length of the
+/// its `form` is not 1 or 2. `OutOfMemory` may come in the place of any of them where the line has a byte. The length of the
 /// line is not asked here.
 #[tactic(auto, using(crate::proofs::LineValues::length_of_value), unfolding(crate::specs::CommandGrammar::command_of))]
 pub fn read_command(alloc: Global, line: &[u8]) -> Result<Command, LineFault>
@@ -51,7 +52,7 @@ fn command_of_value(alloc: Global, value: &Value) -> Result<Command, LineFault>
         (result_or_refusal NotACommand (grammar.command_in (view value.now)) grammar.command_of_form) }
 {
     match command_in(alloc, value)? {
-        Some((1, command)) => Ok(command),
+        Some((form, command)) if is_known(form) => Ok(command),
         Some(_) => Err(LineFault::UnknownForm),
         None => Err(LineFault::NotACommand),
     }
@@ -73,35 +74,36 @@ fn command_in(alloc: Global, value: &Value) -> Result<Option<(u64, Command)>, Ou
         return Ok(None);
     };
     let at = String::from_str(alloc, at)?;
-    match command_of_name(alloc, name, at, fields)? {
+    match command_of_name(alloc, name, form, at, fields)? {
         Some(command) => Ok(Some((form, command))),
         None => Ok(None),
     }
 }
 
-// The form of a command of a name: what its `form` says where it has one, and else 1.
+// The form of a command of a name: what its `form` says where it has one, and else the last.
 fn form_of_name(name: &str, fields: &Value) -> Option<u64>
     ensures { result ≡ grammar.form_of_name name.now (view fields.now) }
 {
     match name {
         "import" => long_number_at("form", fields),
-        _ => Some(1),
+        _ => Some(LAST_FORM),
     }
 }
 
-// The command of a name at a replica, with these fields.
+// The command of a name and a form at a replica, with these fields.
 #[tactic(auto, unfolding(crate::specs::CommandGrammar::command_of_name))]
 fn command_of_name(
     alloc: Global,
     name: &str,
+    form: u64,
     at: String,
     fields: &Value,
 ) -> Result<Option<Command>, OutOfMemory>
     ensures { IfOk result (λ command. option_map command_view command
-        ≡ grammar.command_of_name name.now (string_bytes at) (view fields.now)) }
+        ≡ grammar.command_of_name name.now form (string_bytes at) (view fields.now)) }
 {
     match name {
-        "import" => import_in(alloc, at, fields),
+        "import" => import_in(alloc, form, at, fields),
         "send" => send_in(alloc, at, fields),
         "heads" => heads_in(alloc, at, fields),
         "beyond" => beyond_in(alloc, at, fields),

@@ -8,20 +8,22 @@ ghost use Rattle.road_format.specs.Views.{command_view};
 
 use crate::command::Command;
 use crate::fields::{has_fields, name_at};
+use crate::form::are_of_form;
 use crate::lists::list_at;
 use road_plan::OutOfMemory;
 use serde_json::Value;
 use std::alloc::Global;
 
-// The `import` at a replica, of exactly its fields; its `form` is read beside them.
+// The `import` of a form at a replica, of exactly its fields; its `form` is read beside them.
 #[tactic(auto, unfolding(crate::specs::CommandGrammar::import_in))]
 pub(crate) fn import_in(
     alloc: Global,
+    form: u64,
     at: String,
     fields: &Value,
 ) -> Result<Option<Command>, OutOfMemory>
     ensures { IfOk result (λ command. option_map command_view command
-        ≡ grammar.import_in (string_bytes at) (view fields.now)) }
+        ≡ grammar.import_in form (string_bytes at) (view fields.now)) }
 {
     if !has_fields(3, fields) {
         return Ok(None);
@@ -29,6 +31,9 @@ pub(crate) fn import_in(
     let Some(edits) = list_at(alloc, "edits", fields)? else {
         return Ok(None);
     };
+    if !are_of_form(form, &edits) {
+        return Ok(None);
+    }
     Ok(Some(Command::Import { at, edits }))
 }
 

@@ -36,6 +36,7 @@ pub(crate) fn kind_of(object: Object) -> &'static str
         Object::Block(_) => "block",
         Object::Inflow(_) => "inflow",
         Object::Watch(_) => "watch",
+        Object::Start(_) => "start",
     }
 }
 
@@ -44,7 +45,7 @@ pub(crate) fn index_of(object: Object) -> u32
     ensures { result ≡ objects.index_of object }
 {
     match object {
-        Object::Limit(zone) | Object::Slow(zone) => zone,
+        Object::Limit(zone) | Object::Slow(zone) | Object::Start(zone) => zone,
         Object::Block(cell) => cell,
         Object::Inflow(inlet) => inlet,
         Object::Watch(detector) => detector,
@@ -61,6 +62,7 @@ fn object_of(kind: &str, index: u32) -> Option<Object>
         "block" => Some(Object::Block(index)),
         "inflow" => Some(Object::Inflow(index)),
         "watch" => Some(Object::Watch(index)),
+        "start" => Some(Object::Start(index)),
         _ => None,
     }
 }

@@ -14,8 +14,10 @@ ghost use Rattle.road_format.specs.Replies.{
   reply,
 };
 ghost use Rattle.road_format.specs.Views.{texts, car_view, answer_view};
+ghost use Rattle.road_format.specs.declared.form.TheConstants.{LAST_FORM};
 
 use crate::answer::Answer;
+use crate::form::LAST_FORM;
 use crate::refusal::Refusal;
 use crate::written::list_value;
 use road_cells::Car;
@@ -171,11 +173,11 @@ fn edits_value(alloc: Global, edits: &[Edit]) -> Result<Value, OutOfMemory>
 fn edits_fields(alloc: Global, edits: &[Edit]) -> Result<Map<String, Value>, OutOfMemory>
     ensures { IfOk result (λ fields. members_view fields.entries
         ≡ member (codes "edits") (list_data (map edit_data edits.now))
-        (member (codes "form") (number_data 1) no_members)) }
+        (member (codes "form") (number_data LAST_FORM) no_members)) }
 {
     let edits = list_value(alloc, edits)?;
     let fields = with_field(alloc, Map::new(alloc), "edits", edits)?;
-    with_field(alloc, fields, "form", Value::from(1u32))
+    with_field(alloc, fields, "form", Value::from(LAST_FORM))
 }
 
 // The first step at which a number put is another than before.
@@ -199,7 +201,7 @@ fn heads_value(alloc: Global, message: &str, heads: &[Head]) -> Result<Value, Ou
     ensures { IfOk result (λ value. view value ≡ data_of (replies.Heads message.now heads.now)) }
 {
     let heads = list_value(alloc, heads)?;
-    let fields = with_field(alloc, Map::new(alloc), "form", Value::from(1u32))?;
+    let fields = with_field(alloc, Map::new(alloc), "form", Value::from(LAST_FORM))?;
     let fields = with_field(alloc, fields, "heads", heads)?;
     let fields = with_text(alloc, fields, "message", message)?;
     Ok(Value::Object(fields))

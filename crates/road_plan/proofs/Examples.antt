@@ -7,7 +7,7 @@ use Rattle.road_plan.specs.Refusals.{fault_of_plan}
 use Rattle.road_plan.specs.Objects.{is_in_plan, allows, default}
 use Rattle.road_plan.specs.declared.parts.WordKind.TheVariants.{Seeded}
 use Rattle.road_plan.specs.declared.faults.PlanFault.TheVariants.{Length, Exit, Zones, Inlets, Detectors, Default}
-use Rattle.road_plan.specs.declared.object.Object.TheVariants.{Limit, Slow, Block, Inflow, Watch}
+use Rattle.road_plan.specs.declared.object.Object.TheVariants.{Limit, Slow, Block, Inflow, Watch, Start}
 use Rattle.road_plan.specs.declared.limits.TheConstants as limits
 
 -- twelve cells, the last one deleted, with one zone, one inlet at the first cell and one detector
@@ -169,6 +169,9 @@ allowed_inflows = (refl, refl)
 allowed_watches : (allows (Watch 0) 1 ≡ true) × (allows (Watch 0) 2 ≡ false)
 allowed_watches = (refl, refl)
 
+allowed_starts : (allows (Start 0) 65536 ≡ true) × (allows (Start 0) 65537 ≡ false)
+allowed_starts = (refl, refl)
+
 zones_of_small : (is_in_plan small (Limit 0) ≡ true) × (is_in_plan small (Slow 1) ≡ false)
 zones_of_small = (refl, refl)
 
@@ -181,6 +184,9 @@ inlets_of_small = (refl, refl)
 detectors_of_small : (is_in_plan small (Watch 0) ≡ true) × (is_in_plan small (Watch 1) ≡ false)
 detectors_of_small = (refl, refl)
 
+starts_of_small : (is_in_plan small (Start 0) ≡ true) × (is_in_plan small (Start 1) ≡ false)
+starts_of_small = (refl, refl)
+
 numbers_of_small : (default small (Limit 0) ≡ 2) × (default small (Slow 0) ≡ 0) × (default small (Inflow 0) ≡ 65536)
 numbers_of_small = (refl, refl, refl)
 
@@ -192,10 +198,10 @@ states_of_small = (refl, refl)
 most_replicas : limits.MOST_REPLICAS ≡ 64
 most_replicas = refl
 
-last_edit_step : limits.LAST_EDIT_STEP ≡ 65535
+last_edit_step : limits.LAST_EDIT_STEP ≡ 1048575
 last_edit_step = refl
 
-greatest_horizon : limits.GREATEST_HORIZON ≡ 65536
+greatest_horizon : limits.GREATEST_HORIZON ≡ 1048576
 greatest_horizon = refl
 
 greatest_count : limits.GREATEST_COUNT ≡ 281474976710656

@@ -21,6 +21,8 @@ defaults_fit p within = record {
   blocks_rise = empty_rises;
   blocks_on_road = All-nil _;
   watch_each = length-map p.detectors _;
+  start_each = length-map p.zones _;
+  starts_allowed = All-map (λ chance. chance ≤ CERTAIN) _ p.zones within.chances_allowed;
 }
 
 -- so do settings that are equal to them

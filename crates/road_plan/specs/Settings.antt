@@ -6,13 +6,14 @@ use Rattle.road_plan.specs.Plan.{Plan}
 use Rattle.road_plan.specs.declared.limits.TheConstants.{GREATEST_LIMIT, CERTAIN}
 
 -- all settings of a road at one step: for each zone its speed limit and its slowing chance, for each inlet its inflow
--- chance, the blocked cells, and for each detector whether it is on
+-- chance, the blocked cells, for each detector whether it is on, and for each zone the slowing chance of standing cars
 pub record Settings : Type 0 where
   pub limits : List ℕ
   pub chances : List ℕ
   pub inflows : List ℕ
   pub blocks : List ℕ
   pub watched : List Bool
+  pub starts : List ℕ
 
 -- settings fit a plan where they have one allowed number for each of its zones, inlets and detectors, and the blocked
 -- cells rise and are on its road
@@ -26,8 +27,10 @@ pub record Fits (p : Plan) (s : Settings) : Type 0 where
   pub blocks_rise : IsStrictlyIncreasing s.blocks
   pub blocks_on_road : All (λ cell. cell < p.cells) s.blocks
   pub watch_each : length s.watched ≡ length p.detectors
+  pub start_each : length s.starts ≡ length p.zones
+  pub starts_allowed : All (λ chance. chance ≤ CERTAIN) s.starts
 
--- the plan's own settings: its numbers, no blocked cell, every detector on
+-- the plan's own settings: its numbers, no blocked cell, every detector on; standing cars are slowed like moving ones
 abbrev pub defaults : Plan → Settings
 defaults p = record {
   limits = map (λ zone. zone.0) p.zones;
@@ -35,4 +38,5 @@ defaults p = record {
   inflows = map (λ inlet. inlet.1) p.inlets;
   blocks = [];
   watched = map (λ site. true) p.detectors;
+  starts = map (λ zone. zone.1) p.zones;
 }

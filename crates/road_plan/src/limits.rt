@@ -19,9 +19,9 @@ pub const CERTAIN: u32 = 65_536;
 /// The most replicas of a world; they are numbered from 0.
 pub const MOST_REPLICAS: u32 = 64;
 /// The greatest step of an edit.
-pub const LAST_EDIT_STEP: u32 = 65_535;
+pub const LAST_EDIT_STEP: u32 = 1_048_575;
 /// The greatest horizon, in steps.
-pub const GREATEST_HORIZON: u32 = 65_536;
+pub const GREATEST_HORIZON: u32 = 1_048_576;
 /// The greatest count of a stamp; the least is 1.
 pub const GREATEST_COUNT: u64 = 281_474_976_710_656;
 /// The least number of an imported edit's stamp: smaller ones are the replicas'.

@@ -1,6 +1,6 @@
 //! What edits set: where it exists, what it takes, and what it is by default.
 
-ghost use Rattle.std.specs.Prelude.{◌≡◌, true};
+ghost use Rattle.std.specs.Prelude.{◌≡◌, true, false};
 ghost use Rattle.road_plan.specs.Objects as objects;
 
 use crate::limits::{CERTAIN, GREATEST_LIMIT};
@@ -20,6 +20,9 @@ pub enum Object {
     Inflow(u32),
     /// Whether a detector is on: 0 or 1.
     Watch(u32),
+    /// The slowing chance of a zone's standing cars, in 1/65,536 (slow-to-start). Where none is put, they are slowed by
+    /// the zone's slowing chance, as moving cars are.
+    Start(u32),
 }
 
 impl Object {
@@ -28,7 +31,9 @@ impl Object {
         ensures { result ≡ objects.is_in_plan plan.now self }
     {
         match self {
-            Object::Limit(zone) | Object::Slow(zone) => (zone as usize) < plan.zones().len(),
+            Object::Limit(zone) | Object::Slow(zone) | Object::Start(zone) => {
+                (zone as usize) < plan.zones().len()
+            }
             Object::Block(cell) => cell < plan.length(),
             Object::Inflow(inlet) => (inlet as usize) < plan.inlets().len(),
             Object::Watch(detector) => (detector as usize) < plan.detectors().len(),
@@ -42,15 +47,16 @@ impl Object {
     {
         match self {
             Object::Limit(_) => value <= GREATEST_LIMIT,
-            Object::Slow(_) | Object::Inflow(_) => value <= CERTAIN,
+            Object::Slow(_) | Object::Inflow(_) | Object::Start(_) => value <= CERTAIN,
             Object::Block(_) | Object::Watch(_) => value <= 1,
         }
     }
 
     /// What it is where nothing is put: the plan's number, no block, and a detector that is on. The plan must have the
-    /// object.
+    /// object, and it must not be the slowing chance of standing cars, for which a plan has no number.
     pub fn default(self, plan: &Plan) -> u32
-        requires { objects.is_in_plan plan.now self ≡ true }
+        requires in_plan { objects.is_in_plan plan.now self ≡ true }
+        requires own { objects.is_start self ≡ false }
         ensures { result ≡ objects.default plan.now self }
     {
         match self {
@@ -59,7 +65,15 @@ impl Object {
             Object::Block(_) => 0,
             Object::Inflow(inlet) => plan.inlets()[inlet as usize].1,
             Object::Watch(_) => 1,
+            Object::Start(_) => 0,
         }
+    }
+
+    /// Whether it is the slowing chance of a zone's standing cars.
+    pub fn is_start(self) -> bool
+        ensures { result ≡ objects.is_start self }
+    {
+        matches!(self, Object::Start(_))
     }
 
     /// Tells a proof that objects are ordered by their kinds, then by their indexes. It does nothing.

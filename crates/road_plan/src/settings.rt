@@ -24,6 +24,8 @@ pub struct Settings {
     pub blocks: Vec<u32>,
     /// For each detector whether it is on.
     pub watched: Vec<bool>,
+    /// For each zone the slowing chance of standing cars, in 1/65,536.
+    pub starts: Vec<u32>,
 }
 
 impl Model for Settings {
@@ -37,11 +39,13 @@ impl Model for Settings {
       inflows = s.inflows.items;
       blocks = s.blocks.items;
       watched = s.watched.items;
+      starts = s.starts.items;
     } };
 }
 
 impl Settings {
     /// The plan's own settings: its speed limits, slowing chances and inflows, no blocked cell, every detector on.
+    /// Standing cars are slowed like moving ones.
     ///
     /// # Errors
     ///
@@ -57,6 +61,7 @@ impl Settings {
             inflows: inflows_of(alloc, plan.inlets())?,
             blocks: Vec::new(alloc),
             watched: all_on(alloc, plan.detectors())?,
+            starts: chances_of(alloc, plan.zones())?,
         })
     }
 
@@ -75,12 +80,14 @@ impl Settings {
             × (length self.now.chances ≡ length plan.now.zones)
             × (length self.now.inflows ≡ length plan.now.inlets)
             × (length self.now.watched ≡ length plan.now.detectors)
+            × (length self.now.starts ≡ length plan.now.zones)
             ) }
     {
         self.limits.len() == plan.zones().len()
             && self.chances.len() == plan.zones().len()
             && self.inflows.len() == plan.inlets().len()
             && self.watched.len() == plan.detectors().len()
+            && self.starts.len() == plan.zones().len()
     }
 
     // Whether each is in its range.
@@ -89,11 +96,13 @@ impl Settings {
             All (λ n. n ≤ GREATEST_LIMIT) self.now.limits
             × All (λ n. n ≤ CERTAIN) self.now.chances
             × All (λ n. n ≤ CERTAIN) self.now.inflows
+            × All (λ n. n ≤ CERTAIN) self.now.starts
             ) }
     {
         are_at_most(self.limits.as_slice(), GREATEST_LIMIT)
             && are_at_most(self.chances.as_slice(), CERTAIN)
             && are_at_most(self.inflows.as_slice(), CERTAIN)
+            && are_at_most(self.starts.as_slice(), CERTAIN)
     }
 
     // Whether the blocked cells rise and are on the road.
@@ -138,6 +147,13 @@ impl Settings {
         ensures { result.now ≡ self.now.watched }
     {
         &self.watched
+    }
+
+    /// For each zone the slowing chance of standing cars, in 1/65,536.
+    pub fn starts(&self) -> &[u32]
+        ensures { result.now ≡ self.now.starts }
+    {
+        &self.starts
     }
 }
 

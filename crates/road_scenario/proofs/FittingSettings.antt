@@ -15,13 +15,13 @@ use Rattle.road_plan.specs.Settings.{Fits}
 use Rattle.road_plan.specs.Objects.{is_in_plan, allows, default}
 use Rattle.road_plan.specs.declared.limits.TheConstants.{GREATEST_LIMIT, CERTAIN}
 use Rattle.road_plan.specs.declared.object.Object.{Object}
-use Rattle.road_plan.specs.declared.object.Object.TheVariants.{Limit, Slow, Block, Inflow, Watch}
+use Rattle.road_plan.specs.declared.object.Object.TheVariants.{Limit, Slow, Block, Inflow, Watch, Start}
 use Rattle.road_scenario.specs.declared.edit.Edit.{Edit}
 use Rattle.road_scenario.specs.declared.edit.Value.{Value}
 use Rattle.road_scenario.specs.declared.edit.Value.TheVariants.{Withdrawn, Put}
 use Rattle.road_scenario.specs.Edits.{edit_cmp, put_number}
 use Rattle.road_scenario.specs.Faults.{is_value_allowed, IsInRange}
-use Rattle.road_scenario.specs.Settings.{is_put_up_to, latest_edit, setting_in, settings_in}
+use Rattle.road_scenario.specs.Settings.{is_put_up_to, latest_edit, number_in, setting_in, setting_without, settings_in}
 use Rattle.road_scenario.proofs.WalkedSettings.{same}
 
 -- the best of a list is in it
@@ -46,26 +46,31 @@ latest_in (f ∷ es) e h = subst (λ x. IsIn x (f ∷ es)) (the_one h) (best_in 
     the_one h = cc
 
 module _ (p : Plan) (limits : IsWithinLimits p) (es : List Edit) (each : (e : Edit) → IsIn e es → IsInRange p e) where
-  default_allowed : (o : Object) → is_in_plan p o ≡ true → allows o (default p o) ≡ true
-  default_allowed (Limit zone) h = le-leb _ _ (limits.speed_limits_allowed zone (0, 0) (ltb-true _ _ h))
-  default_allowed (Slow zone) h = le-leb _ _ (limits.chances_allowed zone (0, 0) (ltb-true _ _ h))
-  default_allowed (Block cell) h = refl
-  default_allowed (Inflow inlet) h = le-leb _ _ (limits.inflows_allowed inlet (0, 0) (ltb-true _ _ h))
-  default_allowed (Watch detector) h = refl
-
   taken_allowed : (o : Object) (v : Value) (d : ℕ) → is_some (put_number v) ≡ true → is_value_allowed o v ≡ true → allows o (unwrap_or (put_number v) d) ≡ true
   taken_allowed o Withdrawn d s t = absurd (true≢false (sym s))
   taken_allowed o (Put n) d s t = t
 
-  allowed : (step : ℕ) (o : Object) → is_in_plan p o ≡ true → allows o (setting_in p es o step) ≡ true
-  allowed step o h = elim (latest_edit (filter (is_put_up_to o step) es)) as (λ x. latest_edit (filter (is_put_up_to o step) es) ≡ x → allows o (unwrap_or (option_and_then (λ e. put_number e.value) x) (default p o)) ≡ true) [
-    | None ↦ λ _. default_allowed o h
+  -- the number in force is allowed, where what stands in its place is
+  number_allowed : (step : ℕ) (o : Object) (d : ℕ) → allows o d ≡ true → allows o (unwrap_or (number_in es step o) d) ≡ true
+  number_allowed step o d h = elim (latest_edit (filter (is_put_up_to o step) es)) as (λ x. latest_edit (filter (is_put_up_to o step) es) ≡ x → allows o (unwrap_or (option_and_then (λ e. put_number e.value) x) d) ≡ true) [
+    | None ↦ λ _. h
     | Some e ↦ λ is.
         let inside = kept_in (is_put_up_to o step) es e (latest_in (filter (is_put_up_to o step) es) e is) in
         let passes = and_parts _ _ inside.1 in
         let number = and_parts (nat_le e.step step) _ passes.1 in
-        taken_allowed o e.value (default p o) number.1 (ap (λ x. is_value_allowed x e.value) (sym (same e.object o passes.0)) ∙ (each e inside.0).value_allowed)
+        taken_allowed o e.value d number.1 (ap (λ x. is_value_allowed x e.value) (sym (same e.object o passes.0)) ∙ (each e inside.0).value_allowed)
   ] refl
+
+  without_allowed : (step : ℕ) (o : Object) → is_in_plan p o ≡ true → allows o (setting_without p (number_in es step) o) ≡ true
+  without_allowed step (Limit zone) h = le-leb _ _ (limits.speed_limits_allowed zone (0, 0) (ltb-true _ _ h))
+  without_allowed step (Slow zone) h = le-leb _ _ (limits.chances_allowed zone (0, 0) (ltb-true _ _ h))
+  without_allowed step (Block cell) h = refl
+  without_allowed step (Inflow inlet) h = le-leb _ _ (limits.inflows_allowed inlet (0, 0) (ltb-true _ _ h))
+  without_allowed step (Watch detector) h = refl
+  without_allowed step (Start zone) h = number_allowed step (Slow zone) (default p (Slow zone)) (le-leb _ _ (limits.chances_allowed zone (0, 0) (ltb-true _ _ h)))
+
+  allowed : (step : ℕ) (o : Object) → is_in_plan p o ≡ true → allows o (setting_in p es o step) ≡ true
+  allowed step o h = number_allowed step o (setting_without p (number_in es step) o) (without_allowed step o h)
 
   at_most : (step : ℕ) (o : Object) (most : ℕ) → is_in_plan p o ≡ true → ((n : ℕ) → allows o n ≡ nat_le n most) → setting_in p es o step ≤ most
   at_most step o most h is = leb-true _ _ (sym (is (setting_in p es o step)) ∙ allowed step o h)
@@ -108,4 +113,6 @@ module _ (p : Plan) (limits : IsWithinLimits p) (es : List Edit) (each : (e : Ed
     blocks_rise = IsStrictlyIncreasing-filter (λ c. setting_in p es (Block c) step == 1) (range_with_len 0 p.cells) (rising p.cells);
     blocks_on_road = passing (λ c. setting_in p es (Block c) step == 1) p.cells 0 p.cells (omega arith);
     watch_each = length-map-range_with_len (λ d. setting_in p es (Watch d) step == 1) 0 (length p.detectors);
+    start_each = length-map-range_with_len (λ z. setting_in p es (Start z) step) 0 (length p.zones);
+    starts_allowed = each_at (λ n. n ≤ CERTAIN) (λ z. setting_in p es (Start z) step) (length p.zones) (λ k l. at_most step (Start k) CERTAIN (lt-ltb _ _ l) (λ n. refl));
   }

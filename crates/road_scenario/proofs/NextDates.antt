@@ -3,7 +3,7 @@ use Rattle.std.specs.Prelude.{◌≡◌, ℕ, ◌<◌, ◌≤◌, min, ◌&&◌,
 use Rattle.std.specs.declared.option.Option.{Option}
 use Rattle.std.specs.declared.option.Option.TheVariants.{None, Some}
 use Rattle.std.specs.List.{AllByRecursion, filter, reduce}
-use Rattle.std.specs.Option.{option_and_then, unwrap_or}
+use Rattle.std.specs.Option.{option_and_then}
 use Rattle.std.specs.Ordering.{nat_cmp, is_eq, is_lt}
 use Rattle.std.specs.FinMap.Entries.{below_all, is_sorted}
 use Rattle.std.proofs.Common.{arith, sym, ap, ◌∙◌}
@@ -16,7 +16,7 @@ use Rattle.lattice_core.specs.Greatest.{is_nothing}
 use Rattle.lattice_core.specs.Instances.TestAnswers.{first_of_both, second_of_both}
 use Rattle.lattice_core.specs.Map.{IsHeld, entries_after, is_empty}
 use Rattle.lattice_core.specs.Sets.{items}
-use Rattle.road_plan.specs.Objects.{object_order, default}
+use Rattle.road_plan.specs.Objects.{object_order}
 use Rattle.road_plan.specs.Plan.{Plan}
 use Rattle.road_plan.specs.declared.object.Object.{Object}
 use Rattle.road_scenario.specs.declared.edit.Stamp.{Stamp}
@@ -24,7 +24,7 @@ use Rattle.road_scenario.specs.declared.edit.Value.{Value}
 use Rattle.road_scenario.specs.declared.edit.Edit.{Edit}
 use Rattle.road_scenario.specs.Edits.{Edits, put_number}
 use Rattle.road_scenario.specs.Registers.{Register, RegistersByStep, RegistersByObject, edit_with, edits_from_register, object_edits, edit_list, edit_set}
-use Rattle.road_scenario.specs.Settings.{is_put_up_to, latest_edit, all_settings, settings_of, next_date}
+use Rattle.road_scenario.specs.Settings.{is_put_up_to, latest_edit, all_settings, setting_by, settings_of, next_date}
 use Rattle.road_scenario.specs.Touched.{IsBefore}
 use Rattle.road_scenario.specs.Winners.{winners}
 use Rattle.road_scenario.specs.Private.RegisterWalks.{earlier_step, first_step_after, first_date_after}
@@ -111,4 +111,4 @@ settings_stay p edits from t order before =
     λ e i late. before_each (filter (is_after from) es) t before e (passing_in (is_after from) es e i (is_below from e.step late)) in
     let test : (o : Object) (e : Edit) → IsIn e es → is_put_up_to o t e ≡ is_put_up_to o from e =
     λ o e i. ap (λ (b : Bool). is_eq (object_order e.object o) && (b && is_some (put_number e.value))) (sym (same_side e.step from t order (after e i))) in
-    ap (all_settings p) (λ i o. unwrap_or (option_and_then (λ e. put_number e.value) (latest_edit (filter-same (is_put_up_to o t) (is_put_up_to o from) es (test o) i))) (default p o))
+    λ i. all_settings p (setting_by p (λ o. option_and_then (λ e. put_number e.value) (latest_edit (filter-same (is_put_up_to o t) (is_put_up_to o from) es (test o) i))))

@@ -2,7 +2,6 @@
 use Rattle.std.specs.Prelude.{◌≡◌, ℕ, true, false, [], ◌∷◌}
 use Rattle.std.specs.List.{AllByRecursion}
 use Rattle.std.specs.declared.option.Option.TheVariants.{None}
-use Rattle.std.specs.Option.{unwrap_or}
 use Rattle.std.proofs.Common.{sym, ap, ◌∙◌}
 use Rattle.std.proofs.lemmas.Bool.{true≢false}
 use Rattle.lattice_core.specs.declared.greatest.Greatest.TheVariants.{Nothing, Of}
@@ -12,12 +11,12 @@ use Rattle.lattice_core.specs.Sets.{items, contains}
 use Rattle.lattice_core.proofs.SetElements.{contains-items}
 use Rattle.road_plan.specs.Plan.{Plan, IsWithinLimits}
 use Rattle.road_plan.specs.Settings.{Fits, defaults}
-use Rattle.road_plan.specs.Objects.{is_in_plan, default}
+use Rattle.road_plan.specs.Objects.{is_in_plan}
 use Rattle.road_plan.specs.declared.object.Object.{Object}
 use Rattle.road_scenario.specs.Edits.{Edits}
 use Rattle.road_scenario.specs.Faults.{first_fault, AreInRange}
 use Rattle.road_scenario.specs.Registers.{Register, RegistersByStep, RegistersByObject, edit_with, edits_from_register, object_edits, edit_list, edit_set}
-use Rattle.road_scenario.specs.Settings.{setting, setting_in, settings_in, settings_of}
+use Rattle.road_scenario.specs.Settings.{setting, setting_by, setting_in, settings_in, settings_of}
 use Rattle.road_scenario.specs.Winners.{winners}
 use Rattle.road_scenario.specs.Private.RegisterWalks.{last_number, registers_of_object, settings_with_last_numbers}
 use Rattle.road_scenario.specs.Instances.RegisterLattice.{AreRegistersByStep}
@@ -31,7 +30,7 @@ use Rattle.road_scenario.proofs.FittingSettings as fitting
 pub winners-items : (m : RegistersByObject) → AreRegisters m → items (winners (edit_set m)) ≡ edit_list m
 winners-items m are = ap items (winners-edit_set m are) ∙ items-edit_set m are
 
-pub setting-edit_set : (p : Plan) (m : RegistersByObject) → AreRegisters m → (o : Object) (step : ℕ) → setting p (edit_set m) o step ≡ unwrap_or (last_number step (registers_of_object object_cmp m o)) (default p o)
+pub setting-edit_set : (p : Plan) (m : RegistersByObject) → AreRegisters m → (o : Object) (step : ℕ) → setting p (edit_set m) o step ≡ setting_by p (λ q. last_number step (registers_of_object object_cmp m q)) o
 setting-edit_set p m are o step = ap (λ es. setting_in p es o step) (winners-items m are) ∙ setting-edit_list p m are o step
 
 object_inside : (p : Plan) (o : Object) (steps : RegistersByStep) → IsHeld AreRegistersByStep is_empty steps → first_fault p (object_edits o steps) ≡ None → is_in_plan p o ≡ true

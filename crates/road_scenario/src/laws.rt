@@ -1,14 +1,15 @@
 //! What holds of all sets of edits, each on a function that does nothing. That scenarios agree whatever the order,
 //! grouping and repetition of their merges is `Lattice` for `Scenario`.
 
-ghost use Rattle.std.specs.Prelude.{◌≡◌, [], ◌∷◌, ℕ, List, true};
+ghost use Rattle.std.specs.Prelude.{◌≡◌, [], ◌∷◌, ℕ, List, None, true};
 ghost use Rattle.lattice_core.specs.Sets.{contains, empty, from_list};
 ghost use Rattle.lattice_core.specs.Tops.{TopsLaws};
 ghost use Rattle.road_plan.specs.Plan.{Plan};
 ghost use Rattle.road_scenario.specs.declared.edit.Edit.{Edit};
 ghost use Rattle.road_scenario.specs.Counts.{greatest_count};
 ghost use Rattle.road_scenario.specs.Edits.{Edits, edit_cmp, is_exceeded_by, edit_place};
-ghost use Rattle.road_scenario.specs.Settings.{settings_in, settings_of};
+ghost use Rattle.road_plan.specs.declared.object.Object.TheVariants.{Slow, Start};
+ghost use Rattle.road_scenario.specs.Settings.{number_in, setting_in, settings_in, settings_of};
 ghost use Rattle.road_scenario.specs.Touched.{IsBefore, first_touched_step};
 ghost use Rattle.road_scenario.specs.Winners.{winners, winners_in};
 
@@ -37,6 +38,13 @@ pub fn winners_decide()
     ensures touched { (edits others : Edits) →
         first_touched_step (winners edits) (winners others) ≡ first_touched_step edits others }
     ensures count { (edits : Edits) → greatest_count (winners edits) ≡ greatest_count edits }
+{}
+
+/// Where no number is in force for the slowing chance of a zone's standing cars, it is the zone's slowing chance at that
+/// step.
+pub fn standing_cars_follow_the_slowing_chance()
+    ensures { (plan : Plan) (edits : List Edit) (zone step : ℕ) → number_in edits step (Start zone) ≡ None →
+        setting_in plan edits (Start zone) step ≡ setting_in plan edits (Slow zone) step }
 {}
 
 /// Two sets of edits give the same settings at each step before the first that is touched: a run by the one can go on

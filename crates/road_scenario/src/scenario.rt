@@ -18,7 +18,7 @@ use crate::edit::Edit;
 use crate::faults::EditFault;
 use crate::listing::{all_edits, fault_of_first};
 use crate::registers::{RegistersByObject, RegistersByStep};
-use crate::settings::{number_of, put_all};
+use crate::settings::{number_of, put_all, setting_without};
 use crate::touched::{first_change, first_change_by};
 use lattice_core::lattice::Lattice;
 use lattice_core::map::LatMap;
@@ -144,8 +144,8 @@ impl Scenario {
     }
 
     /// The number in force for an object at a step, in the object's units: the one put by the latest-dated edit up to
-    /// that step which isn't a withdrawal, the default where there is none. The plan must have the object
-    /// (`Object::in_plan`).
+    /// that step which isn't a withdrawal, the default where there is none. In place of a default, the slowing chance of
+    /// standing cars has the zone's slowing chance at that step. The plan must have the object (`Object::in_plan`).
     pub fn setting(&self, plan: &Plan, object: Object, step: u32) -> u32
         requires { is_in_plan plan.now object ≡ true }
         ensures { result ≡ setting plan.now self.now object step }
@@ -153,7 +153,7 @@ impl Scenario {
         self.registers.known();
         match number_of(&self.registers, object, step) {
             Some(number) => number,
-            None => object.default(plan),
+            None => setting_without(&self.registers, plan, object, step),
         }
     }
 

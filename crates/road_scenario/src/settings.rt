@@ -2,14 +2,17 @@
 
 ghost use Rattle.std.specs.Prelude.{◌≡◌, true, OnErr, OnOk};
 ghost use Rattle.std.specs.List.{AllByRecursion};
+ghost use Rattle.road_plan.specs.Objects.{is_in_plan};
 ghost use Rattle.road_scenario.specs.Private.RegisterWalks as walks;
+ghost use Rattle.road_scenario.specs.Settings.{setting_without};
 
 use crate::edit::Value;
 use crate::registers::{RegistersByObject, RegistersByStep, Won};
 use lattice_core::greatest::Greatest;
-use road_plan::{Object, OutOfMemory, Settings};
+use road_plan::{Object, OutOfMemory, Plan, Settings};
 
-// Puts the last number of each object up to a step into the settings.
+// Puts the last number of each object up to a step into the settings. By the order of objects a zone's slowing chance
+// comes before that of its standing cars, and holds for these too where none of their own follows.
 pub(crate) fn put_all(
     settings: &mut Settings,
     registers: &RegistersByObject,
@@ -35,7 +38,10 @@ fn put(settings: &mut Settings, object: Object, number: u32) -> Result<(), OutOf
 {
     match object {
         Object::Limit(zone) => settings.limits[zone as usize] = number,
-        Object::Slow(zone) => settings.chances[zone as usize] = number,
+        Object::Slow(zone) => {
+            settings.chances[zone as usize] = number;
+            settings.starts[zone as usize] = number;
+        }
         Object::Block(cell) => {
             if number == 1 {
                 settings.blocks.push(cell)?;
@@ -43,8 +49,31 @@ fn put(settings: &mut Settings, object: Object, number: u32) -> Result<(), OutOf
         }
         Object::Inflow(inlet) => settings.inflows[inlet as usize] = number,
         Object::Watch(detector) => settings.watched[detector as usize] = number == 1,
+        Object::Start(zone) => settings.starts[zone as usize] = number,
     }
     Ok(())
+}
+
+// The setting of an object for which no number is in force: its default, and for the slowing chance of standing cars the
+// zone's slowing chance.
+pub(crate) fn setting_without(
+    registers: &RegistersByObject,
+    plan: &Plan,
+    object: Object,
+    step: u32,
+) -> u32
+    requires { is_in_plan plan.now object ≡ true }
+    ensures { result ≡ setting_without plan.now
+        (λ o. walks.last_number step (walks.registers_of_object (⟦<Object as Ord>⟧.cmp) registers.now o)) object }
+{
+    let Object::Start(zone) = object else {
+        return object.default(plan);
+    };
+    let slow = Object::Slow(zone);
+    match number_of(registers, slow, step) {
+        Some(number) => number,
+        None => slow.default(plan),
+    }
 }
 
 // The last number that an object's steps put up to a step.

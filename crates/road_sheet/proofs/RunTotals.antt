@@ -3,6 +3,7 @@ use Rattle.std.proofs.Common.{◌≡◌, ◌≤◌, ◌<◌, ◌+◌, ◌-◌, �
 use Rattle.std.specs.List.{range_with_len}
 use Rattle.std.proofs.lemmas.List.{map-append}
 use Rattle.road_plan.specs.Plan.{Plan}
+use Rattle.road_plan.specs.declared.limits.TheConstants.{GREATEST_HORIZON}
 use Rattle.road_plan.specs.Settings.{Settings}
 use Rattle.road_cells.specs.Array.{Array}
 use Rattle.road_ends.specs.Input.{StepInput, input_of, input_speeds}
@@ -40,14 +41,14 @@ passed_is p edits d t road input seen speeds vs passed is of_run new here are co
     ∙ ap (λ (x : StepInput). passes_at x (input_speeds x) d) is
     ∙ ap (λ (a : Array). passes_at (input_of p (settings_of p edits t) t a) (input_speeds (input_of p (settings_of p edits t) t a)) d) of_run
 
-pub cars_fit : (p : Plan) (course : Course) (d a b : ℕ) (totals passed : Totals) → BoundTotals p → PassOneByOne p → b ≤ 65536 → totals ≡ total p course d a b → passed ≡ passes p course d b → totals.cars + passed.cars < 2 ^ 32
+pub cars_fit : (p : Plan) (course : Course) (d a b : ℕ) (totals passed : Totals) → BoundTotals p → PassOneByOne p → b ≤ GREATEST_HORIZON → totals ≡ total p course d a b → passed ≡ passes p course d b → totals.cars + passed.cars < 2 ^ 32
 cars_fit p course d a b totals passed bounded alone early are is =
     let few = (bounded course d a b).few in
     let one = (alone course d b).one in
     let cars = ap (λ (x : Totals). x.cars) are in
     let car = ap (λ (x : Totals). x.cars) is in omega (arith, few, one, cars, car, early)
 
-pub speeds_fit : (p : Plan) (course : Course) (d a b : ℕ) (totals passed : Totals) → BoundTotals p → PassOneByOne p → b ≤ 65536 → totals ≡ total p course d a b → passed ≡ passes p course d b → totals.speeds + passed.speeds < 2 ^ 32
+pub speeds_fit : (p : Plan) (course : Course) (d a b : ℕ) (totals passed : Totals) → BoundTotals p → PassOneByOne p → b ≤ GREATEST_HORIZON → totals ≡ total p course d a b → passed ≡ passes p course d b → totals.speeds + passed.speeds < 2 ^ 32
 speeds_fit p course d a b totals passed bounded alone early are is =
     let most = (bounded course d a b).slow in
     let slow = (alone course d b).slow in
@@ -82,14 +83,14 @@ pub totals_in_parts : (p : Plan) (course : Course) (d a m b : ℕ) (x y : Totals
 totals_in_parts p course d a m b x y before after first rest = ap (λ (z : Totals). plus z y) first ∙ ap (plus (total p course d a m)) rest ∙ total_parted p course d a m b before after
 
 -- their sums fit
-pub cars_in_parts : (p : Plan) (course : Course) (d a m b : ℕ) (x y : Totals) → BoundTotals p → a ≤ m → m ≤ b → b ≤ 65536 → x ≡ total p course d a m → y ≡ total p course d m b → x.cars + y.cars < 2 ^ 32
+pub cars_in_parts : (p : Plan) (course : Course) (d a m b : ℕ) (x y : Totals) → BoundTotals p → a ≤ m → m ≤ b → b ≤ GREATEST_HORIZON → x ≡ total p course d a m → y ≡ total p course d m b → x.cars + y.cars < 2 ^ 32
 cars_in_parts p course d a m b x y bounded before after early first rest =
     let f = (bounded course d a m).few in
     let g = (bounded course d m b).few in
     let e = ap (λ (z : Totals). z.cars) first in
     let r = ap (λ (z : Totals). z.cars) rest in omega (arith, f, g, e, r, before, after, early)
 
-pub speeds_in_parts : (p : Plan) (course : Course) (d a m b : ℕ) (x y : Totals) → BoundTotals p → a ≤ m → m ≤ b → b ≤ 65536 → x ≡ total p course d a m → y ≡ total p course d m b → x.speeds + y.speeds < 2 ^ 32
+pub speeds_in_parts : (p : Plan) (course : Course) (d a m b : ℕ) (x y : Totals) → BoundTotals p → a ≤ m → m ≤ b → b ≤ GREATEST_HORIZON → x ≡ total p course d a m → y ≡ total p course d m b → x.speeds + y.speeds < 2 ^ 32
 speeds_in_parts p course d a m b x y bounded before after early first rest =
     let f = (bounded course d a m).slow in
     let g = (bounded course d m b).slow in

@@ -9,15 +9,16 @@ use road_plan::OutOfMemory;
 use std::alloc::Global;
 use std::marker::Model;
 
-// A car of a checkpoint, in 8 bytes.
+// A car of a checkpoint, in 6 bytes: of its number, which is below 2^24, the lower 16 bits and the upper 8.
 #[derive(Clone, Copy, Debug, PartialEq, Eq)]
 struct KeptCar {
-    number: u32,
+    low: u16,
     cell: u16,
+    high: u8,
     speed: u8,
 }
 
-// A road that is kept to go on from: its cars in 8 bytes each, in a list of exactly as many. Contracts see the road.
+// A road that is kept to go on from: its cars in 6 bytes each, in a list of exactly as many. Contracts see the road.
 #[derive(Drop)]
 pub(crate) struct Checkpoint {
     cars: Vec<KeptCar>,
@@ -90,8 +91,9 @@ fn kept_car(car: Car) -> KeptCar
     ensures { whole_car result ≡ car }
 {
     KeptCar {
-        number: car.number as u32,
+        low: (car.number % 65_536) as u16,
         cell: car.cell as u16,
+        high: (car.number / 65_536) as u8,
         speed: car.speed,
     }
 }
@@ -103,7 +105,7 @@ fn whole_cars(alloc: Global, kept: &[KeptCar]) -> Result<Vec<Car>, OutOfMemory>
     let mut cars = Vec::with_capacity(alloc, kept.len())?;
     for car in kept {
         cars.push(Car {
-            number: u64::from(car.number),
+            number: u64::from(car.low) + 65_536 * u64::from(car.high),
             cell: u32::from(car.cell),
             speed: car.speed,
         })?;

@@ -163,7 +163,7 @@ just_the_answer = computed_edits small 3 asking asking_answers refl 2 _ refl
 
 -- a replica is advanced, and then not so far
 abbrev advances : List Event
-advances = Advance 0 100 ∷ Advance 0 40 ∷ Advance 1 40 ∷ Advance 2 65537 ∷ []
+advances = Advance 0 100 ∷ Advance 0 40 ∷ Advance 1 40 ∷ Advance 2 1048577 ∷ []
 
 -- its horizon is the greatest step to which it was advanced
 abbrev advances_answers : EventAnswers

@@ -454,7 +454,7 @@ const COMMANDS: &[(&str, &str)] = &[
         UNKNOWN_FORM,
     ),
     (
-        "{\"import\":{\"at\":\"A\",\"edits\":[],\"form\":2}}",
+        "{\"import\":{\"at\":\"A\",\"edits\":[],\"form\":3}}",
         UNKNOWN_FORM,
     ),
     (
@@ -462,7 +462,7 @@ const COMMANDS: &[(&str, &str)] = &[
         UNKNOWN_FORM,
     ),
     (
-        "{\"import\":{\"at\":\"A\",\"edits\":[[\"limit\",0,0,7,64,2]],\"form\":2}}",
+        "{\"import\":{\"at\":\"A\",\"edits\":[[\"limit\",0,0,7,64,2]],\"form\":3}}",
         UNKNOWN_FORM,
     ),
     (
@@ -486,11 +486,11 @@ const COMMANDS: &[(&str, &str)] = &[
         NOT_A_COMMAND,
     ),
     (
-        "{\"import\":{\"at\":\"A\",\"edits\":[[\"limit\",0,0,7,64]],\"form\":2}}",
+        "{\"import\":{\"at\":\"A\",\"edits\":[[\"limit\",0,0,7,64]],\"form\":3}}",
         NOT_A_COMMAND,
     ),
     (
-        "{\"import\":{\"at\":\"A\",\"edits\":{},\"form\":2}}",
+        "{\"import\":{\"at\":\"A\",\"edits\":{},\"form\":3}}",
         NOT_A_COMMAND,
     ),
     (
@@ -812,7 +812,7 @@ const ANSWERS: &[(Said, &str)] = &[
     // empty lists
     (Said::Cars(&[]), "{\"cars\":[]}\n"),
     (Said::Rows(&[]), "{\"rows\":[]}\n"),
-    (Said::Edits(&[]), "{\"edits\":[],\"form\":1}\n"),
+    (Said::Edits(&[]), "{\"edits\":[],\"form\":2}\n"),
     // edits
     (
         Said::Stamped(Stamp {
@@ -823,7 +823,7 @@ const ANSWERS: &[(Said, &str)] = &[
     ),
     (
         Said::Edits(EDITS),
-        "{\"edits\":[[\"limit\",0,65535,281474976710656,65535,4294967295],[\"watch\",63,0,1,0,null]],\"form\":1}\n",
+        "{\"edits\":[[\"limit\",0,65535,281474976710656,65535,4294967295],[\"watch\",63,0,1,0,null]],\"form\":2}\n",
     ),
     // messages
     (
@@ -832,11 +832,11 @@ const ANSWERS: &[(Said, &str)] = &[
     ),
     (
         Said::Heads("h", HEADS),
-        "{\"form\":1,\"heads\":[[\"slow\",0,0,1,0],[\"inflow\",15,65535,281474976710656,65535]],\"message\":\"h\"}\n",
+        "{\"form\":2,\"heads\":[[\"slow\",0,0,1,0],[\"inflow\",15,65535,281474976710656,65535]],\"message\":\"h\"}\n",
     ),
     (
         Said::Delta("d", EDITS),
-        "{\"edits\":[[\"limit\",0,65535,281474976710656,65535,4294967295],[\"watch\",63,0,1,0,null]],\"form\":1,\"message\":\"d\"}\n",
+        "{\"edits\":[[\"limit\",0,65535,281474976710656,65535,4294967295],[\"watch\",63,0,1,0,null]],\"form\":2,\"message\":\"d\"}\n",
     ),
     // touched steps
     (Said::Touched(Some(65_535)), "{\"touched\":65535}\n"),

@@ -460,48 +460,65 @@ const TWO_ZONES: Parts = Parts {
     words: WordKind::Seeded(7),
 };
 
-/// Limits, chances, inflows, blocks, and how many detectors are on.
+/// Limits, chances, inflows, blocks, how many detectors are on, and the chances of cars that stand.
 type Numbers = (
     &'static [u32],
     &'static [u32],
     &'static [u32],
     &'static [u32],
     usize,
+    &'static [u32],
 );
 
 /// The own settings of the plan of two zones.
-const OWN: Numbers = (&[2, 1], &[10, 20], &[30], &[], 2);
+const OWN: Numbers = (&[2, 1], &[10, 20], &[30], &[], 2, &[10, 20]);
 
 /// Settings, and whether they fit the plan of two zones.
 const FITTING: &[(Numbers, bool)] = &[
     (OWN, true),
-    ((&[9, 0], &[65_536, 0], &[65_536], &[0, 5, 11], 2), true),
-    ((&[2], &[10, 20], &[30], &[], 2), false),
-    ((&[2, 1], &[10, 20, 0], &[30], &[], 2), false),
-    ((&[2, 1], &[10, 20], &[], &[], 2), false),
-    ((&[2, 1], &[10, 20], &[30], &[], 1), false),
-    ((&[2, 10], &[10, 20], &[30], &[], 2), false),
-    ((&[2, 1], &[65_537, 20], &[30], &[], 2), false),
-    ((&[2, 1], &[10, 20], &[65_537], &[], 2), false),
-    ((&[2, 1], &[10, 20], &[30], &[12], 2), false),
-    ((&[2, 1], &[10, 20], &[30], &[5, 3], 2), false),
-    ((&[2, 1], &[10, 20], &[30], &[3, 3], 2), false),
-    ((&[2, 1], &[10, 20], &[30], &[3, 4], 2), true),
+    (
+        (
+            &[9, 0],
+            &[65_536, 0],
+            &[65_536],
+            &[0, 5, 11],
+            2,
+            &[0, 65_536],
+        ),
+        true,
+    ),
+    ((&[2], &[10, 20], &[30], &[], 2, &[10, 20]), false),
+    ((&[2, 1], &[10, 20, 0], &[30], &[], 2, &[10, 20]), false),
+    ((&[2, 1], &[10, 20], &[], &[], 2, &[10, 20]), false),
+    ((&[2, 1], &[10, 20], &[30], &[], 1, &[10, 20]), false),
+    ((&[2, 1], &[10, 20], &[30], &[], 2, &[10]), false),
+    ((&[2, 10], &[10, 20], &[30], &[], 2, &[10, 20]), false),
+    ((&[2, 1], &[65_537, 20], &[30], &[], 2, &[10, 20]), false),
+    ((&[2, 1], &[10, 20], &[65_537], &[], 2, &[10, 20]), false),
+    ((&[2, 1], &[10, 20], &[30], &[], 2, &[10, 65_537]), false),
+    ((&[2, 1], &[10, 20], &[30], &[12], 2, &[10, 20]), false),
+    ((&[2, 1], &[10, 20], &[30], &[5, 3], 2, &[10, 20]), false),
+    ((&[2, 1], &[10, 20], &[30], &[3, 3], 2, &[10, 20]), false),
+    ((&[2, 1], &[10, 20], &[30], &[3, 4], 2, &[10, 20]), true),
 ];
 
 // Whether settings have these numbers, and all detectors are on.
-fn have(settings: &Settings, (limits, chances, inflows, blocks, watched): &Numbers) -> bool {
+fn have(
+    settings: &Settings,
+    (limits, chances, inflows, blocks, watched, starts): &Numbers,
+) -> bool {
     settings.limits() == *limits
         && settings.chances() == *chances
         && settings.inflows() == *inflows
         && settings.blocks() == *blocks
         && settings.watched().len() == *watched
         && settings.watched().iter().all(|on| *on)
+        && settings.starts() == *starts
 }
 
 fn settings_of(
     alloc: Global,
-    (limits, chances, inflows, blocks, watched): &Numbers,
+    (limits, chances, inflows, blocks, watched, starts): &Numbers,
 ) -> Result<Settings, OutOfMemory> {
     Ok(Settings {
         limits: limits.to_vec(alloc)?,
@@ -509,6 +526,7 @@ fn settings_of(
         inflows: inflows.to_vec(alloc)?,
         blocks: blocks.to_vec(alloc)?,
         watched: vec![in alloc; true; *watched]?,
+        starts: starts.to_vec(alloc)?,
     })
 }
 
@@ -529,8 +547,8 @@ fn knows_the_settings_that_fit(rt: HostRuntime) -> Result<(), Fail> {
     settings_fit(&rt, rt.alloc(), &plan)
 }
 
-/// Objects in their order, each with its own number in the free road's plan, where it is there, and the greatest that
-/// it allows.
+/// Objects in their order, each with its own number in the free road's plan, where it is there and has one, and the
+/// greatest that it allows.
 const OBJECTS: &[(Object, Option<u32>, u32)] = &[
     (Object::Limit(0), Some(2), 9),
     (Object::Limit(1), None, 9),
@@ -543,11 +561,13 @@ const OBJECTS: &[(Object, Option<u32>, u32)] = &[
     (Object::Inflow(1), None, 65_536),
     (Object::Watch(0), Some(1), 1),
     (Object::Watch(1), None, 1),
+    (Object::Start(0), None, 65_536),
+    (Object::Start(1), None, 65_536),
 ];
 
-// The own number of an object, where it is in the plan.
+// The own number of an object, where it is in the plan and has one.
 fn own_number(plan: &Plan, object: Object) -> Option<u32> {
-    if object.in_plan(plan) {
+    if object.in_plan(plan) && !object.is_start() {
         Some(object.default(plan))
     } else {
         None

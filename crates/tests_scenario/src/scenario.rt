@@ -497,7 +497,7 @@ const ALL_KINDS: &[Edit] = &[
     },
 ];
 
-/// Limits, slowing chances, inflows and blocked cells, and whether the detector is on.
+/// Limits, slowing chances, inflows and blocked cells, whether the detector is on, and the chances of cars that stand.
 #[derive(Clone, Copy)]
 struct Numbers {
     limits: &'static [u32],
@@ -505,6 +505,7 @@ struct Numbers {
     inflows: &'static [u32],
     blocks: &'static [u32],
     watched: &'static [bool],
+    starts: &'static [u32],
 }
 
 /// Steps, and the settings of the free road that these edits give.
@@ -517,6 +518,7 @@ const SETTINGS: &[(u32, Numbers)] = &[
             inflows: &[65_536],
             blocks: &[],
             watched: &[true],
+            starts: &[0],
         },
     ),
     (
@@ -527,6 +529,7 @@ const SETTINGS: &[(u32, Numbers)] = &[
             inflows: &[9],
             blocks: &[3, 8],
             watched: &[false],
+            starts: &[65_536],
         },
     ),
     (
@@ -537,6 +540,7 @@ const SETTINGS: &[(u32, Numbers)] = &[
             inflows: &[9],
             blocks: &[3, 8],
             watched: &[false],
+            starts: &[65_536],
         },
     ),
 ];
@@ -548,6 +552,7 @@ fn have(settings: &Settings, numbers: &Numbers) -> bool {
         && settings.inflows() == numbers.inflows
         && settings.blocks() == numbers.blocks
         && settings.watched() == numbers.watched
+        && settings.starts() == numbers.starts
 }
 
 // Whether a scenario acts so at a step.

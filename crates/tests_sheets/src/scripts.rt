@@ -51,11 +51,12 @@ impl Dice {
 
     // An edit of any object of the plan, one in seven a withdrawal.
     fn edit(&mut self, count: u64) -> Edit {
-        let (object, number) = match self.below(5) {
+        let (object, number) = match self.below(6) {
             0 => (Object::Limit(self.below(2)), self.below(10)),
             1 => (Object::Slow(self.below(2)), self.below(65_537)),
             2 => (Object::Block(self.below(24)), self.below(2)),
             3 => (Object::Inflow(self.below(2)), self.below(65_537)),
+            4 => (Object::Start(self.below(2)), self.below(65_537)),
             _ => (Object::Watch(self.below(2)), self.below(2)),
         };
         Edit {

@@ -124,7 +124,12 @@ fn speed(plan: &Plan, settings: &Settings, step: u32, road: &Road, place: usize)
         gap(plan, settings, road, place),
     );
     let word = PlanWords::of(plan).word(car.number, u64::from(step));
-    slowed(wished, word, settings.chances()[zone])
+    let chance = if car.speed == 0 {
+        settings.starts()[zone]
+    } else {
+        settings.chances()[zone]
+    };
+    slowed(wished, word, chance)
 }
 
 // The new speeds of all cars, in the order of the cars, car by car.

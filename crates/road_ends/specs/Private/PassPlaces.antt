@@ -1,5 +1,6 @@
 -- Where a pass over the cars stands.
-use Rattle.std.specs.Prelude.{◌≡◌, ℕ, ◌+◌, ◌-◌, ◌<◌, ◌≤◌, List, min, slice_index}
+use Rattle.std.specs.Prelude.{◌≡◌, ℕ, ◌+◌, ◌-◌, ◌<◌, ◌≤◌, ◌||◌, Bool, List, min, nat_eq, nat_le, slice_index}
+use Rattle.road_plan.specs.declared.limits.TheConstants.{CERTAIN}
 use Rattle.road_cells.specs.Cars.{cell_at}
 use Rattle.road_cells.specs.declared.car.TheConstants.{GREATEST_SPEED}
 use Rattle.road_cells.specs.declared.car.Car.{Car}
@@ -12,10 +13,15 @@ pub record IsNthOrNowhere (n k kth c : ℕ) : Type 0 where
   pub here : k < n → c ≡ kth
   pub none : n ≤ k → c ≡ NOWHERE
 
--- the speed limit and the slowing chance of a zone
-pub record AreOfZone (limits chances : List ℕ) (zone limit chance : ℕ) : Type 0 where
+-- the speed limit of a zone and its slowing chances, of standing and of moving cars
+pub record AreOfZone (limits starts chances : List ℕ) (zone limit standing moving : ℕ) : Type 0 where
   pub limit_is : limit ≡ slice_index limits zone
-  pub chance_is : chance ≡ slice_index chances zone
+  pub standing_is : standing ≡ slice_index starts zone
+  pub moving_is : moving ≡ slice_index chances zone
+
+-- whether a chance leaves nothing to a word: it never comes, or always
+abbrev pub is_closed : ℕ → Bool
+is_closed chance = nat_eq chance 0 || nat_le CERTAIN chance
 
 -- what the k-th car wants by rules 1 and 2 where the next car and the next blocked cell are at these cells
 abbrev pub wanted_before : List Car → ℕ → ℕ → ℕ → ℕ → ℕ

@@ -125,17 +125,19 @@ fn are_same_settings(settings: &Settings, other: &Settings) -> bool
     have_same_chances(settings, other) && have_same_places(settings, other)
 }
 
-// Whether these settings have the same limits, slowing chances and inflows.
+// Whether these settings have the same limits, slowing chances, of standing cars too, and inflows.
 fn have_same_chances(settings: &Settings, other: &Settings) -> bool
     ensures { IsTrue result ↔ (
         (settings.now.limits ≡ other.now.limits)
         × (settings.now.chances ≡ other.now.chances)
         × (settings.now.inflows ≡ other.now.inflows)
+        × (settings.now.starts ≡ other.now.starts)
         ) }
 {
     are_same_numbers(settings.limits(), other.limits())
         && are_same_numbers(settings.chances(), other.chances())
         && are_same_numbers(settings.inflows(), other.inflows())
+        && are_same_numbers(settings.starts(), other.starts())
 }
 
 // Whether these settings have the same blocked cells, and the same detectors on.

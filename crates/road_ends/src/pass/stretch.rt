@@ -1,16 +1,16 @@
 //! The cars of a stretch: cells of zones that are alike, none of which is blocked but the first, so that one speed
-//! limit, one slowing chance and one blocked cell in front hold for all of them. The loops here go from car to car
-//! without a branch, so that a compiler can take several cars at once.
+//! limit, the same slowing chances and one blocked cell in front hold for all of them. The loops here go from car to
+//! car without a branch, so that a compiler can take several cars at once.
 
-ghost use Rattle.std.specs.Prelude.{◌≡◌, ℕ, ◌+◌, ◌-◌, ◌/◌, ◌≤◌, ◌<◌, length, min, slice_index};
+ghost use Rattle.std.specs.Prelude.{◌≡◌, ℕ, ◌+◌, ◌-◌, ◌/◌, ◌^◌, ◌≤◌, ◌<◌, ◌&&◌, true, length, min, slice_index};
 ghost use Rattle.std.specs.List.Sorted.{IsNonDecreasing};
 ghost use Rattle.road_cells.specs.Cars.{cars_of, cell_at};
 ghost use Rattle.road_cells.specs.declared.car.TheConstants.{GREATEST_SPEED};
 ghost use Rattle.road_rules.specs.Speeds.{comes_about, slowed_speed, wanted_speed};
-ghost use Rattle.road_ends.specs.Speed.{nth_car};
-ghost use Rattle.road_ends.specs.Private.PassPlaces.{wanted_before};
+ghost use Rattle.road_ends.specs.Speed.{chance_at, nth_car};
+ghost use Rattle.road_ends.specs.Private.PassPlaces.{is_closed, wanted_before};
 
-use crate::chance::{slowed_by_chance, slowed_by_half};
+use crate::chance::{Chances, slowed_by_chance, slowed_by_half, slowed_without_word};
 use crate::columns::Columns;
 use crate::pass::{Cursor, free_between};
 use road_cells::{Car, GREATEST_SPEED, Road};
@@ -156,10 +156,11 @@ fn write_wanted_by_columns(
     }
 }
 
-// Rule 3 for the same cars, by the halves of their words.
+// Rule 3 for the same cars, by the halves of their words and the column of their speeds.
 pub(super) fn slow_by_halves(
     halves: &[u16],
-    chance: u32,
+    speeds: &[u8],
+    chances: Chances,
     first: usize,
     from: usize,
     to: usize,
@@ -167,16 +168,45 @@ pub(super) fn slow_by_halves(
 )
     requires order { from ≤ to }
     requires halves { to ≤ length halves.now }
+    requires speeds { to ≤ length speeds.now }
     requires from { first ≤ from }
     requires room { to - first ≤ length new.old }
     ensures long { length new.new ≡ length new.old }
     ensures rest { (k : ℕ) → to ≤ k → slice_index new.new (k - first) ≡ slice_index new.old (k - first) }
     ensures slowed { (k : ℕ) → from ≤ k → k < to → (word : ℕ)
         → (0 < slice_index new.old (k - first) → slice_index halves.now k ≡ word / 65536)
-        → slice_index new.new (k - first) ≡ slowed_speed (slice_index new.old (k - first)) (comes_about word chance) }
+        → slice_index new.new (k - first) ≡ slowed_speed (slice_index new.old (k - first))
+        (comes_about word (chance_at (slice_index speeds.now k) chances.standing chances.moving)) }
 {
     for place in from..to {
+        let chance = chances.at(speeds[place]);
         new[place - first] = slowed_by_half(halves[place], new[place - first], chance);
+    }
+}
+
+// Rule 3 for the same cars, by chances that leave nothing to their words.
+pub(super) fn slow_without_words(
+    cars: &[Car],
+    chances: Chances,
+    first: usize,
+    from: usize,
+    to: usize,
+    new: &mut [u8],
+)
+    requires order { from ≤ to }
+    requires cars { to ≤ length cars.now }
+    requires closed { (is_closed chances.standing && is_closed chances.moving) ≡ true }
+    requires from { first ≤ from }
+    requires room { to - first ≤ length new.old }
+    ensures long { length new.new ≡ length new.old }
+    ensures rest { (k : ℕ) → to ≤ k → slice_index new.new (k - first) ≡ slice_index new.old (k - first) }
+    ensures slowed { (k : ℕ) → from ≤ k → k < to → (word : ℕ) → word < 2 ^ 32
+        → slice_index new.new (k - first) ≡ slowed_speed (slice_index new.old (k - first))
+        (comes_about word (chance_at (nth_car cars.now k).speed chances.standing chances.moving)) }
+{
+    for place in from..to {
+        let chance = chances.at(cars[place].speed);
+        new[place - first] = slowed_without_word(new[place - first], chance);
     }
 }
 
@@ -185,7 +215,7 @@ pub(super) fn slow_by_words(
     words: &PlanWords,
     step: u32,
     cars: &[Car],
-    chance: u32,
+    chances: Chances,
     first: usize,
     from: usize,
     to: usize,
@@ -199,11 +229,13 @@ pub(super) fn slow_by_words(
     ensures rest { (k : ℕ) → to ≤ k → slice_index new.new (k - first) ≡ slice_index new.old (k - first) }
     ensures slowed { (k : ℕ) → from ≤ k → k < to →
         slice_index new.new (k - first) ≡ slowed_speed (slice_index new.old (k - first))
-        (comes_about (⟦<PlanWords as Words>⟧.word_of words.now (nth_car cars.now k).number step) chance) }
+        (comes_about (⟦<PlanWords as Words>⟧.word_of words.now (nth_car cars.now k).number step)
+        (chance_at (nth_car cars.now k).speed chances.standing chances.moving)) }
 {
     for place in from..to {
-        let number = cars[place].number;
+        let car = cars[place];
         let wished = new[place - first];
-        new[place - first] = slowed_by_chance(words, number, u64::from(step), wished, chance);
+        let chance = chances.at(car.speed);
+        new[place - first] = slowed_by_chance(words, car.number, u64::from(step), wished, chance);
     }
 }

@@ -6,7 +6,7 @@ use Rattle.lattice_core.specs.Exact.{IsExact, pair_cmp}
 use Rattle.lattice_core.specs.Instances.ExactOrders.{exact_by, exact_nat, exact_pair}
 use Rattle.road_plan.specs.Objects.{object_order, order_key}
 use Rattle.road_plan.specs.declared.object.Object.{Object}
-use Rattle.road_plan.specs.declared.object.Object.TheVariants.{Limit, Slow, Block, Inflow, Watch}
+use Rattle.road_plan.specs.declared.object.Object.TheVariants.{Limit, Slow, Block, Inflow, Watch, Start}
 use Rattle.road_plan.specs.contracts.object.ObjectOrd.TheImpl as derived
 
 -- the derived order of objects is that of their keys
@@ -16,26 +16,37 @@ ordered (Limit i) (Slow j) = refl
 ordered (Limit i) (Block j) = refl
 ordered (Limit i) (Inflow j) = refl
 ordered (Limit i) (Watch j) = refl
+ordered (Limit i) (Start j) = refl
 ordered (Slow i) (Limit j) = refl
 ordered (Slow i) (Slow j) = refl
 ordered (Slow i) (Block j) = refl
 ordered (Slow i) (Inflow j) = refl
 ordered (Slow i) (Watch j) = refl
+ordered (Slow i) (Start j) = refl
 ordered (Block i) (Limit j) = refl
 ordered (Block i) (Slow j) = refl
 ordered (Block i) (Block j) = refl
 ordered (Block i) (Inflow j) = refl
 ordered (Block i) (Watch j) = refl
+ordered (Block i) (Start j) = refl
 ordered (Inflow i) (Limit j) = refl
 ordered (Inflow i) (Slow j) = refl
 ordered (Inflow i) (Block j) = refl
 ordered (Inflow i) (Inflow j) = refl
 ordered (Inflow i) (Watch j) = refl
+ordered (Inflow i) (Start j) = refl
 ordered (Watch i) (Limit j) = refl
 ordered (Watch i) (Slow j) = refl
 ordered (Watch i) (Block j) = refl
 ordered (Watch i) (Inflow j) = refl
 ordered (Watch i) (Watch j) = refl
+ordered (Watch i) (Start j) = refl
+ordered (Start i) (Limit j) = refl
+ordered (Start i) (Slow j) = refl
+ordered (Start i) (Block j) = refl
+ordered (Start i) (Inflow j) = refl
+ordered (Start i) (Watch j) = refl
+ordered (Start i) (Start j) = refl
 
 -- the object of a key
 abbrev pub object_of : ℕ × ℕ → Object
@@ -43,7 +54,8 @@ object_of (zero, i) = Limit i
 object_of (suc zero, i) = Slow i
 object_of (suc (suc zero), i) = Block i
 object_of (suc (suc (suc zero)), i) = Inflow i
-object_of (suc (suc (suc (suc k))), i) = Watch i
+object_of (suc (suc (suc (suc zero))), i) = Watch i
+object_of (suc (suc (suc (suc (suc k)))), i) = Start i
 
 -- an object is that of its key
 pub object_back : (x : Object) → object_of (order_key x) ≡ x
@@ -52,6 +64,7 @@ object_back (Slow i) = refl
 object_back (Block i) = refl
 object_back (Inflow i) = refl
 object_back (Watch i) = refl
+object_back (Start i) = refl
 
 -- objects with the same key are the same
 pub same_object : (x y : Object) → order_key x ≡ order_key y → x ≡ y

@@ -1,5 +1,6 @@
 -- What the walks over a scenario's registers find.
-use Rattle.std.specs.Prelude.{ℕ, ◌==◌, Bool, true, cond, min, [], ◌∷◌, ◌++◌, slice_set, nat_le, nat_lt, length, nat_eq}
+use Rattle.std.specs.Prelude.{ℕ, ◌==◌, ◌&&◌, Bool, true, cond, min}
+use Rattle.std.specs.Prelude.{[], ◌∷◌, ◌++◌, slice_set, nat_le, nat_lt, length, nat_eq}
 use Rattle.std.specs.Option.{option_or, unwrap_or, option_and_then, option_eq}
 use Rattle.std.specs.Ordering.{nat_cmp}
 use Rattle.std.specs.FinMap.Entries.{find}
@@ -9,7 +10,7 @@ use Rattle.std.specs.declared.option.Option.TheVariants.{None, Some}
 use Rattle.lattice_core.specs.declared.greatest.Greatest.TheVariants.{Nothing, Of}
 use Rattle.road_plan.specs.Settings.{Settings}
 use Rattle.road_plan.specs.declared.object.Object.{Object}
-use Rattle.road_plan.specs.declared.object.Object.TheVariants.{Limit, Slow, Block, Inflow, Watch}
+use Rattle.road_plan.specs.declared.object.Object.TheVariants.{Limit, Slow, Block, Inflow, Watch, Start}
 use Rattle.road_scenario.specs.Edits.{put_number}
 use Rattle.road_scenario.specs.Registers.{Register, RegistersByStep, RegistersByObject}
 
@@ -27,21 +28,24 @@ abbrev pub last_number : ℕ → RegistersByStep → Option ℕ
 last_number step [] = None
 last_number step (e ∷ es) = option_or (last_number step es) (entry_number step e)
 
--- all settings with one number put
+-- all settings with one number put: a slowing chance holds for standing cars too, until one is put for these
 abbrev pub settings_with_number : Settings → Object → ℕ → Settings
 settings_with_number s (Limit zone) n = record s { limits = slice_set s.limits zone n }
-settings_with_number s (Slow zone) n = record s { chances = slice_set s.chances zone n }
+settings_with_number s (Slow zone) n =
+    record s { chances = slice_set s.chances zone n; starts = slice_set s.starts zone n }
 settings_with_number s (Block cell) n = record s { blocks = cond (n == 1) (s.blocks ++ cell ∷ []) s.blocks }
 settings_with_number s (Inflow inlet) n = record s { inflows = slice_set s.inflows inlet n }
 settings_with_number s (Watch detector) n = record s { watched = slice_set s.watched detector (n == 1) }
+settings_with_number s (Start zone) n = record s { starts = slice_set s.starts zone n }
 
 -- whether the settings have a place for an object: a blocked cell always has
 abbrev pub has_place : Settings → Object → Bool
 has_place s (Limit zone) = nat_lt zone (length s.limits)
-has_place s (Slow zone) = nat_lt zone (length s.chances)
+has_place s (Slow zone) = nat_lt zone (length s.chances) && nat_lt zone (length s.starts)
 has_place s (Block cell) = true
 has_place s (Inflow inlet) = nat_lt inlet (length s.inflows)
 has_place s (Watch detector) = nat_lt detector (length s.watched)
+has_place s (Start zone) = nat_lt zone (length s.starts)
 
 -- all settings with the number put, if there is one
 abbrev pub settings_with_optional : Settings → Object → Option ℕ → Settings

@@ -43,17 +43,30 @@ fn put_at(edits: &[Edit], object: Object, step: u32) -> Option<u32> {
     None
 }
 
-// The number put at the latest step up to this one at which one is put, else the default.
-fn setting(plan: &Plan, edits: &[Edit], object: Object, step: u32) -> u32 {
+// The number put at the latest step up to this one at which one is put.
+fn put_up_to(edits: &[Edit], object: Object, step: u32) -> Option<u32> {
     for earlier in (0..=step).rev() {
         if let Some(number) = put_at(edits, object, earlier) {
-            return number;
+            return Some(number);
         }
     }
-    if object.in_plan(plan) {
-        object.default(plan)
-    } else {
-        0
+    None
+}
+
+// That number, else the default; of cars that stand the slowing chance of the zone.
+fn setting(plan: &Plan, edits: &[Edit], object: Object, step: u32) -> u32 {
+    let own = match object {
+        Object::Start(zone) => Object::Slow(zone),
+        _ => object,
+    };
+    let number = match put_up_to(edits, object, step) {
+        Some(number) => Some(number),
+        None => put_up_to(edits, own, step),
+    };
+    match number {
+        Some(number) => number,
+        None if own.in_plan(plan) && !own.is_start() => own.default(plan),
+        None => 0,
     }
 }
 

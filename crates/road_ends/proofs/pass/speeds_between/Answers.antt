@@ -4,7 +4,7 @@ use Rattle.std.proofs.Math.Seq.{take-append_seam}
 use Rattle.std.proofs.lemmas.Bool.{cases_lt}
 use Rattle.std.proofs.lemmas.Grind.{get_or-set_at}
 use Rattle.std.proofs.lemmas.List.{length-set, get_or-set_other}
-use Rattle.std.specs.Prelude.{slice_index, slice_set, take, ◌++◌}
+use Rattle.std.specs.Prelude.{min, slice_index, slice_set, take, ◌++◌}
 use Rattle.road_cells.specs.Cars.{cars_of, cell_at}
 use Rattle.road_cells.specs.Gap.{ArePartedAt}
 use Rattle.road_cells.proofs.CarLists.{rise-cars_from}
@@ -41,6 +41,17 @@ zone_at-cursor-requires-clause-chances c =
     let read = ap length c.chances-chances.ensures in
     omega arith
 
+pub zone_at-cursor-requires-clause-starts : goal.zone_at-cursor-requires-clause-starts
+zone_at-cursor-requires-clause-starts c =
+    let long = ap length c.cars-cars.ensures.all in
+    let most = c.loop-place-test.true in
+    let last = c.loop-place.invariant.to_end in
+    let within = c.requires.within in
+    let inside = zone_in_plan c.args.plan.now c.args.road.now c.cars-cars.result.now (c.loop-place.place - 1) c.width-width.result c.known.ensures c.requires.on_road (omega arith) c.cars-cars.ensures.all c.width-width.ensures in
+    let each = c.requires.fits.start_each in
+    let read = ap length c.starts-starts.ensures in
+    omega arith
+
 pub zone_at-cursor-requires-clause-last : goal.zone_at-cursor-requires-clause-last
 zone_at-cursor-requires-clause-last c = λ cell after before.
     let a = c.args.road.now in
@@ -51,7 +62,8 @@ zone_at-cursor-requires-clause-last c = λ cell after before.
     let found = c.loop-place.invariant.alike front (omega arith) cell after (omega arith) in
     record {
       limit_is = found.limit_is ∙ (λ i. slice_index (sym c.limits-limits.ensures i) (cell / sym wide i));
-      chance_is = found.chance_is ∙ (λ i. slice_index (sym c.chances-chances.ensures i) (cell / sym wide i));
+      standing_is = found.standing_is ∙ (λ i. slice_index (sym c.starts-starts.ensures i) (cell / sym wide i));
+      moving_is = found.moving_is ∙ (λ i. slice_index (sym c.chances-chances.ensures i) (cell / sym wide i));
     }
 
 pub block_ahead-cursor-requires-clause-rising : goal.block_ahead-cursor-requires-clause-rising
@@ -170,13 +182,14 @@ loop-place-preserved c =
     subst (λ n. ArePartedAt s.blocks n block.reached) here (subst (λ (xs : List ℕ). ArePartedAt xs (cell_at c.cars-cars.result.now front) block.reached) c.blocks-blocks.ensures c.block_ahead-cursor.ensures.parted) in
     let named : IsNthOrNowhere (length s.blocks) block.reached (slice_index s.blocks block.reached) block.cell =
     subst (λ (xs : List ℕ). IsNthOrNowhere (length xs) block.reached (slice_index xs block.reached) block.cell) c.blocks-blocks.ensures c.block_ahead-cursor.ensures.named in
-    let alike : (cell : ℕ) → zone.start ≤ cell → cell ≤ cell_at (cars_of a) front → AreOfZone s.limits s.chances (zone_of p cell) zone.limit zone.chance =
+    let alike : (cell : ℕ) → zone.start ≤ cell → cell ≤ cell_at (cars_of a) front → AreOfZone s.limits s.starts s.chances (zone_of p cell) zone.limit zone.chances.standing zone.chances.moving =
     λ cell after before.
     let wide = c.width-width.ensures in
     let found = c.zone_at-cursor.ensures.alike cell after (omega arith) in
     record {
       limit_is = found.limit_is ∙ (λ i. slice_index (c.limits-limits.ensures i) (cell / wide i));
-      chance_is = found.chance_is ∙ (λ i. slice_index (c.chances-chances.ensures i) (cell / wide i));
+      standing_is = found.standing_is ∙ (λ i. slice_index (c.starts-starts.ensures i) (cell / wide i));
+      moving_is = found.moving_is ∙ (λ i. slice_index (c.chances-chances.ensures i) (cell / wide i));
     } in
     let ahead : IsNthOrNowhere (length (cars_of a)) (front + 1) (cell_at (cars_of a) (front + 1)) c.loop-place.cursor.next =
     subst (λ n. IsNthOrNowhere (length (cars_of a)) n (cell_at (cars_of a) n) c.loop-place.cursor.next) next c.loop-place.invariant.next in
@@ -185,15 +198,15 @@ loop-place-preserved c =
     let bound = c.block_ahead-cursor.ensures.bound in
     let rising = not_falling s.blocks c.requires.fits.blocks_rise in
     let at_front : c.new_speed.result ≡ slice_index (speeds p s c.args.step a) front =
-    pass_speed p s c.args.step a (source_word c.of-words.result) c.cars-cars.result.now c.deref.result.now front block.reached c.loop-place.cursor.next block.cell (zone_of p (cell_at (cars_of a) front)) zone.limit zone.chance c.new_speed.result
+    pass_speed p s c.args.step a (source_word c.of-words.result) c.cars-cars.result.now c.deref.result.now front block.reached c.loop-place.cursor.next block.cell (zone_of p (cell_at (cars_of a) front)) zone.limit zone.chances.standing zone.chances.moving c.new_speed.result
     c.requires.fits on_road (omega arith) rising (subst (λ (xs : List ℕ). AreHalves p.words c.args.step a xs) (sym c.deref.ensures.value) c.requires.halves) c.of-words.ensures c.cars-cars.ensures.all below parted ahead named refl (alike (cell_at (cars_of a) front) (omega arith) (omega arith))
     c.new_speed.ensures.by_half c.new_speed.ensures.by_word ∙ sym (speed_at p s c.args.step a front below) in
     let in_stretch : (k : ℕ) → from ≤ k → k < front → slice_index new (k - first) ≡ slice_index (speeds p s c.args.step a) k =
     λ k after before.
     let behind = c.first_car-from.ensures.behind k after before in
-    stretch_speed p s c.args.step a (source_word c.of-words.result) c.cars-cars.result.now c.args.columns.now.halves.items k front block.reached block.cell zone.start zone.limit zone.chance c.first_cell.result (slice_index new (k - first))
+    stretch_speed p s c.args.step a (source_word c.of-words.result) c.cars-cars.result.now c.args.columns.now.halves.items k front block.reached block.cell zone.start zone.limit zone.chances.standing zone.chances.moving c.first_cell.result (min (length c.args.columns.now.halves.items) (length c.args.columns.now.speeds.items)) (slice_index new (k - first))
     c.requires.fits on_road (omega arith) rising c.requires.halves c.of-words.ensures c.cars-cars.ensures.all before below parted named alike
-    c.first_cell.ensures.zone (λ i less. subst (λ (xs : List ℕ). slice_index xs i ≤ c.first_cell.result) c.blocks-blocks.ensures (c.first_cell.ensures.reached i less)) behind
+    c.first_cell.ensures.zone (λ i less. subst (λ (xs : List ℕ). slice_index xs i ≤ c.first_cell.result) c.blocks-blocks.ensures (c.first_cell.ensures.reached i less)) behind (omega arith)
     (λ more. c.speeds_behind.ensures.by_half more k after before) (λ none. c.speeds_behind.ensures.by_word none k after before)
     ∙ sym (speed_at p s c.args.step a k (omega arith)) in
     let done : (k : ℕ) → from ≤ k → k < end → slice_index new (k - first) ≡ slice_index (speeds p s c.args.step a) k =

@@ -17,7 +17,7 @@ invariant-loop-place l = record {
   reached : l.cursor.block.reached ≤ length l.settings.blocks;
   ahead : (i : ℕ) → l.cursor.block.reached ≤ i → i < length l.settings.blocks → (k : ℕ) → k < l.place → cell_at (cars_of l.road) k < slice_index l.settings.blocks i;
   block : IsNthOrNowhere (length l.settings.blocks) l.cursor.block.reached (slice_index l.settings.blocks l.cursor.block.reached) l.cursor.block.cell;
-  alike : (k : ℕ) → k < l.place → (c : ℕ) → l.cursor.zone.start ≤ c → c ≤ cell_at (cars_of l.road) k → AreOfZone l.settings.limits l.settings.chances (zone_of l.plan c) l.cursor.zone.limit l.cursor.zone.chance;
+  alike : (k : ℕ) → k < l.place → (c : ℕ) → l.cursor.zone.start ≤ c → c ≤ cell_at (cars_of l.road) k → AreOfZone l.settings.limits l.settings.starts l.settings.chances (zone_of l.plan c) l.cursor.zone.limit l.cursor.zone.chances.standing l.cursor.zone.chances.moving;
 }
 
 abbrev pub decreases-loop-place : goal.decreases-loop-place

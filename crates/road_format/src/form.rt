@@ -1,0 +1,35 @@
+//! The forms in which edits come from outside.
+
+ghost use Rattle.std.specs.Prelude.{◌≡◌, not};
+ghost use Rattle.std.specs.List.{list_all};
+ghost use Rattle.road_plan.specs.Objects.{is_start};
+ghost use Rattle.road_format.specs.Forms as forms;
+
+use road_scenario::Edit;
+
+/// The first form. It has no slowing chances for cars that stand.
+pub const FIRST_FORM: u64 = 1;
+
+/// The last form: that of replies.
+pub const LAST_FORM: u64 = 2;
+
+// Whether a form is known.
+pub(crate) fn is_known(form: u64) -> bool
+    ensures { result ≡ forms.is_known form }
+{
+    FIRST_FORM <= form && form <= LAST_FORM
+}
+
+// Whether edits may stand in a command of a form.
+pub(crate) fn are_of_form(form: u64, edits: &[Edit]) -> bool
+    ensures { result ≡ forms.are_of_form form edits.now }
+{
+    form != FIRST_FORM || have_no_start(edits)
+}
+
+// Whether none of these edits is of a slowing chance for cars that stand.
+fn have_no_start(edits: &[Edit]) -> bool
+    ensures { result ≡ list_all (λ e. not (is_start e.object)) edits.now }
+{
+    edits.iter().all(|edit| !edit.object.is_start())
+}
