@@ -36,7 +36,7 @@ fn forty_edits_in_four_orders(rt: HostRuntime) -> Result<(), Fail> {
         limits_from(alloc, 0)?,
         limits_from(alloc, 10)?,
         limits_from(alloc, 20)?,
-        limits_from(alloc, 30)?
+        limits_from(alloc, 30)?,
     ]?;
     let by_step = limits_from(alloc, 0)?;
     for _ in 0..TIMES {

@@ -35,7 +35,7 @@ fn the_first_faulty_edit_is_named(rt: HostRuntime) -> Result<(), Fail> {
     let shares: Vec<Vec<Edit>> = vec![in alloc;
         Vec::new(alloc),
         vec![in alloc; insider]?,
-        vec![in alloc; elsewhere]?
+        vec![in alloc; elsewhere]?,
     ]?;
     let far = 4_000_000;
     assert!(rt; shares_fault(&plan, shares.as_slice(), far) == Some(ReplicaFault::Insider));
