@@ -1,10 +1,12 @@
 -- Laws of the detectors of every run of a plan.
 use Rattle.std.specs.Prelude.{ℕ, ◌*◌, ◌-◌, ◌≤◌}
 use Rattle.road_plan.specs.Plan.{Plan}
+use Rattle.road_plan.specs.declared.limits.TheConstants.{GREATEST_HORIZON}
 use Rattle.road_cells.specs.declared.car.TheConstants.{GREATEST_SPEED}
 use Rattle.road_cells.specs.Cars.{cars_of}
 use Rattle.road_ends.specs.Run.{Course, run}
 use Rattle.road_detector.specs.Passes.{passes, total}
+use Rattle.road_detector.specs.declared.counts.Totals.{Totals}
 use Rattle.road_detector.specs.Rows.{HaveDigits}
 
 -- at most one car passes a site in one step, none faster than the greatest speed
@@ -24,6 +26,16 @@ pub record IsTotalBounded (p : Plan) (course : Course) (d a b : ℕ) : Type 0 wh
 -- every total of every run is at most one car for each of its steps, and the greatest speed for each
 abbrev pub BoundTotals : Plan → Type 0
 BoundTotals p = (course : Course) (d a b : ℕ) → IsTotalBounded p course d a b
+
+-- up to the greatest horizon a total is at most 1,048,576 cars and a sum of speeds of 9,437,184
+pub record IsTotalOfLongestRun (totals : Totals) : Type 0 where
+  pub few : totals.cars ≤ 1048576
+  pub slow : totals.speeds ≤ 9437184
+
+-- so is every total of every run
+abbrev pub BoundTotalsOfLongestRun : Plan → Type 0
+BoundTotalsOfLongestRun p = (course : Course) (d a b : ℕ) → b ≤ GREATEST_HORIZON
+    → IsTotalOfLongestRun (total p course d a b)
 
 -- the speed of each car of a run is a digit, so each state has a row
 abbrev pub HaveDigitsInRuns : Plan → Type 0

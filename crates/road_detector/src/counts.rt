@@ -21,8 +21,8 @@ pub struct Totals {
 }
 
 impl Totals {
-    /// These totals and those of further steps, in one. Both sums must be below 2^32, as those of a run are up to step
-    /// 65,536 ([`crate::laws::totals_are_bounded`]). It takes no memory.
+    /// These totals and those of further steps, in one. Both sums must be below 2^32, as those of a run are up to the
+    /// greatest horizon ([`crate::laws::totals_of_the_longest_run`]). It takes no memory.
     pub fn plus(self, later: Totals) -> Totals
         requires cars { self.cars + later.cars < 2 ^ 32 }
         requires speeds { self.speeds + later.speeds < 2 ^ 32 }

@@ -1,7 +1,7 @@
 //! Laws of the detectors of every run of a plan, for every course of settings. The functions do nothing when they run:
 //! each law is its function's contract.
 
-ghost use Rattle.road_detector.specs.Laws.{PassOneByOne, BoundTotals, HaveDigitsInRuns};
+ghost use Rattle.road_detector.specs.Laws.{PassOneByOne, BoundTotals, BoundTotalsOfLongestRun, HaveDigitsInRuns};
 
 use road_ends::laws::{cars_keep_below_greatest_speed, cars_never_collide, cars_stay_on_road};
 use road_plan::Plan;
@@ -20,6 +20,13 @@ pub fn totals_are_bounded(plan: &Plan)
 {
     cars_never_collide(plan);
     cars_keep_below_greatest_speed(plan);
+}
+
+/// A total up to the greatest horizon is at most 1,048,576 cars, and the sum of their speeds at most 9,437,184.
+pub fn totals_of_the_longest_run(plan: &Plan)
+    ensures { BoundTotalsOfLongestRun plan.now }
+{
+    totals_are_bounded(plan);
 }
 
 /// The speed of each car of a run is a digit, so that each state has a row of text.

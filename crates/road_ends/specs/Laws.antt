@@ -1,9 +1,9 @@
 -- Laws of every step and of every run of a plan.
-use Rattle.std.specs.Prelude.{◌≡◌, ℕ, ◌+◌, ◌*◌, ◌<◌, ◌≤◌, true, length}
+use Rattle.std.specs.Prelude.{◌≡◌, ℕ, ◌+◌, ◌*◌, ◌^◌, ◌<◌, ◌≤◌, true, length}
 use Rattle.std.specs.declared.option.Option.TheVariants.{Some}
 use Rattle.road_plan.specs.Plan.{Plan, exit_start}
 use Rattle.road_plan.specs.Settings.{Settings, Fits}
-use Rattle.road_plan.specs.declared.limits.TheConstants.{MOST_INLETS}
+use Rattle.road_plan.specs.declared.limits.TheConstants.{GREATEST_HORIZON, MOST_INLETS}
 use Rattle.road_cells.specs.Array.{Array, Vehicle, vehicle_at}
 use Rattle.road_cells.specs.Gap.{is_blocked}
 use Rattle.road_cells.specs.declared.car.TheConstants.{GREATEST_SPEED}
@@ -64,6 +64,12 @@ pub record IsOnRoad (p : Plan) (t c : ℕ) (car : Vehicle) : Type 0 where
 abbrev pub StayOnRoad : Plan → Type 0
 StayOnRoad p = (course : Course) (t c : ℕ) (car : Vehicle) → vehicle_at (run p course t) c ≡ Some car
     → IsOnRoad p t c car
+
+-- up to the greatest horizon a car's number has 24 bits
+abbrev pub HaveShortNumbers : Plan → Type 0
+HaveShortNumbers p = (course : Course) (t c : ℕ) (car : Vehicle) → t ≤ GREATEST_HORIZON
+    → vehicle_at (run p course t) c ≡ Some car
+    → car.number < 2 ^ 24
 
 -- locality: courses of settings that agree below step s give the same run up to s
 abbrev pub DependOnEarlierSettings : Plan → Type 0

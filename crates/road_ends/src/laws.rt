@@ -2,7 +2,7 @@
 //! The functions do nothing when they run: each law is its function's contract.
 
 ghost use Rattle.road_ends.specs.Laws.{HoldsInEachStep, KeepBelowGreatestSpeed, NeverCollide, ArriveAlone, KeepOrder, StopAtBlocks};
-ghost use Rattle.road_ends.specs.Laws.{HaveOwnNumbers, StayOnRoad, DependOnEarlierSettings};
+ghost use Rattle.road_ends.specs.Laws.{HaveOwnNumbers, HaveShortNumbers, StayOnRoad, DependOnEarlierSettings};
 
 use road_plan::Plan;
 
@@ -53,6 +53,13 @@ pub fn cars_stay_on_road(plan: &Plan)
     ensures { StayOnRoad plan.now }
 {
     plan.known();
+}
+
+/// Up to the greatest horizon each car's number is below 2^24.
+pub fn car_numbers_are_short(plan: &Plan)
+    ensures { HaveShortNumbers plan.now }
+{
+    cars_stay_on_road(plan);
 }
 
 /// Locality: settings from a step on change no state up to that step.

@@ -7,10 +7,10 @@ ghost use Rattle.road_format.specs.Forms as forms;
 
 use road_scenario::Edit;
 
-/// The first form. It has no slowing chances for cars that stand.
+/// The first form, which has no edits of kind `start`.
 pub const FIRST_FORM: u64 = 1;
 
-/// The last form: that of replies.
+/// The last form, in which replies are written.
 pub const LAST_FORM: u64 = 2;
 
 // Whether a form is known.
@@ -27,7 +27,7 @@ pub(crate) fn are_of_form(form: u64, edits: &[Edit]) -> bool
     form != FIRST_FORM || have_no_start(edits)
 }
 
-// Whether none of these edits is of a slowing chance for cars that stand.
+// Whether none of these edits is of kind `start`.
 fn have_no_start(edits: &[Edit]) -> bool
     ensures { result ≡ list_all (λ e. not (is_start e.object)) edits.now }
 {

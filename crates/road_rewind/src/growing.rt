@@ -21,7 +21,7 @@ use std::alloc::Global;
 /// greater of the old horizon and `to`. The old sheet stays as it is, and the new one shares with it each span that
 /// is right in both.
 ///
-/// The scenario must fit the sheet's plan, and `to` must be at most 65,536. The meter counts each step that is
+/// The scenario must fit the sheet's plan, and `to` must be at most 1,048,576. The meter counts each step that is
 /// computed: exactly those after the old horizon where no step below it is touched, and else those from the touched step
 /// on and at most 63 more.
 ///

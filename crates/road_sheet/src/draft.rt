@@ -61,7 +61,7 @@ impl Draft {
     }
 
     /// One step more, from its input and the new speeds of its cars. The input must be that of the next step, the
-    /// speeds must be those of its cars by the rules, and the horizon must be below 65,536.
+    /// speeds must be those of its cars by the rules, and the horizon must be below 1,048,576.
     ///
     /// # Errors
     ///

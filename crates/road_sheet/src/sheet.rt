@@ -120,8 +120,8 @@ impl Sheet {
         }
     }
 
-    /// That its edits win and fit the plan, and that its horizon is at most 65,536. It is a fact for proofs: the call
-    /// does nothing.
+    /// That its edits win and fit the plan, and that its horizon is at most 1,048,576. It is a fact for proofs: the
+    /// call does nothing.
     pub fn known(&self)
         ensures { IsSheet self.now }
     {

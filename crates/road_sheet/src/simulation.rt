@@ -195,7 +195,7 @@ pub fn row_of(
 /// at the first step.
 ///
 /// The scenario must fit the plan, and the first state must be one of the run by its edits, at a step that is not after
-/// `to`. `to` must be at most 65,536.
+/// `to`. `to` must be at most 1,048,576.
 ///
 /// # Errors
 ///
@@ -291,7 +291,7 @@ fn next_row(
 /// What a detector counts in the steps from that of a state up to another, and the state after them.
 ///
 /// The scenario must fit the plan, and the first state must be one of the run by its edits, at a step that is not after
-/// `to`. The plan must have the detector, and `to` must be at most 65,536.
+/// `to`. The plan must have the detector, and `to` must be at most 1,048,576.
 ///
 /// # Errors
 ///

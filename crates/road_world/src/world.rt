@@ -101,7 +101,7 @@ impl World {
     }
 
     /// That the replicas are at most 64, that the edits of each win and fit the plan, and its horizon is at most
-    /// 65,536, and that the edits that each message carries win and fit the plan. It is a fact for proofs: the call
+    /// 1,048,576, and that the edits that each message carries win and fit the plan. It is a fact for proofs: the call
     /// does nothing.
     pub fn known(&self)
         ensures few { length self.now.replicas ≤ MOST_REPLICAS }
