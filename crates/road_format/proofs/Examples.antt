@@ -121,11 +121,7 @@ no_form : command_of (codes "{\"import\":{\"at\":\"A\",\"edits\":[],\"form\":0}}
 unfolding road_format_on_literals
 no_form = refl
 
-<<<<<<< HEAD
--- slowing chances for cars that stand came with the second form
-=======
 -- the second form alone has edits of kind `start`
->>>>>>> 002cce2
 a_start : command_of (codes "{\"import\":{\"at\":\"A\",\"edits\":[[\"start\",0,0,1,64,5]],\"form\":2}}")
     ≡ Ok (Import (codes "A") (record { object = Start 0; step = 0; stamp = record { count = 1; number = 64 }; value = Put 5 } ∷ []))
 unfolding road_format_on_literals

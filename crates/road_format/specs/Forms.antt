@@ -9,10 +9,6 @@ use Rattle.road_format.specs.declared.form.TheConstants.{FIRST_FORM, LAST_FORM}
 abbrev pub is_known : ℕ → Bool
 is_known form = nat_le FIRST_FORM form && nat_le form LAST_FORM
 
-<<<<<<< HEAD
--- whether edits may stand in a command of a form: in the first there are no slowing chances for cars that stand
-=======
 -- whether edits may stand in a command of a form: the first has none of kind `start`
->>>>>>> 002cce2
 abbrev pub are_of_form : ℕ → List Edit → Bool
 are_of_form form edits = not (form == FIRST_FORM) || list_all (λ e. not (is_start e.object)) edits

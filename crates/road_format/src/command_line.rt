@@ -31,13 +31,8 @@ use std::alloc::Global;
 /// # Errors
 ///
 /// `NotJson` where the line is no JSON value, then `NotACommand` where the value is no command, then `UnknownForm` where
-<<<<<<< HEAD
-/// its `form` is not 1 or 2. `OutOfMemory` may come in the place of any of them where the line has a byte. The length of the
-/// line is not asked here.
-=======
 /// its `form` is neither 1 nor 2. `OutOfMemory` may come in the place of any of them where the line has a byte. The
 /// length of the line is not asked here.
->>>>>>> 002cce2
 #[tactic(auto, using(crate::proofs::LineValues::length_of_value), unfolding(crate::specs::CommandGrammar::command_of))]
 pub fn read_command(alloc: Global, line: &[u8]) -> Result<Command, LineFault>
     // The grammar's command, or its refusal; want of memory is none.
