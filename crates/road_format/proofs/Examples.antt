@@ -184,9 +184,9 @@ a_message_without_a_name = refl
 
 an_edit_and_a_withdrawal_in_two_shares : command_of (codes "{\"crowd\":{\"form\":2,\"shares\":[[[\"start\",0,0,1,64,5]],[[\"block\",8,4,2,65,null]]],\"to\":6}}")
     ≡ Ok (Crowd (
-        (record { object = Start 0; step = 0; stamp = record { count = 1; number = 64 }; value = Put 5 } ∷ [])
-        ∷ (record { object = Block 8; step = 4; stamp = record { count = 2; number = 65 }; value = Withdrawn } ∷ [])
-        ∷ []) 6)
+    (record { object = Start 0; step = 0; stamp = record { count = 1; number = 64 }; value = Put 5 } ∷ [])
+    ∷ (record { object = Block 8; step = 4; stamp = record { count = 2; number = 65 }; value = Withdrawn } ∷ [])
+    ∷ []) 6)
 unfolding road_format_on_literals
 an_edit_and_a_withdrawal_in_two_shares = refl
 
