@@ -5,7 +5,7 @@ use Rattle.serde_json.specs.Written.{has_float, compact_text}
 use Rattle.road_scenario.specs.declared.edit.Edit.{Edit}
 use Rattle.road_scenario.specs.declared.edit.Value as edits
 use Rattle.road_scenario.specs.declared.edit.Value.TheVariants.{Withdrawn, Put}
-use Rattle.road_format.specs.Replies.{Answer, Open, Refused, Horizon, Cells, Cars, Counted, Rows, Stamped, Edits, Touched, Sent, Heads, Delta, car_data, value_data, edit_data, head_data, list_data, data_of, reply}
+use Rattle.road_format.specs.Replies.{Answer, Open, Refused, Horizon, Cells, Cars, Counted, Rows, Stamped, Edits, Touched, Sent, Heads, Delta, Crowd, car_data, value_data, edit_data, head_data, list_data, data_of, reply}
 
 -- a list of values without fractions has none
 list_has_no_float : {A : Type 0} (data_of_one : A → Data) → ((x : A) → has_float (data_of_one x) ≡ false) → (xs : List A) → has_float (list_data (map data_of_one xs)) ≡ false
@@ -34,6 +34,7 @@ no_float (Touched (Some step)) = refl
 no_float (Sent message size) = refl
 no_float (Heads message heads) = rw (list_has_no_float head_data (λ head. refl) heads) refl
 no_float (Delta message edits) = rw (list_has_no_float edit_data edit_has_no_float edits) refl
+no_float (Crowd edits journal row) = rw (list_has_no_float edit_data edit_has_no_float edits) refl
 
 pub reply_is : (v : Data) (a : Answer) (text line : List ℕ) → (has_float v ≡ false → text ≡ compact_text v) → v ≡ data_of a → line ≡ text ++ 10 ∷ [] → line ≡ reply a
 unfolding reply

@@ -1,6 +1,8 @@
 -- Which lines are commands. A command is an object of one field, the command's name, whose value is the object of its
--- fields: `at`, a replica's name, and those of the command.
-use Rattle.std.specs.Prelude.{ℕ, List, codes, if◌then◌else◌, Option, Some, None, option_map, Result, Ok, Err}
+-- fields: those of the command and, where it is one at a replica, `at`, the replica's name.
+use Rattle.std.specs.Prelude.{ℕ, List, length, codes, Bool, ◌&&◌, ◌||◌, nat_lt, nat_le, if◌then◌else◌}
+use Rattle.std.specs.Prelude.{Option, Some, None, option_map, Result, Ok, Err}
+use Rattle.std.specs.List.{list_all}
 use Rattle.std.specs.Str.{bytes_eq}
 use Rattle.serde_json.specs.Data.{Data}
 use Rattle.road_format.specs.Reading.{value_of}
@@ -10,12 +12,13 @@ use Rattle.road_format.specs.EditGrammar as edit_grammar
 use Rattle.road_format.specs.Forms.{is_known, are_of_form}
 use Rattle.road_format.specs.Refusals.{result_or_refusal}
 use Rattle.road_scenario.specs.declared.edit.Edit as edit
+use Rattle.road_plan.specs.declared.limits.TheConstants.{MOST_SESSIONS}
 use Rattle.road_plan.specs.declared.object.Object.{Object}
 use Rattle.road_format.specs.declared.form.TheConstants.{LAST_FORM}
 use Rattle.road_format.specs.declared.refusal.Refusal.{Refusal}
 use Rattle.road_format.specs.declared.refusal.Refusal.TheVariants.{NotJson, NotACommand, UnknownForm}
 
--- a command, with the text of the replica's name and what stands at its other fields
+-- a command, with what stands at its fields, of a name its text
 pub data Command : Type 0 where
   -- at, object, step, value
   Edit : List ℕ → Object → ℕ → ℕ → Command
@@ -43,6 +46,8 @@ pub data Command : Type 0 where
   Beyond : List ℕ → List ℕ → List ℕ → Command
   -- at, message
   Take : List ℕ → List ℕ → Command
+  -- shares, to
+  Crowd : List (List edit.Edit) → ℕ → Command
 
 -- ---- what a replica is told and asked for itself
 
@@ -134,11 +139,9 @@ beyond_in at d = do
   name ← name_at (codes "name") d
   Some (Beyond at heads name)
 
--- ---- every command
-
 -- the command of a name and a form at a replica, with these fields
-unfoldable pub command_of_name : List ℕ → ℕ → List ℕ → Data → Option Command
-command_of_name name form at d =
+unfoldable pub command_at : List ℕ → ℕ → List ℕ → Data → Option Command
+command_at name form at d =
     if bytes_eq name (codes "import") then import_in form at d
     else if bytes_eq name (codes "send") then option_map (Send at) (only_name (codes "name") d)
     else if bytes_eq name (codes "heads") then option_map (Heads at) (only_name (codes "name") d)
@@ -146,17 +149,44 @@ command_of_name name form at d =
     else if bytes_eq name (codes "take") then option_map (Take at) (only_name (codes "message") d)
     else local_of_name name at d
 
+-- ---- shares of edits, each for a session of its own
+
+-- a crowd has one share at least, and not too many
+abbrev pub are_few_shares : List (List edit.Edit) → Bool
+are_few_shares shares = nat_lt 0 (length shares) && nat_le (length shares) MOST_SESSIONS
+
+-- exactly the fields `shares`, `to` and, which `form_of_name` reads, `form`; each share's edits are such as the form has
+unfoldable pub crowd_in : ℕ → Data → Option Command
+crowd_in form d = do
+  exact ← check (has_fields 3 d)
+  shares ← list_at edit_grammar.edits_in (codes "shares") d
+  few ← check (are_few_shares shares)
+  formed ← check (list_all (are_of_form form) shares)
+  to ← number_at (codes "to") d
+  Some (Crowd shares to)
+
+-- ---- every command
+
+-- whether the command of a name has the field `form`
+abbrev pub has_form : List ℕ → Bool
+has_form name = bytes_eq name (codes "import") || bytes_eq name (codes "crowd")
+
 -- the form of a command of a name: what its `form` says where it has one, and else the last
 abbrev pub form_of_name : List ℕ → Data → Option ℕ
-form_of_name name d = if bytes_eq name (codes "import") then long_number_at (codes "form") d else Some LAST_FORM
+form_of_name name d = if has_form name then long_number_at (codes "form") d else Some LAST_FORM
+
+-- the command of a name and a form, with these fields: a crowd, or what stands at a replica
+unfoldable pub command_of_name : List ℕ → ℕ → Data → Option Command
+command_of_name name form d =
+    if bytes_eq name (codes "crowd") then crowd_in form d
+    else name_at (codes "at") d >>= λ at. command_at name form at d
 
 -- the form and the command that a value is
 unfoldable pub command_in : Data → Option (ℕ × Command)
 command_in d = do
   field ← only_field d
   form ← form_of_name field.0 field.1
-  at ← name_at (codes "at") field.1
-  command ← command_of_name field.0 form at field.1
+  command ← command_of_name field.0 form field.1
   Some (form, command)
 
 -- the command, if its form is known

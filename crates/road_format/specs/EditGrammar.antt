@@ -1,12 +1,13 @@
 -- How edits are read: lists of a kind's name, an index, a step, a count, a writer's number, and a value.
-use Rattle.std.specs.Prelude.{if◌then◌else◌, Option, Some, option_map, is_some}
+use Rattle.std.specs.Prelude.{List, if◌then◌else◌, Option, Some, option_map, is_some}
 use Rattle.serde_json.specs.Data.{Data}
-use Rattle.serde_json.specs.Find.{at, as_null}
+use Rattle.serde_json.specs.Find.{at, as_array, as_null}
 use Rattle.road_scenario.specs.declared.edit.Stamp.{Stamp}
 use Rattle.road_scenario.specs.declared.edit.Value.{Value}
 use Rattle.road_scenario.specs.declared.edit.Value.TheVariants.{Withdrawn, Put}
 use Rattle.road_scenario.specs.declared.edit.Edit.{Edit}
 use Rattle.road_format.specs.Fields.{◌>>=◌, check, number_in, long_number_in, short_number_in, has_items}
+use Rattle.road_format.specs.Fields.{values_of_items}
 use Rattle.road_format.specs.ObjectGrammar.{object_in_front}
 
 -- what an edit does, by its value: null for a withdrawal, else the number that it puts
@@ -29,3 +30,7 @@ edit_in d = do
   stamp ← stamp_in d
   value ← at 5 d >>= value_in
   Some (record { object = object; step = step; stamp = stamp; value = value })
+
+-- the edits that a list is
+abbrev pub edits_in : Data → Option (List Edit)
+edits_in d = as_array d >>= values_of_items edit_in

@@ -41,6 +41,8 @@ pub data Answer : Type 0 where
   Heads : List ℕ → List Head → Answer
   -- the name of a message, and the edits that it has
   Delta : List ℕ → List Edit → Answer
+  -- the winners of a crowd's edits, how many writes its sessions made, and the text of its last row of cells
+  Crowd : List Edit → ℕ → List ℕ → Answer
 
 -- a whole number
 abbrev pub number_data : ℕ → Data
@@ -104,6 +106,9 @@ data_of (Heads message heads) =
 data_of (Delta message edits) =
     object (member (codes "edits") (list_data (map edit_data edits)) (member (codes "form") (number_data LAST_FORM)
     (member (codes "message") (string message) no_members)))
+data_of (Crowd edits journal row) =
+    object (member (codes "edits") (list_data (map edit_data edits)) (member (codes "form") (number_data LAST_FORM)
+    (member (codes "journal") (number_data journal) (member (codes "row") (string row) no_members))))
 
 -- the line that is written for an answer, as serde_json writes a value
 unfoldable pub reply : Answer → List ℕ

@@ -1,5 +1,5 @@
 -- What the code's values say: their texts as bytes.
-use Rattle.std.specs.Prelude.{◌≡◌, ℕ, List, map, Option, Some, None, Result, Ok, Err, String, string_bytes}
+use Rattle.std.specs.Prelude.{◌≡◌, ℕ, List, map, Option, Some, None, Result, Ok, Err, String, string_bytes, Vec}
 use Rattle.std.specs.declared.alloc.Global.{Global}
 use Rattle.road_format.specs.CommandGrammar as grammar
 use Rattle.road_format.specs.PlanGrammar as plan_grammar
@@ -9,12 +9,17 @@ use Rattle.road_format.specs.declared.command.Command.{Command}
 use Rattle.road_format.specs.declared.command.Command.TheVariants as commands
 use Rattle.road_format.specs.declared.plan_line.PlanLine.{PlanLine}
 use Rattle.road_cells.specs.declared.car.Car.{Car}
+use Rattle.road_scenario.specs.declared.edit.Edit.{Edit}
 use Rattle.road_format.specs.declared.answer.Answer.{Answer}
 use Rattle.road_format.specs.declared.answer.Answer.TheVariants as answers
 
 -- the bytes of each text
 abbrev pub texts : List (String Global) → List (List ℕ)
 texts names = map string_bytes names
+
+-- the edits of each share
+abbrev pub shares_view : List (Vec Edit Global) → List (List Edit)
+shares_view shares = map (λ share. share.items) shares
 
 -- what a command says
 abbrev pub command_view : Command → grammar.Command
@@ -32,6 +37,7 @@ command_view (commands.Heads at name) = grammar.Heads (string_bytes at) (string_
 command_view (commands.Beyond at heads name) =
     grammar.Beyond (string_bytes at) (string_bytes heads) (string_bytes name)
 command_view (commands.Take at message) = grammar.Take (string_bytes at) (string_bytes message)
+command_view (commands.Crowd shares to) = grammar.Crowd (shares_view shares.items) to
 
 -- what a plan line says
 abbrev pub plan_line_view : PlanLine → plan_grammar.PlanLine
@@ -56,6 +62,7 @@ answer_view (answers.Touched step) = replies.Touched step
 answer_view (answers.Sent message size) = replies.Sent (string_bytes message) size
 answer_view (answers.Heads message heads) = replies.Heads (string_bytes message) heads.items
 answer_view (answers.Delta message edits) = replies.Delta (string_bytes message) edits.items
+answer_view (answers.Crowd edits journal row) = replies.Crowd edits.items journal (string_bytes row)
 
 -- ---- what was returned, beside what the grammar gives
 

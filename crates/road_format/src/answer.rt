@@ -57,4 +57,13 @@ pub enum Answer {
         /// The edits, by object and step.
         edits: Vec<Edit>,
     },
+    /// What the sessions of a crowd left.
+    Crowd {
+        /// The winners of all their edits, by object and step.
+        edits: Vec<Edit>,
+        /// How many writes they made: one for each edit, and one for each session's advance.
+        journal: u32,
+        /// The last row of cells, a character for each cell.
+        row: String,
+    },
 }

@@ -109,4 +109,11 @@ pub enum Command {
         /// The name of the message.
         message: String,
     },
+    /// That sessions of a road of their own, one for each share, take edits and advance, all at once.
+    Crowd {
+        /// The edits of each share, in the order of the line: 1 to 8 shares.
+        shares: Vec<Vec<Edit>>,
+        /// The step to which each session advances.
+        to: u32,
+    },
 }

@@ -11,6 +11,7 @@ ghost use Rattle.road_format.specs.Private.UncheckedViews.{formed_view};
 ghost use Rattle.road_format.specs.declared.faults.LineFault.TheVariants as line_faults;
 
 use crate::command::Command;
+use crate::crowd::crowd_in;
 use crate::exchange::{beyond_in, heads_in, import_in, send_in, take_in};
 use crate::faults::LineFault;
 use crate::fields::{long_number_at, name_at, only_field};
@@ -22,11 +23,11 @@ use serde_json::Value;
 use std::alloc::Global;
 
 /// The command that a line is: an object of one field, whose name is that of a variant of `Command` in small letters,
-/// and whose value is an object of exactly the variant's fields, in any order; `import` has the number `form` beside
-/// them, and in form 1 no edit of kind `start`. A name is a text of 1 to 64 bytes; a number is whole, of at most 32 bits,
-/// and written without point and exponent; an object is a list of its kind and its index; an edit is a list of its kind,
-/// index, step, count (of at most 64 bits), number (of at most 16) and value, where null is a withdrawal. Of a field that
-/// stands twice the last counts.
+/// and whose value is an object of exactly the variant's fields, in any order; `import` and `crowd` have the number `form`
+/// beside them, and in form 1 no edit of kind `start`. A name is a text of 1 to 64 bytes; a number is whole, of at most 32
+/// bits, and written without point and exponent; an object is a list of its kind and its index; an edit is a list of its
+/// kind, index, step, count (of at most 64 bits), number (of at most 16) and value, where null is a withdrawal; shares are
+/// 1 to 8 lists of edits, some of them perhaps empty. Of a field that stands twice the last counts.
 ///
 /// # Errors
 ///
@@ -71,11 +72,7 @@ fn command_in(alloc: Global, value: &Value) -> Result<Option<(u64, Command)>, Ou
     let Some(form) = form_of_name(name, fields) else {
         return Ok(None);
     };
-    let Some(at) = name_at("at", fields) else {
-        return Ok(None);
-    };
-    let at = String::from_str(alloc, at)?;
-    match command_of_name(alloc, name, form, at, fields)? {
+    match command_of_name(alloc, name, form, fields)? {
         Some(command) => Ok(Some((form, command))),
         None => Ok(None),
     }
@@ -86,14 +83,34 @@ fn form_of_name(name: &str, fields: &Value) -> Option<u64>
     ensures { result ≡ grammar.form_of_name name.now (view fields.now) }
 {
     match name {
-        "import" => long_number_at("form", fields),
+        "import" | "crowd" => long_number_at("form", fields),
         _ => Some(LAST_FORM),
     }
 }
 
-// The command of a name and a form at a replica, with these fields.
+// The command of a name and a form, with these fields: a crowd, or what stands at a replica.
 #[tactic(auto, unfolding(crate::specs::CommandGrammar::command_of_name))]
 fn command_of_name(
+    alloc: Global,
+    name: &str,
+    form: u64,
+    fields: &Value,
+) -> Result<Option<Command>, OutOfMemory>
+    ensures { IfOk result (λ command. option_map command_view command
+        ≡ grammar.command_of_name name.now form (view fields.now)) }
+{
+    if name == "crowd" {
+        return crowd_in(alloc, form, fields);
+    }
+    match name_at("at", fields) {
+        Some(at) => command_at(alloc, name, form, String::from_str(alloc, at)?, fields),
+        None => Ok(None),
+    }
+}
+
+// The command of a name and a form at a replica, with these fields.
+#[tactic(auto, unfolding(crate::specs::CommandGrammar::command_at))]
+fn command_at(
     alloc: Global,
     name: &str,
     form: u64,
@@ -101,7 +118,7 @@ fn command_of_name(
     fields: &Value,
 ) -> Result<Option<Command>, OutOfMemory>
     ensures { IfOk result (λ command. option_map command_view command
-        ≡ grammar.command_of_name name.now form (string_bytes at) (view fields.now)) }
+        ≡ grammar.command_at name.now form (string_bytes at) (view fields.now)) }
 {
     match name {
         "import" => import_in(alloc, form, at, fields),

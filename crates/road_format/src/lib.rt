@@ -17,6 +17,7 @@
 mod answer;
 mod command;
 mod command_line;
+mod crowd;
 mod edits;
 mod exchange;
 mod faults;

@@ -59,6 +59,11 @@ fn answer_value(alloc: Global, answer: &Answer) -> Result<Value, OutOfMemory>
         Answer::Sent { message, size } => sent_value(alloc, message.as_str(), *size),
         Answer::Heads { message, heads } => heads_value(alloc, message.as_str(), heads.as_slice()),
         Answer::Delta { message, edits } => delta_value(alloc, message.as_str(), edits.as_slice()),
+        Answer::Crowd {
+            edits,
+            journal,
+            row,
+        } => crowd_value(alloc, edits.as_slice(), *journal, row.as_str()),
     }
 }
 
@@ -213,6 +218,21 @@ fn delta_value(alloc: Global, message: &str, edits: &[Edit]) -> Result<Value, Ou
 {
     let fields = edits_fields(alloc, edits)?;
     let fields = with_text(alloc, fields, "message", message)?;
+    Ok(Value::Object(fields))
+}
+
+// What the sessions of a crowd left.
+fn crowd_value(
+    alloc: Global,
+    edits: &[Edit],
+    journal: u32,
+    row: &str,
+) -> Result<Value, OutOfMemory>
+    ensures { IfOk result (λ value. view value ≡ data_of (replies.Crowd edits.now journal row.now)) }
+{
+    let fields = edits_fields(alloc, edits)?;
+    let fields = with_field(alloc, fields, "journal", Value::from(journal))?;
+    let fields = with_text(alloc, fields, "row", row)?;
     Ok(Value::Object(fields))
 }
 

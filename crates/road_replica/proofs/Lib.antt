@@ -1,4 +1,5 @@
--- Lemmas about stamps, grown sheets and imported edits.
+-- Lemmas about stamps, grown sheets, imported edits and shares of edits.
 pub mod FreshStamps
 pub mod GrownSheets
 pub mod ImportedEdits
+pub mod SharedEdits

@@ -1,4 +1,5 @@
--- What replicas are, what their calls make of them, and for which causes these are refused.
+-- What replicas are, what their calls make of them, for which causes these are refused, and what crowds come to.
 pub mod Replicas
 pub mod Refusals
+pub mod Crowds
 pub mod Private

@@ -13,12 +13,14 @@
 //! ```
 #![tactic(auto)]
 
+mod crowds;
 mod faults;
 mod replica;
 mod reply;
 
+pub use crowds::{Crowd, Crowds, MOST_CROWD_WRITES, write_count};
 pub use faults::ReplicaFault;
-pub use replica::Replica;
+pub use replica::{Replica, shares_fault};
 pub use reply::Reply;
 /// Want of memory, answered only where a growth was refused.
 pub use std::alloc::AllocError as OutOfMemory;

@@ -15,6 +15,7 @@ ghost use Rattle.road_delta.specs.Deltas as deltas;
 ghost use Rattle.road_sheet.specs.Commands.{Advance, Take};
 ghost use Rattle.road_sheet.specs.Sheets.{IsSheet, opening_sheet, rows_of, state_of, total_of};
 ghost use Rattle.road_rewind.specs.Growth.{TicksAtMost, grown_sheet, kept_step, meter_after, most_steps, touched_step};
+ghost use Rattle.road_replica.specs.Crowds as crowds;
 ghost use Rattle.road_replica.specs.Refusals as refusals;
 ghost use Rattle.road_replica.specs.Refusals.{IsRefusal, IsWriteRefusal, gone_after_fault};
 ghost use Rattle.road_replica.specs.Replicas.{edit_made, most_steps_taking, replica_after, single_edit};
@@ -97,8 +98,8 @@ impl Replica {
         self.sheet.scenario()
     }
 
-    /// That its number is below 64, its edits win and fit the plan, and its horizon is at most 1,048,576. It is a fact
-    /// for proofs: the call does nothing.
+    /// That its number is below 64, its edits win and fit the plan, and its horizon is at most 65,536. It is a fact for
+    /// proofs: the call does nothing.
     pub fn known(&self)
         ensures number { self.now.number < MOST_REPLICAS }
         ensures sheet { IsSheet self.now.sheet }
@@ -281,7 +282,7 @@ impl Replica {
     ///
     /// # Errors
     ///
-    /// `Horizon` where `to` is above 1,048,576; else `WorkersGone` where the crew answers so, or `OutOfMemory` where a
+    /// `Horizon` where `to` is above 65,536; else `WorkersGone` where the crew answers so, or `OutOfMemory` where a
     /// growth was refused.
     pub fn advance<C: Crew>(
         &mut self,
@@ -515,6 +516,22 @@ fn import_fault(plan: &Plan, edits: &[Edit]) -> Option<ReplicaFault>
         if let Some(fault) = imported_fault(plan, edit) {
             return Some(fault);
         }
+    }
+    None
+}
+
+/// The first named cause for which the gathering of a crowd is refused: that of its first faulty edit, in the order of
+/// the shares, else `Horizon` where the step is too late.
+pub fn shares_fault(plan: &Plan, shares: &[Vec<Edit>], to: u32) -> Option<ReplicaFault>
+    ensures { result ≡ crowds.shares_fault plan.now (crowds.shares_of shares.now) to }
+{
+    for share in shares {
+        if let Some(fault) = import_fault(plan, share.as_slice()) {
+            return Some(fault);
+        }
+    }
+    if to > GREATEST_HORIZON {
+        return Some(ReplicaFault::Horizon);
     }
     None
 }

@@ -75,7 +75,7 @@ covers n place (e ∷ es) (w ∷ ws) rise mine stand =
 -- ---- all sessions: they have no more entries than the journal
 
 -- how many entries they have, in a journal whose first place has this number
-abbrev entries_of : ℕ → List Entry → List Session → ℕ
+abbrev pub entries_of : ℕ → List Entry → List Session → ℕ
 entries_of place journal [] = 0
 entries_of place journal (s ∷ ss) = length (writes_from s.number place journal) + entries_of place journal ss
 
@@ -88,7 +88,7 @@ no_entry true x entries other = absurd (cc (other))
 no_entry false x entries other = refl
 
 -- an entry of none of these sessions adds nothing
-of_none : (place : ℕ) (e : Entry) (es : List Entry) (ss : List Session) → AllByRecursion (λ (t : Session). e.session ≢ t.number) ss → entries_of place (e ∷ es) ss ≡ entries_of (place + 1) es ss
+pub of_none : (place : ℕ) (e : Entry) (es : List Entry) (ss : List Session) → AllByRecursion (λ (t : Session). e.session ≢ t.number) ss → entries_of place (e ∷ es) ss ≡ entries_of (place + 1) es ss
 of_none place e es [] other = refl
 of_none place e es (s ∷ ss) other =
     let rest = of_none place e es ss other.1 in
@@ -103,7 +103,7 @@ of_first_or_not place e es s ss apart (no not) rest =
     let here = no_entry (nat_eq e.session s.number) (place, e) (writes_from s.number (place + 1) es) (ne_eqb e.session s.number not) in omega arith
 
 -- an entry is of one session at most
-of_one : (place : ℕ) (e : Entry) (es : List Entry) (ss : List Session) → AreApart ss → entries_of place (e ∷ es) ss ≤ suc (entries_of (place + 1) es ss)
+pub of_one : (place : ℕ) (e : Entry) (es : List Entry) (ss : List Session) → AreApart ss → entries_of place (e ∷ es) ss ≤ suc (entries_of (place + 1) es ss)
 of_one place e es [] apart = omega arith
 of_one place e es (s ∷ ss) apart = of_first_or_not place e es s ss apart (ℕ_discrete e.session s.number) (of_one place e es ss apart.1)
 
@@ -111,7 +111,7 @@ none_of_none : (place : ℕ) (ss : List Session) → entries_of place [] ss ≡ 
 none_of_none place [] = refl
 none_of_none place (s ∷ ss) = let rest = none_of_none place ss in omega arith
 
-few_entries : (place : ℕ) (journal : List Entry) (ss : List Session) → AreApart ss → entries_of place journal ss ≤ length journal
+pub few_entries : (place : ℕ) (journal : List Entry) (ss : List Session) → AreApart ss → entries_of place journal ss ≤ length journal
 few_entries place [] ss apart = let none = none_of_none place ss in omega arith
 few_entries place (e ∷ es) ss apart = let rest = few_entries (place + 1) es ss apart in let first = of_one place e es ss apart in omega arith
 

@@ -1,7 +1,10 @@
--- Lemmas of histories, of the book and the store that keep them, of what sessions write, and of the closing.
+-- Lemmas of histories, of the book and the store that keep them, of what sessions write, of the closing, and of what a
+-- journal comes to.
 pub mod Beginnings
 pub mod AppendedEntries
 pub mod StoreRule
 pub mod Replays
 pub mod SessionWrites
 pub mod ClosedSessions
+pub mod MergedJournals
+pub mod WrittenEntries

@@ -23,6 +23,7 @@ mod entry;
 mod faults;
 mod held;
 mod making;
+mod merging;
 mod naming;
 mod reading;
 mod session;
@@ -40,9 +41,11 @@ pub use shared::{Of, Prepared, Shared, open, prepare};
 /// Want of memory, answered only where a growth was refused.
 pub use std::alloc::AllocError as OutOfMemory;
 
-/// What lies under the lock, and what it is asked: for contracts and for proofs.
+/// What lies under the lock, and what it is asked, for contracts and for proofs; and what holds of all journals, each on a
+/// function that does nothing.
 pub mod laws {
     pub use crate::held::Held;
+    pub use crate::merging::{journals_hold_what_was_written, journals_merge};
     pub use crate::shared::opened;
     pub use crate::wish::Wish;
 }

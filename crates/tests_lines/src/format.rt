@@ -604,6 +604,69 @@ const COMMANDS: &[(&str, &str)] = &[
     ),
 ];
 
+/// Lines of crowds, and what is read of each.
+const CROWDS: &[(&str, &str)] = &[
+    (
+        "{\"crowd\":{\"form\":1,\"shares\":[[[\"limit\",0,0,7,64,2]],[]],\"to\":6}}",
+        "Ok(Crowd { shares: [[Edit { object: Limit(0), step: 0, stamp: Stamp { count: 7, number: 64 }, value: Put(2) }], []], to: 6 })",
+    ),
+    (
+        "{\"crowd\":{\"to\":4294967295,\"shares\":[[[\"watch\",0,1,2,3,null],[\"limit\",0,0,7,64,2]],[[\"start\",1,0,7,64,2]]],\"form\":2}}",
+        "Ok(Crowd { shares: [[Edit { object: Watch(0), step: 1, stamp: Stamp { count: 2, number: 3 }, value: Withdrawn }, Edit { object: Limit(0), step: 0, stamp: Stamp { count: 7, number: 64 }, value: Put(2) }], [Edit { object: Start(1), step: 0, stamp: Stamp { count: 7, number: 64 }, value: Put(2) }]], to: 4294967295 })",
+    ),
+    (
+        "{\"crowd\":{\"form\":1,\"shares\":[[]],\"to\":0}}",
+        "Ok(Crowd { shares: [[]], to: 0 })",
+    ),
+    (
+        "{\"crowd\":{\"form\":1,\"shares\":[[],[],[],[],[],[],[],[]],\"to\":6}}",
+        "Ok(Crowd { shares: [[], [], [], [], [], [], [], []], to: 6 })",
+    ),
+    (
+        "{\"crowd\":{\"form\":3,\"shares\":[],\"to\":6,\"form\":1,\"shares\":[[]]}}",
+        "Ok(Crowd { shares: [[]], to: 6 })",
+    ),
+    ("{\"crowd\":{\"form\":0,\"shares\":[[]],\"to\":6}}", UNKNOWN_FORM),
+    ("{\"crowd\":{\"form\":3,\"shares\":[[]],\"to\":6}}", UNKNOWN_FORM),
+    ("{\"crowd\":{\"form\":18446744073709551615,\"shares\":[[]],\"to\":6}}", UNKNOWN_FORM),
+    ("{\"crowd\":{\"form\":3,\"shares\":[[],[[\"start\",1,0,7,64,2]]],\"to\":6}}", UNKNOWN_FORM),
+    ("{\"crowd\":{\"form\":0,\"shares\":[[[\"start\",1,0,7,64,2]]],\"to\":6}}", UNKNOWN_FORM),
+    ("{\"crowd\":{\"form\":1,\"shares\":[[[\"start\",1,0,7,64,2]]],\"to\":6}}", NOT_A_COMMAND),
+    (
+        "{\"crowd\":{\"form\":1,\"shares\":[[[\"limit\",0,0,7,64,2]],[[\"limit\",0,0,7,64,2],[\"start\",1,0,7,64,2]]],\"to\":6}}",
+        NOT_A_COMMAND,
+    ),
+    ("{\"crowd\":{\"form\":1,\"shares\":[],\"to\":6}}", NOT_A_COMMAND),
+    ("{\"crowd\":{\"form\":3,\"shares\":[],\"to\":6}}", NOT_A_COMMAND),
+    ("{\"crowd\":{\"form\":1,\"shares\":[[],[],[],[],[],[],[],[],[]],\"to\":6}}", NOT_A_COMMAND),
+    ("{\"crowd\":{\"form\":3,\"shares\":[[],[],[],[],[],[],[],[],[]],\"to\":6}}", NOT_A_COMMAND),
+    ("{\"crowd\":{\"form\":1,\"shares\":{},\"to\":6}}", NOT_A_COMMAND),
+    ("{\"crowd\":{\"form\":1,\"shares\":null,\"to\":6}}", NOT_A_COMMAND),
+    ("{\"crowd\":{\"form\":1,\"shares\":[{}],\"to\":6}}", NOT_A_COMMAND),
+    ("{\"crowd\":{\"form\":1,\"shares\":[[],null],\"to\":6}}", NOT_A_COMMAND),
+    ("{\"crowd\":{\"form\":1,\"shares\":[[\"limit\",0,0,7,64,2]],\"to\":6}}", NOT_A_COMMAND),
+    ("{\"crowd\":{\"form\":1,\"shares\":[[[[\"limit\",0,0,7,64,2]]]],\"to\":6}}", NOT_A_COMMAND),
+    ("{\"crowd\":{\"form\":3,\"shares\":[[[\"limit\",0,0,7,64]]],\"to\":6}}", NOT_A_COMMAND),
+    ("{\"crowd\":{\"form\":1,\"shares\":[[],[[\"limit\",0,0,7,64,2,0]]],\"to\":6}}", NOT_A_COMMAND),
+    ("{\"crowd\":{\"form\":null,\"shares\":[[]],\"to\":6}}", NOT_A_COMMAND),
+    ("{\"crowd\":{\"form\":\"1\",\"shares\":[[]],\"to\":6}}", NOT_A_COMMAND),
+    ("{\"crowd\":{\"form\":1.0,\"shares\":[[]],\"to\":6}}", NOT_A_COMMAND),
+    ("{\"crowd\":{\"form\":18446744073709551616,\"shares\":[[]],\"to\":6}}", NOT_A_COMMAND),
+    ("{\"crowd\":{\"form\":1,\"shares\":[[]],\"to\":4294967296}}", NOT_A_COMMAND),
+    ("{\"crowd\":{\"form\":1,\"shares\":[[]],\"to\":-1}}", NOT_A_COMMAND),
+    ("{\"crowd\":{\"form\":1,\"shares\":[[]],\"to\":null}}", NOT_A_COMMAND),
+    ("{\"crowd\":{\"shares\":[[]],\"to\":6}}", NOT_A_COMMAND),
+    ("{\"crowd\":{\"form\":1,\"to\":6}}", NOT_A_COMMAND),
+    ("{\"crowd\":{\"form\":1,\"shares\":[[]]}}", NOT_A_COMMAND),
+    ("{\"crowd\":{\"form\":1,\"edits\":[[]],\"to\":6}}", NOT_A_COMMAND),
+    ("{\"crowd\":{\"by\":1,\"form\":1,\"shares\":[[]],\"to\":6}}", NOT_A_COMMAND),
+    ("{\"crowd\":{\"at\":\"A\",\"form\":1,\"shares\":[[]],\"to\":6}}", NOT_A_COMMAND),
+    ("{\"crowd\":{\"at\":\"A\",\"form\":3,\"shares\":[[]],\"to\":6}}", NOT_A_COMMAND),
+    ("{\"crowd\":{\"at\":\"A\",\"shares\":[[]],\"to\":6}}", NOT_A_COMMAND),
+    ("{\"crowd\":[[]]}", NOT_A_COMMAND),
+    ("{\"Crowd\":{\"form\":1,\"shares\":[[]],\"to\":6}}", NOT_A_COMMAND),
+];
+
 // What is read of a command line, as text. Want of memory ends the test.
 fn text_of(alloc: Global, read: &Result<Command, LineFault>) -> Result<String, OutOfMemory> {
     if matches!(read, Err(LineFault::OutOfMemory)) {
@@ -624,6 +687,32 @@ fn reads_commands(rt: HostRuntime) -> Result<(), Fail> {
         let said = read_text(rt.alloc(), line)?;
         assert_eq!(rt; said.as_str(), *want, "{line}");
     }
+    Ok(())
+}
+
+#[test]
+fn reads_crowds(rt: HostRuntime) -> Result<(), Fail> {
+    for (line, want) in CROWDS {
+        let said = read_text(rt.alloc(), line)?;
+        assert_eq!(rt; said.as_str(), *want, "{line}");
+    }
+    Ok(())
+}
+
+// A crowd of so many empty shares, and of one that edits.
+fn long_crowd(alloc: Global, count: usize) -> Result<String, OutOfMemory> {
+    let empty = "[],".repeat(alloc, count)?;
+    format!(in alloc;
+        "{{\"crowd\":{{\"form\":1,\"shares\":[{empty}[[\"limit\",0,0,1,64,3]]],\"to\":6}}}}"
+    )
+}
+
+/// About as many shares as a line has room for are no crowd.
+#[test]
+fn refuses_long_crowds(rt: HostRuntime) -> Result<(), Fail> {
+    let line = long_crowd(rt.alloc(), 21_800)?;
+    let fault = command_fault(rt.alloc(), line.as_bytes())?;
+    assert_eq!(rt; fault, Some(LineFault::NotACommand));
     Ok(())
 }
 
@@ -699,6 +788,7 @@ enum Said {
     Sent(&'static str, u64),
     Heads(&'static str, &'static [Head]),
     Delta(&'static str, &'static [Edit]),
+    Crowd(&'static [Edit], u32, &'static str),
 }
 
 // These rows, with memory of their own.
@@ -734,6 +824,11 @@ fn answer_of(alloc: Global, said: &Said) -> Result<Answer, OutOfMemory> {
         Said::Delta(name, edits) => Answer::Delta {
             message: String::from_str(alloc, name)?,
             edits: edits.to_vec(alloc)?,
+        },
+        Said::Crowd(edits, journal, row) => Answer::Crowd {
+            edits: edits.to_vec(alloc)?,
+            journal,
+            row: String::from_str(alloc, row)?,
         },
     })
 }
@@ -837,6 +932,15 @@ const ANSWERS: &[(Said, &str)] = &[
     (
         Said::Delta("d", EDITS),
         "{\"edits\":[[\"limit\",0,65535,281474976710656,65535,4294967295],[\"watch\",63,0,1,0,null]],\"form\":2,\"message\":\"d\"}\n",
+    ),
+    // crowds
+    (
+        Said::Crowd(EDITS, 4_294_967_295, "0..2..10#..."),
+        "{\"edits\":[[\"limit\",0,65535,281474976710656,65535,4294967295],[\"watch\",63,0,1,0,null]],\"form\":2,\"journal\":4294967295,\"row\":\"0..2..10#...\"}\n",
+    ),
+    (
+        Said::Crowd(&[], 1, "............"),
+        "{\"edits\":[],\"form\":2,\"journal\":1,\"row\":\"............\"}\n",
     ),
     // touched steps
     (Said::Touched(Some(65_535)), "{\"touched\":65535}\n"),

@@ -1,0 +1,3 @@
+-- Lemmas of the journals of crowds, and of what these leave.
+pub mod CrowdJournals
+pub mod CrowdSessions

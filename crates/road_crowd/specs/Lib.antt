@@ -1,0 +1,2 @@
+-- What the sessions of a crowd write.
+pub mod Private

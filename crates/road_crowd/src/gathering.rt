@@ -1,0 +1,118 @@
+//! The gathering of a crowd: a store is opened, its sessions work, and it is closed.
+
+ghost use Rattle.std.specs.Prelude.{◌≡◌, ◌<◌, ◌≤◌, IfOk, None, length, string_bytes};
+ghost use Rattle.std.specs.Arc.{arc_value};
+ghost use Rattle.lattice_core.specs.Sets.{items};
+ghost use Rattle.road_plan.specs.declared.limits.TheConstants.{MOST_SESSIONS};
+ghost use Rattle.road_sheet.specs.Shown.{row_at};
+ghost use Rattle.road_replica.specs.Crowds.{crowd_winners, crowd_writes, shares_fault, shares_of};
+ghost use Rattle.road_replica.specs.declared.crowds.TheConstants.{MOST_CROWD_WRITES};
+ghost use Rattle.road_sessions.specs.Journals.{replica_of_plan};
+
+use crate::permit::Permit;
+use crate::threads::in_threads;
+use road_plan::Plan;
+use road_replica::{Crowd, write_count};
+use road_scenario::Edit;
+use road_sessions::{Closed, Naming, Prepared, close, open, prepare};
+use road_sheet::simulation::{State, row_of};
+use road_workers::{CrewFault, Gate};
+use std::alloc::Global;
+use std::marker::Brand;
+use std::sync::{Arc, Wait};
+use std::thread::Threads;
+
+/// Opens a store of replica 0 with a session for each share of edits, and lets each session work on a thread of its own:
+/// it arrives at the gate under its number, takes its edits one after another, each as a scenario of one edit, and then
+/// advances to the step. Once all threads have ended the store is closed. What is left is the same in whatever order the
+/// writes came: the winners of all edits, as many writes as there are edits and shares, and the row of the step.
+///
+/// There are 1 to 8 shares, of at most 1,000,000 writes together, and no named cause stands against their edits or the
+/// step (`road_replica::shares_fault`, `road_replica::write_count`).
+///
+/// # Errors
+///
+/// `WorkersGone` where a thread could not be started, else `OutOfMemory` where a growth was refused or the store gave a
+/// session no reader. All threads have ended then.
+pub fn crowd<W: Threads + Wait, G: Gate + Sync>(
+    rt: &W,
+    alloc: Global,
+    plan: &Arc<Plan>,
+    shares: &[Vec<Edit>],
+    to: u32,
+    gate: &G,
+) -> Result<Crowd, CrewFault>
+    requires some { 0 < length shares.now }
+    requires few { length shares.now ≤ MOST_SESSIONS }
+    requires within { crowd_writes (shares_of shares.now) ≤ MOST_CROWD_WRITES }
+    requires accepted { shares_fault (arc_value plan.now) (shares_of shares.now) to ≡ None }
+    ensures edits { IfOk result (λ crowd. crowd.edits.items ≡ items (crowd_winners (shares_of shares.now))) }
+    ensures journal { IfOk result (λ crowd. crowd.journal ≡ crowd_writes (shares_of shares.now)) }
+    ensures row { IfOk result (λ crowd. string_bytes crowd.row
+        ≡ row_at (arc_value plan.now) (crowd_winners (shares_of shares.now)) to) }
+{
+    let count = shares.len() as u32;
+    let writes = write_count(shares);
+    let plan_of_store = Arc::try_clone(plan)?;
+    let Ok(prepared) = prepare(Permit::of(rt), alloc, plan_of_store, 0, count, writes) else {
+        return Err(CrewFault::OutOfMemory);
+    };
+    left::<Brand, _, W, G>(rt, alloc, prepared, plan, shares, to, gate)
+}
+
+// What is left of a store that was just prepared, once its sessions have worked.
+fn left<J: Naming + Send + Sync, R: Wait + Drop + Send, W: Threads + Wait, G: Gate + Sync>(
+    rt: &W,
+    alloc: Global,
+    prepared: Prepared<R>,
+    plan: &Arc<Plan>,
+    shares: &[Vec<Edit>],
+    to: u32,
+    gate: &G,
+) -> Result<Crowd, CrewFault>
+    requires book { prepared.book.seen.book ≡ J.book }
+    requires replica { prepared.replica ≡ J.replica }
+    requires ledger { (prepared.ledger.name ≡ J.name) × (prepared.ledger.parts ≡ J.parts) }
+    requires limit { prepared.limit ≡ J.limit }
+    requires opening { prepared.replica ≡ replica_of_plan (arc_value plan.now) 0 }
+    requires some { 0 < length shares.now }
+    requires one_each { prepared.sessions ≡ length shares.now }
+    requires within { crowd_writes (shares_of shares.now) ≤ MOST_CROWD_WRITES }
+    ensures edits { IfOk result (λ crowd. crowd.edits.items ≡ items (crowd_winners (shares_of shares.now))) }
+    ensures journal { IfOk result (λ crowd. crowd.journal ≡ crowd_writes (shares_of shares.now)) }
+    ensures row { IfOk result (λ crowd. string_bytes crowd.row
+        ≡ row_at (arc_value plan.now) (crowd_winners (shares_of shares.now)) to) }
+{
+    let Ok((shared, sessions)) = open::<J, R>(prepared) else {
+        return Err(CrewFault::OutOfMemory);
+    };
+    let sessions = in_threads(rt, alloc, &shared, sessions, shares, to, gate)?;
+    match close(shared, sessions) {
+        Ok(closed) => shown(alloc, &closed, to),
+        Err(_fault) => Err(CrewFault::OutOfMemory),
+    }
+}
+
+// What a closed store shows at its horizon.
+fn shown(alloc: Global, closed: &Closed, to: u32) -> Result<Crowd, CrewFault>
+    requires simulated { (arc_value closed.now.sheet).horizon ≡ to }
+    requires few { length closed.now.journal.items ≤ MOST_CROWD_WRITES }
+    ensures edits { IfOk result (λ crowd. crowd.edits.items ≡ items (arc_value closed.now.sheet).edits) }
+    ensures journal { IfOk result (λ crowd. crowd.journal ≡ length closed.now.journal.items) }
+    ensures row { IfOk result (λ crowd. string_bytes crowd.row
+        ≡ row_at (arc_value closed.now.sheet).plan (arc_value closed.now.sheet).edits to) }
+{
+    let sheet = &closed.sheet;
+    sheet.known();
+    let Ok(road) = sheet.state(alloc, to) else {
+        return Err(CrewFault::OutOfMemory);
+    };
+    let state = State { step: to, road };
+    let row = row_of(alloc, sheet.plan(), sheet.scenario(), &state)?;
+    let edits = sheet.scenario().edits(alloc)?;
+    Ok(Crowd {
+        edits,
+        journal: closed.journal.len() as u32,
+        row,
+    })
+}

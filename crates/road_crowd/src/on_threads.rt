@@ -1,0 +1,35 @@
+//! Who gathers crowds by threads.
+
+use crate::gathering::crowd;
+use road_plan::Plan;
+use road_replica::{Crowd, Crowds};
+use road_scenario::Edit;
+use road_workers::{CrewFault, NoGate};
+use std::alloc::Global;
+use std::sync::{Arc, Wait};
+use std::thread::Threads;
+
+/// Gathers crowds whose sessions work on threads of their own.
+#[derive(Drop)]
+pub struct OnThreads<R> {
+    rt: R,
+}
+
+impl<R: Threads + Wait> OnThreads<R> {
+    /// By the threads of this runtime.
+    pub fn new(rt: R) -> OnThreads<R> {
+        OnThreads { rt }
+    }
+}
+
+impl<R: Threads + Wait> Crowds for OnThreads<R> {
+    fn gathered(
+        &self,
+        alloc: Global,
+        plan: &Arc<Plan>,
+        shares: &[Vec<Edit>],
+        to: u32,
+    ) -> Result<Crowd, CrewFault> {
+        crowd(&self.rt, alloc, plan, shares, to, &NoGate)
+    }
+}

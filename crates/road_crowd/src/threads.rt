@@ -1,0 +1,167 @@
+//! The sessions of a crowd at work, each on a thread of its own.
+
+ghost use Rattle.std.specs.Prelude.{◌≡◌, [], IfOk, IfSome, length, map};
+ghost use Rattle.road_replica.specs.Crowds.{shares_of};
+ghost use Rattle.road_sessions.specs.Sessions.{AreNewSessions};
+ghost use Rattle.road_crowd.specs.Private.Works.{share_entries, work_of, works_from};
+
+use crate::permit::Permit;
+use crate::work::work;
+use road_plan::OutOfMemory;
+use road_scenario::Edit;
+use road_sessions::{Naming, Session, Shared};
+use road_workers::{CrewFault, Gate};
+use std::alloc::Global;
+use std::snapshot::Snapshot;
+use std::sync::Wait;
+use std::thread;
+use std::thread::{Promise, PromisedHandle, Scope, Threads};
+
+// What a thread gives back: its session, once that has made all its writes.
+type Worked<J> = Result<Session<J>, OutOfMemory>;
+
+// What is promised of a thread: where it finds memory, its session has this number and wrote the edits of this share,
+// one after another, and then an advance to this step.
+#[derive(Drop)]
+struct WritesShare {
+    number: u32,
+    share: Snapshot<Vec<Edit>>,
+    to: u32,
+}
+
+impl<J: Naming> Promise<Worked<J>> for WritesShare {
+    ghost kept_by = { λ promise worked. IfOk worked (λ session. work_of session
+        ≡ (promise.number, share_entries promise.number promise.share.value.items promise.to)) };
+}
+
+// A session's thread.
+type Worker<J> = PromisedHandle<Worked<J>, WritesShare>;
+
+// What a thread does: its session arrives at the gate, and then makes its writes.
+fn worked<J: Naming, R: Wait + Drop, W: Wait, G: Gate>(
+    rt: &W,
+    alloc: Global,
+    shared: &Shared<J, R>,
+    session: Session<J>,
+    share: &[Edit],
+    to: u32,
+    gate: &G,
+) -> Worked<J>
+    requires { session.view.own ≡ [] }
+    ensures { IfOk result (λ after. work_of after ≡ (session.number, share_entries session.number share.now to)) }
+{
+    let mut session = session;
+    gate.arrive(session.number());
+    work(rt, alloc, shared, &mut session, share, to)?;
+    Ok(session)
+}
+
+// Starts the thread of a session. There is none where it cannot be started.
+fn start<
+    's,
+    J: Naming + Send + Sync + 's,
+    R: Wait + Drop + Send + 's,
+    W: Wait + 's,
+    G: Gate + Sync + 's,
+    E,
+>(
+    scope: &Scope<'s, E>,
+    permit: Permit<W>,
+    alloc: Global,
+    shared: &'s Shared<J, R>,
+    session: Session<J>,
+    share: &'s Vec<Edit>,
+    to: u32,
+    gate: &'s G,
+) -> Option<Worker<J>>
+    requires { session.view.own ≡ [] }
+    ensures number { IfSome result (λ worker. worker.promise.number ≡ session.number) }
+    ensures share { IfSome result (λ worker. worker.promise.share.value.items ≡ share.now.items) }
+    ensures to { IfSome result (λ worker. worker.promise.to ≡ to) }
+{
+    let promise = WritesShare {
+        number: session.number(),
+        share: Snapshot::of(share),
+        to,
+    };
+    let started = scope.spawn_with(
+        promise,
+        move || -> Worked<J>
+            requires { session.view.own ≡ [] }
+            ensures { IfOk result (λ after. work_of after
+                ≡ (session.number, share_entries session.number share.entry.now.items to)) }
+        { worked(&permit, alloc, shared, session, share.as_slice(), to, gate) },
+    );
+    started.ok()
+}
+
+// The sessions work, one for each share, each on a thread of its own. The last session's thread is started first and
+// joined last, so all run before one is joined, and the sessions come back in their order.
+fn all_worked<
+    's,
+    J: Naming + Send + Sync + 's,
+    R: Wait + Drop + Send + 's,
+    W: Threads + Wait + 's,
+    G: Gate + Sync + 's,
+    E,
+>(
+    scope: &Scope<'s, E>,
+    rt: &W,
+    alloc: Global,
+    shared: &'s Shared<J, R>,
+    mut sessions: Vec<Session<J>>,
+    shares: &'s [Vec<Edit>],
+    to: u32,
+    gate: &'s G,
+) -> Result<Vec<Session<J>>, CrewFault>
+    requires new { AreNewSessions 0 sessions.items }
+    requires one_each { length sessions.items ≡ length shares.now }
+    ensures { IfOk result (λ after. map work_of after.items ≡ works_from 0 (shares_of shares.now) to) }
+{
+    let Some((share, others)) = shares.split_last() else {
+        return Ok(sessions);
+    };
+    let Some(session) = sessions.pop() else {
+        return Ok(sessions);
+    };
+    let permit = Permit::of(rt);
+    let Some(worker) = start(scope, permit, alloc, shared, session, share, to, gate) else {
+        return Err(CrewFault::WorkersGone);
+    };
+    let mut after = all_worked(scope, rt, alloc, shared, sessions, others, to, gate)?;
+    let last = worker.join(rt)?;
+    let Ok(()) = after.push(last) else {
+        return Err(CrewFault::OutOfMemory);
+    };
+    Ok(after)
+}
+
+// The sessions of a store that was just opened work, one for each share, each on a thread of its own. Where one thread
+// cannot be started, or finds no memory, all others have ended before the answer.
+pub(crate) fn in_threads<
+    J: Naming + Send + Sync,
+    R: Wait + Drop + Send,
+    W: Threads + Wait,
+    G: Gate + Sync,
+>(
+    rt: &W,
+    alloc: Global,
+    shared: &Shared<J, R>,
+    sessions: Vec<Session<J>>,
+    shares: &[Vec<Edit>],
+    to: u32,
+    gate: &G,
+) -> Result<Vec<Session<J>>, CrewFault>
+    requires new { AreNewSessions 0 sessions.items }
+    requires one_each { length sessions.items ≡ length shares.now }
+    ensures { IfOk result (λ after. map work_of after.items ≡ works_from 0 (shares_of shares.now) to) }
+{
+    thread::scope(
+        thread::scope_env(),
+        rt,
+        |scope| -> Result<Vec<Session<J>>, CrewFault>
+            requires { AreNewSessions 0 sessions.items × (length sessions.items ≡ length shares.now) }
+            ensures { IfOk result (λ after. map work_of after.items ≡ works_from 0 (shares_of shares.entry.now) to) }
+        { all_worked(scope, rt, alloc, shared, sessions, shares, to, gate) },
+    )
+}

@@ -1,0 +1,85 @@
+//! What one session of a crowd writes.
+
+ghost use Rattle.std.specs.Prelude.{◌≡◌, ◌++◌, ◌∷◌, [], IfOk, OnOk};
+ghost use Rattle.road_replica.specs.Replicas.{single_edit};
+ghost use Rattle.road_sessions.specs.Journals.{entry};
+ghost use Rattle.road_sessions.specs.Merges.{entries_written};
+ghost use Rattle.road_sessions.specs.declared.entry.SheetCommand.TheVariants.{Advance, Take};
+ghost use Rattle.road_crowd.specs.Private.Works.{share_entries};
+
+use road_ends::Meter;
+use road_plan::OutOfMemory;
+use road_scenario::{Edit, Scenario};
+use road_sessions::{Naming, Session, Shared};
+use road_workers::Alone;
+use std::alloc::Global;
+use std::sync::Wait;
+
+// A session that has written nothing takes the edits of its share one after another, each as a scenario of one edit, and
+// then simulates up to the step.
+pub(crate) fn work<J: Naming, R: Wait + Drop, W: Wait>(
+    rt: &W,
+    alloc: Global,
+    shared: &Shared<J, R>,
+    session: &mut Session<J>,
+    share: &[Edit],
+    to: u32,
+) -> Result<(), OutOfMemory>
+    requires { session.old.view.own ≡ [] }
+    ensures number { OnOk result (session.new.number ≡ session.old.number) }
+    ensures written { OnOk result (entries_written session.new
+        ≡ share_entries session.old.number share.now to) }
+{
+    let mut meter = Meter::new();
+    for edit in share {
+        take(rt, alloc, shared, session, edit, &mut meter)?;
+    }
+    advance(rt, shared, session, to, &mut meter)
+}
+
+// A session takes one edit.
+fn take<J: Naming, R: Wait + Drop, W: Wait>(
+    rt: &W,
+    alloc: Global,
+    shared: &Shared<J, R>,
+    session: &mut Session<J>,
+    edit: &Edit,
+    meter: &mut Meter,
+) -> Result<(), OutOfMemory>
+    ensures number { OnOk result (session.new.number ≡ session.old.number) }
+    ensures written { OnOk result (entries_written session.new
+        ≡ entries_written session.old ++ entry session.old.number (Take (single_edit edit.now)) ∷ []) }
+{
+    let scenario = single(alloc, edit)?;
+    match session.take(rt, shared, &scenario, &mut Alone, meter) {
+        Ok(_wrote) => Ok(()),
+        // The edit fits, the journal has room, and the crew of one loses no worker: there was no memory.
+        Err(_fault) => Err(OutOfMemory),
+    }
+}
+
+// The scenario of one edit.
+fn single(alloc: Global, edit: &Edit) -> Result<Scenario, OutOfMemory>
+    ensures { IfOk result (λ scenario. scenario ≡ single_edit edit.now) }
+{
+    Ok(Scenario::empty(alloc).with_edit(edit)?)
+}
+
+// A session simulates up to a step.
+fn advance<J: Naming, R: Wait + Drop, W: Wait>(
+    rt: &W,
+    shared: &Shared<J, R>,
+    session: &mut Session<J>,
+    to: u32,
+    meter: &mut Meter,
+) -> Result<(), OutOfMemory>
+    ensures number { OnOk result (session.new.number ≡ session.old.number) }
+    ensures written { OnOk result (entries_written session.new
+        ≡ entries_written session.old ++ entry session.old.number (Advance to) ∷ []) }
+{
+    match session.advance(rt, shared, to, &mut Alone, meter) {
+        Ok(_wrote) => Ok(()),
+        // The step is within the limit, and the rest is as for an edit: there was no memory.
+        Err(_fault) => Err(OutOfMemory),
+    }
+}

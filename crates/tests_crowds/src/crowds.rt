@@ -1,0 +1,77 @@
+//! Crowds of the free road, which the tests gather.
+
+ghost use Rattle.std.specs.Prelude.{◌≡◌, ◌<◌, ◌≤◌, IsTrue, None, length};
+ghost use Rattle.road_plan.specs.declared.limits.TheConstants.{MOST_SESSIONS};
+ghost use Rattle.road_replica.specs.Crowds.{crowd_writes, shares_fault, shares_of};
+ghost use Rattle.road_replica.specs.declared.crowds.TheConstants.{MOST_CROWD_WRITES};
+
+use road_crowd::crowd;
+use road_plan::limits::MOST_SESSIONS;
+use road_plan::{Object, Plan};
+use road_replica::{Crowd, MOST_CROWD_WRITES, shares_fault, write_count};
+use road_scenario::{Edit, Stamp, Value};
+use road_workers::Gate;
+use std::alloc::Global;
+use std::sync::{Arc, Wait};
+use std::test::Fail;
+use std::thread::Threads;
+use tests_plans::{FREE, plan_of};
+
+/// An edit at a step, with a stamp of this count and number.
+pub(crate) fn edit(object: Object, step: u32, count: u64, number: u16, value: Value) -> Edit {
+    Edit {
+        object,
+        step,
+        stamp: Stamp { count, number },
+        value,
+    }
+}
+
+/// One share blocks the cell 8 from step 4 on, and the other withdraws that with a greater stamp.
+pub(crate) fn block_and_withdrawal(alloc: Global) -> Result<Vec<Vec<Edit>>, Fail> {
+    let cell = Object::Block(8);
+    let block = vec![in alloc; edit(cell, 4, 1, 64, Value::Put(1))]?;
+    let withdrawal = vec![in alloc; edit(cell, 4, 2, 64, Value::Withdrawn)]?;
+    Ok(vec![in alloc; block, withdrawal]?)
+}
+
+/// The plan of the free road.
+pub(crate) fn free_road(alloc: Global) -> Result<Arc<Plan>, Fail> {
+    Ok(Arc::new(alloc, plan_of(alloc, &FREE)?)?)
+}
+
+/// Whether these shares may be gathered to a step.
+pub(crate) fn may_gather(plan: &Plan, shares: &[Vec<Edit>], to: u32) -> bool
+    ensures some { IsTrue result → 0 < length shares.now }
+    ensures few { IsTrue result → length shares.now ≤ MOST_SESSIONS }
+    ensures within { IsTrue result → crowd_writes (shares_of shares.now) ≤ MOST_CROWD_WRITES }
+    ensures accepted { IsTrue result → shares_fault plan.now (shares_of shares.now) to ≡ None }
+{
+    if shares.is_empty() || shares.len() > MOST_SESSIONS as usize {
+        return false;
+    }
+    if write_count(shares) > MOST_CROWD_WRITES {
+        return false;
+    }
+    shares_fault(plan, shares, to).is_none()
+}
+
+/// What a crowd of these shares leaves of the free road.
+pub(crate) fn left<R: Threads + Wait, G: Gate + Sync>(
+    rt: &R,
+    alloc: Global,
+    shares: &[Vec<Edit>],
+    to: u32,
+    gate: &G,
+) -> Result<Crowd, Fail> {
+    let plan = free_road(alloc)?;
+    if !may_gather(&plan, shares, to) {
+        return Err(Fail::new("no crowd"));
+    }
+    Ok(crowd(rt, alloc, &plan, shares, to, gate)?)
+}
+
+/// Whether a crowd left these edits, so many writes and this row.
+pub(crate) fn is_left(left: &Crowd, edits: &[Edit], journal: u32, row: &str) -> bool {
+    left.edits.as_slice() == edits && left.journal == journal && left.row.as_str() == row
+}

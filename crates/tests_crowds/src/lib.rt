@@ -1,0 +1,13 @@
+//! Tests of crowds.
+#![tactic(auto)]
+
+#[cfg(test)]
+mod crowds;
+#[cfg(test)]
+mod meetings;
+#[cfg(test)]
+mod orders;
+#[cfg(test)]
+mod refused;
+#[cfg(test)]
+mod worked;

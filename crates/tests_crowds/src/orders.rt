@@ -1,0 +1,47 @@
+//! Many orders of the same writes leave the same.
+
+use crate::crowds::{edit, is_left, left};
+use road_plan::Object;
+use road_scenario::{Edit, Value};
+use road_workers::NoGate;
+use std::alloc::Global;
+use std::test::Fail;
+
+/// How many edits each share has.
+const EDITS: u32 = 40;
+
+/// How often the shares are gathered.
+const TIMES: u32 = 100;
+
+// The limit of the only zone that is put at a step.
+fn limit(step: u32) -> Edit {
+    let count = u64::from(step).saturating_add(1);
+    let number = (64 + step % 4) as u16;
+    edit(Object::Limit(0), step, count, number, Value::Put(step % 3))
+}
+
+// The limits of all steps, from one step on and round.
+fn limits_from(alloc: Global, first: u32) -> Result<Vec<Edit>, Fail> {
+    let mut edits = Vec::new(alloc);
+    for turn in 0..EDITS {
+        edits.push(limit((first % EDITS + turn) % EDITS))?;
+    }
+    Ok(edits)
+}
+
+#[test]
+fn forty_edits_in_four_orders(rt: HostRuntime) -> Result<(), Fail> {
+    let alloc = rt.alloc();
+    let shares = vec![in alloc;
+        limits_from(alloc, 0)?,
+        limits_from(alloc, 10)?,
+        limits_from(alloc, 20)?,
+        limits_from(alloc, 30)?,
+    ]?;
+    let by_step = limits_from(alloc, 0)?;
+    for _ in 0..TIMES {
+        let left = left(&rt, alloc, shares.as_slice(), 6, &NoGate)?;
+        assert!(rt; is_left(&left, by_step.as_slice(), 164, "0..2..2....."));
+    }
+    Ok(())
+}
