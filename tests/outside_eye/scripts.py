@@ -9,6 +9,7 @@ import random
 import sys
 
 LONGEST_LINE = 65_536
+LAST_STEP, LAST_HORIZON = 1_048_575, 1_048_576
 ALWAYS = 65_536
 GREATEST_COUNT = 2 ** 48
 KINDS = ("limit", "slow", "block", "inflow", "watch", "start")
@@ -18,7 +19,8 @@ BAD_NAMES = ("", "n" * 65, "\u8eca" * 22)
 NO_NUMBERS = ("1.0", "1e2", "-0", "-1", "0.0", "1E+2", "18446744073709551616", "1" + "0" * 300, "true", "null", '"1"', "[]", "{}",
               "1e999", "-1e999", "1" + "0" * 400, "01", "+1", "1.", ".5", "NaN", "Infinity", "0x1", "1_0", "", "1e-999", "0e999")
 NUMERAL = "a number that is written by hand"
-LARGE_NUMBERS = ("4294967295", "4294967296", "18446744073709551615", "281474976710656", "281474976710657", "65535", "65536", "65537")
+LARGE_NUMBERS = ("4294967295", "4294967296", "18446744073709551615", "281474976710656", "281474976710657", "65535", "65536", "65537", "1048575",
+                 "1048576", "1048577")
 
 
 class Writer:
@@ -29,6 +31,11 @@ class Writer:
         self.plan = self.new_plan()
         self.horizons = dict.fromkeys(self.plan["replicas"][:2] + self.plan["replicas"][-1:], 0)
         self.furthest = self.random.choice((40, 100, 200)) if self.plan["length"] < 32 else 60
+        # One script in eight is about the last steps: up to them nobody enters.
+        self.begin = LAST_HORIZON - self.furthest if self.chance(12) else 0
+        if self.begin:
+            self.furthest = LAST_HORIZON
+            self.plan["inlets"] = [[cell, 0] for cell, _ in self.plan["inlets"]]
         self.sent, self.asked, self.places, self.outer = [], [], [], []
 
     def chance(self, percent):
@@ -89,7 +96,8 @@ class Writer:
     def place(self):
         """An object and a step, often one that was edited before."""
         if not self.places or self.chance(65):
-            step = self.random.choice((0, 65535, *[self.random.randint(0, max(self.horizons.values()) + 3) for _ in range(12)]))
+            last = min(max(self.begin, *self.horizons.values()) + 3, LAST_STEP)
+            step = self.random.choice((self.begin, LAST_STEP, *[self.random.randint(self.begin, last) for _ in range(12)]))
             self.places.append((self.object(), step))
         return self.random.choice(self.places[-12:])
 
@@ -121,7 +129,8 @@ class Writer:
     def steps(self, at):
         """Two steps up to the horizon, at times all of them."""
         horizon = self.horizons[at]
-        return [0, horizon] if self.chance(30) else sorted(self.some(2, 2, lambda: self.random.randint(0, horizon)))
+        begin = min(self.begin, horizon)
+        return [begin, horizon] if self.chance(30) else sorted(self.some(2, 2, lambda: self.random.randint(begin, horizon)))
 
     # Commands
 
@@ -147,7 +156,7 @@ class Writer:
         return {"object": thing, "step": step}
 
     def new_advance(self, at):
-        to = self.random.randint(0, self.furthest)
+        to = self.random.randint(self.begin, self.furthest)
         self.horizons[at] = max(self.horizons[at], to)
         return {"to": to}
 
@@ -158,6 +167,8 @@ class Writer:
 
     def new_count(self, at):
         first, to = self.steps(at)
+        if self.begin and self.chance(30):
+            first = 0
         return {"detector": self.random.randrange(max(1, len(self.plan["detectors"]))), "from": first, "to": to}
 
     def new_diagram(self, at):
@@ -193,8 +204,9 @@ class Writer:
         draw = self.random
         refused = {
             "at": ("nobody", "D"), "object": ([draw.choice(KINDS), draw.choice((64, 8192, 2 ** 32 - 1))],),
-            "step": (65535, 65536, 65537, 2 ** 32 - 1), "value": (1, 2, 9, 10, ALWAYS, ALWAYS + 1, 2 ** 32 - 1),
-            "to": (0, 65537, 2 ** 32 - 1, self.furthest + 1), "from": (0, 65537, 2 ** 32 - 1), "detector": (63, 64, 2 ** 32 - 1),
+            "step": (LAST_STEP, LAST_STEP + 1, LAST_STEP + 2, 2 ** 32 - 1), "value": (1, 2, 9, 10, ALWAYS, ALWAYS + 1, 2 ** 32 - 1),
+            "to": (0, LAST_HORIZON + 1, 2 ** 32 - 1, self.furthest + 1), "from": (0, LAST_HORIZON + 1, 2 ** 32 - 1),
+            "detector": (63, 64, 2 ** 32 - 1),
             "name": ("m1", "m2", *self.sent[-3:], *self.asked[-3:], *BAD_NAMES), "message": ("m1", "m2", *self.asked[-3:], "A"),
             "heads": ("m1", "m2", *self.sent[-3:], *BAD_NAMES), "form": (0, 3, 2 ** 32, 2 ** 64 - 1)}
         for field in draw.sample(list(fields), draw.randint(1, len(fields))):
@@ -206,7 +218,7 @@ class Writer:
     def spoilt_edit(self):
         draw, edit = self.random, self.outer_edit()
         for place in draw.sample(range(1, 6), draw.choice((1, 1, 1, 2, 3))):
-            edit[place] = draw.choice(((), (64, 8192), (65536, 2 ** 32 - 1), (0, GREATEST_COUNT + 1, 2 ** 64 - 1),
+            edit[place] = draw.choice(((), (64, 8192), (LAST_STEP + 1, 2 ** 32 - 1), (0, GREATEST_COUNT + 1, 2 ** 64 - 1),
                                        (0, 2, 63), (10, ALWAYS + 1))[place])
         return edit
 
@@ -302,15 +314,21 @@ class Writer:
     def script(self):
         """The bytes of the script."""
         advances = [self.line({"advance": {"at": at, **self.new_advance(at)}}) for at in self.horizons if self.chance(70)]
-        written = [self.line(self.plan), *advances, *self.some(20, 150, self.next_line)]
+        written = [self.line(self.plan), *advances, *self.openings(), *self.some(20, 150, self.next_line)]
         return b"\n".join(written) + self.random.choice((b"\n", b"\n", b"\n", b"", b"\n\n", b"\r\n", b"\n "))
+
+    def openings(self):
+        """Where nobody enters by the plan: edits that open inlets later."""
+        inlets = range(len(self.plan["inlets"])) if self.begin else ()
+        return [self.line({"edit": {"at": at, "object": ["inflow", inlet], "step": self.begin, "value": ALWAYS}})
+                for at in self.horizons for inlet in inlets if self.chance(60)]
 
     def next_line(self):
         verb, fields = self.command()
         if self.chance(10):
             self.spoilt(fields)
         line = self.line({verb: fields})
-        return self.hostile({verb: fields}) if self.chance(10) else line
+        return self.hostile({verb: fields}) if not self.begin and self.chance(10) else line
 
 
 def script(seed):

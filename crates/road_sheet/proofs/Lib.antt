@@ -5,5 +5,6 @@ pub mod RunRows
 pub mod RunTotals
 pub mod SpanSteps
 pub mod SameRuns
+pub mod Shelves
 pub mod SheetSpans
 pub mod SmallCars

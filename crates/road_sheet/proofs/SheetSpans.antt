@@ -1,8 +1,7 @@
 -- The spans of a sheet: one step more, cut back, and the same run by other edits.
-use Rattle.std.proofs.Common.{◌≡◌, ◌≢◌, ◌≤◌, ◌<◌, ◌+◌, ◌*◌, ◌/◌, ◌%◌, ◌^◌, ◌∙◌, ◌⊎◌, inl, inr, ℕ, zero, suc, List, [], ◌∷◌, ◌++◌, length, map, take, replicate, min, Some, ap, sym, subst, arith, refl}
+use Rattle.std.proofs.Common.{◌≡◌, ◌≢◌, ◌≤◌, ◌<◌, ◌+◌, ◌*◌, ◌/◌, ◌%◌, ◌^◌, ◌∙◌, ◌⊎◌, inl, inr, ℕ, zero, suc, List, [], ◌∷◌, ◌++◌, length, take, replicate, min, Some, ap, sym, subst, arith, refl}
 use Rattle.std.proofs.lemmas.List.{get_or-replicate, length-replicate, length-take-le, length_push}
-use Rattle.std.proofs.lemmas.Option.{slice_get_within, slice_get_read, slice_get-map}
-use Rattle.std.specs.Option.{option_map}
+use Rattle.std.proofs.lemmas.Option.{slice_get_within}
 use Rattle.std.specs.List.{slice_get, slice_index_or}
 use Rattle.road_plan.specs.Plan.{Plan}
 use Rattle.road_plan.specs.declared.limits.TheConstants.{GREATEST_HORIZON}
@@ -248,6 +247,14 @@ opened p e spans cut last win fit none bare zeros road = rw none (record {
 
 -- ---- one span
 
+-- how many are whole
+pub many_whole : (s t : Sheet) (spans : List Span) (part : Span) (road : Array) → IsRunOf s spans part road → s ≡ t → length spans ≡ t.horizon / 64
+many_whole s t spans part road is same =
+    let horizon : s.horizon ≡ t.horizon = ap (λ (x : Sheet). x.horizon) same in
+    let begun = is.begun in
+    let ended = is.not_ended in
+    omega (arith, horizon, begun, ended)
+
 -- a whole one
 pub whole_span : (s t : Sheet) (spans : List Span) (part : Span) (road : Array) (k : ℕ) (b : Span) → IsRunOf s spans part road → s ≡ t → slice_get spans k ≡ Some b
     → IsSpan t.plan t.edits (64 * k) (min (64 * k + 64) t.horizon) b
@@ -267,7 +274,3 @@ cut_span s t spans part road k is same past begun =
     let end : s.horizon ≡ min (64 * k + 64) s.horizon = omega (arith, here, ended) in
     subst (λ (x : Sheet). IsSpan x.plan x.edits (64 * k) (min (64 * k + 64) x.horizon) part) same
     (subst (λ n. IsSpan s.plan s.edits (64 * k) n part) end (subst (λ n. IsSpan s.plan s.edits (64 * n) s.horizon part) here is.cut))
-
--- what is read at a place
-pub read_span : {X Y : Type 0} (f : X → Y) (xs : List X) (k : ℕ) (x : X) (y : Y) → k < length xs → x ≡ slice_index_or xs k x → y ≡ f x → slice_get (map f xs) k ≡ Some y
-read_span f xs k x y below is read = slice_get-map f xs k ∙ ap (option_map f) (slice_get_read xs (length xs) k x refl below is) ∙ ap Some (sym read)

@@ -2,3 +2,4 @@
 pub mod Spans
 pub mod CarriedSettings
 pub mod Checkpoints
+pub mod Shelves

@@ -18,7 +18,9 @@ mod carried;
 mod checkpoint;
 mod draft;
 mod faults;
+mod shared_spans;
 mod sheet;
+mod shelf;
 pub mod simulation;
 mod span;
 

@@ -1,6 +1,6 @@
 //! The known part of a run: spans of steps up to the horizon, and what is read from them.
 
-ghost use Rattle.std.specs.Prelude.{◌≡◌, ◌≢◌, ◌<◌, ◌≤◌, ◌+◌, ◌*◌, ◌/◌, ◌%◌, ◌++◌, ◌∷◌, [], IfOk, IfErr, OnErr, OnOk, None, length, map, min, replicate, take};
+ghost use Rattle.std.specs.Prelude.{◌≡◌, ◌≢◌, ◌<◌, ◌≤◌, ◌+◌, ◌*◌, ◌/◌, ◌%◌, IfOk, IfErr, OnErr, OnOk, None, length, min, replicate, take};
 ghost use Rattle.std.specs.Arc.{arc_value};
 ghost use Rattle.road_plan.specs.declared.limits.TheConstants.{GREATEST_HORIZON};
 ghost use Rattle.road_detector.specs.Passes.{no_totals};
@@ -17,6 +17,7 @@ use crate::carried::CarriedSettings;
 use crate::checkpoint::Checkpoint;
 use crate::draft::Draft;
 use crate::faults::SheetFault;
+use crate::shared_spans::SharedSpans;
 use crate::simulation::{State, run_on, totals_with};
 use crate::span::{SPAN_STEPS, Span};
 use lattice_core::both::Both;
@@ -38,19 +39,19 @@ use std::sync::Arc;
 /// A scenario, a horizon, and the run so far: it shows the road at each step up to the horizon, and what the
 /// detectors count up to there. It never changes; [`Sheet::draft`] goes on from it.
 ///
-/// The run is kept as spans of 64 steps, which sheets share: of each the road at its first step and what each
-/// detector counts in it; then the span that the horizon cuts, and the road at the horizon.
+/// The run is kept as spans of 64 steps: of each the road at its first step and what each detector counts in it; then
+/// the span that the horizon cuts, and the road at the horizon. Sheets share the whole spans, 64 on a shelf and all full
+/// shelves as one: to go on from a sheet costs no more at a far horizon.
 #[derive(Drop)]
 pub struct Sheet {
     plan: Arc<Plan>,
     known: Both<Scenario, Greatest<u32>>,
-    whole: Vec<Arc<Span>>,
+    whole: SharedSpans,
     cut: Span,
     last: Road,
 }
 
 impl Model for Sheet {
-    ghost use Rattle.std.specs.Prelude.{map};
     ghost use Rattle.std.specs.Arc.{arc_value};
     ghost use Rattle.std.specs.Coded.{codes};
     ghost use Rattle.road_scenario.specs.Instances.EditOrder.{edits_code};
@@ -69,7 +70,7 @@ impl Model for Sheet {
 
     ghost invariant = { λ s. IsRunOf
         (record { plan = arc_value s.plan; edits = s.known.first; horizon = horizon_of s.known.second })
-        (map arc_value s.whole.items) s.cut s.last };
+        s.whole s.cut s.last };
 }
 
 impl Sheet {
@@ -84,13 +85,14 @@ impl Sheet {
         ensures { IfOk result (λ sheet. sheet ≡ opening_sheet (arc_value plan)) }
     {
         let cut = Span::begin(alloc, Checkpoint::empty(alloc), plan.detectors().len())?;
+        let whole = SharedSpans::empty(alloc)?;
         Ok(Sheet {
             plan,
             known: Both {
                 first: Scenario::empty(alloc),
                 second: Greatest::Nothing,
             },
-            whole: Vec::new(alloc),
+            whole,
             cut,
             last: Road::empty(alloc),
         })
@@ -240,11 +242,18 @@ impl Sheet {
         ensures { IsSpan self.now.plan self.now.edits (SPAN_STEPS * span)
             (min (SPAN_STEPS * span + SPAN_STEPS) self.now.horizon) result.now }
     {
-        if span < self.whole.len() {
-            &self.whole[span]
+        if span < self.whole_spans() {
+            self.whole.get(span)
         } else {
             &self.cut
         }
+    }
+
+    // How many spans are whole.
+    fn whole_spans(&self) -> usize
+        ensures { result ≡ self.now.horizon / SPAN_STEPS }
+    {
+        (self.horizon() / SPAN_STEPS) as usize
     }
 
     // What a detector counts in some steps, span by span.
@@ -376,7 +385,7 @@ impl Sheet {
         }) }
     {
         let (cut, last) = copies(&self.cut, &self.last)?;
-        let (plan, whole) = shared_with_plan(alloc, &self.plan, &self.whole, self.whole.len())?;
+        let (plan, whole) = shared_with_plan(alloc, &self.plan, &self.whole, self.whole_spans())?;
         let known = Both {
             first: scenario,
             second: Greatest::Of(self.horizon()),
@@ -517,7 +526,7 @@ impl Sheet {
         let next = self.next_span(alloc, &road)?;
         let mut ended = self.cut.copied()?;
         ended.count(input, speeds);
-        push_shared(alloc, &mut self.whole, ended)?;
+        self.whole.push(alloc, ended)?;
         self.cut = next;
         let last = mem::replace(&mut self.last, road);
         self.known.second = Greatest::Of(horizon);
@@ -546,39 +555,17 @@ fn copies(span: &Span, road: &Road) -> Result<(Span, Road), OutOfMemory>
     Ok((copy, road.copied()?))
 }
 
-// Puts a span behind the others, shared. Where it is refused, these are as they were.
-fn push_shared(alloc: Global, spans: &mut Vec<Arc<Span>>, span: Span) -> Result<(), OutOfMemory>
-    ensures pushed { OnOk result (map arc_value spans.new.items ≡ map arc_value spans.old.items ++ span ∷ []) }
-    ensures unchanged { OnErr result (spans.new.items ≡ spans.old.items) }
-{
-    let span = Arc::new(alloc, span)?;
-    spans.push(span)?;
-    Ok(())
-}
-
 // A plan, and the first of these spans, shared.
 fn shared_with_plan(
     alloc: Global,
     plan: &Arc<Plan>,
-    spans: &[Arc<Span>],
+    spans: &SharedSpans,
     count: usize,
-) -> Result<(Arc<Plan>, Vec<Arc<Span>>), OutOfMemory>
+) -> Result<(Arc<Plan>, SharedSpans), OutOfMemory>
     requires { count ≤ length spans.now }
     ensures plan { IfOk result (λ shared. arc_value shared.0 ≡ arc_value plan.now) }
-    ensures spans { IfOk result (λ shared. map arc_value shared.1.items ≡ map arc_value (take count spans.now)) }
+    ensures spans { IfOk result (λ shared. shared.1 ≡ take count spans.now) }
 {
-    let whole = shared(alloc, spans, count)?;
+    let whole = spans.first(alloc, count)?;
     Ok((Arc::try_clone(plan)?, whole))
-}
-
-// The first of these spans, shared.
-fn shared(alloc: Global, spans: &[Arc<Span>], count: usize) -> Result<Vec<Arc<Span>>, OutOfMemory>
-    requires { count ≤ length spans.now }
-    ensures { IfOk result (λ shared. map arc_value shared.items ≡ map arc_value (take count spans.now)) }
-{
-    let mut shared = Vec::with_capacity(alloc, count)?;
-    for span in &spans[..count] {
-        shared.push(Arc::try_clone(span)?)?;
-    }
-    Ok(shared)
 }

@@ -1,6 +1,6 @@
 //! The crew of one.
 
-use crate::rows::{first_input, gives_both};
+use crate::rows::{first_input, gives_all};
 use road_ends::finish;
 use road_workers::{Alone, Crew};
 use std::test::Fail;
@@ -8,7 +8,7 @@ use tests_plans::{FREE, Parts};
 
 #[test]
 fn one_worker_gives_the_worked_rows(rt: HostRuntime) -> Result<(), Fail> {
-    gives_both(&rt, rt.alloc(), &mut Alone)
+    gives_all(&rt, rt.alloc(), &mut Alone)
 }
 
 /// Nobody stands on the road, and nobody enters.

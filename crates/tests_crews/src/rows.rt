@@ -1,36 +1,54 @@
 //! Steps by a crew, drawn as rows of text.
 
 use road_cells::Road;
-use road_ends::{EMPTY, STANDING, StepInput, enter, finish};
+use road_ends::{EMPTY, OutOfMemory, STANDING, StepInput, enter, finish};
 use road_plan::{Plan, Settings};
 use road_workers::Crew;
 use std::alloc::Global;
 use std::process::Abort;
 use std::sync::Arc;
 use std::test::Fail;
-use tests_plans::{DENSE, DENSE_ROWS, HALF_SLOWED, HALF_SLOWED_ROWS, Parts, plan_of};
+use tests_plans::{
+    DENSE, DENSE_ROWS, DENSE_START, DENSE_START_ROWS, HALF_SLOWED, HALF_SLOWED_ROWS, Parts, plan_of,
+};
 
 /// The plan of these parts, to be shared by the inputs of steps.
 pub(crate) fn shared_plan(alloc: Global, parts: &Parts) -> Result<Arc<Plan>, Fail> {
     Ok(Arc::new(alloc, plan_of(alloc, parts)?)?)
 }
 
-/// The input of a step by the plan's own settings.
+/// The settings of a plan of one zone: its own, and the slowing chance of standing cars where one is given.
+pub(crate) fn settings_of(
+    alloc: Global,
+    plan: &Plan,
+    start: Option<u32>,
+) -> Result<Settings, OutOfMemory> {
+    let mut settings = Settings::of_plan(alloc, plan)?;
+    if let Some(chance) = start {
+        settings.starts = vec![in alloc; chance]?;
+    }
+    Ok(settings)
+}
+
+/// The input of a step by these settings.
 pub(crate) fn input_of(
     alloc: Global,
     plan: &Arc<Plan>,
+    start: Option<u32>,
     step: u32,
     road: &Road,
 ) -> Result<Arc<StepInput>, Fail> {
-    plan.known_own_settings();
-    let settings = Settings::of_plan(alloc, plan)?;
+    let settings = settings_of(alloc, plan, start)?;
+    if !settings.fits(plan) {
+        return Err(Fail::new("settings that do not fit the plan"));
+    }
     Ok(enter(alloc, plan, settings, step, road)?)
 }
 
 /// The input of the first step of a plan of these parts, on the empty road.
 pub(crate) fn first_input(alloc: Global, parts: &Parts) -> Result<Arc<StepInput>, Fail> {
     let plan = shared_plan(alloc, parts)?;
-    input_of(alloc, &plan, 0, &Road::empty(alloc))
+    input_of(alloc, &plan, None, 0, &Road::empty(alloc))
 }
 
 // The road after a step, with the speeds that a crew gives.
@@ -38,10 +56,11 @@ fn stepped_by<C: Crew>(
     crew: &mut C,
     alloc: Global,
     plan: &Arc<Plan>,
+    start: Option<u32>,
     step: u32,
     road: &Road,
 ) -> Result<Road, Fail> {
-    let input = input_of(alloc, plan, step, road)?;
+    let input = input_of(alloc, plan, start, step, road)?;
     let speeds = crew.speeds(alloc, &input)?;
     Ok(finish(alloc, &input, &speeds)?)
 }
@@ -67,11 +86,12 @@ fn takes_rows<C: Crew>(
     alloc: Global,
     crew: &mut C,
     plan: &Arc<Plan>,
+    start: Option<u32>,
     rows: &[&str],
 ) -> Result<(), Fail> {
     let mut road = Road::empty(alloc);
     for (step, row) in (0u32..).zip(rows) {
-        road = stepped_by(crew, alloc, plan, step, &road)?;
+        road = stepped_by(crew, alloc, plan, start, step, &road)?;
         let is_right = is_drawn_as(&road, row.as_bytes());
         assert!(rt; is_right, "after step {step}");
     }
@@ -87,15 +107,25 @@ pub(crate) fn gives<C: Crew>(
     rows: &[&str],
 ) -> Result<(), Fail> {
     let plan = shared_plan(alloc, parts)?;
-    takes_rows(rt, alloc, crew, &plan, rows)
+    takes_rows(rt, alloc, crew, &plan, None, rows)
 }
 
-/// Steps the dense road and the half slowed one through their worked rows.
-pub(crate) fn gives_both<C: Crew>(
+// The same where standing cars have a slowing chance of their own.
+fn gives_with_start<C: Crew>(
     rt: &impl Abort,
     alloc: Global,
     crew: &mut C,
+    parts: &Parts,
+    start: u32,
+    rows: &[&str],
 ) -> Result<(), Fail> {
+    let plan = shared_plan(alloc, parts)?;
+    takes_rows(rt, alloc, crew, &plan, Some(start), rows)
+}
+
+/// Steps the dense road, the half slowed one, and the dense one that is slow to start through their worked rows.
+pub(crate) fn gives_all<C: Crew>(rt: &impl Abort, alloc: Global, crew: &mut C) -> Result<(), Fail> {
     gives(rt, alloc, crew, &DENSE, DENSE_ROWS)?;
-    gives(rt, alloc, crew, &HALF_SLOWED, HALF_SLOWED_ROWS)
+    gives(rt, alloc, crew, &HALF_SLOWED, HALF_SLOWED_ROWS)?;
+    gives_with_start(rt, alloc, crew, &DENSE, DENSE_START, DENSE_START_ROWS)
 }

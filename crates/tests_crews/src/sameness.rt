@@ -2,10 +2,10 @@
 
 ghost use Rattle.road_cells.specs.Cars.{AreRising};
 
-use crate::rows::{input_of, shared_plan};
+use crate::rows::{input_of, settings_of, shared_plan};
 use road_cells::{Car, Road};
 use road_ends::{DrawnWords, StepInput, enter_with};
-use road_plan::{Plan, Settings};
+use road_plan::Plan;
 use std::alloc::Global;
 use std::sync::Arc;
 use std::test::Fail;
@@ -49,11 +49,15 @@ const OTHER_SPEED: &[Car] = &[FIRST, Car { speed: 2, ..SECOND }];
 fn input_of_run(
     alloc: Global,
     plan: &Arc<Plan>,
+    start: Option<u32>,
     step: u32,
     road: &Road,
 ) -> Result<Arc<StepInput>, Fail> {
-    plan.known_own_settings();
-    let settings = Arc::new(alloc, Settings::of_plan(alloc, plan)?)?;
+    let settings = settings_of(alloc, plan, start)?;
+    if !settings.fits(plan) {
+        return Err(Fail::new("settings that do not fit the plan"));
+    }
+    let settings = Arc::new(alloc, settings)?;
     let mut words = DrawnWords::of(alloc, plan);
     Ok(enter_with(alloc, plan, settings, step, road, &mut words)?)
 }
@@ -62,21 +66,23 @@ fn input_of_run(
 // second has none.
 fn input_on(
     alloc: Global,
+    start: Option<u32>,
     step: u32,
     road: &Road,
     is_of_run: bool,
 ) -> Result<Arc<StepInput>, Fail> {
     let plan = shared_plan(alloc, &CLOSED)?;
     if is_of_run {
-        input_of_run(alloc, &plan, step, road)
+        input_of_run(alloc, &plan, start, step, road)
     } else {
-        input_of(alloc, &plan, step, road)
+        input_of(alloc, &plan, start, step, road)
     }
 }
 
 // The same with these cars.
 fn input_with(
     alloc: Global,
+    start: Option<u32>,
     step: u32,
     cars: &[Car],
     is_of_run: bool,
@@ -84,7 +90,7 @@ fn input_with(
     requires { AreRising cars.now }
 {
     let road = Road::of(cars.to_vec(alloc)?);
-    input_on(alloc, step, &road, is_of_run)
+    input_on(alloc, start, step, &road, is_of_run)
 }
 
 /// With columns or without, of the first input and of the second.
@@ -94,44 +100,61 @@ const KINDS: &[(bool, bool)] = &[(false, false), (false, true), (true, false), (
 fn are_same(
     alloc: Global,
     kinds: (bool, bool),
+    start: Option<u32>,
     step: u32,
     cars: &[Car],
 ) -> Result<(bool, bool), Fail>
     requires { AreRising cars.now }
 {
-    let input = input_with(alloc, 3, BOTH, kinds.0)?;
-    let other = input_with(alloc, step, cars, kinds.1)?;
+    let input = input_with(alloc, None, 3, BOTH, kinds.0)?;
+    let other = input_with(alloc, start, step, cars, kinds.1)?;
     Ok((input.same(&other), other.same(&input)))
 }
 
 // Whether they are, or are not, as is wanted, with columns and without.
-fn all_are(alloc: Global, step: u32, cars: &[Car], wanted: bool) -> Result<bool, Fail>
+fn all_are(
+    alloc: Global,
+    start: Option<u32>,
+    step: u32,
+    cars: &[Car],
+    wanted: bool,
+) -> Result<bool, Fail>
     requires { AreRising cars.now }
 {
     let mut well = true;
     for kinds in KINDS {
-        well = well && are_same(alloc, *kinds, step, cars)? == (wanted, wanted);
+        well = well && are_same(alloc, *kinds, start, step, cars)? == (wanted, wanted);
     }
     Ok(well)
 }
 
 #[test]
 fn an_input_is_the_same_as_another_of_its_step_and_cars(rt: HostRuntime) -> Result<(), Fail> {
-    assert!(rt; all_are(rt.alloc(), 3, BOTH, true)?);
-    assert!(rt; all_are(rt.alloc(), 4, BOTH, false)?);
+    assert!(rt; all_are(rt.alloc(), None, 3, BOTH, true)?);
+    assert!(rt; all_are(rt.alloc(), None, 4, BOTH, false)?);
     Ok(())
 }
 
 #[test]
 fn inputs_differ_where_a_car_is_missing(rt: HostRuntime) -> Result<(), Fail> {
-    assert!(rt; all_are(rt.alloc(), 3, ALONE, false)?);
+    assert!(rt; all_are(rt.alloc(), None, 3, ALONE, false)?);
     Ok(())
 }
 
 #[test]
 fn inputs_differ_by_each_part_of_a_car(rt: HostRuntime) -> Result<(), Fail> {
-    assert!(rt; all_are(rt.alloc(), 3, OTHER_NUMBER, false)?);
-    assert!(rt; all_are(rt.alloc(), 3, OTHER_CELL, false)?);
-    assert!(rt; all_are(rt.alloc(), 3, OTHER_SPEED, false)?);
+    assert!(rt; all_are(rt.alloc(), None, 3, OTHER_NUMBER, false)?);
+    assert!(rt; all_are(rt.alloc(), None, 3, OTHER_CELL, false)?);
+    assert!(rt; all_are(rt.alloc(), None, 3, OTHER_SPEED, false)?);
+    Ok(())
+}
+
+/// The slowing chance of all cars, given for standing ones too, makes no other input; another one does.
+#[test]
+fn inputs_differ_by_the_chance_of_standing_cars(rt: HostRuntime) -> Result<(), Fail> {
+    assert!(rt; all_are(rt.alloc(), Some(32_768), 3, BOTH, true)?);
+    assert!(rt; all_are(rt.alloc(), Some(32_767), 3, BOTH, false)?);
+    assert!(rt; all_are(rt.alloc(), Some(0), 3, BOTH, false)?);
+    assert!(rt; all_are(rt.alloc(), Some(65_536), 3, BOTH, false)?);
     Ok(())
 }

@@ -2,7 +2,7 @@
 
 ghost use Rattle.std.specs.Prelude.{◌<◌, ◌≤◌};
 
-use crate::rows::gives_both;
+use crate::rows::gives_all;
 use road_workers::{NoGate, Pool, Scoped};
 use std::alloc::Global;
 use std::process::Abort;
@@ -16,7 +16,7 @@ fn scoped_gives<R: Threads + Wait + Abort>(rt: &R, alloc: Global, workers: u32) 
     requires few { workers ≤ 16 }
 {
     let mut crew = Scoped::new(rt, workers, Box::new(alloc, NoGate)?);
-    gives_both(rt, alloc, &mut crew)
+    gives_all(rt, alloc, &mut crew)
 }
 
 #[test]
@@ -37,7 +37,7 @@ fn pool_gives<R: Threads + Wait + Abort + Clone + Drop + Send + 'static>(
     requires few { workers ≤ 16 }
 {
     let mut crew = Pool::start(rt.clone()?, alloc, workers)?;
-    let given = gives_both(rt, alloc, &mut crew);
+    let given = gives_all(rt, alloc, &mut crew);
     crew.finish();
     given
 }

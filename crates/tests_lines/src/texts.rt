@@ -47,7 +47,7 @@ const TEXTS: &[(Fault, &str)] = &[
         Fault::Edit(EditFault::NoObject),
         "the plan has no such object",
     ),
-    (Fault::Edit(EditFault::Step), "the step is above 65535"),
+    (Fault::Edit(EditFault::Step), "the step is above 1048575"),
     (
         Fault::Edit(EditFault::ValueOutOfRange),
         "the number is out of the object's range",

@@ -73,6 +73,16 @@ pub const DENSE_ROWS: &[&str] = &[
     "0..00..1.00..1..1.00..1.0.1.....",
 ];
 
+/// A slowing chance of standing cars, and the rows of the dense road with it after each step from the first on.
+pub const DENSE_START: u32 = 45_000;
+
+pub const DENSE_START_ROWS: &[&str] = &[
+    "0..0..0...1.0..0...1.0...1......",
+    "0..0...1.00..1.0..00..1.0.1.....",
+    ".1.0..00.0.100.0..00.00..1..2...",
+    "00..1.00.0.00.10..00.0.10.1..1..",
+];
+
 /// These parts, with memory of their own.
 ///
 /// # Errors

@@ -1,6 +1,6 @@
 //! Writes with their answers, and what the replica holds and shows then.
 
-use crate::replicas::{BLOCK, Entry, LIMIT, Write, holds, opened, shows, written};
+use crate::replicas::{BLOCK, Entry, LIMIT, START, Write, holds, opened_on, shows, written};
 use road_ends::Meter;
 use road_plan::Object;
 use road_replica::{Replica, ReplicaFault, Reply};
@@ -8,6 +8,7 @@ use road_scenario::{Stamp, Value};
 use road_workers::Alone;
 use std::alloc::Global;
 use std::test::Fail;
+use tests_plans::{FREE, Parts};
 
 /// A write to a replica, and its answer.
 type Answered = (Write, Result<Reply, ReplicaFault>);
@@ -15,6 +16,7 @@ type Answered = (Write, Result<Reply, ReplicaFault>);
 /// Writes to a replica before which there was none, the edits that it holds then, and rows that it shows.
 #[derive(Clone, Copy)]
 struct Example {
+    parts: Parts,
     number: u8,
     writes: &'static [Answered],
     held: &'static [Entry],
@@ -27,20 +29,25 @@ const MOST: u64 = 281_474_976_710_656;
 const TO_SIX: Answered = (Write::Advance(6), Ok(Reply::Horizon(6)));
 
 /// The cell 8 is blocked from step 4 on, once the road is at step 6.
-const BLOCKED: Answered = (
-    Write::Edit(BLOCK, 4, 1),
-    Ok(Reply::Stamped(Stamp {
-        count: 1,
-        number: 0,
-    })),
-);
+const BLOCKED: Answered = (Write::Edit(BLOCK, 4, 1), Ok(Reply::Stamped(FIRST_STAMP)));
+
+const FIRST_STAMP: Stamp = Stamp {
+    count: 1,
+    number: 0,
+};
 
 const SECOND_STAMP: Stamp = Stamp {
     count: 2,
     number: 0,
 };
 
+const THIRD_STAMP: Stamp = Stamp {
+    count: 3,
+    number: 0,
+};
+
 const FREE_ROAD: Example = Example {
+    parts: FREE,
     number: 0,
     writes: &[TO_SIX, (Write::Advance(3), Ok(Reply::Horizon(6)))],
     held: &[],
@@ -81,20 +88,173 @@ const WITHDRAWAL: Example = Example {
     ..FREE_ROAD
 };
 
+/// Standing cars never start, since a late edit from step 3 on always.
+const SLOW_TO_START: Example = Example {
+    writes: &[
+        (
+            Write::Edit(START, 0, 65_536),
+            Ok(Reply::Stamped(FIRST_STAMP)),
+        ),
+        TO_SIX,
+    ],
+    held: &[(START, 0, (1, 0), Value::Put(65_536))],
+    rows: &[
+        (1, "0..........."),
+        (2, "0..........."),
+        (3, "0..........."),
+        (4, "0..........."),
+        (5, "0..........."),
+        (6, "0..........."),
+    ],
+    ..FREE_ROAD
+};
+
+const STARTS_LATER: Example = Example {
+    writes: &[
+        (
+            Write::Edit(START, 0, 65_536),
+            Ok(Reply::Stamped(FIRST_STAMP)),
+        ),
+        TO_SIX,
+        (Write::Edit(START, 3, 0), Ok(Reply::Stamped(SECOND_STAMP))),
+    ],
+    held: &[
+        (START, 0, (1, 0), Value::Put(65_536)),
+        (START, 3, (2, 0), Value::Put(0)),
+    ],
+    rows: &[
+        (3, "0..........."),
+        (4, ".1.........."),
+        (5, "0..2........"),
+        (6, ".1...2......"),
+    ],
+    ..FREE_ROAD
+};
+
+/// Moving cars are always slowed, and standing ones never; then all are slowed again.
+const QUICK_TO_START: Example = Example {
+    parts: ALWAYS_SLOWED,
+    writes: &[
+        (Write::Edit(START, 0, 0), Ok(Reply::Stamped(FIRST_STAMP))),
+        (Write::Advance(5), Ok(Reply::Horizon(5))),
+    ],
+    held: &[(START, 0, (1, 0), Value::Put(0))],
+    rows: &[
+        (1, ".1.........."),
+        (2, "0.1........."),
+        (3, ".1.1........"),
+        (4, "00..1......."),
+        (5, "0.1..1......"),
+    ],
+    ..FREE_ROAD
+};
+
+const ALWAYS_SLOWED: Parts = Parts {
+    zones: &[(2, 65_536)],
+    ..FREE
+};
+
+const QUICK_START_WITHDRAWN: Example = Example {
+    writes: &[
+        (Write::Edit(START, 0, 0), Ok(Reply::Stamped(FIRST_STAMP))),
+        (Write::Advance(5), Ok(Reply::Horizon(5))),
+        (Write::Withdraw(START, 0), Ok(Reply::Stamped(SECOND_STAMP))),
+    ],
+    held: &[(START, 0, (2, 0), Value::Withdrawn)],
+    rows: &[
+        (1, "0..........."),
+        (2, "0..........."),
+        (3, "0..........."),
+        (4, "0..........."),
+        (5, "0..........."),
+    ],
+    ..QUICK_TO_START
+};
+
+/// A chance of all cars is one of standing cars too, from its step on, and however late it comes; not where these have
+/// their own.
+const SLOWED_LATE: Example = Example {
+    writes: &[
+        TO_SIX,
+        (
+            Write::Edit(Object::Slow(0), 0, 65_536),
+            Ok(Reply::Stamped(FIRST_STAMP)),
+        ),
+        (
+            Write::Edit(Object::Slow(0), 3, 0),
+            Ok(Reply::Stamped(SECOND_STAMP)),
+        ),
+    ],
+    held: &[
+        (Object::Slow(0), 0, (1, 0), Value::Put(65_536)),
+        (Object::Slow(0), 3, (2, 0), Value::Put(0)),
+    ],
+    rows: &[
+        (3, "0..........."),
+        (4, ".1.........."),
+        (5, "0..2........"),
+        (6, ".1...2......"),
+    ],
+    ..FREE_ROAD
+};
+
+const SLOWED_BELOW_A_START: Example = Example {
+    writes: &[
+        TO_SIX,
+        (
+            Write::Import(&[(START, 0, (1, 64), Value::Put(0))]),
+            Ok(Reply::Touched(Some(0))),
+        ),
+        (
+            Write::Import(&[(Object::Slow(0), 0, (1, 64), Value::Put(65_536))]),
+            Ok(Reply::Touched(Some(0))),
+        ),
+        (
+            Write::Edit(Object::Slow(0), 3, 0),
+            Ok(Reply::Stamped(SECOND_STAMP)),
+        ),
+    ],
+    held: &[
+        (Object::Slow(0), 0, (1, 64), Value::Put(65_536)),
+        (Object::Slow(0), 3, (2, 0), Value::Put(0)),
+        (START, 0, (1, 64), Value::Put(0)),
+    ],
+    rows: &[
+        (1, ".1.........."),
+        (2, "0.1........."),
+        (3, ".1.1........"),
+        (4, "0.1..2......"),
+        (5, ".1..2..2...."),
+        (6, "0..2..2..2.."),
+    ],
+    ..FREE_ROAD
+};
+
+/// The last step of the longest run is edited, and a step that is far from it.
 const GREATEST_HORIZON: Example = Example {
     writes: &[
         (
             Write::Edit(Object::Block(0), 0, 1),
-            Ok(Reply::Stamped(Stamp {
-                count: 1,
-                number: 0,
-            })),
+            Ok(Reply::Stamped(FIRST_STAMP)),
         ),
-        (Write::Advance(65_536), Ok(Reply::Horizon(65_536))),
-        (Write::Advance(65_537), Err(ReplicaFault::Horizon)),
+        (Write::Advance(1_048_576), Ok(Reply::Horizon(1_048_576))),
+        (Write::Advance(1_048_577), Err(ReplicaFault::Horizon)),
+        (
+            Write::Edit(Object::Block(0), 1_048_575, 0),
+            Ok(Reply::Stamped(SECOND_STAMP)),
+        ),
+        (Write::Edit(LIMIT, 1_048_576, 1), Err(ReplicaFault::Step)),
+        (
+            Write::Edit(LIMIT, 65_536, 1),
+            Ok(Reply::Stamped(THIRD_STAMP)),
+        ),
     ],
-    held: &[(Object::Block(0), 0, (1, 0), Value::Put(1))],
-    rows: &[(65_536, "#...........")],
+    held: &[
+        (LIMIT, 65_536, (3, 0), Value::Put(1)),
+        (Object::Block(0), 0, (1, 0), Value::Put(1)),
+        (Object::Block(0), 1_048_575, (2, 0), Value::Put(0)),
+    ],
+    rows: &[(1_048_575, "............"), (1_048_576, ".1..........")],
     ..FREE_ROAD
 };
 
@@ -107,7 +267,7 @@ const COUNTS_SPENT: Example = Example {
         ),
         (Write::Edit(LIMIT, 1, 1), Err(ReplicaFault::CountsSpent)),
         (Write::Withdraw(LIMIT, 0), Err(ReplicaFault::CountsSpent)),
-        (Write::Edit(LIMIT, 65_536, 1), Err(ReplicaFault::Step)),
+        (Write::Edit(LIMIT, 1_048_576, 1), Err(ReplicaFault::Step)),
     ],
     held: &[(LIMIT, 0, (MOST, 64), Value::Put(1))],
     rows: &[],
@@ -118,19 +278,35 @@ const COUNTS_SPENT: Example = Example {
 const REFUSALS: Example = Example {
     writes: &[
         (
-            Write::Edit(Object::Limit(1), 65_536, 10),
+            Write::Edit(Object::Limit(1), 1_048_576, 10),
             Err(ReplicaFault::NoObject),
         ),
-        (Write::Edit(LIMIT, 65_536, 10), Err(ReplicaFault::Step)),
+        (Write::Edit(LIMIT, 1_048_576, 10), Err(ReplicaFault::Step)),
         (
-            Write::Edit(LIMIT, 65_535, 10),
+            Write::Edit(LIMIT, 1_048_575, 10),
             Err(ReplicaFault::ValueOutOfRange),
         ),
         (
-            Write::Withdraw(Object::Limit(1), 65_536),
+            Write::Withdraw(Object::Limit(1), 1_048_576),
             Err(ReplicaFault::NoObject),
         ),
-        (Write::Withdraw(LIMIT, 65_536), Err(ReplicaFault::Step)),
+        (Write::Withdraw(LIMIT, 1_048_576), Err(ReplicaFault::Step)),
+        (
+            Write::Edit(Object::Start(1), 1_048_576, 65_537),
+            Err(ReplicaFault::NoObject),
+        ),
+        (
+            Write::Edit(START, 1_048_576, 65_537),
+            Err(ReplicaFault::Step),
+        ),
+        (
+            Write::Edit(START, 1_048_575, 65_537),
+            Err(ReplicaFault::ValueOutOfRange),
+        ),
+        (
+            Write::Withdraw(Object::Start(1), 0),
+            Err(ReplicaFault::NoObject),
+        ),
         (
             Write::Take(&[(LIMIT, 0, (0, 3), Value::Put(10))]),
             Err(ReplicaFault::ValueOutOfRange),
@@ -205,6 +381,7 @@ const FALLING_NUMBERS: Example = Example {
 
 /// A replica counts on from what it took.
 const NEXT_COUNT: Example = Example {
+    parts: FREE,
     number: 1,
     writes: &[
         (
@@ -227,7 +404,12 @@ const EXAMPLES: &[Example] = &[
     FREE_ROAD,
     LATE_EDIT,
     WITHDRAWAL,
-    GREATEST_HORIZON,
+    SLOW_TO_START,
+    STARTS_LATER,
+    QUICK_TO_START,
+    QUICK_START_WITHDRAWN,
+    SLOWED_LATE,
+    SLOWED_BELOW_A_START,
     COUNTS_SPENT,
     REFUSALS,
     REFUSED_IMPORTS,
@@ -268,7 +450,7 @@ fn goes(alloc: Global, replica: &mut Replica, example: &Example) -> Result<bool,
 
 // Whether a new replica does.
 fn opened_goes(alloc: Global, example: &Example) -> Result<bool, Fail> {
-    let mut replica = opened(alloc, example.number)?;
+    let mut replica = opened_on(alloc, &example.parts, example.number)?;
     goes(alloc, &mut replica, example)
 }
 
@@ -277,5 +459,11 @@ fn writes_are_answered(rt: HostRuntime) -> Result<(), Fail> {
     for (place, example) in EXAMPLES.iter().enumerate() {
         assert!(&rt; opened_goes(rt.alloc(), example)?, "example {place}");
     }
+    Ok(())
+}
+
+#[test]
+fn writes_near_the_greatest_horizon_are_answered(rt: HostRuntime) -> Result<(), Fail> {
+    assert!(&rt; opened_goes(rt.alloc(), &GREATEST_HORIZON)?);
     Ok(())
 }

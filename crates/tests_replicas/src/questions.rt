@@ -2,6 +2,7 @@
 
 use crate::replicas::{BLOCK, Write, replica_after};
 use road_cells::Car;
+use road_plan::Object;
 use road_replica::{Replica, ReplicaFault};
 use std::alloc::Global;
 use std::test::Fail;
@@ -92,6 +93,27 @@ fn has_worked_cars(alloc: Global, replica: &Replica) -> Result<bool, ReplicaFaul
 fn shows_the_worked_cars(rt: HostRuntime) -> Result<(), Fail> {
     let replica = at_six(rt.alloc())?;
     assert!(&rt; has_worked_cars(rt.alloc(), &replica)?);
+    Ok(())
+}
+
+/// The inlet is closed but in the last step of the longest run.
+const OPENED_LAST: &[Write] = &[
+    Write::Edit(Object::Block(0), 0, 1),
+    Write::Advance(1_048_576),
+    Write::Edit(Object::Block(0), 1_048_575, 0),
+];
+
+/// Its number is 16 times the last step.
+const LAST_CAR: &[Car] = &[Car {
+    number: 16_777_200,
+    cell: 1,
+    speed: 1,
+}];
+
+#[test]
+fn shows_the_last_car_of_the_longest_run(rt: HostRuntime) -> Result<(), Fail> {
+    let replica = replica_after(rt.alloc(), 0, OPENED_LAST)?;
+    assert!(&rt; has_cars(rt.alloc(), &replica, 1_048_576, LAST_CAR)?);
     Ok(())
 }
 

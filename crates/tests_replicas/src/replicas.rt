@@ -1,4 +1,4 @@
-//! Replicas of the free road, and writes to them as tables have them.
+//! Replicas, most of them of the free road, and writes to them as tables have them.
 
 use road_ends::Meter;
 use road_plan::Object;
@@ -8,11 +8,13 @@ use road_workers::{Alone, Crew};
 use std::alloc::Global;
 use std::sync::Arc;
 use std::test::Fail;
-use tests_plans::{FREE, plan_of};
+use tests_plans::{FREE, Parts, plan_of};
 
 pub(crate) const LIMIT: Object = Object::Limit(0);
 
 pub(crate) const BLOCK: Object = Object::Block(8);
+
+pub(crate) const START: Object = Object::Start(0);
 
 /// An edit: its object and step, the count and number of its stamp, and its value.
 pub(crate) type Entry = (Object, u32, (u64, u16), Value);
@@ -27,10 +29,15 @@ pub(crate) enum Write {
     Advance(u32),
 }
 
+/// A replica of a road before any write.
+pub(crate) fn opened_on(alloc: Global, parts: &Parts, number: u8) -> Result<Replica, Fail> {
+    let plan = Arc::new(alloc, plan_of(alloc, parts)?)?;
+    Ok(Replica::open(alloc, plan, (number % 64) as u32)?)
+}
+
 /// A replica of the free road before any write.
 pub(crate) fn opened(alloc: Global, number: u8) -> Result<Replica, Fail> {
-    let plan = Arc::new(alloc, plan_of(alloc, &FREE)?)?;
-    Ok(Replica::open(alloc, plan, (number % 64) as u32)?)
+    opened_on(alloc, &FREE, number)
 }
 
 /// The edits of a table.

@@ -460,7 +460,7 @@ const TWO_ZONES: Parts = Parts {
     words: WordKind::Seeded(7),
 };
 
-/// Limits, chances, inflows, blocks, how many detectors are on, and the chances of cars that stand.
+/// Limits, chances, inflows, blocks, how many detectors are on, and the chances of standing cars.
 type Numbers = (
     &'static [u32],
     &'static [u32],

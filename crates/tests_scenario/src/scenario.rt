@@ -16,6 +16,8 @@ const SLOW: Object = Object::Slow(0);
 
 const BLOCK: Object = Object::Block(8);
 
+const START: Object = Object::Start(0);
+
 /// The scenario that these edits make, in this order.
 fn scenario(alloc: Global, edits: &[Edit]) -> Result<Scenario, OutOfMemory> {
     let mut scenario = Scenario::empty(alloc);
@@ -140,6 +142,46 @@ const LATE: Edit = Edit {
     value: Value::Put(0),
 };
 
+/// Slowing chances of all cars and of standing cars.
+const SLOWED: Edit = Edit {
+    object: SLOW,
+    step: 3,
+    stamp: Stamp {
+        count: 1,
+        number: 64,
+    },
+    value: Value::Put(9),
+};
+
+const SLOWED_LATER: Edit = Edit {
+    step: 5,
+    value: Value::Put(8),
+    ..SLOWED
+};
+
+const STARTED: Edit = Edit {
+    object: START,
+    step: 2,
+    value: Value::Put(7),
+    ..SLOWED
+};
+
+const STARTED_LATER: Edit = Edit {
+    step: 4,
+    value: Value::Put(0),
+    ..STARTED
+};
+
+const NO_START: Edit = Edit {
+    object: START,
+    step: 2,
+    stamp: Stamp {
+        count: 4,
+        number: 0,
+    },
+    value: Value::Withdrawn,
+};
+
 const MERGES: &[Merge] = &[
     Merge {
         held: &[],
@@ -253,6 +295,34 @@ const MERGES: &[Merge] = &[
         touched: Some(4),
         count: 3,
     },
+    Merge {
+        held: &[SLOWED, SLOWED_LATER],
+        come: &[STARTED_LATER],
+        listed: &[SLOWED, SLOWED_LATER, STARTED_LATER],
+        touched: Some(4),
+        count: 1,
+    },
+    Merge {
+        held: &[STARTED, BLOCKED],
+        come: &[SLOWED],
+        listed: &[SLOWED, BLOCKED, STARTED],
+        touched: Some(3),
+        count: 1,
+    },
+    Merge {
+        held: &[STARTED, SLOWED_LATER],
+        come: &[NO_START],
+        listed: &[SLOWED_LATER, NO_START],
+        touched: Some(2),
+        count: 4,
+    },
+    Merge {
+        held: &[STARTED_LATER, NO_START, STARTED],
+        come: &[STARTED, NO_SLOW],
+        listed: &[NO_SLOW, NO_START, STARTED_LATER],
+        touched: None,
+        count: 4,
+    },
 ];
 
 // Whether a copy of a scenario lists just these edits, in this order.
@@ -338,8 +408,8 @@ fn lists_make_scenarios(rt: HostRuntime) -> Result<(), Fail> {
     Ok(())
 }
 
-/// Edits, and the limit of the first zone at the steps 2, 4, 5 and 65,535: where a later put is withdrawn, the earlier
-/// one is in force on.
+/// Edits, and the limit of the first zone at the steps 2, 4, 5 and 1,048,575: where a later put is withdrawn, the
+/// earlier one is in force on.
 const LIMITS: &[(&[Edit], [u32; 4])] = &[
     (&[], [2, 2, 2, 2]),
     (&[ONE], [2, 1, 1, 1]),
@@ -402,7 +472,7 @@ fn limits_after(
         limit_at(rt, &made, plan, 2),
         limit_at(rt, &made, plan, 4),
         limit_at(rt, &made, plan, 5),
-        limit_at(rt, &made, plan, 65_535),
+        limit_at(rt, &made, plan, 1_048_575),
     ])
 }
 
@@ -421,8 +491,103 @@ fn an_earlier_put_acts_on(rt: HostRuntime) -> Result<(), Fail> {
     limits_act(&rt, rt.alloc(), &plan)
 }
 
-/// One edit of each kind from step 2 on, a block that is withdrawn, and another limit from step 3 on.
+/// Edits, and the slowing chance of standing cars at the steps 2, 4, 5 and 1,048,575: where none is put for them it is
+/// that of all cars at that step, however late that is put.
+const STARTS: &[(&[Edit], [u32; 4])] = &[
+    (&[], [0, 0, 0, 0]),
+    (&[SLOWED], [0, 9, 9, 9]),
+    (&[SLOWED_LATER, SLOWED], [0, 9, 8, 8]),
+    (&[STARTED], [7, 7, 7, 7]),
+    (&[STARTED, SLOWED], [7, 7, 7, 7]),
+    (&[SLOWED, SLOWED_LATER, STARTED], [7, 7, 7, 7]),
+    (&[SLOWED, SLOWED_LATER, STARTED_LATER], [0, 0, 0, 0]),
+    (&[STARTED, STARTED_LATER], [7, 0, 0, 0]),
+    (&[STARTED, SLOWED, NO_START], [0, 9, 9, 9]),
+    (&[NO_START, SLOWED, STARTED, SLOWED_LATER], [0, 9, 8, 8]),
+    (&[NO_SLOW, SLOWED], [0, 9, 9, 9]),
+    (
+        &[
+            STARTED,
+            SLOWED,
+            STARTED_LATER,
+            Edit {
+                step: 4,
+                ..NO_START
+            },
+        ],
+        [7, 7, 7, 7],
+    ),
+    (
+        &[
+            STARTED_LATER,
+            SLOWED_LATER,
+            Edit {
+                step: 4,
+                ..NO_START
+            },
+        ],
+        [0, 0, 8, 8],
+    ),
+];
+
+// The slowing chance of the first zone's standing cars at a step.
+fn start_at(rt: &impl Abort, scenario: &Scenario, plan: &Plan, step: u32) -> u32 {
+    assert!(rt; START.in_plan(plan));
+    scenario.setting(plan, START, step)
+}
+
+// These chances at the steps of the table.
+fn starts_after(
+    rt: &impl Abort,
+    alloc: Global,
+    plan: &Plan,
+    edits: &[Edit],
+) -> Result<[u32; 4], OutOfMemory> {
+    let made = scenario(alloc, edits)?;
+    Ok([
+        start_at(rt, &made, plan, 2),
+        start_at(rt, &made, plan, 4),
+        start_at(rt, &made, plan, 5),
+        start_at(rt, &made, plan, 1_048_575),
+    ])
+}
+
+// The chances of each row are as it says.
+fn starts_act(rt: &impl Abort, alloc: Global, plan: &Plan) -> Result<(), Fail> {
+    for (row, (edits, starts)) in STARTS.iter().enumerate() {
+        let made = starts_after(rt, alloc, plan, edits)?;
+        assert!(rt; made == *starts, "row {row}");
+    }
+    Ok(())
+}
+
+#[test]
+fn standing_cars_are_slowed_like_others_where_none_is_put(rt: HostRuntime) -> Result<(), Fail> {
+    let plan = plan_of(rt.alloc(), &FREE)?;
+    starts_act(&rt, rt.alloc(), &plan)
+}
+
+/// One edit of each kind from step 2 on, a block that is withdrawn, and from step 3 on another limit and another chance
+/// of standing cars.
 const ALL_KINDS: &[Edit] = &[
+    Edit {
+        object: Object::Start(0),
+        step: 3,
+        stamp: Stamp {
+            count: 1,
+            number: 0,
+        },
+        value: Value::Put(7),
+    },
+    Edit {
+        object: Object::Start(0),
+        step: 2,
+        stamp: Stamp {
+            count: 2,
+            number: 0,
+        },
+        value: Value::Withdrawn,
+    },
     Edit {
         object: Object::Watch(0),
         step: 2,
@@ -497,7 +662,7 @@ const ALL_KINDS: &[Edit] = &[
     },
 ];
 
-/// Limits, slowing chances, inflows and blocked cells, whether the detector is on, and the chances of cars that stand.
+/// Limits, slowing chances, inflows and blocked cells, whether the detector is on, and the chances of standing cars.
 #[derive(Clone, Copy)]
 struct Numbers {
     limits: &'static [u32],
@@ -533,14 +698,14 @@ const SETTINGS: &[(u32, Numbers)] = &[
         },
     ),
     (
-        65_536,
+        1_048_576,
         Numbers {
             limits: &[9],
             chances: &[65_536],
             inflows: &[9],
             blocks: &[3, 8],
             watched: &[false],
-            starts: &[65_536],
+            starts: &[7],
         },
     ),
 ];
@@ -624,7 +789,7 @@ const FAULTS: &[(Edit, Option<EditFault>)] = &[
     (
         Edit {
             object: Object::Limit(1),
-            step: 65_536,
+            step: 1_048_576,
             stamp: Stamp {
                 count: 0,
                 number: 0,
@@ -636,7 +801,7 @@ const FAULTS: &[(Edit, Option<EditFault>)] = &[
     (
         Edit {
             object: LIMIT,
-            step: 65_536,
+            step: 1_048_576,
             stamp: Stamp {
                 count: 1,
                 number: 0,
@@ -648,7 +813,7 @@ const FAULTS: &[(Edit, Option<EditFault>)] = &[
     (
         Edit {
             object: LIMIT,
-            step: 65_535,
+            step: 1_048_575,
             stamp: Stamp {
                 count: 1,
                 number: 0,
@@ -660,7 +825,7 @@ const FAULTS: &[(Edit, Option<EditFault>)] = &[
     (
         Edit {
             object: LIMIT,
-            step: 65_535,
+            step: 1_048_575,
             stamp: Stamp {
                 count: 0,
                 number: 0,
@@ -720,7 +885,7 @@ const FAULTS: &[(Edit, Option<EditFault>)] = &[
     (
         Edit {
             object: LIMIT,
-            step: 65_535,
+            step: 1_048_575,
             stamp: Stamp {
                 count: 1,
                 number: 0,
@@ -732,7 +897,7 @@ const FAULTS: &[(Edit, Option<EditFault>)] = &[
     (
         Edit {
             object: LIMIT,
-            step: 65_535,
+            step: 1_048_575,
             stamp: Stamp {
                 count: 1,
                 number: 0,
@@ -741,6 +906,54 @@ const FAULTS: &[(Edit, Option<EditFault>)] = &[
         },
         None,
     ),
+    (
+        Edit {
+            object: LIMIT,
+            step: 65_536,
+            stamp: Stamp {
+                count: 1,
+                number: 0,
+            },
+            value: Value::Put(1),
+        },
+        None,
+    ),
+    (
+        Edit {
+            object: Object::Start(1),
+            step: 1_048_576,
+            stamp: Stamp {
+                count: 0,
+                number: 0,
+            },
+            value: Value::Put(65_537),
+        },
+        Some(EditFault::NoObject),
+    ),
+    (
+        Edit {
+            step: 1_048_576,
+            value: Value::Put(65_537),
+            ..STARTED
+        },
+        Some(EditFault::Step),
+    ),
+    (
+        Edit {
+            value: Value::Put(65_537),
+            ..STARTED
+        },
+        Some(EditFault::ValueOutOfRange),
+    ),
+    (
+        Edit {
+            step: 1_048_575,
+            value: Value::Put(65_536),
+            ..STARTED
+        },
+        None,
+    ),
+    (NO_START, None),
 ];
 
 /// Edits, and the fault of the first faulty one by object and step, whichever came first.
@@ -771,7 +984,7 @@ const FIRST_FAULTS: &[(&[Edit], Option<EditFault>)] = &[
             },
             Edit {
                 object: LIMIT,
-                step: 65_536,
+                step: 1_048_576,
                 stamp: Stamp {
                     count: 2,
                     number: 0,
@@ -794,7 +1007,7 @@ const FIRST_FAULTS: &[(&[Edit], Option<EditFault>)] = &[
             },
             Edit {
                 object: LIMIT,
-                step: 65_536,
+                step: 1_048_576,
                 stamp: Stamp {
                     count: 2,
                     number: 0,
@@ -821,6 +1034,21 @@ const FIRST_FAULTS: &[(&[Edit], Option<EditFault>)] = &[
             },
         ],
         Some(EditFault::ValueOutOfRange),
+    ),
+    (
+        &[
+            Edit {
+                step: 0,
+                value: Value::Put(65_537),
+                ..STARTED
+            },
+            Edit {
+                object: Object::Watch(0),
+                step: 1_048_576,
+                ..SLOWED
+            },
+        ],
+        Some(EditFault::Step),
     ),
 ];
 

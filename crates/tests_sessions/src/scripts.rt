@@ -159,7 +159,7 @@ pub(crate) const WITHDRAWN: Script = Script {
         (
             0,
             Act::Write(
-                Write::Edit(LIMIT, 65_536, 1),
+                Write::Edit(LIMIT, 1_048_576, 1),
                 Err(WriteFault::Replica(ReplicaFault::Step)),
             ),
         ),
@@ -179,7 +179,7 @@ pub(crate) const WITHDRAWN: Script = Script {
         (
             0,
             Act::Write(
-                Write::Advance(65_537),
+                Write::Advance(1_048_577),
                 Err(WriteFault::Replica(ReplicaFault::Horizon)),
             ),
         ),

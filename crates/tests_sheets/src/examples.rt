@@ -131,7 +131,7 @@ const BLOCKED_LATE: Example = Example {
     counts: &[],
 };
 
-/// The cell of the only inlet is blocked, up to the greatest horizon; an edit of the last step computes one span.
+/// The cell of the only inlet is blocked up to the last step of the longest run; opening it there computes one span.
 const CLOSED: Example = Example {
     growths: &[
         Growth {
@@ -140,23 +140,39 @@ const CLOSED: Example = Example {
                 step: 0,
                 ..BLOCKED
             }],
-            to: 65_536,
+            to: 1_048_576,
             touched: Some(0),
-            steps: 65_536,
+            steps: 1_048_576,
         },
         Growth {
             edits: &[Edit {
-                step: 65_535,
-                ..LIMIT
+                object: Object::Block(0),
+                step: 1_048_575,
+                value: Value::Put(0),
+                ..BLOCKED
             }],
             to: 0,
-            touched: Some(65_535),
+            touched: Some(1_048_575),
             steps: 64,
         },
     ],
-    rows: &[(65_536, Ok("#..........."))],
-    cars: &[],
-    counts: &[((0, 1, 65_535), Ok((0, 0)))],
+    rows: &[
+        (0, Ok("#...........")),
+        (1_048_574, Ok("#...........")),
+        (1_048_575, Ok("............")),
+        (1_048_576, Ok(".1..........")),
+        (1_048_577, Err(SheetFault::NotSimulated)),
+    ],
+    cars: &[Car {
+        number: 16_777_200,
+        cell: 1,
+        speed: 1,
+    }],
+    counts: &[
+        ((0, 0, 1_048_576), Ok((0, 0))),
+        ((0, 1, 1_048_575), Ok((0, 0))),
+        ((0, 0, 1_048_577), Err(SheetFault::NotSimulated)),
+    ],
 };
 
 const TO_130: Growth = Growth {
@@ -191,7 +207,6 @@ const EXAMPLES: &[Example] = &[
     OPENING,
     FREE_ROAD,
     BLOCKED_LATE,
-    CLOSED,
     LATE,
     Example {
         growths: &[
@@ -327,5 +342,11 @@ fn sheets_of_the_free_road(rt: HostRuntime) -> Result<(), Fail> {
     for (place, example) in EXAMPLES.iter().enumerate() {
         assert!(rt; example_agrees(rt.alloc(), example)?, "example {place}");
     }
+    Ok(())
+}
+
+#[test]
+fn a_sheet_of_the_longest_run(rt: HostRuntime) -> Result<(), Fail> {
+    assert!(rt; example_agrees(rt.alloc(), &CLOSED)?);
     Ok(())
 }

@@ -1,5 +1,5 @@
-//! Scripts of edits and advances at steps round the ends of spans: each state and each total against a run from step zero.
-//! One script in two has steady words, each other one seeded words of its own.
+//! Scripts of edits and advances at steps round the ends of spans, the first ones and the last ones: each state and each
+//! total against a run from step zero. One script in two has steady words, each other one seeded words of its own.
 
 use crate::sheets::{grow, opening};
 use road_detector::Totals;
@@ -24,14 +24,53 @@ const MIXED: Parts = Parts {
     words: WordKind::Seeded(11),
 };
 
+/// The same road where nobody enters by the plan, so that a run from step zero to the last steps is short.
+const CLOSED: Parts = Parts {
+    inlets: &[(0, 0), (7, 0)],
+    ..MIXED
+};
+
+/// How many scripts are about the last steps.
+const LATE_SCRIPTS: u64 = 4;
+
+/// Steps round the ends of the first spans.
 const STEPS: &[u32] = &[
     0, 1, 5, 62, 63, 64, 65, 66, 126, 127, 128, 129, 130, 191, 192, 193,
 ];
 
-/// Numbers that look random.
+/// Steps round the ends of the last spans, up to the greatest horizon.
+const LATE_STEPS: &[u32] = &[
+    1_048_384, 1_048_385, 1_048_389, 1_048_446, 1_048_447, 1_048_448, 1_048_449, 1_048_450,
+    1_048_510, 1_048_511, 1_048_512, 1_048_513, 1_048_514, 1_048_574, 1_048_575, 1_048_576,
+];
+
+/// The inlets are opened at the first of these steps.
+const OPENED: &[Edit] = &[
+    Edit {
+        object: Object::Inflow(0),
+        step: 1_048_384,
+        stamp: Stamp {
+            count: 1,
+            number: 1,
+        },
+        value: Value::Put(40_000),
+    },
+    Edit {
+        object: Object::Inflow(1),
+        step: 1_048_384,
+        stamp: Stamp {
+            count: 1,
+            number: 1,
+        },
+        value: Value::Put(30_000),
+    },
+];
+
+/// Numbers that look random, and the steps that a script is about.
 #[derive(Clone, Copy)]
 struct Dice {
     seed: u64,
+    steps: &'static [u32],
 }
 
 impl Dice {
@@ -46,7 +85,7 @@ impl Dice {
     // One of the steps.
     fn step(&mut self) -> u32 {
         let place = self.below(16) as usize;
-        STEPS.get(place).copied().unwrap_or(0)
+        self.steps.get(place).copied().unwrap_or(0)
     }
 
     // An edit of any object of the plan, one in seven a withdrawal.
@@ -61,7 +100,7 @@ impl Dice {
         };
         Edit {
             object,
-            step: self.step(),
+            step: self.step().min(1_048_575),
             stamp: Stamp { count, number: 0 },
             value: match self.below(7) {
                 0 => Value::Withdrawn,
@@ -71,13 +110,13 @@ impl Dice {
     }
 }
 
-// Whether a sheet shows the states that the run from step zero has, which goes on from each to the next; the sheet by words
-// that are kept.
-fn states_agree(alloc: Global, sheet: &Sheet) -> Result<bool, Fail> {
+// Whether a sheet shows the states that the run from step zero has at some steps, which goes on from each to the next; the
+// sheet by words that are kept.
+fn states_agree(alloc: Global, sheet: &Sheet, steps: &[u32]) -> Result<bool, Fail> {
     sheet.known();
     let mut words = DrawnWords::of(alloc, sheet.plan());
     let mut last = State::opening(alloc);
-    for place in STEPS {
+    for place in steps {
         let step = (*place).min(sheet.horizon());
         last = state_at(alloc, sheet.plan(), sheet.scenario(), &last, step)?;
         if sheet.state_with(alloc, step, &mut words)?.cars() != last.road.cars() {
@@ -90,7 +129,7 @@ fn states_agree(alloc: Global, sheet: &Sheet) -> Result<bool, Fail> {
 // What a detector counts up to a step, computed from step zero.
 fn totals_from_zero(alloc: Global, sheet: &Sheet, detector: u32, to: u32) -> Result<Totals, Fail> {
     sheet.known();
-    if to > 65_536 || sheet.plan().detectors().len() <= detector as usize {
+    if to > 1_048_576 || sheet.plan().detectors().len() <= detector as usize {
         return Err(Fail::new("no such step, or no such detector"));
     }
     let (totals, _) = totals_between(
@@ -123,7 +162,7 @@ fn totals_agree(
 
 // Whether a sheet agrees with the run from step zero: its states, and what a detector counts from a random step to another.
 fn sheet_agrees(alloc: Global, sheet: &Sheet, dice: &mut Dice) -> Result<bool, Fail> {
-    if !states_agree(alloc, sheet)? {
+    if !states_agree(alloc, sheet, dice.steps)? {
         return Ok(false);
     }
     let to = dice.step().min(sheet.horizon());
@@ -150,8 +189,7 @@ fn goes_on(alloc: Global, sheet: &mut Sheet, dice: &mut Dice, count: u64) -> Res
 }
 
 // Whether it agrees each time.
-fn all_agree(alloc: Global, sheet: &mut Sheet, seed: u64) -> Result<bool, Fail> {
-    let mut dice = Dice { seed };
+fn all_agree(alloc: Global, sheet: &mut Sheet, mut dice: Dice) -> Result<bool, Fail> {
     for count in 1..6 {
         if !goes_on(alloc, sheet, &mut dice, count)? {
             return Ok(false);
@@ -160,20 +198,51 @@ fn all_agree(alloc: Global, sheet: &mut Sheet, seed: u64) -> Result<bool, Fail> 
     Ok(true)
 }
 
-// Whether all sheets of a script agree with the run from step zero.
-fn script_agrees(alloc: Global, seed: u64) -> Result<bool, Fail> {
-    let words = match seed % 2 {
+// The words of a script.
+fn words_of(seed: u64) -> WordKind {
+    match seed % 2 {
         0 => WordKind::Steady,
         _ => WordKind::Seeded(seed),
-    };
+    }
+}
+
+// Whether all sheets of a script agree with the run from step zero.
+fn script_agrees(alloc: Global, seed: u64) -> Result<bool, Fail> {
+    let words = words_of(seed);
     let mut sheet = opening(alloc, &Parts { words, ..MIXED })?;
-    all_agree(alloc, &mut sheet, seed)
+    let dice = Dice { seed, steps: STEPS };
+    all_agree(alloc, &mut sheet, dice)
 }
 
 #[test]
 fn short_scripts_agree_with_runs_from_zero(rt: HostRuntime) -> Result<(), Fail> {
     for seed in 0..SCRIPTS {
         assert!(rt; script_agrees(rt.alloc(), seed)?, "{seed}");
+    }
+    Ok(())
+}
+
+// The sheet of the closed road that is opened at the first of the last steps, and simulated up to it.
+fn opened_late(alloc: Global, seed: u64) -> Result<Sheet, Fail> {
+    let words = words_of(seed);
+    let sheet = opening(alloc, &Parts { words, ..CLOSED })?;
+    Ok(grow(alloc, &sheet, OPENED, 1_048_384)?.sheet)
+}
+
+// Whether all sheets of a script about the last steps agree with the run from step zero.
+fn late_script_agrees(alloc: Global, seed: u64) -> Result<bool, Fail> {
+    let mut sheet = opened_late(alloc, seed)?;
+    let dice = Dice {
+        seed,
+        steps: LATE_STEPS,
+    };
+    all_agree(alloc, &mut sheet, dice)
+}
+
+#[test]
+fn scripts_of_the_last_steps_agree_with_runs_from_zero(rt: HostRuntime) -> Result<(), Fail> {
+    for seed in 0..LATE_SCRIPTS {
+        assert!(rt; late_script_agrees(rt.alloc(), seed)?, "{seed}");
     }
     Ok(())
 }

@@ -56,7 +56,7 @@ fn scenario_of(alloc: Global, edits: &[Edit]) -> Result<Scenario, OutOfMemory> {
 /// The sheet with some edits, simulated up to a step.
 pub(crate) fn grow(alloc: Global, sheet: &Sheet, edits: &[Edit], to: u32) -> Result<Trial, Fail> {
     let scenario = scenario_of(alloc, edits)?;
-    if to > 65_536 || scenario.fits(sheet.plan()).is_some() {
+    if to > 1_048_576 || scenario.fits(sheet.plan()).is_some() {
         return Err(Fail::new("no such step, or no such edit"));
     }
     let mut crew = Counting { calls: 0 };

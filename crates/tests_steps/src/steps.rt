@@ -9,15 +9,16 @@ use std::alloc::Global;
 use std::process::Abort;
 use std::sync::Arc;
 use std::test::Fail;
-use tests_plans::{DENSE, FREE, HALF_SLOWED, Parts, plan_of};
+use tests_plans::{DENSE, DENSE_START, FREE, HALF_SLOWED, Parts, plan_of};
 
 /// A road and its rows at rising steps. From a step on the only zone has another limit, from a step on a cell is
-/// blocked.
+/// blocked, from a step on standing cars have other slowing chances, one for each zone.
 #[derive(Clone, Copy)]
 struct Example {
     parts: Parts,
     lowered: &'static [(u32, u32)],
     blocked: &'static [(u32, u32)],
+    starts: &'static [(u32, &'static [u32])],
     rows: &'static [(u32, &'static str)],
 }
 
@@ -26,6 +27,7 @@ const FREE_ROAD: Example = Example {
     parts: FREE,
     lowered: &[],
     blocked: &[],
+    starts: &[],
     rows: &[
         (0, "............"),
         (1, ".1.........."),
@@ -171,9 +173,68 @@ const BLOCKED_INLET: Example = Example {
     rows: &[
         (0, "#..........."),
         (6, "#..........."),
-        (65_536, "#..........."),
+        (1_048_576, "#..........."),
     ],
     ..FREE_ROAD
+};
+
+/// Up to step 3 no standing car starts; moving cars are not slowed.
+const SLOW_TO_START: Example = Example {
+    starts: &[(0, &[65_536]), (3, &[0])],
+    rows: &[
+        (1, "0..........."),
+        (2, "0..........."),
+        (3, "0..........."),
+        (4, ".1.........."),
+        (5, "0..2........"),
+        (6, ".1...2......"),
+    ],
+    ..FREE_ROAD
+};
+
+/// Every moving car is slowed at every step, and no standing one.
+const QUICK_TO_START: Example = Example {
+    starts: &[(0, &[0])],
+    rows: &[
+        (1, ".1.........."),
+        (2, "0.1........."),
+        (3, ".1.1........"),
+        (4, "00..1......."),
+        (5, "0.1..1......"),
+    ],
+    ..ALWAYS_SLOWED
+};
+
+/// Chances between, by the steady words: at step 1 the sixth car (35,918) stands on where a moving one would go.
+const DENSE_AND_SLOW: Example = Example {
+    starts: &[(0, &[DENSE_START])],
+    rows: &[
+        (1, "0..0..0...1.0..0...1.0...1......"),
+        (2, "0..0...1.00..1.0..00..1.0.1....."),
+        (3, ".1.0..00.0.100.0..00.00..1..2..."),
+        (4, "00..1.00.0.00.10..00.0.10.1..1.."),
+    ],
+    ..DENSE_ROAD
+};
+
+/// Random words, four zones with chances of their own, and others from step 40 on.
+const RANDOM_STARTS: Example = Example {
+    starts: &[
+        (0, &[10_000, 62_000, 40_000, 0]),
+        (40, &[0, 45_000, 0, 60_000]),
+    ],
+    rows: &[
+        (10, ".........3....2.......3............6...."),
+        (20, "...0.....3............2................."),
+        (30, "...0..2....3......3....3.......5........"),
+        (40, "...0.1......3...3...2..........5........"),
+        (50, "...0..2...2.1..1......3.....4..........."),
+        (64, "....1.1....3.0.00..........4.........5.."),
+        (65, "...0.1.1....10.00...............5......."),
+        (70, "......20.1.0.000.1......................"),
+        (80, "...00.10000.1...2...3...........5......."),
+    ],
+    ..RANDOM
 };
 
 // What is set at a step: the last number from a step up to it.
@@ -182,6 +243,17 @@ fn latest(set: &[(u32, u32)], step: u32) -> Option<u32> {
     for (from, number) in set {
         if *from <= step {
             last = Some(*number);
+        }
+    }
+    last
+}
+
+// The chances of standing cars that are set at a step: the last ones from a step up to it.
+fn latest_starts(set: &[(u32, &'static [u32])], step: u32) -> Option<&'static [u32]> {
+    let mut last = None;
+    for (from, chances) in set {
+        if *from <= step {
+            last = Some(*chances);
         }
     }
     last
@@ -200,6 +272,9 @@ fn settings_of(
     }
     if let Some(cell) = latest(example.blocked, step) {
         settings.blocks = vec![in alloc; cell]?;
+    }
+    if let Some(chances) = latest_starts(example.starts, step) {
+        settings.starts = chances.to_vec(alloc)?;
     }
     Ok(settings)
 }
@@ -290,7 +365,7 @@ fn steps_alone(rt: &impl Abort, alloc: Global, example: &Example) -> Result<(), 
 /// Examples that nobody edits.
 const UNEDITED: &[Example] = &[FREE_ROAD, SLOWED, TWO_ZONES, RANDOM, DENSE_ROAD];
 
-/// Examples with edits, or as dense or sparse as a road can be.
+/// Examples with edits, or where all or none are slowed or let in.
 const EDITED: &[Example] = &[
     ALWAYS_SLOWED,
     NOT_LET_IN,
@@ -298,7 +373,10 @@ const EDITED: &[Example] = &[
     LOWERED,
     BLOCKED_AHEAD,
     BLOCKED_UNDER_CAR,
-    BLOCKED_INLET,
+    SLOW_TO_START,
+    QUICK_TO_START,
+    DENSE_AND_SLOW,
+    RANDOM_STARTS,
 ];
 
 // Examples, stepped alone.
@@ -313,6 +391,71 @@ fn step_alone_all(rt: &impl Abort, alloc: Global, examples: &[Example]) -> Resul
 fn steps_the_examples_alone(rt: HostRuntime) -> Result<(), Fail> {
     step_alone_all(&rt, rt.alloc(), UNEDITED)?;
     step_alone_all(&rt, rt.alloc(), EDITED)
+}
+
+#[test]
+fn steps_to_the_greatest_horizon(rt: HostRuntime) -> Result<(), Fail> {
+    steps_alone(&rt, rt.alloc(), &BLOCKED_INLET)
+}
+
+// The road of an example after a step, by the plain program.
+fn stepped_plainly(
+    rt: &impl Abort,
+    alloc: Global,
+    plan: &Plan,
+    example: &Example,
+    step: u32,
+    road: &Road,
+) -> Result<Road, OutOfMemory> {
+    let settings = settings_of(alloc, plan, example, step)?;
+    assert!(rt; settings.fits(plan));
+    plain::stepped(alloc, plan, &settings, step, road)
+}
+
+// The road of an example, stepped from one step to another by the plain program.
+fn stepped_on_plainly(
+    rt: &impl Abort,
+    alloc: Global,
+    plan: &Plan,
+    example: &Example,
+    (from, until): (u32, u32),
+    mut road: Road,
+) -> Result<Road, OutOfMemory> {
+    for step in from..until {
+        road = stepped_plainly(rt, alloc, plan, example, step, &road)?;
+    }
+    Ok(road)
+}
+
+// An example's rows on its plan, stepped by the plain program.
+fn steps_rows_plainly(
+    rt: &impl Abort,
+    alloc: Global,
+    plan: &Plan,
+    example: &Example,
+) -> Result<(), Fail> {
+    let mut road = Road::empty(alloc);
+    let mut step = 0;
+    for (until, text) in example.rows {
+        road = stepped_on_plainly(rt, alloc, plan, example, (step, *until), road)?;
+        step = *until;
+        is_drawn(rt, alloc, plan, example, (step, text), &road)?;
+    }
+    Ok(())
+}
+
+// An example's rows, stepped by the plain program.
+fn steps_plainly(rt: &impl Abort, alloc: Global, example: &Example) -> Result<(), Fail> {
+    let plan = plan_of(alloc, &example.parts)?;
+    steps_rows_plainly(rt, alloc, &plan, example)
+}
+
+#[test]
+fn steps_the_edited_examples_plainly(rt: HostRuntime) -> Result<(), Fail> {
+    for example in EDITED {
+        steps_plainly(&rt, rt.alloc(), example)?;
+    }
+    Ok(())
 }
 
 // An example's rows, by the plain program.

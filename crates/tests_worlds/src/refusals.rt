@@ -13,19 +13,22 @@ const NOWHERE: [Event; 7] = [
     Event::Edit {
         at: 3,
         object: Object::Limit(1),
-        step: 65_536,
+        step: 1_048_576,
         value: 10,
     },
     Event::Withdraw {
         at: 3,
         object: Object::Limit(1),
-        step: 65_536,
+        step: 1_048_576,
     },
     Event::Send { at: 3 },
     Event::Heads { at: 4_294_967_295 },
     Event::Beyond { at: 64, message: 0 },
     Event::Take { at: 3, message: 0 },
-    Event::Advance { at: 3, to: 65_537 },
+    Event::Advance {
+        at: 3,
+        to: 1_048_577,
+    },
 ];
 
 const NO_REPLICA: [Answer; 7] = [Err(WorldFault::NoReplica); 7];
@@ -92,9 +95,12 @@ const FAULTY: [Event; 5] = [
     Event::Withdraw {
         at: 0,
         object: BLOCK,
-        step: 65_536,
+        step: 1_048_576,
     },
-    Event::Advance { at: 0, to: 65_537 },
+    Event::Advance {
+        at: 0,
+        to: 1_048_577,
+    },
     Event::Advance { at: 0, to: 0 },
 ];
 

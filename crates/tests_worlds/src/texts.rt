@@ -17,7 +17,7 @@ const TEXTS: &[(WorldFault, &str)] = &[
     ),
     (
         WorldFault::Replica(ReplicaFault::Step),
-        "the step is above 65535",
+        "the step is above 1048575",
     ),
     (
         WorldFault::Replica(ReplicaFault::ValueOutOfRange),
@@ -37,7 +37,7 @@ const TEXTS: &[(WorldFault, &str)] = &[
     ),
     (
         WorldFault::Replica(ReplicaFault::Horizon),
-        "the horizon is above 65536",
+        "the horizon is above 1048576",
     ),
     (
         WorldFault::Replica(ReplicaFault::NoDetector),

@@ -16,6 +16,8 @@ pub(crate) const LIMIT: Object = Object::Limit(0);
 
 pub(crate) const BLOCK: Object = Object::Block(8);
 
+pub(crate) const START: Object = Object::Start(0);
+
 /// What an event is answered.
 pub(crate) type Answer = Result<Reply, WorldFault>;
 

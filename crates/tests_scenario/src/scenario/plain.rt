@@ -1,7 +1,7 @@
 //! The definitions of settings and of touched steps as a plain, slow program over a list of edits, beside worked
 //! scenarios.
 
-use super::{BLOCK, LIMIT, MERGES, Merge, SLOW, scenario};
+use super::{BLOCK, LIMIT, MERGES, Merge, SLOW, START, scenario};
 use road_plan::{Object, Plan};
 use road_scenario::{Edit, OutOfMemory, Scenario, Value};
 use std::alloc::Global;
@@ -10,7 +10,7 @@ use std::test::Fail;
 use tests_plans::{FREE, plan_of};
 
 /// The objects that are looked at.
-const OBJECTS: &[Object] = &[LIMIT, SLOW, BLOCK];
+const OBJECTS: &[Object] = &[LIMIT, SLOW, BLOCK, START];
 
 /// The greatest step that is looked at.
 const LAST: u32 = 6;
@@ -53,7 +53,7 @@ fn put_up_to(edits: &[Edit], object: Object, step: u32) -> Option<u32> {
     None
 }
 
-// That number, else the default; of cars that stand the slowing chance of the zone.
+// That number, else the default; of standing cars the slowing chance of the zone.
 fn setting(plan: &Plan, edits: &[Edit], object: Object, step: u32) -> u32 {
     let own = match object {
         Object::Start(zone) => Object::Slow(zone),

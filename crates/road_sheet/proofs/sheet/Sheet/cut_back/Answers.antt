@@ -1,11 +1,10 @@
 -- A sheet that is cut back to the beginning of a span is one of the joined scenario.
-use Rattle.std.proofs.Common.{◌∙◌, ap, sym, map, take, length, replicate, arith}
-use Rattle.std.proofs.lemmas.List.{take-map}
+use Rattle.std.proofs.Common.{◌∙◌, ap, sym, length, replicate, arith}
 use Rattle.std.specs.Arc.{arc_value}
 use Rattle.road_detector.specs.Passes.{no_totals}
 use Rattle.road_plan.specs.Plan.{Plan}
 use Rattle.road_sheet.specs.Sheets.{Sheet}
-use Rattle.road_sheet.proofs.SheetSpans.{stays_below}
+use Rattle.road_sheet.proofs.SheetSpans.{many_whole, stays_below}
 use Rattle.road_sheet.proofs.sheet.Sheet.cut_back.Goals as goal
 
 pub invariant_of-result : goal.invariant_of-result
@@ -14,7 +13,10 @@ invariant_of-result c =
     stays_below _ now c.args.scenario (arc_value c.in_ok-plan.plan) _ c.args.span _ _ _ c.in_ok-cut.cut _ c.in_ok-cut.last c.self.invariant c.self.view_is c.requires.winners c.requires.fits c.requires.simulated c.requires.same
     (c.in_ok-plan.ensures.plan ∙ ap (λ (x : Sheet). x.plan) c.self.view_is)
     (omega arith)
-    (c.in_ok-plan.ensures.spans ∙ ap (λ xs. map arc_value (take c.args.span xs)) c.deref-2.ensures.value ∙ sym (take-map arc_value c.args.span c.self.inside.whole.items))
+    c.in_ok-plan.ensures.spans
     (c.in_ok-cut.ensures.road ∙ c.span.ensures.start)
     (c.in_ok-cut.ensures.start ∙ sym c.in_ok-cut.ensures.road)
     (c.in_ok-cut.ensures.totals ∙ ap (λ n. replicate n no_totals) (ap length c.detectors.ensures ∙ ap (λ (q : Plan). length q.detectors) (c.deref.ensures ∙ sym c.in_ok-plan.ensures.plan)))
+
+pub shared_with_plan-requires : goal.shared_with_plan-requires
+shared_with_plan-requires c = omega (arith, many_whole _ _ _ _ _ c.self.invariant c.self.view_is)

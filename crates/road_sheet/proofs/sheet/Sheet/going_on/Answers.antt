@@ -1,9 +1,9 @@
 -- A sheet whose run no edit touches is one of the joined scenario too.
-use Rattle.std.proofs.Common.{◌∙◌, ap, map, take, arith}
+use Rattle.std.proofs.Common.{◌∙◌, ap, arith}
 use Rattle.std.proofs.lemmas.List.{take_all}
 use Rattle.std.specs.Arc.{arc_value}
 use Rattle.road_sheet.specs.Sheets.{Sheet}
-use Rattle.road_sheet.proofs.SheetSpans.{stays_whole}
+use Rattle.road_sheet.proofs.SheetSpans.{many_whole, stays_whole}
 use Rattle.road_sheet.proofs.sheet.Sheet.going_on.Goals as goal
 
 pub invariant_of-result : goal.invariant_of-result
@@ -12,7 +12,10 @@ invariant_of-result c =
     stays_whole _ now c.args.scenario (arc_value c.in_ok-plan.plan) _ _ _ _ c.in_ok-cut.cut _ c.in_ok-cut.last c.self.invariant c.self.view_is c.requires.winners c.requires.fits c.requires.same
     (c.in_ok-plan.ensures.plan ∙ ap (λ (x : Sheet). x.plan) c.self.view_is)
     c.horizon.ensures
-    (c.in_ok-plan.ensures.spans ∙ ap (map arc_value) (ap (take c.len.result) c.deref.ensures.value ∙ take_all c.len.result c.self.inside.whole.items (omega (arith, c.len.ensures))))
+    (c.in_ok-plan.ensures.spans ∙ take_all c.whole_spans.result c.self.inside.whole (omega (arith, c.whole_spans.ensures, many_whole _ _ _ _ _ c.self.invariant c.self.view_is)))
     c.in_ok-cut.ensures.start
     c.in_ok-cut.ensures.totals
     c.in_ok-cut.ensures.road
+
+pub shared_with_plan-requires : goal.shared_with_plan-requires
+shared_with_plan-requires c = omega (arith, c.whole_spans.ensures, many_whole _ _ _ _ _ c.self.invariant c.self.view_is)

@@ -1,5 +1,5 @@
 -- Without edits and steps, a sheet shows the empty road of step 0.
-use Rattle.std.proofs.Common.{◌∙◌, ap, sym, subst, map, length, replicate}
+use Rattle.std.proofs.Common.{◌∙◌, ap, sym, subst, length, replicate}
 use Rattle.road_detector.specs.Passes.{no_totals}
 use Rattle.std.specs.Arc.{arc_value}
 use Rattle.road_plan.specs.Plan.{Plan}
@@ -11,10 +11,10 @@ use Rattle.road_sheet.proofs.sheet.Sheet.opening.Goals as goal
 pub invariant_of-result : goal.invariant_of-result
 invariant_of-result c =
     let p = arc_value c.args.plan in
-    opened p c.empty-2.result _ c.in_ok-cut.cut c.empty-3.result
-    (subst AreWinners (sym c.empty-2.ensures.none) winners-empty)
-    (c.empty-2.ensures.fits p)
-    (ap (map arc_value) c.new.ensures.items)
+    opened p c.empty-3.result _ c.in_ok-cut.cut c.empty-4.result
+    (subst AreWinners (sym c.empty-3.ensures.none) winners-empty)
+    (c.empty-3.ensures.fits p)
+    c.in_ok-whole.ensures
     (c.in_ok-cut.ensures.start ∙ c.empty.ensures)
     (c.in_ok-cut.ensures.totals ∙ ap (λ n. replicate n no_totals) (ap length c.detectors.ensures ∙ ap (λ (q : Plan). length q.detectors) c.deref.ensures))
-    c.empty-3.ensures
+    c.empty-4.ensures

@@ -1,6 +1,5 @@
 -- A step that ends its span: the span is whole, and a new one begins.
-use Rattle.std.proofs.Common.{sym, ◌∙◌, map, subst}
-use Rattle.std.specs.Arc.{arc_value}
+use Rattle.std.proofs.Common.{sym, ◌∙◌, subst}
 use Rattle.road_detector.specs.Laws.{PassOneByOne, BoundTotals}
 use Rattle.road_sheet.proofs.SheetSpans.{counted_next, ends_span, next_cars_fit, next_speeds_fit}
 use Rattle.road_sheet.proofs.sheet.Sheet.step_to_end.Goals as goal
@@ -21,9 +20,9 @@ invariant_of-self-2 c =
     let counted =
     counted_next _ c.args.self.now _ c.self.inside.cut _ c.args.input.now c.args.speeds.now c.in_ok-ended.ended.totals.items ended.totals.items c.self.invariant c.self.view_is c.requires.input c.requires.speeds c.in_ok-ended.ensures.totals
     c.count.ensures.each c.count.ensures.totals in
-    ends_span _ c.args.self.now c.horizon-horizon.result (map arc_value c.self.inside.whole.items) (map arc_value c.push_shared.new.spans.items) c.self.inside.cut ended c.in_ok-next.next _ c.replace-last.new.dest c.self.invariant c.self.view_is c.requires.within_limit (c.replace-last.ensures.after ∙ c.requires.road)
+    ends_span _ c.args.self.now c.horizon-horizon.result c.self.inside.whole c.push.new.self c.self.inside.cut ended c.in_ok-next.next _ c.replace-last.new.dest c.self.invariant c.self.view_is c.requires.within_limit (c.replace-last.ensures.after ∙ c.requires.road)
     counted c.requires.at_end c.horizon-horizon.ensures
     c.in_ok-next.ensures.totals
     (c.count.ensures.start ∙ c.in_ok-ended.ensures.start)
     (c.in_ok-next.ensures.start ∙ sym c.replace-last.ensures.after)
-    c.in_ok-push_shared.ensures.pushed
+    c.in_ok-push.ensures.pushed
