@@ -3,6 +3,7 @@ import json
 import re
 
 LONGEST_LINE = 65_536
+MOST_SHARES = 8
 DEEPEST = 127
 KINDS = ("limit", "slow", "block", "inflow", "watch", "start")
 
@@ -127,6 +128,13 @@ def edit(value):
             None if put is None else number(put))
 
 
+def shares(value):
+    found = list_of(list_of(edit))(value)
+    if not 1 <= len(found) <= MOST_SHARES:
+        raise Wrong
+    return found
+
+
 def fields(value, parts):
     if type(value) is not dict or value.keys() != parts.keys():
         raise Wrong
@@ -150,6 +158,7 @@ COMMANDS = {
     "heads": {"at": name, "name": name},
     "beyond": {"at": name, "heads": name, "name": name},
     "take": {"at": name, "message": name},
+    "crowd": {"shares": shares, "to": number, "form": long_number},
 }
 
 
@@ -172,7 +181,8 @@ def command(value):
     except Wrong:
         raise Refused("not a command") from None
     form = found.pop("form", 2)
-    if form == 1 and any(kind == "start" for kind, *_ in found["edits"]):
+    edits = found.get("edits", []) + sum(found.get("shares", []), [])
+    if form == 1 and any(kind == "start" for kind, *_ in edits):
         raise Refused("not a command")
     if form not in (1, 2):
         raise Refused("unknown form")

@@ -138,12 +138,14 @@ class Writer:
         """A command that is accepted, as far as its writer can see."""
         draw = self.random
         weights = {"edit": 24, "withdraw": 7, "advance": 8, "cells": 6, "cars": 6, "count": 7, "diagram": 6, "scenario": 4,
-                   "import": 6, "send": 7, "heads": 5, "beyond": 6, "take": 12}
+                   "import": 6, "send": 7, "heads": 5, "beyond": 6, "take": 12, "crowd": 5}
         verb, = draw.choices(list(weights), list(weights.values()))
         if verb == "take" and not self.sent or verb == "beyond" and not self.asked:
             verb = draw.choice(("send", "heads", "scenario"))
         if verb == "count" and not self.plan["detectors"] and self.chance(80):
             verb = "cars"
+        if verb == "crowd":
+            return verb, self.new_crowd()
         at = self.at()
         return verb, {"at": at, **getattr(self, "new_" + verb)(at)}
 
@@ -184,6 +186,13 @@ class Writer:
             edits.insert(self.random.randint(0, len(edits)), self.spoilt_edit())
         return {"edits": edits, "form": self.random.choice((1, 2, 2))}
 
+    def new_crowd(self):
+        draw = self.random
+        shares = self.some(*draw.choice(((1, 3), (1, 8), (0, 9))), lambda: self.some(0, 5, self.outer_edit))
+        if self.chance(20) and shares:
+            draw.choice(shares).append(self.spoilt_edit())
+        return {"form": draw.choice((1, 2, 2)), "shares": shares, "to": draw.randint(0, 60)}
+
     def new_send(self, at):
         self.sent.append(self.new_name())
         return {"name": self.sent[-1]}
@@ -211,9 +220,14 @@ class Writer:
             "heads": ("m1", "m2", *self.sent[-3:], *BAD_NAMES), "form": (0, 3, 2 ** 32, 2 ** 64 - 1)}
         for field in draw.sample(list(fields), draw.randint(1, len(fields))):
             if field == "edits":
-                fields["edits"] = self.some(1, 4, lambda: self.spoilt_edit() if self.chance(40) else self.outer_edit())
+                fields["edits"] = self.spoilt_edits()
+            elif field == "shares":
+                fields["shares"] = self.some(1, 3, self.spoilt_edits)
             elif field not in ("at", "form") or self.chance(30):
                 fields[field] = draw.choice(refused[field])
+
+    def spoilt_edits(self):
+        return self.some(1, 4, lambda: self.spoilt_edit() if self.chance(40) else self.outer_edit())
 
     def spoilt_edit(self):
         draw, edit = self.random, self.outer_edit()

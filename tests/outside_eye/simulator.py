@@ -209,6 +209,8 @@ class Laboratory:
 
     def answer(self, verb, fields):
         """The reply to a command; its fields stand as the grammar lists them."""
+        if verb == "crowd":
+            return self.answer_crowd(**fields)
         replica = self.replicas.get(fields.pop("at"))
         require(replica, "NoReplica")
         return getattr(self, "answer_" + verb)(replica, *fields.values())
@@ -230,11 +232,14 @@ class Laboratory:
         return {"stamp": [count, replica.number]}
 
     def answer_import(self, replica, edits):
+        self.require_from_outside(edits)
+        return self.grow(replica, edits)
+
+    def require_from_outside(self, edits):
         for edit in edits:
             self.require_in_plan(edit)
             require(1 <= edit[3] <= GREATEST_COUNT, "Count")
             require(edit[4] >= MOST_REPLICAS, "Insider")
-        return self.grow(replica, edits)
 
     def answer_take(self, replica, message):
         require(message in self.sent, "NoMessage")
@@ -276,6 +281,15 @@ class Laboratory:
         self.require_new(name)
         self.sent[name] = beyond(replica.edits, self.asked[heads])
         return {"edits": self.sent[name], "form": 2, "message": name}
+
+    # Crowds, which no replica sees
+
+    def answer_crowd(self, shares, to):
+        edits = [edit for share in shares for edit in share]
+        self.require_from_outside(edits)
+        require(to <= LAST_HORIZON, "Horizon")
+        row, = [row_of(road, numbers) for step, road, numbers, _ in run(self.plan, edits, to, to) if step == to]
+        return {"edits": winners(edits), "form": 2, "journal": len(edits) + len(shares), "row": row}
 
     # Questions
 

@@ -14,7 +14,7 @@ use Rattle.road_dialogue.proofs.CutBytes.{IsLine, cut-more, cut-newline}
 
 -- ---- the answers to a front of the bytes are a front of the answers
 
-take_front : {A : Type 0} (n : ℕ) (a b : List A) → (more : List A) × (take n (a ++ b) ≡ take n a ++ more)
+pub take_front : {A : Type 0} (n : ℕ) (a b : List A) → (more : List A) × (take n (a ++ b) ≡ take n a ++ more)
 take_front zero a b = ([], refl)
 take_front (suc n) [] b = (take (suc n) b, refl)
 take_front {A = A} (suc n) (x ∷ a) b = let t = take_front n a b in (t.0, ap (λ (l : List A). x ∷ l) t.1)

@@ -37,10 +37,10 @@ one_last (x ∷ r) some = refl
 
 -- ---- it is a line: as if a newline stood behind it
 
-ended_line : (a : List ℕ) → 0 < length (pieces_of a).1 → lines_of a true ≡ (pieces_of a).0 ++ (pieces_of a).1 ∷ []
+pub ended_line : (a : List ℕ) → 0 < length (pieces_of a).1 → lines_of a true ≡ (pieces_of a).0 ++ (pieces_of a).1 ∷ []
 ended_line a some = ap (λ (p : List (List ℕ)). (pieces_of a).0 ++ p) (one_last (pieces_of a).1 some)
 
-newline_lines : (a : List ℕ) → lines_of (a ++ newline ∷ []) false ≡ (pieces_of a).0 ++ (pieces_of a).1 ∷ []
+pub newline_lines : (a : List ℕ) → lines_of (a ++ newline ∷ []) false ≡ (pieces_of a).0 ++ (pieces_of a).1 ∷ []
 newline_lines a = ap (λ (p : Pieces). p.0 ++ []) (cut-newline a) ∙ append-nil ((pieces_of a).0 ++ (pieces_of a).1 ∷ [])
 
 replies_ended : (n : ℕ) (ls : List (List ℕ)) (r : List ℕ) → line_replies true (take (suc n) (ls ++ r ∷ [])) ≡ line_replies false (take (suc n) (ls ++ r ∷ []))

@@ -1,4 +1,5 @@
--- Lemmas of lines and replies as bytes come, of the ends of runs and of the program's words, and worked examples.
+-- Lemmas of lines and replies as bytes come, of crowds among the lines, of the ends of runs and of the program's words,
+-- and worked examples.
 pub mod Options
 pub mod ByteParts
 pub mod CutBytes
@@ -8,6 +9,8 @@ pub mod AnswersGrow
 pub mod DialogueSteps
 pub mod DialogueCalls
 pub mod DialogueEnds
+pub mod CrowdLines
+pub mod GoneCounts
 pub mod RunEnds
 pub mod CommandLines
 pub mod WorkerCounts

@@ -54,7 +54,7 @@ later_more lab ls l =
 -- ---- the line that is held
 
 -- what is read of what is held is what the line is read as
-held_reading : {A : Type 0} (f : List ℕ → Result A Refusal) (held : List ℕ) (long : Bool) (line : List ℕ) → Holds held long line → reading_unless long (f held) ≡ reading_unless (is_long line) (f line)
+pub held_reading : {A : Type 0} (f : List ℕ → Result A Refusal) (held : List ℕ) (long : Bool) (line : List ℕ) → Holds held long line → reading_unless long (f held) ≡ reading_unless (is_long line) (f line)
 held_reading f held long line (Whole e l n) =
     let short : nat_lt LONGEST_LINE (length line) ≡ false = le-ltb _ _ l in
     ap (λ (b : Bool). reading_unless b (f held)) n ∙ ap f e ∙ sym (ap (λ (b : Bool). reading_unless b (f line)) short)

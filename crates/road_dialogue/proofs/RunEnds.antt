@@ -1,5 +1,5 @@
 -- Each way out of a run ends it as it promises.
-use Rattle.std.proofs.Common.{◌≡◌, ◌≤◌, ◌<◌, ◌==◌, ◌+◌, ◌-◌, min, ℕ, zero, suc, List, [], ◌∷◌, ◌++◌, length, take, Bool, true, false, Option, Some, None, Result, Ok, Err, refl, ap, sym, subst, ◌∙◌, append-nil, length-append, arith}
+use Rattle.std.proofs.Common.{◌≡◌, ◌≤◌, ◌<◌, ◌==◌, ◌+◌, ◌-◌, min, ℕ, zero, suc, List, [], ◌∷◌, ◌++◌, length, take, Bool, true, false, Option, Some, None, Result, Ok, Err, inl, refl, ap, sym, subst, ◌∙◌, append-nil, length-append, arith}
 use Rattle.std.specs.Prelude.{nat_lt, nat_le}
 use Rattle.std.proofs.lemmas.Bool.{le-leb, le-ltb, lt-ltb, ltb-false}
 use Rattle.std.proofs.lemmas.List.{take_all, length-take-le}
@@ -9,12 +9,12 @@ use Rattle.std.proofs.KnownBytes.{Appends-nil, Consumes-nil, Consumes-trans, Con
 use Rattle.std.specs.Io.KnownBytes.{Appends, Consumes, IsAtEnd, Keeps}
 use Rattle.road_format.specs.Cut.{lines_of}
 use Rattle.road_laboratory.specs.Laboratory.{Laboratory}
-use Rattle.road_dialogue.specs.Answers.{later_lines, answers, answers_within, is_plan_refused, is_plan_refused_within, has_more_lines, has_byte_past_most, reply_count}
+use Rattle.road_dialogue.specs.Answers.{later_lines, answers, answers_within, has_crowd, has_crowd_within, is_plan_refused, is_plan_refused_within, has_more_lines, has_byte_past_most, reply_count}
 use Rattle.road_dialogue.specs.Dialogue.{IsAfterLines, HasAnswered, HasFinished, GoesOn, Stands, StandsAtEnd}
 use Rattle.road_dialogue.specs.Failures.{RisesByOne}
 use Rattle.road_workers.specs.declared.faults.CrewFault.{CrewFault}
 use Rattle.road_workers.specs.declared.faults.CrewFault.TheVariants as crew_faults
-use Rattle.road_dialogue.specs.Faults.{crew_fault, early_fault, gone_after_call}
+use Rattle.road_dialogue.specs.Faults.{CountsGone, crew_fault, early_fault}
 use Rattle.road_dialogue.specs.Serving.{Serving, run_answers, WritesAll, Ends, AnswersInput}
 use Rattle.road_dialogue.specs.StreamViews.{SourceView, SinkView, Stops}
 use Rattle.road_dialogue.specs.declared.dialogue.Dialogue.{Dialogue}
@@ -27,6 +27,7 @@ use Rattle.road_dialogue.proofs.AnswersGrow.{few_lines}
 use Rattle.road_dialogue.proofs.DialogueSteps.{goes_on}
 use Rattle.road_dialogue.proofs.DialogueCalls.{stops_same}
 use Rattle.road_dialogue.proofs.DialogueEnds.{going_accepted}
+use Rattle.road_dialogue.proofs.GoneCounts.{counts_same, early_counts}
 use Rattle.road_dialogue.proofs.SinkTexts.{takes_none, takes_same, taken_all, rises_after}
 
 -- ---- bytes within the limit
@@ -61,6 +62,10 @@ answers_going : (lines limit : ℕ) (z : List ℕ) → answers_within lines limi
 unfolding answers_within
 answers_going lines limit z = refl
 
+crowd_going : (lines limit : ℕ) (z : List ℕ) → has_crowd_within lines limit z false ≡ has_crowd lines (take limit z) false
+unfolding has_crowd_within
+crowd_going lines limit z = refl
+
 refused_going : (limit : ℕ) (z : List ℕ) → is_plan_refused_within limit z false ≡ is_plan_refused (take limit z) false
 unfolding is_plan_refused_within
 refused_going limit z = refl
@@ -68,6 +73,13 @@ refused_going limit z = refl
 answers_ended : (lines limit : ℕ) (h : List ℕ) → length h ≤ limit → answers_within lines limit h true ≡ answers lines h true
 unfolding answers_within
 answers_ended lines limit h short =
+    let fits : nat_le (length h) limit ≡ true = le-leb _ _ short in
+    let all = whole limit h short in
+    rw (all, fits) refl
+
+crowd_ended_within : (lines limit : ℕ) (h : List ℕ) → length h ≤ limit → has_crowd_within lines limit h true ≡ has_crowd lines h true
+unfolding has_crowd_within
+crowd_ended_within lines limit h short =
     let fits : nat_le (length h) limit ≡ true = le-leb _ _ short in
     let all = whole limit h short in
     rw (all, fits) refl
@@ -147,14 +159,16 @@ read_on lines limit room room' n m source s1 s2 sink k1 k2 d d' piece so more le
       reads_well = more.well ∙ so.reads_well;
     }
 
-abbrev run_of : ℕ → ℕ → SourceView → SourceView → SinkView → SinkView → Result Served ServeFault → Serving
-run_of lines limit source source' sink sink' result = record {
+abbrev run_of : ℕ → ℕ → SourceView → SourceView → SinkView → SinkView → ℕ → ℕ → Result Served ServeFault → Serving
+run_of lines limit source source' sink sink' was gone result = record {
   most_lines = lines;
   most_bytes = limit;
   source_before = source;
   source_after = source';
   sink_before = sink;
   sink_after = sink';
+  gone_before = was;
+  gone_after = gone;
   result = result;
 }
 
@@ -164,9 +178,9 @@ accepted_so_far : (lines limit : ℕ) (h : List ℕ) (d : Dialogue) → length h
 accepted_so_far lines limit h d short on =
     refused_going limit h ∙ ap (λ (x : List ℕ). is_plan_refused x false) (whole limit h short) ∙ going_accepted lines h d on
 
-pub unread : (lines limit room : ℕ) (source s1 s2 : SourceView) (sink k1 : SinkView) (d : Dialogue) → SoFar lines limit room source s1 sink k1 d → Keeps s1.remaining s2.remaining → RisesByOne s1.failures s2.failures
-    → AnswersInput (run_of lines limit source s2 sink k1 (Err faults.Read))
-unread lines limit room source s1 s2 sink k1 d so keeps rises =
+pub unread : (lines limit room : ℕ) (source s1 s2 : SourceView) (sink k1 : SinkView) (was gone : ℕ) (d : Dialogue) → SoFar lines limit room source s1 sink k1 d → Keeps s1.remaining s2.remaining → RisesByOne s1.failures s2.failures
+    → gone ≡ was → AnswersInput (run_of lines limit source s2 sink k1 was gone (Err faults.Read))
+unread lines limit room source s1 s2 sink k1 was gone d so keeps rises kept =
     let short : length so.input ≤ limit = omega (arith, so.room_left) in
     let same : answers lines so.input false ≡ answers_within lines limit so.input false = ap (λ (x : List ℕ). answers lines x false) (sym (whole limit so.input short)) ∙ sym (answers_going lines limit so.input) in
     let on = goes_on lines so.input sink k1 d so.answered so.going in
@@ -180,6 +194,7 @@ unread lines limit room source s1 s2 sink k1 d so keeps rises =
         reads_failed = rises_after source.failures s1.failures s2.failures so.reads_well rises;
         writes_well = so.answered.well;
       };
+      counts = kept;
     }
 
 -- ---- a call of the dialogue stopped
@@ -196,9 +211,10 @@ not_zero : (n : ℕ) → (n ≡ 0 → ⊥) → (n == 0) ≡ false
 not_zero zero h = absurd (h refl)
 not_zero (suc m) h = eqb-suc-zero m
 
-pub stopped : (lines limit room n m : ℕ) (source s1 s2 : SourceView) (sink k1 k2 : SinkView) (d : Dialogue) (piece : List ℕ) (fault : ServeFault) (so : SoFar lines limit room source s1 sink k1 d) → ReadMore s1 s2 n piece → (n ≡ 0 → ⊥)
-    → m ≡ min room n → Stops sink k2 (answers lines (so.input ++ take m piece) false) fault → AnswersInput (run_of lines limit source s2 sink k2 (Err fault))
-stopped lines limit room n m source s1 s2 sink k1 k2 d piece fault so more some least s =
+pub stopped : (lines limit room n m : ℕ) (source s1 s2 : SourceView) (sink k1 k2 : SinkView) (was gone : ℕ) (d : Dialogue) (piece : List ℕ) (fault : ServeFault) (so : SoFar lines limit room source s1 sink k1 d) → ReadMore s1 s2 n piece → (n ≡ 0 → ⊥)
+    → m ≡ min room n → Stops sink k2 (answers lines (so.input ++ take m piece) false) fault → CountsGone fault (has_crowd lines (so.input ++ take m piece) false) was gone
+    → AnswersInput (run_of lines limit source s2 sink k2 was gone (Err fault))
+stopped lines limit room n m source s1 s2 sink k1 k2 was gone d piece fault so more some least s counts =
     let input = so.input ++ take n piece in
     let part = within limit room n m so.input piece (record { all = so.room_left; least = least; fits = more.fits }) in
     let going : s2.at_end ≡ false = more.ended ∙ not_zero n some in
@@ -207,7 +223,8 @@ stopped lines limit room n m source s1 s2 sink k1 k2 d piece fault so more some 
     record {
       input = input;
       read = Consumes-trans source.remaining s1.remaining s2.remaining so.input (take n piece) so.read more.bytes;
-      ends = ends_stopped (run_of lines limit source s2 sink k2 (Err fault)) input fault (stops_same sink k2 _ _ fault same s) (more.well ∙ so.reads_well);
+      ends = ends_stopped (run_of lines limit source s2 sink k2 was gone (Err fault)) input fault (stops_same sink k2 _ _ fault same s) (more.well ∙ so.reads_well);
+      counts = counts_same fault _ _ was was gone (ap (λ (x : List ℕ). has_crowd lines x false) (sym part) ∙ sym (crowd_going lines limit input) ∙ ap (has_crowd_within lines limit input) (sym going)) refl counts;
     }
 
 -- ---- the run is over before the end of its input
@@ -224,9 +241,9 @@ over_ends run input z d ends.TooMany part going writes s = (
 stands_at : (n : ℕ) (a : List ℕ) (d : Dialogue) (o o' : Option EarlyEnd) → o ≡ o' → Stands n a d o → Stands n a d o'
 stands_at n a d o o' e s = let Family : Option EarlyEnd → Type 0 = λ x. Stands n a d x in subst Family e s
 
-writes_going : (lines limit room n m : ℕ) (source s1 s2 : SourceView) (sink k1 k2 : SinkView) (d d' : Dialogue) (piece : List ℕ) (result : Result Served ServeFault) (so : SoFar lines limit room source s1 sink k1 d) → ReadMore s1 s2 n piece → (n ≡ 0 → ⊥)
-    → m ≡ min room n → HasAnswered lines (so.input ++ take m piece) sink k2 d' → d'.waiting.items ≡ [] → k2.flushed ≡ true → WritesAll (run_of lines limit source s2 sink k2 result) (so.input ++ take n piece)
-writes_going lines limit room n m source s1 s2 sink k1 k2 d d' piece result so more some least h none flushed =
+writes_going : (lines limit room n m : ℕ) (source s1 s2 : SourceView) (sink k1 k2 : SinkView) (was gone : ℕ) (d d' : Dialogue) (piece : List ℕ) (result : Result Served ServeFault) (so : SoFar lines limit room source s1 sink k1 d) → ReadMore s1 s2 n piece → (n ≡ 0 → ⊥)
+    → m ≡ min room n → HasAnswered lines (so.input ++ take m piece) sink k2 d' → d'.waiting.items ≡ [] → k2.flushed ≡ true → WritesAll (run_of lines limit source s2 sink k2 was gone result) (so.input ++ take n piece)
+writes_going lines limit room n m source s1 s2 sink k1 k2 was gone d d' piece result so more some least h none flushed =
     let input = so.input ++ take n piece in
     let part = within limit room n m so.input piece (record { all = so.room_left; least = least; fits = more.fits }) in
     let going : s2.at_end ≡ false = more.ended ∙ not_zero n some in
@@ -239,23 +256,24 @@ writes_going lines limit room n m source s1 s2 sink k1 k2 d d' piece result so m
       writes_well = h.well;
     }
 
-pub over : (lines limit room n m : ℕ) (source s1 s2 : SourceView) (sink k1 k2 : SinkView) (d d' : Dialogue) (piece : List ℕ) (end : EarlyEnd) (so : SoFar lines limit room source s1 sink k1 d) → ReadMore s1 s2 n piece → (n ≡ 0 → ⊥)
-    → m ≡ min room n → HasAnswered lines (so.input ++ take m piece) sink k2 d' → d'.waiting.items ≡ [] → k2.flushed ≡ true → d'.over ≡ Some end → AnswersInput (run_of lines limit source s2 sink k2 (Err (early_fault end)))
-over lines limit room n m source s1 s2 sink k1 k2 d d' piece end so more some least h none flushed is =
-    let run = run_of lines limit source s2 sink k2 (Err (early_fault end)) in
+pub over : (lines limit room n m : ℕ) (source s1 s2 : SourceView) (sink k1 k2 : SinkView) (was gone : ℕ) (d d' : Dialogue) (piece : List ℕ) (end : EarlyEnd) (so : SoFar lines limit room source s1 sink k1 d) → ReadMore s1 s2 n piece → (n ≡ 0 → ⊥)
+    → m ≡ min room n → HasAnswered lines (so.input ++ take m piece) sink k2 d' → d'.waiting.items ≡ [] → k2.flushed ≡ true → d'.over ≡ Some end → gone ≡ was → AnswersInput (run_of lines limit source s2 sink k2 was gone (Err (early_fault end)))
+over lines limit room n m source s1 s2 sink k1 k2 was gone d d' piece end so more some least h none flushed is kept =
+    let run = run_of lines limit source s2 sink k2 was gone (Err (early_fault end)) in
     let input = so.input ++ take n piece in
     record {
       input = input;
       read = Consumes-trans source.remaining s1.remaining s2.remaining so.input (take n piece) so.read more.bytes;
       ends = over_ends run input (so.input ++ take m piece) d' end (within limit room n m so.input piece (record { all = so.room_left; least = least; fits = more.fits })) (more.ended ∙ not_zero n some)
-          (writes_going lines limit room n m source s1 s2 sink k1 k2 d d' piece _ so more some least h none flushed) (stands_at lines _ d' _ _ is h.stands);
+          (writes_going lines limit room n m source s1 s2 sink k1 k2 was gone d d' piece _ so more some least h none flushed) (stands_at lines _ d' _ _ is h.stands);
+      counts = early_counts end _ was gone kept;
     }
 
 -- ---- more bytes than may come
 
-pub past : (lines limit room n m : ℕ) (source s1 s2 : SourceView) (sink k1 k2 : SinkView) (d d' : Dialogue) (piece : List ℕ) (so : SoFar lines limit room source s1 sink k1 d) → ReadMore s1 s2 n piece → (n ≡ 0 → ⊥)
-    → m ≡ min room n → m < n → HasAnswered lines (so.input ++ take m piece) sink k2 d' → d'.waiting.items ≡ [] → k2.flushed ≡ true → d'.over ≡ None → AnswersInput (run_of lines limit source s2 sink k2 (Err faults.TooMany))
-past lines limit room n m source s1 s2 sink k1 k2 d d' piece so more some least less h none flushed is =
+pub past : (lines limit room n m : ℕ) (source s1 s2 : SourceView) (sink k1 k2 : SinkView) (was gone : ℕ) (d d' : Dialogue) (piece : List ℕ) (so : SoFar lines limit room source s1 sink k1 d) → ReadMore s1 s2 n piece → (n ≡ 0 → ⊥)
+    → m ≡ min room n → m < n → HasAnswered lines (so.input ++ take m piece) sink k2 d' → d'.waiting.items ≡ [] → k2.flushed ≡ true → d'.over ≡ None → gone ≡ was → AnswersInput (run_of lines limit source s2 sink k2 was gone (Err faults.TooMany))
+past lines limit room n m source s1 s2 sink k1 k2 was gone d d' piece so more some least less h none flushed is kept =
     let input = so.input ++ take n piece in
     let part = within limit room n m so.input piece (record { all = so.room_left; least = least; fits = more.fits }) in
     let going : s2.at_end ≡ false = more.ended ∙ not_zero n some in
@@ -263,11 +281,12 @@ past lines limit room n m source s1 s2 sink k1 k2 d d' piece so more some least 
       input = input;
       read = Consumes-trans source.remaining s1.remaining s2.remaining so.input (take n piece) so.read more.bytes;
       ends = (
-        writes_going lines limit room n m source s1 s2 sink k1 k2 d d' piece _ so more some least h none flushed,
+        writes_going lines limit room n m source s1 s2 sink k1 k2 was gone d d' piece _ so more some least h none flushed,
         ap (is_plan_refused_within limit input) going ∙ refused_going limit input ∙ ap (λ (x : List ℕ). is_plan_refused x false) part
             ∙ going_accepted lines (so.input ++ take m piece) d' (goes_on lines _ sink k2 d' h is),
         past_bytes lines limit input (omega (arith, so.room_left, least, less, length-append so.input (take n piece), length-take-le n piece more.fits)),
       );
+      counts = kept;
     }
 
 -- ---- the end of the input
@@ -281,21 +300,22 @@ at_zero : (n : ℕ) → n ≡ 0 → (n == 0) ≡ true
 at_zero zero e = refl
 at_zero (suc n) e = absurd (omega arith)
 
-pub stopped_at_end : (lines limit room n : ℕ) (source s1 s2 : SourceView) (sink k1 k2 : SinkView) (d : Dialogue) (piece : List ℕ) (fault : ServeFault) (so : SoFar lines limit room source s1 sink k1 d) → ReadMore s1 s2 n piece → n ≡ 0
-    → Stops sink k2 (answers lines so.input true) fault → AnswersInput (run_of lines limit source s2 sink k2 (Err fault))
-stopped_at_end lines limit room n source s1 s2 sink k1 k2 d piece fault so more none s =
+pub stopped_at_end : (lines limit room n : ℕ) (source s1 s2 : SourceView) (sink k1 k2 : SinkView) (was gone : ℕ) (d : Dialogue) (piece : List ℕ) (fault : ServeFault) (so : SoFar lines limit room source s1 sink k1 d) → ReadMore s1 s2 n piece → n ≡ 0
+    → Stops sink k2 (answers lines so.input true) fault → CountsGone fault (has_crowd lines so.input true) was gone → AnswersInput (run_of lines limit source s2 sink k2 was gone (Err fault))
+stopped_at_end lines limit room n source s1 s2 sink k1 k2 was gone d piece fault so more none s counts =
     let ended : s2.at_end ≡ true = more.ended ∙ at_zero n none in
     let short : length so.input ≤ limit = omega (arith, so.room_left) in
     let same : answers lines so.input true ≡ answers_within lines limit so.input s2.at_end = sym (answers_ended lines limit so.input short) ∙ ap (answers_within lines limit so.input) (sym ended) in
     record {
       input = so.input;
       read = nothing_more source.remaining s1.remaining s2.remaining so.input piece n so.read more.bytes none;
-      ends = ends_stopped (run_of lines limit source s2 sink k2 (Err fault)) so.input fault (stops_same sink k2 _ _ fault same s) (more.well ∙ so.reads_well);
+      ends = ends_stopped (run_of lines limit source s2 sink k2 was gone (Err fault)) so.input fault (stops_same sink k2 _ _ fault same s) (more.well ∙ so.reads_well);
+      counts = counts_same fault _ _ was was gone (sym (crowd_ended_within lines limit so.input short) ∙ ap (has_crowd_within lines limit so.input) (sym ended)) refl counts;
     }
 
-writes_ended : (lines limit room n : ℕ) (source s1 s2 : SourceView) (sink k1 k2 : SinkView) (d d' : Dialogue) (piece : List ℕ) (result : Result Served ServeFault) (so : SoFar lines limit room source s1 sink k1 d) → ReadMore s1 s2 n piece → n ≡ 0
-    → HasFinished lines so.input sink k2 d' → d'.waiting.items ≡ [] → k2.flushed ≡ true → WritesAll (run_of lines limit source s2 sink k2 result) so.input
-writes_ended lines limit room n source s1 s2 sink k1 k2 d d' piece result so more none h waits flushed =
+writes_ended : (lines limit room n : ℕ) (source s1 s2 : SourceView) (sink k1 k2 : SinkView) (was gone : ℕ) (d d' : Dialogue) (piece : List ℕ) (result : Result Served ServeFault) (so : SoFar lines limit room source s1 sink k1 d) → ReadMore s1 s2 n piece → n ≡ 0
+    → HasFinished lines so.input sink k2 d' → d'.waiting.items ≡ [] → k2.flushed ≡ true → WritesAll (run_of lines limit source s2 sink k2 was gone result) so.input
+writes_ended lines limit room n source s1 s2 sink k1 k2 was gone d d' piece result so more none h waits flushed =
     let ended : s2.at_end ≡ true = more.ended ∙ at_zero n none in
     let short : length so.input ≤ limit = omega (arith, so.room_left) in
     let same : answers lines so.input true ≡ answers_within lines limit so.input s2.at_end = sym (answers_ended lines limit so.input short) ∙ ap (answers_within lines limit so.input) (sym ended) in
@@ -313,13 +333,14 @@ refused_ends : (run : Serving) (input : List ℕ) (d : Dialogue) (end : EarlyEnd
 refused_ends run input d ends.BadPlan ended short writes s = (writes, ap (is_plan_refused_within run.most_bytes input) ended ∙ refused_ended run.most_bytes input short ∙ s.0)
 refused_ends run input d ends.TooMany ended short writes s = absurd s
 
-pub refused_at_end : (lines limit room n : ℕ) (source s1 s2 : SourceView) (sink k1 k2 : SinkView) (d d' : Dialogue) (piece : List ℕ) (end : EarlyEnd) (so : SoFar lines limit room source s1 sink k1 d) → ReadMore s1 s2 n piece → n ≡ 0
-    → HasFinished lines so.input sink k2 d' → d'.waiting.items ≡ [] → k2.flushed ≡ true → d'.over ≡ Some end → AnswersInput (run_of lines limit source s2 sink k2 (Err (early_fault end)))
-refused_at_end lines limit room n source s1 s2 sink k1 k2 d d' piece end so more none h waits flushed is = record {
+pub refused_at_end : (lines limit room n : ℕ) (source s1 s2 : SourceView) (sink k1 k2 : SinkView) (was gone : ℕ) (d d' : Dialogue) (piece : List ℕ) (end : EarlyEnd) (so : SoFar lines limit room source s1 sink k1 d) → ReadMore s1 s2 n piece → n ≡ 0
+    → HasFinished lines so.input sink k2 d' → d'.waiting.items ≡ [] → k2.flushed ≡ true → d'.over ≡ Some end → gone ≡ was → AnswersInput (run_of lines limit source s2 sink k2 was gone (Err (early_fault end)))
+refused_at_end lines limit room n source s1 s2 sink k1 k2 was gone d d' piece end so more none h waits flushed is kept = record {
   input = so.input;
   read = nothing_more source.remaining s1.remaining s2.remaining so.input piece n so.read more.bytes none;
-  ends = refused_ends (run_of lines limit source s2 sink k2 (Err (early_fault end))) so.input d' end (more.ended ∙ at_zero n none) (omega (arith, so.room_left))
-      (writes_ended lines limit room n source s1 s2 sink k1 k2 d d' piece _ so more none h waits flushed) (ends_at lines so.input d' _ _ is h.stands);
+  ends = refused_ends (run_of lines limit source s2 sink k2 was gone (Err (early_fault end))) so.input d' end (more.ended ∙ at_zero n none) (omega (arith, so.room_left))
+      (writes_ended lines limit room n source s1 s2 sink k1 k2 was gone d d' piece _ so more none h waits flushed) (ends_at lines so.input d' _ _ is h.stands);
+  counts = early_counts end _ was gone kept;
 }
 
 left_after : (n : ℕ) (ls : List (List ℕ)) (lab : Option Laboratory) (left : ℕ) → IsAfterLines n ls lab left → left + length (later_lines ls) ≡ n
@@ -328,9 +349,9 @@ left_after n [] (Some kept) left after = absurd after
 left_after n (first ∷ later) None left after = absurd after
 left_after n (first ∷ later) (Some kept) left after = after.3
 
-pub ended_well : (lines limit room n : ℕ) (source s1 s2 : SourceView) (sink k1 k2 : SinkView) (d d' : Dialogue) (piece : List ℕ) (served : Served) (so : SoFar lines limit room source s1 sink k1 d) → ReadMore s1 s2 n piece → n ≡ 0
-    → IsAtEnd s2.remaining → HasFinished lines so.input sink k2 d' → d'.waiting.items ≡ [] → k2.flushed ≡ true → d'.over ≡ None → served.lines ≡ lines - d'.left → AnswersInput (run_of lines limit source s2 sink k2 (Ok served))
-ended_well lines limit room n source s1 s2 sink k1 k2 d d' piece served so more none nothing h waits flushed is count =
+pub ended_well : (lines limit room n : ℕ) (source s1 s2 : SourceView) (sink k1 k2 : SinkView) (was gone : ℕ) (d d' : Dialogue) (piece : List ℕ) (served : Served) (so : SoFar lines limit room source s1 sink k1 d) → ReadMore s1 s2 n piece → n ≡ 0
+    → IsAtEnd s2.remaining → HasFinished lines so.input sink k2 d' → d'.waiting.items ≡ [] → k2.flushed ≡ true → d'.over ≡ None → served.lines ≡ lines - d'.left → gone ≡ was → AnswersInput (run_of lines limit source s2 sink k2 was gone (Ok served))
+ended_well lines limit room n source s1 s2 sink k1 k2 was gone d d' piece served so more none nothing h waits flushed is count kept =
     let ended : s2.at_end ≡ true = more.ended ∙ at_zero n none in
     let short : length so.input ≤ limit = omega (arith, so.room_left) in
     let s = ends_at lines so.input d' _ None is h.stands in
@@ -338,19 +359,15 @@ ended_well lines limit room n source s1 s2 sink k1 k2 d d' piece served so more 
       input = so.input;
       read = nothing_more source.remaining s1.remaining s2.remaining so.input piece n so.read more.bytes none;
       ends = record {
-        writes = writes_ended lines limit room n source s1 s2 sink k1 k2 d d' piece _ so more none h waits flushed;
+        writes = writes_ended lines limit room n source s1 s2 sink k1 k2 was gone d d' piece _ so more none h waits flushed;
         at_end = ended;
         nothing_left = nothing;
         accepted = ap (is_plan_refused_within limit so.input) ended ∙ refused_ended limit so.input short ∙ s.0;
         within = past_ended lines limit so.input short s.1;
         counted = omega (arith, count, left_after lines (lines_of so.input true) d'.laboratory d'.left s.2, count_ended lines limit so.input short s.1);
       };
+      counts = kept;
     }
-
--- no worker has gone where a run is over early
-pub early_gone : (end : EarlyEnd) (fault : ServeFault) (n : ℕ) → fault ≡ early_fault end → gone_after_call {A = Served} (Err fault) n ≡ n
-early_gone ends.BadPlan fault n is = ap (λ (f : ServeFault). gone_after_call {A = Served} (Err f) n) is
-early_gone ends.TooMany fault n is = ap (λ (f : ServeFault). gone_after_call {A = Served} (Err f) n) is
 
 -- ---- nothing was read
 
@@ -374,7 +391,7 @@ abbrev pub unopened_source : ℕ → SourceView
 unopened_source failed = record { remaining = None; at_end = false; failures = failed }
 
 -- it is as one of which the first read fails
-pub unopened : (lines limit : ℕ) (sink : SinkView) → AnswersInput (run_of lines limit (unopened_source 0) (unopened_source 1) sink sink (Err faults.Read))
+pub unopened : (lines limit : ℕ) (sink : SinkView) → AnswersInput (run_of lines limit (unopened_source 0) (unopened_source 1) sink sink 0 0 (Err faults.Read))
 unopened lines limit sink = record {
   input = [];
   read = Consumes-nil None;
@@ -385,21 +402,24 @@ unopened lines limit sink = record {
     reads_failed = refl;
     writes_well = refl;
   };
+  counts = refl;
 }
 
 -- there was no memory to begin
-pub not_begun : (lines limit : ℕ) (source : SourceView) (sink : SinkView) → AnswersInput (run_of lines limit source source sink sink (Err faults.OutOfMemory))
+pub not_begun : (lines limit : ℕ) (source : SourceView) (sink : SinkView) → AnswersInput (run_of lines limit source source sink sink 0 0 (Err faults.OutOfMemory))
 not_begun lines limit source sink = record {
   input = [];
   read = Consumes-nil source.remaining;
   ends = record { stops = ((_, takes_none sink _), refl); reads_well = refl };
+  counts = refl;
 }
 
--- nor were there workers to begin
-pub not_manned : (lines limit : ℕ) (source : SourceView) (sink : SinkView) (failed : CrewFault) → AnswersInput (run_of lines limit source source sink sink (Err (crew_fault failed)))
-not_manned lines limit source sink crew_faults.OutOfMemory = not_begun lines limit source sink
-not_manned lines limit source sink crew_faults.WorkersGone = record {
+-- nor were there workers to begin, which counts as having answered so
+pub not_manned : (lines limit : ℕ) (source : SourceView) (sink : SinkView) (failed : CrewFault) → (gone : ℕ) × AnswersInput (run_of lines limit source source sink sink 0 gone (Err (crew_fault failed)))
+not_manned lines limit source sink crew_faults.OutOfMemory = (0, not_begun lines limit source sink)
+not_manned lines limit source sink crew_faults.WorkersGone = (1, record {
   input = [];
   read = Consumes-nil source.remaining;
   ends = record { stops = ((_, takes_none sink _), refl); reads_well = refl };
-}
+  counts = inl refl;
+})

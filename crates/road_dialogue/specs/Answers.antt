@@ -1,6 +1,8 @@
 -- What is answered to an input.
 use Rattle.std.specs.Prelude.{ℕ, suc, List, [], ◌∷◌, ◌++◌, ◌&&◌, ◌||◌, Bool, true, false, take, length, nat_lt, nat_le}
 use Rattle.std.specs.Prelude.{Option, Some, None, Result, Ok, Err}
+use Rattle.std.specs.List.{list_any}
+use Rattle.road_plan.specs.Plan.{Plan}
 use Rattle.road_plan.specs.declared.limits.TheConstants.{LONGEST_LINE}
 use Rattle.road_format.specs.Cut.{lines_of}
 use Rattle.road_format.specs.CommandGrammar.{Command, command_of}
@@ -8,7 +10,7 @@ use Rattle.road_format.specs.PlanGrammar.{PlanLine, plan_line_of}
 use Rattle.road_format.specs.Replies.{Answer, Open, Refused, reply}
 use Rattle.road_format.specs.declared.refusal.Refusal.{Refusal}
 use Rattle.road_format.specs.declared.refusal.Refusal.TheVariants as refusals
-use Rattle.road_laboratory.specs.Laboratory.{Laboratory, answer_to, laboratory_after, opening_laboratory}
+use Rattle.road_laboratory.specs.Laboratory.{Laboratory, answer_to, is_gathered, laboratory_after, opening_laboratory}
 
 -- ---- one line
 
@@ -43,6 +45,11 @@ line_answer lab (Ok command) = answer_to lab command
 abbrev pub laboratory_after_line : Laboratory → Result Command Refusal → Laboratory
 laboratory_after_line lab (Err refusal) = lab
 laboratory_after_line lab (Ok command) = laboratory_after lab command
+
+-- whether a later line is a crowd that nothing refuses
+abbrev pub gathers : Plan → Result Command Refusal → Bool
+gathers plan (Err refusal) = false
+gathers plan (Ok command) = is_gathered plan command
 
 -- ---- all lines
 
@@ -79,11 +86,25 @@ replies_by (Some reading) lines = input_replies reading lines
 abbrev pub line_replies : Bool → List (List ℕ) → List ℕ
 line_replies ended lines = replies_by (first_reading ended lines) (later_lines lines)
 
+-- whether a line after the plan line is a crowd that nothing refuses, by how the plan line is read
+abbrev pub gathers_by : Option (Result PlanLine Refusal) → List (List ℕ) → Bool
+gathers_by None lines = false
+gathers_by (Some (Err refusal)) lines = false
+gathers_by (Some (Ok first)) lines = list_any (λ line. gathers first.plan (command_reading line)) lines
+
+-- whether one of these lines is a crowd that nothing refuses, of an input that has ended or goes on
+abbrev pub lines_gather : Bool → List (List ℕ) → Bool
+lines_gather ended lines = gathers_by (first_reading ended lines) (later_lines lines)
+
 -- ---- the answers to bytes, with at most so many lines after the plan line
 
 -- what is answered to these bytes, of an input that has ended or goes on
 unfoldable pub answers : ℕ → List ℕ → Bool → List ℕ
 answers lines bytes ended = line_replies ended (take (suc lines) (lines_of bytes ended))
+
+-- whether a line of these bytes, of an input that has ended or goes on, is a crowd that nothing refuses
+unfoldable pub has_crowd : ℕ → List ℕ → Bool → Bool
+has_crowd lines bytes ended = lines_gather ended (take (suc lines) (lines_of bytes ended))
 
 -- whether the plan line, as read, is refused
 abbrev pub is_refusal : Option (Result PlanLine Refusal) → Bool
@@ -109,6 +130,10 @@ ends_within limit bytes ended = ended && nat_le (length bytes) limit
 -- their last newline is no line
 unfoldable pub answers_within : ℕ → ℕ → List ℕ → Bool → List ℕ
 answers_within lines limit bytes ended = answers lines (take limit bytes) (ends_within limit bytes ended)
+
+-- whether a line of the first `limit` bytes of an input is a crowd that nothing refuses
+unfoldable pub has_crowd_within : ℕ → ℕ → List ℕ → Bool → Bool
+has_crowd_within lines limit bytes ended = has_crowd lines (take limit bytes) (ends_within limit bytes ended)
 
 -- whether the plan line of the first `limit` bytes of an input is refused
 unfoldable pub is_plan_refused_within : ℕ → List ℕ → Bool → Bool

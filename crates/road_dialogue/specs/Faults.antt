@@ -1,9 +1,10 @@
 -- The faults of runs.
-use Rattle.std.specs.Prelude.{ℕ, ◌+◌, ◌-◌, ◌^◌, min, Result, Ok, Err}
+use Rattle.std.specs.Prelude.{◌≡◌, ◌⊎◌, ℕ, ◌+◌, ◌-◌, ◌^◌, min, Bool, true, Result, Ok, Err}
 use Rattle.road_laboratory.specs.declared.faults.LaboratoryFault.{LaboratoryFault}
 use Rattle.road_laboratory.specs.declared.faults.LaboratoryFault.TheVariants as laboratory_faults
 use Rattle.road_workers.specs.declared.faults.CrewFault.{CrewFault}
 use Rattle.road_workers.specs.declared.faults.CrewFault.TheVariants as crew_faults
+use Rattle.road_dialogue.specs.Failures.{RisesByOne}
 use Rattle.road_dialogue.specs.declared.faults.EarlyEnd.{EarlyEnd}
 use Rattle.road_dialogue.specs.declared.faults.EarlyEnd.TheVariants as ends
 use Rattle.road_dialogue.specs.declared.faults.ServeFault.{ServeFault}
@@ -30,3 +31,9 @@ abbrev pub gone_after_call : {A : Type 0} → Result A ServeFault → ℕ → �
 gone_after_call (Ok done) n = n
 gone_after_call (Err faults.WorkersGone) n = min (n + 1) (2 ^ 64 - 1)
 gone_after_call (Err fault) n = n
+
+-- How often a crew has answered `WorkersGone`, before and after a call with this fault: as often. Where that is the
+-- fault, once more; or as often, where a crowd was read, so that it may be its sessions' threads.
+abbrev pub CountsGone : ServeFault → Bool → ℕ → ℕ → Type 0
+CountsGone faults.WorkersGone crowd before after = RisesByOne before after ⊎ ((after ≡ before) × (crowd ≡ true))
+CountsGone fault crowd before after = after ≡ before

@@ -2,15 +2,18 @@
 use Rattle.std.specs.Prelude.{◌≡◌, ℕ, List, Bool, true, false, Result, Ok, Err}
 use Rattle.std.specs.Io.KnownBytes.{Appends, Consumes, IsAtEnd}
 use Rattle.road_plan.specs.declared.limits.TheConstants.{MOST_LINES, MOST_BYTES}
-use Rattle.road_dialogue.specs.Answers.{answers_within, is_plan_refused_within, has_byte_past_most, reply_count}
+use Rattle.road_dialogue.specs.Answers.{answers_within, has_crowd_within, is_plan_refused_within, has_byte_past_most}
+use Rattle.road_dialogue.specs.Answers.{reply_count}
 use Rattle.road_dialogue.specs.Failures.{RisesByOne}
+use Rattle.road_dialogue.specs.Faults.{CountsGone}
 use Rattle.road_dialogue.specs.StreamViews.{SourceView, SinkView, Stops}
 use Rattle.road_dialogue.specs.declared.faults.ServeFault.{ServeFault}
 use Rattle.road_dialogue.specs.declared.faults.ServeFault.TheVariants as faults
 use Rattle.road_dialogue.specs.declared.serving.Served.{Served}
 
 -- One call of `serve` or `serve_within`, here called a run: how many lines may come after the plan line, and how many
--- bytes in all; its source and its sink before and after it; and its result.
+-- bytes in all; its source and its sink before and after it; how often its crew had answered `WorkersGone` before and
+-- after it; and its result.
 pub record Serving : Type 0 where
   pub most_lines : ℕ
   pub most_bytes : ℕ
@@ -18,17 +21,21 @@ pub record Serving : Type 0 where
   pub source_after : SourceView
   pub sink_before : SinkView
   pub sink_after : SinkView
+  pub gone_before : ℕ
+  pub gone_after : ℕ
   pub result : Result Served ServeFault
 
 -- a run within the program's own limits
-abbrev pub program_serving : SourceView → SourceView → SinkView → SinkView → Result Served ServeFault → Serving
-program_serving source_before source_after sink_before sink_after result = record {
+abbrev pub program_serving : SourceView → SourceView → SinkView → SinkView → ℕ → ℕ → Result Served ServeFault → Serving
+program_serving source_before source_after sink_before sink_after gone_before gone_after result = record {
   most_lines = MOST_LINES;
   most_bytes = MOST_BYTES;
   source_before = source_before;
   source_after = source_after;
   sink_before = sink_before;
   sink_after = sink_after;
+  gone_before = gone_before;
+  gone_after = gone_after;
   result = result;
 }
 
@@ -87,8 +94,19 @@ Ends run input (Err faults.Write) = EndsUnwritten run input faults.Write
 Ends run input (Err faults.OutOfMemory) = EndsUnwritten run input faults.OutOfMemory
 Ends run input (Err faults.WorkersGone) = EndsUnwritten run input faults.WorkersGone
 
+-- whether a crowd that nothing refuses is among the lines of this input
+abbrev pub run_crowd : Serving → List ℕ → Bool
+run_crowd run input = has_crowd_within run.most_lines run.most_bytes input run.source_after.at_end
+
+-- The crew has answered `WorkersGone` as often as before the run. Where that ended the run, it did once more, or there
+-- was a crowd, of which a thread could not be started.
+abbrev pub CountsCrew : Serving → List ℕ → Result Served ServeFault → Type 0
+CountsCrew run input (Ok served) = run.gone_after ≡ run.gone_before
+CountsCrew run input (Err fault) = CountsGone fault (run_crowd run input) run.gone_before run.gone_after
+
 -- The run read some input, the front of what the source had left, and answered it.
 pub record AnswersInput (run : Serving) : Type 0 where
   pub input : List ℕ
   pub read : Consumes run.source_before.remaining run.source_after.remaining input
   pub ends : Ends run input run.result
+  pub counts : CountsCrew run input run.result

@@ -1,6 +1,6 @@
 //! What serves lines: bytes become lines, and lines replies.
 
-ghost use Rattle.std.specs.Prelude.{◌≡◌, ◌≢◌, ◌↔◌, ◌==◌, ◌++◌, ◌∷◌, ◌<◌, ◌≤◌, ℕ, List, [], IfOk, OnOk, MatchResult, IsTrue, IsSome, length, vec_len, take, true, false, None, Ok, Some, string_bytes};
+ghost use Rattle.std.specs.Prelude.{◌≡◌, ◌≢◌, ◌↔◌, ◌==◌, ◌++◌, ◌∷◌, ◌<◌, ◌≤◌, ℕ, List, [], IfErr, IfOk, OnOk, MatchResult, IsTrue, IsSome, length, vec_len, take, true, false, None, Ok, Some, string_bytes};
 ghost use Rattle.std.specs.List.{position};
 ghost use Rattle.road_format.specs.Cut.{newline};
 ghost use Rattle.road_format.specs.CommandGrammar.{command_of};
@@ -9,11 +9,13 @@ ghost use Rattle.std.specs.Str.{bytes_eq};
 ghost use Rattle.road_format.specs.PlanGrammar.{plan_line_of};
 ghost use Rattle.road_format.specs.Replies.{Refused, reply};
 ghost use Rattle.road_format.specs.Views.{texts, plan_line_view, command_view, answer_view};
-ghost use Rattle.road_laboratory.specs.Laboratory.{answer_to, gone_after, laboratory_after, laboratory_of_winners};
-ghost use Rattle.road_dialogue.specs.Answers.{reading_unless, opening_answer, line_answer, answers, has_more_lines};
+ghost use Rattle.road_laboratory.specs.Laboratory.{answer_to, gone_after_command, is_gathered};
+ghost use Rattle.road_laboratory.specs.Laboratory.{laboratory_after, laboratory_of_winners};
+ghost use Rattle.road_dialogue.specs.Answers.{reading_unless, opening_answer, line_answer, gathers};
+ghost use Rattle.road_dialogue.specs.Answers.{answers, has_crowd, has_more_lines};
 ghost use Rattle.road_dialogue.specs.Dialogue.{Holds, GoesOn, Stands, HasAnswered, HasFinished};
-ghost use Rattle.road_dialogue.specs.Private.KeptLaboratory.{kept_after_line, opened_laboratory};
-ghost use Rattle.road_dialogue.specs.Faults.{gone_after_call};
+ghost use Rattle.road_dialogue.specs.Private.KeptLaboratory.{holds_crowd, kept_after_line, opened_laboratory};
+ghost use Rattle.road_dialogue.specs.Faults.{CountsGone};
 ghost use Rattle.road_dialogue.specs.Private.Readings.{IsRead};
 ghost use Rattle.road_dialogue.specs.StreamViews.{SinkView, sink_view, Stops};
 
@@ -24,6 +26,7 @@ use road_format::{Answer, Command, PlanLine, Refusal, read_command, read_plan, r
 use road_laboratory::{Laboratory, LaboratoryFault};
 use road_plan::OutOfMemory;
 use road_plan::limits::LONGEST_LINE;
+use road_replica::Crowds;
 use road_workers::Crew;
 use std::alloc::Global;
 
@@ -110,39 +113,43 @@ fn refusal_reply(alloc: Global, refusal: Refusal) -> Result<String, OutOfMemory>
 }
 
 // The reply to a line after the first.
-fn later_reply<C: Crew>(
+fn later_reply<C: Crew, K: Crowds>(
     alloc: Global,
     laboratory: &mut Laboratory,
     held: &[u8],
     long: bool,
     crew: &mut C,
+    crowds: &K,
 ) -> Result<String, LaboratoryFault>
     ensures text { IfOk result (λ text. string_bytes text
         ≡ reply (line_answer laboratory.old (reading_unless long (command_of held.now)))) }
     ensures after { OnOk result (laboratory.new
         ≡ kept_after_line laboratory.old (reading_unless long (command_of held.now))) }
-    ensures gone { C.times_gone crew.new ≡ gone_after result (C.times_gone crew.old) }
+    ensures gone { C.times_gone crew.new ≡ gone_after_command result
+        (gathers laboratory.old.world.plan (reading_unless long (command_of held.now))) (C.times_gone crew.old) }
 {
     match later_line(alloc, held, long)? {
-        Ok(command) => command_reply(alloc, laboratory, &command, crew),
+        Ok(command) => command_reply(alloc, laboratory, &command, crew, crowds),
         Err(refusal) => Ok(refusal_reply(alloc, refusal)?),
     }
 }
 
 // The reply to a command.
-fn command_reply<C: Crew>(
+fn command_reply<C: Crew, K: Crowds>(
     alloc: Global,
     laboratory: &mut Laboratory,
     command: &Command,
     crew: &mut C,
+    crowds: &K,
 ) -> Result<String, LaboratoryFault>
     ensures text { IfOk result (λ text. string_bytes text
         ≡ reply (answer_to laboratory.old (command_view command.now))) }
     ensures after { OnOk result (laboratory.new
         ≡ laboratory_of_winners (laboratory_after laboratory.old (command_view command.now))) }
-    ensures gone { C.times_gone crew.new ≡ gone_after result (C.times_gone crew.old) }
+    ensures gone { C.times_gone crew.new ≡ gone_after_command result
+        (is_gathered laboratory.old.world.plan (command_view command.now)) (C.times_gone crew.old) }
 {
-    let answer = laboratory.answer(alloc, command, crew)?;
+    let answer = laboratory.answer(alloc, command, crew, crowds)?;
     Ok(reply_line(alloc, &answer)?)
 }
 
@@ -219,7 +226,12 @@ impl Dialogue {
     }
 
     // The line that is held has ended: the reply to it.
-    fn reply<C: Crew>(&mut self, alloc: Global, crew: &mut C) -> Result<String, LaboratoryFault>
+    fn reply<C: Crew, K: Crowds>(
+        &mut self,
+        alloc: Global,
+        crew: &mut C,
+        crowds: &K,
+    ) -> Result<String, LaboratoryFault>
         requires { self.old.over ≡ None }
         ensures answered { (lines : ℕ) (bytes : List ℕ) → GoesOn lines bytes self.old
             → has_more_lines lines (bytes ++ newline ∷ []) ≡ false
@@ -227,10 +239,12 @@ impl Dialogue {
             (answers lines (bytes ++ newline ∷ []) false ≡ answers lines bytes false ++ string_bytes text)
             × Stands lines (bytes ++ newline ∷ []) self.new self.new.over) }
         ensures waiting { self.new.waiting ≡ self.old.waiting }
-        ensures gone { C.times_gone crew.new ≡ gone_after result (C.times_gone crew.old) }
+        ensures gone { C.times_gone crew.new
+            ≡ gone_after_command result (holds_crowd self.old) (C.times_gone crew.old) }
     {
         if let Some(laboratory) = &mut self.laboratory {
-            let reply = later_reply(alloc, laboratory, self.held.as_slice(), self.long, crew)?;
+            let held = self.held.as_slice();
+            let reply = later_reply(alloc, laboratory, held, self.long, crew, crowds)?;
             self.left = self.left.saturating_sub(1);
             self.held.clear();
             self.long = false;
@@ -248,11 +262,12 @@ impl Dialogue {
     }
 
     // Answers the line that is held, which has ended.
-    fn answer<W: Sink, C: Crew>(
+    fn answer<W: Sink, C: Crew, K: Crowds>(
         &mut self,
         alloc: Global,
         writer: &mut W,
         crew: &mut C,
+        crowds: &K,
     ) -> Result<(), ServeFault>
         requires { self.old.over ≡ None }
         ensures answered { (lines : ℕ) (bytes : List ℕ) (first : SinkView)
@@ -261,19 +276,25 @@ impl Dialogue {
             → MatchResult result
             (λ _. HasAnswered lines (bytes ++ newline ∷ []) first (sink_view W.Sink writer.new) self.new)
             (λ fault. Stops first (sink_view W.Sink writer.new) (answers lines (bytes ++ newline ∷ []) false) fault) }
-        ensures gone { C.times_gone crew.new ≡ gone_after_call result (C.times_gone crew.old) }
+        ensures kept { OnOk result (C.times_gone crew.new ≡ C.times_gone crew.old) }
+        ensures lost { (lines : ℕ) (bytes : List ℕ) (first : SinkView)
+            → HasAnswered lines bytes first (sink_view W.Sink writer.old) self.old
+            → has_more_lines lines (bytes ++ newline ∷ []) ≡ false
+            → IfErr result (λ fault. CountsGone fault (has_crowd lines (bytes ++ newline ∷ []) false)
+            (C.times_gone crew.old) (C.times_gone crew.new)) }
     {
-        let reply = self.reply(alloc, crew)?;
+        let reply = self.reply(alloc, crew, crowds)?;
         put(&mut self.waiting, writer, reply.as_bytes())
     }
 
     // Takes the next of these bytes, up to the end of a line where one of them ends it, and gives how many.
-    fn take_line<W: Sink, C: Crew>(
+    fn take_line<W: Sink, C: Crew, K: Crowds>(
         &mut self,
         alloc: Global,
         writer: &mut W,
         bytes: &[u8],
         crew: &mut C,
+        crowds: &K,
     ) -> Result<usize, ServeFault>
         requires { 0 < length bytes.now }
         ensures taken { IfOk result (λ n. (0 < n) × (n ≤ length bytes.now)) }
@@ -282,7 +303,11 @@ impl Dialogue {
             → MatchResult result
             (λ n. HasAnswered lines (before ++ take n bytes.now) first (sink_view W.Sink writer.new) self.new)
             (λ fault. Stops first (sink_view W.Sink writer.new) (answers lines (before ++ bytes.now) false) fault) }
-        ensures gone { C.times_gone crew.new ≡ gone_after_call result (C.times_gone crew.old) }
+        ensures kept { OnOk result (C.times_gone crew.new ≡ C.times_gone crew.old) }
+        ensures lost { (lines : ℕ) (before : List ℕ) (first : SinkView)
+            → HasAnswered lines before first (sink_view W.Sink writer.old) self.old
+            → IfErr result (λ fault. CountsGone fault (has_crowd lines (before ++ bytes.now) false)
+            (C.times_gone crew.old) (C.times_gone crew.new)) }
     {
         if self.over.is_some() {
             return Ok(bytes.len());
@@ -294,7 +319,7 @@ impl Dialogue {
         match line_end(bytes) {
             Some(end) => {
                 self.hold(&bytes[..end])?;
-                self.answer(alloc, writer, crew)?;
+                self.answer(alloc, writer, crew, crowds)?;
                 Ok(end + 1)
             }
             None => {
@@ -309,15 +334,16 @@ impl Dialogue {
     ///
     /// # Errors
     ///
-    /// `Write` where the sink failed, `WorkersGone` where the crew did, `OutOfMemory` where a growth was refused. What
-    /// was written then begins the replies. The line that the dialogue held may have been answered or not, so it must
-    /// not be called again.
-    pub fn take<W: Sink, C: Crew>(
+    /// `Write` where the sink failed, `WorkersGone` where the crew did, or a thread of a crowd could not be started,
+    /// `OutOfMemory` where a growth was refused. What was written then begins the replies. The line that the dialogue
+    /// held may have been answered or not, so it must not be called again.
+    pub fn take<W: Sink, C: Crew, K: Crowds>(
         &mut self,
         alloc: Global,
         writer: &mut W,
         bytes: &[u8],
         crew: &mut C,
+        crowds: &K,
     ) -> Result<(), ServeFault>
         ensures answered { (lines : ℕ) (before : List ℕ) (first : SinkView)
             → HasAnswered lines before first (sink_view W.Sink writer.old) self.old
@@ -326,22 +352,27 @@ impl Dialogue {
             (λ fault. Stops first (sink_view W.Sink writer.new) (answers lines (before ++ bytes.now) false) fault) }
         ensures none_wait { OnOk result (self.new.waiting.items ≡ []) }
         ensures flushed { OnOk result (W.flushed writer.new ≡ true) }
-        ensures gone { C.times_gone crew.new ≡ gone_after_call result (C.times_gone crew.old) }
+        ensures kept { OnOk result (C.times_gone crew.new ≡ C.times_gone crew.old) }
+        ensures lost { (lines : ℕ) (before : List ℕ) (first : SinkView)
+            → HasAnswered lines before first (sink_view W.Sink writer.old) self.old
+            → IfErr result (λ fault. CountsGone fault (has_crowd lines (before ++ bytes.now) false)
+            (C.times_gone crew.old) (C.times_gone crew.new)) }
     {
         let mut done = 0;
         while done < bytes.len() {
-            done += self.take_line(alloc, writer, &bytes[done..], crew)?;
+            done += self.take_line(alloc, writer, &bytes[done..], crew, crowds)?;
         }
         flush(&mut self.waiting, writer)?;
         Ok(())
     }
 
     // The input has ended: answers a last line without a newline, or an input without a line.
-    fn answer_last<W: Sink, C: Crew>(
+    fn answer_last<W: Sink, C: Crew, K: Crowds>(
         &mut self,
         alloc: Global,
         writer: &mut W,
         crew: &mut C,
+        crowds: &K,
     ) -> Result<(), ServeFault>
         requires { self.old.over ≡ None }
         ensures answered { (lines : ℕ) (bytes : List ℕ) (first : SinkView)
@@ -349,10 +380,14 @@ impl Dialogue {
             → MatchResult result
             (λ _. HasFinished lines bytes first (sink_view W.Sink writer.new) self.new)
             (λ fault. Stops first (sink_view W.Sink writer.new) (answers lines bytes true) fault) }
-        ensures gone { C.times_gone crew.new ≡ gone_after_call result (C.times_gone crew.old) }
+        ensures kept { OnOk result (C.times_gone crew.new ≡ C.times_gone crew.old) }
+        ensures lost { (lines : ℕ) (bytes : List ℕ) (first : SinkView)
+            → HasAnswered lines bytes first (sink_view W.Sink writer.old) self.old
+            → IfErr result (λ fault. CountsGone fault (has_crowd lines bytes true)
+            (C.times_gone crew.old) (C.times_gone crew.new)) }
     {
         if !self.is_clear() {
-            return self.answer(alloc, writer, crew);
+            return self.answer(alloc, writer, crew, crowds);
         }
         if self.laboratory.is_some() {
             return Ok(());
@@ -368,11 +403,12 @@ impl Dialogue {
     /// # Errors
     ///
     /// As for `take`.
-    pub fn finish<W: Sink, C: Crew>(
+    pub fn finish<W: Sink, C: Crew, K: Crowds>(
         &mut self,
         alloc: Global,
         writer: &mut W,
         crew: &mut C,
+        crowds: &K,
     ) -> Result<(), ServeFault>
         requires { self.old.over ≡ None }
         ensures answered { (lines : ℕ) (bytes : List ℕ) (first : SinkView)
@@ -382,9 +418,13 @@ impl Dialogue {
             (λ fault. Stops first (sink_view W.Sink writer.new) (answers lines bytes true) fault) }
         ensures none_wait { OnOk result (self.new.waiting.items ≡ []) }
         ensures flushed { OnOk result (W.flushed writer.new ≡ true) }
-        ensures gone { C.times_gone crew.new ≡ gone_after_call result (C.times_gone crew.old) }
+        ensures kept { OnOk result (C.times_gone crew.new ≡ C.times_gone crew.old) }
+        ensures lost { (lines : ℕ) (bytes : List ℕ) (first : SinkView)
+            → HasAnswered lines bytes first (sink_view W.Sink writer.old) self.old
+            → IfErr result (λ fault. CountsGone fault (has_crowd lines bytes true)
+            (C.times_gone crew.old) (C.times_gone crew.new)) }
     {
-        self.answer_last(alloc, writer, crew)?;
+        self.answer_last(alloc, writer, crew, crowds)?;
         flush(&mut self.waiting, writer)?;
         Ok(())
     }

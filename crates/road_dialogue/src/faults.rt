@@ -27,7 +27,7 @@ pub enum ServeFault {
     /// A byte past the limits was read: past those of lines, or past that of bytes.
     #[error("too many lines")]
     TooMany,
-    /// A worker of the crew could not be started, or has gone.
+    /// A worker of the crew, or a session's thread, could not be started or has gone.
     #[error("workers gone")]
     WorkersGone,
 }

@@ -1,22 +1,22 @@
 //! The program without its process.
 
-ghost use Rattle.std.specs.Prelude.{◌≡◌, ◌≢◌, ◌<◌, ◌≤◌, IfSome, IsSome, codes, true, false, None, Some, Result, Err};
+ghost use Rattle.std.specs.Prelude.{◌≡◌, ◌<◌, ◌≤◌, ℕ, IfOk, IfSome, IsSome, codes, true, false, None, Some, Result};
 ghost use Rattle.road_format.specs.Views.{texts};
 ghost use Rattle.road_plan.specs.declared.limits.TheConstants.{MOST_WORKERS};
 ghost use Rattle.road_dialogue.specs.Arguments.{are_accepted, script_of, workers_of};
-ghost use Rattle.road_dialogue.specs.Faults.{gone_after_call};
 ghost use Rattle.road_dialogue.specs.Serving.{program_serving};
 ghost use Rattle.road_dialogue.specs.Statuses.{status_of, line_of, fault_status, fault_line, EndsAfter, HasStatus, IsRefused};
 ghost use Rattle.road_dialogue.specs.StreamViews.{SourceView, source_view, sink_view};
 ghost use Rattle.road_dialogue.specs.declared.serving.Served.{Served};
 ghost use Rattle.road_dialogue.specs.declared.faults.ServeFault.{ServeFault};
-ghost use Rattle.road_dialogue.specs.declared.faults.ServeFault.TheVariants.{WorkersGone};
 
 use crate::arguments::{ArgumentFault, arguments_in};
 use crate::faults::ServeFault;
 use crate::serving::{Served, serve};
 use crate::std_streams::StdSource;
 use crate::streams::{Sink, Source};
+use road_crowd::OnThreads;
+use road_replica::Crowds;
 use road_workers::{Alone, Crew, CrewFault, Pool};
 use std::alloc::Global;
 use std::fs;
@@ -56,7 +56,8 @@ impl Ended {
 }
 
 /// Runs the program with these words after its name: from the script that they name, or from the reader, and with the
-/// workers that they ask for, or alone. A script is opened before workers are started.
+/// workers that they ask for, or alone. A script is opened before workers are started. The sessions of a crowd work on
+/// threads of their own.
 pub fn run<
     F: Files + Threads + Wait + AllocGlobal + Clone + Drop + Send + 'static,
     R: Source,
@@ -65,17 +66,16 @@ pub fn run<
     ensures refused { are_accepted (texts words.now) ≡ false → IsRefused result
         × (reader.new ≡ reader.old) × (writer.new ≡ writer.old) }
     ensures served { are_accepted (texts words.now) ≡ true → script_of (texts words.now) ≡ None
-        → (served : Result Served ServeFault)
-        × (workers_of (texts words.now) ≡ None → served ≢ Err WorkersGone)
+        → (served : Result Served ServeFault) × (gone : ℕ) × (workers_of (texts words.now) ≡ None → gone ≡ 0)
         × EndsAfter result (program_serving (source_view R.Source reader.old) (source_view R.Source reader.new)
-        (sink_view W.Sink writer.old) (sink_view W.Sink writer.new) served) }
+        (sink_view W.Sink writer.old) (sink_view W.Sink writer.new) 0 gone served) }
     // No contract says which bytes a file holds.
     ensures script { are_accepted (texts words.now) ≡ true → IsSome (script_of (texts words.now))
-        → (reader.new ≡ reader.old) × (served : Result Served ServeFault)
-        × (workers_of (texts words.now) ≡ None → served ≢ Err WorkersGone)
+        → (reader.new ≡ reader.old)
+        × (served : Result Served ServeFault) × (gone : ℕ) × (workers_of (texts words.now) ≡ None → gone ≡ 0)
         × (before : SourceView) × (after : SourceView)
         × EndsAfter result (program_serving before after
-        (sink_view W.Sink writer.old) (sink_view W.Sink writer.new) served) }
+        (sink_view W.Sink writer.old) (sink_view W.Sink writer.new) 0 gone served) }
 {
     match arguments_in(rt.alloc(), words) {
         Ok(asked) => match asked.script {
@@ -95,10 +95,10 @@ fn run_script<F: Files + Threads + Wait + AllocGlobal + Clone + Drop + Send + 's
     writer: &mut W,
 ) -> Ended
     requires { IfSome workers (λ count. (0 < count) × (count ≤ MOST_WORKERS)) }
-    ensures { (served : Result Served ServeFault) × (workers ≡ None → served ≢ Err WorkersGone)
+    ensures { (served : Result Served ServeFault) × (gone : ℕ) × (workers ≡ None → gone ≡ 0)
         × (before : SourceView) × (after : SourceView)
         × EndsAfter result (program_serving before after
-        (sink_view W.Sink writer.old) (sink_view W.Sink writer.new) served) }
+        (sink_view W.Sink writer.old) (sink_view W.Sink writer.new) 0 gone served) }
 {
     match fs::open(rt, path) {
         Ok(file) => {
@@ -117,25 +117,29 @@ fn run_with<F: Threads + Wait + AllocGlobal + Clone + Drop + Send + 'static, R: 
     writer: &mut W,
 ) -> Ended
     requires { IfSome workers (λ count. (0 < count) × (count ≤ MOST_WORKERS)) }
-    ensures { (served : Result Served ServeFault) × (workers ≡ None → served ≢ Err WorkersGone)
+    ensures { (served : Result Served ServeFault) × (gone : ℕ) × (workers ≡ None → gone ≡ 0)
         × EndsAfter result (program_serving (source_view R.Source reader.old) (source_view R.Source reader.new)
-        (sink_view W.Sink writer.old) (sink_view W.Sink writer.new) served) }
+        (sink_view W.Sink writer.old) (sink_view W.Sink writer.new) 0 gone served) }
 {
     match workers {
-        None => run_alone(rt.alloc(), reader, writer),
+        None => run_alone(rt, reader, writer),
         Some(count) => run_by_workers(rt, count, reader, writer),
     }
 }
 
 // Runs the program by the crew of one, from a reader to a writer.
-fn run_alone<R: Source, W: Sink>(alloc: Global, reader: &mut R, writer: &mut W) -> Ended
-    ensures { (served : Result Served ServeFault) × (served ≢ Err WorkersGone)
+fn run_alone<F: Threads + Wait + AllocGlobal, R: Source, W: Sink>(
+    rt: &F,
+    reader: &mut R,
+    writer: &mut W,
+) -> Ended
+    ensures { (served : Result Served ServeFault)
         × EndsAfter result (program_serving (source_view R.Source reader.old) (source_view R.Source reader.new)
-        (sink_view W.Sink writer.old) (sink_view W.Sink writer.new) served) }
+        (sink_view W.Sink writer.old) (sink_view W.Sink writer.new) 0 0 served) }
 {
     let mut crew = Alone;
     crew.known();
-    let ended = run_by(alloc, reader, writer, &mut crew);
+    let ended = run_by(rt.alloc(), reader, writer, &mut crew, &OnThreads::new(rt));
     crew.known();
     ended
 }
@@ -148,13 +152,13 @@ fn run_by_workers<
 >(rt: &F, count: u32, reader: &mut R, writer: &mut W) -> Ended
     requires some { 0 < count }
     requires few { count ≤ MOST_WORKERS }
-    ensures { (served : Result Served ServeFault)
+    ensures { (served : Result Served ServeFault) × (gone : ℕ)
         × EndsAfter result (program_serving (source_view R.Source reader.old) (source_view R.Source reader.new)
-        (sink_view W.Sink writer.old) (sink_view W.Sink writer.new) served) }
+        (sink_view W.Sink writer.old) (sink_view W.Sink writer.new) 0 gone served) }
 {
     match crew_of(rt, count) {
         Ok(mut crew) => {
-            let ended = run_by(rt.alloc(), reader, writer, &mut crew);
+            let ended = run_by(rt.alloc(), reader, writer, &mut crew, &OnThreads::new(rt));
             crew.finish();
             ended
         }
@@ -169,23 +173,25 @@ fn crew_of<F: Threads + Wait + AllocGlobal + Clone + Drop + Send + 'static>(
 ) -> Result<Pool<F>, CrewFault>
     requires some { 0 < count }
     requires few { count ≤ MOST_WORKERS }
+    ensures { IfOk result (λ crew. ⟦<Pool<F> as Crew>⟧.times_gone crew ≡ 0) }
 {
     Pool::start(rt.clone()?, rt.alloc(), count)
 }
 
-/// Runs the program by a crew, from a reader to a writer.
-pub fn run_by<R: Source, W: Sink, C: Crew>(
+/// Runs the program by a crew, and whoever gathers crowds, from a reader to a writer.
+pub fn run_by<R: Source, W: Sink, C: Crew, K: Crowds>(
     alloc: Global,
     reader: &mut R,
     writer: &mut W,
     crew: &mut C,
+    crowds: &K,
 ) -> Ended
     ensures { (served : Result Served ServeFault)
-        × (C.times_gone crew.new ≡ gone_after_call served (C.times_gone crew.old))
         × EndsAfter result (program_serving (source_view R.Source reader.old) (source_view R.Source reader.new)
-        (sink_view W.Sink writer.old) (sink_view W.Sink writer.new) served) }
+        (sink_view W.Sink writer.old) (sink_view W.Sink writer.new) (C.times_gone crew.old) (C.times_gone crew.new)
+        served) }
 {
-    after_run(&serve(alloc, reader, writer, crew))
+    after_run(&serve(alloc, reader, writer, crew, crowds))
 }
 
 // How the program ends after a run.

@@ -3,7 +3,7 @@
 use Rattle.std.proofs.Common.{◌≡◌, ℕ, List, ◌∷◌, [], ◌++◌, length, map, Option, Some, None, refl, ap, ◌∙◌}
 use Rattle.std.specs.Prelude.{suc, ◌-◌}
 use Rattle.std.specs.List.{range_with_len, slice_get}
-use Rattle.std.specs.Option.{option_and_then, option_or}
+use Rattle.std.specs.Option.{option_and_then, option_map_or, option_or}
 use Rattle.lattice_core.specs.Sets.{from_list, items}
 use Rattle.road_detector.specs.Passes.{total}
 use Rattle.road_ends.specs.Row.{row}
@@ -31,7 +31,7 @@ use Rattle.road_format.specs.Replies as replies
 use Rattle.road_format.specs.Replies.{Answer, Delta, Sent}
 use Rattle.road_format.specs.declared.refusal.Refusal.{Refusal}
 use Rattle.road_format.specs.declared.refusal.Refusal.TheVariants as refusals
-use Rattle.road_laboratory.specs.Laboratory.{Laboratory, Outcome, answer_to, cars_answer, cars_of_state, cells_answer, change_outcome, count_answer, diagram_answer, edits_held, import_outcome, laboratory_after, laboratory_of_winners, name_refusal, number_of, outcome, outcome_at, replica_name, scenario_answer, totals_answer, message_outcome, question_outcome, question_answer, outcome_unless, outcome_by_number, world_refusal}
+use Rattle.road_laboratory.specs.Laboratory.{Laboratory, Outcome, answer_to, cars_answer, cars_of_state, cells_answer, change_outcome, count_answer, crowd_of, crowd_outcome, diagram_answer, edits_held, import_outcome, laboratory_after, laboratory_of_winners, name_refusal, number_of, outcome, outcome_at, outcome_by_name, replica_name, scenario_answer, totals_answer, message_outcome, question_outcome, question_answer, outcome_unless, outcome_by_number, world_refusal}
 
 -- ---- outcomes, as far as winners go
 
@@ -151,6 +151,18 @@ read_alike : (lab : Laboratory) (r : ℕ) (read : Sheet → Answer) → ((s : Sh
     → Alike (question_outcome (laboratory_of_winners lab) (read (sheet_at (laboratory_of_winners lab).world r))) (question_outcome lab (read (sheet_at lab.world r)))
 read_alike lab r read same = shown_alike lab _ _ (ap read (sheet_is lab.world r) ∙ same (sheet_at lab.world r))
 
+-- ---- crowds
+
+-- a crowd depends on the plan alone
+crowd_alike : (lab : Laboratory) (shares : List (List edit.Edit)) (to : ℕ) → Alike (crowd_outcome (laboratory_of_winners lab) shares to) (crowd_outcome lab shares to)
+crowd_alike lab shares to = shown_alike lab _ _ refl
+
+-- where there is one, and else what comes of the command otherwise
+by_crowd_alike : (lab : Laboratory) (crowd : Option (List (List edit.Edit) × ℕ)) (o p : Outcome) → Alike o p
+    → Alike (option_map_or (λ c. crowd_outcome (laboratory_of_winners lab) c.0 c.1) crowd o) (option_map_or (λ c. crowd_outcome lab c.0 c.1) crowd p)
+by_crowd_alike lab None o p e = e
+by_crowd_alike lab (Some crowd) o p e = crowd_alike lab crowd.0 crowd.1
+
 -- ---- commands
 
 -- a command to a replica
@@ -177,11 +189,16 @@ outcome_at_alike lab r (commands.Cars at step) = read_alike lab r (λ s. cars_an
 outcome_at_alike lab r (commands.Count at detector from to) = read_alike lab r (λ s. count_answer s detector from to) (λ s. count_alike s detector from to)
 outcome_at_alike lab r (commands.Diagram at from to) = read_alike lab r (λ s. diagram_answer s from to) (λ s. diagram_alike s from to)
 outcome_at_alike lab r (commands.Scenario at) = read_alike lab r scenario_answer scenario_alike
+outcome_at_alike lab r (commands.Crowd shares to) = crowd_alike lab shares to
+
+-- a command whose replica is asked for first
+by_name_alike : (lab : Laboratory) (command : Command) → Alike (outcome_by_name (laboratory_of_winners lab) command) (outcome_by_name lab command)
+by_name_alike lab command =
+    with_alike lab refusals.NoReplica (number_of lab.replica_names (replica_name command)) _ _ (λ r. outcome_at_alike lab r command)
 
 -- every command
 pub winners_suffice : (lab : Laboratory) (command : Command) → outcome_of_winners (outcome (laboratory_of_winners lab) command) ≡ outcome_of_winners (outcome lab command)
-winners_suffice lab command =
-    with_alike lab refusals.NoReplica (number_of lab.replica_names (replica_name command)) _ _ (λ r. outcome_at_alike lab r command)
+winners_suffice lab command = by_crowd_alike lab (crowd_of command) _ _ (by_name_alike lab command)
 
 -- the answer is that of the whole laboratory,
 pub answer-of_winners : (lab : Laboratory) (command : Command) → answer_to (laboratory_of_winners lab) command ≡ answer_to lab command

@@ -1,7 +1,8 @@
 -- A laboratory: a world whose replicas and messages have names, and what it answers to commands.
-use Rattle.std.specs.Prelude.{ℕ, max, List, [], ◌∷◌, ◌++◌, length, map, is_some, if◌then◌else◌, Result}
+use Rattle.std.specs.Prelude.{ℕ, max, List, [], ◌∷◌, ◌++◌, length, map, is_some, is_none, if◌then◌else◌, Result}
+use Rattle.std.specs.Prelude.{Bool, true, false, ◌&&◌, nat_le}
 use Rattle.std.specs.List.{position, slice_get}
-use Rattle.std.specs.Option.{option_and_then, option_or}
+use Rattle.std.specs.Option.{option_and_then, option_map_or, option_or}
 use Rattle.std.specs.Str.{bytes_eq}
 use Rattle.std.specs.declared.option.Option.{Option}
 use Rattle.std.specs.declared.option.Option.TheVariants.{None, Some}
@@ -9,6 +10,7 @@ use Rattle.std.specs.declared.result.Result.TheVariants.{Ok, Err}
 use Rattle.lattice_core.specs.Sets.{from_list, items, union}
 use Rattle.road_cells.specs.Array.{Array}
 use Rattle.road_cells.specs.Cars.{cars_of}
+use Rattle.road_plan.specs.Plan.{Plan}
 use Rattle.road_plan.specs.declared.object.Object.{Object}
 use Rattle.road_scenario.specs.Edits.{Edits}
 use Rattle.road_scenario.specs.Touched.{first_touched_step}
@@ -19,10 +21,15 @@ use Rattle.road_scenario.specs.declared.edit.Value.TheVariants.{Put, Withdrawn}
 use Rattle.road_delta.specs.Deltas.{beyond, heads}
 use Rattle.road_detector.specs.declared.counts.Totals.{Totals}
 use Rattle.road_sheet.specs.Sheets.{Sheet, sheet_row, rows_of, state_of, total_of}
+use Rattle.road_sheet.specs.Shown.{row_at}
+use Rattle.road_replica.specs.Crowds.{crowd_winners, crowd_writes, shares_fault}
 use Rattle.road_replica.specs.Refusals.{gone_after_fault, import_fault, rows_fault, state_fault, totals_fault}
 use Rattle.road_replica.specs.Replicas.{local_edit}
+use Rattle.road_replica.specs.declared.crowds.TheConstants.{MOST_CROWD_WRITES}
 use Rattle.road_replica.specs.declared.faults.ReplicaFault.{ReplicaFault}
 use Rattle.road_replica.specs.declared.faults.ReplicaFault.TheVariants as replica_faults
+use Rattle.road_workers.specs.declared.faults.CrewFault.{CrewFault}
+use Rattle.road_workers.specs.declared.faults.CrewFault.TheVariants as crew_faults
 use Rattle.road_world.specs.Answers.{fault_at_replica, sheet_at}
 use Rattle.road_world.specs.Events.{World, asked_heads, carried_edits, opening_world, replica_at}
 use Rattle.road_world.specs.Events.{world_after_event, world_of_winners, world_with_edits}
@@ -31,7 +38,7 @@ use Rattle.road_world.specs.declared.event.Event.TheVariants as events
 use Rattle.road_world.specs.declared.faults.WorldFault.{WorldFault}
 use Rattle.road_world.specs.declared.faults.WorldFault.TheVariants as world_faults
 use Rattle.road_format.specs.CommandGrammar as commands
-use Rattle.road_format.specs.CommandGrammar.{Command}
+use Rattle.road_format.specs.CommandGrammar.{Command, are_few_shares}
 use Rattle.road_format.specs.PlanGrammar.{PlanLine}
 use Rattle.road_format.specs.Replies as replies
 use Rattle.road_format.specs.Replies.{Answer, Counted, Delta, Horizon, Refused, Sent, Stamped, Touched}
@@ -221,9 +228,33 @@ scenario_answer sheet = replies.Edits (items (winners sheet.edits))
 abbrev pub question_outcome : Laboratory → Answer → Outcome
 question_outcome lab answer = record { answer = answer; after = lab }
 
+-- ---- crowds: they are asked of no replica, and change nothing
+
+-- whether shares are gathered: there is one at least, and there are not too many, nor too many writes to make
+abbrev pub are_gathered : List (List edit.Edit) → Bool
+are_gathered shares = are_few_shares shares && nat_le (crowd_writes shares) MOST_CROWD_WRITES
+
+-- Why a crowd is refused: as a replica would refuse the first faulty edit, in the order of the shares, else the step.
+-- One that is not gathered is no command; no line writes such a one.
+abbrev pub crowd_refusal : Plan → List (List edit.Edit) → ℕ → Option Refusal
+crowd_refusal plan shares to =
+    if are_gathered shares then option_and_then replica_refusal (shares_fault plan shares to)
+    else Some refusals.NotACommand
+
+-- what the sessions of a crowd leave: the winners of all edits, how many writes they make, and the row of the step
+abbrev pub crowd_answer : Plan → List (List edit.Edit) → ℕ → Answer
+crowd_answer plan shares to =
+    replies.Crowd (items (crowd_winners shares)) (crowd_writes shares) (row_at plan (crowd_winners shares) to)
+
+-- what a crowd comes to
+abbrev pub crowd_outcome : Laboratory → List (List edit.Edit) → ℕ → Outcome
+crowd_outcome lab shares to =
+    question_outcome lab
+    (answer_unless (crowd_refusal lab.world.plan shares to) (crowd_answer lab.world.plan shares to))
+
 -- ---- commands
 
--- the name of a command's replica
+-- the name of a command's replica; a crowd names none
 abbrev pub replica_name : Command → List ℕ
 replica_name (commands.Edit at object step number) = at
 replica_name (commands.Withdraw at object step) = at
@@ -238,6 +269,7 @@ replica_name (commands.Cars at step) = at
 replica_name (commands.Count at detector from to) = at
 replica_name (commands.Diagram at from to) = at
 replica_name (commands.Scenario at) = at
+replica_name (commands.Crowd shares to) = []
 
 -- what a command to replica r comes to
 abbrev pub outcome_at : Laboratory → ℕ → Command → Outcome
@@ -258,12 +290,23 @@ outcome_at lab r (commands.Count at detector from to) =
     question_outcome lab (count_answer (sheet_at lab.world r) detector from to)
 outcome_at lab r (commands.Diagram at from to) = question_outcome lab (diagram_answer (sheet_at lab.world r) from to)
 outcome_at lab r (commands.Scenario at) = question_outcome lab (scenario_answer (sheet_at lab.world r))
+outcome_at lab r (commands.Crowd shares to) = crowd_outcome lab shares to
 
--- what a command comes to: its replica is asked for first
-abbrev pub outcome : Laboratory → Command → Outcome
-outcome lab command =
+-- what a command comes to where its replica is asked for first
+abbrev pub outcome_by_name : Laboratory → Command → Outcome
+outcome_by_name lab command =
     outcome_by_number lab refusals.NoReplica (number_of lab.replica_names (replica_name command)) (λ r.
     outcome_at lab r command)
+
+-- the shares and the step of a command that is a crowd
+abbrev pub crowd_of : Command → Option (List (List edit.Edit) × ℕ)
+crowd_of (commands.Crowd shares to) = Some (shares, to)
+crowd_of command = None
+
+-- what a command comes to: a crowd asks for no replica; of every other command the replica is asked for first
+abbrev pub outcome : Laboratory → Command → Outcome
+outcome lab command =
+    option_map_or (λ crowd. crowd_outcome lab crowd.0 crowd.1) (crowd_of command) (outcome_by_name lab command)
 
 -- what a command is answered
 abbrev pub answer_to : Laboratory → Command → Answer
@@ -278,3 +321,20 @@ abbrev pub gone_after : {A : Type 0} → Result A LaboratoryFault → ℕ → �
 gone_after (Ok answer) n = n
 gone_after (Err faults.WorkersGone) n = gone_after_fault replica_faults.WorkersGone n
 gone_after (Err faults.OutOfMemory) n = n
+
+-- whether a command is a crowd that nothing refuses, so that sessions on threads of their own are asked
+abbrev pub is_gathered : Plan → Command → Bool
+is_gathered plan command =
+    option_map_or (λ crowd. is_none (crowd_refusal plan crowd.0 crowd.1)) (crowd_of command) false
+
+-- how often a crew has answered `WorkersGone`, after an answer to a command; sessions that are asked ask no crew
+abbrev pub gone_after_command : {A : Type 0} → Result A LaboratoryFault → Bool → ℕ → ℕ
+gone_after_command (Ok answer) gathered n = n
+gone_after_command (Err faults.OutOfMemory) gathered n = n
+gone_after_command (Err faults.WorkersGone) true n = n
+gone_after_command (Err faults.WorkersGone) false n = gone_after_fault replica_faults.WorkersGone n
+
+-- the fault of the laboratory where the sessions of a crowd leave nothing
+abbrev pub gathering_fault : CrewFault → LaboratoryFault
+gathering_fault crew_faults.WorkersGone = faults.WorkersGone
+gathering_fault crew_faults.OutOfMemory = faults.OutOfMemory

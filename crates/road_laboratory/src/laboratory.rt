@@ -1,6 +1,6 @@
 //! A world with names, and its answers to commands.
 
-ghost use Rattle.std.specs.Prelude.{◌≡◌, ◌<◌, ◌≤◌, ◌++◌, ◌∷◌, [], IfNone, IfOk, IfSome, None, OnErr, OnOk, Some, length, ℕ};
+ghost use Rattle.std.specs.Prelude.{◌≡◌, ◌<◌, ◌≤◌, ◌++◌, ◌∷◌, [], IfNone, IfOk, IfSome, None, OnErr, OnOk, Some, is_none, length, ℕ};
 ghost use Rattle.std.specs.Arc.{arc_value};
 ghost use Rattle.std.specs.List.{All, IsDistinct, slice_get};
 ghost use Rattle.std.specs.Str.{bytes_eq};
@@ -13,15 +13,19 @@ ghost use Rattle.road_world.specs.Answers.{replica_number, reply_to_event, sheet
 ghost use Rattle.road_world.specs.Events.{asked_heads, world_after_event};
 ghost use Rattle.road_world.specs.declared.faults.WorldFault.TheVariants.{NoMessage};
 ghost use Rattle.road_format.specs.Replies as replies;
-ghost use Rattle.road_format.specs.Views.{answer_view, command_view, plan_line_view, texts};
+ghost use Rattle.road_format.specs.Views.{answer_view, command_view, plan_line_view, shares_view, texts};
 ghost use Rattle.road_laboratory.specs.Private.Keeping.{IsKeptOf};
 ghost use Rattle.road_laboratory.specs.Laboratory.{answer_to, beyond_outcome, change_outcome, edits_held, gone_after};
 ghost use Rattle.road_laboratory.specs.Laboratory.{heads_outcome, import_outcome, laboratory_after};
 ghost use Rattle.road_laboratory.specs.Laboratory.{laboratory_of_winners, number_of, opening_laboratory, outcome_at};
+ghost use Rattle.road_laboratory.specs.Laboratory.{outcome_by_name};
 ghost use Rattle.road_laboratory.specs.Laboratory.{send_outcome, take_outcome};
+ghost use Rattle.road_laboratory.specs.Laboratory.{crowd_outcome, gone_after_command, is_gathered};
+ghost use Rattle.road_laboratory.specs.Laboratory as laboratory;
 ghost use Rattle.road_laboratory.specs.Private.Changes.{reply_answer};
 ghost use Rattle.road_laboratory.specs.Private.Questions.{answer_to_question};
 
+use crate::crowds::{crowd_of, crowd_refusal};
 use crate::faults::LaboratoryFault;
 use crate::kept::KeptRun;
 use crate::names::Names;
@@ -32,7 +36,7 @@ use road_delta::{Head, beyond, heads_of};
 use road_ends::Meter;
 use road_format::{Answer, Command, PlanLine, Refusal};
 use road_plan::{OutOfMemory, Plan};
-use road_replica::Reply;
+use road_replica::{Crowd, Crowds, Reply};
 use road_scenario::Edit;
 use road_workers::Crew;
 use road_world::{Event, Message, World, WorldFault};
@@ -97,21 +101,75 @@ impl Laboratory {
     }
 
     /// What a command is answered. A write computes anew, by the crew that it is given, every simulated step that it
-    /// touches before it answers. A refused command changes nothing.
+    /// touches before it answers. A crowd that nothing refuses is gathered by `crowds`. A refused command changes nothing,
+    /// and a crowd neither.
     ///
     /// # Errors
     ///
-    /// `WorkersGone` where the crew answers so, or `OutOfMemory` where a growth was refused. The laboratory is then as
-    /// it was before.
-    pub fn answer<C: Crew>(
+    /// `WorkersGone` where the crew answers so, or, at a crowd that nothing refuses, `crowds` does; `OutOfMemory` where a
+    /// growth was refused, or `crowds` says so. The laboratory is then as it was before.
+    pub fn answer<C: Crew, K: Crowds>(
+        &mut self,
+        alloc: Global,
+        command: &Command,
+        crew: &mut C,
+        crowds: &K,
+    ) -> Result<Answer, LaboratoryFault>
+        ensures answer { IfOk result (λ answer. answer_view answer ≡ answer_to self.old (command_view command.now)) }
+        ensures after { OnOk result (self.new
+            ≡ laboratory_of_winners (laboratory_after self.old (command_view command.now))) }
+        ensures unchanged { OnErr result (self.new ≡ self.old) }
+        ensures gone { C.times_gone crew.new ≡ gone_after_command result
+            (is_gathered self.old.world.plan (command_view command.now)) (C.times_gone crew.old) }
+    {
+        self.known();
+        if let Some((shares, to)) = crowd_of(command) {
+            return self.gather(alloc, shares, to, crowds);
+        }
+        self.answer_by_name(alloc, command, crew)
+    }
+
+    // What a crowd is answered.
+    fn gather<K: Crowds>(
+        &self,
+        alloc: Global,
+        shares: &[Vec<Edit>],
+        to: u32,
+        crowds: &K,
+    ) -> Result<Answer, LaboratoryFault>
+        ensures answer { IfOk result (λ answer. answer_view answer
+            ≡ (crowd_outcome self.now (shares_view shares.now) to).answer) }
+        ensures no_crew { (n : ℕ) → gone_after_command result
+            (is_none (laboratory.crowd_refusal self.now.world.plan (shares_view shares.now) to)) n ≡ n }
+    {
+        let plan = self.world.plan();
+        if let Some(refusal) = crowd_refusal(plan, shares, to) {
+            return Ok(Answer::Refused(refusal));
+        }
+        let Crowd {
+            edits,
+            journal,
+            row,
+        } = crowds.gathered(alloc, plan, shares, to)?;
+        Ok(Answer::Crowd {
+            edits,
+            journal,
+            row,
+        })
+    }
+
+    // What a command is answered that is no crowd: its replica is asked for first.
+    fn answer_by_name<C: Crew>(
         &mut self,
         alloc: Global,
         command: &Command,
         crew: &mut C,
     ) -> Result<Answer, LaboratoryFault>
-        ensures answer { IfOk result (λ answer. answer_view answer ≡ answer_to self.old (command_view command.now)) }
+        requires { laboratory.crowd_of (command_view command.now) ≡ None }
+        ensures answer { IfOk result (λ answer. answer_view answer
+            ≡ (outcome_by_name self.old (command_view command.now)).answer) }
         ensures after { OnOk result (self.new
-            ≡ laboratory_of_winners (laboratory_after self.old (command_view command.now))) }
+            ≡ laboratory_of_winners (outcome_by_name self.old (command_view command.now)).after) }
         ensures unchanged { OnErr result (self.new ≡ self.old) }
         ensures gone { C.times_gone crew.new ≡ gone_after result (C.times_gone crew.old) }
     {
@@ -149,7 +207,8 @@ impl Laboratory {
         command: &Command,
         crew: &mut C,
     ) -> Result<Answer, LaboratoryFault>
-        requires { at < length self.old.replica_names }
+        requires there { at < length self.old.replica_names }
+        requires no_crowd { laboratory.crowd_of (command_view command.now) ≡ None }
         ensures answer { IfOk result (λ answer. answer_view answer
             ≡ (outcome_at self.old at (command_view command.now)).answer) }
         ensures after { OnOk result (self.new
@@ -216,6 +275,7 @@ impl Laboratory {
                 },
             ),
             Command::Scenario { .. } => self.ask(alloc, at, Question::Scenario),
+            Command::Crowd { .. } => unreachable!(),
         }
     }
 

@@ -10,7 +10,7 @@ use road_format::{Answer, Command, Refusal};
 use road_replica::{ReplicaFault, Reply};
 use road_world::{Event, WorldFault};
 
-// The name of a command's replica.
+// The name of a command's replica. A crowd names none.
 pub(crate) fn name_of(command: &Command) -> &str
     ensures { result.now ≡ laboratory.replica_name (command_view command.now) }
 {
@@ -28,6 +28,7 @@ pub(crate) fn name_of(command: &Command) -> &str
         Command::Count { at, .. } => at,
         Command::Diagram { at, .. } => at,
         Command::Scenario { at } => at,
+        Command::Crowd { .. } => "",
     }
 }
 
@@ -71,7 +72,7 @@ pub(crate) fn refusal_of(fault: WorldFault) -> Option<Refusal>
 }
 
 // How a refusal of a replica is answered.
-fn replica_refusal(fault: ReplicaFault) -> Option<Refusal>
+pub(crate) fn replica_refusal(fault: ReplicaFault) -> Option<Refusal>
     ensures { result ≡ laboratory.replica_refusal fault }
 {
     match fault {

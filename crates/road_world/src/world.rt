@@ -83,6 +83,13 @@ impl World {
         })
     }
 
+    /// The plan.
+    pub fn plan(&self) -> &Arc<Plan>
+        ensures { arc_value result.now ≡ self.now.plan }
+    {
+        &self.plan
+    }
+
     /// The replica of a number, if the world has it.
     pub fn replica(&self, number: u32) -> Option<&Replica>
         ensures there { IsSome result ↔ (number < length self.now.replicas) }

@@ -4,8 +4,11 @@ use road_dialogue::{
     Failing, MemorySink, MemorySource, ServeFault, Served, Sink, Source, StdSink, StdSource,
     run_by, serve, serve_within,
 };
+use road_crowd::OnThreads;
 use road_ends::StepInput;
-use road_plan::OutOfMemory;
+use road_plan::{OutOfMemory, Plan};
+use road_replica::{Crowd, Crowds};
+use road_scenario::Edit;
 use road_workers::{Alone, Crew, CrewFault};
 use std::alloc::Global;
 use std::io;
@@ -21,6 +24,21 @@ const FREE_ROAD: &str =
 fn sink(alloc: Global) -> Result<MemorySink, OutOfMemory> {
     let bytes = Vec::with_capacity(alloc, 1000)?;
     Ok(MemorySink::new(bytes, 1000, Failing::Never, Failing::Never))
+}
+
+// Gathers no crowd: the thread of its first session cannot be started.
+struct Unmanned;
+
+impl Crowds for Unmanned {
+    fn gathered(
+        &self,
+        _alloc: Global,
+        _plan: &Arc<Plan>,
+        _shares: &[Vec<Edit>],
+        _to: u32,
+    ) -> Result<Crowd, CrewFault> {
+        Err(CrewFault::WorkersGone)
+    }
 }
 
 // How a run ended. Want of memory ends the test in its place.
@@ -160,6 +178,7 @@ fn limits_and_faults(rt: HostRuntime) -> Result<(), Fail> {
             &mut reader,
             &mut writer,
             &mut Alone,
+            &Unmanned,
             lines,
             bytes,
         ))?;
@@ -179,7 +198,7 @@ fn limits_and_faults(rt: HostRuntime) -> Result<(), Fail> {
 fn a_refused_plan_is_the_end(rt: HostRuntime) -> Result<(), Fail> {
     let mut writer = sink(rt.alloc())?;
     let mut reader = MemorySource::new(b"{}\n", 3, Failing::From(1));
-    let result = end_of(serve(rt.alloc(), &mut reader, &mut writer, &mut Alone))?;
+    let result = end_of(serve(rt.alloc(), &mut reader, &mut writer, &mut Alone, &Unmanned))?;
     assert!(rt; matches!(result, Err(ServeFault::BadPlan)));
     Ok(())
 }
@@ -233,7 +252,7 @@ fn workers_that_leave(rt: HostRuntime) -> Result<(), Fail> {
         };
         // Each reply is written before the next line is read.
         let mut reader = MemorySource::new(input.as_bytes(), 1, ALL);
-        let ended = run_by(alloc, &mut reader, &mut writer, &mut crew);
+        let ended = run_by(alloc, &mut reader, &mut writer, &mut crew, &Unmanned);
         if ended.status == 3 {
             return Err(OutOfMemory.into());
         }
@@ -243,6 +262,43 @@ fn workers_that_leave(rt: HostRuntime) -> Result<(), Fail> {
             writer.bytes().len() == written && replies.as_bytes().starts_with(writer.bytes())
         );
     }
+    Ok(())
+}
+
+// A crowd that is refused, one that is not, and an advance.
+const CROWDS: &str = r#"{"crowd":{"form":2,"shares":[[["limit",0,0,1,3,1]]],"to":6}}
+{"crowd":{"form":2,"shares":[[["block",8,4,1,64,1]],[["block",8,4,2,64,null]]],"to":6}}
+{"advance":{"at":"A","to":1}}
+"#;
+
+// What cannot be gathered ends the run, and the crew, which was not asked, has not answered so. A refused crowd asks nobody.
+#[test]
+fn a_crowd_without_threads(rt: HostRuntime) -> Result<(), Fail> {
+    let alloc = rt.alloc();
+    let input = format!(in alloc; "{FREE_ROAD}{CROWDS}")?;
+    let mut reader = MemorySource::new(input.as_bytes(), 1, ALL);
+    let mut writer = sink(alloc)?;
+    let mut crew = Leaving {
+        calls_left: 0,
+        gone: 0,
+    };
+    let result = end_of(serve(alloc, &mut reader, &mut writer, &mut crew, &Unmanned))?;
+    assert!(rt; matches!(result, Err(ServeFault::WorkersGone)) && crew.gone == 0);
+    assert!(rt; writer.bytes() == b"{\"open\":3}\n{\"refused\":\"Insider\"}\n");
+    Ok(())
+}
+
+#[test]
+fn a_crowd_on_threads(rt: HostRuntime) -> Result<(), Fail> {
+    let alloc = rt.alloc();
+    let input = format!(in alloc; "{FREE_ROAD}{CROWDS}")?;
+    let mut reader = MemorySource::new(input.as_bytes(), usize::MAX, ALL);
+    let mut writer = sink(alloc)?;
+    let crowds = OnThreads::new(&rt);
+    let result = end_of(serve(alloc, &mut reader, &mut writer, &mut Alone, &crowds))?;
+    assert!(rt; matches!(result, Ok(Served { lines: 3 })));
+    let replies = "{\"open\":3}\n{\"refused\":\"Insider\"}\n{\"edits\":[[\"block\",8,4,2,64,null]],\"form\":2,\"journal\":4,\"row\":\"0..2...2....\"}\n{\"horizon\":1}\n";
+    assert!(rt; writer.bytes() == replies.as_bytes());
     Ok(())
 }
 
@@ -327,7 +383,7 @@ fn writers_of_std(rt: HostRuntime) -> Result<(), Fail> {
         };
         let mut writer = StdSink::new(&mut holding);
         let mut reader = MemorySource::new(FREE_ROAD.as_bytes(), usize::MAX, ALL);
-        let result = end_of(serve(rt.alloc(), &mut reader, &mut writer, &mut Alone))?;
+        let result = end_of(serve(rt.alloc(), &mut reader, &mut writer, &mut Alone, &Unmanned))?;
         drop(writer);
         if whole {
             assert!(rt; result.is_ok() && holding.passed_on == 11 && holding.held == 0);
@@ -347,7 +403,7 @@ fn a_failed_write_of_std(rt: HostRuntime) -> Result<(), Fail> {
     let mut refusing = Refusing { writes: 0 };
     let mut writer = StdSink::new(&mut refusing);
     let mut reader = MemorySource::new(FREE_ROAD.as_bytes(), usize::MAX, ALL);
-    let result = end_of(serve(rt.alloc(), &mut reader, &mut writer, &mut Alone))?;
+    let result = end_of(serve(rt.alloc(), &mut reader, &mut writer, &mut Alone, &Unmanned))?;
     drop(writer);
     assert!(rt; matches!(result, Err(ServeFault::Write)) && refusing.writes == 1);
     Ok(())

@@ -8,14 +8,15 @@ use Rattle.road_dialogue.proofs.running.run.Goals as goal
 
 pub returns-in-Err-OutOfMemory-clause-served : goal.returns-in-Err-OutOfMemory-clause-served
 returns-in-Err-OutOfMemory-clause-served g c accepted none =
-    (Err OutOfMemory, λ alone e. cc, record { status = c.no_memory.ensures; answers = not_begun MOST_LINES MOST_BYTES (source_view g.R.Source c.args.reader.now) (sink_view g.W.Sink c.args.writer.now) })
+    (Err OutOfMemory, 0, λ alone. refl, record { status = c.no_memory.ensures; answers = not_begun MOST_LINES MOST_BYTES (source_view g.R.Source c.args.reader.now) (sink_view g.W.Sink c.args.writer.now) })
 
 pub returns-in-Err-OutOfMemory-clause-script : goal.returns-in-Err-OutOfMemory-clause-script
 returns-in-Err-OutOfMemory-clause-script g c accepted some =
     let source = source_view g.R.Source c.args.reader.now in (
       refl,
       Err OutOfMemory,
-      λ alone e. cc,
+      0,
+      λ alone. refl,
       source,
       source,
       record { status = c.no_memory.ensures; answers = not_begun MOST_LINES MOST_BYTES source (sink_view g.W.Sink c.args.writer.now) },

@@ -10,10 +10,12 @@ use Rattle.road_dialogue.proofs.running.run_by_workers.Goals as goal
 pub returns-in-Err : goal.returns-in-Err
 returns-in-Err g c =
     let source = source_view g.R.Source c.args.reader.now in
-    let sink = sink_view g.W.Sink c.args.writer.now in (
+    let sink = sink_view g.W.Sink c.args.writer.now in
+    let none = not_manned MOST_LINES MOST_BYTES source sink c.in-Err.fault in (
       Err c.from.result,
+      none.0,
       record {
         status = c.after_fault.ensures;
-        answers = subst (λ (f : ServeFault). AnswersInput (program_serving source source sink sink (Err f))) (sym c.from.ensures) (not_manned MOST_LINES MOST_BYTES source sink c.in-Err.fault);
+        answers = subst (λ (f : ServeFault). AnswersInput (program_serving source source sink sink 0 none.0 (Err f))) (sym c.from.ensures) none.1;
       },
     )

@@ -3,7 +3,7 @@ use Rattle.road_format.specs.CommandGrammar.{command_of}
 use Rattle.road_format.specs.PlanGrammar.{plan_line_of}
 use Rattle.road_format.specs.Replies.{reply}
 use Rattle.road_dialogue.specs.Answers.{reading_unless, opening_answer, line_answer}
-use Rattle.road_dialogue.specs.Private.KeptLaboratory.{kept_after_line, opened_laboratory}
+use Rattle.road_dialogue.specs.Private.KeptLaboratory.{gathers_at, kept_after_line, opened_laboratory}
 use Rattle.road_dialogue.proofs.Options.{none_of, some_of}
 use Rattle.road_dialogue.proofs.DialogueSteps.{later_step, opening_step, refused_step}
 use Rattle.road_dialogue.proofs.dialogue.Dialogue.reply.Goals as goal
