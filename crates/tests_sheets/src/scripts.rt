@@ -31,7 +31,7 @@ const CLOSED: Parts = Parts {
 };
 
 /// How many scripts are about the last steps.
-const LATE_SCRIPTS: u64 = 4;
+const LATE_SCRIPTS: u64 = 2;
 
 /// Steps round the ends of the first spans.
 const STEPS: &[u32] = &[
@@ -126,24 +126,25 @@ fn states_agree(alloc: Global, sheet: &Sheet, steps: &[u32]) -> Result<bool, Fai
     Ok(true)
 }
 
-// What a detector counts up to a step, computed from step zero.
-fn totals_from_zero(alloc: Global, sheet: &Sheet, detector: u32, to: u32) -> Result<Totals, Fail> {
+// What a detector counts in some steps of the run from step zero.
+fn totals_of_run(
+    alloc: Global,
+    sheet: &Sheet,
+    detector: u32,
+    from: u32,
+    to: u32,
+) -> Result<Totals, Fail> {
     sheet.known();
-    if to > 1_048_576 || sheet.plan().detectors().len() <= detector as usize {
-        return Err(Fail::new("no such step, or no such detector"));
+    if from > to || to > 1_048_576 || sheet.plan().detectors().len() <= detector as usize {
+        return Err(Fail::new("no such steps, or no such detector"));
     }
-    let (totals, _) = totals_between(
-        alloc,
-        sheet.plan(),
-        sheet.scenario(),
-        State::opening(alloc),
-        detector,
-        to,
-    )?;
+    let opening = State::opening(alloc);
+    let first = state_at(alloc, sheet.plan(), sheet.scenario(), &opening, from)?;
+    let (totals, _) = totals_between(alloc, sheet.plan(), sheet.scenario(), first, detector, to)?;
     Ok(totals)
 }
 
-// Whether what a detector counts in some steps is what it counts up to their end, less what it counts up to their first.
+// Whether what a detector counts in some steps is what it counts in them in the run from step zero.
 fn totals_agree(
     alloc: Global,
     sheet: &Sheet,
@@ -151,13 +152,8 @@ fn totals_agree(
     from: u32,
     to: u32,
 ) -> Result<bool, Fail> {
-    let before = totals_from_zero(alloc, sheet, detector, from)?;
-    let all = totals_from_zero(alloc, sheet, detector, to)?;
-    let shown = sheet.totals(alloc, detector, from, to)?;
-    Ok(
-        before.cars.saturating_add(shown.cars) == all.cars
-            && before.speeds.saturating_add(shown.speeds) == all.speeds,
-    )
+    let counted = totals_of_run(alloc, sheet, detector, from, to)?;
+    Ok(sheet.totals(alloc, detector, from, to)? == counted)
 }
 
 // Whether a sheet agrees with the run from step zero: its states, and what a detector counts from a random step to another.
