@@ -5,7 +5,7 @@ use Rattle.road_plan.specs.declared.object.Object.TheVariants.{Limit, Block, Sta
 use Rattle.road_scenario.specs.declared.edit.Value.TheVariants.{Withdrawn, Put}
 use Rattle.road_format.specs.Cut.{lines_of}
 use Rattle.road_format.specs.Fields.{is_name}
-use Rattle.road_format.specs.CommandGrammar.{Edit, Withdraw, Advance, Cells, Cars, Count, Diagram, Scenario, Import, Send, Heads, Beyond, Take, command_of}
+use Rattle.road_format.specs.CommandGrammar.{Edit, Withdraw, Advance, Cells, Cars, Count, Diagram, Scenario, Import, Send, Heads, Beyond, Take, Crowd, command_of}
 use Rattle.road_format.specs.PlanGrammar.{plan_line_of}
 use Rattle.road_format.specs.Replies as replies
 use Rattle.road_format.specs.Replies.{reply}
@@ -180,6 +180,65 @@ a_message_without_a_name : command_of (codes "{\"send\":{\"at\":\"A\",\"name\":\
 unfolding road_format_on_literals
 a_message_without_a_name = refl
 
+-- ---- crowds
+
+an_edit_and_a_withdrawal_in_two_shares : command_of (codes "{\"crowd\":{\"form\":2,\"shares\":[[[\"start\",0,0,1,64,5]],[[\"block\",8,4,2,65,null]]],\"to\":6}}")
+    ≡ Ok (Crowd (
+    (record { object = Start 0; step = 0; stamp = record { count = 1; number = 64 }; value = Put 5 } ∷ [])
+    ∷ (record { object = Block 8; step = 4; stamp = record { count = 2; number = 65 }; value = Withdrawn } ∷ [])
+    ∷ []) 6)
+unfolding road_format_on_literals
+an_edit_and_a_withdrawal_in_two_shares = refl
+
+an_empty_share : command_of (codes "{\"crowd\":{\"to\":0,\"shares\":[[]],\"form\":1}}") ≡ Ok (Crowd ([] ∷ []) 0)
+unfolding road_format_on_literals
+an_empty_share = refl
+
+no_share : command_of (codes "{\"crowd\":{\"form\":1,\"shares\":[],\"to\":6}}") ≡ Err refusals.NotACommand
+unfolding road_format_on_literals
+no_share = refl
+
+eight_shares : command_of (codes "{\"crowd\":{\"form\":1,\"shares\":[[],[],[],[],[],[],[],[]],\"to\":6}}") ≡ Ok (Crowd (replicate 8 []) 6)
+unfolding road_format_on_literals
+eight_shares = refl
+
+nine_shares : command_of (codes "{\"crowd\":{\"form\":1,\"shares\":[[],[],[],[],[],[],[],[],[]],\"to\":6}}") ≡ Err refusals.NotACommand
+unfolding road_format_on_literals
+nine_shares = refl
+
+-- nine shares are asked before the form
+nine_shares_in_the_third_form : command_of (codes "{\"crowd\":{\"form\":3,\"shares\":[[],[],[],[],[],[],[],[],[]],\"to\":6}}") ≡ Err refusals.NotACommand
+unfolding road_format_on_literals
+nine_shares_in_the_third_form = refl
+
+a_share_that_is_no_list : command_of (codes "{\"crowd\":{\"form\":1,\"shares\":[[],{}],\"to\":6}}") ≡ Err refusals.NotACommand
+unfolding road_format_on_literals
+a_share_that_is_no_list = refl
+
+a_start_in_the_second_share : command_of (codes "{\"crowd\":{\"form\":1,\"shares\":[[],[[\"start\",0,0,1,64,5]]],\"to\":6}}") ≡ Err refusals.NotACommand
+unfolding road_format_on_literals
+a_start_in_the_second_share = refl
+
+a_start_in_a_share_of_the_third_form : command_of (codes "{\"crowd\":{\"form\":3,\"shares\":[[[\"start\",0,0,1,64,5]]],\"to\":6}}") ≡ Err refusals.UnknownForm
+unfolding road_format_on_literals
+a_start_in_a_share_of_the_third_form = refl
+
+a_crowd_without_a_form : command_of (codes "{\"crowd\":{\"shares\":[[]],\"to\":6}}") ≡ Err refusals.NotACommand
+unfolding road_format_on_literals
+a_crowd_without_a_form = refl
+
+a_further_field_of_a_crowd : command_of (codes "{\"crowd\":{\"by\":1,\"form\":1,\"shares\":[[]],\"to\":6}}") ≡ Err refusals.NotACommand
+unfolding road_format_on_literals
+a_further_field_of_a_crowd = refl
+
+a_crowd_at_a_replica : command_of (codes "{\"crowd\":{\"at\":\"A\",\"form\":1,\"shares\":[[]],\"to\":6}}") ≡ Err refusals.NotACommand
+unfolding road_format_on_literals
+a_crowd_at_a_replica = refl
+
+a_step_of_33_bits : command_of (codes "{\"crowd\":{\"form\":1,\"shares\":[[]],\"to\":4294967296}}") ≡ Err refusals.NotACommand
+unfolding road_format_on_literals
+a_step_of_33_bits = refl
+
 -- ---- plan lines
 
 a_plan : plan_line_of (codes "{\"detectors\":[5],\"exit\":1,\"inlets\":[[0,65536]],\"length\":12,\"replicas\":[\"A\",\"B\",\"C\"],\"words\":7,\"zone\":12,\"zones\":[[2,0]]}") ≡ Ok (record {
@@ -296,3 +355,10 @@ a_withdrawal_beyond_heads : reply (replies.Delta (codes "d") (
     ≡ codes "{\"edits\":[[\"block\",8,4,2,0,null]],\"form\":2,\"message\":\"d\"}\n"
 unfolding road_format_on_literals
 a_withdrawal_beyond_heads = refl
+
+what_a_crowd_left : reply (replies.Crowd (
+    record { object = Block 8; step = 4; stamp = record { count = 2; number = 65 }; value = Withdrawn } ∷ [])
+    3 (codes "0..2..10#..."))
+    ≡ codes "{\"edits\":[[\"block\",8,4,2,65,null]],\"form\":2,\"journal\":3,\"row\":\"0..2..10#...\"}\n"
+unfolding road_format_on_literals
+what_a_crowd_left = refl

@@ -155,7 +155,7 @@ command_at name form at d =
 abbrev pub are_few_shares : List (List edit.Edit) → Bool
 are_few_shares shares = nat_lt 0 (length shares) && nat_le (length shares) MOST_SESSIONS
 
--- exactly the fields `shares`, `to` and, which `form_of_name` reads, `form`; each share's edits are such as the form has
+-- exactly the fields `shares`, `to` and, which `form_of_name` reads, `form`; the shares' edits are such as the form has
 unfoldable pub crowd_in : ℕ → Data → Option Command
 crowd_in form d = do
   exact ← check (has_fields 3 d)

@@ -63,7 +63,7 @@ pub enum Answer {
         edits: Vec<Edit>,
         /// How many writes they made: one for each edit, and one for each session's advance.
         journal: u32,
-        /// The last row of cells, a character for each cell.
+        /// The row of cells of the step to which they advanced, a character for each cell.
         row: String,
     },
 }

@@ -109,7 +109,7 @@ pub enum Command {
         /// The name of the message.
         message: String,
     },
-    /// That sessions of a road of their own, one for each share, take edits and advance, all at once.
+    /// That a session for each share take its edits and advance, all on one road that is no replica's.
     Crowd {
         /// The edits of each share, in the order of the line: 1 to 8 shares.
         shares: Vec<Vec<Edit>>,

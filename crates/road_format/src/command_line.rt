@@ -23,17 +23,18 @@ use serde_json::Value;
 use std::alloc::Global;
 
 /// The command that a line is: an object of one field, whose name is that of a variant of `Command` in small letters,
-/// and whose value is an object of exactly the variant's fields, in any order; `import` and `crowd` have the number `form`
-/// beside them, and in form 1 no edit of kind `start`. A name is a text of 1 to 64 bytes; a number is whole, of at most 32
-/// bits, and written without point and exponent; an object is a list of its kind and its index; an edit is a list of its
-/// kind, index, step, count (of at most 64 bits), number (of at most 16) and value, where null is a withdrawal; shares are
-/// 1 to 8 lists of edits, some of them perhaps empty. Of a field that stands twice the last counts.
+/// and whose value is an object of exactly the variant's fields, in any order; `import` and `crowd` have the number
+/// `form` beside them, and in form 1 no edit of kind `start`. A name is a text of 1 to 64 bytes; a number is whole, of
+/// at most 32 bits, and written without point and exponent; an object is a list of its kind and its index; an edit is a
+/// list of its kind, index, step, count (of at most 64 bits), number (of at most 16) and value, where null is a
+/// withdrawal; shares are 1 to 8 lists of edits, some of them perhaps empty. Of a field that stands twice the last
+/// counts.
 ///
 /// # Errors
 ///
-/// `NotJson` where the line is no JSON value, then `NotACommand` where the value is no command, then `UnknownForm` where
-/// its `form` is neither 1 nor 2. `OutOfMemory` may come in the place of any of them where the line has a byte. The
-/// length of the line is not asked here.
+/// `NotJson` where the line is no JSON value, then `NotACommand` where the value is no command, then `UnknownForm`
+/// where its `form` is neither 1 nor 2. `OutOfMemory` may come in the place of any of them where the line has a byte.
+/// The length of the line is not asked here.
 #[tactic(auto, using(crate::proofs::LineValues::length_of_value), unfolding(crate::specs::CommandGrammar::command_of))]
 pub fn read_command(alloc: Global, line: &[u8]) -> Result<Command, LineFault>
     // The grammar's command, or its refusal; want of memory is none.

@@ -98,7 +98,10 @@ fn texts_in(alloc: Global, items: &[Value]) -> Result<Option<Vec<String>>, OutOf
 }
 
 // What the items of a list are read as.
-pub(crate) fn list_in<T: Listed>(alloc: Global, items: &[Value]) -> Result<Option<Vec<T>>, OutOfMemory>
+pub(crate) fn list_in<T: Listed>(
+    alloc: Global,
+    items: &[Value],
+) -> Result<Option<Vec<T>>, OutOfMemory>
     ensures items { IfOk result (λ found. option_map (λ found. found.items) found
         ≡ fields.values_of_items T.read (items_view items.now)) }
     ensures memory { OnErr result (0 < length items.now) }

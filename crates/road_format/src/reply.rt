@@ -222,12 +222,7 @@ fn delta_value(alloc: Global, message: &str, edits: &[Edit]) -> Result<Value, Ou
 }
 
 // What the sessions of a crowd left.
-fn crowd_value(
-    alloc: Global,
-    edits: &[Edit],
-    journal: u32,
-    row: &str,
-) -> Result<Value, OutOfMemory>
+fn crowd_value(alloc: Global, edits: &[Edit], journal: u32, row: &str) -> Result<Value, OutOfMemory>
     ensures { IfOk result (λ value. view value ≡ data_of (replies.Crowd edits.now journal row.now)) }
 {
     let fields = edits_fields(alloc, edits)?;

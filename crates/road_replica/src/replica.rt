@@ -98,8 +98,8 @@ impl Replica {
         self.sheet.scenario()
     }
 
-    /// That its number is below 64, its edits win and fit the plan, and its horizon is at most 65,536. It is a fact for
-    /// proofs: the call does nothing.
+    /// That its number is below 64, its edits win and fit the plan, and its horizon is at most 1,048,576. It is a fact
+    /// for proofs: the call does nothing.
     pub fn known(&self)
         ensures number { self.now.number < MOST_REPLICAS }
         ensures sheet { IsSheet self.now.sheet }
@@ -282,7 +282,7 @@ impl Replica {
     ///
     /// # Errors
     ///
-    /// `Horizon` where `to` is above 65,536; else `WorkersGone` where the crew answers so, or `OutOfMemory` where a
+    /// `Horizon` where `to` is above 1,048,576; else `WorkersGone` where the crew answers so, or `OutOfMemory` where a
     /// growth was refused.
     pub fn advance<C: Crew>(
         &mut self,

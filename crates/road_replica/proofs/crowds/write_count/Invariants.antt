@@ -8,4 +8,5 @@ use Rattle.road_replica.proofs.crowds.write_count.Given as goal
 abbrev pub invariant-loop-share : goal.invariant-loop-share
 invariant-loop-share l = record {
   all : min (l.count + crowd_writes (shares_of (drop l.share-index l.shares))) (2 ^ 64 - 1) ≡ min (crowd_writes (shares_of l.shares)) (2 ^ 64 - 1);
+  fits : l.count ≤ 2 ^ 64 - 1;
 }
