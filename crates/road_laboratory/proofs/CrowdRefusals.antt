@@ -40,11 +40,11 @@ horizon_answered false none = refl
 
 import_answered : (plan : Plan) (edits : List edit.Edit) → IsAnswered (import_fault plan edits)
 import_answered plan [] none = refl
-import_answered plan (e ∷ edits) =
+import_answered plan (e ∷ edits) none =
     let arrived = arrived_answered (fault_of_edit plan e) in
     let insider = insider_answered (nat_lt e.stamp.number FIRST_IMPORT_NUMBER) in
     let one = either_answered (option_map arrived_edit_fault (fault_of_edit plan e)) (if nat_lt e.stamp.number FIRST_IMPORT_NUMBER then Some Insider else None) arrived insider in
-    either_answered (imported_edit_fault plan e) (import_fault plan edits) one (import_answered plan edits)
+    either_answered (imported_edit_fault plan e) (import_fault plan edits) one (import_answered plan edits) none
 
 shares_answered : (plan : Plan) (shares : List (List edit.Edit)) (to : ℕ) → IsAnswered (shares_fault plan shares to)
 shares_answered plan shares to =
