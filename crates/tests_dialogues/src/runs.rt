@@ -284,7 +284,8 @@ fn a_crowd_without_threads(rt: HostRuntime) -> Result<(), Fail> {
     };
     let result = end_of(serve(alloc, &mut reader, &mut writer, &mut crew, &Unmanned))?;
     assert!(rt; matches!(result, Err(ServeFault::WorkersGone)) && crew.gone == 0);
-    assert!(rt; writer.bytes() == b"{\"open\":3}\n{\"refused\":\"Insider\"}\n");
+    let replies = "{\"open\":3}\n{\"refused\":\"Insider\"}\n";
+    assert!(rt; writer.bytes() == replies.as_bytes());
     Ok(())
 }
 
