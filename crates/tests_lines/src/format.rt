@@ -294,24 +294,32 @@ const COMMANDS: &[(&str, &str)] = &[
         "Ok(Edit { at: \"A\", object: Limit(2), step: 3, value: 1 })",
     ),
     (
-        "{\"withdraw\":{\"at\":\"A\",\"object\":[\"limit\",2],\"step\":65536}}",
-        "Ok(Withdraw { at: \"A\", object: Limit(2), step: 65536 })",
+        "{\"withdraw\":{\"at\":\"A\",\"object\":[\"limit\",2],\"step\":1048576}}",
+        "Ok(Withdraw { at: \"A\", object: Limit(2), step: 1048576 })",
     ),
     (
-        "{\"withdraw\":{\"at\":\"A\",\"object\":[\"slow\",2],\"step\":65536}}",
-        "Ok(Withdraw { at: \"A\", object: Slow(2), step: 65536 })",
+        "{\"withdraw\":{\"at\":\"A\",\"object\":[\"slow\",2],\"step\":1048576}}",
+        "Ok(Withdraw { at: \"A\", object: Slow(2), step: 1048576 })",
     ),
     (
-        "{\"withdraw\":{\"at\":\"A\",\"object\":[\"block\",2],\"step\":65536}}",
-        "Ok(Withdraw { at: \"A\", object: Block(2), step: 65536 })",
+        "{\"withdraw\":{\"at\":\"A\",\"object\":[\"block\",2],\"step\":1048576}}",
+        "Ok(Withdraw { at: \"A\", object: Block(2), step: 1048576 })",
     ),
     (
-        "{\"withdraw\":{\"at\":\"A\",\"object\":[\"inflow\",2],\"step\":65536}}",
-        "Ok(Withdraw { at: \"A\", object: Inflow(2), step: 65536 })",
+        "{\"withdraw\":{\"at\":\"A\",\"object\":[\"inflow\",2],\"step\":1048576}}",
+        "Ok(Withdraw { at: \"A\", object: Inflow(2), step: 1048576 })",
     ),
     (
-        "{\"withdraw\":{\"at\":\"A\",\"object\":[\"watch\",2],\"step\":65536}}",
-        "Ok(Withdraw { at: \"A\", object: Watch(2), step: 65536 })",
+        "{\"withdraw\":{\"at\":\"A\",\"object\":[\"watch\",2],\"step\":1048576}}",
+        "Ok(Withdraw { at: \"A\", object: Watch(2), step: 1048576 })",
+    ),
+    (
+        "{\"withdraw\":{\"at\":\"A\",\"object\":[\"start\",2],\"step\":1048576}}",
+        "Ok(Withdraw { at: \"A\", object: Start(2), step: 1048576 })",
+    ),
+    (
+        "{\"edit\":{\"at\":\"A\",\"object\":[\"start\",63],\"step\":1048576,\"value\":65537}}",
+        "Ok(Edit { at: \"A\", object: Start(63), step: 1048576, value: 65537 })",
     ),
     ("", NOT_JSON),
     ("\r", NOT_JSON),
@@ -386,6 +394,14 @@ const COMMANDS: &[(&str, &str)] = &[
         NOT_A_COMMAND,
     ),
     (
+        "{\"edit\":{\"at\":\"A\",\"form\":2,\"object\":[\"start\",0],\"step\":3,\"value\":1}}",
+        NOT_A_COMMAND,
+    ),
+    (
+        "{\"edit\":{\"at\":\"A\",\"object\":[\"starts\",0],\"step\":3,\"value\":1}}",
+        NOT_A_COMMAND,
+    ),
+    (
         "{\"edit\":{\"at\":\"A\",\"object\":[\"Block\",0],\"step\":3,\"value\":1}}",
         NOT_A_COMMAND,
     ),
@@ -430,8 +446,62 @@ const COMMANDS: &[(&str, &str)] = &[
         "Ok(Import { at: \"A\", edits: [] })",
     ),
     (
-        "{\"import\":{\"at\":\"A\",\"edits\":[],\"form\":2,\"form\":1}}",
+        "{\"import\":{\"at\":\"A\",\"edits\":[],\"form\":3,\"form\":1}}",
         "Ok(Import { at: \"A\", edits: [] })",
+    ),
+    (
+        "{\"import\":{\"at\":\"A\",\"edits\":[],\"form\":2}}",
+        "Ok(Import { at: \"A\", edits: [] })",
+    ),
+    // slowing chances of standing cars: in the second form, wherever they stand
+    (
+        "{\"import\":{\"at\":\"A\",\"edits\":[[\"start\",0,0,1,64,5]],\"form\":2}}",
+        "Ok(Import { at: \"A\", edits: [Edit { object: Start(0), step: 0, stamp: Stamp { count: 1, number: 64 }, value: Put(5) }] })",
+    ),
+    (
+        "{\"import\":{\"at\":\"A\",\"edits\":[[\"watch\",0,0,1,64,0],[\"start\",63,1048576,0,3,null]],\"form\":2}}",
+        "Ok(Import { at: \"A\", edits: [Edit { object: Watch(0), step: 0, stamp: Stamp { count: 1, number: 64 }, value: Put(0) }, Edit { object: Start(63), step: 1048576, stamp: Stamp { count: 0, number: 3 }, value: Withdrawn }] })",
+    ),
+    (
+        "{\"import\":{\"at\":\"A\",\"edits\":[[\"start\",0,0,1,64,5]],\"form\":1}}",
+        NOT_A_COMMAND,
+    ),
+    (
+        "{\"import\":{\"at\":\"D\",\"edits\":[[\"limit\",0,0,1,64,1],[\"start\",0,0,1,64,null]],\"form\":1}}",
+        NOT_A_COMMAND,
+    ),
+    (
+        "{\"import\":{\"at\":\"A\",\"edits\":[[\"start\",0,0,1,64,5],[\"limit\",0,0,1,64,1]],\"form\":1}}",
+        NOT_A_COMMAND,
+    ),
+    (
+        "{\"import\":{\"at\":\"A\",\"edits\":[[\"start\",0,0,1,64,5]],\"form\":3,\"form\":1}}",
+        NOT_A_COMMAND,
+    ),
+    (
+        "{\"import\":{\"at\":\"A\",\"edits\":[[\"start\",0,0,1,64]],\"form\":2}}",
+        NOT_A_COMMAND,
+    ),
+    (
+        "{\"import\":{\"at\":\"A\",\"edits\":[[\"start\",0,0,1,64]],\"form\":3}}",
+        NOT_A_COMMAND,
+    ),
+    (
+        "{\"import\":{\"at\":\"A\",\"edits\":[[\"start\",0,0,1,64,5]],\"form\":0}}",
+        UNKNOWN_FORM,
+    ),
+    (
+        "{\"import\":{\"at\":\"A\",\"edits\":[[\"start\",0,0,1,64,5]],\"form\":3}}",
+        UNKNOWN_FORM,
+    ),
+    // at whatever replica: its name is not asked yet
+    (
+        "{\"import\":{\"at\":\"D\",\"edits\":[[\"start\",0,0,1,64,5]],\"form\":3}}",
+        UNKNOWN_FORM,
+    ),
+    (
+        "{\"import\":{\"at\":\"D\",\"edits\":[[\"start\",0,0,1,64,5]],\"form\":18446744073709551615}}",
+        UNKNOWN_FORM,
     ),
     (
         "{\"send\":{\"at\":\"A\",\"name\":\"m1\"}}",
@@ -932,11 +1002,11 @@ fn line_of(alloc: Global, said: &Said) -> Result<String, OutOfMemory> {
     reply_line(alloc, &answer)
 }
 
-/// Edits of the greatest numbers, and a withdrawal.
+/// Edits of the greatest numbers, and withdrawals.
 const EDITS: &[Edit] = &[
     Edit {
         object: Object::Limit(0),
-        step: 65_535,
+        step: 1_048_575,
         stamp: Stamp {
             count: 281_474_976_710_656,
             number: 65_535,
@@ -948,6 +1018,24 @@ const EDITS: &[Edit] = &[
         step: 0,
         stamp: Stamp {
             count: 1,
+            number: 0,
+        },
+        value: Value::Withdrawn,
+    },
+    Edit {
+        object: Object::Start(0),
+        step: 0,
+        stamp: Stamp {
+            count: 1,
+            number: 64,
+        },
+        value: Value::Put(65_536),
+    },
+    Edit {
+        object: Object::Start(63),
+        step: 1_048_575,
+        stamp: Stamp {
+            count: 2,
             number: 0,
         },
         value: Value::Withdrawn,
@@ -966,10 +1054,18 @@ const HEADS: &[Head] = &[
     },
     Head {
         object: Object::Inflow(15),
-        step: 65_535,
+        step: 1_048_575,
         stamp: Stamp {
             count: 281_474_976_710_656,
             number: 65_535,
+        },
+    },
+    Head {
+        object: Object::Start(63),
+        step: 0,
+        stamp: Stamp {
+            count: 1,
+            number: 64,
         },
     },
 ];
@@ -992,10 +1088,10 @@ const CARS: &[Car] = &[
 const ANSWERS: &[(Said, &str)] = &[
     // numbers
     (Said::Open(3), "{\"open\":3}\n"),
-    (Said::Horizon(65_536), "{\"horizon\":65536}\n"),
+    (Said::Horizon(1_048_576), "{\"horizon\":1048576}\n"),
     (
-        Said::Counted(65_536, 589_824),
-        "{\"cars\":65536,\"speeds\":589824}\n",
+        Said::Counted(1_048_576, 9_437_184),
+        "{\"cars\":1048576,\"speeds\":9437184}\n",
     ),
     // empty lists
     (Said::Cars(&[]), "{\"cars\":[]}\n"),
@@ -1011,7 +1107,7 @@ const ANSWERS: &[(Said, &str)] = &[
     ),
     (
         Said::Edits(EDITS),
-        "{\"edits\":[[\"limit\",0,65535,281474976710656,65535,4294967295],[\"watch\",63,0,1,0,null]],\"form\":2}\n",
+        "{\"edits\":[[\"limit\",0,1048575,281474976710656,65535,4294967295],[\"watch\",63,0,1,0,null],[\"start\",0,0,1,64,65536],[\"start\",63,1048575,2,0,null]],\"form\":2}\n",
     ),
     // messages
     (
@@ -1020,11 +1116,11 @@ const ANSWERS: &[(Said, &str)] = &[
     ),
     (
         Said::Heads("h", HEADS),
-        "{\"form\":2,\"heads\":[[\"slow\",0,0,1,0],[\"inflow\",15,65535,281474976710656,65535]],\"message\":\"h\"}\n",
+        "{\"form\":2,\"heads\":[[\"slow\",0,0,1,0],[\"inflow\",15,1048575,281474976710656,65535],[\"start\",63,0,1,64]],\"message\":\"h\"}\n",
     ),
     (
         Said::Delta("d", EDITS),
-        "{\"edits\":[[\"limit\",0,65535,281474976710656,65535,4294967295],[\"watch\",63,0,1,0,null]],\"form\":2,\"message\":\"d\"}\n",
+        "{\"edits\":[[\"limit\",0,1048575,281474976710656,65535,4294967295],[\"watch\",63,0,1,0,null],[\"start\",0,0,1,64,65536],[\"start\",63,1048575,2,0,null]],\"form\":2,\"message\":\"d\"}\n",
     ),
     // crowds
     (
@@ -1036,7 +1132,7 @@ const ANSWERS: &[(Said, &str)] = &[
         "{\"edits\":[],\"form\":2,\"journal\":1,\"row\":\"............\"}\n",
     ),
     // touched steps
-    (Said::Touched(Some(65_535)), "{\"touched\":65535}\n"),
+    (Said::Touched(Some(1_048_575)), "{\"touched\":1048575}\n"),
     (Said::Touched(None), "{\"touched\":null}\n"),
     // rows and cars
     (
@@ -1133,6 +1229,29 @@ const ANSWERS: &[(Said, &str)] = &[
         "{\"refused\":\"NotSimulated\"}\n",
     ),
 ];
+
+// The import of what is answered to `scenario`, for which all fields but one are there.
+fn import_of(alloc: Global, said: &Said) -> Result<String, OutOfMemory> {
+    let reply = line_of(alloc, said)?;
+    let opened = reply.replacen(alloc, "{", "{\"import\":{\"at\":\"A\",", 1)?;
+    opened.replacen(alloc, "}\n", "}}", 1)
+}
+
+// Whether a command is the import of these edits.
+fn imports(command: &Command, wanted: &[Edit]) -> bool {
+    match command {
+        Command::Import { edits, .. } => edits.as_slice() == wanted,
+        _ => false,
+    }
+}
+
+#[test]
+fn reads_back_the_edits_that_it_writes(rt: HostRuntime) -> Result<(), Fail> {
+    let line = import_of(rt.alloc(), &Said::Edits(EDITS))?;
+    let command = read_command(rt.alloc(), line.as_bytes())?;
+    assert!(rt; imports(&command, EDITS));
+    Ok(())
+}
 
 #[test]
 fn writes_answers(rt: HostRuntime) -> Result<(), Fail> {
