@@ -11,11 +11,11 @@ use Rattle.road_dialogue.specs.declared.faults.ServeFault.{ServeFault}
 use Rattle.road_dialogue.specs.declared.faults.ServeFault.TheVariants as faults
 
 -- a command that is not answered; where it was a crowd, there is one
-pub unanswered_counts : {A : Type 0} (fault : LaboratoryFault) (held crowd : Bool) (before after : ℕ) → (held ≡ true → crowd ≡ true) → after ≡ gone_after_command {A = A} (Err fault) held before
+pub unanswered_counts : (A : Type 0) (fault : LaboratoryFault) (held crowd : Bool) (before after : ℕ) → (held ≡ true → crowd ≡ true) → after ≡ gone_after_command {A = A} (Err fault) held before
     → CountsGone (unanswered_fault fault) crowd before after
-unanswered_counts laboratory_faults.OutOfMemory held crowd before after there counts = counts
-unanswered_counts laboratory_faults.WorkersGone true crowd before after there counts = inr (counts, there refl)
-unanswered_counts laboratory_faults.WorkersGone false crowd before after there counts = inl counts
+unanswered_counts A laboratory_faults.OutOfMemory held crowd before after there counts = counts
+unanswered_counts A laboratory_faults.WorkersGone true crowd before after there counts = inr (counts, there refl)
+unanswered_counts A laboratory_faults.WorkersGone false crowd before after there counts = inl counts
 
 -- a call that asks no crew
 pub counts_none : {A : Type 0} (result : Result A ServeFault) (crowd : Bool) (before after : ℕ) → ((n : ℕ) → gone_after_call result n ≡ n) → after ≡ before → IfErr result (λ fault. CountsGone fault crowd before after)

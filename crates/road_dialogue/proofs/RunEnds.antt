@@ -417,9 +417,12 @@ not_begun lines limit source sink = record {
 -- nor were there workers to begin, which counts as having answered so
 pub not_manned : (lines limit : ℕ) (source : SourceView) (sink : SinkView) (failed : CrewFault) → (gone : ℕ) × AnswersInput (run_of lines limit source source sink sink 0 gone (Err (crew_fault failed)))
 not_manned lines limit source sink crew_faults.OutOfMemory = (0, not_begun lines limit source sink)
-not_manned lines limit source sink crew_faults.WorkersGone = (1, record {
-  input = [];
-  read = Consumes-nil source.remaining;
-  ends = record { stops = ((_, takes_none sink _), refl); reads_well = refl };
-  counts = inl refl;
-})
+not_manned lines limit source sink crew_faults.WorkersGone = (
+  1,
+  record {
+    input = [];
+    read = Consumes-nil source.remaining;
+    ends = record { stops = ((_, takes_none sink _), refl); reads_well = refl };
+    counts = inl refl;
+  },
+)

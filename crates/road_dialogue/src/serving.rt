@@ -74,7 +74,16 @@ pub fn serve_within<R: Source, W: Sink, C: Crew, K: Crowds>(
     }) }
 {
     let mut dialogue = Dialogue::new(alloc, lines);
-    answer_input(alloc, reader, writer, crew, crowds, &mut dialogue, lines, bytes)
+    answer_input(
+        alloc,
+        reader,
+        writer,
+        crew,
+        crowds,
+        &mut dialogue,
+        lines,
+        bytes,
+    )
 }
 
 // Reads an input to its end into a dialogue to which nothing has come, and writes the replies.

@@ -1,10 +1,10 @@
 //! Runs over memory that end at a limit or a fault, and runs over streams of std; their ends are worked out by hand.
 
+use road_crowd::OnThreads;
 use road_dialogue::{
     Failing, MemorySink, MemorySource, ServeFault, Served, Sink, Source, StdSink, StdSource,
     run_by, serve, serve_within,
 };
-use road_crowd::OnThreads;
 use road_ends::StepInput;
 use road_plan::{OutOfMemory, Plan};
 use road_replica::{Crowd, Crowds};
@@ -298,7 +298,8 @@ fn a_crowd_on_threads(rt: HostRuntime) -> Result<(), Fail> {
     let crowds = OnThreads::new(&rt);
     let result = end_of(serve(alloc, &mut reader, &mut writer, &mut Alone, &crowds))?;
     assert!(rt; matches!(result, Ok(Served { lines: 3 })));
-    let replies = "{\"open\":3}\n{\"refused\":\"Insider\"}\n{\"edits\":[[\"block\",8,4,2,64,null]],\"form\":2,\"journal\":4,\"row\":\"0..2...2....\"}\n{\"horizon\":1}\n";
+    let replies =
+        "{\"open\":3}\n{\"refused\":\"Insider\"}\n{\"edits\":[[\"block\",8,4,2,64,null]],\"form\":2,\"journal\":4,\"row\":\"0..2...2....\"}\n{\"horizon\":1}\n";
     assert!(rt; writer.bytes() == replies.as_bytes());
     Ok(())
 }

@@ -1,6 +1,7 @@
 -- The reply to a line is put behind those that wait, or the run stops at it.
-use Rattle.std.proofs.Common.{◌∙◌, ◌++◌, ◌∷◌, [], ℕ, List, String, refl, ap, string_bytes}
+use Rattle.std.proofs.Common.{◌∙◌, ◌++◌, ◌∷◌, [], ℕ, List, refl, ap, string_bytes}
 use Rattle.std.proofs.lemmas.Result.{err_from_is_err_and}
+use Rattle.std.specs.Prelude.{String}
 use Rattle.std.specs.declared.alloc.Global.{Global}
 use Rattle.road_format.specs.Cut.{newline}
 use Rattle.road_dialogue.specs.StreamViews.{sink_view}
@@ -28,7 +29,7 @@ pub returns-in_err-reply-clause-lost : goal.returns-in_err-reply-clause-lost
 returns-in_err-reply-clause-lost g c lines bytes first h few =
     let p = err_from_is_err_and c.from_residual.result c.from_residual.ensures.1 in
     let on = goes_on lines bytes first (sink_view g.W.Sink c.args.writer.now) c.args.self.now h c.requires in
-    rw (p.1, p.2) (unanswered_counts {A = String Global} _ _ _ _ _ (crowd_held lines bytes c.args.self.now on few) c.in_err-reply.ensures.gone)
+    rw (p.1, p.2) (unanswered_counts (String Global) _ _ _ _ _ (crowd_held lines bytes c.args.self.now on few) c.in_err-reply.ensures.gone)
 
 pub returns-clause-lost : goal.returns-clause-lost
 returns-clause-lost g c lines bytes first h few = counts_none c.put.result _ _ _ c.put.ensures.no_crew c.in_ok-reply.ensures.gone

@@ -3,7 +3,7 @@ use Rattle.road_format.specs.CommandGrammar.{command_of}
 use Rattle.road_format.specs.PlanGrammar.{plan_line_of}
 use Rattle.road_format.specs.Replies.{reply}
 use Rattle.road_dialogue.specs.Answers.{reading_unless, opening_answer, line_answer}
-use Rattle.road_dialogue.specs.Private.KeptLaboratory.{gathers_at, kept_after_line, opened_laboratory}
+use Rattle.road_dialogue.specs.Private.KeptLaboratory.{kept_after_line, opened_laboratory}
 use Rattle.road_dialogue.proofs.Options.{none_of, some_of}
 use Rattle.road_dialogue.proofs.DialogueSteps.{later_step, opening_step, refused_step}
 use Rattle.road_dialogue.proofs.dialogue.Dialogue.reply.Goals as goal
@@ -11,7 +11,7 @@ use Rattle.road_dialogue.proofs.dialogue.Dialogue.reply.Goals as goal
 pub returns-in-Some-clause-answered : goal.returns-in-Some-clause-answered
 returns-in-Some-clause-answered g c lines bytes on few =
     let long = c.args.self.now.long in
-    let held = c.as_slice.ensures.value in
+    let held = c.as_slice-held.ensures.value in
     later_step lines bytes (string_bytes c.in_ok-reply.reply) c.args.self.now
     (record c.args.self.now { laboratory = Some c.later_reply.new.laboratory; held = c.clear.new.self; long = false; left = c.saturating_sub-self.result })
     c.in-Some.laboratory c.later_reply.new.laboratory on c.in-Some.is few
@@ -23,7 +23,7 @@ returns-in-Some-clause-answered g c lines bytes on few =
 pub returns-then-is_none-clause-answered : goal.returns-then-is_none-clause-answered
 returns-then-is_none-clause-answered g c lines bytes on few =
     let long = c.args.self.now.long in
-    let held = c.as_slice-2.ensures.value in
+    let held = c.as_slice.ensures.value in
     refused_step lines bytes (string_bytes c.in_ok-reply-2.reply) c.args.self.now c.in_ok-reply-2.laboratory on c.in_default.is few
     (c.in_ok-reply-2.ensures.text ∙ ap (λ (h : List ℕ). reply (opening_answer (reading_unless long (plan_line_of h)))) held)
     (c.in_ok-reply-2.ensures.laboratory ∙ ap (λ (h : List ℕ). opened_laboratory (reading_unless long (plan_line_of h))) held)
@@ -33,7 +33,7 @@ returns-then-is_none-clause-answered g c lines bytes on few =
 pub returns-clause-answered : goal.returns-clause-answered
 returns-clause-answered g c lines bytes on few =
     let long = c.args.self.now.long in
-    let held = c.as_slice-2.ensures.value in
+    let held = c.as_slice.ensures.value in
     opening_step lines bytes (string_bytes c.in_ok-reply-2.reply) c.args.self.now
     (record c.args.self.now { laboratory = c.in_ok-reply-2.laboratory; held = c.clear-2.new.self; long = false })
     on c.in_default.is few
