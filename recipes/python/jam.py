@@ -1,0 +1,42 @@
+"""A jam in numbers: a diagram as a numpy array, with the place of its standing cars step by step.
+
+    recipes/python/jam.py
+"""
+import sys
+
+from road_lab import Plan, RoadLab
+
+try:
+    import numpy
+except ImportError:
+    print("left out: the jam in an array (numpy is not installed)")
+    sys.exit(0)
+
+EMPTY, BLOCKED = -1, -2
+
+
+def as_array(rows: list[str]) -> "numpy.ndarray":
+    """Steps by cells: the speed of a car, EMPTY or BLOCKED."""
+    signs = numpy.array([list(row.encode()) for row in rows], dtype=numpy.int16)
+    return numpy.select([signs == ord("."), signs == ord("#")], [EMPTY, BLOCKED], signs - ord("0"))
+
+
+def main() -> None:
+    plan = Plan(length=40, inlets=[(0, 65_536)], zones=[(3, 0)], words="steady")
+    with RoadLab(plan) as lab:
+        lab.advance("A", 40)
+        lab.edit("A", ("block", 24), step=12, value=1)
+        lab.edit("A", ("block", 24), step=24, value=0)
+        road = as_array(lab.diagram("A", 24, 40))
+    cells = numpy.arange(road.shape[1])
+    print(f"{road.shape[0]} steps of {road.shape[1]} cells, {(road >= 0).sum()} cars in all")
+    print("step  density  mean speed  standing cars, from cell to cell")
+    for step, row in zip(range(24, 41, 4), road[::4]):
+        # The car that waits at the inlet is no part of the jam.
+        jam = cells[(row == 0) & (cells > 0)]
+        place = f"{jam.size:2}: {jam.min()} to {jam.max()}" if jam.size else " 0"
+        print(f"{step:4}  {(row >= 0).mean():7.3f}  {row[row >= 0].mean():10.3f}  {place}")
+
+
+if __name__ == "__main__":
+    main()
