@@ -38,7 +38,7 @@ free_road = codes "{\"detectors\":[5],\"exit\":1,\"inlets\":[[0,65536]],\"length
 
 -- questions, refusals of each kind, and a last piece without a newline
 unfoldable questions : List ℕ
-questions = codes "{\"cells\":{\"at\":\"A\",\"step\":0}}\n{\"cells\":{\"at\":\"A\",\"step\":1}}\n\n{\"advance\":{\"at\":\"A\",\"to\":6}}\n{\"advance\":{\"at\":\"A\",\"to\":3}}\n{\"cells\":{\"step\":6,\"at\":\"A\"}}\n{\"cells\":{\"at\":\"B\",\"step\":6}}\n{\"advance\":{\"at\":\"D\",\"to\":1}}\n{\"advance\":{\"at\":\"A\",\"to\":65537}}\n{\"advance\":{\"at\":\"A\",\"to\":1,\"form\":1}}\n{\"cells\":{\"at\":\"A\",\"step\":2}}"
+questions = codes "{\"cells\":{\"at\":\"A\",\"step\":0}}\n{\"cells\":{\"at\":\"A\",\"step\":1}}\n\n{\"advance\":{\"at\":\"A\",\"to\":6}}\n{\"advance\":{\"at\":\"A\",\"to\":3}}\n{\"cells\":{\"step\":6,\"at\":\"A\"}}\n{\"cells\":{\"at\":\"B\",\"step\":6}}\n{\"advance\":{\"at\":\"D\",\"to\":1}}\n{\"advance\":{\"at\":\"A\",\"to\":1048577}}\n{\"advance\":{\"at\":\"A\",\"to\":1,\"form\":1}}\n{\"cells\":{\"at\":\"A\",\"step\":2}}"
 
 abbrev free_plan : Plan
 free_plan = record { cells = 12; exit = 1; width = 12; zones = (2, 0) ∷ []; inlets = (0, 65536) ∷ []; detectors = 5 ∷ []; words = Steady }

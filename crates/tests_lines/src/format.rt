@@ -432,7 +432,10 @@ const COMMANDS: &[(&str, &str)] = &[
         "{\"diagram\":{\"at\":\"A\",\"from\":0,\"step\":1,\"to\":6}}",
         NOT_A_COMMAND,
     ),
-    // edits from outside, and messages
+];
+
+/// Lines of edits from outside and of messages, and what is read of each.
+const EXCHANGES: &[(&str, &str)] = &[
     (
         "{\"import\":{\"at\":\"A\",\"edits\":[[\"limit\",0,0,7,64,2]],\"form\":1}}",
         "Ok(Import { at: \"A\", edits: [Edit { object: Limit(0), step: 0, stamp: Stamp { count: 7, number: 64 }, value: Put(2) }] })",
@@ -847,6 +850,15 @@ fn read_text(alloc: Global, line: &str) -> Result<String, OutOfMemory> {
 #[test]
 fn reads_commands(rt: HostRuntime) -> Result<(), Fail> {
     for (line, want) in COMMANDS {
+        let said = read_text(rt.alloc(), line)?;
+        assert_eq!(rt; said.as_str(), *want, "{line}");
+    }
+    Ok(())
+}
+
+#[test]
+fn reads_edits_from_outside_and_messages(rt: HostRuntime) -> Result<(), Fail> {
+    for (line, want) in EXCHANGES {
         let said = read_text(rt.alloc(), line)?;
         assert_eq!(rt; said.as_str(), *want, "{line}");
     }
