@@ -1,0 +1,148 @@
+/* Preloaded before a program: counts its calls to the outside, and makes one of them fail, once. It is asked by the environment:
+     FAIL_KIND    which calls are meant: memory, thread, open, read or write
+     FAIL_CALL    the number of the call that fails, from 1 on; 0 for none
+     FAIL_WAY     the number of the error by which it fails; 0 for a write that takes no byte
+     FAIL_PIECE   the most bytes that each such read gives or write takes; 0 for as many as asked
+     FAIL_SCRIPT  the path of a script: its reads are counted as those of standard input, and its opening
+     FAIL_COUNTS  a file of zeros, as long as struct counts, where the counts are kept
+   Reads are those of standard input and of the script, writes those to standard output; others are let through. */
+#define _GNU_SOURCE
+#include <dlfcn.h>
+#include <errno.h>
+#include <fcntl.h>
+#include <pthread.h>
+#include <stdarg.h>
+#include <stdlib.h>
+#include <string.h>
+#include <sys/mman.h>
+#include <sys/syscall.h>
+#include <sys/uio.h>
+#include <unistd.h>
+
+enum kind { MEMORY, THREAD, OPEN, READ, WRITE, KINDS };
+
+struct counts {
+    long calls[KINDS];
+    long bytes[KINDS];
+    long failed;          /* how many calls were made to fail */
+    long starting;        /* 1 where the one that failed was part of a thread's start */
+};
+
+/* The C library's own allocator, by names that this library does not take over. */
+extern void *__libc_malloc(size_t), *__libc_calloc(size_t, size_t), *__libc_realloc(void *, size_t), *__libc_memalign(size_t, size_t);
+
+static const char *const names[KINDS] = {"memory", "thread", "open", "read", "write"};
+static struct counts *counts;
+static int chosen = KINDS, way, script = -1;
+static long number, piece;
+static const char *script_path;
+static int (*real_create)(pthread_t *, const pthread_attr_t *, void *(*)(void *), void *);
+static __thread int starting;
+
+static long number_in(const char *name) {
+    const char *said = getenv(name);
+    return said ? atol(said) : 0;
+}
+
+__attribute__((constructor)) static void begin(void) {
+    const char *kind = getenv("FAIL_KIND"), *path = getenv("FAIL_COUNTS");
+    for (int i = 0; kind && i < KINDS; i++)
+        if (!strcmp(kind, names[i])) chosen = i;
+    number = number_in("FAIL_CALL"), way = number_in("FAIL_WAY"), piece = number_in("FAIL_PIECE");
+    script_path = getenv("FAIL_SCRIPT");
+    real_create = (int (*)(pthread_t *, const pthread_attr_t *, void *(*)(void *), void *))dlsym(RTLD_NEXT, "pthread_create");
+    int file = path ? (int)syscall(SYS_openat, AT_FDCWD, path, O_RDWR | O_CLOEXEC) : -1;
+    if (file < 0) return;
+    void *kept = (void *)syscall(SYS_mmap, NULL, sizeof *counts, PROT_READ | PROT_WRITE, MAP_SHARED, file, 0L);
+    syscall(SYS_close, file);
+    if (kept != MAP_FAILED) counts = kept;      /* from here on calls are counted */
+}
+
+/* Counts a call of a kind, and says whether it is to fail. */
+static int fails(enum kind kind) {
+    if (!counts) return 0;
+    long now = __atomic_add_fetch(&counts->calls[kind], 1, __ATOMIC_SEQ_CST);
+    if ((int)kind != chosen || now != number) return 0;
+    __atomic_add_fetch(&counts->failed, 1, __ATOMIC_SEQ_CST);
+    counts->starting = starting;
+    errno = way;
+    return 1;
+}
+
+static size_t at_most(enum kind kind, size_t asked) {
+    return (int)kind == chosen && piece > 0 && asked > (size_t)piece ? (size_t)piece : asked;
+}
+
+static ssize_t moved(enum kind kind, ssize_t count) {
+    if (counts && count > 0) __atomic_add_fetch(&counts->bytes[kind], count, __ATOMIC_SEQ_CST);
+    return count;
+}
+
+void *malloc(size_t size) { return fails(MEMORY) ? NULL : __libc_malloc(size); }
+void *calloc(size_t items, size_t size) { return fails(MEMORY) ? NULL : __libc_calloc(items, size); }
+void *realloc(void *old, size_t size) { return fails(MEMORY) ? NULL : __libc_realloc(old, size); }
+void *aligned_alloc(size_t unit, size_t size) { return fails(MEMORY) ? NULL : __libc_memalign(unit, size); }
+void *memalign(size_t unit, size_t size) { return fails(MEMORY) ? NULL : __libc_memalign(unit, size); }
+
+int posix_memalign(void **made, size_t unit, size_t size) {
+    void *got = fails(MEMORY) ? NULL : __libc_memalign(unit, size);
+    if (!got) return ENOMEM;
+    *made = got;
+    return 0;
+}
+
+/* The program's own mappings; those that the C library makes for itself do not come here. */
+void *mmap(void *place, size_t size, int rights, int flags, int file, off_t from) {
+    if (flags & MAP_ANONYMOUS && fails(MEMORY)) return MAP_FAILED;
+    return (void *)syscall(SYS_mmap, place, size, rights, flags, file, from);
+}
+void *mmap64(void *, size_t, int, int, int, off_t) __attribute__((alias("mmap")));
+
+int pthread_create(pthread_t *thread, const pthread_attr_t *how, void *(*what)(void *), void *with) {
+    if (fails(THREAD)) return way;
+    starting = 1;
+    int ended = real_create(thread, how, what, with);
+    starting = 0;
+    return ended;
+}
+
+int open(const char *path, int flags, ...) {
+    va_list more;
+    va_start(more, flags);
+    int rights = flags & (O_CREAT | __O_TMPFILE) ? va_arg(more, int) : 0;
+    va_end(more);
+    int is_script = script_path && !strcmp(path, script_path);
+    if (is_script && fails(OPEN)) return -1;
+    int file = (int)syscall(SYS_openat, AT_FDCWD, path, flags, rights);
+    if (is_script) script = file;
+    return file;
+}
+int open64(const char *, int, ...) __attribute__((alias("open")));
+
+ssize_t read(int file, void *bytes, size_t size) {
+    if (file != 0 && (file < 0 || file != script)) return syscall(SYS_read, file, bytes, size);
+    if (fails(READ)) return way ? -1 : 0;
+    return moved(READ, syscall(SYS_read, file, bytes, at_most(READ, size)));
+}
+ssize_t __read(int, void *, size_t) __attribute__((alias("read")));
+
+ssize_t write(int file, const void *bytes, size_t size) {
+    if (file != 1) return syscall(SYS_write, file, bytes, size);
+    if (fails(WRITE)) return way ? -1 : 0;
+    return moved(WRITE, syscall(SYS_write, file, bytes, at_most(WRITE, size)));
+}
+ssize_t __write(int, const void *, size_t) __attribute__((alias("write")));
+
+ssize_t readv(int file, const struct iovec *pieces, int count) {
+    if (file != 0 && (file < 0 || file != script)) return syscall(SYS_readv, file, pieces, count);
+    if (piece > 0 && count > 0) return read(file, pieces[0].iov_base, pieces[0].iov_len);
+    if (fails(READ)) return way ? -1 : 0;
+    return moved(READ, syscall(SYS_readv, file, pieces, count));
+}
+
+ssize_t writev(int file, const struct iovec *pieces, int count) {
+    if (file != 1) return syscall(SYS_writev, file, pieces, count);
+    if (piece > 0 && count > 0) return write(file, pieces[0].iov_base, pieces[0].iov_len);
+    if (fails(WRITE)) return way ? -1 : 0;
+    return moved(WRITE, syscall(SYS_writev, file, pieces, count));
+}
