@@ -99,7 +99,7 @@ pub unread_by : (a : App) (words : List (List ℕ)) (error : Error) → a ≡ co
 unfolding are_read
 unread_by a words error is other has = ap (λ (x : App). is_empty (fault_of x words)) (sym is) ∙ by_kinds (fault_of a words) error other has
 
--- ---- worked command lines; `examples/process` has more
+-- ---- worked command lines; `tests/process` has more
 
 a_path : script_of (codes "--script" ∷ codes "a.jsonl" ∷ []) ≡ Some (codes "a.jsonl")
 unfolding clap_on_literals script_of words_matches

@@ -1,5 +1,5 @@
 -- How often a crew has answered `WorkersGone`, from call to call.
-use Rattle.std.proofs.Common.{◌≡◌, ℕ, Bool, true, false, Result, Ok, Err, inl, inr, refl, ap, sym, subst, ◌∙◌}
+use Rattle.std.proofs.Common.{◌≡◌, ℕ, Bool, true, false, Result, Ok, Err, inl, inr, refl, sym, subst, ◌∙◌}
 use Rattle.std.specs.Prelude.{IfErr}
 use Rattle.road_laboratory.specs.Laboratory.{gone_after_command}
 use Rattle.road_laboratory.specs.declared.faults.LaboratoryFault.{LaboratoryFault}

@@ -1,7 +1,7 @@
 #!/usr/bin/env python3
 """Random scripts: a plan and commands at its replicas, most of them accepted, and lines that are to be refused.
 
-    tests/outside_eye/scripts.py --seed S        writes the script of the seed
+    tests/reference_simulator/scripts.py --seed S        writes the script of the seed
 """
 import argparse
 import json

@@ -2,7 +2,7 @@
 """The laboratory as plainly as it can be said: a set of edits for each replica, and a road that runs from step zero each time.
 The one short cut: steps that nobody asks for, in which no car is on the road and none can enter, are passed over.
 
-    tests/outside_eye/simulator.py < SCRIPT
+    tests/reference_simulator/simulator.py < SCRIPT
 """
 import json
 import sys

@@ -1,7 +1,7 @@
 #!/usr/bin/env python3
 """Compares the program with the simulator of this folder, line by line, on the scripts written by hand and on random ones.
 
-    tests/outside_eye/compare.py --program P --scripts 300 --seed 0
+    tests/reference_simulator/compare.py --program P --scripts 300 --seed 0
 """
 import argparse
 import collections
