@@ -23,5 +23,5 @@ mod road;
 pub use blocks::{is_blocked, reached_blocks, reached_blocks_below};
 pub use car::{Car, GREATEST_SPEED};
 pub use road::Road;
-/// Want of memory, answered only where a growth was refused.
+/// Out of memory: an allocation failed.
 pub use std::alloc::AllocError as OutOfMemory;

@@ -32,7 +32,7 @@ use std::thread::Threads;
 ///
 /// # Errors
 ///
-/// `WorkersGone` where a thread could not be started, else `OutOfMemory` where a growth was refused or the store gave a
+/// `WorkersGone` where a thread could not be started, else `OutOfMemory` where an allocation failed or the store gave a
 /// session no reader. All threads have ended then.
 pub fn crowd<W: Threads + Wait, G: Gate + Sync>(
     rt: &W,

@@ -17,7 +17,7 @@ use std::alloc::Global;
 ///
 /// # Errors
 ///
-/// `OutOfMemory` where a growth was refused.
+/// `OutOfMemory` where an allocation failed.
 pub fn beyond(alloc: Global, scenario: &Scenario, heads: &Heads) -> Result<Scenario, OutOfMemory>
     ensures delta { IfOk result (λ delta. delta ≡ beyond scenario.now heads.now) }
     ensures fits { (plan : Plan) → AreInRange plan scenario.now → IfOk result (λ delta. AreInRange plan delta) }

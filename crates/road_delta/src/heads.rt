@@ -52,7 +52,7 @@ impl Heads {
 ///
 /// # Errors
 ///
-/// `OutOfMemory` where a growth was refused.
+/// `OutOfMemory` where an allocation failed.
 pub fn heads_of(alloc: Global, scenario: &Scenario) -> Result<Heads, OutOfMemory>
     ensures { IfOk result (λ made. made ≡ heads scenario.now) }
 {

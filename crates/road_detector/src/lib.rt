@@ -18,5 +18,5 @@ mod rows;
 
 pub use counts::{Passed, Totals, greatest_speed, passes, passes_from};
 pub use rows::row_text;
-/// Want of memory, answered only where a growth was refused.
+/// Out of memory: an allocation failed.
 pub use std::alloc::AllocError as OutOfMemory;

@@ -9,4 +9,4 @@ pub mod ChanceEvents
 pub mod PassOverCars
 pub mod SameInputs
 pub mod CellsBetweenInlets
-pub mod KeptColumns
+pub mod CachedColumns

@@ -21,9 +21,9 @@ use Rattle.road_cells.specs.declared.car.Car.{Car}
 use Rattle.road_rules.proofs.MotionOfCars.{cell_at-end}
 use Rattle.road_rules.specs.Speeds.{wanted_speed, slowed_speed, comes_about}
 use Rattle.road_ends.specs.Speed.{chance_at, gap, speed, speeds, nth_car}
-use Rattle.road_ends.specs.Private.StepColumns.{AreHalves, IsHeldUp}
+use Rattle.road_ends.specs.Private.StepColumns.{AreHigh16s, IsHeldUp}
 use Rattle.road_ends.specs.Private.PassPlaces.{IsNthOrNowhere, AreOfZone, wanted_before}
-use Rattle.road_ends.proofs.KeptColumns.{no_halves}
+use Rattle.road_ends.proofs.CachedColumns.{no_high16s}
 use Rattle.road_ends.proofs.StepByCars.{gap-free_cells}
 
 -- a car that is held up has no free cell in front of it
@@ -113,38 +113,38 @@ module _ (p : Plan) (s : Settings) (t : ℕ) (a : Array) where
       named (nth_car cars k).number step ∙ (λ i. word p.words (nth_car (all i) k).number (now i)) in
       is ∙ (λ i. slowed_speed (wish i) (comes_about (drawn i) (chance_at (nth_car (all i) k).speed (slice_index (started i) (in_zone i)) (slice_index (chanced i) (in_zone i)))))
 
-  -- the same, by the half that is kept of the word
-  pub read_kept_speed : (cars : List Car) (halves blocks limits starts chances : List ℕ) (k zone free wished v : ℕ) → Fits p s → length a ≤ p.cells → AreHalves p.words t a halves → k < length halves
+  -- the same, by the high16 that is kept of the word
+  pub read_cached_speed : (cars : List Car) (high16s blocks limits starts chances : List ℕ) (k zone free wished v : ℕ) → Fits p s → length a ≤ p.cells → AreHigh16s p.words t a high16s → k < length high16s
       → cars ≡ cars_of a → blocks ≡ s.blocks → limits ≡ s.limits → starts ≡ s.starts → chances ≡ s.chances → zone ≡ zone_of p (cell_at (cars_of a) k)
       → free ≡ free_cells blocks a (cell_at (cars_of a) k)
       → wished ≡ wanted_speed (nth_car cars k).speed (slice_index limits zone) free
-      → ((word : ℕ) → (0 < wished → slice_index halves k ≡ word / 65536) → v ≡ slowed_speed wished (comes_about word (chance_at (nth_car cars k).speed (slice_index starts zone) (slice_index chances zone))))
+      → ((word : ℕ) → (0 < wished → slice_index high16s k ≡ word / 65536) → v ≡ slowed_speed wished (comes_about word (chance_at (nth_car cars k).speed (slice_index starts zone) (slice_index chances zone))))
       → v ≡ speed p s t a (nth_car (cars_of a) k).cell (vehicle_of (nth_car (cars_of a) k))
-  read_kept_speed cars halves blocks limits starts chances k zone free wished v fits long are inside all blocked limited started chanced in_zone clear wishes is =
-      let right : 0 < wished → slice_index halves k ≡ word p.words (nth_car cars k).number t / 65536 =
+  read_cached_speed cars high16s blocks limits starts chances k zone free wished v fits long are inside all blocked limited started chanced in_zone clear wishes is =
+      let right : 0 < wished → slice_index high16s k ≡ word p.words (nth_car cars k).number t / 65536 =
       λ moves. are.each k inside (λ held. let none : free ≡ 0 = clear ∙ held_up blocks a k held in omega arith) ∙ ap (λ (cs : List Car). word p.words (nth_car cs k).number t / 65536) (sym all) in
       read_speed (word p.words) cars blocks limits starts chances k zone t free wished v fits long (λ _ _. refl) all blocked limited started chanced in_zone refl clear wishes
       (is (word p.words (nth_car cars k).number t) right)
 
   -- the speed by what the pass has before it is that of the definition
-  pub pass_speed : (words : ℕ → ℕ → ℕ) (cars : List Car) (halves : List ℕ) (k reached next block zone limit standing moving v : ℕ) → Fits p s → length a ≤ p.cells → p.cells ≤ 65536 → IsNonDecreasing s.blocks
-      → AreHalves p.words t a halves → ((stream step : ℕ) → words stream step ≡ word p.words stream step) → cars ≡ cars_of a → k < length (cars_of a)
+  pub pass_speed : (words : ℕ → ℕ → ℕ) (cars : List Car) (high16s : List ℕ) (k reached next block zone limit standing moving v : ℕ) → Fits p s → length a ≤ p.cells → p.cells ≤ 65536 → IsNonDecreasing s.blocks
+      → AreHigh16s p.words t a high16s → ((stream step : ℕ) → words stream step ≡ word p.words stream step) → cars ≡ cars_of a → k < length (cars_of a)
       → ArePartedAt s.blocks (cell_at (cars_of a) k) reached
       → IsNthOrNowhere (length (cars_of a)) (k + 1) (cell_at (cars_of a) (k + 1)) next → IsNthOrNowhere (length s.blocks) reached (slice_index s.blocks reached) block
       → zone ≡ zone_of p (cell_at (cars_of a) k) → AreOfZone s.limits s.starts s.chances zone limit standing moving
-      → (k < length halves → (word : ℕ) → (0 < wanted_speed (nth_car cars k).speed limit (min GREATEST_SPEED (min next block - (cell_at cars k + 1))) → slice_index halves k ≡ word / 65536)
+      → (k < length high16s → (word : ℕ) → (0 < wanted_speed (nth_car cars k).speed limit (min GREATEST_SPEED (min next block - (cell_at cars k + 1))) → slice_index high16s k ≡ word / 65536)
       → v ≡ slowed_speed (wanted_speed (nth_car cars k).speed limit (min GREATEST_SPEED (min next block - (cell_at cars k + 1)))) (comes_about word (chance_at (nth_car cars k).speed standing moving)))
-      → (length halves ≤ k → v ≡ slowed_speed (wanted_speed (nth_car cars k).speed limit (min GREATEST_SPEED (min next block - (cell_at cars k + 1)))) (comes_about (words (nth_car cars k).number t) (chance_at (nth_car cars k).speed standing moving)))
+      → (length high16s ≤ k → v ≡ slowed_speed (wanted_speed (nth_car cars k).speed limit (min GREATEST_SPEED (min next block - (cell_at cars k + 1)))) (comes_about (words (nth_car cars k).number t) (chance_at (nth_car cars k).speed standing moving)))
       → v ≡ speed p s t a (nth_car (cars_of a) k).cell (vehicle_of (nth_car (cars_of a) k))
-  pass_speed words cars halves k reached next block zone limit standing moving v fits long short rising are named all below parted is_next is_block in_zone of_zone by_half by_word =
+  pass_speed words cars high16s k reached next block zone limit standing moving v fits long short rising are named all below parted is_next is_block in_zone of_zone by_high16 by_word =
       let free = min GREATEST_SPEED (min next block - (cell_at cars k + 1)) in
       let wished = wanted_speed (nth_car cars k).speed limit free in
       let clear : free ≡ free_cells s.blocks a (cell_at (cars_of a) k) =
       ap (λ (cs : List Car). min GREATEST_SPEED (min next block - (cell_at cs k + 1))) all ∙ free_ahead s.blocks a k reached next block (omega arith) below rising parted is_next is_block in
       let wishes : wished ≡ wanted_speed (nth_car cars k).speed (slice_index s.limits zone) free = ap (λ l. wanted_speed (nth_car cars k).speed l free) of_zone.limit_is in
-      elim (cases_lt k (length halves)) as (λ _. v ≡ speed p s t a (nth_car (cars_of a) k).cell (vehicle_of (nth_car (cars_of a) k))) [
-        | inl inside ↦ read_kept_speed cars halves s.blocks s.limits s.starts s.chances k zone free wished v fits long are inside all refl refl refl refl in_zone clear wishes
-            (λ word right. by_half inside word right ∙ (λ i. slowed_speed wished (comes_about word (chance_at (nth_car cars k).speed (of_zone.standing_is i) (of_zone.moving_is i)))))
+      elim (cases_lt k (length high16s)) as (λ _. v ≡ speed p s t a (nth_car (cars_of a) k).cell (vehicle_of (nth_car (cars_of a) k))) [
+        | inl inside ↦ read_cached_speed cars high16s s.blocks s.limits s.starts s.chances k zone free wished v fits long are inside all refl refl refl refl in_zone clear wishes
+            (λ word right. by_high16 inside word right ∙ (λ i. slowed_speed wished (comes_about word (chance_at (nth_car cars k).speed (of_zone.standing_is i) (of_zone.moving_is i)))))
         | inr none ↦ read_speed words cars s.blocks s.limits s.starts s.chances k zone t free wished v fits long named all refl refl refl refl in_zone refl clear wishes
             (by_word none ∙ (λ i. slowed_speed wished (comes_about (words (nth_car cars k).number t) (chance_at (nth_car cars k).speed (of_zone.standing_is i) (of_zone.moving_is i)))))
       ]
@@ -169,17 +169,17 @@ module _ (p : Plan) (s : Settings) (t : ℕ) (a : Array) where
       ap (slice_index new) (sym back) ∙ are (first + i) (omega arith) (omega arith) ∙ sym (get_or-between (speeds p s t a) first end i 0 (omega arith)))
 
   -- a car of a stretch has the limit, the chance and the next block of the car at its front, and the speed by them is that of the definition
-  pub stretch_speed : (words : ℕ → ℕ → ℕ) (cars : List Car) (halves : List ℕ) (k front reached block start limit standing moving low kept v : ℕ) → Fits p s → length a ≤ p.cells → p.cells ≤ 65536 → IsNonDecreasing s.blocks
-      → AreHalves p.words t a halves → ((stream step : ℕ) → words stream step ≡ word p.words stream step) → cars ≡ cars_of a → k < front → front < length (cars_of a)
+  pub stretch_speed : (words : ℕ → ℕ → ℕ) (cars : List Car) (high16s : List ℕ) (k front reached block start limit standing moving low kept v : ℕ) → Fits p s → length a ≤ p.cells → p.cells ≤ 65536 → IsNonDecreasing s.blocks
+      → AreHigh16s p.words t a high16s → ((stream step : ℕ) → words stream step ≡ word p.words stream step) → cars ≡ cars_of a → k < front → front < length (cars_of a)
       → ArePartedAt s.blocks (cell_at (cars_of a) front) reached → IsNthOrNowhere (length s.blocks) reached (slice_index s.blocks reached) block
       → ((c : ℕ) → start ≤ c → c ≤ cell_at (cars_of a) front → AreOfZone s.limits s.starts s.chances (zone_of p c) limit standing moving)
       → start ≤ low → ((i : ℕ) → i < reached → slice_index s.blocks i ≤ low) → low ≤ cell_at (cars_of a) k
-      → kept ≤ length halves
-      → (front ≤ kept → (word : ℕ) → (0 < wanted_before cars limit (cell_at cars (k + 1)) block k → slice_index halves k ≡ word / 65536)
+      → kept ≤ length high16s
+      → (front ≤ kept → (word : ℕ) → (0 < wanted_before cars limit (cell_at cars (k + 1)) block k → slice_index high16s k ≡ word / 65536)
       → v ≡ slowed_speed (wanted_before cars limit (cell_at cars (k + 1)) block k) (comes_about word (chance_at (nth_car cars k).speed standing moving)))
       → (kept < front → v ≡ slowed_speed (wanted_before cars limit (cell_at cars (k + 1)) block k) (comes_about (words (nth_car cars k).number t) (chance_at (nth_car cars k).speed standing moving)))
       → v ≡ speed p s t a (nth_car (cars_of a) k).cell (vehicle_of (nth_car (cars_of a) k))
-  stretch_speed words cars halves k front reached block start limit standing moving low kept v fits long short rising are named all behind below parted is_block alike from_zone from_blocks from few by_half by_word =
+  stretch_speed words cars high16s k front reached block start limit standing moving low kept v fits long short rising are named all behind below parted is_block alike from_zone from_blocks from few by_high16 by_word =
       let cell = cell_at (cars_of a) k in
       let order = rise-at 0 (cars_of a) k front (rise-cars_from 0 a) behind below in
       let parted_here : ArePartedAt s.blocks cell reached = record {
@@ -190,8 +190,8 @@ module _ (p : Plan) (s : Settings) (t : ℕ) (a : Array) where
       record { here = λ _. ap (λ (cs : List Car). cell_at cs (k + 1)) all; none = λ past. absurd (omega arith) } in
       let of_zone = alike cell (omega arith) (omega arith) in
       elim (cases_lt kept front) as (λ _. v ≡ speed p s t a (nth_car (cars_of a) k).cell (vehicle_of (nth_car (cars_of a) k))) [
-        | inl none ↦ pass_speed words cars [] k reached (cell_at cars (k + 1)) block (zone_of p cell) limit standing moving v fits long short rising (no_halves p.words t a [] refl) named all (omega arith) parted_here is_next is_block refl of_zone
+        | inl none ↦ pass_speed words cars [] k reached (cell_at cars (k + 1)) block (zone_of p cell) limit standing moving v fits long short rising (no_high16s p.words t a [] refl) named all (omega arith) parted_here is_next is_block refl of_zone
             (λ inside. absurd (omega arith)) (λ _. by_word none)
-        | inr more ↦ pass_speed words cars halves k reached (cell_at cars (k + 1)) block (zone_of p cell) limit standing moving v fits long short rising are named all (omega arith) parted_here is_next is_block refl of_zone
-            (λ _. by_half more) (λ past. absurd (omega arith))
+        | inr more ↦ pass_speed words cars high16s k reached (cell_at cars (k + 1)) block (zone_of p cell) limit standing moving v fits long short rising are named all (omega arith) parted_here is_next is_block refl of_zone
+            (λ _. by_high16 more) (λ past. absurd (omega arith))
       ]

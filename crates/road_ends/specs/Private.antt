@@ -1,4 +1,4 @@
 -- What contracts of private functions say of their loops, and what private fields keep; no public contract names it.
 pub mod PassPlaces
-pub mod WordRows
+pub mod WordBatches
 pub mod StepColumns

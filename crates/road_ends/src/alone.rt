@@ -7,10 +7,10 @@ ghost use Rattle.road_ends.specs.Input.{input_of, input_speeds};
 ghost use Rattle.road_ends.specs.Run.{road_after_step};
 
 use crate::OutOfMemory;
-use crate::drawn::DrawnWords;
 use crate::input::{StepInput, enter, enter_with};
 use crate::meter::Meter;
 use crate::step::{finish, finish_with};
+use crate::word_cache::WordCache;
 use road_cells::Road;
 use road_plan::{Plan, Settings};
 use std::alloc::Global;
@@ -32,7 +32,7 @@ pub struct Stepped {
 ///
 /// # Errors
 ///
-/// `OutOfMemory` where a growth is refused: those of [`enter`], of the speeds, of the new road. The meter is then as
+/// `OutOfMemory` where an allocation failed: those of [`enter`], of the speeds, of the new road. The meter is then as
 /// it was.
 pub fn step_alone(
     alloc: Global,
@@ -66,7 +66,7 @@ pub fn step_alone(
 ///
 /// # Errors
 ///
-/// `OutOfMemory` where a growth is refused: those of [`enter_with`], of the speeds, of the new road. The words are the
+/// `OutOfMemory` where an allocation failed: those of [`enter_with`], of the speeds, of the new road. The words are the
 /// plan's as before.
 pub fn step_with(
     alloc: Global,
@@ -74,7 +74,7 @@ pub fn step_with(
     settings: Arc<Settings>,
     step: u32,
     road: &Road,
-    words: &mut DrawnWords,
+    words: &mut WordCache,
 ) -> Result<Stepped, OutOfMemory>
     requires fits { Fits (arc_value plan.now) (arc_value settings) }
     requires words { words.old ≡ (arc_value plan.now).words }

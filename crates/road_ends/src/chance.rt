@@ -9,7 +9,7 @@ ghost use Rattle.road_ends.specs.Private.PassPlaces.{is_closed};
 ghost use Rattle.road_ends.specs.Speed.{chance_at};
 
 use crate::OutOfMemory;
-use crate::drawn::DrawnWords;
+use crate::word_cache::WordCache;
 use road_plan::limits::CERTAIN;
 use road_words::{PlanWords, Words};
 
@@ -55,7 +55,7 @@ pub(crate) fn is_any_open(chances: &[u32]) -> bool {
 
 // Whether an inlet's word at a step has its event under a chance. It is drawn only where the chance leaves that open.
 pub(crate) fn has_inflow(
-    words: &mut DrawnWords,
+    words: &mut WordCache,
     inlet: usize,
     step: u32,
     chance: u32,
@@ -70,8 +70,8 @@ pub(crate) fn has_inflow(
     if chance >= CERTAIN {
         return Ok(true);
     }
-    let half = words.half_of_inlet(inlet, step)?;
-    Ok(u32::from(half) < chance)
+    let high16 = words.inlet_high16(inlet, step)?;
+    Ok(u32::from(high16) < chance)
 }
 
 // Whether the word at a place of a stream has its event under a chance. It is drawn only where the chance leaves that
@@ -111,9 +111,9 @@ pub(crate) fn slowed_without_word(speed: u8, chance: u32) -> u8
     speed.saturating_sub(u8::from(chance > 0))
 }
 
-// A speed after rule 3, by the upper half of its word. Where the speed is 0 it may be any number.
-pub(crate) fn slowed_by_half(half: u16, speed: u8, chance: u32) -> u8
-    ensures { (word : ℕ) → (0 < speed → half ≡ word / 65536) → result ≡ slowed_speed speed (comes_about word chance) }
+// A speed after rule 3, by the upper 16 bits of its word. Where the speed is 0 it may be any number.
+pub(crate) fn slowed_by_high16(high16: u16, speed: u8, chance: u32) -> u8
+    ensures { (word : ℕ) → (0 < speed → high16 ≡ word / 65536) → result ≡ slowed_speed speed (comes_about word chance) }
 {
-    speed.saturating_sub(u8::from(u32::from(half) < chance))
+    speed.saturating_sub(u8::from(u32::from(high16) < chance))
 }

@@ -8,13 +8,13 @@ use crate::OutOfMemory;
 use road_cells::Car;
 use std::alloc::Global;
 
-// The cars' cells, their speeds, and the upper halves of their words in this step: one each for each car, or none at
+// The cars' cells, their speeds, and the upper 16 bits of their words in this step: one each for each car, or none at
 // all.
 #[derive(Drop)]
 pub(crate) struct Columns {
     pub(crate) cells: Vec<u16>,
     pub(crate) speeds: Vec<u8>,
-    pub(crate) halves: Vec<u16>,
+    pub(crate) high16s: Vec<u16>,
 }
 
 impl Columns {
@@ -22,12 +22,12 @@ impl Columns {
     pub(crate) fn empty(alloc: Global) -> Columns
         ensures cells { result.cells.items ≡ [] }
         ensures speeds { result.speeds.items ≡ [] }
-        ensures halves { result.halves.items ≡ [] }
+        ensures high16s { result.high16s.items ≡ [] }
     {
         Columns {
             cells: Vec::new(alloc),
             speeds: Vec::new(alloc),
-            halves: Vec::new(alloc),
+            high16s: Vec::new(alloc),
         }
     }
 }

@@ -10,7 +10,7 @@ ghost use Rattle.road_ends.specs.Entries.{entry_at, road_with_entries};
 
 use crate::OutOfMemory;
 use crate::chance::has_inflow;
-use crate::drawn::DrawnWords;
+use crate::word_cache::WordCache;
 use road_cells::{Car, Road, is_blocked};
 use road_plan::limits::MOST_INLETS;
 use road_plan::{Plan, Settings};
@@ -26,7 +26,7 @@ pub(crate) fn entered(
     settings: &Settings,
     step: u32,
     road: &Road,
-    words: &mut DrawnWords,
+    words: &mut WordCache,
 ) -> Result<Road, OutOfMemory>
     requires fits { Fits plan.now settings.now }
     requires words { words.old ≡ plan.now.words }
@@ -35,7 +35,7 @@ pub(crate) fn entered(
     ensures unchanged { words.new ≡ words.old }
 {
     plan.known();
-    words.follow(road.cars().len())?;
+    words.resize_slots(road.cars().len())?;
     let mut cars = words.list(alloc);
     cars.reserve(road.cars().len() + plan.inlets().len())?;
     let mut cell = 0;
@@ -77,7 +77,7 @@ fn standing_or_entering(
     road: &Road,
     cell: u32,
     place: usize,
-    words: &mut DrawnWords,
+    words: &mut WordCache,
 ) -> Result<Option<Car>, OutOfMemory>
     requires fits { Fits plan.now settings.now }
     requires words { words.old ≡ plan.now.words }
@@ -98,7 +98,7 @@ fn entering(
     step: u32,
     cell: u32,
     place: usize,
-    words: &mut DrawnWords,
+    words: &mut WordCache,
 ) -> Result<Option<Car>, OutOfMemory>
     requires fits { Fits plan.now settings.now }
     requires words { words.old ≡ plan.now.words }
@@ -115,7 +115,7 @@ fn entering(
     if !has_inflow(words, inlet, step, settings.inflows()[inlet])? {
         return Ok(None);
     }
-    words.admit(place)?;
+    words.insert_slot(place)?;
     Ok(Some(Car {
         number: u64::from(step) * MOST_INLETS as u64 + inlet as u64,
         cell,

@@ -6,7 +6,7 @@ ghost use Rattle.std.specs.Box.{box_value};
 ghost use Rattle.road_plan.specs.Plan.{IsWithinLimits};
 ghost use Rattle.road_plan.specs.Settings.{Fits};
 ghost use Rattle.road_ends.specs.Input.{input_of, input_speeds};
-ghost use Rattle.road_ends.specs.Private.StepColumns.{AreColumns, AreHalves};
+ghost use Rattle.road_ends.specs.Private.StepColumns.{AreColumns, AreHigh16s};
 
 mod pieces;
 mod sameness;
@@ -14,9 +14,9 @@ mod sameness;
 use crate::OutOfMemory;
 use crate::chance::is_any_open;
 use crate::columns::{Columns, write_cells, write_speeds};
-use crate::drawn::DrawnWords;
 use crate::entries::entered;
 use crate::pass::speeds;
+use crate::word_cache::WordCache;
 use road_cells::Road;
 use road_plan::{Plan, Settings};
 use std::alloc::Global;
@@ -40,7 +40,7 @@ impl Model for StepInput {
     ghost use Rattle.std.specs.Box.{box_value};
     ghost use Rattle.road_plan.specs.Settings.{Fits};
     ghost use Rattle.road_ends.specs.Input.{StepInput};
-    ghost use Rattle.road_ends.specs.Private.StepColumns.{AreColumns, AreHalves};
+    ghost use Rattle.road_ends.specs.Private.StepColumns.{AreColumns, AreHigh16s};
 
     ghost Value = { StepInput };
 
@@ -50,7 +50,7 @@ impl Model for StepInput {
     ghost invariant = { λ input. Fits (arc_value input.plan) (arc_value input.settings)
         × (length input.road ≤ (arc_value input.plan).cells)
         × IfSome input.columns (λ columns.
-        AreHalves (arc_value input.plan).words input.step input.road (box_value columns).halves.items
+        AreHigh16s (arc_value input.plan).words input.step input.road (box_value columns).high16s.items
         × AreColumns input.road (box_value columns).cells.items (box_value columns).speeds.items) };
 }
 
@@ -94,7 +94,7 @@ impl StepInput {
     /// # Errors
     ///
     /// `OutOfMemory` where their growth is refused.
-    #[tactic(auto, using(crate::proofs::KeptColumns::no_halves, crate::proofs::KeptColumns::no_columns))]
+    #[tactic(auto, using(crate::proofs::CachedColumns::no_high16s, crate::proofs::CachedColumns::no_columns))]
     pub fn speeds(&self, alloc: Global) -> Result<Vec<u8>, OutOfMemory>
         ensures { IfOk result (λ new. new.items ≡ input_speeds self.now) }
     {
@@ -136,7 +136,7 @@ pub fn enter(
     requires fits { Fits (arc_value plan.now) settings }
     ensures { IfOk result (λ input. arc_value input ≡ input_of (arc_value plan.now) settings step road.now) }
 {
-    let mut words = DrawnWords::of(alloc, plan);
+    let mut words = WordCache::of(alloc, plan);
     let road = entered(alloc, plan, &settings, step, road, &mut words)?;
     let plan = Arc::try_clone(plan)?;
     let settings = Arc::new(alloc, settings)?;
@@ -163,7 +163,7 @@ pub fn enter_with(
     settings: Arc<Settings>,
     step: u32,
     road: &Road,
-    words: &mut DrawnWords,
+    words: &mut WordCache,
 ) -> Result<Arc<StepInput>, OutOfMemory>
     requires fits { Fits (arc_value plan.now) (arc_value settings) }
     requires words { words.old ≡ (arc_value plan.now).words }
@@ -191,11 +191,11 @@ fn columns_of(
     settings: &Settings,
     step: u32,
     road: &Road,
-    words: &mut DrawnWords,
+    words: &mut WordCache,
 ) -> Result<Option<Box<Columns>>, OutOfMemory>
     requires { length road.now ≤ 65536 }
-    ensures halves { IfOk result (λ found. IfSome found (λ columns.
-        AreHalves words.old step road.now (box_value columns).halves.items)) }
+    ensures high16s { IfOk result (λ found. IfSome found (λ columns.
+        AreHigh16s words.old step road.now (box_value columns).high16s.items)) }
     ensures columns { IfOk result (λ found. IfSome found (λ columns.
         AreColumns road.now (box_value columns).cells.items (box_value columns).speeds.items)) }
     ensures unchanged { words.new ≡ words.old }
@@ -206,6 +206,6 @@ fn columns_of(
     let mut columns = words.columns(alloc)?;
     write_cells(road.cars(), &mut columns.cells)?;
     write_speeds(road.cars(), &mut columns.speeds)?;
-    words.write_halves(road, step, &mut columns.halves)?;
+    words.write_high16s(road, step, &mut columns.high16s)?;
     Ok(Some(columns))
 }

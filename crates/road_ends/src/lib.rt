@@ -19,21 +19,21 @@
 mod alone;
 mod chance;
 mod columns;
-mod drawn;
 mod entries;
 mod input;
 pub mod laws;
 mod letters;
 mod meter;
 mod pass;
-mod rows;
 mod step;
+mod word_batches;
+mod word_cache;
 
 pub use alone::{Stepped, step_alone, step_with};
-pub use drawn::DrawnWords;
 pub use input::{StepInput, enter, enter_with};
 pub use letters::{BLOCKED, EMPTY, STANDING};
 pub use meter::Meter;
-/// Want of memory, answered only where a growth was refused.
+pub use word_cache::WordCache;
+/// Out of memory: an allocation failed.
 pub use std::alloc::AllocError as OutOfMemory;
 pub use step::{finish, finish_with, leave};

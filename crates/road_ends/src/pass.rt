@@ -8,16 +8,16 @@ ghost use Rattle.road_cells.specs.Gap.{ArePartedAt};
 ghost use Rattle.road_cells.specs.declared.car.TheConstants.{GREATEST_SPEED};
 ghost use Rattle.road_rules.specs.Speeds.{comes_about, slowed_speed, wanted_speed};
 ghost use Rattle.road_ends.specs.Speed.{chance_at, nth_car, speeds};
-ghost use Rattle.road_ends.specs.Private.StepColumns.{AreColumns, AreHalves};
+ghost use Rattle.road_ends.specs.Private.StepColumns.{AreColumns, AreHigh16s};
 ghost use Rattle.road_ends.specs.Private.PassPlaces.{IsNthOrNowhere, AreOfZone, wanted_before};
 
 mod stretch;
 
 use crate::OutOfMemory;
-use crate::chance::{Chances, slowed_by_chance, slowed_by_half};
+use crate::chance::{Chances, slowed_by_chance, slowed_by_high16};
 use crate::columns::Columns;
 use crate::pass::stretch::{
-    first_car, first_cell, slow_by_halves, slow_by_words, slow_without_words, write_wanted,
+    first_car, first_cell, slow_by_high16s, slow_by_words, slow_without_words, write_wanted,
 };
 use road_cells::{Car, GREATEST_SPEED, Road, reached_blocks_below};
 use road_plan::{Plan, Settings};
@@ -66,7 +66,7 @@ pub(crate) fn speeds(
 ) -> Result<Vec<u8>, OutOfMemory>
     requires fits { Fits plan.now settings.now }
     requires on_road { length road.now ≤ plan.now.cells }
-    requires halves { AreHalves plan.now.words step road.now columns.now.halves.items }
+    requires high16s { AreHigh16s plan.now.words step road.now columns.now.high16s.items }
     requires columns { AreColumns road.now columns.now.cells.items columns.now.speeds.items }
     ensures { IfOk result (λ new. new.items ≡ speeds plan.now settings.now step road.now) }
 {
@@ -77,7 +77,7 @@ pub(crate) fn speeds(
 // The new speeds of the cars at the places from `first` to before `end`, in the order of the cars. It is one pass over
 // these cars from their far end, in one growth, and from stretch to stretch: the first car of each finds its zone and
 // the next blocked cell, and the cars behind it in the stretch share them, so that nothing is looked up for them. A
-// word is drawn only where no half of it is given and it can change a speed.
+// word is drawn only where its upper 16 bits are not given and it can change a speed.
 #[inline(never)]
 pub(crate) fn speeds_between(
     alloc: Global,
@@ -91,7 +91,7 @@ pub(crate) fn speeds_between(
 ) -> Result<Vec<u8>, OutOfMemory>
     requires fits { Fits plan.now settings.now }
     requires on_road { length road.now ≤ plan.now.cells }
-    requires halves { AreHalves plan.now.words step road.now columns.now.halves.items }
+    requires high16s { AreHigh16s plan.now.words step road.now columns.now.high16s.items }
     requires columns { AreColumns road.now columns.now.cells.items columns.now.speeds.items }
     requires order { first ≤ end }
     requires within { end ≤ length (cars_of road.now) }
@@ -113,7 +113,7 @@ pub(crate) fn speeds_between(
         let car = cars[place];
         cursor.zone = zone_at(width, limits, starts, chances, car.cell, cursor.zone);
         cursor.block = block_ahead(blocks, car.cell, cursor.block);
-        new[place - first] = new_speed(&words, step, car, &columns.halves, place, cursor);
+        new[place - first] = new_speed(&words, step, car, &columns.high16s, place, cursor);
         let from = first_car(road, first_cell(blocks, cursor), first, place);
         speeds_behind(
             &words, step, cars, columns, cursor, first, from, place, &mut new,
@@ -150,13 +150,13 @@ fn speeds_behind(
     requires room { to - first ≤ length new.old }
     ensures long { length new.new ≡ length new.old }
     ensures rest { (k : ℕ) → to ≤ k → slice_index new.new (k - first) ≡ slice_index new.old (k - first) }
-    ensures by_half { to ≤ min (length columns.now.halves.items) (length columns.now.speeds.items)
+    ensures by_high16 { to ≤ min (length columns.now.high16s.items) (length columns.now.speeds.items)
         → (k : ℕ) → from ≤ k → k < to →
         let wished = wanted_before cars.now cursor.zone.limit (cell_at cars.now (k + 1)) cursor.block.cell k in
         let chance = chance_at (nth_car cars.now k).speed cursor.zone.chances.standing cursor.zone.chances.moving in
-        (word : ℕ) → (0 < wished → slice_index columns.now.halves.items k ≡ word / 65536)
+        (word : ℕ) → (0 < wished → slice_index columns.now.high16s.items k ≡ word / 65536)
         → slice_index new.new (k - first) ≡ slowed_speed wished (comes_about word chance) }
-    ensures by_word { min (length columns.now.halves.items) (length columns.now.speeds.items) < to
+    ensures by_word { min (length columns.now.high16s.items) (length columns.now.speeds.items) < to
         → (k : ℕ) → from ≤ k → k < to →
         let wished = wanted_before cars.now cursor.zone.limit (cell_at cars.now (k + 1)) cursor.block.cell k in
         let chance = chance_at (nth_car cars.now k).speed cursor.zone.chances.standing cursor.zone.chances.moving in
@@ -168,9 +168,9 @@ fn speeds_behind(
     }
     write_wanted(cars, columns, cursor, first, from, to, new);
     let chances = cursor.zone.chances;
-    if to <= columns.halves.len().min(columns.speeds.len()) {
-        slow_by_halves(
-            &columns.halves,
+    if to <= columns.high16s.len().min(columns.speeds.len()) {
+        slow_by_high16s(
+            &columns.high16s,
             &columns.speeds,
             chances,
             first,
@@ -298,34 +298,34 @@ fn block_ahead(blocks: &[u32], cell: u32, last: Block) -> Block
     }
 }
 
-// The new speed of a car, where the pass stands: by the half of its word, where there are halves, and else by its word.
+// The new speed of a car, where the pass stands: by the upper 16 bits of its word, where these are given, and else by its word.
 #[inline(always)]
 fn new_speed(
     words: &PlanWords,
     step: u32,
     car: Car,
-    halves: &[u16],
+    high16s: &[u16],
     place: usize,
     cursor: Cursor,
 ) -> u8
     requires next { car.cell < cursor.next }
     requires block { car.cell < cursor.block.cell }
-    ensures by_half { let wished = wanted_speed car.speed cursor.zone.limit
+    ensures by_high16 { let wished = wanted_speed car.speed cursor.zone.limit
         (min GREATEST_SPEED (min cursor.next cursor.block.cell - (car.cell + 1))) in
         let chance = chance_at car.speed cursor.zone.chances.standing cursor.zone.chances.moving in
-        place < length halves.now → (word : ℕ) → (0 < wished → slice_index halves.now place ≡ word / 65536)
+        place < length high16s.now → (word : ℕ) → (0 < wished → slice_index high16s.now place ≡ word / 65536)
         → result ≡ slowed_speed wished (comes_about word chance) }
     ensures by_word { let wished = wanted_speed car.speed cursor.zone.limit
         (min GREATEST_SPEED (min cursor.next cursor.block.cell - (car.cell + 1))) in
         let chance = chance_at car.speed cursor.zone.chances.standing cursor.zone.chances.moving in
         let word = ⟦<PlanWords as Words>⟧.word_of words.now car.number step in
-        length halves.now ≤ place → result ≡ slowed_speed wished (comes_about word chance) }
+        length high16s.now ≤ place → result ≡ slowed_speed wished (comes_about word chance) }
 {
     let free = free_between(car.cell, cursor.next.min(cursor.block.cell));
     let wished = wanted(car.speed, cursor.zone.limit, free);
     let chance = cursor.zone.chances.at(car.speed);
-    if place < halves.len() {
-        return slowed_by_half(halves[place], wished, chance);
+    if place < high16s.len() {
+        return slowed_by_high16(high16s[place], wished, chance);
     }
     slowed_by_chance(words, car.number, u64::from(step), wished, chance)
 }

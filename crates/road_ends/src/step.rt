@@ -6,8 +6,8 @@ ghost use Rattle.road_ends.specs.Input.{input_next, input_speeds};
 ghost use Rattle.road_ends.specs.Run.{road_before_exit};
 
 use crate::OutOfMemory;
-use crate::drawn::DrawnWords;
 use crate::input::StepInput;
+use crate::word_cache::WordCache;
 use road_cells::Road;
 use road_plan::Plan;
 use road_rules::{moved, moved_in_place};
@@ -52,7 +52,7 @@ pub fn finish_with(
     alloc: Global,
     input: &StepInput,
     speeds: &[u8],
-    words: &mut DrawnWords,
+    words: &mut WordCache,
 ) -> Result<Road, OutOfMemory>
     requires { speeds.now ≡ input_speeds input.now }
     ensures step { IfOk result (λ later. later ≡ input_next input.now) }

@@ -38,7 +38,7 @@ text_of refusals.NoDetector = codes "NoDetector"
 text_of refusals.Range = codes "Range"
 text_of refusals.NotSimulated = codes "NotSimulated"
 
--- the refusal of a plan; want of memory is none
+-- the refusal of a plan; out of memory is none
 abbrev pub plan_refusal : PlanFault → Option Refusal
 plan_refusal plan_faults.Length = Some refusals.Length
 plan_refusal plan_faults.Exit = Some refusals.Exit
@@ -48,7 +48,7 @@ plan_refusal plan_faults.Detectors = Some refusals.Detectors
 plan_refusal plan_faults.Default = Some refusals.Default
 plan_refusal plan_faults.OutOfMemory = None
 
--- the refusal of a plan line; want of memory is none
+-- the refusal of a plan line; out of memory is none
 abbrev pub plan_line_refusal : PlanLineFault → Option Refusal
 plan_line_refusal plan_line_faults.NotJson = Some refusals.NotJson
 plan_line_refusal plan_line_faults.NotAPlan = Some refusals.NotAPlan
@@ -56,7 +56,7 @@ plan_line_refusal plan_line_faults.Names = Some refusals.Names
 plan_line_refusal (plan_line_faults.Plan fault) = plan_refusal fault
 plan_line_refusal plan_line_faults.OutOfMemory = None
 
--- the refusal of a command line; want of memory is none
+-- the refusal of a command line; out of memory is none
 abbrev pub line_refusal : LineFault → Option Refusal
 line_refusal line_faults.NotJson = Some refusals.NotJson
 line_refusal line_faults.NotACommand = Some refusals.NotACommand

@@ -66,7 +66,7 @@ answer_view (answers.Crowd edits journal row) = replies.Crowd edits.items journa
 
 -- ---- what was returned, beside what the grammar gives
 
--- refused as the grammar refuses; want of memory, which is no refusal, says nothing
+-- refused as the grammar refuses; out of memory, which is no refusal, says nothing
 abbrev pub Refuses : {Y : Type 0} → Option Refusal → Result Y Refusal → Type 0
 Refuses None given = Unit {0}
 Refuses (Some refusal) given = given ≡ Err refusal

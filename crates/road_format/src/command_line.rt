@@ -12,12 +12,12 @@ ghost use Rattle.road_format.specs.declared.faults.LineFault.TheVariants as line
 
 use crate::command::Command;
 use crate::crowd::crowd_in;
-use crate::exchange::{beyond_in, heads_in, import_in, send_in, take_in};
 use crate::faults::LineFault;
 use crate::fields::{long_number_at, name_at, only_field};
 use crate::form::{LAST_FORM, is_known};
-use crate::local::local_of_name;
+use crate::message_commands::{beyond_in, heads_in, import_in, send_in, take_in};
 use crate::reading::value_in;
+use crate::replica_commands::local_of_name;
 use road_plan::OutOfMemory;
 use serde_json::Value;
 use std::alloc::Global;
@@ -37,7 +37,7 @@ use std::alloc::Global;
 /// The length of the line is not asked here.
 #[tactic(auto, using(crate::proofs::LineValues::length_of_value), unfolding(crate::specs::CommandGrammar::command_of))]
 pub fn read_command(alloc: Global, line: &[u8]) -> Result<Command, LineFault>
-    // The grammar's command, or its refusal; want of memory is none.
+    // The grammar's command, or its refusal; out of memory is none.
     ensures command { Gives command_view line_refusal result (grammar.command_of line.now) }
 
     // A line without a byte grows nothing.

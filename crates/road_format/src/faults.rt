@@ -9,7 +9,7 @@ use crate::refusal::Refusal;
 use road_plan::{OutOfMemory, PlanFault};
 use thiserror::Error;
 
-/// Why a line after the first is not read. The causes are asked in this order; want of memory may come in the place
+/// Why a line after the first is not read. The causes are asked in this order; out of memory may come in the place
 /// of any of them.
 #[derive(Clone, Copy, Debug, PartialEq, Eq, Error)]
 pub enum LineFault {
@@ -27,7 +27,7 @@ pub enum LineFault {
     OutOfMemory,
 }
 
-/// Why the first line is not read. The causes are asked in this order; want of memory may come in the place of any of
+/// Why the first line is not read. The causes are asked in this order; out of memory may come in the place of any of
 /// them.
 #[derive(Clone, Copy, Debug, PartialEq, Eq, Error)]
 pub enum PlanLineFault {

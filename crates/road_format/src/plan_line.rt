@@ -62,14 +62,14 @@ struct PlanLineParts {
 /// has a byte. The length of the line is not asked here.
 #[tactic(auto, using(crate::proofs::LineValues::length_of_value), unfolding(crate::specs::PlanGrammar::plan_line_of))]
 pub fn read_plan(alloc: Global, line: &[u8]) -> Result<PlanLine, PlanLineFault>
-    // The grammar's plan line, or its refusal; want of memory is none.
+    // The grammar's plan line, or its refusal; out of memory is none.
     ensures plan_line { Gives plan_line_view plan_line_refusal result (grammar.plan_line_of line.now) }
 
     // The names of an accepted line are few, and no two are alike.
     ensures few { IfOk result (λ line. length line.names.items ≤ MOST_REPLICAS) }
     ensures apart { IfOk result (λ line. IsDistinct bytes_eq (texts line.names.items)) }
 
-    // Want of memory is said in one way, and a line without a byte grows nothing.
+    // out of memory is said in one way, and a line without a byte grows nothing.
     ensures memory { IfErr result (λ fault. plan_line_refusal fault ≡ None
         → (fault ≡ plan_line_faults.OutOfMemory) × (0 < length line.now)) }
 {

@@ -18,8 +18,8 @@ ghost use Rattle.road_format.specs.declared.form.TheConstants.{LAST_FORM};
 
 use crate::answer::Answer;
 use crate::form::LAST_FORM;
+use crate::list_values::list_value;
 use crate::refusal::Refusal;
-use crate::written::list_value;
 use road_cells::Car;
 use road_delta::Head;
 use road_plan::OutOfMemory;

@@ -1,7 +1,7 @@
 //! The program `road_lab`: it reads a plan line and then commands, one JSON object a line, and writes a reply for each.
 #![tactic(auto)]
 
-use road_dialogue::{Ended, StdSink, StdSource, run};
+use road_serve::{Ended, StdSink, StdSource, run};
 use std::process::ExitCode;
 use std::{env, io};
 

@@ -40,7 +40,7 @@ impl Plan {
         // So each plan within the limits is accepted.
         ensures accepted { IsWithinLimits (plan_of parts) → IsOk result }
 
-        // Refused by the first fault, which is never want of memory.
+        // Refused by the first fault, which is never out of memory.
         ensures refused { IfErr result (λ fault. fault_of_plan (plan_of parts) ≡ Some fault) }
     {
         match first_fault(&parts) {

@@ -49,7 +49,7 @@ impl Settings {
     ///
     /// # Errors
     ///
-    /// `OutOfMemory` where a growth was refused.
+    /// `OutOfMemory` where an allocation failed.
     pub fn of_plan(alloc: Global, plan: &Plan) -> Result<Settings, OutOfMemory>
         ensures made { IfOk result (λ settings. settings ≡ defaults plan.now) }
         ensures fits { IfOk result (λ settings. Fits plan.now settings) }

@@ -88,12 +88,12 @@ rows_fault s from to = if is_out_of_range from to then Some Range
 
 -- ---- refusals
 
--- a write is refused for the named cause where there is one, and else for lost workers or want of memory
+-- a write is refused for the named cause where there is one, and else for lost workers or out of memory
 abbrev pub IsWriteRefusal : Option ReplicaFault → ReplicaFault → Type 0
 IsWriteRefusal (Some cause) fault = fault ≡ cause
 IsWriteRefusal None fault = (fault ≡ WorkersGone) ⊎ (fault ≡ OutOfMemory)
 
--- any other call is refused for the named cause where there is one, and else for want of memory
+-- any other call is refused for the named cause where there is one, and else for out of memory
 abbrev pub IsRefusal : Option ReplicaFault → ReplicaFault → Type 0
 IsRefusal (Some cause) fault = fault ≡ cause
 IsRefusal None fault = fault ≡ OutOfMemory

@@ -22,5 +22,5 @@ pub use crowds::{Crowd, Crowds, MOST_CROWD_WRITES, write_count};
 pub use faults::ReplicaFault;
 pub use replica::{Replica, shares_fault};
 pub use reply::Reply;
-/// Want of memory, answered only where a growth was refused.
+/// Out of memory: an allocation failed.
 pub use std::alloc::AllocError as OutOfMemory;

@@ -67,7 +67,7 @@ impl Replica {
     ///
     /// # Errors
     ///
-    /// `OutOfMemory` where a growth was refused.
+    /// `OutOfMemory` where an allocation failed.
     pub fn open(alloc: Global, plan: Arc<Plan>, number: u32) -> Result<Replica, OutOfMemory>
         requires { number < MOST_REPLICAS }
         ensures { IfOk result (λ replica. replica
@@ -125,7 +125,7 @@ impl Replica {
     // ---- the named causes for which writes are refused
 
     /// The cause for which the replica would refuse to make an edit; none where it would not, but for lost workers or
-    /// want of memory.
+    /// out of memory.
     pub fn edit_fault(&self, object: Object, step: u32, value: Value) -> Option<ReplicaFault>
         ensures { result ≡ refusals.edit_fault self.now object step value }
     {
@@ -154,7 +154,7 @@ impl Replica {
     /// # Errors
     ///
     /// `NoObject`, `Step`, `ValueOutOfRange`, `CountsSpent`, in this order; else `WorkersGone` where the crew answers
-    /// so, or `OutOfMemory` where a growth was refused.
+    /// so, or `OutOfMemory` where an allocation failed.
     pub fn edit<C: Crew>(
         &mut self,
         alloc: Global,
@@ -220,7 +220,7 @@ impl Replica {
     /// # Errors
     ///
     /// That of the first faulty edit: `NoObject`, `Step`, `ValueOutOfRange`, `Count`, `Insider`, in this order; else
-    /// `WorkersGone` where the crew answers so, or `OutOfMemory` where a growth was refused.
+    /// `WorkersGone` where the crew answers so, or `OutOfMemory` where an allocation failed.
     pub fn import<C: Crew>(
         &mut self,
         alloc: Global,
@@ -253,7 +253,7 @@ impl Replica {
     /// # Errors
     ///
     /// That of the first faulty edit by object and step: `NoObject`, `Step`, `ValueOutOfRange`, `Count`; else
-    /// `WorkersGone` where the crew answers so, or `OutOfMemory` where a growth was refused.
+    /// `WorkersGone` where the crew answers so, or `OutOfMemory` where an allocation failed.
     pub fn take<C: Crew>(
         &mut self,
         alloc: Global,
@@ -402,7 +402,7 @@ impl Replica {
     ///
     /// # Errors
     ///
-    /// `OutOfMemory` where a growth was refused.
+    /// `OutOfMemory` where an allocation failed.
     pub fn message(&self) -> Result<Scenario, ReplicaFault>
         ensures message { IfOk result (λ message. message ≡ self.now.sheet.edits) }
         ensures refused { IfErr result (IsRefusal None) }
@@ -414,7 +414,7 @@ impl Replica {
     ///
     /// # Errors
     ///
-    /// `OutOfMemory` where a growth was refused.
+    /// `OutOfMemory` where an allocation failed.
     pub fn heads(&self, alloc: Global) -> Result<Heads, ReplicaFault>
         ensures heads { IfOk result (λ heads. heads ≡ deltas.heads self.now.sheet.edits) }
         ensures refused { IfErr result (IsRefusal None) }
@@ -426,7 +426,7 @@ impl Replica {
     ///
     /// # Errors
     ///
-    /// `OutOfMemory` where a growth was refused.
+    /// `OutOfMemory` where an allocation failed.
     pub fn beyond(&self, alloc: Global, heads: &Heads) -> Result<Scenario, ReplicaFault>
         ensures delta { IfOk result (λ delta. delta ≡ deltas.beyond self.now.sheet.edits heads.now) }
         ensures refused { IfErr result (IsRefusal None) }
@@ -440,7 +440,7 @@ impl Replica {
     ///
     /// # Errors
     ///
-    /// `NotSimulated` where the step is above the horizon, else `OutOfMemory` where a growth was refused.
+    /// `NotSimulated` where the step is above the horizon, else `OutOfMemory` where an allocation failed.
     pub fn state(&self, alloc: Global, step: u32) -> Result<Road, ReplicaFault>
         ensures state { IfOk result (λ road. road ≡ state_of self.now.sheet step) }
         ensures accepted { IfOk result (λ _. refusals.state_fault self.now.sheet step ≡ None) }
@@ -457,7 +457,7 @@ impl Replica {
     /// # Errors
     ///
     /// `NoDetector` where the plan has no such detector, else `Range` where `from` is above `to`, else `NotSimulated`
-    /// where `to` is above the horizon, else `OutOfMemory` where a growth was refused.
+    /// where `to` is above the horizon, else `OutOfMemory` where an allocation failed.
     pub fn totals(
         &self,
         alloc: Global,
@@ -481,7 +481,7 @@ impl Replica {
     /// # Errors
     ///
     /// `Range` where `from` is above `to` or these are more than 1,024 rows, else `NotSimulated` where `to` is above
-    /// the horizon, else `OutOfMemory` where a growth was refused.
+    /// the horizon, else `OutOfMemory` where an allocation failed.
     pub fn rows(&self, alloc: Global, from: u32, to: u32) -> Result<Vec<String>, ReplicaFault>
         ensures rows { IfOk result (λ rows. map string_bytes rows.items ≡ rows_of self.now.sheet from to) }
         ensures accepted { IfOk result (λ _. refusals.rows_fault self.now.sheet from to ≡ None) }

@@ -16,11 +16,9 @@
 #![tactic(auto)]
 
 mod faults;
-mod growing;
-mod growth;
+mod grown;
 
 pub use faults::GrownFault;
-pub use growing::grown;
-pub use growth::Grown;
-/// Want of memory, answered only where a growth was refused.
+pub use grown::{Grown, grown};
+/// Out of memory: an allocation failed.
 pub use std::alloc::AllocError as OutOfMemory;

@@ -21,5 +21,5 @@ mod speeds;
 
 pub use motion::{moved, moved_in_place};
 pub use speeds::{slowed, two_rules, wanted};
-/// Want of memory, answered only where a growth was refused.
+/// Out of memory: an allocation failed.
 pub use std::alloc::AllocError as OutOfMemory;

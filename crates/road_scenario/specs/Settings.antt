@@ -29,8 +29,8 @@ latest_edit (e ∷ es) = Some (best_of (λ f best. nat_lt best.step f.step) e es
 abbrev pub number_in : List Edit → ℕ → Object → Option ℕ
 number_in edits step o = option_and_then (λ e. put_number e.value) (latest_edit (filter (is_put_up_to o step) edits))
 
--- the setting of an object for which no number is in force: its default, and for the slowing chance of standing cars the
--- zone's slowing chance
+-- the setting of an object for which no number is in force: its default, and for the slowing chance of standing cars
+-- the zone's slowing chance
 abbrev pub setting_without : Plan → (Object → Option ℕ) → Object → ℕ
 setting_without p numbers (Limit zone) = default p (Limit zone)
 setting_without p numbers (Slow zone) = default p (Slow zone)

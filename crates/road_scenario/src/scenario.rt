@@ -71,7 +71,7 @@ impl Scenario {
     ///
     /// # Errors
     ///
-    /// `OutOfMemory` where a growth was refused; without edits nothing grows.
+    /// `OutOfMemory` where an allocation failed; without edits nothing grows.
     pub fn of_edits(alloc: Global, edits: &[Edit]) -> Result<Self, OutOfMemory>
         ensures winners { IfOk result (λ made. made ≡ winners (sets.from_list edits.now)) }
         ensures fits { (plan : Plan) → first_fault plan edits.now ≡ None → IfOk result (λ made. AreInRange plan made) }
@@ -93,7 +93,7 @@ impl Scenario {
     ///
     /// # Errors
     ///
-    /// `OutOfMemory` where a growth was refused; the scenario is then as before.
+    /// `OutOfMemory` where an allocation failed; the scenario is then as before.
     pub fn with_edit(&self, edit: &Edit) -> Result<Self, OutOfMemory>
         ensures winners { IfOk result (λ new. new ≡ join self.now (sets.from_list (edit.now ∷ []))) }
         ensures fits { (plan : Plan) → AreInRange plan self.now → fault_of_edit plan edit.now ≡ None →
@@ -113,7 +113,7 @@ impl Scenario {
     ///
     /// # Errors
     ///
-    /// `OutOfMemory` where a growth was refused; both are then as before.
+    /// `OutOfMemory` where an allocation failed; both are then as before.
     pub fn joined(&self, other: &Self) -> Result<Self, OutOfMemory>
         ensures winners { IfOk result (λ joined. joined ≡ join self.now other.now) }
         ensures fits { (plan : Plan) → AreInRange plan self.now → AreInRange plan other.now →
@@ -132,7 +132,7 @@ impl Scenario {
     ///
     /// # Errors
     ///
-    /// `OutOfMemory` where a growth was refused.
+    /// `OutOfMemory` where an allocation failed.
     pub fn copied(&self) -> Result<Self, OutOfMemory>
         ensures { IfOk result (λ copy. copy ≡ self.now) }
     {
@@ -162,7 +162,7 @@ impl Scenario {
     ///
     /// # Errors
     ///
-    /// `OutOfMemory` where a growth was refused.
+    /// `OutOfMemory` where an allocation failed.
     pub fn settings_at(
         &self,
         alloc: Global,
@@ -218,7 +218,7 @@ impl Scenario {
     ///
     /// # Errors
     ///
-    /// `OutOfMemory` where a growth was refused; without edits nothing grows.
+    /// `OutOfMemory` where an allocation failed; without edits nothing grows.
     pub fn edits(&self, alloc: Global) -> Result<Vec<Edit>, OutOfMemory>
         ensures all { IfOk result (λ edits. edits.items ≡ sets.items self.now) }
         ensures rising { IfOk result (λ edits. T (sets.is_rising edit_cmp edits.items)) }

@@ -7,7 +7,7 @@ use prog.Atomic.{either}
 use Rattle.logbook.specs.Pages.{Cell, Goes, Moves, View, cell, keeps, no_nib, step}
 use Rattle.road_sessions.specs.declared.entry.Entry.{Entry}
 use Rattle.road_sessions.specs.Private.Books.{Appends, HasLength}
-use Rattle.road_sessions.proofs.Beginnings.{begins_whole}
+use Rattle.road_sessions.proofs.Prefixes.{begins_whole}
 
 -- clients see nothing of a book, and ask nothing of one another
 abbrev pub nothing_shown : List Entry → List Entry

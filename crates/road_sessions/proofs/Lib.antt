@@ -1,6 +1,6 @@
 -- Lemmas of histories, of the book and the store that keep them, of what sessions write, of the closing, and of what a
 -- journal comes to.
-pub mod Beginnings
+pub mod Prefixes
 pub mod AppendedEntries
 pub mod StoreRule
 pub mod Replays

@@ -6,14 +6,14 @@ use mathlib.Core.List.{IsPrefix}
 use Rattle.road_replica.specs.Replicas.{Replica}
 use Rattle.road_replica.specs.declared.reply.Reply.{Reply}
 use Rattle.road_sessions.specs.declared.entry.Entry.{Entry}
-use Rattle.road_sessions.specs.declared.view.View.{View}
+use Rattle.road_sessions.specs.declared.reader_view.View.{View}
 use Rattle.road_sessions.specs.declared.wish.Wish.{Wish}
 use Rattle.road_sessions.specs.Journals.{AreWritesOf, IsLegal, AreAtRisingPlaces, AreInJournal, Write, entry, replay}
 use Rattle.road_sessions.specs.Looks.{HasEntered}
 use Rattle.road_sessions.specs.Private.Stores.{EntersAfterWrite, EntersToLook, last_write_from}
 use Rattle.road_sessions.specs.Sessions.{AreNewSessions, IsSession, IsWrite, Session, new_view, session_of}
 use Rattle.road_sessions.specs.Writes.{reply_to, wish_command}
-use Rattle.road_sessions.proofs.Beginnings.{each_of_both, got_last, in_longer_journal}
+use Rattle.road_sessions.proofs.Prefixes.{each_of_both, got_last, in_longer_journal}
 
 -- ---- a write
 

@@ -10,8 +10,8 @@ use Rattle.atomic_table.proofs.Lists.{at_set, at_snoc}
 use Rattle.road_sessions.specs.Private.Stores.{EndWith, EntersAfterWrite, EntersToLook, FoundBegins, last_write_from}
 use Rattle.road_sessions.specs.Sessions.{new_view, view_of}
 use Rattle.road_sessions.specs.declared.entry.Entry.{Entry}
-use Rattle.road_sessions.specs.declared.view.View.{View}
-use Rattle.road_sessions.proofs.Beginnings.{begins_itself, begins_longer}
+use Rattle.road_sessions.specs.declared.reader_view.View.{View}
+use Rattle.road_sessions.proofs.Prefixes.{begins_itself, begins_longer}
 
 -- one view changes, and what is published goes on
 one_changes : (before after : List Entry) (views : List View) (reader : ℕ) (w : View) → IsPrefix before after → IsPrefix w.found after → FoundBegins before views → FoundBegins after (set views reader w)

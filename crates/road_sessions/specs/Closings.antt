@@ -31,7 +31,7 @@ HasWritesOf journal s = (writes_of s.number journal ≡ s.view.own) × IsPrefix 
 abbrev pub IsWrittenBy : List Entry → List Session → Type 0
 IsWrittenBy journal ss = (length journal ≡ write_count ss) × AllByRecursion (HasWritesOf journal) ss
 
--- a closing is refused as `Missing` where these are not all the sessions, and else for want of memory
+-- a closing is refused as `Missing` where these are not all the sessions, and else for out of memory
 abbrev pub IsCloseRefusal : ℕ → List Session → CloseCause → Type 0
 IsCloseRefusal count ss Missing = ¬ AreAll count ss
 IsCloseRefusal count ss OutOfMemory = AreAll count ss

@@ -38,7 +38,7 @@ IsLookRefusal r NotEntered s t = t ≡ s
 IsLookRefusal r (OfSheet sheets.OutOfMemory) s t = HasEntered r s t × ((t.seen ≡ t.view.found) ⊎ (t.seen ≡ s.seen))
 IsLookRefusal r (OfSheet fault) s t = ⊥
 
--- a question that the sheet seen refuses for a named cause, or for want of memory where there is none
+-- a question that the sheet seen refuses for a named cause, or for out of memory where there is none
 abbrev pub IsSheetRefusal : Option SheetFault → LookFault → Type 0
 IsSheetRefusal (Some cause) fault = fault ≡ OfSheet cause
 IsSheetRefusal None fault = fault ≡ OfSheet sheets.OutOfMemory

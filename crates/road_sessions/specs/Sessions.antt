@@ -8,7 +8,7 @@ use Rattle.road_replica.specs.declared.reply.Reply.{Reply}
 use Rattle.road_sessions.specs.declared.entry.Entry.{Entry}
 use Rattle.road_sessions.specs.declared.faults.WriteFault.{WriteFault}
 use Rattle.road_sessions.specs.declared.faults.WriteFault.TheVariants.{Replica as OfReplica}
-use Rattle.road_sessions.specs.declared.view.View.{View}
+use Rattle.road_sessions.specs.declared.reader_view.View.{View}
 use Rattle.road_sessions.specs.declared.wish.Wish.{Wish}
 use Rattle.road_sessions.specs.Journals.{IsLegal, Write, AreInJournal, AreWritesOf, AreAtRisingPlaces, entry, replay}
 use Rattle.road_sessions.specs.Writes.{IsWriteRefusal, most_steps_of_wish, reply_to, wish_command, write_fault}
@@ -74,6 +74,6 @@ pub record HasCause (limit : ℕ) (r : Replica) (wish : Wish) (seen : List Entry
   pub legal : IsLegal r front
   pub cause : IsWriteRefusal (write_fault limit wish r front) fault
 
--- a session's write is refused for such a cause, or else for want of memory
+-- a session's write is refused for such a cause, or else for out of memory
 abbrev pub IsRefusedWrite : ℕ → Replica → Wish → List Entry → WriteFault → Type 0
 IsRefusedWrite limit r wish seen fault = HasCause limit r wish seen fault ⊎ (fault ≡ OfReplica causes.OutOfMemory)

@@ -68,7 +68,7 @@ write_fault limit wish r journal =
     if nat_le limit (length journal) then Some JournalFull
     else option_map OfReplica (wish_fault wish (replay r journal))
 
--- a write is refused for the named cause where there is one, and else for lost workers or want of memory
+-- a write is refused for the named cause where there is one, and else for lost workers or out of memory
 abbrev pub IsWriteRefusal : Option WriteFault → WriteFault → Type 0
 IsWriteRefusal (Some cause) fault = fault ≡ cause
 IsWriteRefusal None fault = (fault ≡ OfReplica causes.WorkersGone) ⊎ (fault ≡ OfReplica causes.OutOfMemory)

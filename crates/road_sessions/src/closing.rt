@@ -6,10 +6,10 @@ ghost use Rattle.road_sessions.specs.Closings.{AreAll, AreApart, IsCloseRefusal,
 ghost use Rattle.road_sessions.specs.Private.ClosingSessions.{IsSessionOf};
 ghost use Rattle.road_sessions.specs.Journals.{replay};
 
-use crate::book::Beginning;
 use crate::entry::Entry;
 use crate::faults::CloseCause;
 use crate::held::Held;
+use crate::history::Prefix;
 use crate::naming::Naming;
 use crate::session::Session;
 use crate::shared::Shared;
@@ -48,7 +48,7 @@ where
 ///
 /// # Errors
 ///
-/// `Missing` where these are not all sessions of the store, else `OutOfMemory` where a growth was refused. All that
+/// `Missing` where these are not all sessions of the store, else `OutOfMemory` where an allocation failed. All that
 /// was given is handed back, as it was.
 pub fn close<J: Naming, R: Wait + Drop>(
     shared: Shared<J, R>,
@@ -117,7 +117,7 @@ fn are_apart<J: Naming>(sessions: &[Session<J>]) -> bool
 }
 
 // Whether what each of them has seen begins a history, where their writes stand then.
-fn are_sessions_of<J: Naming>(sessions: &[Session<J>], history: &Beginning<J>) -> bool
+fn are_sessions_of<J: Naming>(sessions: &[Session<J>], history: &Prefix<J>) -> bool
     ensures { IsTrue result → AllByRecursion (IsSessionOf history.now) sessions.now }
 {
     match sessions.split_first() {

@@ -15,11 +15,11 @@ ghost use Rattle.road_sessions.specs.Writes.{CountsNewSteps, IsWriteRefusal, gon
 ghost use Rattle.road_sessions.specs.Private.MadeWrites.{IsMade};
 ghost use Rattle.road_sessions.specs.Writes.{most_steps_of_write, reply_to, wish_command, wish_fault, write_fault};
 
-use crate::book::{Beginning, Length};
 use crate::entry::Entry;
 use crate::faults::{OpenFault, WriteFault};
-use crate::making::{made, wish_fault};
+use crate::history::{Length, Prefix};
 use crate::naming::Naming;
+use crate::perform::{perform, wish_fault};
 use crate::reading::enter_after_write_here;
 use crate::session::Session;
 use crate::store::{Published, StoreReader, StoreWriter, publish};
@@ -48,7 +48,7 @@ where
     pub writer: StoreWriter<J>,
     length_word: Length<J>,
     /// The history that is published.
-    pub history: Beginning<J>,
+    pub history: Prefix<J>,
     /// The replica that it leaves.
     pub replica: Replica,
     /// Who wrote what, in order.
@@ -92,9 +92,9 @@ impl<J: Naming, R: Wait + Drop> Drop for Held<J, R> {
 
 // What is published of the replica that an entry more leaves. The entry stands at the end of the journal then; where
 // that is refused, the journal is as it was.
-fn noted<J: Naming>(
+fn append_entry<J: Naming>(
     replica: &Replica,
-    history: &Beginning<J>,
+    history: &Prefix<J>,
     length_word: &Length<J>,
     journal: &mut Vec<Entry>,
     entry: Entry,
@@ -130,7 +130,7 @@ impl<J: Naming, R: Wait + Drop> Held<J, R> {
         alloc: Global,
         writer: StoreWriter<J>,
         length_word: Length<J>,
-        history: Beginning<J>,
+        history: Prefix<J>,
         replica: Replica,
         limit: u64,
         sessions: u32,
@@ -164,7 +164,7 @@ impl<J: Naming, R: Wait + Drop> Held<J, R> {
     }
 
     // The writer's queue gets its memory, so that no write has to wait for it. What it is given is published already.
-    pub(crate) fn warm(&mut self, published: Published<J>) -> Result<(), OutOfMemory>
+    pub(crate) fn reserve_queue(&mut self, published: Published<J>) -> Result<(), OutOfMemory>
         ensures journal { self.new.journal ≡ self.old.journal }
         ensures limit { self.new.limit ≡ self.old.limit }
     {
@@ -181,7 +181,7 @@ impl<J: Naming, R: Wait + Drop> Held<J, R> {
     /// # Errors
     ///
     /// `JournalFull` where the journal has no room, else the replica's: its named causes in their order, then
-    /// `WorkersGone` where the crew answers so, or `OutOfMemory` where a growth was refused. All is as it was then.
+    /// `WorkersGone` where the crew answers so, or `OutOfMemory` where an allocation failed. All is as it was then.
     pub fn write<C: Crew>(
         &mut self,
         session: u32,
@@ -242,7 +242,7 @@ impl<J: Naming, R: Wait + Drop> Held<J, R> {
             (λ fault. C.times_gone crew.new ≡ refusals.gone_after_fault fault (C.times_gone crew.old)) }
     {
         let mut replica = self.replica.copied()?;
-        let (command, reply) = made(self.alloc, &mut replica, wish, crew, meter)?;
+        let (command, reply) = perform(self.alloc, &mut replica, wish, crew, meter)?;
         Ok((replica, Entry { session, command }, reply))
     }
 
@@ -273,7 +273,7 @@ impl<J: Naming, R: Wait + Drop> Held<J, R> {
             journal,
             ..
         } = self;
-        let next = noted(&replica, history, length_word, journal, entry)?;
+        let next = append_entry(&replica, history, length_word, journal, entry)?;
         self.history = next.history().again();
         let Held { rt, writer, .. } = self;
         replace_with(writer, (), |writer, ()| (publish(rt, writer, next), ()));
@@ -290,7 +290,7 @@ impl<J: Naming, R: Wait + Drop> Held<J, R> {
         wish: &Wish<'_>,
         crew: &mut C,
         meter: &mut Meter,
-        seen: &mut Beginning<J>,
+        seen: &mut Prefix<J>,
         reader: &mut StoreReader<J>,
         mine: &mut Share<J>,
     ) -> Result<(u64, Reply), WriteFault>
@@ -315,7 +315,7 @@ impl<J: Naming, R: Wait + Drop> Held<J, R> {
         seen.known();
         self.history.known();
         // Whatever a session has seen was published. No contract says so, and the refusal stands here.
-        if !seen.begins(&self.history) {
+        if !seen.is_prefix_of(&self.history) {
             return Err(WriteFault::Replica(ReplicaFault::OutOfMemory));
         }
         let (place, reply) = self.write(session, wish, crew, meter, mine)?;
@@ -359,7 +359,7 @@ impl<J: Naming, R: Wait + Drop> Held<J, R> {
         ensures journal { self.new.journal ≡ self.old.journal }
         ensures limit { self.new.limit ≡ self.old.limit }
     {
-        self.warm(published)?;
+        self.reserve_queue(published)?;
         self.new_sessions(whole)
     }
 

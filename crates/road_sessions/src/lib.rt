@@ -17,19 +17,19 @@
 //! ```
 #![tactic(auto)]
 
-mod book;
 mod closing;
 mod entry;
 mod faults;
 mod held;
-mod making;
+mod history;
 mod merging;
 mod naming;
+mod perform;
+mod reader_view;
 mod reading;
 mod session;
 mod shared;
 mod store;
-mod view;
 mod wish;
 
 pub use closing::{CloseFault, Closed, close};
@@ -38,7 +38,7 @@ pub use faults::{CloseCause, LookFault, OpenFault, WriteFault};
 pub use naming::Naming;
 pub use session::{Receipt, Session, Wrote};
 pub use shared::{Of, Prepared, Shared, open, prepare};
-/// Want of memory, answered only where a growth was refused.
+/// Out of memory: an allocation failed.
 pub use std::alloc::AllocError as OutOfMemory;
 
 /// What lies under the lock, and what it is asked, for contracts and for proofs; and what holds of all journals, each on a

@@ -7,8 +7,8 @@ ghost use Rattle.road_sessions.specs.Looks.{HasLooked, IsLookRefusal};
 ghost use Rattle.road_sessions.specs.Private.Stores.{EntersAfterWrite, EntersToLook};
 ghost use Rattle.road_sessions.specs.Sessions.{IsSession, session_of};
 
-use crate::book::Beginning;
 use crate::faults::LookFault;
+use crate::history::Prefix;
 use crate::naming::Naming;
 use crate::store::{AfterWrite, StoreReader, ToLook};
 use core::mem::replace_with;
@@ -16,7 +16,7 @@ use road_sheet::{Sheet, SheetFault};
 use std::sync::{Arc, Wait};
 
 // What was found in the store: a history, and its sheet where that can have an owner more.
-type Found<J> = (Beginning<J>, Option<Arc<Sheet>>);
+type Found<J> = (Prefix<J>, Option<Arc<Sheet>>);
 
 // Enters the store to look; nothing is found where it lets no one in.
 fn enter<J: Naming>(reader: StoreReader<J>) -> (StoreReader<J>, Option<Found<J>>)
@@ -49,7 +49,7 @@ fn enter_here<J: Naming>(reader: &mut StoreReader<J>) -> Option<Found<J>>
 // A session looks: it enters the store, and what is published there becomes what it has seen.
 pub(crate) fn look<J: Naming>(
     _number: u32,
-    seen: &mut Beginning<J>,
+    seen: &mut Prefix<J>,
     reader: &mut StoreReader<J>,
 ) -> Result<Arc<Sheet>, LookFault>
     requires { IsSession J.replica (session_of _number seen.old (view reader.old.place)) }
@@ -67,7 +67,7 @@ pub(crate) fn look<J: Naming>(
     };
     // What is published goes on from all that the session has seen, since both begin the one history of the store, and
     // whatever a session has seen was published before. No contract says the latter, so the refusal stands here.
-    if !seen.begins(&history) {
+    if !seen.is_prefix_of(&history) {
         return Err(LookFault::Sheet(SheetFault::OutOfMemory));
     }
     history.known();
@@ -90,7 +90,7 @@ fn wait_for_ever<R: Wait>(rt: &R)
 fn enter_after_write<J: Naming, R: Wait>(
     rt: &R,
     reader: StoreReader<J>,
-    written: &Beginning<J>,
+    written: &Prefix<J>,
 ) -> StoreReader<J>
     ensures { EntersAfterWrite (view reader.place) written.now (view result.place) }
 {
@@ -116,7 +116,7 @@ fn enter_after_write<J: Naming, R: Wait>(
 pub(crate) fn enter_after_write_here<J: Naming, R: Wait>(
     rt: &R,
     reader: &mut StoreReader<J>,
-    written: &Beginning<J>,
+    written: &Prefix<J>,
 )
     ensures { EntersAfterWrite (view reader.old.place) written.now (view reader.new.place) }
 {

@@ -13,8 +13,8 @@ ghost use Rattle.road_sessions.specs.Sessions.{session_of};
 ghost use Rattle.road_sessions.specs.Writes.{CountsNewSteps, gone_after_fault, most_steps_of_write, write_fault};
 ghost use Rattle.road_sessions.specs.declared.wish.Wish.TheVariants as wishes;
 
-use crate::book::Beginning;
 use crate::faults::{LookFault, WriteFault};
+use crate::history::Prefix;
 use crate::naming::Naming;
 use crate::reading;
 use crate::shared::{Of, Shared};
@@ -36,7 +36,7 @@ use std::sync::{Arc, Wait};
 /// What a session tells another: the history of all that it had seen and written. Contracts see it as that history.
 #[derive(Drop)]
 pub struct Receipt<J: Naming> {
-    history: Beginning<J>,
+    history: Prefix<J>,
 }
 
 impl<J: Naming> Model for Receipt<J> {
@@ -68,7 +68,7 @@ pub struct Wrote<J: Naming> {
 #[derive(Drop)]
 pub struct Session<J: Naming> {
     number: u32,
-    seen: Beginning<J>,
+    seen: Prefix<J>,
     reader: StoreReader<J>,
     share: Share<J>,
 }
@@ -94,7 +94,7 @@ impl<J: Naming> Session<J> {
     // A session that has seen and written nothing.
     pub(crate) fn new(
         number: u32,
-        seen: Beginning<J>,
+        seen: Prefix<J>,
         reader: StoreReader<J>,
         share: Share<J>,
     ) -> Session<J>
@@ -376,7 +376,7 @@ impl<J: Naming> Session<J> {
         ensures told { IsPrefix receipt self.new.seen }
         ensures same { (self.new.number ≡ self.old.number) × (self.new.view ≡ self.old.view) }
     {
-        if self.seen.begins(&receipt.history) {
+        if self.seen.is_prefix_of(&receipt.history) {
             receipt.history.known();
             self.seen = receipt.history.again();
         }
@@ -385,10 +385,10 @@ impl<J: Naming> Session<J> {
     // ---- closing
 
     // Whether all that it has seen begins this history, where its writes stand then.
-    pub(crate) fn is_session_of(&self, history: &Beginning<J>) -> bool
+    pub(crate) fn is_session_of(&self, history: &Prefix<J>) -> bool
         ensures { IsTrue result → IsSessionOf history.now self.now }
     {
-        self.seen.begins(history)
+        self.seen.is_prefix_of(history)
     }
 
     // Its share of the ledger, which counts its writes.

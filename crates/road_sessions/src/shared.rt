@@ -7,9 +7,9 @@ ghost use Rattle.road_sessions.specs.declared.faults.OpenFault.TheVariants as op
 ghost use Rattle.road_sessions.specs.Journals.{replica_of_plan, replay};
 ghost use Rattle.road_sessions.specs.Sessions.{AreNewSessions};
 
-use crate::book::{Beginning, EmptyBook};
 use crate::faults::OpenFault;
 use crate::held::Held;
+use crate::history::{EmptyHistory, Prefix};
 use crate::naming::Naming;
 use crate::session::Session;
 use crate::store::{Published, StoreWriter};
@@ -42,7 +42,7 @@ pub struct Prepared<R: Wait + Drop> {
     rt: R,
     alloc: Global,
     /// The book of its history, which is empty.
-    pub book: EmptyBook,
+    pub book: EmptyHistory,
     /// The replica.
     pub replica: Replica,
     /// How many sessions it is for.
@@ -59,7 +59,7 @@ pub struct Prepared<R: Wait + Drop> {
 ///
 /// # Errors
 ///
-/// `OutOfMemory` where a growth was refused.
+/// `OutOfMemory` where an allocation failed.
 pub fn prepare<R: Wait + Drop>(
     rt: R,
     alloc: Global,
@@ -80,7 +80,7 @@ pub fn prepare<R: Wait + Drop>(
     Ok(Prepared {
         rt,
         alloc,
-        book: EmptyBook::new(),
+        book: EmptyHistory::new(),
         replica,
         sessions,
         limit,
@@ -95,7 +95,7 @@ pub fn prepare<R: Wait + Drop>(
 ///
 /// # Errors
 ///
-/// `NoPlace` where the store gave a session no reader, else `OutOfMemory` where a growth was refused. What was prepared
+/// `NoPlace` where the store gave a session no reader, else `OutOfMemory` where an allocation failed. What was prepared
 /// is given up then.
 pub fn open<J: Naming, R: Wait + Drop>(
     prepared: Prepared<R>,
@@ -163,7 +163,7 @@ pub fn opened<J: Naming, R: Wait + Drop>(
 fn store_of<J: Naming>(
     alloc: Global,
     sheet: &Arc<Sheet>,
-    history: &Beginning<J>,
+    history: &Prefix<J>,
     readers: u32,
 ) -> Result<(StoreWriter<J>, Published<J>), OpenFault>
     requires left { arc_value sheet.now ≡ (replay J.replica history.now).sheet }

@@ -5,10 +5,10 @@ ghost use mathlib.Core.List.{IsPrefix};
 ghost use Rattle.road_sessions.specs.Journals.{replay};
 ghost use Rattle.road_sessions.specs.Private.Stores.{EndWith};
 
-use crate::book::Beginning;
 use crate::entry::Entry;
+use crate::history::Prefix;
 use crate::naming::Naming;
-use crate::view::View;
+use crate::reader_view::View;
 use crossbeam_utils::rule::{Outcome, Protocol};
 use left_right::Absorb;
 use left_right::reader::Reader;
@@ -23,7 +23,7 @@ use std::sync::{Arc, Wait};
 #[derive(Drop)]
 pub struct Published<J: Naming> {
     sheet: Arc<Sheet>,
-    history: Beginning<J>,
+    history: Prefix<J>,
 }
 
 impl<J: Naming> Model for Published<J> {
@@ -45,7 +45,7 @@ impl<J: Naming> Model for Published<J> {
 
 impl<J: Naming> Published<J> {
     // A sheet, and the history that leaves it.
-    pub(crate) fn new(sheet: Arc<Sheet>, history: Beginning<J>) -> Published<J>
+    pub(crate) fn new(sheet: Arc<Sheet>, history: Prefix<J>) -> Published<J>
         requires { arc_value sheet ≡ (replay J.replica history).sheet }
         ensures { result ≡ history }
     {
@@ -60,7 +60,7 @@ impl<J: Naming> Published<J> {
     }
 
     // Its history.
-    pub(crate) fn history(&self) -> &Beginning<J>
+    pub(crate) fn history(&self) -> &Prefix<J>
         ensures { result.now ≡ self.now }
     {
         &self.history
@@ -172,7 +172,7 @@ fn hand_over<J: Naming, R: Wait>(
 fn show<J: Naming, R: Wait>(
     rt: &R,
     mut writer: StoreWriter<J>,
-    history: &Beginning<J>,
+    history: &Prefix<J>,
 ) -> StoreWriter<J>
     requires pending { EndWith history.now (drop writer.behind writer.log.items) }
     requires grows { IsPrefix writer.desk.shown.value history.now }

@@ -6,7 +6,7 @@ use Rattle.road_scenario.specs.Edits.{Edits}
 use Rattle.road_scenario.specs.Settings.{settings_of}
 use Rattle.road_scenario.specs.Touched.{first_touched_step, IsBefore}
 use Rattle.road_sheet.specs.Drafts.{IsUpTo}
-use Rattle.road_sheet.specs.Private.Spans.{GiveSameRun}
+use Rattle.road_sheet.specs.Private.Intervals.{GiveSameRun}
 use Rattle.road_sheet.specs.Shown.{run_at}
 use Rattle.road_sheet.proofs.RunTotals.{total_same}
 

@@ -2,7 +2,7 @@
 use Rattle.std.specs.Prelude.{◌≤◌, ◌*◌, ◌/◌, ◌==◌, ℕ, if◌then◌else◌}
 use Rattle.std.specs.declared.option.Option.{Option}
 use Rattle.std.specs.declared.option.Option.TheVariants.{None, Some}
-use Rattle.road_sheet.specs.declared.span.TheConstants.{SPAN_STEPS}
+use Rattle.road_sheet.specs.declared.interval.TheConstants.{INTERVAL_STEPS}
 
 -- a step is not after the one that is touched, if any is
 abbrev pub IsUpTo : Option ℕ → ℕ → Type 0
@@ -10,6 +10,6 @@ IsUpTo None step = Unit {0}
 IsUpTo (Some touched) step = step ≤ touched
 
 -- where a draft begins that may keep the run up to a step: there, where that is the horizon, and else at the first
--- step of its span
+-- step of its interval
 abbrev pub draft_start : ℕ → ℕ → ℕ
-draft_start horizon keep = if keep == horizon then horizon else SPAN_STEPS * (keep / SPAN_STEPS)
+draft_start horizon keep = if keep == horizon then horizon else INTERVAL_STEPS * (keep / INTERVAL_STEPS)

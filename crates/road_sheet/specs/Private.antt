@@ -1,5 +1,5 @@
--- What private fields and functions say of the spans, and of what is kept between steps; no public contract names it.
-pub mod Spans
-pub mod CarriedSettings
+-- What private fields and functions say of the intervals, and of what is kept between steps; no public contract names it.
+pub mod Intervals
+pub mod SettingsCache
 pub mod Checkpoints
 pub mod Shelves

@@ -72,7 +72,7 @@ totals_fault s detector from to =
     else (if nat_lt to from then Some Range
     else (if nat_lt s.horizon to then Some NotSimulated else None))
 
--- a refusal is for the named cause where there is one, and else for want of memory
+-- a refusal is for the named cause where there is one, and else for out of memory
 abbrev pub IsRefusalBy : Option SheetFault → SheetFault → Type 0
 IsRefusalBy (Some cause) fault = fault ≡ cause
 IsRefusalBy None fault = fault ≡ OutOfMemory
@@ -81,6 +81,6 @@ IsRefusalBy None fault = fault ≡ OutOfMemory
 abbrev pub next_input : Sheet → StepInput
 next_input s = input_of s.plan (settings_of s.plan s.edits s.horizon) s.horizon (state_of s s.horizon)
 
--- a step more is simulated
+-- one more step is simulated
 abbrev pub sheet_after_step : Sheet → Sheet
 sheet_after_step s = record s { horizon = s.horizon + 1 }

@@ -2,7 +2,7 @@
 
 ghost use Rattle.std.specs.Prelude.{◌≡◌, [], map, IfOk};
 ghost use Rattle.road_cells.specs.Cars.{cars_of};
-ghost use Rattle.road_sheet.specs.Private.Checkpoints.{AreSmall, IsSmall, whole_car};
+ghost use Rattle.road_sheet.specs.Private.Checkpoints.{AreSmall, IsSmall, unpacked_car};
 
 use road_cells::{Car, Road};
 use road_plan::OutOfMemory;
@@ -11,7 +11,7 @@ use std::marker::Model;
 
 // A car of a checkpoint, in 6 bytes: of its number, which is below 2^24, the lower 16 bits and the upper 8.
 #[derive(Clone, Copy, Debug, PartialEq, Eq)]
-struct KeptCar {
+struct PackedCar {
     low: u16,
     cell: u16,
     high: u8,
@@ -21,20 +21,20 @@ struct KeptCar {
 // A road that is kept to go on from: its cars in 6 bytes each, in a list of exactly as many. Contracts see the road.
 #[derive(Drop)]
 pub(crate) struct Checkpoint {
-    cars: Vec<KeptCar>,
+    cars: Vec<PackedCar>,
 }
 
 impl Model for Checkpoint {
     ghost use Rattle.std.specs.Prelude.{map};
     ghost use Rattle.road_cells.specs.Array.{Array};
     ghost use Rattle.road_cells.specs.Cars.{AreRising, array_of};
-    ghost use Rattle.road_sheet.specs.Private.Checkpoints.{whole_car};
+    ghost use Rattle.road_sheet.specs.Private.Checkpoints.{unpacked_car};
 
     ghost Value = { Array };
 
-    ghost view = { λ kept. array_of (map whole_car kept.cars.items) };
+    ghost view = { λ kept. array_of (map unpacked_car kept.cars.items) };
 
-    ghost invariant = { λ kept. AreRising (map whole_car kept.cars.items) };
+    ghost invariant = { λ kept. AreRising (map unpacked_car kept.cars.items) };
 }
 
 impl Checkpoint {
@@ -52,7 +52,7 @@ impl Checkpoint {
         requires { AreSmall (cars_of road.now) }
         ensures { IfOk result (λ kept. kept ≡ road.now) }
     {
-        let cars = kept_cars(alloc, road.cars())?;
+        let cars = packed_cars(alloc, road.cars())?;
         Ok(Checkpoint { cars })
     }
 
@@ -68,29 +68,29 @@ impl Checkpoint {
     pub(crate) fn road(&self, alloc: Global) -> Result<Road, OutOfMemory>
         ensures { IfOk result (λ road. road ≡ self.now) }
     {
-        let cars = whole_cars(alloc, &self.cars)?;
+        let cars = unpacked_cars(alloc, &self.cars)?;
         Ok(Road::of(cars))
     }
 }
 
 // Cars as they are kept.
-fn kept_cars(alloc: Global, cars: &[Car]) -> Result<Vec<KeptCar>, OutOfMemory>
+fn packed_cars(alloc: Global, cars: &[Car]) -> Result<Vec<PackedCar>, OutOfMemory>
     requires { AreSmall cars.now }
-    ensures { IfOk result (λ kept. map whole_car kept.items ≡ cars.now) }
+    ensures { IfOk result (λ kept. map unpacked_car kept.items ≡ cars.now) }
 {
     let mut kept = Vec::with_capacity(alloc, cars.len())?;
     for car in cars {
-        kept.push(kept_car(*car))?;
+        kept.push(packed_car(*car))?;
     }
     Ok(kept)
 }
 
 // A car as it is kept.
-fn kept_car(car: Car) -> KeptCar
+fn packed_car(car: Car) -> PackedCar
     requires { IsSmall car }
-    ensures { whole_car result ≡ car }
+    ensures { unpacked_car result ≡ car }
 {
-    KeptCar {
+    PackedCar {
         low: (car.number % 65_536) as u16,
         cell: car.cell as u16,
         high: (car.number / 65_536) as u8,
@@ -99,8 +99,8 @@ fn kept_car(car: Car) -> KeptCar
 }
 
 // Kept cars as they were.
-fn whole_cars(alloc: Global, kept: &[KeptCar]) -> Result<Vec<Car>, OutOfMemory>
-    ensures { IfOk result (λ cars. cars.items ≡ map whole_car kept.now) }
+fn unpacked_cars(alloc: Global, kept: &[PackedCar]) -> Result<Vec<Car>, OutOfMemory>
+    ensures { IfOk result (λ cars. cars.items ≡ map unpacked_car kept.now) }
 {
     let mut cars = Vec::with_capacity(alloc, kept.len())?;
     for car in kept {

@@ -6,9 +6,9 @@ ghost use Rattle.road_plan.specs.declared.limits.TheConstants.{GREATEST_HORIZON}
 ghost use Rattle.road_ends.specs.Input.{input_speeds};
 ghost use Rattle.road_sheet.specs.Sheets.{next_input, sheet_after_step};
 
-use crate::carried::CarriedSettings;
+use crate::settings_cache::SettingsCache;
 use crate::sheet::Sheet;
-use road_ends::{DrawnWords, StepInput};
+use road_ends::{StepInput, WordCache};
 use road_plan::OutOfMemory;
 use std::alloc::Global;
 use std::marker::Model;
@@ -18,8 +18,8 @@ use std::sync::Arc;
 #[derive(Drop)]
 pub struct Draft {
     pub(crate) sheet: Sheet,
-    pub(crate) settings: CarriedSettings,
-    pub(crate) words: DrawnWords,
+    pub(crate) settings: SettingsCache,
+    pub(crate) words: WordCache,
 }
 
 impl Model for Draft {
@@ -34,9 +34,9 @@ impl Model for Draft {
 
     ghost view = { λ d. d.sheet };
 
-    ghost use Rattle.road_sheet.specs.Private.CarriedSettings.{AreCarried};
+    ghost use Rattle.road_sheet.specs.Private.SettingsCache.{AreCached};
 
-    ghost invariant = { λ d. AreCarried d.sheet.plan d.sheet.edits d.settings × (d.words ≡ d.sheet.plan.words) };
+    ghost invariant = { λ d. AreCached d.sheet.plan d.sheet.edits d.settings × (d.words ≡ d.sheet.plan.words) };
 }
 
 impl Draft {
@@ -51,7 +51,7 @@ impl Draft {
     ///
     /// # Errors
     ///
-    /// `OutOfMemory` where a growth was refused. The draft is then as it was.
+    /// `OutOfMemory` where an allocation failed. The draft is then as it was.
     pub fn input(&mut self, alloc: Global) -> Result<Arc<StepInput>, OutOfMemory>
         ensures input { IfOk result (λ input. arc_value input ≡ next_input self.old) }
         ensures unchanged { self.new ≡ self.old }
@@ -65,7 +65,7 @@ impl Draft {
     ///
     /// # Errors
     ///
-    /// `OutOfMemory` where a growth was refused. The draft is then as it was.
+    /// `OutOfMemory` where an allocation failed. The draft is then as it was.
     pub fn push(
         &mut self,
         alloc: Global,

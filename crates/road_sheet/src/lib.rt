@@ -14,19 +14,19 @@
 //! ```
 #![tactic(auto)]
 
-mod carried;
 mod checkpoint;
 mod draft;
 mod faults;
-mod shared_spans;
+mod interval;
+mod settings_cache;
+mod shared_intervals;
 mod sheet;
 mod shelf;
 pub mod simulation;
-mod span;
 
 pub use draft::Draft;
 pub use faults::SheetFault;
+pub use interval::{INTERVAL_STEPS, Interval};
 pub use sheet::Sheet;
-pub use span::{SPAN_STEPS, Span};
-/// Want of memory, answered only where a growth was refused.
+/// Out of memory: an allocation failed.
 pub use std::alloc::AllocError as OutOfMemory;

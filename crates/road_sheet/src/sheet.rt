@@ -1,4 +1,4 @@
-//! The known part of a run: spans of steps up to the horizon, and what is read from them.
+//! The known part of a run: intervals of steps up to the horizon, and what is read from them.
 
 ghost use Rattle.std.specs.Prelude.{◌≡◌, ◌≢◌, ◌<◌, ◌≤◌, ◌+◌, ◌*◌, ◌/◌, ◌%◌, IfOk, IfErr, OnErr, OnOk, None, length, min, replicate, take};
 ghost use Rattle.std.specs.Arc.{arc_value};
@@ -9,17 +9,17 @@ ghost use Rattle.road_scenario.specs.Faults.{AreInRange};
 ghost use Rattle.road_scenario.specs.Touched.{first_touched_step};
 ghost use Rattle.road_scenario.specs.Winners.{AreWinners, join};
 ghost use Rattle.road_sheet.specs.Drafts.{IsUpTo, draft_start};
-ghost use Rattle.road_sheet.specs.Private.Spans.{AreTotals, IsSpan, GiveSameRun};
+ghost use Rattle.road_sheet.specs.Private.Intervals.{AreTotals, IsInterval, GiveSameRun};
 ghost use Rattle.road_sheet.specs.Sheets.{IsSheet, opening_sheet, state_of, total_of, next_input, sheet_after_step};
 ghost use Rattle.road_sheet.specs.Sheets.{IsRefusalBy, state_fault, totals_fault};
 
-use crate::carried::CarriedSettings;
 use crate::checkpoint::Checkpoint;
 use crate::draft::Draft;
 use crate::faults::SheetFault;
-use crate::shared_spans::SharedSpans;
+use crate::interval::{INTERVAL_STEPS, Interval};
+use crate::settings_cache::SettingsCache;
+use crate::shared_intervals::SharedIntervals;
 use crate::simulation::{State, run_on, totals_with};
-use crate::span::{SPAN_STEPS, Span};
 use lattice_core::both::Both;
 use lattice_core::greatest::Greatest;
 use lattice_core::lattice::Lattice;
@@ -27,7 +27,7 @@ use road_cells::Road;
 use road_detector::Totals;
 use road_detector::laws::{cars_pass_one_by_one, totals_are_bounded};
 use road_ends::laws::{cars_stay_on_road, runs_depend_on_earlier_settings};
-use road_ends::{DrawnWords, StepInput, enter_with, finish_with};
+use road_ends::{StepInput, WordCache, enter_with, finish_with};
 use road_plan::{OutOfMemory, Plan};
 use road_scenario::Scenario;
 use road_scenario::laws::settings_stay_before_touched;
@@ -39,23 +39,23 @@ use std::sync::Arc;
 /// A scenario, a horizon, and the run so far: it shows the road at each step up to the horizon, and what the
 /// detectors count up to there. It never changes; [`Sheet::draft`] goes on from it.
 ///
-/// The run is kept as spans of 64 steps: of each the road at its first step and what each detector counts in it; then
-/// the span that the horizon cuts, and the road at the horizon. Sheets share the whole spans, 64 on a shelf and all full
+/// The run is kept as intervals of 64 steps: of each the road at its first step and what each detector counts in it; then
+/// the interval that the horizon cuts, and the road at the horizon. Sheets share the whole intervals, 64 on a shelf and all full
 /// shelves as one: to go on from a sheet costs no more at a far horizon.
 #[derive(Drop)]
 pub struct Sheet {
     plan: Arc<Plan>,
     known: Both<Scenario, Greatest<u32>>,
-    whole: SharedSpans,
-    cut: Span,
-    last: Road,
+    intervals: SharedIntervals,
+    open: Interval,
+    at_horizon: Road,
 }
 
 impl Model for Sheet {
     ghost use Rattle.std.specs.Arc.{arc_value};
     ghost use Rattle.std.specs.Coded.{codes};
     ghost use Rattle.road_scenario.specs.Instances.EditOrder.{edits_code};
-    ghost use Rattle.road_sheet.specs.Private.Spans.{IsRunOf};
+    ghost use Rattle.road_sheet.specs.Private.Intervals.{IsRunOf};
     ghost use Rattle.road_sheet.specs.Sheets.{Sheet, horizon_of};
 
     ghost Value = { Sheet };
@@ -70,31 +70,31 @@ impl Model for Sheet {
 
     ghost invariant = { λ s. IsRunOf
         (record { plan = arc_value s.plan; edits = s.known.first; horizon = horizon_of s.known.second })
-        s.whole s.cut s.last };
+        s.intervals s.open s.at_horizon };
 }
 
 impl Sheet {
-    ghost use Rattle.road_sheet.specs.Private.CarriedSettings.{AreCarried};
+    ghost use Rattle.road_sheet.specs.Private.SettingsCache.{AreCached};
 
     /// The sheet without edits, of which no step is simulated.
     ///
     /// # Errors
     ///
-    /// `OutOfMemory` where a growth was refused.
+    /// `OutOfMemory` where an allocation failed.
     pub fn opening(alloc: Global, plan: Arc<Plan>) -> Result<Sheet, OutOfMemory>
         ensures { IfOk result (λ sheet. sheet ≡ opening_sheet (arc_value plan)) }
     {
-        let cut = Span::begin(alloc, Checkpoint::empty(alloc), plan.detectors().len())?;
-        let whole = SharedSpans::empty(alloc)?;
+        let open = Interval::begin(alloc, Checkpoint::empty(alloc), plan.detectors().len())?;
+        let intervals = SharedIntervals::empty(alloc)?;
         Ok(Sheet {
             plan,
             known: Both {
                 first: Scenario::empty(alloc),
                 second: Greatest::Nothing,
             },
-            whole,
-            cut,
-            last: Road::empty(alloc),
+            intervals,
+            open,
+            at_horizon: Road::empty(alloc),
         })
     }
 
@@ -127,20 +127,20 @@ impl Sheet {
     pub fn known(&self)
         ensures { IsSheet self.now }
     {
-        let _ = &self.last;
+        let _ = &self.at_horizon;
     }
 
     /// The road at a step. At most 63 steps are computed for it.
     ///
     /// # Errors
     ///
-    /// `NotSimulated` where the step is above the horizon, else `OutOfMemory` where a growth was refused.
+    /// `NotSimulated` where the step is above the horizon, else `OutOfMemory` where an allocation failed.
     pub fn state(&self, alloc: Global, step: u32) -> Result<Road, SheetFault>
         ensures state { IfOk result (λ road. road ≡ state_of self.now step) }
         ensures accepted { IfOk result (λ _. state_fault self.now step ≡ None) }
         ensures refused { IfErr result (λ fault. IsRefusalBy (state_fault self.now step) fault) }
     {
-        let mut words = DrawnWords::of(alloc, &self.plan);
+        let mut words = WordCache::of(alloc, &self.plan);
         self.state_with(alloc, step, &mut words)
     }
 
@@ -149,13 +149,13 @@ impl Sheet {
     ///
     /// # Errors
     ///
-    /// `NotSimulated` where the step is above the horizon, else `OutOfMemory` where a growth was refused. The words are
+    /// `NotSimulated` where the step is above the horizon, else `OutOfMemory` where an allocation failed. The words are
     /// the plan's as before.
     pub fn state_with(
         &self,
         alloc: Global,
         step: u32,
-        words: &mut DrawnWords,
+        words: &mut WordCache,
     ) -> Result<Road, SheetFault>
         requires words { words.old ≡ self.now.plan.words }
         ensures state { IfOk result (λ road. road ≡ state_of self.now step) }
@@ -169,13 +169,13 @@ impl Sheet {
         Ok(self.road_at(alloc, step, words)?)
     }
 
-    /// What a detector counts in the steps from one up to another, that one not among them. The steps of the spans
+    /// What a detector counts in the steps from one up to another, that one not among them. The steps of the intervals
     /// that `from` and `to` cut are computed for it; of the others the counts are kept.
     ///
     /// # Errors
     ///
     /// `NoDetector` where the plan has no such detector, else `Range` where `from` is above `to`, else `NotSimulated`
-    /// where `to` is above the horizon, else `OutOfMemory` where a growth was refused.
+    /// where `to` is above the horizon, else `OutOfMemory` where an allocation failed.
     pub fn totals(
         &self,
         alloc: Global,
@@ -200,29 +200,29 @@ impl Sheet {
     }
 
     // The road at a step.
-    fn road_at(&self, alloc: Global, step: u32, words: &mut DrawnWords) -> Result<Road, OutOfMemory>
+    fn road_at(&self, alloc: Global, step: u32, words: &mut WordCache) -> Result<Road, OutOfMemory>
         requires simulated { step ≤ self.now.horizon }
         requires words { words.old ≡ self.now.plan.words }
         ensures road { IfOk result (λ road. road ≡ state_of self.now step) }
         ensures unchanged { words.new ≡ words.old }
     {
         if step == self.horizon() {
-            return self.last.copied();
+            return self.at_horizon.copied();
         }
-        let span = step / SPAN_STEPS;
-        let state = self.state_in(alloc, span, step, words)?;
+        let interval = step / INTERVAL_STEPS;
+        let state = self.state_in(alloc, interval, step, words)?;
         Ok(state.road)
     }
 
-    // The state at a step of a span, from the road at the span's first step.
+    // The state at a step of an interval, from the road at the interval's first step.
     fn state_in(
         &self,
         alloc: Global,
-        span: u32,
+        interval: u32,
         step: u32,
-        words: &mut DrawnWords,
+        words: &mut WordCache,
     ) -> Result<State, OutOfMemory>
-        requires begun { SPAN_STEPS * span ≤ step }
+        requires begun { INTERVAL_STEPS * interval ≤ step }
         requires simulated { step ≤ self.now.horizon }
         requires words { words.old ≡ self.now.plan.words }
         ensures step { IfOk result (λ state. state.step ≡ step) }
@@ -230,33 +230,33 @@ impl Sheet {
         ensures unchanged { words.new ≡ words.old }
     {
         let first = State {
-            step: span * SPAN_STEPS,
-            road: self.span(span as usize).start.road(alloc)?,
+            step: interval * INTERVAL_STEPS,
+            road: self.interval(interval as usize).start.road(alloc)?,
         };
         run_on(alloc, &self.plan, &self.known.first, first, step, words)
     }
 
-    // A span.
-    fn span(&self, span: usize) -> &Span
-        requires { SPAN_STEPS * span ≤ self.now.horizon }
-        ensures { IsSpan self.now.plan self.now.edits (SPAN_STEPS * span)
-            (min (SPAN_STEPS * span + SPAN_STEPS) self.now.horizon) result.now }
+    // An interval.
+    fn interval(&self, interval: usize) -> &Interval
+        requires { INTERVAL_STEPS * interval ≤ self.now.horizon }
+        ensures { IsInterval self.now.plan self.now.edits (INTERVAL_STEPS * interval)
+            (min (INTERVAL_STEPS * interval + INTERVAL_STEPS) self.now.horizon) result.now }
     {
-        if span < self.whole_spans() {
-            self.whole.get(span)
+        if interval < self.whole_intervals() {
+            self.intervals.get(interval)
         } else {
-            &self.cut
+            &self.open
         }
     }
 
-    // How many spans are whole.
-    fn whole_spans(&self) -> usize
-        ensures { result ≡ self.now.horizon / SPAN_STEPS }
+    // How many intervals are whole.
+    fn whole_intervals(&self) -> usize
+        ensures { result ≡ self.now.horizon / INTERVAL_STEPS }
     {
-        (self.horizon() / SPAN_STEPS) as usize
+        (self.horizon() / INTERVAL_STEPS) as usize
     }
 
-    // What a detector counts in some steps, span by span.
+    // What a detector counts in some steps, interval by interval.
     fn totals_between(
         &self,
         alloc: Global,
@@ -272,40 +272,40 @@ impl Sheet {
         self.known();
         totals_are_bounded(&self.plan);
         let mut totals = Totals { cars: 0, speeds: 0 };
-        for span in from / SPAN_STEPS..to.div_ceil(SPAN_STEPS) {
-            let first = span * SPAN_STEPS;
+        for interval in from / INTERVAL_STEPS..to.div_ceil(INTERVAL_STEPS) {
+            let first = interval * INTERVAL_STEPS;
             let begin = first.max(from);
-            let end = (first + SPAN_STEPS).min(to);
-            let counted = self.totals_in(alloc, detector, span, begin, end)?;
+            let end = (first + INTERVAL_STEPS).min(to);
+            let counted = self.totals_in(alloc, detector, interval, begin, end)?;
             totals = totals.plus(counted);
         }
         Ok(totals)
     }
 
-    // What a detector counts in some steps of a span: it is kept where these are all that are simulated.
+    // What a detector counts in some steps of an interval: it is kept where these are all that are simulated.
     fn totals_in(
         &self,
         alloc: Global,
         detector: u32,
-        span: u32,
+        interval: u32,
         from: u32,
         to: u32,
     ) -> Result<Totals, OutOfMemory>
         requires in_plan { detector < length self.now.plan.detectors }
-        requires begun { SPAN_STEPS * span ≤ from }
+        requires begun { INTERVAL_STEPS * interval ≤ from }
         requires order { from ≤ to }
-        requires ended { to ≤ SPAN_STEPS * span + SPAN_STEPS }
+        requires ended { to ≤ INTERVAL_STEPS * interval + INTERVAL_STEPS }
         requires simulated { to ≤ self.now.horizon }
         ensures { IfOk result (λ totals. totals ≡ total_of self.now detector from to) }
     {
         self.known();
-        let first = span * SPAN_STEPS;
-        let end = (first + SPAN_STEPS).min(self.horizon());
+        let first = interval * INTERVAL_STEPS;
+        let end = (first + INTERVAL_STEPS).min(self.horizon());
         if from == first && to == end {
-            return Ok(self.span(span as usize).totals[detector as usize]);
+            return Ok(self.interval(interval as usize).totals[detector as usize]);
         }
-        let mut words = DrawnWords::of(alloc, &self.plan);
-        let state = self.state_in(alloc, span, from, &mut words)?;
+        let mut words = WordCache::of(alloc, &self.plan);
+        let state = self.state_in(alloc, interval, from, &mut words)?;
         let (totals, _) = totals_with(
             alloc,
             &self.plan,
@@ -319,14 +319,14 @@ impl Sheet {
     }
 
     /// The run of this sheet's edits with a scenario joined in, as far as it is there already: a draft that goes on
-    /// from the horizon where that is `keep`, and else from the first step of the span of `keep`.
+    /// from the horizon where that is `keep`, and else from the first step of the interval of `keep`.
     ///
     /// The scenario must fit the plan; `keep` must not be above the horizon, nor above the first step at which the
     /// joined scenario puts other numbers.
     ///
     /// # Errors
     ///
-    /// `OutOfMemory` where a growth was refused, or a span can have no more owners.
+    /// `OutOfMemory` where an allocation failed, or an interval can have no more owners.
     pub fn draft(&self, alloc: Global, scenario: &Scenario, keep: u32) -> Result<Draft, OutOfMemory>
         requires fits { AreInRange self.now.plan scenario.now }
         requires simulated { keep ≤ self.now.horizon }
@@ -346,7 +346,7 @@ impl Sheet {
     ///
     /// # Errors
     ///
-    /// `OutOfMemory` where a growth was refused, or a span can have no more owners.
+    /// `OutOfMemory` where an allocation failed, or an interval can have no more owners.
     pub fn draft_of(&self, alloc: Global, joined: Scenario, keep: u32) -> Result<Draft, OutOfMemory>
         requires fits { AreInRange self.now.plan joined }
         requires simulated { keep ≤ self.now.horizon }
@@ -361,20 +361,20 @@ impl Sheet {
         settings_stay_before_touched();
         runs_depend_on_earlier_settings(&self.plan);
         let sheet = if keep == self.horizon() {
-            self.going_on(alloc, joined)?
+            self.resume_at_horizon(alloc, joined)?
         } else {
-            self.cut_back(alloc, joined, keep / SPAN_STEPS)?
+            self.resume_at_checkpoint(alloc, joined, keep / INTERVAL_STEPS)?
         };
-        let words = DrawnWords::of(alloc, &self.plan);
+        let words = WordCache::of(alloc, &self.plan);
         Ok(Draft {
             sheet,
-            settings: CarriedSettings::none(),
+            settings: SettingsCache::none(),
             words,
         })
     }
 
     // The sheet with other edits, which give the same run up to the horizon.
-    fn going_on(&self, alloc: Global, scenario: Scenario) -> Result<Sheet, OutOfMemory>
+    fn resume_at_horizon(&self, alloc: Global, scenario: Scenario) -> Result<Sheet, OutOfMemory>
         requires winners { AreWinners scenario }
         requires fits { AreInRange self.now.plan scenario }
         requires same { GiveSameRun self.now.plan self.now.edits scenario self.now.horizon }
@@ -384,8 +384,13 @@ impl Sheet {
           horizon = self.now.horizon;
         }) }
     {
-        let (cut, last) = copies(&self.cut, &self.last)?;
-        let (plan, whole) = shared_with_plan(alloc, &self.plan, &self.whole, self.whole_spans())?;
+        let (open, at_horizon) = copies(&self.open, &self.at_horizon)?;
+        let (plan, intervals) = shared_with_plan(
+            alloc,
+            &self.plan,
+            &self.intervals,
+            self.whole_intervals(),
+        )?;
         let known = Both {
             first: scenario,
             second: Greatest::Of(self.horizon()),
@@ -393,37 +398,47 @@ impl Sheet {
         Ok(Sheet {
             plan,
             known,
-            whole,
-            cut,
-            last,
+            intervals,
+            open,
+            at_horizon,
         })
     }
 
-    // The sheet with other edits, which give the same run up to the first step of a span; that step is its horizon.
-    fn cut_back(&self, alloc: Global, scenario: Scenario, span: u32) -> Result<Sheet, OutOfMemory>
+    // The sheet with other edits, which give the same run up to the first step of an interval; that step is its horizon.
+    fn resume_at_checkpoint(
+        &self,
+        alloc: Global,
+        scenario: Scenario,
+        interval: u32,
+    ) -> Result<Sheet, OutOfMemory>
         requires winners { AreWinners scenario }
         requires fits { AreInRange self.now.plan scenario }
-        requires simulated { SPAN_STEPS * span ≤ self.now.horizon }
-        requires same { GiveSameRun self.now.plan self.now.edits scenario (SPAN_STEPS * span) }
+        requires simulated { INTERVAL_STEPS * interval ≤ self.now.horizon }
+        requires same { GiveSameRun self.now.plan self.now.edits scenario (INTERVAL_STEPS * interval) }
         ensures { IfOk result (λ sheet. sheet ≡ record {
           plan = self.now.plan;
           edits = scenario;
-          horizon = SPAN_STEPS * span;
+          horizon = INTERVAL_STEPS * interval;
         }) }
     {
-        let start = &self.span(span as usize).start;
-        let (cut, last) = begun(alloc, start, self.plan.detectors().len())?;
-        let (plan, whole) = shared_with_plan(alloc, &self.plan, &self.whole, span as usize)?;
+        let start = &self.interval(interval as usize).start;
+        let (open, at_horizon) = begun(alloc, start, self.plan.detectors().len())?;
+        let (plan, intervals) = shared_with_plan(
+            alloc,
+            &self.plan,
+            &self.intervals,
+            interval as usize,
+        )?;
         let known = Both {
             first: scenario,
-            second: Greatest::Of(span * SPAN_STEPS),
+            second: Greatest::Of(interval * INTERVAL_STEPS),
         };
         Ok(Sheet {
             plan,
             known,
-            whole,
-            cut,
-            last,
+            intervals,
+            open,
+            at_horizon,
         })
     }
 
@@ -431,28 +446,28 @@ impl Sheet {
     pub(crate) fn next_input(
         &self,
         alloc: Global,
-        settings: &mut CarriedSettings,
-        words: &mut DrawnWords,
+        settings: &mut SettingsCache,
+        words: &mut WordCache,
     ) -> Result<Arc<StepInput>, OutOfMemory>
-        requires carried { AreCarried self.now.plan self.now.edits settings.old }
+        requires cached { AreCached self.now.plan self.now.edits settings.old }
         requires words { words.old ≡ self.now.plan.words }
         ensures input { IfOk result (λ input. arc_value input ≡ next_input self.now) }
-        ensures carried { AreCarried self.now.plan self.now.edits settings.new }
+        ensures cached { AreCached self.now.plan self.now.edits settings.new }
         ensures unchanged { words.new ≡ words.old }
     {
         self.known();
         let step = self.horizon();
         let settings = settings.at(alloc, &self.plan, &self.known.first, step)?;
-        enter_with(alloc, &self.plan, settings, step, &self.last, words)
+        enter_with(alloc, &self.plan, settings, step, &self.at_horizon, words)
     }
 
-    // A step more. What can fail for memory is done before the sheet is changed.
+    // One more step. What can fail for memory is done before the sheet is changed.
     pub(crate) fn grow(
         &mut self,
         alloc: Global,
         input: &StepInput,
         speeds: &[u8],
-        words: &mut DrawnWords,
+        words: &mut WordCache,
     ) -> Result<(), OutOfMemory>
         requires input { input.now ≡ next_input self.old }
         requires speeds { speeds.now ≡ input_speeds input.now }
@@ -462,7 +477,7 @@ impl Sheet {
         ensures words { words.new ≡ words.old }
     {
         let road = finish_with(alloc, input, speeds, words)?;
-        let last = if (self.horizon() + 1) % SPAN_STEPS == 0 {
+        let last = if (self.horizon() + 1) % INTERVAL_STEPS == 0 {
             self.step_to_end(alloc, input, speeds, road)?
         } else {
             self.step_within(input, speeds, road)
@@ -471,39 +486,39 @@ impl Sheet {
         Ok(())
     }
 
-    // A step more that does not end the span; what comes back is the road before it.
+    // One more step that does not end the interval; what comes back is the road before it.
     fn step_within(&mut self, input: &StepInput, speeds: &[u8], road: Road) -> Road
         requires input { input.now ≡ next_input self.old }
         requires speeds { speeds.now ≡ input_speeds input.now }
         requires within_limit { self.old.horizon < GREATEST_HORIZON }
-        requires within_span { (self.old.horizon + 1) % SPAN_STEPS ≢ 0 }
+        requires within_interval { (self.old.horizon + 1) % INTERVAL_STEPS ≢ 0 }
         requires road { road ≡ state_of self.old (self.old.horizon + 1) }
         ensures { self.new ≡ sheet_after_step self.old }
     {
         cars_pass_one_by_one(&self.plan);
         totals_are_bounded(&self.plan);
         let horizon = self.horizon() + 1;
-        self.cut.count(input, speeds);
-        let last = mem::replace(&mut self.last, road);
+        self.open.count(input, speeds);
+        let last = mem::replace(&mut self.at_horizon, road);
         self.known.second = Greatest::Of(horizon);
         last
     }
 
-    // The span that begins with the road of the next step.
-    fn next_span(&self, alloc: Global, road: &Road) -> Result<Span, OutOfMemory>
+    // The interval that begins with the road of the next step.
+    fn next_interval(&self, alloc: Global, road: &Road) -> Result<Interval, OutOfMemory>
         requires within_limit { self.now.horizon < GREATEST_HORIZON }
         requires road { road.now ≡ state_of self.now (self.now.horizon + 1) }
-        ensures start { IfOk result (λ span. span.start ≡ road.now) }
-        ensures totals { IfOk result (λ span. span.totals.items
+        ensures start { IfOk result (λ interval. interval.start ≡ road.now) }
+        ensures totals { IfOk result (λ interval. interval.totals.items
             ≡ replicate (length self.now.plan.detectors) no_totals) }
     {
         self.plan.known();
         cars_stay_on_road(&self.plan);
         let kept = Checkpoint::of(alloc, road)?;
-        Span::begin(alloc, kept, self.plan.detectors().len())
+        Interval::begin(alloc, kept, self.plan.detectors().len())
     }
 
-    // A step more that ends the span; what comes back is the road before it. What can fail for memory is done before
+    // One more step that ends the interval; what comes back is the road before it. What can fail for memory is done before
     // the sheet is changed.
     fn step_to_end(
         &mut self,
@@ -515,7 +530,7 @@ impl Sheet {
         requires input { input.now ≡ next_input self.old }
         requires speeds { speeds.now ≡ input_speeds input.now }
         requires within_limit { self.old.horizon < GREATEST_HORIZON }
-        requires at_end { (self.old.horizon + 1) % SPAN_STEPS ≡ 0 }
+        requires at_end { (self.old.horizon + 1) % INTERVAL_STEPS ≡ 0 }
         requires road { road ≡ state_of self.old (self.old.horizon + 1) }
         ensures grown { OnOk result (self.new ≡ sheet_after_step self.old) }
         ensures unchanged { OnErr result (self.new ≡ self.old) }
@@ -523,49 +538,53 @@ impl Sheet {
         cars_pass_one_by_one(&self.plan);
         totals_are_bounded(&self.plan);
         let horizon = self.horizon() + 1;
-        let next = self.next_span(alloc, &road)?;
-        let mut ended = self.cut.copied()?;
+        let next = self.next_interval(alloc, &road)?;
+        let mut ended = self.open.copied()?;
         ended.count(input, speeds);
-        self.whole.push(alloc, ended)?;
-        self.cut = next;
-        let last = mem::replace(&mut self.last, road);
+        self.intervals.push(alloc, ended)?;
+        self.open = next;
+        let last = mem::replace(&mut self.at_horizon, road);
         self.known.second = Greatest::Of(horizon);
         Ok(last)
     }
 }
 
-// The span that begins at a checkpoint, and the road there.
-fn begun(alloc: Global, start: &Checkpoint, detectors: usize) -> Result<(Span, Road), OutOfMemory>
+// The interval that begins at a checkpoint, and the road there.
+fn begun(
+    alloc: Global,
+    start: &Checkpoint,
+    detectors: usize,
+) -> Result<(Interval, Road), OutOfMemory>
     ensures start { IfOk result (λ begun. begun.0.start ≡ start.now) }
     ensures totals { IfOk result (λ begun. begun.0.totals.items ≡ replicate detectors no_totals) }
     ensures road { IfOk result (λ begun. begun.1 ≡ start.now) }
 {
     let road = start.road(alloc)?;
-    let span = Span::begin(alloc, start.copied()?, detectors)?;
-    Ok((span, road))
+    let interval = Interval::begin(alloc, start.copied()?, detectors)?;
+    Ok((interval, road))
 }
 
-// An equal span and an equal road.
-fn copies(span: &Span, road: &Road) -> Result<(Span, Road), OutOfMemory>
-    ensures start { IfOk result (λ copies. copies.0.start ≡ span.now.start) }
-    ensures totals { IfOk result (λ copies. copies.0.totals.items ≡ span.now.totals.items) }
+// An equal interval and an equal road.
+fn copies(interval: &Interval, road: &Road) -> Result<(Interval, Road), OutOfMemory>
+    ensures start { IfOk result (λ copies. copies.0.start ≡ interval.now.start) }
+    ensures totals { IfOk result (λ copies. copies.0.totals.items ≡ interval.now.totals.items) }
     ensures road { IfOk result (λ copies. copies.1 ≡ road.now) }
 {
-    let copy = span.copied()?;
+    let copy = interval.copied()?;
     Ok((copy, road.copied()?))
 }
 
-// A plan, and the first of these spans, shared.
+// A plan, and the first of these intervals, shared.
 fn shared_with_plan(
     alloc: Global,
     plan: &Arc<Plan>,
-    spans: &SharedSpans,
+    intervals: &SharedIntervals,
     count: usize,
-) -> Result<(Arc<Plan>, SharedSpans), OutOfMemory>
-    requires { count ≤ length spans.now }
+) -> Result<(Arc<Plan>, SharedIntervals), OutOfMemory>
+    requires { count ≤ length intervals.now }
     ensures plan { IfOk result (λ shared. arc_value shared.0 ≡ arc_value plan.now) }
-    ensures spans { IfOk result (λ shared. shared.1 ≡ take count spans.now) }
+    ensures intervals { IfOk result (λ shared. shared.1 ≡ take count intervals.now) }
 {
-    let whole = spans.first(alloc, count)?;
-    Ok((Arc::try_clone(plan)?, whole))
+    let intervals = intervals.first(alloc, count)?;
+    Ok((Arc::try_clone(plan)?, shared))
 }

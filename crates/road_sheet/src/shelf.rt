@@ -1,72 +1,72 @@
-//! Shelves: a few spans, each shared.
+//! Shelves: a few intervals, each shared.
 
 ghost use Rattle.std.specs.Prelude.{◌≡◌, ◌<◌, ◌≤◌, ◌++◌, ◌∷◌, [], IfOk, OnErr, OnOk, Some, length, map, slice_get, take};
 ghost use Rattle.std.specs.Arc.{arc_value};
 
 use crate::OutOfMemory;
-use crate::span::Span;
+use crate::interval::Interval;
 use std::alloc::Global;
 use std::marker::Model;
 use std::sync::Arc;
 
-// Spans in order, each of them shared. Contracts see the list of spans.
+// Intervals in order, each of them shared. Contracts see the list of intervals.
 #[derive(Drop)]
 pub(crate) struct Shelf {
-    spans: Vec<Arc<Span>>,
+    intervals: Vec<Arc<Interval>>,
 }
 
 impl Model for Shelf {
     ghost use Rattle.std.specs.Prelude.{List, map};
     ghost use Rattle.std.specs.Arc.{arc_value};
-    ghost use Rattle.road_sheet.specs.declared.span.Span.{Span};
+    ghost use Rattle.road_sheet.specs.declared.interval.Interval.{Interval};
 
-    ghost Value = { List Span };
+    ghost Value = { List Interval };
 
-    ghost view = { λ shelf. map arc_value shelf.spans.items };
+    ghost view = { λ shelf. map arc_value shelf.intervals.items };
 }
 
 impl Shelf {
-    // No spans. It takes no memory.
+    // No intervals. It takes no memory.
     pub(crate) fn empty(alloc: Global) -> Shelf
         ensures { result ≡ [] }
     {
         Shelf {
-            spans: Vec::new(alloc),
+            intervals: Vec::new(alloc),
         }
     }
 
-    // How many spans it has.
+    // How many intervals it has.
     pub(crate) fn len(&self) -> usize
         ensures { result ≡ length self.now }
     {
-        self.spans.len()
+        self.intervals.len()
     }
 
-    // A span.
-    pub(crate) fn get(&self, index: usize) -> &Span
+    // An interval.
+    pub(crate) fn get(&self, index: usize) -> &Interval
         requires { index < length self.now }
         ensures { slice_get self.now index ≡ Some result.now }
     {
-        &self.spans[index]
+        &self.intervals[index]
     }
 
-    // Puts a span behind the others. Where it is refused, these are as they were.
-    pub(crate) fn push(&mut self, alloc: Global, span: Span) -> Result<(), OutOfMemory>
-        ensures pushed { OnOk result (self.new ≡ self.old ++ span ∷ []) }
+    // Puts an interval behind the others. Where it is refused, these are as they were.
+    pub(crate) fn push(&mut self, alloc: Global, interval: Interval) -> Result<(), OutOfMemory>
+        ensures pushed { OnOk result (self.new ≡ self.old ++ interval ∷ []) }
         ensures unchanged { OnErr result (self.new ≡ self.old) }
     {
-        let span = Arc::new(alloc, span)?;
-        self.spans.push(span)?;
+        let interval = Arc::new(alloc, interval)?;
+        self.intervals.push(interval)?;
         Ok(())
     }
 
-    // The first spans, shared.
+    // The first intervals, shared.
     pub(crate) fn first(&self, alloc: Global, count: usize) -> Result<Shelf, OutOfMemory>
         requires { count ≤ length self.now }
         ensures { IfOk result (λ first. first ≡ take count self.now) }
     {
-        let spans = shared(alloc, &self.spans, count)?;
-        Ok(Shelf { spans })
+        let intervals = shared(alloc, &self.intervals, count)?;
+        Ok(Shelf { intervals })
     }
 }
 

@@ -9,14 +9,14 @@ ghost use Rattle.road_plan.specs.declared.limits.TheConstants.{GREATEST_HORIZON}
 ghost use Rattle.road_scenario.specs.Faults.{AreInRange};
 ghost use Rattle.road_scenario.specs.Settings.{settings_of};
 ghost use Rattle.road_ends.specs.Input.{input_of, input_speeds};
-ghost use Rattle.road_sheet.specs.Private.CarriedSettings.{AreCarried};
+ghost use Rattle.road_sheet.specs.Private.SettingsCache.{AreCached};
 ghost use Rattle.road_sheet.specs.Shown.{run_at, row_at, rows_at, total_at};
 
-use crate::carried::CarriedSettings;
+use crate::settings_cache::SettingsCache;
 use road_cells::Road;
 use road_detector::laws::{cars_have_digits, cars_pass_one_by_one, totals_are_bounded};
 use road_detector::{Totals, passes, row_text};
-use road_ends::{DrawnWords, Stepped, step_with};
+use road_ends::{Stepped, WordCache, step_with};
 use road_plan::{OutOfMemory, Plan};
 use road_scenario::Scenario;
 use std::alloc::Global;
@@ -63,7 +63,7 @@ impl State {
 ///
 /// # Errors
 ///
-/// `OutOfMemory` where a growth was refused, or the settings can have no more owners.
+/// `OutOfMemory` where an allocation failed, or the settings can have no more owners.
 pub fn state_at(
     alloc: Global,
     plan: &Arc<Plan>,
@@ -76,7 +76,7 @@ pub fn state_at(
     ensures step { IfOk result (λ state. state.step ≡ step) }
     ensures road { IfOk result (λ state. state.road ≡ run_at (arc_value plan.now) scenario.now step) }
 {
-    let mut words = DrawnWords::of(alloc, plan);
+    let mut words = WordCache::of(alloc, plan);
     state_with(alloc, plan, scenario, last, step, &mut words)
 }
 
@@ -85,7 +85,7 @@ pub fn state_at(
 ///
 /// # Errors
 ///
-/// `OutOfMemory` where a growth was refused, or the settings can have no more owners. The words are the plan's as
+/// `OutOfMemory` where an allocation failed, or the settings can have no more owners. The words are the plan's as
 /// before.
 pub fn state_with(
     alloc: Global,
@@ -93,7 +93,7 @@ pub fn state_with(
     scenario: &Scenario,
     last: &State,
     step: u32,
-    words: &mut DrawnWords,
+    words: &mut WordCache,
 ) -> Result<State, OutOfMemory>
     requires fits { AreInRange (arc_value plan.now) scenario.now }
     requires run { last.now.road ≡ run_at (arc_value plan.now) scenario.now last.now.step }
@@ -116,7 +116,7 @@ pub(crate) fn run_on(
     scenario: &Scenario,
     first: State,
     step: u32,
-    words: &mut DrawnWords,
+    words: &mut WordCache,
 ) -> Result<State, OutOfMemory>
     requires fits { AreInRange (arc_value plan.now) scenario.now }
     requires before { first.step ≤ step }
@@ -128,7 +128,7 @@ pub(crate) fn run_on(
 {
     let from = first.step;
     let mut road = first.road;
-    let mut settings = CarriedSettings::none();
+    let mut settings = SettingsCache::none();
     for now in from..step {
         let stepped = next(alloc, plan, scenario, now, &road, &mut settings, words)?;
         let Stepped {
@@ -149,18 +149,18 @@ fn next(
     scenario: &Scenario,
     step: u32,
     road: &Road,
-    settings: &mut CarriedSettings,
-    words: &mut DrawnWords,
+    settings: &mut SettingsCache,
+    words: &mut WordCache,
 ) -> Result<Stepped, OutOfMemory>
     requires fits { AreInRange (arc_value plan.now) scenario.now }
     requires run { road.now ≡ run_at (arc_value plan.now) scenario.now step }
-    requires carried { AreCarried (arc_value plan.now) scenario.now settings.old }
+    requires cached { AreCached (arc_value plan.now) scenario.now settings.old }
     requires words { words.old ≡ (arc_value plan.now).words }
     ensures input { IfOk result (λ done. arc_value done.input
         ≡ input_of (arc_value plan.now) (settings_of (arc_value plan.now) scenario.now step) step road.now) }
     ensures speeds { IfOk result (λ done. done.speeds.items ≡ input_speeds (arc_value done.input)) }
     ensures road { IfOk result (λ done. done.road ≡ run_at (arc_value plan.now) scenario.now (step + 1)) }
-    ensures carried { AreCarried (arc_value plan.now) scenario.now settings.new }
+    ensures cached { AreCached (arc_value plan.now) scenario.now settings.new }
     ensures unchanged { words.new ≡ words.old }
 {
     let settings = settings.at(alloc, plan, scenario, step)?;
@@ -174,7 +174,7 @@ fn next(
 ///
 /// # Errors
 ///
-/// `OutOfMemory` where a growth was refused.
+/// `OutOfMemory` where an allocation failed.
 #[tactic(auto, unfolding(crate::specs::Shown::row_at))]
 pub fn row_of(
     alloc: Global,
@@ -199,7 +199,7 @@ pub fn row_of(
 ///
 /// # Errors
 ///
-/// `OutOfMemory` where a growth was refused, or the settings can have no more owners.
+/// `OutOfMemory` where an allocation failed, or the settings can have no more owners.
 pub fn rows_between(
     alloc: Global,
     plan: &Arc<Plan>,
@@ -216,7 +216,7 @@ pub fn rows_between(
     ensures step { IfOk result (λ seen. seen.1.step ≡ to) }
     ensures road { IfOk result (λ seen. seen.1.road ≡ run_at (arc_value plan.now) scenario.now seen.1.step) }
 {
-    let mut words = DrawnWords::of(alloc, plan);
+    let mut words = WordCache::of(alloc, plan);
     rows_with(alloc, plan, scenario, first, to, &mut words)
 }
 
@@ -225,7 +225,7 @@ pub fn rows_between(
 ///
 /// # Errors
 ///
-/// `OutOfMemory` where a growth was refused, or the settings can have no more owners. The words are the plan's as
+/// `OutOfMemory` where an allocation failed, or the settings can have no more owners. The words are the plan's as
 /// before.
 pub fn rows_with(
     alloc: Global,
@@ -233,7 +233,7 @@ pub fn rows_with(
     scenario: &Scenario,
     first: State,
     to: u32,
-    words: &mut DrawnWords,
+    words: &mut WordCache,
 ) -> Result<(Vec<String>, State), OutOfMemory>
     requires fits { AreInRange (arc_value plan.now) scenario.now }
     requires before { first.step ≤ to }
@@ -248,7 +248,7 @@ pub fn rows_with(
 {
     let from = first.step;
     let mut state = first;
-    let mut settings = CarriedSettings::none();
+    let mut settings = SettingsCache::none();
     let mut rows = Vec::new(alloc);
     rows.push(row_of(alloc, plan, scenario, &state)?)?;
     for step in from..to {
@@ -264,19 +264,19 @@ fn next_row(
     plan: &Arc<Plan>,
     scenario: &Scenario,
     state: &mut State,
-    settings: &mut CarriedSettings,
-    words: &mut DrawnWords,
+    settings: &mut SettingsCache,
+    words: &mut WordCache,
 ) -> Result<String, OutOfMemory>
     requires fits { AreInRange (arc_value plan.now) scenario.now }
     requires horizon { state.old.step < GREATEST_HORIZON }
     requires run { state.old.road ≡ run_at (arc_value plan.now) scenario.now state.old.step }
-    requires carried { AreCarried (arc_value plan.now) scenario.now settings.old }
+    requires cached { AreCached (arc_value plan.now) scenario.now settings.old }
     requires words { words.old ≡ (arc_value plan.now).words }
     ensures row { IfOk result (λ row. string_bytes row
         ≡ row_at (arc_value plan.now) scenario.now (state.old.step + 1)) }
     ensures step { OnOk result (state.new.step ≡ state.old.step + 1) }
     ensures road { OnOk result (state.new.road ≡ run_at (arc_value plan.now) scenario.now (state.old.step + 1)) }
-    ensures carried { AreCarried (arc_value plan.now) scenario.now settings.new }
+    ensures cached { AreCached (arc_value plan.now) scenario.now settings.new }
     ensures unchanged { words.new ≡ words.old }
 {
     let step = state.step;
@@ -295,7 +295,7 @@ fn next_row(
 ///
 /// # Errors
 ///
-/// `OutOfMemory` where a growth was refused, or the settings can have no more owners.
+/// `OutOfMemory` where an allocation failed, or the settings can have no more owners.
 pub fn totals_between(
     alloc: Global,
     plan: &Arc<Plan>,
@@ -313,7 +313,7 @@ pub fn totals_between(
     ensures step { IfOk result (λ seen. seen.1.step ≡ to) }
     ensures road { IfOk result (λ seen. seen.1.road ≡ run_at (arc_value plan.now) scenario.now seen.1.step) }
 {
-    let mut words = DrawnWords::of(alloc, plan);
+    let mut words = WordCache::of(alloc, plan);
     totals_with(alloc, plan, scenario, first, detector, to, &mut words)
 }
 
@@ -322,7 +322,7 @@ pub fn totals_between(
 ///
 /// # Errors
 ///
-/// `OutOfMemory` where a growth was refused, or the settings can have no more owners. The words are the plan's as
+/// `OutOfMemory` where an allocation failed, or the settings can have no more owners. The words are the plan's as
 /// before.
 pub fn totals_with(
     alloc: Global,
@@ -331,7 +331,7 @@ pub fn totals_with(
     first: State,
     detector: u32,
     to: u32,
-    words: &mut DrawnWords,
+    words: &mut WordCache,
 ) -> Result<(Totals, State), OutOfMemory>
     requires fits { AreInRange (arc_value plan.now) scenario.now }
     requires in_plan { detector < length (arc_value plan.now).detectors }
@@ -347,7 +347,7 @@ pub fn totals_with(
     let from = first.step;
     let mut road = first.road;
     let mut totals = Totals { cars: 0, speeds: 0 };
-    let mut settings = CarriedSettings::none();
+    let mut settings = SettingsCache::none();
     cars_pass_one_by_one(plan);
     totals_are_bounded(plan);
     for step in from..to {

@@ -1,4 +1,4 @@
--- Lemmas on words and their rows, and worked examples.
+-- Lemmas on words and their batches, and worked examples.
 pub mod WordSizes
-pub mod RowsOfWords
+pub mod BatchesOfWords
 mod Examples

@@ -3,7 +3,7 @@
 ghost use Rattle.std.specs.Prelude.{◌≡◌, ◌<◌, ◌+◌, ◌/◌, ℕ, slice_index};
 ghost use Rattle.road_words.specs.Words.{seeded_word};
 
-use crate::words::{ROW_WORDS, Words};
+use crate::words::{BATCH_WORDS, Words};
 use rand_chacha::ChaCha8Rng;
 use rand_core::SeedableRng;
 use rand_core::utils::NextWord;
@@ -27,18 +27,18 @@ impl ChaChaWords {
     }
 
     /// The upper 16 bits of the words of a stream at the places from `first` on, by one generator. Takes no memory.
-    pub fn row(&self, stream: u64, first: u32) -> [u16; ROW_WORDS]
-        ensures { (i : ℕ) → i < ROW_WORDS →
+    pub fn batch(&self, stream: u64, first: u32) -> [u16; BATCH_WORDS]
+        ensures { (i : ℕ) → i < BATCH_WORDS →
             slice_index result i ≡ ⟦<ChaChaWords as Words>⟧.word_of self.now stream (first + i) / 65536 }
     {
         let mut generator = ChaCha8Rng::from_seed(self.key);
         generator.set_stream(stream);
         generator.set_word_pos(u128::from(first));
-        let mut halves = [0u16; ROW_WORDS];
-        for place in 0..ROW_WORDS {
-            halves[place] = (generator.next_word() >> 16) as u16;
+        let mut high16s = [0u16; BATCH_WORDS];
+        for place in 0..BATCH_WORDS {
+            high16s[place] = (generator.next_word() >> 16) as u16;
         }
-        halves
+        high16s
     }
 }
 

@@ -5,7 +5,7 @@ ghost use Rattle.road_words.specs.Words.{word};
 
 use crate::chacha::ChaChaWords;
 use crate::steady::SteadyWords;
-use crate::words::{ROW_WORDS, Words};
+use crate::words::{BATCH_WORDS, Words};
 use road_plan::{Plan, WordKind};
 
 /// The words that a plan names.
@@ -39,13 +39,13 @@ impl PlanWords {
 
     /// The upper 16 bits of the words of a stream at the places from `first` on, which one generator gives at once.
     /// Takes no memory.
-    pub fn row(&self, stream: u64, first: u32) -> [u16; ROW_WORDS]
-        ensures { (i : ℕ) → i < ROW_WORDS →
+    pub fn batch(&self, stream: u64, first: u32) -> [u16; BATCH_WORDS]
+        ensures { (i : ℕ) → i < BATCH_WORDS →
             slice_index result i ≡ ⟦<PlanWords as Words>⟧.word_of self.now stream (first + i) / 65536 }
     {
         match self {
-            PlanWords::Seeded(words) => words.row(stream, first),
-            PlanWords::Steady(words) => words.row(stream, first),
+            PlanWords::Seeded(words) => words.batch(stream, first),
+            PlanWords::Steady(words) => words.batch(stream, first),
         }
     }
 }

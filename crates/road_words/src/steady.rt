@@ -2,7 +2,7 @@
 
 ghost use Rattle.std.specs.Prelude.{◌≡◌, ◌<◌, ◌+◌, ◌/◌, ℕ, slice_index};
 
-use crate::words::{ROW_WORDS, Words};
+use crate::words::{BATCH_WORDS, Words};
 
 /// Words for tests and worked examples, plain enough to be worked out by hand. They are no random words.
 #[derive(Clone, Copy, Debug, PartialEq, Eq)]
@@ -10,15 +10,15 @@ pub struct SteadyWords;
 
 impl SteadyWords {
     /// The upper 16 bits of the words of a stream at the places from `first` on. Takes no memory.
-    pub fn row(&self, stream: u64, first: u32) -> [u16; ROW_WORDS]
-        ensures { (i : ℕ) → i < ROW_WORDS →
+    pub fn batch(&self, stream: u64, first: u32) -> [u16; BATCH_WORDS]
+        ensures { (i : ℕ) → i < BATCH_WORDS →
             slice_index result i ≡ ⟦<SteadyWords as Words>⟧.word_of self.now stream (first + i) / 65536 }
     {
-        let mut halves = [0u16; ROW_WORDS];
-        for place in 0..ROW_WORDS {
-            halves[place] = (self.word(stream, u64::from(first) + place as u64) >> 16) as u16;
+        let mut high16s = [0u16; BATCH_WORDS];
+        for place in 0..BATCH_WORDS {
+            high16s[place] = (self.word(stream, u64::from(first) + place as u64) >> 16) as u16;
         }
-        halves
+        high16s
     }
 }
 

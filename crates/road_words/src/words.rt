@@ -3,7 +3,7 @@
 ghost use Rattle.std.specs.Prelude.{◌≡◌, ℕ};
 
 /// How many words, one after another in a stream, are drawn at once.
-pub const ROW_WORDS: usize = 64;
+pub const BATCH_WORDS: usize = 64;
 
 /// A source of random words.
 pub trait Words {

@@ -20,7 +20,7 @@ pub trait Crew {
     ///
     /// # Errors
     ///
-    /// `WorkersGone` where a worker could not be started or has gone, else `OutOfMemory` where a growth is refused.
+    /// `WorkersGone` where a worker could not be started or has gone, else `OutOfMemory` where an allocation failed.
     fn speeds(&mut self, alloc: Global, input: &Arc<StepInput>) -> Result<Vec<u8>, CrewFault>
         ensures speeds { IfOk result (λ new. new.items ≡ input_speeds (arc_value input.now)) }
         ensures gone { times_gone self.new ≡ gone_after result (times_gone self.old) };

@@ -8,7 +8,7 @@ ghost use Rattle.road_workers.specs.Private.Pieces.{piece_start};
 use road_ends::{OutOfMemory, StepInput};
 use std::alloc::Global;
 
-// The speeds of a piece, or want of memory.
+// The speeds of a piece, or out of memory.
 pub(crate) type PieceAnswer = Result<Vec<u8>, OutOfMemory>;
 
 // A piece of the list of cars: the places from `first` to before `end`.

@@ -11,7 +11,7 @@ ghost use Rattle.road_workers.specs.declared.faults.CrewFault.TheVariants.{Worke
 
 mod gathering;
 mod job;
-mod waiting;
+mod spin;
 mod working;
 
 use crate::crew::{Crew, gone_after};
@@ -20,7 +20,7 @@ use crate::gate::{Gate, NoGate};
 use crate::piece::{Piece, PieceAnswer, cars_in, list_for};
 use crate::pool::gathering::{is_taken, places_for, put_together};
 use crate::pool::job::{Done, Job};
-use crate::pool::waiting::{looks_of, stay_awake};
+use crate::pool::spin::{looks_of, stay_awake};
 use crate::pool::working::work;
 use crossbeam_channel::{Receiver, SendError, Sender, bounded};
 use road_ends::{OutOfMemory, StepInput};
@@ -68,7 +68,7 @@ impl<R: Threads + Wait + Clone + Drop + Send + 'static> Pool<R> {
     ///
     /// # Errors
     ///
-    /// `WorkersGone` where a thread cannot be started, else `OutOfMemory` where a growth is refused.
+    /// `WorkersGone` where a thread cannot be started, else `OutOfMemory` where an allocation failed.
     pub fn start(rt: R, alloc: Global, workers: u32) -> Result<Pool<R>, CrewFault>
         requires some { 0 < workers }
         requires few { workers ≤ MOST_WORKERS }
@@ -82,7 +82,7 @@ impl<R: Threads + Wait + Clone + Drop + Send + 'static> Pool<R> {
     ///
     /// # Errors
     ///
-    /// `WorkersGone` where a thread cannot be started, else `OutOfMemory` where a growth is refused.
+    /// `WorkersGone` where a thread cannot be started, else `OutOfMemory` where an allocation failed.
     pub fn start_gated<G: Gate + Drop + Send + Sync + 'static>(
         rt: R,
         alloc: Global,

@@ -15,7 +15,7 @@ use Rattle.road_world.specs.declared.faults.WorldFault.{WorldFault}
 use Rattle.road_world.specs.declared.faults.WorldFault.TheVariants as faults
 use Rattle.road_world.specs.declared.faults.WorldFault.TheVariants.{NoReplica}
 
--- a write: it may be refused for lost workers or want of memory
+-- a write: it may be refused for lost workers or out of memory
 abbrev pub IsWrite : Event → Type 0
 IsWrite event = (fault : WorldFault) → (fault ≡ faults.Replica WorkersGone) ⊎ (fault ≡ faults.Replica OutOfMemory) → IsUnnamedRefusal event fault
 

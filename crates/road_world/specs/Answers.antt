@@ -104,7 +104,7 @@ fault_of_event w event = if nat_lt (replica_number event) (length w.replicas) th
 
 -- ---- the answer to any event
 
--- where no cause is named, a message is refused for want of memory, and a write for that or for lost workers
+-- where no cause is named, a message is refused for out of memory, and a write for that or for lost workers
 abbrev pub IsUnnamedRefusal : Event → WorldFault → Type 0
 IsUnnamedRefusal (Send r) fault = fault ≡ faults.Replica OutOfMemory
 IsUnnamedRefusal (Heads r) fault = fault ≡ faults.Replica OutOfMemory

@@ -30,6 +30,6 @@ pub use faults::{PlayFault, WorldFault};
 pub use message::Message;
 pub use playing::{Played, play};
 pub use road_replica::Reply;
-/// Want of memory, answered only where a growth was refused.
+/// Out of memory: an allocation failed.
 pub use std::alloc::AllocError as OutOfMemory;
 pub use world::World;

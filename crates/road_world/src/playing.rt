@@ -32,7 +32,7 @@ pub struct Played {
 }
 
 /// The world of a plan and so many replicas, at most 64, after some events. A refused event does nothing, and the next
-/// ones go on; want of memory in an event is that event's reply. The meter counts the steps that the events compute.
+/// ones go on; out of memory in an event is that event's reply. The meter counts the steps that the events compute.
 ///
 /// # Errors
 ///

@@ -67,7 +67,7 @@ impl World {
     ///
     /// # Errors
     ///
-    /// `OutOfMemory` where a growth was refused.
+    /// `OutOfMemory` where an allocation failed.
     pub fn open(alloc: Global, plan: Arc<Plan>, replicas: u32) -> Result<World, OutOfMemory>
         requires { replicas ≤ MOST_REPLICAS }
         ensures { IfOk result (λ world. world ≡ opening_world (arc_value plan) replicas) }

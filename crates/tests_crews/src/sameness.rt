@@ -4,7 +4,7 @@ ghost use Rattle.road_cells.specs.Cars.{AreRising};
 
 use crate::rows::{input_of, settings_of, shared_plan};
 use road_cells::{Car, Road};
-use road_ends::{DrawnWords, StepInput, enter_with};
+use road_ends::{StepInput, WordCache, enter_with};
 use road_plan::Plan;
 use std::alloc::Global;
 use std::sync::Arc;
@@ -58,7 +58,7 @@ fn input_of_run(
         return Err(Fail::new("settings that do not fit the plan"));
     }
     let settings = Arc::new(alloc, settings)?;
-    let mut words = DrawnWords::of(alloc, plan);
+    let mut words = WordCache::of(alloc, plan);
     Ok(enter_with(alloc, plan, settings, step, road, &mut words)?)
 }
 

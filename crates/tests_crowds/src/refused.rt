@@ -1,4 +1,4 @@
-//! A growth that is refused in the middle of a crowd is answered as want of memory, and the next crowd leaves what it
+//! A growth that is refused in the middle of a crowd is answered as out of memory, and the next crowd leaves what it
 //! should. These tests say so where they are run with one growth refused, whichever it is, a session's among them.
 
 use crate::crowds::{block_and_withdrawal, edit, free_road, is_left, may_gather};

@@ -96,7 +96,7 @@ fn reads_plan_lines(rt: HostRuntime) -> Result<(), Fail> {
     Ok(())
 }
 
-// How a plan line is refused. Want of memory ends the test.
+// How a plan line is refused. out of memory ends the test.
 fn plan_fault(alloc: Global, line: &str) -> Result<Option<PlanLineFault>, Fail> {
     match read_plan(alloc, line.as_bytes()) {
         Ok(_) => Ok(None),
@@ -833,7 +833,7 @@ const CROWDS: &[(&str, &str)] = &[
     ),
 ];
 
-// What is read of a command line, as text. Want of memory ends the test.
+// What is read of a command line, as text. out of memory ends the test.
 fn text_of(alloc: Global, read: &Result<Command, LineFault>) -> Result<String, OutOfMemory> {
     if matches!(read, Err(LineFault::OutOfMemory)) {
         return Err(OutOfMemory);

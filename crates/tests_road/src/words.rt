@@ -51,21 +51,21 @@ fn seeded_words_are_those_of_another_program(rt: HostRuntime) {
     }
 }
 
-/// The upper half that a row, drawn from some places before a place on, has of the word at that place; none where the
-/// row cannot begin so.
-fn half_of(words: &PlanWords, stream: u64, place: u64, before: u8) -> Option<u16> {
+/// The upper 16 bits that a batch, drawn from some places before a place on, has of the word at that place; none where the
+/// batch cannot begin so.
+fn high16_of(words: &PlanWords, stream: u64, place: u64, before: u8) -> Option<u16> {
     let first = u32::try_from(place.checked_sub(u64::from(before))?).ok()?;
-    words.row(stream, first).get(usize::from(before)).copied()
+    words.batch(stream, first).get(usize::from(before)).copied()
 }
 
 #[test]
-fn rows_have_the_upper_halves_of_another_program(rt: HostRuntime) {
+fn batches_have_the_high16s_of_another_program(rt: HostRuntime) {
     for (seed, stream, place, want) in CHACHA_WORDS {
         let words = PlanWords::Seeded(ChaChaWords::new(*seed));
         for before in [0u8, 1, 15, 16, 63] {
-            if let Some(half) = half_of(&words, *stream, *place, before) {
+            if let Some(high16) = high16_of(&words, *stream, *place, before) {
                 assert_eq!(rt;
-                    u32::from(half),
+                    u32::from(high16),
                     *want >> 16,
                     "seed {seed}, stream {stream}, place {place}, {before}"
                 );
@@ -78,9 +78,14 @@ fn rows_have_the_upper_halves_of_another_program(rt: HostRuntime) {
 fn steady_rows_follow_the_line(rt: HostRuntime) {
     for (stream, place, upper, _) in STEADY_WORDS {
         for before in [0u8, 1, 5] {
-            if let Some(half) = half_of(&PlanWords::Steady(SteadyWords), *stream, *place, before) {
+            if let Some(high16) = high16_of(
+                &PlanWords::Steady(SteadyWords),
+                *stream,
+                *place,
+                before,
+            ) {
                 assert_eq!(rt;
-                    u32::from(half),
+                    u32::from(high16),
                     *upper,
                     "stream {stream}, place {place}, {before}"
                 );

@@ -25,7 +25,7 @@ pub(crate) enum Write {
 /// What a write is answered: its place in the journal and the reply.
 pub(crate) type Answer = Result<(u64, Reply), WriteFault>;
 
-/// Want of memory in a write.
+/// out of memory in a write.
 const WANT: WriteFault = WriteFault::Replica(ReplicaFault::OutOfMemory);
 
 // A session takes edits.

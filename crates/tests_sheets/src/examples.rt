@@ -131,7 +131,7 @@ const BLOCKED_LATE: Example = Example {
     counts: &[],
 };
 
-/// The cell of the only inlet is blocked up to the last step of the longest run; opening it there computes one span.
+/// The cell of the only inlet is blocked up to the last step of the longest run; opening it there computes one interval.
 const CLOSED: Example = Example {
     growths: &[
         Growth {

@@ -1,9 +1,9 @@
-//! Scripts of edits and advances at steps round the ends of spans, the first ones and the last ones: each state and each
+//! Scripts of edits and advances at steps round the ends of intervals, the first ones and the last ones: each state and each
 //! total against a run from step zero. One script in two has steady words, each other one seeded words of its own.
 
 use crate::sheets::{grow, opening};
 use road_detector::Totals;
-use road_ends::DrawnWords;
+use road_ends::WordCache;
 use road_plan::{Object, WordKind};
 use road_scenario::{Edit, Stamp, Value};
 use road_sheet::Sheet;
@@ -33,12 +33,12 @@ const CLOSED: Parts = Parts {
 /// How many scripts are about the last steps.
 const LATE_SCRIPTS: u64 = 2;
 
-/// Steps round the ends of the first spans.
+/// Steps round the ends of the first intervals.
 const STEPS: &[u32] = &[
     0, 1, 5, 62, 63, 64, 65, 66, 126, 127, 128, 129, 130, 191, 192, 193,
 ];
 
-/// Steps round the ends of the last spans, up to the greatest horizon.
+/// Steps round the ends of the last intervals, up to the greatest horizon.
 const LATE_STEPS: &[u32] = &[
     1_048_384, 1_048_385, 1_048_389, 1_048_446, 1_048_447, 1_048_448, 1_048_449, 1_048_450,
     1_048_510, 1_048_511, 1_048_512, 1_048_513, 1_048_514, 1_048_574, 1_048_575, 1_048_576,
@@ -114,7 +114,7 @@ impl Dice {
 // sheet by words that are kept.
 fn states_agree(alloc: Global, sheet: &Sheet, steps: &[u32]) -> Result<bool, Fail> {
     sheet.known();
-    let mut words = DrawnWords::of(alloc, sheet.plan());
+    let mut words = WordCache::of(alloc, sheet.plan());
     let mut last = State::opening(alloc);
     for place in steps {
         let step = (*place).min(sheet.horizon());

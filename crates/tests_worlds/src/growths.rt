@@ -1,4 +1,4 @@
-//! Want of memory in one event: the others answer as if that one had not been. Run once for each growth, with that growth
+//! out of memory in one event: the others answer as if that one had not been. Run once for each growth, with that growth
 //! refused; with ample memory no event is refused for want.
 
 use crate::worlds::{A1, A2, Answer, B3, BLOCK, LIMIT, answers, played};
@@ -52,7 +52,7 @@ const EXCHANGED: [Answer; 9] = [
     Ok(Reply::Touched(Some(4))),
 ];
 
-// What a world answers the events where one of them does not happen: that one is given want of memory.
+// What a world answers the events where one of them does not happen: that one is given out of memory.
 fn replies_of(alloc: Global, world: &mut World, left_out: usize) -> Result<Vec<Answer>, Fail> {
     let mut replies = Vec::new(alloc);
     for (place, event) in EXCHANGE.iter().enumerate() {

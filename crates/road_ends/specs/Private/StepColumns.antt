@@ -1,4 +1,4 @@
--- What is kept of the cars of a step beside their list: their cells, their speeds, and the upper halves of the words
+-- What is kept of the cars of a step beside their list: their cells, their speeds, and the upper 16 bits of the words
 -- that decide whether they are slowed.
 use Rattle.std.specs.Prelude.{◌≡◌, ◌+◌, ◌/◌, ◌<◌, ℕ, List, length, slice_index}
 use Rattle.road_plan.specs.declared.parts.WordKind.{WordKind}
@@ -12,13 +12,13 @@ use Rattle.road_ends.specs.Speed.{nth_car}
 abbrev pub IsHeldUp : List Car → ℕ → Type 0
 IsHeldUp cars k = (k + 1 < length cars) × (cell_at cars (k + 1) ≡ cell_at cars k + 1)
 
--- the half of the k-th car's word at step t; of a car that cannot move it may be any number
-abbrev pub IsHalf : WordKind → ℕ → List Car → ℕ → ℕ → Type 0
-IsHalf kind t cars k half = ¬ (IsHeldUp cars k) → half ≡ word kind (nth_car cars k).number t / 65536
+-- the high16 of the k-th car's word at step t; of a car that cannot move it may be any number
+abbrev pub IsHigh16 : WordKind → ℕ → List Car → ℕ → ℕ → Type 0
+IsHigh16 kind t cars k high16 = ¬ (IsHeldUp cars k) → high16 ≡ word kind (nth_car cars k).number t / 65536
 
--- such halves of the first cars of an array: of all of them, or of none
-pub record AreHalves (kind : WordKind) (t : ℕ) (a : Array) (halves : List ℕ) : Type 0 where
-  pub each : (k : ℕ) → k < length halves → IsHalf kind t (cars_of a) k (slice_index halves k)
+-- such high16s of the first cars of an array: of all of them, or of none
+pub record AreHigh16s (kind : WordKind) (t : ℕ) (a : Array) (high16s : List ℕ) : Type 0 where
+  pub each : (k : ℕ) → k < length high16s → IsHigh16 kind t (cars_of a) k (slice_index high16s k)
 
 -- the cells and the speeds of the first cars of an array: of all of them, or of none
 pub record AreColumns (a : Array) (cells speeds : List ℕ) : Type 0 where

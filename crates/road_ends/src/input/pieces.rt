@@ -17,7 +17,7 @@ impl StepInput {
     /// # Errors
     ///
     /// `OutOfMemory` where their growth is refused.
-    #[tactic(auto, using(crate::proofs::KeptColumns::no_halves, crate::proofs::KeptColumns::no_columns))]
+    #[tactic(auto, using(crate::proofs::CachedColumns::no_high16s, crate::proofs::CachedColumns::no_columns))]
     pub fn speeds_between(
         &self,
         alloc: Global,

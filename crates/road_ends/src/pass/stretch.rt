@@ -10,7 +10,7 @@ ghost use Rattle.road_rules.specs.Speeds.{comes_about, slowed_speed, wanted_spee
 ghost use Rattle.road_ends.specs.Speed.{chance_at, nth_car};
 ghost use Rattle.road_ends.specs.Private.PassPlaces.{is_closed, wanted_before};
 
-use crate::chance::{Chances, slowed_by_chance, slowed_by_half, slowed_without_word};
+use crate::chance::{Chances, slowed_by_chance, slowed_by_high16, slowed_without_word};
 use crate::columns::Columns;
 use crate::pass::{Cursor, free_between};
 use road_cells::{Car, GREATEST_SPEED, Road};
@@ -156,9 +156,9 @@ fn write_wanted_by_columns(
     }
 }
 
-// Rule 3 for the same cars, by the halves of their words and the column of their speeds.
-pub(super) fn slow_by_halves(
-    halves: &[u16],
+// Rule 3 for the same cars, by the upper 16 bits of their words and the column of their speeds.
+pub(super) fn slow_by_high16s(
+    high16s: &[u16],
     speeds: &[u8],
     chances: Chances,
     first: usize,
@@ -167,20 +167,20 @@ pub(super) fn slow_by_halves(
     new: &mut [u8],
 )
     requires order { from ≤ to }
-    requires halves { to ≤ length halves.now }
+    requires high16s { to ≤ length high16s.now }
     requires speeds { to ≤ length speeds.now }
     requires from { first ≤ from }
     requires room { to - first ≤ length new.old }
     ensures long { length new.new ≡ length new.old }
     ensures rest { (k : ℕ) → to ≤ k → slice_index new.new (k - first) ≡ slice_index new.old (k - first) }
     ensures slowed { (k : ℕ) → from ≤ k → k < to → (word : ℕ)
-        → (0 < slice_index new.old (k - first) → slice_index halves.now k ≡ word / 65536)
+        → (0 < slice_index new.old (k - first) → slice_index high16s.now k ≡ word / 65536)
         → slice_index new.new (k - first) ≡ slowed_speed (slice_index new.old (k - first))
         (comes_about word (chance_at (slice_index speeds.now k) chances.standing chances.moving)) }
 {
     for place in from..to {
         let chance = chances.at(speeds[place]);
-        new[place - first] = slowed_by_half(halves[place], new[place - first], chance);
+        new[place - first] = slowed_by_high16(high16s[place], new[place - first], chance);
     }
 }
 

@@ -2,11 +2,11 @@
 use Rattle.std.specs.Prelude.{◌+◌, ◌*◌, ◌<◌, ◌^◌, List}
 use Rattle.std.specs.List.{All}
 use Rattle.road_cells.specs.declared.car.Car.{Car}
-use Rattle.road_sheet.specs.declared.checkpoint.KeptCar.{KeptCar}
+use Rattle.road_sheet.specs.declared.checkpoint.PackedCar.{PackedCar}
 
 -- the car that is kept
-abbrev pub whole_car : KeptCar → Car
-whole_car kept = record { number = kept.low + 65536 * kept.high; cell = kept.cell; speed = kept.speed }
+abbrev pub unpacked_car : PackedCar → Car
+unpacked_car kept = record { number = kept.low + 65536 * kept.high; cell = kept.cell; speed = kept.speed }
 
 -- a car whose number and cell fit
 pub record IsSmall (car : Car) : Type 0 where

@@ -1,13 +1,13 @@
--- Shelves of spans.
+-- Shelves of intervals.
 use Rattle.std.specs.Prelude.{◌≡◌, List, length}
 use Rattle.std.specs.List.{All, flat_map}
-use Rattle.road_sheet.specs.declared.shared_spans.TheConstants.{SHELF_SPANS}
-use Rattle.road_sheet.specs.declared.span.Span.{Span}
+use Rattle.road_sheet.specs.declared.shared_intervals.TheConstants.{SHELF_INTERVALS}
+use Rattle.road_sheet.specs.declared.interval.Interval.{Interval}
 
--- shelves with as many spans as fit
-abbrev pub AreFull : List (List Span) → Type 0
-AreFull shelves = All (λ shelf. length shelf ≡ SHELF_SPANS) shelves
+-- shelves with as many intervals as fit
+abbrev pub AreFull : List (List Interval) → Type 0
+AreFull shelves = All (λ shelf. length shelf ≡ SHELF_INTERVALS) shelves
 
--- their spans, one shelf after another
-abbrev pub spans_on : List (List Span) → List Span
-spans_on shelves = flat_map (λ shelf. shelf) shelves
+-- their intervals, one shelf after another
+abbrev pub intervals_on : List (List Interval) → List Interval
+intervals_on shelves = flat_map (λ shelf. shelf) shelves

@@ -6,7 +6,7 @@ use Rattle.std.specs.declared.alloc.AllocError.{AllocError}
 use Rattle.road_ends.specs.Input.{StepInput}
 use Rattle.road_workers.specs.Private.Pieces.{speeds_of_worker}
 
--- what a worker answered: the speeds of its piece, or want of memory
+-- what a worker answered: the speeds of its piece, or out of memory
 abbrev pub PieceAnswer : Type 0
 PieceAnswer = Result (Vec ℕ Global) AllocError
 

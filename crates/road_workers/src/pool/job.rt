@@ -20,7 +20,7 @@ pub(crate) struct Job {
     ghost within: { piece.end ≤ length (cars_of (arc_value input).road) },
 }
 
-// A piece of a step with what a worker answered: its speeds, which are those of the definition, or want of memory.
+// A piece of a step with what a worker answered: its speeds, which are those of the definition, or out of memory.
 #[derive(Drop)]
 pub(crate) struct Done {
     pub input: Arc<StepInput>,

@@ -2,7 +2,7 @@
 
 use crate::gate::Gate;
 use crate::pool::job::{Done, Job};
-use crate::pool::waiting::stay_awake;
+use crate::pool::spin::stay_awake;
 use crossbeam_channel::{Receiver, SendError, Sender};
 use std::alloc::Global;
 use std::sync::{Arc, Wait};

@@ -19,7 +19,7 @@ loop-cell-init c =
     let f = λ (c' : ℕ). option_or (vehicle_at c.args.road.now c') (entry_at c.args.plan.now c.args.settings.now c.args.step c') in
     record {
       cars = ap (λ cars. cars ++ cars_left f c.args.plan.now.cells 0) (c.in_ok-reserve.ensures.items ∙ c.list-cars.ensures.empty) ∙ all_left f c.args.plan.now.cells;
-      words = c.list-cars.ensures.unchanged ∙ c.follow.ensures;
+      words = c.list-cars.ensures.unchanged ∙ c.resize_slots.ensures;
     }
 
 pub loop-cell-preserved : goal.loop-cell-preserved

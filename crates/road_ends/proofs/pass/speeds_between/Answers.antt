@@ -13,7 +13,7 @@ use Rattle.road_rules.proofs.MotionOfCars.{cell_at-end}
 use Rattle.road_plan.specs.Plan.{zone_of}
 use Rattle.road_words.specs.PlanWords.{source_word}
 use Rattle.road_ends.specs.Speed.{speeds}
-use Rattle.road_ends.specs.Private.StepColumns.{AreHalves}
+use Rattle.road_ends.specs.Private.StepColumns.{AreHigh16s}
 use Rattle.road_ends.specs.Private.PassPlaces.{IsNthOrNowhere, AreOfZone}
 use Rattle.road_ends.proofs.StepByCars.{not_falling, zone_in_plan}
 use Rattle.road_ends.proofs.PassOverCars.{before_next, before_block, pass_speed, speed_at, speeds_of_piece, stretch_speed}
@@ -199,15 +199,15 @@ loop-place-preserved c =
     let rising = not_falling s.blocks c.requires.fits.blocks_rise in
     let at_front : c.new_speed.result ≡ slice_index (speeds p s c.args.step a) front =
     pass_speed p s c.args.step a (source_word c.of-words.result) c.cars-cars.result.now c.deref.result.now front block.reached c.loop-place.cursor.next block.cell (zone_of p (cell_at (cars_of a) front)) zone.limit zone.chances.standing zone.chances.moving c.new_speed.result
-    c.requires.fits on_road (omega arith) rising (subst (λ (xs : List ℕ). AreHalves p.words c.args.step a xs) (sym c.deref.ensures.value) c.requires.halves) c.of-words.ensures c.cars-cars.ensures.all below parted ahead named refl (alike (cell_at (cars_of a) front) (omega arith) (omega arith))
-    c.new_speed.ensures.by_half c.new_speed.ensures.by_word ∙ sym (speed_at p s c.args.step a front below) in
+    c.requires.fits on_road (omega arith) rising (subst (λ (xs : List ℕ). AreHigh16s p.words c.args.step a xs) (sym c.deref.ensures.value) c.requires.high16s) c.of-words.ensures c.cars-cars.ensures.all below parted ahead named refl (alike (cell_at (cars_of a) front) (omega arith) (omega arith))
+    c.new_speed.ensures.by_high16 c.new_speed.ensures.by_word ∙ sym (speed_at p s c.args.step a front below) in
     let in_stretch : (k : ℕ) → from ≤ k → k < front → slice_index new (k - first) ≡ slice_index (speeds p s c.args.step a) k =
     λ k after before.
     let behind = c.first_car-from.ensures.behind k after before in
-    stretch_speed p s c.args.step a (source_word c.of-words.result) c.cars-cars.result.now c.args.columns.now.halves.items k front block.reached block.cell zone.start zone.limit zone.chances.standing zone.chances.moving c.first_cell.result (min (length c.args.columns.now.halves.items) (length c.args.columns.now.speeds.items)) (slice_index new (k - first))
-    c.requires.fits on_road (omega arith) rising c.requires.halves c.of-words.ensures c.cars-cars.ensures.all before below parted named alike
+    stretch_speed p s c.args.step a (source_word c.of-words.result) c.cars-cars.result.now c.args.columns.now.high16s.items k front block.reached block.cell zone.start zone.limit zone.chances.standing zone.chances.moving c.first_cell.result (min (length c.args.columns.now.high16s.items) (length c.args.columns.now.speeds.items)) (slice_index new (k - first))
+    c.requires.fits on_road (omega arith) rising c.requires.high16s c.of-words.ensures c.cars-cars.ensures.all before below parted named alike
     c.first_cell.ensures.zone (λ i less. subst (λ (xs : List ℕ). slice_index xs i ≤ c.first_cell.result) c.blocks-blocks.ensures (c.first_cell.ensures.reached i less)) behind (omega arith)
-    (λ more. c.speeds_behind.ensures.by_half more k after before) (λ none. c.speeds_behind.ensures.by_word none k after before)
+    (λ more. c.speeds_behind.ensures.by_high16 more k after before) (λ none. c.speeds_behind.ensures.by_word none k after before)
     ∙ sym (speed_at p s c.args.step a k (omega arith)) in
     let done : (k : ℕ) → from ≤ k → k < end → slice_index new (k - first) ≡ slice_index (speeds p s c.args.step a) k =
     λ k after before. elim (cases_lt k front) as (λ _. slice_index new (k - first) ≡ slice_index (speeds p s c.args.step a) k) [

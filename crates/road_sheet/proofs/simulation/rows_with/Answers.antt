@@ -12,6 +12,6 @@ loop-step-preserved c = (
   ap (λ (rows : List (String Global)). map string_bytes rows) c.in_ok-push-2.ensures.items
       ∙ one_row_more (arc_value c.args.plan.now) c.args.scenario.now c.args.first.step c.loop-step.step c.loop-step.rows.items c.in_ok-row.row c.loop-step.auto.step c.loop-step.invariant.2
       (c.in_ok-row.ensures.row ∙ ap (λ n. row_at (arc_value c.args.plan.now) c.args.scenario.now (n + 1)) c.loop-step.invariant.0),
-  c.in_ok-row.ensures.carried,
+  c.in_ok-row.ensures.cached,
   c.in_ok-row.ensures.unchanged ∙ c.loop-step.invariant.4,
 )

@@ -38,6 +38,6 @@ loop-step-preserved c =
     c.in_ok-stepped.ensures.input c.loop-step.invariant.0 c.in_ok-stepped.ensures.speeds c.deref-in-loop-step.ensures c.deref-in-loop-step-2.ensures.value c.passes-passed.ensures in (
       c.in_ok-stepped.ensures.road,
       c.plus-totals.ensures ∙ counted_more p (settings_of p edits) c.args.detector c.args.first.step c.loop-step.step c.loop-step.totals c.passes-passed.result c.loop-step.auto.step c.loop-step.invariant.1 passed,
-      c.in_ok-stepped.ensures.carried,
+      c.in_ok-stepped.ensures.cached,
       c.in_ok-stepped.ensures.unchanged ∙ c.loop-step.invariant.3,
     )

@@ -7,8 +7,8 @@ use Rattle.road_sessions.specs.Journals.{entry_command}
 use Rattle.road_sessions.proofs.Replays.{plan_kept}
 use Rattle.road_sessions.proofs.held.Held.put.Goals as goal
 
-pub noted-requires-clause-allowed : goal.noted-requires-clause-allowed
-noted-requires-clause-allowed g c =
+pub append_entry-requires-clause-allowed : goal.append_entry-requires-clause-allowed
+append_entry-requires-clause-allowed g c =
     let r = g.J.Naming.replica in
     let plan : c.args.self.now.replica.sheet.plan ≡ r.sheet.plan = ap (λ (q : Replica). q.sheet.plan) c.args.self.now.replayed ∙ plan_kept r c.args.self.now.journal.items in
     subst (λ (p : Plan). IsAllowed p (entry_command c.args.entry.command)) plan c.requires.allowed

@@ -12,7 +12,7 @@ returns-clause-wrote g c =
     let r = g.J.Naming.replica in
     let seen : List Entry = c.args.seen.now in
     let journal : List Entry = c.args.self.now.journal.items in
-    let before : IsPrefix seen journal = subst (λ (l : List Entry). IsPrefix seen l) c.args.self.now.journalled c.if-not-begins.ensures.begins in
+    let before : IsPrefix seen journal = subst (λ (l : List Entry). IsPrefix seen l) c.args.self.now.journalled c.if-not-is_prefix_of.ensures.begins in
     let after : c.again.result ≡ c.write.new.self.journal.items = c.again.ensures ∙ c.write.new.self.journalled in
     let legal : IsLegal r c.again.result = subst (λ (l : List Entry). IsLegal r l) (sym c.again.ensures) c.known-3.ensures in
     is_write r c.args.session c.args.wish.now seen journal c.again.result (view c.args.reader.now.place) (view c.enter_after_write_here.new.reader.place) c.in_ok-place.place c.in_ok-place.reply

@@ -2,5 +2,5 @@
 use Rattle.std.proofs.Common.{rules}
 use Rattle.road_sessions.proofs.session.Session.hear.Goals as goal
 
-pub returns-then-begins-clause-told : goal.returns-then-begins-clause-told
-returns-then-begins-clause-told g c = search rules
+pub returns-then-is_prefix_of-clause-told : goal.returns-then-is_prefix_of-clause-told
+returns-then-is_prefix_of-clause-told g c = search rules

@@ -3,18 +3,18 @@ use Rattle.std.proofs.Common.{◌∙◌, ap, subst, arith, ◌/◌, ◌*◌}
 use Rattle.road_ends.specs.Laws.{DependOnEarlierSettings}
 use Rattle.road_sheet.specs.Sheets.{Sheet}
 use Rattle.road_sheet.proofs.SameRuns.{same_run}
-use Rattle.road_sheet.proofs.SheetSpans.{same_less}
+use Rattle.road_sheet.proofs.SheetIntervals.{same_less}
 use Rattle.road_sheet.proofs.sheet.Sheet.draft_of.Goals as goal
 
-pub going_on-requires-clause-same : goal.going_on-requires-clause-same
-going_on-requires-clause-same c =
+pub resume_at_horizon-requires-clause-same : goal.resume_at_horizon-requires-clause-same
+resume_at_horizon-requires-clause-same c =
     let s = c.args.self.now in
     let same = same_run s.plan s.edits c.args.joined c.args.keep (subst DependOnEarlierSettings (c.deref.ensures ∙ ap (λ (x : Sheet). x.plan) c.self.view_is) c.runs_depend_on_earlier_settings.ensures)
     (c.settings_stay_before_touched.ensures s.plan s.edits c.args.joined) c.requires.untouched in
     same_less s.plan s.edits c.args.joined c.args.keep s.horizon (omega arith) same
 
-pub cut_back-requires-clause-same : goal.cut_back-requires-clause-same
-cut_back-requires-clause-same c =
+pub resume_at_checkpoint-requires-clause-same : goal.resume_at_checkpoint-requires-clause-same
+resume_at_checkpoint-requires-clause-same c =
     let s = c.args.self.now in
     let same = same_run s.plan s.edits c.args.joined c.args.keep (subst DependOnEarlierSettings (c.deref.ensures ∙ ap (λ (x : Sheet). x.plan) c.self.view_is) c.runs_depend_on_earlier_settings.ensures)
     (c.settings_stay_before_touched.ensures s.plan s.edits c.args.joined) c.requires.untouched in

@@ -5,16 +5,16 @@ use Rattle.std.specs.Arc.{arc_value}
 use Rattle.road_plan.specs.Plan.{Plan}
 use Rattle.road_scenario.specs.Winners.{AreWinners}
 use Rattle.road_scenario.proofs.NoEdits.{winners-empty}
-use Rattle.road_sheet.proofs.SheetSpans.{opened}
+use Rattle.road_sheet.proofs.SheetIntervals.{opened}
 use Rattle.road_sheet.proofs.sheet.Sheet.opening.Goals as goal
 
 pub invariant_of-result : goal.invariant_of-result
 invariant_of-result c =
     let p = arc_value c.args.plan in
-    opened p c.empty-3.result _ c.in_ok-cut.cut c.empty-4.result
+    opened p c.empty-3.result _ c.in_ok-open.open c.empty-4.result
     (subst AreWinners (sym c.empty-3.ensures.none) winners-empty)
     (c.empty-3.ensures.fits p)
-    c.in_ok-whole.ensures
-    (c.in_ok-cut.ensures.start ∙ c.empty.ensures)
-    (c.in_ok-cut.ensures.totals ∙ ap (λ n. replicate n no_totals) (ap length c.detectors.ensures ∙ ap (λ (q : Plan). length q.detectors) c.deref.ensures))
+    c.in_ok-intervals.ensures
+    (c.in_ok-open.ensures.start ∙ c.empty.ensures)
+    (c.in_ok-open.ensures.totals ∙ ap (λ n. replicate n no_totals) (ap length c.detectors.ensures ∙ ap (λ (q : Plan). length q.detectors) c.deref.ensures))
     c.empty-4.ensures

@@ -1,57 +1,57 @@
--- Counts of whole spans and of the steps at their ends add up to those of all steps.
+-- Counts of whole intervals and of the steps at their ends add up to those of all steps.
 use Rattle.std.proofs.Common.{◌∙◌, ◌+◌, ap, subst, arith}
 use Rattle.road_scenario.specs.Settings.{settings_of}
 use Rattle.road_detector.specs.Laws.{BoundTotals}
 use Rattle.road_sheet.specs.Sheets.{Sheet, total_of}
 use Rattle.road_sheet.proofs.RunTotals.{none_yet, totals_in_parts, cars_in_parts, speeds_in_parts}
-use Rattle.road_sheet.proofs.SpanSteps.{counted_to, nothing_before, span_begin, span_end, all_counted, counted_in_order}
+use Rattle.road_sheet.proofs.IntervalSteps.{counted_to, nothing_before, interval_begin, interval_end, all_counted, counted_in_order}
 use Rattle.road_sheet.proofs.sheet.Sheet.totals_between.Goals as goal
 
-pub loop-span-init : goal.loop-span-init
-loop-span-init c =
+pub loop-interval-init : goal.loop-interval-init
+loop-interval-init c =
     let s = c.args.self.now in
     none_yet s.plan (settings_of s.plan s.edits) c.args.detector c.args.from
     ∙ ap (total_of s c.args.detector c.args.from) (nothing_before c.args.from c.args.to c.requires.order)
 
-pub loop-span-preserved : goal.loop-span-preserved
-loop-span-preserved c =
+pub loop-interval-preserved : goal.loop-interval-preserved
+loop-interval-preserved c =
     let s = c.args.self.now in
-    let b = c.loop-span.span in
-    let begin = span_begin c.args.from c.args.to b c.max-begin.result (omega (arith, c.loop-span-test.true, c.div_ceil-span-end.ensures)) c.requires.order (omega (arith, c.max-begin.ensures)) in
-    let end = span_end c.args.from c.args.to b c.min-end.result c.loop-span.auto.span (omega (arith, c.min-end.ensures)) in
+    let b = c.loop-interval.interval in
+    let begin = interval_begin c.args.from c.args.to b c.max-begin.result (omega (arith, c.loop-interval-test.true, c.div_ceil-interval-end.ensures)) c.requires.order (omega (arith, c.max-begin.ensures)) in
+    let end = interval_end c.args.from c.args.to b c.min-end.result c.loop-interval.auto.interval (omega (arith, c.min-end.ensures)) in
     c.plus-totals.ensures
-    ∙ totals_in_parts s.plan (settings_of s.plan s.edits) c.args.detector c.args.from (counted_to c.args.from c.args.to b) (counted_to c.args.from c.args.to (b + 1)) c.loop-span.totals c.in_ok-counted.counted
+    ∙ totals_in_parts s.plan (settings_of s.plan s.edits) c.args.detector c.args.from (counted_to c.args.from c.args.to b) (counted_to c.args.from c.args.to (b + 1)) c.loop-interval.totals c.in_ok-counted.counted
     (counted_in_order c.args.from c.args.to b c.requires.order).0 (counted_in_order c.args.from c.args.to b c.requires.order).1
-    c.loop-span.invariant
+    c.loop-interval.invariant
     (c.in_ok-counted.ensures ∙ ap (λ a. total_of s c.args.detector a c.min-end.result) begin ∙ ap (total_of s c.args.detector (counted_to c.args.from c.args.to b)) end)
 
 pub plus-totals-requires-clause-cars : goal.plus-totals-requires-clause-cars
 plus-totals-requires-clause-cars c =
     let s = c.args.self.now in
-    let b = c.loop-span.span in
-    let begin = span_begin c.args.from c.args.to b c.max-begin.result (omega (arith, c.loop-span-test.true, c.div_ceil-span-end.ensures)) c.requires.order (omega (arith, c.max-begin.ensures)) in
-    let end = span_end c.args.from c.args.to b c.min-end.result c.loop-span.auto.span (omega (arith, c.min-end.ensures)) in
+    let b = c.loop-interval.interval in
+    let begin = interval_begin c.args.from c.args.to b c.max-begin.result (omega (arith, c.loop-interval-test.true, c.div_ceil-interval-end.ensures)) c.requires.order (omega (arith, c.max-begin.ensures)) in
+    let end = interval_end c.args.from c.args.to b c.min-end.result c.loop-interval.auto.interval (omega (arith, c.min-end.ensures)) in
     let order = counted_in_order c.args.from c.args.to b c.requires.order in
-    cars_in_parts s.plan (settings_of s.plan s.edits) c.args.detector c.args.from (counted_to c.args.from c.args.to b) (counted_to c.args.from c.args.to (b + 1)) c.loop-span.totals c.in_ok-counted.counted
+    cars_in_parts s.plan (settings_of s.plan s.edits) c.args.detector c.args.from (counted_to c.args.from c.args.to b) (counted_to c.args.from c.args.to (b + 1)) c.loop-interval.totals c.in_ok-counted.counted
     (subst BoundTotals (c.deref.ensures ∙ ap (λ (x : Sheet). x.plan) c.self.view_is) c.totals_are_bounded.ensures)
     order.0 order.1 (omega (arith, c.known.ensures.within_limit, c.requires.simulated, order.2))
-    c.loop-span.invariant
+    c.loop-interval.invariant
     (c.in_ok-counted.ensures ∙ ap (λ a. total_of s c.args.detector a c.min-end.result) begin ∙ ap (total_of s c.args.detector (counted_to c.args.from c.args.to b)) end)
 
 pub plus-totals-requires-clause-speeds : goal.plus-totals-requires-clause-speeds
 plus-totals-requires-clause-speeds c =
     let s = c.args.self.now in
-    let b = c.loop-span.span in
-    let begin = span_begin c.args.from c.args.to b c.max-begin.result (omega (arith, c.loop-span-test.true, c.div_ceil-span-end.ensures)) c.requires.order (omega (arith, c.max-begin.ensures)) in
-    let end = span_end c.args.from c.args.to b c.min-end.result c.loop-span.auto.span (omega (arith, c.min-end.ensures)) in
+    let b = c.loop-interval.interval in
+    let begin = interval_begin c.args.from c.args.to b c.max-begin.result (omega (arith, c.loop-interval-test.true, c.div_ceil-interval-end.ensures)) c.requires.order (omega (arith, c.max-begin.ensures)) in
+    let end = interval_end c.args.from c.args.to b c.min-end.result c.loop-interval.auto.interval (omega (arith, c.min-end.ensures)) in
     let order = counted_in_order c.args.from c.args.to b c.requires.order in
-    speeds_in_parts s.plan (settings_of s.plan s.edits) c.args.detector c.args.from (counted_to c.args.from c.args.to b) (counted_to c.args.from c.args.to (b + 1)) c.loop-span.totals c.in_ok-counted.counted
+    speeds_in_parts s.plan (settings_of s.plan s.edits) c.args.detector c.args.from (counted_to c.args.from c.args.to b) (counted_to c.args.from c.args.to (b + 1)) c.loop-interval.totals c.in_ok-counted.counted
     (subst BoundTotals (c.deref.ensures ∙ ap (λ (x : Sheet). x.plan) c.self.view_is) c.totals_are_bounded.ensures)
     order.0 order.1 (omega (arith, c.known.ensures.within_limit, c.requires.simulated, order.2))
-    c.loop-span.invariant
+    c.loop-interval.invariant
     (c.in_ok-counted.ensures ∙ ap (λ a. total_of s c.args.detector a c.min-end.result) begin ∙ ap (total_of s c.args.detector (counted_to c.args.from c.args.to b)) end)
 
 pub returns : goal.returns
 returns c =
     let s = c.args.self.now in
-    c.loop-span.invariant ∙ ap (total_of s c.args.detector c.args.from) (all_counted c.args.from c.args.to c.loop-span.span c.requires.order (omega (arith, c.loop-span-test.false, c.div_ceil-span-end.ensures)))
+    c.loop-interval.invariant ∙ ap (total_of s c.args.detector c.args.from) (all_counted c.args.from c.args.to c.loop-interval.interval c.requires.order (omega (arith, c.loop-interval-test.false, c.div_ceil-interval-end.ensures)))

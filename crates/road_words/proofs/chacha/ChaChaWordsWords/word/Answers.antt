@@ -1,4 +1,4 @@
--- The upper half of the word at its place.
+-- The upper 16 bits of the word at its place.
 use Rattle.std.proofs.Common.{rules}
 use Rattle.road_words.proofs.chacha.ChaChaWordsWords.word.Goals as goal
 

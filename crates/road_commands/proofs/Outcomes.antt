@@ -1,0 +1,77 @@
+-- What the outcomes of commands are, by what the world does.
+use Rattle.std.proofs.Common.{◌≡◌, ◌⊎◌, ◌<◌, ℕ, List, length, Option, Some, None, refl, ap, sym, subst, ◌∙◌, inl, inr}
+use Rattle.std.specs.Global.{Vec}
+use Rattle.std.specs.Option.{option_and_then, option_map}
+use Rattle.lattice_core.specs.Sets.{from_list}
+use Rattle.road_scenario.specs.declared.edit.Edit.{Edit}
+use Rattle.road_replica.specs.Refusals.{import_fault}
+use Rattle.road_replica.specs.declared.faults.ReplicaFault.{ReplicaFault}
+use Rattle.road_replica.specs.declared.faults.ReplicaFault.TheVariants.{OutOfMemory, WorkersGone}
+use Rattle.road_world.proofs.EventAnswers.{fault_there}
+use Rattle.road_world.specs.Answers.{IsRefusal, IsUnnamedRefusal, fault_at_replica, fault_of_event, replica_number}
+use Rattle.road_world.specs.Events.{world_with_edits}
+use Rattle.road_world.specs.declared.event.Event.{Event}
+use Rattle.road_world.specs.declared.event.Event.TheVariants as events
+use Rattle.road_world.specs.declared.faults.WorldFault.{WorldFault}
+use Rattle.road_world.specs.declared.faults.WorldFault.TheVariants as world_faults
+use Rattle.road_format.specs.Replies.{Answer, Refused}
+use Rattle.road_format.specs.declared.refusal.Refusal.{Refusal}
+use Rattle.road_commands.specs.Laboratory.{Laboratory, change_outcome, import_outcome, outcome_unless, replica_refusal, touched_answer, world_refusal}
+
+-- ---- refusals
+
+-- out of memory has no answer,
+unanswered_memory : (fault : WorldFault) (refusal : Refusal) → fault ≡ world_faults.Replica OutOfMemory → world_refusal fault ≡ Some refusal → ⊥
+unanswered_memory fault refusal is said = none (ap world_refusal (sym is) ∙ said)
+  where
+    none : None ≡ Some refusal → ⊥
+    none e = cc
+
+-- nor has want of workers
+unanswered_want : (fault : WorldFault) (refusal : Refusal) → (fault ≡ world_faults.Replica WorkersGone) ⊎ (fault ≡ world_faults.Replica OutOfMemory) → world_refusal fault ≡ Some refusal → ⊥
+unanswered_want fault refusal is said = elim is as (λ _. ⊥) [
+  | inl gone ↦ none (ap world_refusal (sym gone) ∙ said)
+  | inr memory ↦ unanswered_memory fault refusal memory said
+]
+  where
+    none : None ≡ Some refusal → ⊥
+    none e = cc
+
+-- so a refusal for no named cause has none
+unanswered : (e : Event) (fault : WorldFault) (refusal : Refusal) → IsUnnamedRefusal e fault → world_refusal fault ≡ Some refusal → ⊥
+unanswered (events.Edit r o step n) fault refusal is said = unanswered_want fault refusal is said
+unanswered (events.Withdraw r o step) fault refusal is said = unanswered_want fault refusal is said
+unanswered (events.Import r es) fault refusal is said = unanswered_want fault refusal is said
+unanswered (events.Send r) fault refusal is said = unanswered_memory fault refusal is said
+unanswered (events.Heads r) fault refusal is said = unanswered_memory fault refusal is said
+unanswered (events.Beyond r m) fault refusal is said = unanswered_memory fault refusal is said
+unanswered (events.Take r m) fault refusal is said = unanswered_want fault refusal is said
+unanswered (events.Advance r to) fault refusal is said = unanswered_want fault refusal is said
+
+-- a refusal that has an answer is for a named cause
+named : (e : Event) (cause : Option WorldFault) (fault : WorldFault) (refusal : Refusal) → IsRefusal e cause fault → world_refusal fault ≡ Some refusal → option_and_then world_refusal cause ≡ Some refusal
+named e (Some cause) fault refusal is said = ap world_refusal (sym is) ∙ said
+named e None fault refusal is said = absurd (unanswered e fault refusal is said)
+
+-- an event that the world refuses for a named cause is answered so
+pub refused_answer : (lab : Laboratory) (e : Event) (answer : Answer) (fault : WorldFault) (refusal : Refusal) → replica_number e < length lab.world.replicas → IsRefusal e (fault_of_event lab.world e) fault
+    → world_refusal fault ≡ Some refusal → change_outcome lab e answer ≡ record { answer = Refused refusal; after = lab }
+refused_answer lab e answer fault refusal below is said =
+    let here = subst (λ (cause : Option WorldFault). IsRefusal e cause fault) (fault_there lab.world e below) is in
+    rw (named e (fault_at_replica lab.world e) fault refusal here said) refl
+
+-- ---- imports
+
+-- a replica's cause is answered as the world's
+as_world : (cause : Option ReplicaFault) → option_and_then world_refusal (option_map world_faults.Replica cause) ≡ option_and_then replica_refusal cause
+as_world None = refl
+as_world (Some cause) = refl
+
+-- an import is the event of these edits
+pub import_is : (lab : Laboratory) (r : ℕ) (vec : Vec Edit) (es : List Edit) → vec.items ≡ es → change_outcome lab (events.Import r vec) (touched_answer lab.world r (from_list vec.items)) ≡ import_outcome lab r es
+import_is lab r vec es same =
+    ap (λ (refusal : Option Refusal). outcome_unless lab refusal (record {
+      answer = touched_answer lab.world r (from_list vec.items);
+      after = record lab { world = world_with_edits r (from_list vec.items) lab.world };
+    })) (as_world (import_fault lab.world.plan vec.items))
+    ∙ ap (import_outcome lab r) same

@@ -1,0 +1,209 @@
+-- The winners suffice: the laboratory of which each replica and each message has the winners alone answers every command
+-- as the laboratory does, and after it it is again the laboratory's, as far as winners go.
+use Rattle.std.proofs.Common.{◌≡◌, ℕ, List, ◌∷◌, [], ◌++◌, length, map, Option, Some, None, refl, ap, ◌∙◌}
+use Rattle.std.specs.Prelude.{suc, ◌-◌}
+use Rattle.std.specs.List.{range_with_len, slice_get}
+use Rattle.std.specs.Option.{option_and_then, option_map_or, option_or}
+use Rattle.lattice_core.specs.Sets.{from_list, items}
+use Rattle.road_detector.specs.Passes.{total}
+use Rattle.road_ends.specs.Row.{row}
+use Rattle.road_ends.specs.Run.{Course, run}
+use Rattle.road_scenario.specs.Edits.{Edits}
+use Rattle.road_scenario.specs.Settings.{settings_in, settings_of}
+use Rattle.road_scenario.specs.Winners.{winners}
+use Rattle.road_scenario.specs.declared.edit.Edit as edit
+use Rattle.road_delta.specs.Deltas.{beyond, heads}
+use Rattle.road_delta.specs.declared.heads.Head.{Head}
+use Rattle.road_replica.specs.Refusals.{rows_fault, state_fault, totals_fault}
+use Rattle.road_replica.specs.declared.reply.Reply.{Reply}
+use Rattle.road_replica.specs.declared.reply.Reply.TheVariants as world_replies
+use Rattle.road_sheet.specs.Sheets.{Sheet}
+use Rattle.road_sheet.specs.Shown.{row_at}
+use Rattle.road_world.proofs.WinnersSuffice.{asked-of_winners, edits-of_winners, event-of_winners, fault_at-of_winners, held-of_winners, replica-of_winners, reply-of_winners, touched_reply-of_winners, winners_again, winners_of_one_part, world-again}
+use Rattle.road_world.specs.Answers.{reply_to_event, sheet_at}
+use Rattle.road_world.specs.Events.{World, WorldReplica, asked_heads, replica_at, world_of_winners}
+use Rattle.road_world.specs.declared.event.Event.{Event}
+use Rattle.road_world.specs.declared.event.Event.TheVariants as events
+use Rattle.road_world.specs.declared.faults.WorldFault.{WorldFault}
+use Rattle.road_format.specs.CommandGrammar as commands
+use Rattle.road_format.specs.CommandGrammar.{Command}
+use Rattle.road_format.specs.Replies as replies
+use Rattle.road_format.specs.Replies.{Answer, Delta, Sent}
+use Rattle.road_format.specs.declared.refusal.Refusal.{Refusal}
+use Rattle.road_format.specs.declared.refusal.Refusal.TheVariants as refusals
+use Rattle.road_commands.specs.Laboratory.{Laboratory, Outcome, answer_to, cars_answer, cars_of_state, cells_answer, change_outcome, count_answer, crowd_of, crowd_outcome, diagram_answer, edits_held, import_outcome, laboratory_after, laboratory_of_winners, name_refusal, number_of, outcome, outcome_at, outcome_by_name, replica_name, scenario_answer, totals_answer, message_outcome, question_outcome, question_answer, outcome_unless, outcome_by_number, world_refusal}
+
+-- ---- outcomes, as far as winners go
+
+-- the same answer, and the laboratory of winners after it
+abbrev pub outcome_of_winners : Outcome → Outcome
+outcome_of_winners o = record { answer = o.answer; after = laboratory_of_winners o.after }
+
+-- two outcomes are alike
+abbrev Alike : Outcome → Outcome → Type 0
+Alike o p = outcome_of_winners o ≡ outcome_of_winners p
+
+-- a laboratory by its parts
+abbrev laboratory_with : List (List ℕ) → List (List ℕ) → World → Laboratory
+laboratory_with names messages w = record { replica_names = names; message_names = messages; world = w }
+
+-- an outcome by its
+abbrev outcome_with : Answer → List (List ℕ) → List (List ℕ) → World → Outcome
+outcome_with answer names messages w = record { answer = answer; after = laboratory_with names messages w }
+
+-- outcomes are alike that have the same answer, the same names, and worlds of the same winners
+alike : (a b : Answer) (names messages : List (List ℕ)) (v w : World) → a ≡ b → world_of_winners v ≡ world_of_winners w → Alike (outcome_with a names messages v) (outcome_with b names messages w)
+alike a b names messages v w e f =
+    ap (λ (x : Answer). outcome_with x names messages (world_of_winners v)) e
+    ∙ ap (outcome_with b names messages) f
+
+-- so are questions with the same answer
+shown_alike : (lab : Laboratory) (a b : Answer) → a ≡ b → Alike (question_outcome (laboratory_of_winners lab) a) (question_outcome lab b)
+shown_alike lab a b e = alike a b lab.replica_names lab.message_names _ _ e (world-again lab.world)
+
+-- and outcomes under the same refusal
+unless_alike : (lab : Laboratory) (r : Option Refusal) (o p : Outcome) → Alike o p → Alike (outcome_unless (laboratory_of_winners lab) r o) (outcome_unless lab r p)
+unless_alike lab (Some refusal) o p e = shown_alike lab (replies.Refused refusal) (replies.Refused refusal) refl
+unless_alike lab None o p e = e
+
+-- or under two refusals that are one
+under_alike : (lab : Laboratory) (r s : Option Refusal) (o p : Outcome) → r ≡ s → Alike o p → Alike (outcome_unless (laboratory_of_winners lab) r o) (outcome_unless lab s p)
+under_alike lab r s o p e f =
+    ap (λ (q : Option Refusal). outcome_of_winners (outcome_unless (laboratory_of_winners lab) q o)) e ∙ unless_alike lab s o p f
+
+-- and outcomes by one number
+with_alike : (lab : Laboratory) (refusal : Refusal) (o : Option ℕ) (f g : ℕ → Outcome) → ((n : ℕ) → Alike (f n) (g n))
+    → Alike (outcome_by_number (laboratory_of_winners lab) refusal o f) (outcome_by_number lab refusal o g)
+with_alike lab refusal None f g e = shown_alike lab (replies.Refused refusal) (replies.Refused refusal) refl
+with_alike lab refusal (Some n) f g e = e n
+
+-- ---- changes
+
+-- an event, where its answers are the same
+changed_alike : (lab : Laboratory) (e : Event) (a b : Answer) → a ≡ b → Alike (change_outcome (laboratory_of_winners lab) e a) (change_outcome lab e b)
+changed_alike lab e a b same =
+    under_alike lab _ _ _ _ (ap (option_and_then world_refusal) (fault_at-of_winners e lab.world))
+    (alike a b lab.replica_names lab.message_names _ _ same (event-of_winners e lab.world))
+
+-- an event that makes a message
+sent_alike : (lab : Laboratory) (e : Event) (name : List ℕ) (a b : Answer) → a ≡ b → Alike (message_outcome (laboratory_of_winners lab) e name a) (message_outcome lab e name b)
+sent_alike lab e name a b same =
+    under_alike lab _ _ _ _ (ap (λ (f : Option WorldFault). option_or (option_and_then world_refusal f) (name_refusal lab name)) (fault_at-of_winners e lab.world))
+    (alike a b lab.replica_names (lab.message_names ++ name ∷ []) _ _ same (event-of_winners e lab.world))
+
+-- what a change is answered, by the world's reply
+abbrev reply_answer : Reply → Answer
+reply_answer (world_replies.Stamped stamp) = replies.Stamped stamp
+reply_answer (world_replies.Touched step) = replies.Touched step
+reply_answer (world_replies.Message number) = Sent [] number
+reply_answer (world_replies.Horizon to) = replies.Horizon to
+
+-- it is the same
+reply_alike : (e : Event) (w : World) → reply_answer (reply_to_event (world_of_winners w) e) ≡ reply_answer (reply_to_event w e)
+reply_alike e w = ap reply_answer (reply-of_winners e w)
+
+-- edits from outside
+imported_alike : (lab : Laboratory) (r : ℕ) (es : List edit.Edit) → Alike (import_outcome (laboratory_of_winners lab) r es) (import_outcome lab r es)
+imported_alike lab r es =
+    let one = winners_of_one_part (replica_at lab.world r).edits (from_list es) in
+    under_alike lab _ _ _ _ refl
+    (alike _ _ lab.replica_names lab.message_names _ _
+    (ap reply_answer (touched_reply-of_winners lab.world r (from_list es) (from_list es) one))
+    (edits-of_winners lab.world r (from_list es) (from_list es) one))
+
+-- ---- questions
+
+-- a sheet of the winners alone
+abbrev sheet_of_winners : Sheet → Sheet
+sheet_of_winners s = record s { edits = winners s.edits }
+
+-- a replica of a world of winners has it
+sheet_is : (w : World) (r : ℕ) → sheet_at (world_of_winners w) r ≡ sheet_of_winners (sheet_at w r)
+sheet_is w r =
+    ap (λ (x : WorldReplica). let s : Sheet = record { plan = w.plan; edits = x.edits; horizon = x.horizon } in s) (replica-of_winners w r)
+
+-- the winners give the same settings
+same_course : (s : Sheet) → settings_of s.plan (winners s.edits) ≡ settings_of s.plan s.edits
+same_course s = ap (λ (es : Edits). λ (step : ℕ). settings_in s.plan (items es) step) (winners_again s.edits)
+
+cells_alike : (s : Sheet) (step : ℕ) → cells_answer (sheet_of_winners s) step ≡ cells_answer s step
+unfolding row_at
+cells_alike s step = ap (λ (c : Course). question_answer (state_fault s step) (replies.Cells (row s.plan c step))) (same_course s)
+
+cars_alike : (s : Sheet) (step : ℕ) → cars_answer (sheet_of_winners s) step ≡ cars_answer s step
+cars_alike s step =
+    ap (λ (c : Course). question_answer (state_fault s step) (replies.Cars (cars_of_state (run s.plan c step)))) (same_course s)
+
+count_alike : (s : Sheet) (detector from to : ℕ) → count_answer (sheet_of_winners s) detector from to ≡ count_answer s detector from to
+count_alike s detector from to =
+    ap (λ (c : Course). question_answer (totals_fault s detector from to) (totals_answer (total s.plan c detector from to))) (same_course s)
+
+diagram_alike : (s : Sheet) (from to : ℕ) → diagram_answer (sheet_of_winners s) from to ≡ diagram_answer s from to
+unfolding row_at
+diagram_alike s from to =
+    ap (λ (c : Course). question_answer (rows_fault s from to) (replies.Rows (map (λ step. row s.plan c step) (range_with_len from (suc to - from))))) (same_course s)
+
+scenario_alike : (s : Sheet) → scenario_answer (sheet_of_winners s) ≡ scenario_answer s
+scenario_alike s = ap (λ (es : Edits). replies.Edits (items es)) (winners_again s.edits)
+
+-- what is read of a replica's sheet, where the winners suffice for it
+read_alike : (lab : Laboratory) (r : ℕ) (read : Sheet → Answer) → ((s : Sheet) → read (sheet_of_winners s) ≡ read s)
+    → Alike (question_outcome (laboratory_of_winners lab) (read (sheet_at (laboratory_of_winners lab).world r))) (question_outcome lab (read (sheet_at lab.world r)))
+read_alike lab r read same = shown_alike lab _ _ (ap read (sheet_is lab.world r) ∙ same (sheet_at lab.world r))
+
+-- ---- crowds
+
+-- a crowd depends on the plan alone
+crowd_alike : (lab : Laboratory) (shares : List (List edit.Edit)) (to : ℕ) → Alike (crowd_outcome (laboratory_of_winners lab) shares to) (crowd_outcome lab shares to)
+crowd_alike lab shares to = shown_alike lab _ _ refl
+
+-- where there is one, and else what comes of the command otherwise
+by_crowd_alike : (lab : Laboratory) (crowd : Option (List (List edit.Edit) × ℕ)) (o p : Outcome) → Alike o p
+    → Alike (option_map_or (λ c. crowd_outcome (laboratory_of_winners lab) c.0 c.1) crowd o) (option_map_or (λ c. crowd_outcome lab c.0 c.1) crowd p)
+by_crowd_alike lab None o p e = e
+by_crowd_alike lab (Some crowd) o p e = crowd_alike lab crowd.0 crowd.1
+
+-- ---- commands
+
+-- a command to a replica
+outcome_at_alike : (lab : Laboratory) (r : ℕ) (command : Command) → Alike (outcome_at (laboratory_of_winners lab) r command) (outcome_at lab r command)
+outcome_at_alike lab r (commands.Edit at object step number) = changed_alike lab (events.Edit r object step number) _ _ (reply_alike (events.Edit r object step number) lab.world)
+outcome_at_alike lab r (commands.Withdraw at object step) = changed_alike lab (events.Withdraw r object step) _ _ (reply_alike (events.Withdraw r object step) lab.world)
+outcome_at_alike lab r (commands.Import at es) = imported_alike lab r es
+outcome_at_alike lab r (commands.Send at name) =
+    sent_alike lab (events.Send r) name _ _ (ap (λ (es : Edits). Sent name (length (items es))) (held-of_winners lab.world r))
+outcome_at_alike lab r (commands.Heads at name) =
+    sent_alike lab (events.Heads r) name _ _ (ap (λ (es : Edits). replies.Heads name (heads es)) (held-of_winners lab.world r))
+outcome_at_alike lab r (commands.Beyond at asked name) =
+    with_alike lab refusals.NoMessage (number_of lab.message_names asked) _ _ (λ message.
+    let wanted : List Head = asked_heads (slice_get (world_of_winners lab.world).messages message) in
+    sent_alike lab (events.Beyond r message) name _ _
+    (ap (λ (es : Edits). Delta name (items (beyond es wanted))) (held-of_winners lab.world r)
+    ∙ ap (λ (hs : List Head). Delta name (items (beyond (edits_held lab.world r) hs))) (asked-of_winners lab.world message)))
+outcome_at_alike lab r (commands.Take at name) =
+    with_alike lab refusals.NoMessage (number_of lab.message_names name) _ _ (λ message.
+    changed_alike lab (events.Take r message) _ _ (reply_alike (events.Take r message) lab.world))
+outcome_at_alike lab r (commands.Advance at to) = changed_alike lab (events.Advance r to) _ _ (reply_alike (events.Advance r to) lab.world)
+outcome_at_alike lab r (commands.Cells at step) = read_alike lab r (λ s. cells_answer s step) (λ s. cells_alike s step)
+outcome_at_alike lab r (commands.Cars at step) = read_alike lab r (λ s. cars_answer s step) (λ s. cars_alike s step)
+outcome_at_alike lab r (commands.Count at detector from to) = read_alike lab r (λ s. count_answer s detector from to) (λ s. count_alike s detector from to)
+outcome_at_alike lab r (commands.Diagram at from to) = read_alike lab r (λ s. diagram_answer s from to) (λ s. diagram_alike s from to)
+outcome_at_alike lab r (commands.Scenario at) = read_alike lab r scenario_answer scenario_alike
+outcome_at_alike lab r (commands.Crowd shares to) = crowd_alike lab shares to
+
+-- a command whose replica is asked for first
+by_name_alike : (lab : Laboratory) (command : Command) → Alike (outcome_by_name (laboratory_of_winners lab) command) (outcome_by_name lab command)
+by_name_alike lab command =
+    with_alike lab refusals.NoReplica (number_of lab.replica_names (replica_name command)) _ _ (λ r. outcome_at_alike lab r command)
+
+-- every command
+pub winners_suffice : (lab : Laboratory) (command : Command) → outcome_of_winners (outcome (laboratory_of_winners lab) command) ≡ outcome_of_winners (outcome lab command)
+winners_suffice lab command = by_crowd_alike lab (crowd_of command) _ _ (by_name_alike lab command)
+
+-- the answer is that of the whole laboratory,
+pub answer-of_winners : (lab : Laboratory) (command : Command) → answer_to (laboratory_of_winners lab) command ≡ answer_to lab command
+answer-of_winners lab command = ap (λ (o : Outcome). o.answer) (winners_suffice lab command)
+
+-- and the laboratory after it the whole one's, as far as winners go
+pub after-of_winners : (lab : Laboratory) (command : Command) → laboratory_of_winners (laboratory_after (laboratory_of_winners lab) command) ≡ laboratory_of_winners (laboratory_after lab command)
+after-of_winners lab command = ap (λ (o : Outcome). o.after) (winners_suffice lab command)

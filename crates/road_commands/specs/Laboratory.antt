@@ -1,0 +1,340 @@
+-- A laboratory: a world whose replicas and messages have names, and what it answers to commands.
+use Rattle.std.specs.Prelude.{ℕ, max, List, [], ◌∷◌, ◌++◌, length, map, is_some, is_none, if◌then◌else◌, Result}
+use Rattle.std.specs.Prelude.{Bool, true, false, ◌&&◌, nat_le}
+use Rattle.std.specs.List.{position, slice_get}
+use Rattle.std.specs.Option.{option_and_then, option_map_or, option_or}
+use Rattle.std.specs.Str.{bytes_eq}
+use Rattle.std.specs.declared.option.Option.{Option}
+use Rattle.std.specs.declared.option.Option.TheVariants.{None, Some}
+use Rattle.std.specs.declared.result.Result.TheVariants.{Ok, Err}
+use Rattle.lattice_core.specs.Sets.{from_list, items, union}
+use Rattle.road_cells.specs.Array.{Array}
+use Rattle.road_cells.specs.Cars.{cars_of}
+use Rattle.road_plan.specs.Plan.{Plan}
+use Rattle.road_plan.specs.declared.object.Object.{Object}
+use Rattle.road_scenario.specs.Edits.{Edits}
+use Rattle.road_scenario.specs.Touched.{first_touched_step}
+use Rattle.road_scenario.specs.Winners.{winners}
+use Rattle.road_scenario.specs.declared.edit.Edit as edit
+use Rattle.road_scenario.specs.declared.edit.Value.{Value}
+use Rattle.road_scenario.specs.declared.edit.Value.TheVariants.{Put, Withdrawn}
+use Rattle.road_delta.specs.Deltas.{beyond, heads}
+use Rattle.road_detector.specs.declared.counts.Totals.{Totals}
+use Rattle.road_sheet.specs.Sheets.{Sheet, sheet_row, rows_of, state_of, total_of}
+use Rattle.road_sheet.specs.Shown.{row_at}
+use Rattle.road_replica.specs.Crowds.{crowd_winners, crowd_writes, shares_fault}
+use Rattle.road_replica.specs.Refusals.{gone_after_fault, import_fault, rows_fault, state_fault, totals_fault}
+use Rattle.road_replica.specs.Replicas.{local_edit}
+use Rattle.road_replica.specs.declared.crowds.TheConstants.{MOST_CROWD_WRITES}
+use Rattle.road_replica.specs.declared.faults.ReplicaFault.{ReplicaFault}
+use Rattle.road_replica.specs.declared.faults.ReplicaFault.TheVariants as replica_faults
+use Rattle.road_workers.specs.declared.faults.CrewFault.{CrewFault}
+use Rattle.road_workers.specs.declared.faults.CrewFault.TheVariants as crew_faults
+use Rattle.road_world.specs.Answers.{fault_at_replica, sheet_at}
+use Rattle.road_world.specs.Events.{World, asked_heads, carried_edits, opening_world, replica_at}
+use Rattle.road_world.specs.Events.{world_after_event, world_of_winners, world_with_edits}
+use Rattle.road_world.specs.declared.event.Event.{Event}
+use Rattle.road_world.specs.declared.event.Event.TheVariants as events
+use Rattle.road_world.specs.declared.faults.WorldFault.{WorldFault}
+use Rattle.road_world.specs.declared.faults.WorldFault.TheVariants as world_faults
+use Rattle.road_format.specs.CommandGrammar as commands
+use Rattle.road_format.specs.CommandGrammar.{Command, are_few_shares}
+use Rattle.road_format.specs.PlanGrammar.{PlanLine}
+use Rattle.road_format.specs.Replies as replies
+use Rattle.road_format.specs.Replies.{Answer, Counted, Delta, Horizon, Refused, Sent, Stamped, Touched}
+use Rattle.road_format.specs.declared.refusal.Refusal.{Refusal}
+use Rattle.road_format.specs.declared.refusal.Refusal.TheVariants as refusals
+use Rattle.road_commands.specs.declared.faults.LaboratoryFault.{LaboratoryFault}
+use Rattle.road_commands.specs.declared.faults.LaboratoryFault.TheVariants as faults
+
+-- the names of the replicas, in the order of their numbers; those of the messages, in the order in which they were
+-- made; and their world
+pub record Laboratory : Type 0 where
+  pub replica_names : List (List ℕ)
+  pub message_names : List (List ℕ)
+  pub world : World
+
+-- the laboratory of a plan line, before any command
+abbrev pub opening_laboratory : PlanLine → Laboratory
+opening_laboratory line = record {
+  replica_names = line.names;
+  message_names = [];
+  world = opening_world line.plan (length line.names);
+}
+
+-- the laboratory of which each replica holds, and each message carries, the winners alone
+abbrev pub laboratory_of_winners : Laboratory → Laboratory
+laboratory_of_winners lab = record lab { world = world_of_winners lab.world }
+
+-- what a command comes to: its answer, and the laboratory after it
+pub record Outcome : Type 0 where
+  pub answer : Answer
+  pub after : Laboratory
+
+-- ---- refusals
+
+-- a refused command changes nothing
+abbrev pub refusal_outcome : Laboratory → Refusal → Outcome
+refusal_outcome lab refusal = record { answer = Refused refusal; after = lab }
+
+-- refused where there is a refusal, and else what is given
+abbrev pub outcome_unless : Laboratory → Option Refusal → Outcome → Outcome
+outcome_unless lab (Some refusal) outcome = refusal_outcome lab refusal
+outcome_unless lab None outcome = outcome
+
+-- how a replica's refusal is answered; want of workers or of memory is none
+abbrev pub replica_refusal : ReplicaFault → Option Refusal
+replica_refusal replica_faults.NoObject = Some refusals.NoObject
+replica_refusal replica_faults.Step = Some refusals.Step
+replica_refusal replica_faults.ValueOutOfRange = Some refusals.ValueOutOfRange
+replica_refusal replica_faults.Count = Some refusals.Count
+replica_refusal replica_faults.Insider = Some refusals.Insider
+replica_refusal replica_faults.CountsSpent = Some refusals.CountsSpent
+replica_refusal replica_faults.Horizon = Some refusals.Horizon
+replica_refusal replica_faults.NoDetector = Some refusals.NoDetector
+replica_refusal replica_faults.Range = Some refusals.Range
+replica_refusal replica_faults.NotSimulated = Some refusals.NotSimulated
+replica_refusal replica_faults.WorkersGone = None
+replica_refusal replica_faults.OutOfMemory = None
+
+-- how a world's refusal is answered
+abbrev pub world_refusal : WorldFault → Option Refusal
+world_refusal world_faults.NoReplica = Some refusals.NoReplica
+world_refusal world_faults.NoMessage = Some refusals.NoMessage
+world_refusal (world_faults.Replica fault) = replica_refusal fault
+
+-- ---- names
+
+-- the number of the thing of a name: its place in the list
+abbrev pub number_of : List (List ℕ) → List ℕ → Option ℕ
+number_of names name = position (bytes_eq name) names
+
+-- what comes of a number, where there is one, and else the refusal
+abbrev pub outcome_by_number : Laboratory → Refusal → Option ℕ → (ℕ → Outcome) → Outcome
+outcome_by_number lab refusal None next = refusal_outcome lab refusal
+outcome_by_number lab refusal (Some number) next = next number
+
+-- the refusal of a name for a new message: no two messages have the same name
+abbrev pub name_refusal : Laboratory → List ℕ → Option Refusal
+name_refusal lab name = if is_some (number_of lab.message_names name) then Some refusals.NameTaken else None
+
+-- ---- changes
+
+-- the edits that replica r holds, as far as they win
+abbrev pub edits_held : World → ℕ → Edits
+edits_held w r = winners (replica_at w r).edits
+
+-- an event takes place, unless the world refuses it
+abbrev pub change_outcome : Laboratory → Event → Answer → Outcome
+change_outcome lab event answer =
+    outcome_unless lab (option_and_then world_refusal (fault_at_replica lab.world event)) (record {
+      answer = answer;
+      after = record lab { world = world_after_event event lab.world };
+    })
+
+-- an event that makes a message takes place, unless the world refuses it or the message's name is taken
+abbrev pub message_outcome : Laboratory → Event → List ℕ → Answer → Outcome
+message_outcome lab event name answer =
+    outcome_unless lab
+    (option_or (option_and_then world_refusal (fault_at_replica lab.world event)) (name_refusal lab name)) (record {
+      answer = answer;
+      after = record lab {
+        message_names = lab.message_names ++ name ∷ [];
+        world = world_after_event event lab.world;
+      };
+    })
+
+-- the stamp of the edit that replica r makes
+abbrev pub stamp_answer : World → ℕ → Object → ℕ → Value → Answer
+stamp_answer w r object step value = Stamped (local_edit r (replica_at w r).edits object step value).stamp
+
+-- the first step that edits touch where they reach replica r
+abbrev pub touched_answer : World → ℕ → Edits → Answer
+touched_answer w r edits = Touched (first_touched_step (replica_at w r).edits (union (replica_at w r).edits edits))
+
+-- Edits reach replica r from outside, unless it refuses them. It is what the event `Import` comes to; that event owns a
+-- list of the program, which a definition does not make, so none stands here.
+abbrev pub import_outcome : Laboratory → ℕ → List edit.Edit → Outcome
+import_outcome lab r edits =
+    outcome_unless lab (option_and_then replica_refusal (import_fault lab.world.plan edits)) (record {
+      answer = touched_answer lab.world r (from_list edits);
+      after = record lab { world = world_with_edits r (from_list edits) lab.world };
+    })
+
+-- replica r sends all that it holds; the answer is how many edits that are
+abbrev pub send_outcome : Laboratory → ℕ → List ℕ → Outcome
+send_outcome lab r name = message_outcome lab (events.Send r) name (Sent name (length (items (edits_held lab.world r))))
+
+-- replica r sends the heads of all that it holds
+abbrev pub heads_outcome : Laboratory → ℕ → List ℕ → Outcome
+heads_outcome lab r name =
+    message_outcome lab (events.Heads r) name (replies.Heads name (heads (edits_held lab.world r)))
+
+-- replica r sends what it holds beyond the heads of a message
+abbrev pub beyond_outcome : Laboratory → ℕ → List ℕ → List ℕ → Outcome
+beyond_outcome lab r asked name =
+    outcome_by_number lab refusals.NoMessage (number_of lab.message_names asked) (λ message.
+    message_outcome lab (events.Beyond r message) name
+    (Delta name (items (beyond (edits_held lab.world r) (asked_heads (slice_get lab.world.messages message))))))
+
+-- a message with edits reaches replica r
+abbrev pub take_outcome : Laboratory → ℕ → List ℕ → Outcome
+take_outcome lab r name =
+    outcome_by_number lab refusals.NoMessage (number_of lab.message_names name) (λ message.
+    change_outcome lab (events.Take r message)
+    (touched_answer lab.world r (carried_edits (slice_get lab.world.messages message))))
+
+-- ---- questions: they change nothing
+
+-- refused where there is a refusal, and else the answer
+abbrev pub answer_unless : Option Refusal → Answer → Answer
+answer_unless (Some refusal) answer = Refused refusal
+answer_unless None answer = answer
+
+-- refused where there is a cause, and else the answer
+abbrev pub question_answer : Option ReplicaFault → Answer → Answer
+question_answer fault answer = answer_unless (option_and_then replica_refusal fault) answer
+
+-- the row of a step
+abbrev pub cells_answer : Sheet → ℕ → Answer
+cells_answer sheet step = question_answer (state_fault sheet step) (replies.Cells (sheet_row sheet step))
+
+-- the cars of a road: number, cell, speed, in rising cells
+abbrev pub cars_of_state : Array → List (ℕ × ℕ × ℕ)
+cars_of_state road = map (λ car. (car.number, car.cell, car.speed)) (cars_of road)
+
+-- the cars of a step
+abbrev pub cars_answer : Sheet → ℕ → Answer
+cars_answer sheet step = question_answer (state_fault sheet step) (replies.Cars (cars_of_state (state_of sheet step)))
+
+-- cars and the sum of their speeds, as an answer
+abbrev pub totals_answer : Totals → Answer
+totals_answer totals = Counted totals.cars totals.speeds
+
+-- what a detector counts in the steps from one up to another
+abbrev pub count_answer : Sheet → ℕ → ℕ → ℕ → Answer
+count_answer sheet detector from to =
+    question_answer (totals_fault sheet detector from to) (totals_answer (total_of sheet detector from to))
+
+-- the rows of the steps from one to another, both of them
+abbrev pub diagram_answer : Sheet → ℕ → ℕ → Answer
+diagram_answer sheet from to = question_answer (rows_fault sheet from to) (replies.Rows (rows_of sheet from to))
+
+-- the winners, by object and step
+abbrev pub scenario_answer : Sheet → Answer
+scenario_answer sheet = replies.Edits (items (winners sheet.edits))
+
+-- a question is answered
+abbrev pub question_outcome : Laboratory → Answer → Outcome
+question_outcome lab answer = record { answer = answer; after = lab }
+
+-- ---- crowds: they are asked of no replica, and change nothing
+
+-- whether shares are gathered: there is one at least, and there are not too many, nor too many writes to make
+abbrev pub are_gathered : List (List edit.Edit) → Bool
+are_gathered shares = are_few_shares shares && nat_le (crowd_writes shares) MOST_CROWD_WRITES
+
+-- Why a crowd is refused: as a replica would refuse the first faulty edit, in the order of the shares, else the step.
+-- One that is not gathered is no command; no line writes such a one.
+abbrev pub crowd_refusal : Plan → List (List edit.Edit) → ℕ → Option Refusal
+crowd_refusal plan shares to =
+    if are_gathered shares then option_and_then replica_refusal (shares_fault plan shares to)
+    else Some refusals.NotACommand
+
+-- what the sessions of a crowd leave: the winners of all edits, how many writes they make, and the row of the step
+abbrev pub crowd_answer : Plan → List (List edit.Edit) → ℕ → Answer
+crowd_answer plan shares to =
+    replies.Crowd (items (crowd_winners shares)) (crowd_writes shares) (row_at plan (crowd_winners shares) to)
+
+-- what a crowd comes to
+abbrev pub crowd_outcome : Laboratory → List (List edit.Edit) → ℕ → Outcome
+crowd_outcome lab shares to =
+    question_outcome lab
+    (answer_unless (crowd_refusal lab.world.plan shares to) (crowd_answer lab.world.plan shares to))
+
+-- ---- commands
+
+-- the name of a command's replica; a crowd names none
+abbrev pub replica_name : Command → List ℕ
+replica_name (commands.Edit at object step number) = at
+replica_name (commands.Withdraw at object step) = at
+replica_name (commands.Import at edits) = at
+replica_name (commands.Send at name) = at
+replica_name (commands.Heads at name) = at
+replica_name (commands.Beyond at asked name) = at
+replica_name (commands.Take at message) = at
+replica_name (commands.Advance at to) = at
+replica_name (commands.Cells at step) = at
+replica_name (commands.Cars at step) = at
+replica_name (commands.Count at detector from to) = at
+replica_name (commands.Diagram at from to) = at
+replica_name (commands.Scenario at) = at
+replica_name (commands.Crowd shares to) = []
+
+-- what a command to replica r comes to
+abbrev pub outcome_at : Laboratory → ℕ → Command → Outcome
+outcome_at lab r (commands.Edit at object step number) =
+    change_outcome lab (events.Edit r object step number) (stamp_answer lab.world r object step (Put number))
+outcome_at lab r (commands.Withdraw at object step) =
+    change_outcome lab (events.Withdraw r object step) (stamp_answer lab.world r object step Withdrawn)
+outcome_at lab r (commands.Import at edits) = import_outcome lab r edits
+outcome_at lab r (commands.Send at name) = send_outcome lab r name
+outcome_at lab r (commands.Heads at name) = heads_outcome lab r name
+outcome_at lab r (commands.Beyond at asked name) = beyond_outcome lab r asked name
+outcome_at lab r (commands.Take at message) = take_outcome lab r message
+outcome_at lab r (commands.Advance at to) =
+    change_outcome lab (events.Advance r to) (Horizon (max (replica_at lab.world r).horizon to))
+outcome_at lab r (commands.Cells at step) = question_outcome lab (cells_answer (sheet_at lab.world r) step)
+outcome_at lab r (commands.Cars at step) = question_outcome lab (cars_answer (sheet_at lab.world r) step)
+outcome_at lab r (commands.Count at detector from to) =
+    question_outcome lab (count_answer (sheet_at lab.world r) detector from to)
+outcome_at lab r (commands.Diagram at from to) = question_outcome lab (diagram_answer (sheet_at lab.world r) from to)
+outcome_at lab r (commands.Scenario at) = question_outcome lab (scenario_answer (sheet_at lab.world r))
+outcome_at lab r (commands.Crowd shares to) = crowd_outcome lab shares to
+
+-- what a command comes to where its replica is asked for first
+abbrev pub outcome_by_name : Laboratory → Command → Outcome
+outcome_by_name lab command =
+    outcome_by_number lab refusals.NoReplica (number_of lab.replica_names (replica_name command)) (λ r.
+    outcome_at lab r command)
+
+-- the shares and the step of a command that is a crowd
+abbrev pub crowd_of : Command → Option (List (List edit.Edit) × ℕ)
+crowd_of (commands.Crowd shares to) = Some (shares, to)
+crowd_of command = None
+
+-- what a command comes to: a crowd asks for no replica; of every other command the replica is asked for first
+abbrev pub outcome : Laboratory → Command → Outcome
+outcome lab command =
+    option_map_or (λ crowd. crowd_outcome lab crowd.0 crowd.1) (crowd_of command) (outcome_by_name lab command)
+
+-- what a command is answered
+abbrev pub answer_to : Laboratory → Command → Answer
+answer_to lab command = (outcome lab command).answer
+
+-- the laboratory after a command
+abbrev pub laboratory_after : Laboratory → Command → Laboratory
+laboratory_after lab command = (outcome lab command).after
+
+-- how often a crew has answered `WorkersGone`, after an answer of the laboratory
+abbrev pub gone_after : {A : Type 0} → Result A LaboratoryFault → ℕ → ℕ
+gone_after (Ok answer) n = n
+gone_after (Err faults.WorkersGone) n = gone_after_fault replica_faults.WorkersGone n
+gone_after (Err faults.OutOfMemory) n = n
+
+-- whether a command is a crowd that nothing refuses, so that sessions on threads of their own are asked
+abbrev pub is_gathered : Plan → Command → Bool
+is_gathered plan command =
+    option_map_or (λ crowd. is_none (crowd_refusal plan crowd.0 crowd.1)) (crowd_of command) false
+
+-- how often a crew has answered `WorkersGone`, after an answer to a command; sessions that are asked ask no crew
+abbrev pub gone_after_command : {A : Type 0} → Result A LaboratoryFault → Bool → ℕ → ℕ
+gone_after_command (Ok answer) gathered n = n
+gone_after_command (Err faults.OutOfMemory) gathered n = n
+gone_after_command (Err faults.WorkersGone) true n = n
+gone_after_command (Err faults.WorkersGone) false n = gone_after_fault replica_faults.WorkersGone n
+
+-- the fault of the laboratory where the sessions of a crowd leave nothing
+abbrev pub gathering_fault : CrewFault → LaboratoryFault
+gathering_fault crew_faults.WorkersGone = faults.WorkersGone
+gathering_fault crew_faults.OutOfMemory = faults.OutOfMemory

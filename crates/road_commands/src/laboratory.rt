@@ -1,0 +1,576 @@
+//! A world with names, and its answers to commands.
+
+ghost use Rattle.std.specs.Prelude.{◌≡◌, ◌<◌, ◌≤◌, ◌++◌, ◌∷◌, [], IfNone, IfOk, IfSome, None, OnErr, OnOk, Some, is_none, length, ℕ};
+ghost use Rattle.std.specs.Arc.{arc_value};
+ghost use Rattle.std.specs.List.{All, IsDistinct, slice_get};
+ghost use Rattle.std.specs.Str.{bytes_eq};
+ghost use Rattle.lattice_core.specs.Sets.{items};
+ghost use Rattle.road_plan.specs.declared.limits.TheConstants.{MOST_REPLICAS};
+ghost use Rattle.road_delta.specs.Deltas as deltas;
+ghost use Rattle.road_sheet.specs.Sheets.{Sheet};
+ghost use Rattle.road_world.specs.Answers.{IsAnswer, fault_at_replica, gone_after_answer, heads_wanted_fault};
+ghost use Rattle.road_world.specs.Answers.{replica_number, reply_to_event, sheet_at};
+ghost use Rattle.road_world.specs.Events.{asked_heads, world_after_event};
+ghost use Rattle.road_world.specs.declared.faults.WorldFault.TheVariants.{NoMessage};
+ghost use Rattle.road_format.specs.Replies as replies;
+ghost use Rattle.road_format.specs.Views.{answer_view, command_view, plan_line_view, shares_view, texts};
+ghost use Rattle.road_commands.specs.Private.Caching.{IsCacheOf};
+ghost use Rattle.road_commands.specs.Laboratory.{answer_to, beyond_outcome, change_outcome, edits_held, gone_after};
+ghost use Rattle.road_commands.specs.Laboratory.{heads_outcome, import_outcome, laboratory_after};
+ghost use Rattle.road_commands.specs.Laboratory.{laboratory_of_winners, number_of, opening_laboratory, outcome_at};
+ghost use Rattle.road_commands.specs.Laboratory.{outcome_by_name};
+ghost use Rattle.road_commands.specs.Laboratory.{send_outcome, take_outcome};
+ghost use Rattle.road_commands.specs.Laboratory.{crowd_outcome, gone_after_command, is_gathered};
+ghost use Rattle.road_commands.specs.Laboratory as laboratory;
+ghost use Rattle.road_commands.specs.Private.Changes.{reply_answer};
+ghost use Rattle.road_commands.specs.Private.Questions.{answer_to_question};
+
+use crate::crowds::{crowd_of, crowd_refusal};
+use crate::faults::LaboratoryFault;
+use crate::names::Names;
+use crate::queries::answer;
+use crate::query_cache::QueryCache;
+use crate::question::Question;
+use crate::translation::{answer_of, fault_by, keeps_edits, name_of, refusal_of};
+use road_delta::{Head, beyond, heads_of};
+use road_ends::Meter;
+use road_format::{Answer, Command, PlanLine, Refusal};
+use road_plan::{OutOfMemory, Plan};
+use road_replica::{Crowd, Crowds, Reply};
+use road_scenario::Edit;
+use road_workers::Crew;
+use road_world::{Event, Message, World, WorldFault};
+use std::alloc::Global;
+use std::marker::Model;
+use std::sync::Arc;
+
+/// A world whose replicas and messages have names. Of each replica the last state that was computed for a question is
+/// kept too, until the replica's edits change, and the words that were drawn for it: some 140 bytes for each of its cars.
+#[derive(Drop)]
+pub struct Laboratory {
+    replicas: Names,
+    messages: Names,
+    world: World,
+    runs: Vec<QueryCache>,
+    meter: Meter,
+}
+
+impl Model for Laboratory {
+    ghost use Rattle.std.specs.Coded.{codes};
+    ghost use Rattle.road_scenario.specs.Instances.EditOrder.{edits_code};
+    ghost use Rattle.road_commands.specs.Private.Caching.{IsKept};
+    ghost use Rattle.road_commands.specs.Laboratory.{Laboratory};
+
+    ghost Value = { Laboratory };
+
+    ghost coded = { Prim.hlevel (codes, edits_code) };
+
+    ghost view = { λ lab. record {
+      replica_names = lab.replicas;
+      message_names = lab.messages;
+      world = lab.world;
+    } };
+
+    ghost invariant = { λ lab. IsKept lab.replicas lab.world lab.runs.items };
+}
+
+impl Laboratory {
+    /// The laboratory of a plan line, before any command. No step is simulated. The line has at most 64 names, all
+    /// different, as every line that `read_plan` accepts.
+    ///
+    /// # Errors
+    ///
+    /// `OutOfMemory` where an allocation failed.
+    pub fn open(alloc: Global, line: PlanLine) -> Result<Laboratory, OutOfMemory>
+        requires few { length line.names.items ≤ MOST_REPLICAS }
+        requires apart { IsDistinct bytes_eq (texts line.names.items) }
+        ensures { IfOk result (λ lab. lab ≡ opening_laboratory (plan_line_view line)) }
+    {
+        let replicas = Names::of(alloc, line.names)?;
+        let count = replicas.len();
+        let plan = Arc::new(alloc, line.plan)?;
+        let runs = opening_runs(alloc, &plan, count)?;
+        let world = World::open(alloc, plan, count as u32)?;
+        Ok(Laboratory {
+            replicas,
+            messages: Names::none(alloc),
+            world,
+            runs,
+            meter: Meter::new(),
+        })
+    }
+
+    /// What a command is answered. A write computes anew, by the crew that it is given, every simulated step that it
+    /// touches before it answers. A crowd that nothing refuses is gathered by `crowds`. A refused command changes nothing,
+    /// and a crowd neither.
+    ///
+    /// # Errors
+    ///
+    /// `WorkersGone` where the crew answers so, or, at a crowd that nothing refuses, `crowds` does; `OutOfMemory` where a
+    /// growth was refused, or `crowds` says so. The laboratory is then as it was before.
+    pub fn answer<C: Crew, K: Crowds>(
+        &mut self,
+        alloc: Global,
+        command: &Command,
+        crew: &mut C,
+        crowds: &K,
+    ) -> Result<Answer, LaboratoryFault>
+        ensures answer { IfOk result (λ answer. answer_view answer ≡ answer_to self.old (command_view command.now)) }
+        ensures after { OnOk result (self.new
+            ≡ laboratory_of_winners (laboratory_after self.old (command_view command.now))) }
+        ensures unchanged { OnErr result (self.new ≡ self.old) }
+        ensures gone { C.times_gone crew.new ≡ gone_after_command result
+            (is_gathered self.old.world.plan (command_view command.now)) (C.times_gone crew.old) }
+    {
+        self.known();
+        if let Some((shares, to)) = crowd_of(command) {
+            return self.gather(alloc, shares, to, crowds);
+        }
+        self.answer_by_name(alloc, command, crew)
+    }
+
+    // What a crowd is answered.
+    fn gather<K: Crowds>(
+        &self,
+        alloc: Global,
+        shares: &[Vec<Edit>],
+        to: u32,
+        crowds: &K,
+    ) -> Result<Answer, LaboratoryFault>
+        ensures answer { IfOk result (λ answer. answer_view answer
+            ≡ (crowd_outcome self.now (shares_view shares.now) to).answer) }
+        ensures no_crew { (n : ℕ) → gone_after_command result
+            (is_none (laboratory.crowd_refusal self.now.world.plan (shares_view shares.now) to)) n ≡ n }
+    {
+        let plan = self.world.plan();
+        if let Some(refusal) = crowd_refusal(plan, shares, to) {
+            return Ok(Answer::Refused(refusal));
+        }
+        let Crowd {
+            edits,
+            journal,
+            row,
+        } = crowds.gathered(alloc, plan, shares, to)?;
+        Ok(Answer::Crowd {
+            edits,
+            journal,
+            row,
+        })
+    }
+
+    // What a command is answered that is no crowd: its replica is asked for first.
+    fn answer_by_name<C: Crew>(
+        &mut self,
+        alloc: Global,
+        command: &Command,
+        crew: &mut C,
+    ) -> Result<Answer, LaboratoryFault>
+        requires { laboratory.crowd_of (command_view command.now) ≡ None }
+        ensures answer { IfOk result (λ answer. answer_view answer
+            ≡ (outcome_by_name self.old (command_view command.now)).answer) }
+        ensures after { OnOk result (self.new
+            ≡ laboratory_of_winners (outcome_by_name self.old (command_view command.now)).after) }
+        ensures unchanged { OnErr result (self.new ≡ self.old) }
+        ensures gone { C.times_gone crew.new ≡ gone_after result (C.times_gone crew.old) }
+    {
+        self.known();
+        let Some(at) = self.replica_of(name_of(command)) else {
+            return Ok(Answer::Refused(Refusal::NoReplica));
+        };
+        self.answer_at(alloc, at, command, crew)
+    }
+
+    // That each name has a replica, and that replicas and messages have winners alone. It is a fact for proofs: the call
+    // does nothing.
+    fn known(&self)
+        ensures winners { laboratory_of_winners self.now ≡ self.now }
+        ensures replicas { length self.now.world.replicas ≡ length self.now.replica_names }
+    {
+        let _ = &self.world;
+    }
+
+    // The number of a replica's name.
+    fn replica_of(&self, name: &str) -> Option<u32>
+        ensures number { result ≡ number_of self.now.replica_names name.now }
+        ensures within { IfSome result (λ at. at < length self.now.replica_names) }
+    {
+        self.world.known();
+        let number = self.replicas.number_of(name)?;
+        Some(number as u32)
+    }
+
+    // What a command to a replica is answered.
+    fn answer_at<C: Crew>(
+        &mut self,
+        alloc: Global,
+        at: u32,
+        command: &Command,
+        crew: &mut C,
+    ) -> Result<Answer, LaboratoryFault>
+        requires there { at < length self.old.replica_names }
+        requires no_crowd { laboratory.crowd_of (command_view command.now) ≡ None }
+        ensures answer { IfOk result (λ answer. answer_view answer
+            ≡ (outcome_at self.old at (command_view command.now)).answer) }
+        ensures after { OnOk result (self.new
+            ≡ laboratory_of_winners (outcome_at self.old at (command_view command.now)).after) }
+        ensures unchanged { OnErr result (self.new ≡ self.old) }
+        ensures gone { C.times_gone crew.new ≡ gone_after result (C.times_gone crew.old) }
+    {
+        self.known();
+        match command {
+            Command::Edit {
+                object,
+                step,
+                value,
+                ..
+            } => {
+                let event = Event::Edit {
+                    at,
+                    object: *object,
+                    step: *step,
+                    value: *value,
+                };
+                self.change(alloc, &event, crew)
+            }
+            Command::Withdraw { object, step, .. } => {
+                let event = Event::Withdraw {
+                    at,
+                    object: *object,
+                    step: *step,
+                };
+                self.change(alloc, &event, crew)
+            }
+            Command::Import { edits, .. } => self.import(alloc, at, edits, crew),
+            Command::Send { name, .. } => self.send(alloc, at, name, crew),
+            Command::Heads { name, .. } => self.heads(alloc, at, name, crew),
+            Command::Beyond { heads, name, .. } => self.beyond(alloc, at, heads, name, crew),
+            Command::Take { message, .. } => self.take(alloc, at, message, crew),
+            Command::Advance { to, .. } => self.change(
+                alloc,
+                &Event::Advance { at, to: *to },
+                crew,
+            ),
+            Command::Cells { step, .. } => self.ask(alloc, at, Question::Cells { step: *step }),
+            Command::Cars { step, .. } => self.ask(alloc, at, Question::Cars { step: *step }),
+            Command::Count {
+                detector,
+                from,
+                to,
+                ..
+            } => self.ask(
+                alloc,
+                at,
+                Question::Count {
+                    detector: *detector,
+                    from: *from,
+                    to: *to,
+                },
+            ),
+            Command::Diagram { from, to, .. } => self.ask(
+                alloc,
+                at,
+                Question::Diagram {
+                    from: *from,
+                    to: *to,
+                },
+            ),
+            Command::Scenario { .. } => self.ask(alloc, at, Question::Scenario),
+            Command::Crowd { .. } => unreachable!(),
+        }
+    }
+
+    // What a replica is asked is answered by its sheet. No crew is needed.
+    fn ask(&mut self, alloc: Global, at: u32, question: Question) -> Result<Answer, LaboratoryFault>
+        requires { at < length self.old.replica_names }
+        ensures answer { IfOk result (λ answer. answer_view answer
+            ≡ answer_to_question (sheet_at self.old.world at) question) }
+        ensures unchanged { self.new ≡ self.old }
+        ensures no_crew { (n : ℕ) → gone_after result n ≡ n }
+    {
+        let Some(replica) = self.world.replica(at) else {
+            return Ok(Answer::Refused(Refusal::NoReplica));
+        };
+        let kept = &mut self.runs[at as usize];
+        Ok(answer(alloc, replica.sheet(), kept, question)?)
+    }
+
+    // ---- changes
+
+    // An event takes place that makes no message.
+    fn change<C: Crew>(
+        &mut self,
+        alloc: Global,
+        event: &Event,
+        crew: &mut C,
+    ) -> Result<Answer, LaboratoryFault>
+        requires { replica_number event.now < length self.old.replica_names }
+        ensures answer { IfOk result (λ answer. answer_view answer
+            ≡ (change_outcome self.old event.now (reply_answer (reply_to_event self.old.world event.now))).answer) }
+        ensures after { (given : replies.Answer) → OnOk result (self.new
+            ≡ laboratory_of_winners (change_outcome self.old event.now given).after) }
+        ensures unchanged { OnErr result (self.new ≡ self.old) }
+        ensures gone { C.times_gone crew.new ≡ gone_after result (C.times_gone crew.old) }
+    {
+        self.known();
+        match self.apply(alloc, event, crew) {
+            Ok(reply) => Ok(answer_of(reply)),
+            Err(fault) => match refusal_of(fault) {
+                Some(refusal) => Ok(Answer::Refused(refusal)),
+                None => Err(fault_by(fault)),
+            },
+        }
+    }
+
+    // Edits reach a replica from outside.
+    fn import<C: Crew>(
+        &mut self,
+        alloc: Global,
+        at: u32,
+        edits: &Vec<Edit>,
+        crew: &mut C,
+    ) -> Result<Answer, LaboratoryFault>
+        requires { at < length self.old.replica_names }
+        ensures answer { IfOk result (λ answer. answer_view answer
+            ≡ (import_outcome self.old at edits.now.items).answer) }
+        ensures after { OnOk result (self.new
+            ≡ laboratory_of_winners (import_outcome self.old at edits.now.items).after) }
+        ensures unchanged { OnErr result (self.new ≡ self.old) }
+        ensures gone { C.times_gone crew.new ≡ gone_after result (C.times_gone crew.old) }
+    {
+        let edits = edits.to_vec(alloc)?;
+        self.change(alloc, &Event::Import { at, edits }, crew)
+    }
+
+    // A message reaches a replica.
+    fn take<C: Crew>(
+        &mut self,
+        alloc: Global,
+        at: u32,
+        name: &str,
+        crew: &mut C,
+    ) -> Result<Answer, LaboratoryFault>
+        requires { at < length self.old.replica_names }
+        ensures answer { IfOk result (λ answer. answer_view answer ≡ (take_outcome self.old at name.now).answer) }
+        ensures after { OnOk result (self.new ≡ laboratory_of_winners (take_outcome self.old at name.now).after) }
+        ensures unchanged { OnErr result (self.new ≡ self.old) }
+        ensures gone { C.times_gone crew.new ≡ gone_after result (C.times_gone crew.old) }
+    {
+        self.known();
+        match self.messages.number_of(name) {
+            Some(number) => {
+                let message = number as u64;
+                self.change(alloc, &Event::Take { at, message }, crew)
+            }
+            None => Ok(Answer::Refused(Refusal::NoMessage)),
+        }
+    }
+
+    // ---- messages
+
+    // A replica sends all that it holds.
+    fn send<C: Crew>(
+        &mut self,
+        alloc: Global,
+        at: u32,
+        name: &str,
+        crew: &mut C,
+    ) -> Result<Answer, LaboratoryFault>
+        requires { at < length self.old.replica_names }
+        ensures answer { IfOk result (λ answer. answer_view answer ≡ (send_outcome self.old at name.now).answer) }
+        ensures after { OnOk result (self.new ≡ laboratory_of_winners (send_outcome self.old at name.now).after) }
+        ensures unchanged { OnErr result (self.new ≡ self.old) }
+        ensures gone { C.times_gone crew.new ≡ gone_after result (C.times_gone crew.old) }
+    {
+        self.known();
+        if self.messages.number_of(name).is_some() {
+            return Ok(Answer::Refused(Refusal::NameTaken));
+        }
+        let message = String::from_str(alloc, name)?;
+        let size = self.edits_held(alloc, at)?.len() as u64;
+        self.make(alloc, &Event::Send { at }, name, crew)?;
+        Ok(Answer::Sent { message, size })
+    }
+
+    // A replica sends the heads of all that it holds.
+    fn heads<C: Crew>(
+        &mut self,
+        alloc: Global,
+        at: u32,
+        name: &str,
+        crew: &mut C,
+    ) -> Result<Answer, LaboratoryFault>
+        requires { at < length self.old.replica_names }
+        ensures answer { IfOk result (λ answer. answer_view answer ≡ (heads_outcome self.old at name.now).answer) }
+        ensures after { OnOk result (self.new ≡ laboratory_of_winners (heads_outcome self.old at name.now).after) }
+        ensures unchanged { OnErr result (self.new ≡ self.old) }
+        ensures gone { C.times_gone crew.new ≡ gone_after result (C.times_gone crew.old) }
+    {
+        self.known();
+        if self.messages.number_of(name).is_some() {
+            return Ok(Answer::Refused(Refusal::NameTaken));
+        }
+        let message = String::from_str(alloc, name)?;
+        let heads = self.heads_held(alloc, at)?;
+        self.make(alloc, &Event::Heads { at }, name, crew)?;
+        Ok(Answer::Heads { message, heads })
+    }
+
+    // A replica sends what it holds beyond the heads of a message.
+    fn beyond<C: Crew>(
+        &mut self,
+        alloc: Global,
+        at: u32,
+        asked: &str,
+        name: &str,
+        crew: &mut C,
+    ) -> Result<Answer, LaboratoryFault>
+        requires { at < length self.old.replica_names }
+        ensures answer { IfOk result (λ answer. answer_view answer
+            ≡ (beyond_outcome self.old at asked.now name.now).answer) }
+        ensures after { OnOk result (self.new
+            ≡ laboratory_of_winners (beyond_outcome self.old at asked.now name.now).after) }
+        ensures unchanged { OnErr result (self.new ≡ self.old) }
+        ensures gone { C.times_gone crew.new ≡ gone_after result (C.times_gone crew.old) }
+    {
+        self.known();
+        let Some(number) = self.number_of_heads(asked) else {
+            return Ok(Answer::Refused(Refusal::NoMessage));
+        };
+        if self.messages.number_of(name).is_some() {
+            return Ok(Answer::Refused(Refusal::NameTaken));
+        }
+        let message = String::from_str(alloc, name)?;
+        let edits = self.edits_beyond(alloc, at, number)?;
+        let event = Event::Beyond {
+            at,
+            message: number,
+        };
+        self.make(alloc, &event, name, crew)?;
+        Ok(Answer::Delta { message, edits })
+    }
+
+    // A message is made by an event, and gets a name. Neither the world nor the names may refuse it.
+    fn make<C: Crew>(
+        &mut self,
+        alloc: Global,
+        event: &Event,
+        name: &str,
+        crew: &mut C,
+    ) -> Result<(), LaboratoryFault>
+        requires there { replica_number event.now < length self.old.replica_names }
+        requires accepted { fault_at_replica self.old.world event.now ≡ None }
+        requires free { number_of self.old.message_names name.now ≡ None }
+        ensures after { OnOk result (self.new ≡ laboratory_of_winners (record self.old {
+          message_names = self.old.message_names ++ name.now ∷ [];
+          world = world_after_event event.now self.old.world;
+        })) }
+        ensures unchanged { OnErr result (self.new ≡ self.old) }
+        ensures gone { C.times_gone crew.new ≡ gone_after result (C.times_gone crew.old) }
+    {
+        let count = self.messages.len();
+        self.messages.put(String::from_str(alloc, name)?)?;
+        match self.apply(alloc, event, crew) {
+            Ok(_) => Ok(()),
+            Err(fault) => {
+                self.messages.cut(count);
+                Err(fault_by(fault))
+            }
+        }
+    }
+
+    // The edits that a replica holds.
+    fn edits_held(&self, alloc: Global, at: u32) -> Result<Vec<Edit>, OutOfMemory>
+        requires { at < length self.now.replica_names }
+        ensures { IfOk result (λ edits. edits.items ≡ items (edits_held self.now.world at)) }
+    {
+        match self.world.replica(at) {
+            Some(replica) => {
+                replica.known();
+                replica.scenario().edits(alloc)
+            }
+            None => Ok(Vec::new(alloc)),
+        }
+    }
+
+    // The heads of the edits that a replica holds.
+    fn heads_held(&self, alloc: Global, at: u32) -> Result<Vec<Head>, OutOfMemory>
+        requires { at < length self.now.replica_names }
+        ensures { IfOk result (λ heads. heads.items ≡ deltas.heads (edits_held self.now.world at)) }
+    {
+        match self.world.replica(at) {
+            Some(replica) => {
+                replica.known();
+                heads_of(alloc, replica.scenario())?.list().to_vec(alloc)
+            }
+            None => Ok(Vec::new(alloc)),
+        }
+    }
+
+    // The number of a message that asks with heads.
+    fn number_of_heads(&self, name: &str) -> Option<u64>
+        ensures there { IfSome result (λ number. number_of self.now.message_names name.now ≡ Some number) }
+        ensures asks { IfSome result (λ number. heads_wanted_fault (slice_get self.now.world.messages number) ≡ None) }
+        ensures missing { IfNone result ((number : ℕ) → number_of self.now.message_names name.now ≡ Some number →
+            heads_wanted_fault (slice_get self.now.world.messages number) ≡ Some NoMessage) }
+    {
+        let number = self.messages.number_of(name)? as u64;
+        match self.world.message(number) {
+            Some(Message::Asked(_)) => Some(number),
+            _ => None,
+        }
+    }
+
+    // The edits that a replica holds beyond the heads of a message.
+    fn edits_beyond(&self, alloc: Global, at: u32, message: u64) -> Result<Vec<Edit>, OutOfMemory>
+        requires there { at < length self.now.replica_names }
+        requires asks { heads_wanted_fault (slice_get self.now.world.messages message) ≡ None }
+        ensures { IfOk result (λ edits. edits.items ≡ items (deltas.beyond (edits_held self.now.world at)
+            (asked_heads (slice_get self.now.world.messages message)))) }
+    {
+        match (self.world.replica(at), self.world.message(message)) {
+            (Some(replica), Some(Message::Asked(heads))) => {
+                replica.known();
+                beyond(alloc, replica.scenario(), heads)?.edits(alloc)
+            }
+            _ => Ok(Vec::new(alloc)),
+        }
+    }
+
+    // An event takes place in the world. Where it may change its replica's edits, the last state of that one goes.
+    fn apply<C: Crew>(
+        &mut self,
+        alloc: Global,
+        event: &Event,
+        crew: &mut C,
+    ) -> Result<Reply, WorldFault>
+        requires { replica_number event.now < length self.old.replica_names }
+        ensures answer { IsAnswer self.old.world event.now result }
+        ensures after { OnOk result (self.new
+            ≡ laboratory_of_winners (record self.old { world = world_after_event event.now self.old.world })) }
+        ensures unchanged { OnErr result (self.new ≡ self.old) }
+        ensures gone { C.times_gone crew.new ≡ gone_after_answer result (C.times_gone crew.old) }
+    {
+        let reply = self.world.apply(alloc, event, crew, &mut self.meter)?;
+        if !keeps_edits(event) {
+            self.runs[event.replica() as usize].restart(alloc);
+        }
+        Ok(reply)
+    }
+}
+
+// What is kept of the runs of replicas before any command.
+fn opening_runs(
+    alloc: Global,
+    plan: &Arc<Plan>,
+    count: usize,
+) -> Result<Vec<QueryCache>, OutOfMemory>
+    ensures each { IfOk result (λ runs. length runs.items ≡ count) }
+    ensures kept { IfOk result (λ runs. (sheet : Sheet) → sheet.plan ≡ arc_value plan.now →
+        All (IsCacheOf sheet) runs.items) }
+{
+    let mut runs = Vec::with_capacity(alloc, count)?;
+    for made in 0..count {
+        runs.push(QueryCache::opening(alloc, plan))?;
+    }
+    Ok(runs)
+}

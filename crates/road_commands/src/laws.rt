@@ -1,0 +1,15 @@
+//! What holds of all laboratories and commands, on a function that does nothing.
+
+ghost use Rattle.std.specs.Prelude.{◌≡◌};
+ghost use Rattle.road_format.specs.CommandGrammar.{Command};
+ghost use Rattle.road_commands.specs.Laboratory.{Laboratory, answer_to, laboratory_after, laboratory_of_winners};
+
+/// The winners suffice: the laboratory whose replicas hold, and whose messages carry, the winners alone answers every
+/// command as the laboratory of all edits does, and is then the same as far as edits win.
+pub fn winners_suffice()
+    ensures answer { (laboratory : Laboratory) (command : Command) →
+        answer_to (laboratory_of_winners laboratory) command ≡ answer_to laboratory command }
+    ensures after { (laboratory : Laboratory) (command : Command) →
+        laboratory_of_winners (laboratory_after (laboratory_of_winners laboratory) command)
+        ≡ laboratory_of_winners (laboratory_after laboratory command) }
+{}

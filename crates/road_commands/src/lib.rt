@@ -1,0 +1,29 @@
+//! Laboratories: worlds whose replicas and messages have names, and which answer commands.
+//!
+//! ```
+//! // The laboratory of a plan line. A command is read, answered by a crew, or by sessions on threads where it is a crowd,
+//! // and its reply written.
+//! let mut laboratory = Laboratory::open(alloc, read_plan(alloc, first_line)?)?;
+//! let (mut crew, crowds) = (Alone, OnThreads::new(&rt));
+//! for line in lines {
+//!     let command = read_command(alloc, line)?;
+//!     let answer = laboratory.answer(alloc, &command, &mut crew, &crowds)?;
+//!     write_all(reply_line(alloc, &answer)?.as_str())?;
+//! }
+//! ```
+#![tactic(auto)]
+
+mod crowds;
+mod faults;
+mod laboratory;
+pub mod laws;
+mod names;
+mod queries;
+mod query_cache;
+mod question;
+mod translation;
+
+pub use faults::LaboratoryFault;
+pub use laboratory::Laboratory;
+/// Out of memory: an allocation failed.
+pub use std::alloc::AllocError as OutOfMemory;

@@ -1,0 +1,102 @@
+//! The replica that a command names, which events keep its edits, and the world's replies and faults as the program's.
+
+ghost use Rattle.std.specs.Prelude.{◌≡◌};
+ghost use Rattle.road_format.specs.Views.{answer_view, command_view};
+ghost use Rattle.road_commands.specs.Laboratory as laboratory;
+ghost use Rattle.road_commands.specs.Private.Changes as changes;
+
+use crate::faults::LaboratoryFault;
+use road_format::{Answer, Command, Refusal};
+use road_replica::{ReplicaFault, Reply};
+use road_world::{Event, WorldFault};
+
+// The name of a command's replica. A crowd names none.
+pub(crate) fn name_of(command: &Command) -> &str
+    ensures { result.now ≡ laboratory.replica_name (command_view command.now) }
+{
+    match command {
+        Command::Edit { at, .. } => at,
+        Command::Withdraw { at, .. } => at,
+        Command::Import { at, .. } => at,
+        Command::Send { at, .. } => at,
+        Command::Heads { at, .. } => at,
+        Command::Beyond { at, .. } => at,
+        Command::Take { at, .. } => at,
+        Command::Advance { at, .. } => at,
+        Command::Cells { at, .. } => at,
+        Command::Cars { at, .. } => at,
+        Command::Count { at, .. } => at,
+        Command::Diagram { at, .. } => at,
+        Command::Scenario { at } => at,
+        Command::Crowd { .. } => "",
+    }
+}
+
+// Whether an event leaves the edits of its replica as they were.
+pub(crate) fn keeps_edits(event: &Event) -> bool
+    ensures { result ≡ changes.keeps_edits event.now }
+{
+    match event {
+        Event::Edit { .. } => false,
+        Event::Withdraw { .. } => false,
+        Event::Import { .. } => false,
+        Event::Send { .. } => true,
+        Event::Heads { .. } => true,
+        Event::Beyond { .. } => true,
+        Event::Take { .. } => false,
+        Event::Advance { .. } => true,
+    }
+}
+
+// What a change is answered, by the world's reply.
+pub(crate) fn answer_of(reply: Reply) -> Answer
+    ensures { answer_view result ≡ changes.reply_answer reply }
+{
+    match reply {
+        Reply::Stamped(stamp) => Answer::Stamped(stamp),
+        Reply::Touched(step) => Answer::Touched(step),
+        Reply::Message(_) => Answer::Refused(Refusal::NoMessage),
+        Reply::Horizon(to) => Answer::Horizon(to),
+    }
+}
+
+// How a refusal of the world is answered; none where there is no named cause.
+pub(crate) fn refusal_of(fault: WorldFault) -> Option<Refusal>
+    ensures { result ≡ laboratory.world_refusal fault }
+{
+    match fault {
+        WorldFault::NoReplica => Some(Refusal::NoReplica),
+        WorldFault::NoMessage => Some(Refusal::NoMessage),
+        WorldFault::Replica(fault) => replica_refusal(fault),
+    }
+}
+
+// How a refusal of a replica is answered.
+pub(crate) fn replica_refusal(fault: ReplicaFault) -> Option<Refusal>
+    ensures { result ≡ laboratory.replica_refusal fault }
+{
+    match fault {
+        ReplicaFault::NoObject => Some(Refusal::NoObject),
+        ReplicaFault::Step => Some(Refusal::Step),
+        ReplicaFault::ValueOutOfRange => Some(Refusal::ValueOutOfRange),
+        ReplicaFault::Count => Some(Refusal::Count),
+        ReplicaFault::Insider => Some(Refusal::Insider),
+        ReplicaFault::CountsSpent => Some(Refusal::CountsSpent),
+        ReplicaFault::Horizon => Some(Refusal::Horizon),
+        ReplicaFault::NoDetector => Some(Refusal::NoDetector),
+        ReplicaFault::Range => Some(Refusal::Range),
+        ReplicaFault::NotSimulated => Some(Refusal::NotSimulated),
+        ReplicaFault::WorkersGone => None,
+        ReplicaFault::OutOfMemory => None,
+    }
+}
+
+// The fault of the laboratory, where the world refuses an event for no named cause.
+pub(crate) fn fault_by(fault: WorldFault) -> LaboratoryFault
+    ensures { result ≡ changes.fault_by fault }
+{
+    match fault {
+        WorldFault::Replica(ReplicaFault::WorkersGone) => LaboratoryFault::WorkersGone,
+        _ => LaboratoryFault::OutOfMemory,
+    }
+}

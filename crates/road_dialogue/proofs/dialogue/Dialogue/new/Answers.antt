@@ -1,7 +1,0 @@
--- A new dialogue has answered the empty input.
-use Rattle.std.proofs.Common.{refl}
-use Rattle.road_dialogue.proofs.DialogueSteps.{nothing_came}
-use Rattle.road_dialogue.proofs.dialogue.Dialogue.new.Goals as goal
-
-pub returns-clause-none_came : goal.returns-clause-none_came
-returns-clause-none_came c first = nothing_came c.args.lines first _ refl refl c.new.ensures.items refl refl c.new-2.ensures.items

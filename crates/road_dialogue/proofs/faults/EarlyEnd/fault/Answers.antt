@@ -1,7 +1,0 @@
--- A run that a limit ends early is told so.
-use Rattle.std.proofs.Common.{ap, sym}
-use Rattle.road_dialogue.specs.Faults.{early_fault}
-use Rattle.road_dialogue.proofs.faults.EarlyEnd.fault.Goals as goal
-
-pub returns-in-TooMany : goal.returns-in-TooMany
-returns-in-TooMany c = sym (ap early_fault c.in-TooMany.is)

@@ -1,6 +1,0 @@
--- The status and the line of refused words.
-use Rattle.std.proofs.Common.{refl}
-use Rattle.road_dialogue.proofs.running.Ended.bad_arguments.Goals as goal
-
-pub returns : goal.returns
-returns c = (refl, refl)

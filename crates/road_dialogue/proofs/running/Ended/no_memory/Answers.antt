@@ -1,6 +1,0 @@
--- The status and the line where there is no memory.
-use Rattle.std.proofs.Common.{refl}
-use Rattle.road_dialogue.proofs.running.Ended.no_memory.Goals as goal
-
-pub returns : goal.returns
-returns c = (refl, refl)

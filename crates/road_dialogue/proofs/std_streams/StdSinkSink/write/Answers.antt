@@ -1,6 +1,0 @@
--- A write that goes well takes a byte at least.
-use Rattle.std.proofs.Common.{rules}
-use Rattle.road_dialogue.proofs.std_streams.StdSinkSink.write.Goals as goal
-
-pub returns-in-Ok-clause-some : goal.returns-in-Ok-clause-some
-returns-in-Ok-clause-some g c = search rules

@@ -1,8 +1,0 @@
--- Lemmas of a laboratory: its winners suffice, its plan stays, kept runs hold, its names have numbers, its outcomes are
--- its world's, and each cause against a crowd has an answer.
-pub mod WinnersSuffice
-pub mod PlanStays
-pub mod CrowdRefusals
-pub mod KeptRuns
-pub mod NameNumbers
-pub mod Outcomes

@@ -1,5 +1,0 @@
--- What is kept beside a laboratory, and questions and events as the code's calls see them, of which no public contract
--- speaks.
-pub mod Keeping
-pub mod Questions
-pub mod Changes

@@ -1,0 +1,151 @@
+//! How a sheet grows by edits and steps: it keeps what no edit touches, and simulates the rest.
+
+ghost use Rattle.std.specs.Prelude.{◌≡◌, ◌≤◌, ◌<◌, ◌-◌, max, IfOk, OnOk, OnErr, MatchResult};
+ghost use Rattle.road_plan.specs.declared.limits.TheConstants.{GREATEST_HORIZON};
+ghost use Rattle.road_scenario.specs.Faults.{AreInRange};
+ghost use Rattle.road_scenario.specs.Winners.{join};
+ghost use Rattle.road_sheet.specs.Drafts.{draft_start};
+ghost use Rattle.road_sheet.specs.Sheets.{IsAtMost, sheet_after_step};
+ghost use Rattle.road_rewind.specs.Growth.{grown_sheet, touched_step, kept_step, most_steps, meter_after, TicksAtMost, gone_after_fault};
+
+use crate::faults::{GrownFault, growth_fault};
+use road_ends::{Meter, OutOfMemory};
+use road_scenario::Scenario;
+use road_scenario::laws::winners_agree;
+use road_sheet::{Draft, Sheet};
+use road_workers::Crew;
+use std::alloc::Global;
+
+/// What `grown` gives: the sheet that has grown, and what that touched.
+#[derive(Drop)]
+pub struct Grown {
+    /// The sheet of the joined scenario.
+    pub sheet: Sheet,
+    /// The first step at which its edits put other numbers than those before; none where they are the same.
+    pub touched: Option<u32>,
+}
+
+/// The sheet with a scenario joined in, simulated at least up to the step `to`: that of the joined scenario, at the
+/// greater of the old horizon and `to`. The old sheet stays as it is, and the new one shares with it each interval that
+/// is right in both.
+///
+/// The scenario must fit the sheet's plan, and `to` must be at most 1,048,576. The meter counts each step that is
+/// computed: exactly those after the old horizon where no step below it is touched, and else those from the touched step
+/// on and at most 63 more.
+///
+/// # Errors
+///
+/// `WorkersGone` where the crew answers so, else `OutOfMemory` where an allocation failed. The meter has then counted
+/// no more steps than a call that succeeds may.
+pub fn grown<C: Crew>(
+    alloc: Global,
+    sheet: &Sheet,
+    scenario: &Scenario,
+    to: u32,
+    crew: &mut C,
+    meter: &mut Meter,
+) -> Result<Grown, GrownFault>
+    requires fits { AreInRange sheet.now.plan scenario.now }
+    requires within_limit { to ≤ GREATEST_HORIZON }
+    ensures sheet { IfOk result (λ done. done.sheet ≡ grown_sheet sheet.now scenario.now to) }
+    ensures above { IfOk result (λ done. IsAtMost sheet.now done.sheet) }
+    ensures touched { IfOk result (λ done. done.touched ≡ touched_step sheet.now scenario.now) }
+    // Each step that is computed is counted: those from where its run is taken up.
+    ensures steps { IfOk result (λ _. meter.new
+        ≡ meter_after meter.old (max sheet.now.horizon to - draft_start sheet.now.horizon
+        (kept_step sheet.now.horizon (touched_step sheet.now scenario.now)))) }
+    // Where no simulated step is touched, just the new steps are computed.
+    ensures new_steps { IfOk result (λ _.
+        kept_step sheet.now.horizon (touched_step sheet.now scenario.now) ≡ sheet.now.horizon
+        → meter.new ≡ meter_after meter.old (max sheet.now.horizon to - sheet.now.horizon)) }
+    // Else, and where it is refused, at most so many.
+    ensures few_steps { TicksAtMost
+        (most_steps sheet.now.horizon (max sheet.now.horizon to) (touched_step sheet.now scenario.now))
+        meter.old meter.new }
+    ensures gone { MatchResult result (λ _. C.times_gone crew.new ≡ C.times_gone crew.old)
+        (λ fault. C.times_gone crew.new ≡ gone_after_fault fault (C.times_gone crew.old)) }
+{
+    sheet.known();
+    winners_agree();
+    let (mut draft, touched) = begun(alloc, sheet, scenario)?;
+    simulate(alloc, &mut draft, sheet.horizon().max(to), crew, meter)?;
+    Ok(Grown {
+        sheet: draft.sheet(),
+        touched,
+    })
+}
+
+// The draft of the joined scenario, which begins where its run is no longer that of the sheet, and the touched step.
+fn begun(
+    alloc: Global,
+    sheet: &Sheet,
+    scenario: &Scenario,
+) -> Result<(Draft, Option<u32>), OutOfMemory>
+    requires fits { AreInRange sheet.now.plan scenario.now }
+    ensures draft { IfOk result (λ begun. begun.0 ≡ record {
+      plan = sheet.now.plan;
+      edits = join sheet.now.edits scenario.now;
+      horizon = draft_start sheet.now.horizon (kept_step sheet.now.horizon (touched_step sheet.now scenario.now));
+    }) }
+    ensures touched { IfOk result (λ begun. begun.1 ≡ touched_step sheet.now scenario.now) }
+{
+    sheet.known();
+    winners_agree();
+    let joined = sheet.scenario().joined(scenario)?;
+    let touched = sheet.scenario().touched_by(scenario, &joined);
+    let keep = kept_step(sheet.horizon(), touched);
+    let draft = sheet.draft_of(alloc, joined, keep)?;
+    Ok((draft, touched))
+}
+
+// Up to which step a run stays right.
+fn kept_step(horizon: u32, touched: Option<u32>) -> u32
+    ensures { result ≡ kept_step horizon touched }
+{
+    match touched {
+        None => horizon,
+        Some(step) => horizon.min(step),
+    }
+}
+
+// Simulates a draft up to a step. The meter counts each step.
+fn simulate<C: Crew>(
+    alloc: Global,
+    draft: &mut Draft,
+    to: u32,
+    crew: &mut C,
+    meter: &mut Meter,
+) -> Result<(), GrownFault>
+    requires before { draft.old.horizon ≤ to }
+    requires within_limit { to ≤ GREATEST_HORIZON }
+    ensures simulated { OnOk result (draft.new ≡ record draft.old { horizon = to }) }
+    ensures steps { OnOk result (meter.new ≡ meter_after meter.old (to - draft.old.horizon)) }
+    ensures few { TicksAtMost (to - draft.old.horizon) meter.old meter.new }
+    ensures gone { MatchResult result (λ _. C.times_gone crew.new ≡ C.times_gone crew.old)
+        (λ fault. C.times_gone crew.new ≡ gone_after_fault fault (C.times_gone crew.old)) }
+{
+    for step in draft.horizon()..to {
+        one_step(alloc, draft, crew)?;
+        meter.tick();
+    }
+    Ok(())
+}
+
+// One step more.
+fn one_step<C: Crew>(alloc: Global, draft: &mut Draft, crew: &mut C) -> Result<(), GrownFault>
+    requires within_limit { draft.old.horizon < GREATEST_HORIZON }
+    ensures grown { OnOk result (draft.new ≡ sheet_after_step draft.old) }
+    ensures unchanged { OnErr result (draft.new ≡ draft.old) }
+    ensures gone { MatchResult result (λ _. C.times_gone crew.new ≡ C.times_gone crew.old)
+        (λ fault. C.times_gone crew.new ≡ gone_after_fault fault (C.times_gone crew.old)) }
+{
+    let input = draft.input(alloc)?;
+    match crew.speeds(alloc, &input) {
+        Ok(speeds) => {
+            draft.push(alloc, &input, &speeds)?;
+            draft.reuse(input);
+            Ok(())
+        }
+        Err(fault) => Err(growth_fault(fault)),
+    }
+}

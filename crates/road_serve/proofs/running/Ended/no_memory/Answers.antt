@@ -1,0 +1,6 @@
+-- The status and the line where there is no memory.
+use Rattle.std.proofs.Common.{refl}
+use Rattle.road_serve.proofs.running.Ended.no_memory.Goals as goal
+
+pub returns : goal.returns
+returns c = (refl, refl)

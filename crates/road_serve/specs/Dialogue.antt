@@ -1,0 +1,82 @@
+-- What serves lines, after the bytes that came to it.
+use Rattle.std.specs.Prelude.{◌≡◌, ℕ, suc, ◌+◌, ◌<◌, ◌≤◌, List, [], ◌∷◌, Bool, true, false, length, take}
+use Rattle.std.specs.Prelude.{Option, Some, None, Ok}
+use Rattle.road_plan.specs.declared.limits.TheConstants.{LONGEST_LINE}
+use Rattle.road_format.specs.Cut.{pieces_of, lines_of}
+use Rattle.road_format.specs.PlanGrammar.{PlanLine}
+use Rattle.road_commands.specs.Laboratory.{Laboratory, laboratory_of_winners, opening_laboratory}
+use Rattle.road_serve.specs.Answers.{plan_reading, command_reading, laboratory_after_line, answers}
+use Rattle.road_serve.specs.Answers.{is_plan_refused, has_more_lines}
+use Rattle.road_serve.specs.StreamViews.{SinkView, TakesAllBut}
+use Rattle.road_serve.specs.declared.dialogue.Dialogue.{Dialogue}
+use Rattle.road_serve.specs.declared.faults.EarlyEnd.{EarlyEnd}
+use Rattle.road_serve.specs.declared.faults.EarlyEnd.TheVariants as ends
+
+-- ---- whole lines
+
+-- the laboratory after these later lines
+unfoldable pub laboratory_after_lines : Laboratory → List (List ℕ) → Laboratory
+laboratory_after_lines lab [] = lab
+laboratory_after_lines lab (line ∷ lines) =
+    laboratory_after_lines (laboratory_after_line lab (command_reading line)) lines
+
+-- after these lines: nothing before the first; then its plan, and the laboratory after the later ones, as far as edits
+-- win. So many more may come
+abbrev pub IsAfterLines : ℕ → List (List ℕ) → Option Laboratory → ℕ → Type 0
+IsAfterLines lines [] None left = left ≡ lines
+IsAfterLines lines [] (Some kept) left = ⊥
+IsAfterLines lines (first ∷ later) None left = ⊥
+IsAfterLines lines (first ∷ later) (Some kept) left =
+    (plan : PlanLine) × (plan_reading first ≡ Ok plan)
+    × (kept ≡ laboratory_of_winners (laboratory_after_lines (opening_laboratory plan) later))
+    × (left + length later ≡ lines)
+
+-- ---- the line that has not ended
+
+-- what is held of the line that has not ended: its bytes, or, where it is too long, only that it is
+pub data Holds (held : List ℕ) (long : Bool) (line : List ℕ) : Type 0 where
+  Whole : held ≡ line → length line ≤ LONGEST_LINE → long ≡ false → Holds held long line
+  TooLong : LONGEST_LINE < length line → long ≡ true → Holds held long line
+
+-- ---- after bytes
+
+-- the dialogue goes on: it is after the whole lines of these bytes, and holds the rest
+pub record GoesOn (lines : ℕ) (bytes : List ℕ) (d : Dialogue) : Type 0 where
+  pub after : IsAfterLines lines (pieces_of bytes).0 d.laboratory d.left
+  pub holds : Holds d.held.items d.long (pieces_of bytes).1
+  pub few : has_more_lines lines bytes ≡ false
+
+-- after these bytes the dialogue goes on, or why it does not: there is no plan, or it stands after the last line that
+-- may come
+abbrev pub Stands : ℕ → List ℕ → Dialogue → Option EarlyEnd → Type 0
+Stands lines bytes d None = GoesOn lines bytes d
+Stands lines bytes d (Some ends.BadPlan) =
+    (is_plan_refused bytes false ≡ true) × (d.laboratory ≡ None) × (d.left ≡ lines)
+Stands lines bytes d (Some ends.TooMany) =
+    (is_plan_refused bytes false ≡ false) × (has_more_lines lines bytes ≡ true)
+    × IsAfterLines lines (take (suc lines) (lines_of bytes false)) d.laboratory d.left
+
+-- These bytes came since the sink was as it was first, and each whole line of them is answered: in the sink, or in
+-- what waits to be written. No call of the sink failed.
+pub record HasAnswered (lines : ℕ) (bytes : List ℕ) (first sink : SinkView) (d : Dialogue) : Type 0 where
+  pub answered : TakesAllBut first sink (answers lines bytes false) d.waiting.items
+  pub well : sink.failures ≡ first.failures
+  pub stands : Stands lines bytes d d.over
+
+-- ---- the end of input
+
+-- the plan line was accepted, and the dialogue is after all lines; or there is no plan
+abbrev pub StandsAtEnd : ℕ → List ℕ → Dialogue → Option EarlyEnd → Type 0
+StandsAtEnd lines bytes d None =
+    (is_plan_refused bytes true ≡ false) × (has_more_lines lines bytes ≡ false)
+    × IsAfterLines lines (lines_of bytes true) d.laboratory d.left
+StandsAtEnd lines bytes d (Some ends.BadPlan) =
+    (is_plan_refused bytes true ≡ true) × (d.laboratory ≡ None) × (d.left ≡ lines)
+StandsAtEnd lines bytes d (Some ends.TooMany) = ⊥
+
+-- The input has ended with these bytes, and all its lines are answered: in the sink, or in what waits to be written.
+-- No call of the sink failed.
+pub record HasFinished (lines : ℕ) (bytes : List ℕ) (first sink : SinkView) (d : Dialogue) : Type 0 where
+  pub answered : TakesAllBut first sink (answers lines bytes true) d.waiting.items
+  pub well : sink.failures ≡ first.failures
+  pub stands : StandsAtEnd lines bytes d d.over

@@ -1,0 +1,49 @@
+-- How the program ends: its exit status, and the line on standard error.
+use Rattle.std.specs.Prelude.{◌≡◌, ◌⊎◌, ℕ, List, codes, Option, Some, None, Result, Ok, Err}
+use Rattle.std.specs.Option.{option_map}
+use Rattle.road_serve.specs.Serving.{Serving, AnswersInput}
+use Rattle.road_serve.specs.declared.faults.ServeFault.{ServeFault}
+use Rattle.road_serve.specs.declared.faults.ServeFault.TheVariants as faults
+use Rattle.road_serve.specs.declared.serving.Served.{Served}
+use Rattle.road_serve.specs.declared.running.Ended.{Ended}
+
+-- the exit status of a run that failed
+abbrev pub fault_status : ServeFault → ℕ
+fault_status faults.BadPlan = 2
+fault_status faults.OutOfMemory = 3
+fault_status faults.Write = 4
+fault_status faults.Read = 5
+fault_status faults.TooMany = 6
+fault_status faults.WorkersGone = 7
+
+-- the line on standard error of a run that failed
+abbrev pub fault_line : ServeFault → List ℕ
+fault_line faults.BadPlan = codes "bad plan"
+fault_line faults.OutOfMemory = codes "no memory"
+fault_line faults.Write = codes "write fault"
+fault_line faults.Read = codes "read fault"
+fault_line faults.TooMany = codes "too many lines"
+fault_line faults.WorkersGone = codes "workers gone"
+
+-- the exit status after a run
+abbrev pub status_of : Result Served ServeFault → ℕ
+status_of (Ok served) = 0
+status_of (Err fault) = fault_status fault
+
+-- the line on standard error after a run; none where it went well
+abbrev pub line_of : Result Served ServeFault → Option (List ℕ)
+line_of (Ok served) = None
+line_of (Err fault) = Some (fault_line fault)
+
+-- the program ends with this status and this line
+abbrev pub HasStatus : Ended → ℕ → Option (List ℕ) → Type 0
+HasStatus ended status line = (ended.status ≡ status) × (option_map (λ text. text.now) ended.line ≡ line)
+
+-- the program ends because its words are refused, or because there was no memory to read them
+abbrev pub IsRefused : Ended → Type 0
+IsRefused ended = HasStatus ended 2 (Some (codes "bad arguments")) ⊎ HasStatus ended 3 (Some (codes "no memory"))
+
+-- the program ends after this run, which answered what it read
+pub record EndsAfter (ended : Ended) (run : Serving) : Type 0 where
+  pub status : HasStatus ended (status_of run.result) (line_of run.result)
+  pub answers : AnswersInput run

@@ -1,0 +1,431 @@
+//! What serves lines: bytes become lines, and lines replies.
+
+ghost use Rattle.std.specs.Prelude.{◌≡◌, ◌≢◌, ◌↔◌, ◌==◌, ◌++◌, ◌∷◌, ◌<◌, ◌≤◌, ℕ, List, [], IfErr, IfOk, OnOk, MatchResult, IsTrue, IsSome, length, vec_len, take, true, false, None, Ok, Some, string_bytes};
+ghost use Rattle.std.specs.List.{position};
+ghost use Rattle.road_format.specs.Cut.{newline};
+ghost use Rattle.road_format.specs.CommandGrammar.{command_of};
+ghost use Rattle.std.specs.List.{IsDistinct};
+ghost use Rattle.std.specs.Str.{bytes_eq};
+ghost use Rattle.road_format.specs.PlanGrammar.{plan_line_of};
+ghost use Rattle.road_format.specs.Replies.{Refused, reply};
+ghost use Rattle.road_format.specs.Views.{texts, plan_line_view, command_view, answer_view};
+ghost use Rattle.road_commands.specs.Laboratory.{answer_to, gone_after_command, is_gathered};
+ghost use Rattle.road_commands.specs.Laboratory.{laboratory_after, laboratory_of_winners};
+ghost use Rattle.road_serve.specs.Answers.{reading_unless, opening_answer, line_answer, gathers};
+ghost use Rattle.road_serve.specs.Answers.{answers, has_crowd, has_more_lines};
+ghost use Rattle.road_serve.specs.Dialogue.{Holds, GoesOn, Stands, HasAnswered, HasFinished};
+ghost use Rattle.road_serve.specs.Private.KeptLaboratory.{holds_crowd, kept_after_line, opened_laboratory};
+ghost use Rattle.road_serve.specs.Faults.{CountsGone};
+ghost use Rattle.road_serve.specs.Private.Readings.{IsRead};
+ghost use Rattle.road_serve.specs.StreamViews.{SinkView, sink_view, Stops};
+
+use crate::faults::{EarlyEnd, ServeFault};
+use crate::reply_buffer::{flush, put};
+use crate::streams::Sink;
+use road_commands::{Laboratory, LaboratoryFault};
+use road_format::{Answer, Command, PlanLine, Refusal, read_command, read_plan, reply_line};
+use road_plan::OutOfMemory;
+use road_plan::limits::LONGEST_LINE;
+use road_replica::Crowds;
+use road_workers::Crew;
+use std::alloc::Global;
+
+// What a line says as the first one.
+fn first_line(
+    alloc: Global,
+    held: &[u8],
+    long: bool,
+) -> Result<Result<PlanLine, Refusal>, OutOfMemory>
+    ensures read { IfOk result (λ line. IsRead plan_line_view line (reading_unless long (plan_line_of held.now))) }
+    ensures few { IfOk result (λ line. IfOk line (λ line. vec_len line.names ≤ 64)) }
+    ensures apart { IfOk result (λ line. IfOk line (λ line. IsDistinct bytes_eq (texts line.names.items))) }
+{
+    if long {
+        return Ok(Err(Refusal::LineTooLong));
+    }
+    match read_plan(alloc, held) {
+        Ok(line) => Ok(Ok(line)),
+        Err(fault) => match fault.refusal() {
+            Some(refusal) => Ok(Err(refusal)),
+            None => Err(OutOfMemory),
+        },
+    }
+}
+
+// What a line says as a later one.
+fn later_line(
+    alloc: Global,
+    held: &[u8],
+    long: bool,
+) -> Result<Result<Command, Refusal>, OutOfMemory>
+    ensures { IfOk result (λ line. IsRead command_view line (reading_unless long (command_of held.now))) }
+{
+    if long {
+        return Ok(Err(Refusal::LineTooLong));
+    }
+    match read_command(alloc, held) {
+        Ok(command) => Ok(Ok(command)),
+        Err(fault) => match fault.refusal() {
+            Some(refusal) => Ok(Err(refusal)),
+            None => Err(OutOfMemory),
+        },
+    }
+}
+
+// The reply to the plan line, and the laboratory where it is accepted.
+fn opening(
+    alloc: Global,
+    held: &[u8],
+    long: bool,
+) -> Result<(String, Option<Laboratory>), OutOfMemory>
+    ensures text { IfOk result (λ opened. string_bytes opened.0
+        ≡ reply (opening_answer (reading_unless long (plan_line_of held.now)))) }
+    ensures laboratory { IfOk result (λ opened. opened.1
+        ≡ opened_laboratory (reading_unless long (plan_line_of held.now))) }
+{
+    match first_line(alloc, held, long)? {
+        Ok(line) => {
+            let (reply, laboratory) = opened(alloc, line)?;
+            Ok((reply, Some(laboratory)))
+        }
+        Err(refusal) => Ok((refusal_reply(alloc, refusal)?, None)),
+    }
+}
+
+// The reply to a plan line that is accepted, and its laboratory.
+fn opened(alloc: Global, line: PlanLine) -> Result<(String, Laboratory), OutOfMemory>
+    requires few { vec_len line.names ≤ 64 }
+    requires apart { IsDistinct bytes_eq (texts line.names.items) }
+    ensures text { IfOk result (λ opened. string_bytes opened.0 ≡ reply (opening_answer (Ok (plan_line_view line)))) }
+    ensures laboratory { IfOk result (λ opened. Some opened.1 ≡ opened_laboratory (Ok (plan_line_view line))) }
+{
+    let replicas = line.names.len() as u32;
+    let laboratory = Laboratory::open(alloc, line)?;
+    let reply = reply_line(alloc, &Answer::Open { replicas })?;
+    Ok((reply, laboratory))
+}
+
+// The reply to a line that is refused.
+fn refusal_reply(alloc: Global, refusal: Refusal) -> Result<String, OutOfMemory>
+    ensures { IfOk result (λ text. string_bytes text ≡ reply (Refused refusal)) }
+{
+    reply_line(alloc, &Answer::Refused(refusal))
+}
+
+// The reply to a line after the first.
+fn later_reply<C: Crew, K: Crowds>(
+    alloc: Global,
+    laboratory: &mut Laboratory,
+    held: &[u8],
+    long: bool,
+    crew: &mut C,
+    crowds: &K,
+) -> Result<String, LaboratoryFault>
+    ensures text { IfOk result (λ text. string_bytes text
+        ≡ reply (line_answer laboratory.old (reading_unless long (command_of held.now)))) }
+    ensures after { OnOk result (laboratory.new
+        ≡ kept_after_line laboratory.old (reading_unless long (command_of held.now))) }
+    ensures gone { C.times_gone crew.new ≡ gone_after_command result
+        (gathers laboratory.old.world.plan (reading_unless long (command_of held.now))) (C.times_gone crew.old) }
+{
+    match later_line(alloc, held, long)? {
+        Ok(command) => command_reply(alloc, laboratory, &command, crew, crowds),
+        Err(refusal) => Ok(refusal_reply(alloc, refusal)?),
+    }
+}
+
+// The reply to a command.
+fn command_reply<C: Crew, K: Crowds>(
+    alloc: Global,
+    laboratory: &mut Laboratory,
+    command: &Command,
+    crew: &mut C,
+    crowds: &K,
+) -> Result<String, LaboratoryFault>
+    ensures text { IfOk result (λ text. string_bytes text
+        ≡ reply (answer_to laboratory.old (command_view command.now))) }
+    ensures after { OnOk result (laboratory.new
+        ≡ laboratory_of_winners (laboratory_after laboratory.old (command_view command.now))) }
+    ensures gone { C.times_gone crew.new ≡ gone_after_command result
+        (is_gathered laboratory.old.world.plan (command_view command.now)) (C.times_gone crew.old) }
+{
+    let answer = laboratory.answer(alloc, command, crew, crowds)?;
+    Ok(reply_line(alloc, &answer)?)
+}
+
+// Where the first line of these bytes ends.
+fn line_end(bytes: &[u8]) -> Option<usize>
+    ensures { result ≡ position (λ x. x == newline) bytes.now }
+{
+    bytes.iter().position(|x| *x == b'\n')
+}
+
+/// A dialogue: each whole line that came is answered, and the bytes of the next one are held. No more of a line is held
+/// than the longest one has, and no more than 64 KiB of replies wait to be written.
+#[derive(Drop)]
+pub struct Dialogue {
+    /// The laboratory, once the plan line is accepted.
+    pub laboratory: Option<Laboratory>,
+    /// The bytes of the line that has not ended.
+    pub held: Vec<u8>,
+    /// Whether that line is too long, so that its bytes are not held.
+    pub long: bool,
+    /// How many lines may still come after the plan line.
+    pub left: u32,
+    /// The replies that are not written yet.
+    pub waiting: Vec<u8>,
+    /// Why no further line is answered, if so.
+    pub over: Option<EarlyEnd>,
+}
+
+impl Dialogue {
+    /// The dialogue to which nothing has come. So many lines may come after the plan line.
+    pub fn new(alloc: Global, lines: u32) -> Dialogue
+        ensures none_came { (first : SinkView) → HasAnswered lines [] first first result }
+        ensures going { result.over ≡ None }
+        ensures none_wait { result.waiting.items ≡ [] }
+    {
+        Dialogue {
+            laboratory: None,
+            held: Vec::new(alloc),
+            long: false,
+            left: lines,
+            waiting: Vec::new(alloc),
+            over: None,
+        }
+    }
+
+    // More bytes of the line that has not ended.
+    fn hold(&mut self, bytes: &[u8]) -> Result<(), OutOfMemory>
+        ensures holds { (line : List ℕ) → Holds self.old.held.items self.old.long line
+            → OnOk result (Holds self.new.held.items self.new.long (line ++ bytes.now)) }
+        ensures laboratory { self.new.laboratory ≡ self.old.laboratory }
+        ensures left { self.new.left ≡ self.old.left }
+        ensures waiting { self.new.waiting ≡ self.old.waiting }
+        ensures over { self.new.over ≡ self.old.over }
+    {
+        if self.long || bytes.len() > LONGEST_LINE.saturating_sub(self.held.len()) {
+            self.long = true;
+            return Ok(());
+        }
+        self.held.extend_from_slice(bytes)
+    }
+
+    // Whether no further line may come.
+    fn is_spent(&self) -> bool
+        ensures { IsTrue result ↔ (IsSome self.now.laboratory × (self.now.left ≡ 0)) }
+    {
+        self.laboratory.is_some() && self.left == 0
+    }
+
+    // Whether nothing of the next line has come.
+    fn is_clear(&self) -> bool
+        ensures { IsTrue result ↔ ((self.now.held.items ≡ []) × (self.now.long ≡ false)) }
+    {
+        self.held.is_empty() && !self.long
+    }
+
+    // The line that is held has ended: the reply to it.
+    fn reply<C: Crew, K: Crowds>(
+        &mut self,
+        alloc: Global,
+        crew: &mut C,
+        crowds: &K,
+    ) -> Result<String, LaboratoryFault>
+        requires { self.old.over ≡ None }
+        ensures answered { (lines : ℕ) (bytes : List ℕ) → GoesOn lines bytes self.old
+            → has_more_lines lines (bytes ++ newline ∷ []) ≡ false
+            → IfOk result (λ text.
+            (answers lines (bytes ++ newline ∷ []) false ≡ answers lines bytes false ++ string_bytes text)
+            × Stands lines (bytes ++ newline ∷ []) self.new self.new.over) }
+        ensures waiting { self.new.waiting ≡ self.old.waiting }
+        ensures gone { C.times_gone crew.new
+            ≡ gone_after_command result (holds_crowd self.old) (C.times_gone crew.old) }
+    {
+        if let Some(laboratory) = &mut self.laboratory {
+            let held = self.held.as_slice();
+            let reply = later_reply(alloc, laboratory, held, self.long, crew, crowds)?;
+            self.left = self.left.saturating_sub(1);
+            self.held.clear();
+            self.long = false;
+            return Ok(reply);
+        }
+        let (reply, laboratory) = opening(alloc, self.held.as_slice(), self.long)?;
+        self.laboratory = laboratory;
+        if self.laboratory.is_none() {
+            self.over = Some(EarlyEnd::BadPlan);
+            return Ok(reply);
+        }
+        self.held.clear();
+        self.long = false;
+        Ok(reply)
+    }
+
+    // Answers the line that is held, which has ended.
+    fn answer<W: Sink, C: Crew, K: Crowds>(
+        &mut self,
+        alloc: Global,
+        writer: &mut W,
+        crew: &mut C,
+        crowds: &K,
+    ) -> Result<(), ServeFault>
+        requires { self.old.over ≡ None }
+        ensures answered { (lines : ℕ) (bytes : List ℕ) (first : SinkView)
+            → HasAnswered lines bytes first (sink_view W.Sink writer.old) self.old
+            → has_more_lines lines (bytes ++ newline ∷ []) ≡ false
+            → MatchResult result
+            (λ _. HasAnswered lines (bytes ++ newline ∷ []) first (sink_view W.Sink writer.new) self.new)
+            (λ fault. Stops first (sink_view W.Sink writer.new) (answers lines (bytes ++ newline ∷ []) false) fault) }
+        ensures kept { OnOk result (C.times_gone crew.new ≡ C.times_gone crew.old) }
+        ensures lost { (lines : ℕ) (bytes : List ℕ) (first : SinkView)
+            → HasAnswered lines bytes first (sink_view W.Sink writer.old) self.old
+            → has_more_lines lines (bytes ++ newline ∷ []) ≡ false
+            → IfErr result (λ fault. CountsGone fault (has_crowd lines (bytes ++ newline ∷ []) false)
+            (C.times_gone crew.old) (C.times_gone crew.new)) }
+    {
+        let reply = self.reply(alloc, crew, crowds)?;
+        put(&mut self.waiting, writer, reply.as_bytes())
+    }
+
+    // Takes the next of these bytes, up to the end of a line where one of them ends it, and gives how many.
+    fn take_line<W: Sink, C: Crew, K: Crowds>(
+        &mut self,
+        alloc: Global,
+        writer: &mut W,
+        bytes: &[u8],
+        crew: &mut C,
+        crowds: &K,
+    ) -> Result<usize, ServeFault>
+        requires { 0 < length bytes.now }
+        ensures taken { IfOk result (λ n. (0 < n) × (n ≤ length bytes.now)) }
+        ensures answered { (lines : ℕ) (before : List ℕ) (first : SinkView)
+            → HasAnswered lines before first (sink_view W.Sink writer.old) self.old
+            → MatchResult result
+            (λ n. HasAnswered lines (before ++ take n bytes.now) first (sink_view W.Sink writer.new) self.new)
+            (λ fault. Stops first (sink_view W.Sink writer.new) (answers lines (before ++ bytes.now) false) fault) }
+        ensures kept { OnOk result (C.times_gone crew.new ≡ C.times_gone crew.old) }
+        ensures lost { (lines : ℕ) (before : List ℕ) (first : SinkView)
+            → HasAnswered lines before first (sink_view W.Sink writer.old) self.old
+            → IfErr result (λ fault. CountsGone fault (has_crowd lines (before ++ bytes.now) false)
+            (C.times_gone crew.old) (C.times_gone crew.new)) }
+    {
+        if self.over.is_some() {
+            return Ok(bytes.len());
+        }
+        if self.is_spent() {
+            self.over = Some(EarlyEnd::TooMany);
+            return Ok(bytes.len());
+        }
+        match line_end(bytes) {
+            Some(end) => {
+                self.hold(&bytes[..end])?;
+                self.answer(alloc, writer, crew, crowds)?;
+                Ok(end + 1)
+            }
+            None => {
+                self.hold(bytes)?;
+                Ok(bytes.len())
+            }
+        }
+    }
+
+    /// Takes the next bytes of the input: writes the reply to each line that they end, and flushes. A dialogue that is
+    /// over answers nothing more.
+    ///
+    /// # Errors
+    ///
+    /// `Write` where the sink failed, `WorkersGone` where the crew did, or a thread of a crowd could not be started,
+    /// `OutOfMemory` where an allocation failed. What was written then begins the replies. The line that the dialogue
+    /// held may have been answered or not, so it must not be called again.
+    pub fn take<W: Sink, C: Crew, K: Crowds>(
+        &mut self,
+        alloc: Global,
+        writer: &mut W,
+        bytes: &[u8],
+        crew: &mut C,
+        crowds: &K,
+    ) -> Result<(), ServeFault>
+        ensures answered { (lines : ℕ) (before : List ℕ) (first : SinkView)
+            → HasAnswered lines before first (sink_view W.Sink writer.old) self.old
+            → MatchResult result
+            (λ _. HasAnswered lines (before ++ bytes.now) first (sink_view W.Sink writer.new) self.new)
+            (λ fault. Stops first (sink_view W.Sink writer.new) (answers lines (before ++ bytes.now) false) fault) }
+        ensures none_wait { OnOk result (self.new.waiting.items ≡ []) }
+        ensures flushed { OnOk result (W.flushed writer.new ≡ true) }
+        ensures kept { OnOk result (C.times_gone crew.new ≡ C.times_gone crew.old) }
+        ensures lost { (lines : ℕ) (before : List ℕ) (first : SinkView)
+            → HasAnswered lines before first (sink_view W.Sink writer.old) self.old
+            → IfErr result (λ fault. CountsGone fault (has_crowd lines (before ++ bytes.now) false)
+            (C.times_gone crew.old) (C.times_gone crew.new)) }
+    {
+        let mut done = 0;
+        while done < bytes.len() {
+            done += self.take_line(alloc, writer, &bytes[done..], crew, crowds)?;
+        }
+        flush(&mut self.waiting, writer)?;
+        Ok(())
+    }
+
+    // The input has ended: answers a last line without a newline, or an input without a line.
+    fn answer_last<W: Sink, C: Crew, K: Crowds>(
+        &mut self,
+        alloc: Global,
+        writer: &mut W,
+        crew: &mut C,
+        crowds: &K,
+    ) -> Result<(), ServeFault>
+        requires { self.old.over ≡ None }
+        ensures answered { (lines : ℕ) (bytes : List ℕ) (first : SinkView)
+            → HasAnswered lines bytes first (sink_view W.Sink writer.old) self.old
+            → MatchResult result
+            (λ _. HasFinished lines bytes first (sink_view W.Sink writer.new) self.new)
+            (λ fault. Stops first (sink_view W.Sink writer.new) (answers lines bytes true) fault) }
+        ensures kept { OnOk result (C.times_gone crew.new ≡ C.times_gone crew.old) }
+        ensures lost { (lines : ℕ) (bytes : List ℕ) (first : SinkView)
+            → HasAnswered lines bytes first (sink_view W.Sink writer.old) self.old
+            → IfErr result (λ fault. CountsGone fault (has_crowd lines bytes true)
+            (C.times_gone crew.old) (C.times_gone crew.new)) }
+    {
+        if !self.is_clear() {
+            return self.answer(alloc, writer, crew, crowds);
+        }
+        if self.laboratory.is_some() {
+            return Ok(());
+        }
+        let reply = refusal_reply(alloc, Refusal::NoPlan)?;
+        self.over = Some(EarlyEnd::BadPlan);
+        put(&mut self.waiting, writer, reply.as_bytes())
+    }
+
+    /// The input has ended: writes the reply to a last line without a newline, or to an input without a line, and
+    /// flushes. The dialogue must not be over.
+    ///
+    /// # Errors
+    ///
+    /// As for `take`.
+    pub fn finish<W: Sink, C: Crew, K: Crowds>(
+        &mut self,
+        alloc: Global,
+        writer: &mut W,
+        crew: &mut C,
+        crowds: &K,
+    ) -> Result<(), ServeFault>
+        requires { self.old.over ≡ None }
+        ensures answered { (lines : ℕ) (bytes : List ℕ) (first : SinkView)
+            → HasAnswered lines bytes first (sink_view W.Sink writer.old) self.old
+            → MatchResult result
+            (λ _. HasFinished lines bytes first (sink_view W.Sink writer.new) self.new)
+            (λ fault. Stops first (sink_view W.Sink writer.new) (answers lines bytes true) fault) }
+        ensures none_wait { OnOk result (self.new.waiting.items ≡ []) }
+        ensures flushed { OnOk result (W.flushed writer.new ≡ true) }
+        ensures kept { OnOk result (C.times_gone crew.new ≡ C.times_gone crew.old) }
+        ensures lost { (lines : ℕ) (bytes : List ℕ) (first : SinkView)
+            → HasAnswered lines bytes first (sink_view W.Sink writer.old) self.old
+            → IfErr result (λ fault. CountsGone fault (has_crowd lines bytes true)
+            (C.times_gone crew.old) (C.times_gone crew.new)) }
+    {
+        self.answer_last(alloc, writer, crew, crowds)?;
+        flush(&mut self.waiting, writer)?;
+        Ok(())
+    }
+}

@@ -1,0 +1,118 @@
+//! How a run ends other than well.
+
+ghost use Rattle.std.specs.Prelude.{◌≡◌};
+ghost use Rattle.road_serve.specs.Faults.{crew_fault, early_fault, unanswered_fault};
+ghost use Rattle.road_serve.specs.declared.faults.ServeFault.TheVariants.{OutOfMemory, Read, Write};
+
+use road_commands::LaboratoryFault;
+use road_workers::CrewFault;
+use std::alloc::{AllocError, AllocFailed};
+use thiserror::Error;
+
+/// Why a run ended before all of its input was answered.
+#[derive(Debug, Drop, Error)]
+pub enum ServeFault {
+    /// The plan line was refused, or there was none. The refusal was written.
+    #[error("bad plan")]
+    BadPlan,
+    /// There was no memory.
+    #[error("no memory")]
+    OutOfMemory,
+    /// A write or a flush failed.
+    #[error("write fault")]
+    Write,
+    /// A read failed.
+    #[error("read fault")]
+    Read,
+    /// A byte past the limits was read: past those of lines, or past that of bytes.
+    #[error("too many lines")]
+    TooMany,
+    /// A worker of the crew, or a session's thread, could not be started or has gone.
+    #[error("workers gone")]
+    WorkersGone,
+}
+
+/// How a run is over before the end of its input.
+#[derive(Clone, Copy, Debug, PartialEq, Eq)]
+pub enum EarlyEnd {
+    /// The plan line was refused, or there was none.
+    BadPlan,
+    /// A byte stood behind the last line that may come.
+    TooMany,
+}
+
+impl EarlyEnd {
+    /// The fault of a run that ends so.
+    pub fn fault(self) -> ServeFault
+        ensures { result ≡ early_fault self }
+    {
+        match self {
+            EarlyEnd::BadPlan => ServeFault::BadPlan,
+            EarlyEnd::TooMany => ServeFault::TooMany,
+        }
+    }
+}
+
+/// A source could not be read.
+#[derive(Debug, Drop, Error)]
+#[error("the read failed")]
+pub struct ReadFailed;
+
+/// A sink took nothing of a piece, or could not be flushed.
+#[derive(Debug, Drop, Error)]
+#[error("the write failed")]
+pub struct WriteFailed;
+
+impl From<ReadFailed> for ServeFault {
+    ghost from_gives = { λ _ fault. fault ≡ Read };
+
+    fn from(_failed: ReadFailed) -> ServeFault {
+        ServeFault::Read
+    }
+}
+
+impl From<WriteFailed> for ServeFault {
+    ghost from_gives = { λ _ fault. fault ≡ Write };
+
+    fn from(_failed: WriteFailed) -> ServeFault {
+        ServeFault::Write
+    }
+}
+
+impl From<LaboratoryFault> for ServeFault {
+    ghost from_gives = { λ failed fault. fault ≡ unanswered_fault failed };
+
+    fn from(failed: LaboratoryFault) -> ServeFault {
+        match failed {
+            LaboratoryFault::WorkersGone => ServeFault::WorkersGone,
+            LaboratoryFault::OutOfMemory => ServeFault::OutOfMemory,
+        }
+    }
+}
+
+impl From<CrewFault> for ServeFault {
+    ghost from_gives = { λ failed fault. fault ≡ crew_fault failed };
+
+    fn from(failed: CrewFault) -> ServeFault {
+        match failed {
+            CrewFault::WorkersGone => ServeFault::WorkersGone,
+            CrewFault::OutOfMemory => ServeFault::OutOfMemory,
+        }
+    }
+}
+
+impl From<AllocError> for ServeFault {
+    ghost from_gives = { λ _ fault. fault ≡ OutOfMemory };
+
+    fn from(_failed: AllocError) -> ServeFault {
+        ServeFault::OutOfMemory
+    }
+}
+
+impl<T: Drop> From<AllocFailed<T>> for ServeFault {
+    ghost from_gives = { λ _ fault. fault ≡ OutOfMemory };
+
+    fn from(_failed: AllocFailed<T>) -> ServeFault {
+        ServeFault::OutOfMemory
+    }
+}

@@ -1,0 +1,226 @@
+//! The program without its process.
+
+ghost use Rattle.std.specs.Prelude.{◌≡◌, ◌<◌, ◌≤◌, ℕ, IfOk, IfSome, IsSome, codes, true, false, None, Some, Result};
+ghost use Rattle.road_format.specs.Views.{texts};
+ghost use Rattle.road_plan.specs.declared.limits.TheConstants.{MOST_WORKERS};
+ghost use Rattle.road_serve.specs.Arguments.{are_accepted, script_of, workers_of};
+ghost use Rattle.road_serve.specs.Serving.{program_serving};
+ghost use Rattle.road_serve.specs.Statuses.{status_of, line_of, fault_status, fault_line, EndsAfter, HasStatus, IsRefused};
+ghost use Rattle.road_serve.specs.StreamViews.{SourceView, source_view, sink_view};
+ghost use Rattle.road_serve.specs.declared.serving.Served.{Served};
+ghost use Rattle.road_serve.specs.declared.faults.ServeFault.{ServeFault};
+
+use crate::arguments::{ArgumentFault, arguments_in};
+use crate::faults::ServeFault;
+use crate::serving::{Served, serve};
+use crate::std_streams::StdSource;
+use crate::streams::{Sink, Source};
+use road_crowd::OnThreads;
+use road_replica::Crowds;
+use road_workers::{Alone, Crew, CrewFault, Pool};
+use std::alloc::Global;
+use std::fs;
+use std::rt::Files;
+use std::sync::Wait;
+use std::thread::Threads;
+
+/// How the program has ended: what its process tells whoever started it.
+#[derive(Clone, Copy, Debug)]
+pub struct Ended {
+    /// The exit status.
+    pub status: u8,
+    /// The line for standard error, at a status other than 0.
+    pub line: Option<&'static str>,
+}
+
+impl Ended {
+    /// The end where the words after the program's name are refused.
+    pub fn bad_arguments() -> Ended
+        ensures { HasStatus result 2 (Some (codes "bad arguments")) }
+    {
+        Ended {
+            status: 2,
+            line: Some("bad arguments"),
+        }
+    }
+
+    /// The end where there is no memory for the words after the program's name.
+    pub fn no_memory() -> Ended
+        ensures { HasStatus result 3 (Some (codes "no memory")) }
+    {
+        Ended {
+            status: 3,
+            line: Some("no memory"),
+        }
+    }
+}
+
+/// Runs the program with these words after its name: from the script that they name, or from the reader, and with the
+/// workers that they ask for, or alone. A script is opened before workers are started. The sessions of a crowd work on
+/// threads of their own.
+pub fn run<
+    F: Files + Threads + Wait + AllocGlobal + Clone + Drop + Send + 'static,
+    R: Source,
+    W: Sink,
+>(rt: &F, words: &[String], reader: &mut R, writer: &mut W) -> Ended
+    ensures refused { are_accepted (texts words.now) ≡ false → IsRefused result
+        × (reader.new ≡ reader.old) × (writer.new ≡ writer.old) }
+    ensures served { are_accepted (texts words.now) ≡ true → script_of (texts words.now) ≡ None
+        → (served : Result Served ServeFault) × (gone : ℕ) × (workers_of (texts words.now) ≡ None → gone ≡ 0)
+        × EndsAfter result (program_serving (source_view R.Source reader.old) (source_view R.Source reader.new)
+        (sink_view W.Sink writer.old) (sink_view W.Sink writer.new) 0 gone served) }
+    // No contract says which bytes a file holds.
+    ensures script { are_accepted (texts words.now) ≡ true → IsSome (script_of (texts words.now))
+        → (reader.new ≡ reader.old)
+        × (served : Result Served ServeFault) × (gone : ℕ) × (workers_of (texts words.now) ≡ None → gone ≡ 0)
+        × (before : SourceView) × (after : SourceView)
+        × EndsAfter result (program_serving before after
+        (sink_view W.Sink writer.old) (sink_view W.Sink writer.new) 0 gone served) }
+{
+    match arguments_in(rt.alloc(), words) {
+        Ok(asked) => match asked.script {
+            None => run_with(rt, asked.workers, reader, writer),
+            Some(path) => run_script(rt, path, asked.workers, writer),
+        },
+        Err(ArgumentFault::Refused) => Ended::bad_arguments(),
+        Err(ArgumentFault::OutOfMemory) => Ended::no_memory(),
+    }
+}
+
+// Runs the program from the script at a path. One that cannot be opened is as one of which the first read fails.
+fn run_script<F: Files + Threads + Wait + AllocGlobal + Clone + Drop + Send + 'static, W: Sink>(
+    rt: &F,
+    path: &str,
+    workers: Option<u32>,
+    writer: &mut W,
+) -> Ended
+    requires { IfSome workers (λ count. (0 < count) × (count ≤ MOST_WORKERS)) }
+    ensures { (served : Result Served ServeFault) × (gone : ℕ) × (workers ≡ None → gone ≡ 0)
+        × (before : SourceView) × (after : SourceView)
+        × EndsAfter result (program_serving before after
+        (sink_view W.Sink writer.old) (sink_view W.Sink writer.new) 0 gone served) }
+{
+    match fs::open(rt, path) {
+        Ok(file) => {
+            let mut reader = StdSource::new(file);
+            run_with(rt, workers, &mut reader, writer)
+        }
+        Err(_) => after_fault(&ServeFault::Read),
+    }
+}
+
+// Runs the program with so many workers, or alone, from a reader to a writer.
+fn run_with<F: Threads + Wait + AllocGlobal + Clone + Drop + Send + 'static, R: Source, W: Sink>(
+    rt: &F,
+    workers: Option<u32>,
+    reader: &mut R,
+    writer: &mut W,
+) -> Ended
+    requires { IfSome workers (λ count. (0 < count) × (count ≤ MOST_WORKERS)) }
+    ensures { (served : Result Served ServeFault) × (gone : ℕ) × (workers ≡ None → gone ≡ 0)
+        × EndsAfter result (program_serving (source_view R.Source reader.old) (source_view R.Source reader.new)
+        (sink_view W.Sink writer.old) (sink_view W.Sink writer.new) 0 gone served) }
+{
+    match workers {
+        None => run_alone(rt, reader, writer),
+        Some(count) => run_by_workers(rt, count, reader, writer),
+    }
+}
+
+// Runs the program by the crew of one, from a reader to a writer.
+fn run_alone<F: Threads + Wait + AllocGlobal, R: Source, W: Sink>(
+    rt: &F,
+    reader: &mut R,
+    writer: &mut W,
+) -> Ended
+    ensures { (served : Result Served ServeFault)
+        × EndsAfter result (program_serving (source_view R.Source reader.old) (source_view R.Source reader.new)
+        (sink_view W.Sink writer.old) (sink_view W.Sink writer.new) 0 0 served) }
+{
+    let mut crew = Alone;
+    crew.known();
+    let ended = run_by(rt.alloc(), reader, writer, &mut crew, &OnThreads::new(rt));
+    crew.known();
+    ended
+}
+
+// Runs the program by so many lasting workers, from a reader to a writer. They are ended before it ends.
+fn run_by_workers<
+    F: Threads + Wait + AllocGlobal + Clone + Drop + Send + 'static,
+    R: Source,
+    W: Sink,
+>(rt: &F, count: u32, reader: &mut R, writer: &mut W) -> Ended
+    requires some { 0 < count }
+    requires few { count ≤ MOST_WORKERS }
+    ensures { (served : Result Served ServeFault) × (gone : ℕ)
+        × EndsAfter result (program_serving (source_view R.Source reader.old) (source_view R.Source reader.new)
+        (sink_view W.Sink writer.old) (sink_view W.Sink writer.new) 0 gone served) }
+{
+    match crew_of(rt, count) {
+        Ok(mut crew) => {
+            let ended = run_by(rt.alloc(), reader, writer, &mut crew, &OnThreads::new(rt));
+            crew.finish();
+            ended
+        }
+        Err(fault) => after_fault(&ServeFault::from(fault)),
+    }
+}
+
+// Starts a crew of so many lasting workers.
+fn crew_of<F: Threads + Wait + AllocGlobal + Clone + Drop + Send + 'static>(
+    rt: &F,
+    count: u32,
+) -> Result<Pool<F>, CrewFault>
+    requires some { 0 < count }
+    requires few { count ≤ MOST_WORKERS }
+    ensures { IfOk result (λ crew. ⟦<Pool<F> as Crew>⟧.times_gone crew ≡ 0) }
+{
+    Pool::start(rt.clone()?, rt.alloc(), count)
+}
+
+/// Runs the program by a crew, and whoever gathers crowds, from a reader to a writer.
+pub fn run_by<R: Source, W: Sink, C: Crew, K: Crowds>(
+    alloc: Global,
+    reader: &mut R,
+    writer: &mut W,
+    crew: &mut C,
+    crowds: &K,
+) -> Ended
+    ensures { (served : Result Served ServeFault)
+        × EndsAfter result (program_serving (source_view R.Source reader.old) (source_view R.Source reader.new)
+        (sink_view W.Sink writer.old) (sink_view W.Sink writer.new) (C.times_gone crew.old) (C.times_gone crew.new)
+        served) }
+{
+    after_run(&serve(alloc, reader, writer, crew, crowds))
+}
+
+// How the program ends after a run.
+fn after_run(served: &Result<Served, ServeFault>) -> Ended
+    ensures { HasStatus result (status_of served.now) (line_of served.now) }
+{
+    match served {
+        Ok(_) => Ended {
+            status: 0,
+            line: None,
+        },
+        Err(fault) => after_fault(fault),
+    }
+}
+
+// How the program ends after a run that failed.
+fn after_fault(fault: &ServeFault) -> Ended
+    ensures { HasStatus result (fault_status fault.now) (Some (fault_line fault.now)) }
+{
+    let (status, line) = match fault {
+        ServeFault::BadPlan => (2, "bad plan"),
+        ServeFault::OutOfMemory => (3, "no memory"),
+        ServeFault::Write => (4, "write fault"),
+        ServeFault::Read => (5, "read fault"),
+        ServeFault::TooMany => (6, "too many lines"),
+        ServeFault::WorkersGone => (7, "workers gone"),
+    };
+    Ended {
+        status,
+        line: Some(line),
+    }
+}

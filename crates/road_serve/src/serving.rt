@@ -1,0 +1,148 @@
+//! Reads an input, and writes its replies.
+
+ghost use Rattle.std.specs.Prelude.{◌≡◌, ◌++◌, ℕ, List, [], length, min, take, true, None};
+ghost use Rattle.road_serve.specs.Dialogue.{HasAnswered};
+ghost use Rattle.road_serve.specs.Serving.{AnswersInput, program_serving};
+ghost use Rattle.road_serve.specs.StreamViews.{SinkView, source_view, sink_view};
+
+use crate::dialogue::Dialogue;
+use crate::faults::ServeFault;
+use crate::streams::{Sink, Source};
+use road_plan::limits::{MOST_BYTES, MOST_LINES};
+use road_replica::Crowds;
+use road_workers::Crew;
+use std::alloc::Global;
+
+// How many bytes are read at once, at most.
+const PIECE: usize = 16_384;
+
+/// What a run of `serve` that went well has served: the lines after the plan line.
+#[derive(Debug, Drop)]
+pub struct Served {
+    /// How many replies there were after the plan line's.
+    pub lines: u32,
+}
+
+/// Reads an input to its end, and writes the reply to each of its lines. At most 1,000,000 lines after the plan line
+/// are read, and at most 2^32 bytes. The crew computes the speeds of the steps that are simulated; `crowds` gathers the
+/// crowds. Without crowds no call waits but those of the source, the sink and the crew.
+///
+/// # Errors
+///
+/// `BadPlan` where the plan line is refused, `TooMany` where it is not and a byte stands past the limits: then the
+/// replies are written whole. `Read` where the source failed: then the replies to all lines that were read whole are
+/// written. `Write` where the sink failed, `WorkersGone` where the crew did, or a thread of a crowd could not be started,
+/// `OutOfMemory` where an allocation failed: then what was written begins the replies.
+pub fn serve<R: Source, W: Sink, C: Crew, K: Crowds>(
+    alloc: Global,
+    reader: &mut R,
+    writer: &mut W,
+    crew: &mut C,
+    crowds: &K,
+) -> Result<Served, ServeFault>
+    ensures { AnswersInput (program_serving (source_view R.Source reader.old) (source_view R.Source reader.new)
+        (sink_view W.Sink writer.old) (sink_view W.Sink writer.new) (C.times_gone crew.old) (C.times_gone crew.new)
+        result) }
+{
+    serve_within(alloc, reader, writer, crew, crowds, MOST_LINES, MOST_BYTES)
+}
+
+/// As `serve`, with at most so many lines after the plan line, and at most so many bytes.
+///
+/// # Errors
+///
+/// As for `serve`.
+pub fn serve_within<R: Source, W: Sink, C: Crew, K: Crowds>(
+    alloc: Global,
+    reader: &mut R,
+    writer: &mut W,
+    crew: &mut C,
+    crowds: &K,
+    lines: u32,
+    bytes: u64,
+) -> Result<Served, ServeFault>
+    ensures { AnswersInput (record {
+      most_lines = lines;
+      most_bytes = bytes;
+      source_before = source_view R.Source reader.old;
+      source_after = source_view R.Source reader.new;
+      sink_before = sink_view W.Sink writer.old;
+      sink_after = sink_view W.Sink writer.new;
+      gone_before = C.times_gone crew.old;
+      gone_after = C.times_gone crew.new;
+      result = result;
+    }) }
+{
+    let mut dialogue = Dialogue::new(alloc, lines);
+    answer_input(
+        alloc,
+        reader,
+        writer,
+        crew,
+        crowds,
+        &mut dialogue,
+        lines,
+        bytes,
+    )
+}
+
+// Reads an input to its end into a dialogue to which nothing has come, and writes the replies.
+//
+// The dialogue is lent: each way out of the function that owns it drops it, and for each such drop the prover goes
+// through all that a laboratory holds.
+fn answer_input<R: Source, W: Sink, C: Crew, K: Crowds>(
+    alloc: Global,
+    reader: &mut R,
+    writer: &mut W,
+    crew: &mut C,
+    crowds: &K,
+    dialogue: &mut Dialogue,
+    lines: u32,
+    bytes: u64,
+) -> Result<Served, ServeFault>
+    requires none_came { (first : SinkView) → HasAnswered lines [] first first dialogue.old }
+    requires going { dialogue.old.over ≡ None }
+    requires none_wait { dialogue.old.waiting.items ≡ [] }
+    ensures { AnswersInput (record {
+      most_lines = lines;
+      most_bytes = bytes;
+      source_before = source_view R.Source reader.old;
+      source_after = source_view R.Source reader.new;
+      sink_before = sink_view W.Sink writer.old;
+      sink_after = sink_view W.Sink writer.new;
+      gone_before = C.times_gone crew.old;
+      gone_after = C.times_gone crew.new;
+      result = result;
+    }) }
+{
+    let mut buffer = [0u8; PIECE];
+    let mut room = bytes;
+    loop {
+        let count = reader.read(&mut buffer)?;
+        if count == 0 {
+            dialogue.finish(alloc, writer, crew, crowds)?;
+            if let Some(end) = dialogue.over {
+                return Err(end.fault());
+            }
+            return Ok(Served {
+                lines: lines.saturating_sub(dialogue.left),
+            });
+        }
+        let within = fitting(room, count);
+        dialogue.take(alloc, writer, &buffer[..within], crew, crowds)?;
+        if let Some(end) = dialogue.over {
+            return Err(end.fault());
+        }
+        if within < count {
+            return Err(ServeFault::TooMany);
+        }
+        room -= count as u64;
+    }
+}
+
+// How many of these bytes are within the limit.
+fn fitting(room: u64, bytes: usize) -> usize
+    ensures { result ≡ min room bytes }
+{
+    room.min(bytes as u64) as usize
+}

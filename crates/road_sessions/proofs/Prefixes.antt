@@ -1,0 +1,54 @@
+-- Prefixes of one list, and what stands in it.
+use Rattle.std.proofs.Common.{◌≡◌, ◌∙◌, ℕ, zero, suc, ◌≤◌, List, [], ◌∷◌, ◌++◌, length, length-append, slice_get, Some, append_assoc, refl, sym, ap, subst, arith}
+use Rattle.std.proofs.lemmas.List.{append-nil}
+use Rattle.std.specs.List.{AllByRecursion}
+use mathlib.Core.List.{IsPrefix}
+use Rattle.road_sessions.specs.Journals.{Write, AreInJournal}
+use Rattle.road_sessions.specs.declared.entry.Entry.{Entry}
+
+pub begins_itself : {A : Type 0} (xs : List A) → IsPrefix xs xs
+begins_itself xs = ([], append-nil xs)
+
+pub begins_longer : {A : Type 0} (xs ys zs : List A) → IsPrefix xs ys → IsPrefix ys zs → IsPrefix xs zs
+begins_longer xs ys zs p q =
+    let there : (xs ++ p.0) ++ q.0 ≡ zs = ap (λ (w : List _). w ++ q.0) p.1 ∙ q.1 in
+    (p.0 ++ q.0, sym (append_assoc xs p.0 q.0) ∙ there)
+
+-- of two beginnings of one list the one that is no longer begins the other
+pub begins_other : {A : Type 0} (xs ys all : List A) → length xs ≤ length ys → IsPrefix xs all → IsPrefix ys all → IsPrefix xs ys
+begins_other [] ys all short p q = (ys, refl)
+begins_other (x ∷ xs) [] all short p q = absurd (omega arith)
+begins_other (x ∷ xs) (y ∷ ys) [] short p q = absurd (cc (p.1))
+begins_other (x ∷ xs) (y ∷ ys) (z ∷ all) short p q =
+    let tails = begins_other xs ys all (omega arith) (p.0, cc (p.1)) (q.0, cc (q.1)) in
+    let first : x ≡ y = cc (p.1, q.1) in
+    (tails.0, cc (first, tails.1))
+
+no_more : {A : Type 0} (xs rest : List A) → length (xs ++ rest) ≤ length xs → rest ≡ []
+no_more xs [] short = refl
+no_more xs (r ∷ rest) short = absurd (omega (arith, length-append xs (r ∷ rest)))
+
+-- a beginning that is as long as the whole is the whole
+pub begins_whole : {A : Type 0} (xs all : List A) → length all ≤ length xs → IsPrefix xs all → xs ≡ all
+begins_whole xs all short p =
+    let none = no_more xs p.0 (subst (λ (w : List _). length w ≤ length xs) (sym p.1) short) in
+    sym (append-nil xs) ∙ ap (λ (w : List _). xs ++ w) (sym none) ∙ p.1
+
+got_later : {A : Type 0} (xs rest : List A) (place : ℕ) (x : A) → slice_get xs place ≡ Some x → slice_get (xs ++ rest) place ≡ Some x
+got_later [] rest place x got = absurd cc
+got_later (y ∷ xs) rest zero x got = got
+got_later (y ∷ xs) rest (suc place) x got = got_later xs rest place x got
+
+pub got_last : {A : Type 0} (xs : List A) (x : A) → slice_get (xs ++ x ∷ []) (length xs) ≡ Some x
+got_last [] x = refl
+got_last (y ∷ xs) x = got_last xs x
+
+pub each_of_both : {A : Type 0} (P : A → Type 0) (xs ys : List A) → AllByRecursion P xs → AllByRecursion P ys → AllByRecursion P (xs ++ ys)
+each_of_both P [] ys first second = second
+each_of_both P (x ∷ xs) ys first second = (first.0, each_of_both P xs ys first.1 second)
+
+-- what stands in a beginning stands in the whole
+pub in_longer_journal : (writes : List Write) (xs all : List Entry) → IsPrefix xs all → AreInJournal writes xs → AreInJournal writes all
+in_longer_journal [] xs all p stand = tt
+in_longer_journal (w ∷ ws) xs all p stand =
+    (subst (λ (l : List Entry). slice_get l w.0 ≡ Some w.1) p.1 (got_later xs p.0 w.0 w.1 stand.0), in_longer_journal ws xs all p stand.1)

@@ -1,8 +1,0 @@
--- Each car of a road is kept in 8 bytes.
-use Rattle.std.proofs.Common.{◌≡◌, ◌++◌, map, drop}
-use Rattle.road_sheet.specs.Private.Checkpoints.{whole_car}
-use Rattle.road_sheet.proofs.checkpoint.kept_cars.Given as goal
-
--- what is kept, and the cars that are left
-abbrev pub invariant-loop-car : goal.invariant-loop-car
-invariant-loop-car l = map whole_car l.kept.items ++ drop l.car-index l.cars ≡ l.cars

@@ -1,8 +1,0 @@
--- Each kept car becomes a car again.
-use Rattle.std.proofs.Common.{◌≡◌, ◌++◌, map, drop}
-use Rattle.road_sheet.specs.Private.Checkpoints.{whole_car}
-use Rattle.road_sheet.proofs.checkpoint.whole_cars.Given as goal
-
--- the cars so far, and those that are left
-abbrev pub invariant-loop-car : goal.invariant-loop-car
-invariant-loop-car l = l.cars.items ++ map whole_car (drop l.car-index l.kept) ≡ map whole_car l.kept

@@ -1,0 +1,39 @@
+-- The run of a sheet as intervals of steps: the road at the first step of each, and what each detector counts in it.
+use Rattle.std.specs.Prelude.{◌≡◌, ◌<◌, ◌≤◌, ◌+◌, ◌*◌, ℕ, List, length, slice_get}
+use Rattle.std.specs.List.{slice_index_or}
+use Rattle.std.specs.declared.option.Option.TheVariants.{Some}
+use Rattle.road_plan.specs.Plan.{Plan}
+use Rattle.road_cells.specs.Array.{Array}
+use Rattle.road_scenario.specs.Edits.{Edits}
+use Rattle.road_detector.specs.Passes.{no_totals}
+use Rattle.road_detector.specs.declared.counts.Totals.{Totals}
+use Rattle.road_sheet.specs.Sheets.{Sheet, IsSheet}
+use Rattle.road_sheet.specs.Shown.{run_at, total_at}
+use Rattle.road_sheet.specs.declared.interval.Interval.{Interval}
+use Rattle.road_sheet.specs.declared.interval.TheConstants.{INTERVAL_STEPS}
+
+-- what each detector counts in the steps from a up to b
+pub record AreTotals (plan : Plan) (edits : Edits) (a b : ℕ) (totals : List Totals) : Type 0 where
+  pub each : length totals ≡ length plan.detectors
+  pub counted : (d : ℕ) → d < length plan.detectors → slice_index_or totals d no_totals ≡ total_at plan edits d a b
+
+-- an interval of the steps from a up to b: the road at a, and what each detector counts in these steps
+pub record IsInterval (plan : Plan) (edits : Edits) (a b : ℕ) (interval : Interval) : Type 0 where
+  pub start : interval.start ≡ run_at plan edits a
+  pub totals : AreTotals plan edits a b interval.totals.items
+
+-- a sheet's run: an interval for each INTERVAL_STEPS steps up to the horizon, the interval that the horizon cuts, and the road
+-- at the horizon
+pub record IsRunOf (s : Sheet) (intervals : List Interval) (part : Interval) (road : Array) : Type 0 where
+  pub sheet : IsSheet s
+  pub begun : INTERVAL_STEPS * length intervals ≤ s.horizon
+  pub not_ended : s.horizon < INTERVAL_STEPS * length intervals + INTERVAL_STEPS
+  pub each : (k : ℕ) (interval : Interval) → slice_get intervals k ≡ Some interval
+      → IsInterval s.plan s.edits (INTERVAL_STEPS * k) (INTERVAL_STEPS * k + INTERVAL_STEPS) interval
+  pub open : IsInterval s.plan s.edits (INTERVAL_STEPS * length intervals) s.horizon part
+  pub at_horizon : road ≡ run_at s.plan s.edits s.horizon
+
+-- edits that give the same run and the same counts up to a step
+pub record GiveSameRun (plan : Plan) (s t : Edits) (step : ℕ) : Type 0 where
+  pub state : (u : ℕ) → u ≤ step → run_at plan s u ≡ run_at plan t u
+  pub total : (d a b : ℕ) → b ≤ step → total_at plan s d a b ≡ total_at plan t d a b

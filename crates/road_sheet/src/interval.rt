@@ -1,0 +1,71 @@
+//! Intervals: steps that a sheet keeps together.
+
+ghost use Rattle.std.specs.Prelude.{◌≡◌, ◌<◌, ◌+◌, ◌^◌, ℕ, length, replicate, IfOk};
+ghost use Rattle.std.specs.List.{slice_index_or};
+ghost use Rattle.road_cells.specs.Cars.{cars_of};
+ghost use Rattle.road_detector.specs.Passes.{no_totals, passes_at, plus};
+
+use crate::checkpoint::Checkpoint;
+use road_detector::{OutOfMemory, Totals, greatest_speed, passes_from};
+use road_ends::StepInput;
+use std::alloc::Global;
+
+/// How many steps an interval has, which a sheet keeps together.
+pub const INTERVAL_STEPS: u32 = 64;
+
+/// An interval: the road at its first step, and what each detector counts in those of its steps that are simulated.
+#[derive(Drop)]
+pub struct Interval {
+    pub(crate) start: Checkpoint,
+    pub(crate) totals: Vec<Totals>,
+}
+
+impl Interval {
+    // An interval of which no step is simulated.
+    pub(crate) fn begin(
+        alloc: Global,
+        start: Checkpoint,
+        detectors: usize,
+    ) -> Result<Interval, OutOfMemory>
+        ensures start { IfOk result (λ interval. interval.start ≡ start) }
+        ensures totals { IfOk result (λ interval. interval.totals.items ≡ replicate detectors no_totals) }
+    {
+        let totals = vec![in alloc; Totals { cars: 0, speeds: 0 }; detectors]?;
+        Ok(Interval { start, totals })
+    }
+
+    // An equal interval with memory of its own.
+    pub(crate) fn copied(&self) -> Result<Interval, OutOfMemory>
+        ensures start { IfOk result (λ interval. interval.start ≡ self.now.start) }
+        ensures totals { IfOk result (λ interval. interval.totals.items ≡ self.now.totals.items) }
+    {
+        let start = self.start.copied()?;
+        let totals = self.totals.clone()?;
+        Ok(Interval { start, totals })
+    }
+
+    // Counts one more step. It takes no memory.
+    pub(crate) fn count(&mut self, input: &StepInput, speeds: &[u8])
+        requires one_each { length speeds.now ≡ length (cars_of input.now.road) }
+        requires each { length self.old.totals.items ≡ length input.now.plan.detectors }
+        requires cars { (d : ℕ) → d < length self.old.totals.items →
+            (slice_index_or self.old.totals.items d no_totals).cars + (passes_at input.now speeds.now d).cars < 2 ^ 32 }
+        requires speeds { (d : ℕ) → d < length self.old.totals.items →
+            (slice_index_or self.old.totals.items d no_totals).speeds
+            + (passes_at input.now speeds.now d).speeds < 2 ^ 32 }
+        ensures start { self.new.start ≡ self.old.start }
+        ensures each { length self.new.totals.items ≡ length self.old.totals.items }
+        ensures totals { (d : ℕ) → d < length self.old.totals.items →
+            slice_index_or self.new.totals.items d no_totals
+            ≡ plus (slice_index_or self.old.totals.items d no_totals) (passes_at input.now speeds.now d) }
+    {
+        input.known();
+        let greatest = greatest_speed(speeds);
+        let mut before = 0;
+        for detector in 0..self.totals.len() {
+            let passed = passes_from(input, speeds, detector as u32, greatest, before);
+            self.totals[detector] = self.totals[detector].plus(passed.totals);
+            before = passed.before;
+        }
+    }
+}

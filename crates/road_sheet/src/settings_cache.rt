@@ -1,0 +1,121 @@
+//! The settings that a run keeps from a step to the next, so that they are not made anew.
+
+ghost use Rattle.std.specs.Prelude.{◌≡◌, ◌<◌, ◌≤◌, ℕ, IfOk, IfSome};
+ghost use Rattle.std.specs.Arc.{arc_value};
+ghost use Rattle.road_plan.specs.Plan.{Plan};
+ghost use Rattle.road_plan.specs.Settings.{Fits};
+ghost use Rattle.road_scenario.specs.Edits.{Edits};
+ghost use Rattle.road_scenario.specs.Faults.{AreInRange};
+ghost use Rattle.road_scenario.specs.Settings.{settings_of};
+
+use road_plan::{OutOfMemory, Plan, Settings};
+use road_scenario::Scenario;
+use std::alloc::Global;
+use std::sync::Arc;
+
+// Settings, and the steps at which they are in force: from one up to another, that one not among them.
+#[derive(Drop)]
+pub(crate) struct InForce {
+    settings: Arc<Settings>,
+    from: u32,
+    until: u32,
+}
+
+impl InForce {
+    // The settings, where they are in force at a step.
+    fn at(&self, step: u32) -> Result<Option<Arc<Settings>>, OutOfMemory>
+        ensures { IfOk result (λ found. IfSome found (λ settings. (arc_value settings ≡ arc_value self.now.settings)
+            × (self.now.from ≤ step) × (step < self.now.until))) }
+    {
+        if step < self.from || self.until <= step {
+            return Ok(None);
+        }
+        Ok(Some(Arc::try_clone(&self.settings)?))
+    }
+}
+
+// The settings that a run keeps from a step to the next: those that it made last, if any.
+#[derive(Drop)]
+pub(crate) struct SettingsCache {
+    last: Option<InForce>,
+}
+
+impl SettingsCache {
+    ghost use Rattle.road_sheet.specs.Private.SettingsCache.{AreCached};
+
+    // Before the first step there are none.
+    pub(crate) fn none() -> SettingsCache
+        ensures { (plan : Plan) (edits : Edits) → AreCached plan edits result }
+    {
+        SettingsCache { last: None }
+    }
+
+    // The settings of a step: the last ones where no edit is dated since, and else made anew.
+    pub(crate) fn at(
+        &mut self,
+        alloc: Global,
+        plan: &Arc<Plan>,
+        scenario: &Scenario,
+        step: u32,
+    ) -> Result<Arc<Settings>, OutOfMemory>
+        requires fits { AreInRange (arc_value plan.now) scenario.now }
+        requires cached { AreCached (arc_value plan.now) scenario.now self.old }
+        ensures settings { IfOk result (λ settings.
+            arc_value settings ≡ settings_of (arc_value plan.now) scenario.now step) }
+        ensures fits { IfOk result (λ settings. Fits (arc_value plan.now) (arc_value settings)) }
+        ensures cached { AreCached (arc_value plan.now) scenario.now self.new }
+    {
+        if let Some(settings) = self.cached(step)? {
+            return Ok(settings);
+        }
+        self.renewed(alloc, plan, scenario, step)
+    }
+
+    // The last settings, where they are in force at a step.
+    fn cached(&self, step: u32) -> Result<Option<Arc<Settings>>, OutOfMemory>
+        ensures { (plan : Plan) (edits : Edits) → AreCached plan edits self.now → IfOk result (λ found.
+            IfSome found (λ settings. (arc_value settings ≡ settings_of plan edits step)
+            × Fits plan (arc_value settings))) }
+    {
+        match &self.last {
+            Some(kept) => kept.at(step),
+            None => Ok(None),
+        }
+    }
+
+    // The settings of a step, made anew and kept.
+    fn renewed(
+        &mut self,
+        alloc: Global,
+        plan: &Arc<Plan>,
+        scenario: &Scenario,
+        step: u32,
+    ) -> Result<Arc<Settings>, OutOfMemory>
+        requires fits { AreInRange (arc_value plan.now) scenario.now }
+        requires cached { AreCached (arc_value plan.now) scenario.now self.old }
+        ensures settings { IfOk result (λ settings.
+            arc_value settings ≡ settings_of (arc_value plan.now) scenario.now step) }
+        ensures fits { IfOk result (λ settings. Fits (arc_value plan.now) (arc_value settings)) }
+        ensures cached { AreCached (arc_value plan.now) scenario.now self.new }
+    {
+        let settings = Arc::new(alloc, scenario.settings_at(alloc, plan, step)?)?;
+        let shared = Arc::try_clone(&settings)?;
+        self.last = Some(InForce {
+            settings,
+            from: step,
+            until: until(scenario, step),
+        });
+        Ok(shared)
+    }
+}
+
+// Up to which step the settings of a step are in force: the greatest of all where no edit is dated after it.
+fn until(scenario: &Scenario, step: u32) -> u32
+    ensures { (plan : Plan) (t : ℕ) → step ≤ t → t < result →
+        settings_of plan scenario.now t ≡ settings_of plan scenario.now step }
+{
+    match scenario.next_date(step) {
+        Some(date) => date,
+        None => u32::MAX,
+    }
+}
