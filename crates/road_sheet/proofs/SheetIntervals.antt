@@ -84,7 +84,7 @@ step_within s whole cut new last road is early next start totals off = record {
   begun = let b = is.begun in omega (arith, b);
   not_ended = going (length whole) s.horizon is.begun is.not_ended off;
   each = is.each;
-  open = record { start = start ∙ is.open.start; totals = subst (λ n. AreTotals s.plan s.edits n (s.horizon + 1) new.totals.items) (cut_start (length whole) s.horizon is.begun is.not_ended) totals };
+  open_interval = record { start = start ∙ is.open_interval.start; totals = subst (λ n. AreTotals s.plan s.edits n (s.horizon + 1) new.totals.items) (cut_start (length whole) s.horizon is.begun is.not_ended) totals };
   at_horizon = next;
 }
   where
@@ -101,7 +101,7 @@ step_to_end s whole more cut new begun last road is early next start totals firs
     let end : s.horizon + 1 ≡ 64 * length whole + 64 = at_end (length whole) s.horizon is.begun is.not_ended on in
     let next_interval : 64 * length (whole ++ new ∷ []) ≡ s.horizon + 1 = omega (arith, many_more, end) in
     let counted = subst (λ n. AreTotals s.plan s.edits n (s.horizon + 1) new.totals.items) (cut_start (length whole) s.horizon is.begun is.not_ended) totals in
-    let here : IsInterval s.plan s.edits (64 * length whole) (64 * length whole + 64) new = record { start = start ∙ is.open.start; totals = subst (λ n. AreTotals s.plan s.edits (64 * length whole) n new.totals.items) end counted } in
+    let here : IsInterval s.plan s.edits (64 * length whole) (64 * length whole + 64) new = record { start = start ∙ is.open_interval.start; totals = subst (λ n. AreTotals s.plan s.edits (64 * length whole) n new.totals.items) end counted } in
     rw all (record {
       sheet = later s is.sheet early;
       begun = omega (arith, next_interval);
@@ -110,7 +110,7 @@ step_to_end s whole more cut new begun last road is early next start totals firs
         | inl i ↦ is.each k b i
         | inr i ↦ subst (λ c. IsInterval s.plan s.edits (64 * k) (64 * k + 64) c) i.1 (subst (λ n. IsInterval s.plan s.edits (64 * n) (64 * n + 64) new) (sym i.0) here)
       ];
-      open = subst (λ n. IsInterval s.plan s.edits n (s.horizon + 1) begun) (sym next_interval) (fresh s.plan s.edits (s.horizon + 1) begun (first ∙ next) zeros);
+      open_interval = subst (λ n. IsInterval s.plan s.edits n (s.horizon + 1) begun) (sym next_interval) (fresh s.plan s.edits (s.horizon + 1) begun (first ∙ next) zeros);
       at_horizon = next;
     })
   where
@@ -140,7 +140,7 @@ stays_in_interval s now h whole cut new last road is view early next totals off 
 pub cut_totals : (s t : Sheet) (whole : List Interval) (cut : Interval) (last : Array) → IsRunOf s whole cut last → s ≡ t → AreTotals t.plan t.edits (64 * (t.horizon / 64)) t.horizon cut.totals.items
 cut_totals s t whole cut last is same =
     subst (λ (x : Sheet). AreTotals x.plan x.edits (64 * (x.horizon / 64)) x.horizon cut.totals.items) same
-    (subst (λ n. AreTotals s.plan s.edits n s.horizon cut.totals.items) (sym (cut_start (length whole) s.horizon is.begun is.not_ended)) is.open.totals)
+    (subst (λ n. AreTotals s.plan s.edits n s.horizon cut.totals.items) (sym (cut_start (length whole) s.horizon is.begun is.not_ended)) is.open_interval.totals)
 
 -- ---- what the detectors have counted with the next step
 
@@ -191,7 +191,7 @@ went_on s t whole shared cut new last road is won fits same all start totals at 
   begun = is.begun;
   not_ended = is.not_ended;
   each = λ k b g. let l = slice_get_within whole k b g in let n = is.begun in moved s.plan s.edits t s.horizon (64 * k) (64 * k + 64) b same (omega arith) (omega (arith, l, n)) (is.each k b g);
-  open = let n = is.begun in moved s.plan s.edits t s.horizon (64 * length whole) s.horizon new same n (omega arith) (copied s.plan s.edits (64 * length whole) s.horizon cut new start totals is.open);
+  open_interval = let n = is.begun in moved s.plan s.edits t s.horizon (64 * length whole) s.horizon new same n (omega arith) (copied s.plan s.edits (64 * length whole) s.horizon cut new start totals is.open_interval);
   at_horizon = at ∙ is.at_horizon ∙ same.state s.horizon (omega arith);
 })
 
@@ -207,7 +207,7 @@ went_back s t m whole shared cut new last road is won fits below same some at st
       begun = omega (arith, many);
       not_ended = omega (arith, many);
       each = λ k b g. let r = get_take m whole b k g in let q = r.1 in moved s.plan s.edits t (64 * m) (64 * k) (64 * k + 64) b same (omega arith) (omega (arith, q)) (is.each k b r.0);
-      open = subst (λ x. IsInterval s.plan t (64 * x) (64 * m) new) (sym many) (fresh s.plan t (64 * m) new (start ∙ here) zeros);
+      open_interval = subst (λ x. IsInterval s.plan t (64 * x) (64 * m) new) (sym many) (fresh s.plan t (64 * m) new (start ∙ here) zeros);
       at_horizon = here;
     })
 
@@ -241,7 +241,7 @@ opened p e intervals cut last win fit none bare zeros road = rw none (record {
   begun = omega arith;
   not_ended = omega arith;
   each = λ k b g. absurd (cc);
-  open = fresh p e 0 cut bare zeros;
+  open_interval = fresh p e 0 cut bare zeros;
   at_horizon = road;
 })
 
@@ -273,4 +273,4 @@ cut_interval s t intervals part road k is same past begun =
     let here : length intervals ≡ k = omega (arith, h, past, begun, ended) in
     let end : s.horizon ≡ min (64 * k + 64) s.horizon = omega (arith, here, ended) in
     subst (λ (x : Sheet). IsInterval x.plan x.edits (64 * k) (min (64 * k + 64) x.horizon) part) same
-    (subst (λ n. IsInterval s.plan s.edits (64 * k) n part) end (subst (λ n. IsInterval s.plan s.edits (64 * n) s.horizon part) here is.open))
+    (subst (λ n. IsInterval s.plan s.edits (64 * k) n part) end (subst (λ n. IsInterval s.plan s.edits (64 * n) s.horizon part) here is.open_interval))

@@ -47,7 +47,7 @@ pub struct Sheet {
     plan: Arc<Plan>,
     known: Both<Scenario, Greatest<u32>>,
     intervals: SharedIntervals,
-    open: Interval,
+    open_interval: Interval,
     at_horizon: Road,
 }
 
@@ -70,7 +70,7 @@ impl Model for Sheet {
 
     ghost invariant = { λ s. IsRunOf
         (record { plan = arc_value s.plan; edits = s.known.first; horizon = horizon_of s.known.second })
-        s.intervals s.open s.at_horizon };
+        s.intervals s.open_interval s.at_horizon };
 }
 
 impl Sheet {
@@ -84,7 +84,11 @@ impl Sheet {
     pub fn opening(alloc: Global, plan: Arc<Plan>) -> Result<Sheet, OutOfMemory>
         ensures { IfOk result (λ sheet. sheet ≡ opening_sheet (arc_value plan)) }
     {
-        let open = Interval::begin(alloc, Checkpoint::empty(alloc), plan.detectors().len())?;
+        let open_interval = Interval::begin(
+            alloc,
+            Checkpoint::empty(alloc),
+            plan.detectors().len(),
+        )?;
         let intervals = SharedIntervals::empty(alloc)?;
         Ok(Sheet {
             plan,
@@ -93,7 +97,7 @@ impl Sheet {
                 second: Greatest::Nothing,
             },
             intervals,
-            open,
+            open_interval,
             at_horizon: Road::empty(alloc),
         })
     }
@@ -245,7 +249,7 @@ impl Sheet {
         if interval < self.whole_intervals() {
             self.intervals.get(interval)
         } else {
-            &self.open
+            &self.open_interval
         }
     }
 
@@ -384,7 +388,7 @@ impl Sheet {
           horizon = self.now.horizon;
         }) }
     {
-        let (open, at_horizon) = copies(&self.open, &self.at_horizon)?;
+        let (open_interval, at_horizon) = copies(&self.open_interval, &self.at_horizon)?;
         let (plan, intervals) = shared_with_plan(
             alloc,
             &self.plan,
@@ -399,7 +403,7 @@ impl Sheet {
             plan,
             known,
             intervals,
-            open,
+            open_interval,
             at_horizon,
         })
     }
@@ -422,7 +426,7 @@ impl Sheet {
         }) }
     {
         let start = &self.interval(interval as usize).start;
-        let (open, at_horizon) = begun(alloc, start, self.plan.detectors().len())?;
+        let (open_interval, at_horizon) = begun(alloc, start, self.plan.detectors().len())?;
         let (plan, intervals) = shared_with_plan(
             alloc,
             &self.plan,
@@ -437,7 +441,7 @@ impl Sheet {
             plan,
             known,
             intervals,
-            open,
+            open_interval,
             at_horizon,
         })
     }
@@ -498,7 +502,7 @@ impl Sheet {
         cars_pass_one_by_one(&self.plan);
         totals_are_bounded(&self.plan);
         let horizon = self.horizon() + 1;
-        self.open.count(input, speeds);
+        self.open_interval.count(input, speeds);
         let last = mem::replace(&mut self.at_horizon, road);
         self.known.second = Greatest::Of(horizon);
         last
@@ -539,10 +543,10 @@ impl Sheet {
         totals_are_bounded(&self.plan);
         let horizon = self.horizon() + 1;
         let next = self.next_interval(alloc, &road)?;
-        let mut ended = self.open.copied()?;
+        let mut ended = self.open_interval.copied()?;
         ended.count(input, speeds);
         self.intervals.push(alloc, ended)?;
-        self.open = next;
+        self.open_interval = next;
         let last = mem::replace(&mut self.at_horizon, road);
         self.known.second = Greatest::Of(horizon);
         Ok(last)
@@ -585,6 +589,6 @@ fn shared_with_plan(
     ensures plan { IfOk result (λ shared. arc_value shared.0 ≡ arc_value plan.now) }
     ensures intervals { IfOk result (λ shared. shared.1 ≡ take count intervals.now) }
 {
-    let intervals = intervals.first(alloc, count)?;
-    Ok((Arc::try_clone(plan)?, shared))
+    let first = intervals.first(alloc, count)?;
+    Ok((Arc::try_clone(plan)?, first))
 }

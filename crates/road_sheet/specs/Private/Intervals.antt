@@ -30,7 +30,7 @@ pub record IsRunOf (s : Sheet) (intervals : List Interval) (part : Interval) (ro
   pub not_ended : s.horizon < INTERVAL_STEPS * length intervals + INTERVAL_STEPS
   pub each : (k : ℕ) (interval : Interval) → slice_get intervals k ≡ Some interval
       → IsInterval s.plan s.edits (INTERVAL_STEPS * k) (INTERVAL_STEPS * k + INTERVAL_STEPS) interval
-  pub open : IsInterval s.plan s.edits (INTERVAL_STEPS * length intervals) s.horizon part
+  pub open_interval : IsInterval s.plan s.edits (INTERVAL_STEPS * length intervals) s.horizon part
   pub at_horizon : road ≡ run_at s.plan s.edits s.horizon
 
 -- edits that give the same run and the same counts up to a step

@@ -11,10 +11,10 @@ use Rattle.road_sheet.proofs.sheet.Sheet.opening.Goals as goal
 pub invariant_of-result : goal.invariant_of-result
 invariant_of-result c =
     let p = arc_value c.args.plan in
-    opened p c.empty-3.result _ c.in_ok-open.open c.empty-4.result
+    opened p c.empty-3.result _ c.in_ok-open_interval.open_interval c.empty-4.result
     (subst AreWinners (sym c.empty-3.ensures.none) winners-empty)
     (c.empty-3.ensures.fits p)
     c.in_ok-intervals.ensures
-    (c.in_ok-open.ensures.start ∙ c.empty.ensures)
-    (c.in_ok-open.ensures.totals ∙ ap (λ n. replicate n no_totals) (ap length c.detectors.ensures ∙ ap (λ (q : Plan). length q.detectors) c.deref.ensures))
+    (c.in_ok-open_interval.ensures.start ∙ c.empty.ensures)
+    (c.in_ok-open_interval.ensures.totals ∙ ap (λ n. replicate n no_totals) (ap length c.detectors.ensures ∙ ap (λ (q : Plan). length q.detectors) c.deref.ensures))
     c.empty-4.ensures

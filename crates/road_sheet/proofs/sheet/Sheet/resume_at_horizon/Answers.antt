@@ -9,13 +9,13 @@ use Rattle.road_sheet.proofs.sheet.Sheet.resume_at_horizon.Goals as goal
 pub invariant_of-result : goal.invariant_of-result
 invariant_of-result c =
     let now = c.args.self.now in
-    stays_whole _ now c.args.scenario (arc_value c.in_ok-plan.plan) _ _ _ _ c.in_ok-open.open _ c.in_ok-open.at_horizon c.self.invariant c.self.view_is c.requires.winners c.requires.fits c.requires.same
+    stays_whole _ now c.args.scenario (arc_value c.in_ok-plan.plan) _ _ _ _ c.in_ok-open_interval.open_interval _ c.in_ok-open_interval.at_horizon c.self.invariant c.self.view_is c.requires.winners c.requires.fits c.requires.same
     (c.in_ok-plan.ensures.plan ∙ ap (λ (x : Sheet). x.plan) c.self.view_is)
     c.horizon.ensures
     (c.in_ok-plan.ensures.intervals ∙ take_all c.whole_intervals.result c.self.inside.intervals (omega (arith, c.whole_intervals.ensures, many_whole _ _ _ _ _ c.self.invariant c.self.view_is)))
-    c.in_ok-open.ensures.start
-    c.in_ok-open.ensures.totals
-    c.in_ok-open.ensures.road
+    c.in_ok-open_interval.ensures.start
+    c.in_ok-open_interval.ensures.totals
+    c.in_ok-open_interval.ensures.road
 
 pub shared_with_plan-requires : goal.shared_with_plan-requires
 shared_with_plan-requires c = omega (arith, c.whole_intervals.ensures, many_whole _ _ _ _ _ c.self.invariant c.self.view_is)

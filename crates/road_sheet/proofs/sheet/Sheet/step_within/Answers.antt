@@ -6,16 +6,16 @@ use Rattle.road_sheet.proofs.sheet.Sheet.step_within.Goals as goal
 
 pub count-requires-clause-cars : goal.count-requires-clause-cars
 count-requires-clause-cars c =
-    next_cars_fit _ c.args.self.now _ c.self.inside.open _ c.args.input.now c.args.speeds.now c.self.inside.open.totals.items c.self.invariant c.self.view_is (subst BoundTotals c.deref-2.ensures c.totals_are_bounded.ensures)
+    next_cars_fit _ c.args.self.now _ c.self.inside.open_interval _ c.args.input.now c.args.speeds.now c.self.inside.open_interval.totals.items c.self.invariant c.self.view_is (subst BoundTotals c.deref-2.ensures c.totals_are_bounded.ensures)
     (subst PassOneByOne c.deref.ensures c.cars_pass_one_by_one.ensures) c.requires.within_limit c.requires.input c.requires.speeds refl
 
 pub count-requires-clause-speeds : goal.count-requires-clause-speeds
 count-requires-clause-speeds c =
-    next_speeds_fit _ c.args.self.now _ c.self.inside.open _ c.args.input.now c.args.speeds.now c.self.inside.open.totals.items c.self.invariant c.self.view_is (subst BoundTotals c.deref-2.ensures c.totals_are_bounded.ensures)
+    next_speeds_fit _ c.args.self.now _ c.self.inside.open_interval _ c.args.input.now c.args.speeds.now c.self.inside.open_interval.totals.items c.self.invariant c.self.view_is (subst BoundTotals c.deref-2.ensures c.totals_are_bounded.ensures)
     (subst PassOneByOne c.deref.ensures c.cars_pass_one_by_one.ensures) c.requires.within_limit c.requires.input c.requires.speeds refl
 
 pub invariant_of-self : goal.invariant_of-self
 invariant_of-self c =
-    stays_in_interval _ c.args.self.now c.horizon-horizon.result _ c.self.inside.open c.count.new.self _ c.replace-at_horizon.new.dest c.self.invariant c.self.view_is c.requires.within_limit (c.replace-at_horizon.ensures.after ∙ c.requires.road)
-    (counted_next _ c.args.self.now _ c.self.inside.open _ c.args.input.now c.args.speeds.now c.self.inside.open.totals.items c.count.new.self.totals.items c.self.invariant c.self.view_is c.requires.input c.requires.speeds refl c.count.ensures.each c.count.ensures.totals)
+    stays_in_interval _ c.args.self.now c.horizon-horizon.result _ c.self.inside.open_interval c.count.new.self _ c.replace-at_horizon.new.dest c.self.invariant c.self.view_is c.requires.within_limit (c.replace-at_horizon.ensures.after ∙ c.requires.road)
+    (counted_next _ c.args.self.now _ c.self.inside.open_interval _ c.args.input.now c.args.speeds.now c.self.inside.open_interval.totals.items c.count.new.self.totals.items c.self.invariant c.self.view_is c.requires.input c.requires.speeds refl c.count.ensures.each c.count.ensures.totals)
     c.requires.within_interval c.horizon-horizon.ensures c.count.ensures.start
