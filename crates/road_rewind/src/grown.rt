@@ -9,21 +9,13 @@ ghost use Rattle.road_sheet.specs.Sheets.{IsAtMost, sheet_after_step};
 ghost use Rattle.road_rewind.specs.Growth.{grown_sheet, touched_step, kept_step, most_steps, meter_after, TicksAtMost, gone_after_fault};
 
 use crate::faults::{GrownFault, growth_fault};
+use crate::growth::Grown;
 use road_ends::{Meter, OutOfMemory};
 use road_scenario::Scenario;
 use road_scenario::laws::winners_agree;
 use road_sheet::{Draft, Sheet};
 use road_workers::Crew;
 use std::alloc::Global;
-
-/// What `grown` gives: the sheet that has grown, and what that touched.
-#[derive(Drop)]
-pub struct Grown {
-    /// The sheet of the joined scenario.
-    pub sheet: Sheet,
-    /// The first step at which its edits put other numbers than those before; none where they are the same.
-    pub touched: Option<u32>,
-}
 
 /// The sheet with a scenario joined in, simulated at least up to the step `to`: that of the joined scenario, at the
 /// greater of the old horizon and `to`. The old sheet stays as it is, and the new one shares with it each interval that

@@ -17,8 +17,10 @@
 
 mod faults;
 mod grown;
+mod growth;
 
 pub use faults::GrownFault;
-pub use grown::{Grown, grown};
+pub use grown::grown;
+pub use growth::Grown;
 /// Out of memory: an allocation failed.
 pub use std::alloc::AllocError as OutOfMemory;

@@ -1,0 +1,12 @@
+//! A grown sheet, and the first step that its new edits touched.
+
+use road_sheet::Sheet;
+
+/// What `grown` gives: the sheet that has grown, and what that touched.
+#[derive(Drop)]
+pub struct Grown {
+    /// The sheet of the joined scenario.
+    pub sheet: Sheet,
+    /// The first step at which its edits put other numbers than those before; none where they are the same.
+    pub touched: Option<u32>,
+}
