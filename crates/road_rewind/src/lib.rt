@@ -16,11 +16,11 @@
 #![tactic(auto)]
 
 mod faults;
-mod grown;
-mod growth;
+mod outcome;
+mod rewind;
 
 pub use faults::GrownFault;
-pub use grown::grown;
-pub use growth::Grown;
+pub use outcome::Grown;
+pub use rewind::grown;
 /// Out of memory: an allocation failed.
 pub use std::alloc::AllocError as OutOfMemory;

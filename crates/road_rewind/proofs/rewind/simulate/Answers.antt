@@ -2,7 +2,7 @@
 use Rattle.std.proofs.Common.{◌∙◌, ap, arith}
 use Rattle.road_sheet.specs.Sheets.{Sheet, sheet_after_step}
 use Rattle.road_rewind.proofs.StepCounts.{tick_more}
-use Rattle.road_rewind.proofs.grown.simulate.Goals as goal
+use Rattle.road_rewind.proofs.rewind.simulate.Goals as goal
 
 pub loop-step-preserved : goal.loop-step-preserved
 loop-step-preserved g c = record {

@@ -4,7 +4,7 @@ use Rattle.road_sheet.specs.Drafts.{draft_start}
 use Rattle.road_sheet.specs.Sheets.{Sheet}
 use Rattle.road_rewind.specs.Growth.{kept_step, touched_step, meter_after}
 use Rattle.road_rewind.proofs.StepCounts.{more_ticks, few_steps, start_at_horizon}
-use Rattle.road_rewind.proofs.grown.grown.Goals as goal
+use Rattle.road_rewind.proofs.rewind.grown.Goals as goal
 
 pub returns-in_err-simulate-clause-few_steps : goal.returns-in_err-simulate-clause-few_steps
 returns-in_err-simulate-clause-few_steps g c =

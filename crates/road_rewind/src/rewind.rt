@@ -9,7 +9,7 @@ ghost use Rattle.road_sheet.specs.Sheets.{IsAtMost, sheet_after_step};
 ghost use Rattle.road_rewind.specs.Growth.{grown_sheet, touched_step, kept_step, most_steps, meter_after, TicksAtMost, gone_after_fault};
 
 use crate::faults::{GrownFault, growth_fault};
-use crate::growth::Grown;
+use crate::outcome::Grown;
 use road_ends::{Meter, OutOfMemory};
 use road_scenario::Scenario;
 use road_scenario::laws::winners_agree;

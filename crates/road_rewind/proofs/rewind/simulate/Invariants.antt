@@ -1,7 +1,7 @@
 -- A draft is simulated, step by step.
 use Rattle.std.proofs.Common.{◌≡◌, ◌-◌}
 use Rattle.road_rewind.specs.Growth.{meter_after}
-use Rattle.road_rewind.proofs.grown.simulate.Given as goal
+use Rattle.road_rewind.proofs.rewind.simulate.Given as goal
 
 -- the draft is at the step that is to come, and each step before it is counted
 abbrev pub invariant-loop-step : goal.invariant-loop-step

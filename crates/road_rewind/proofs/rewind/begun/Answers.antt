@@ -1,7 +1,7 @@
 -- The joined scenario fits the plan, since both of its parts do; the draft begins where its run is that of the sheet no more.
 use Rattle.std.proofs.Common.{sym, subst}
 use Rattle.road_scenario.specs.Faults.{AreInRange}
-use Rattle.road_rewind.proofs.grown.begun.Goals as goal
+use Rattle.road_rewind.proofs.rewind.begun.Goals as goal
 
 pub draft_of-requires-clause-fits : goal.draft_of-requires-clause-fits
 draft_of-requires-clause-fits c =
