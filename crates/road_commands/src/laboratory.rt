@@ -8,6 +8,7 @@ ghost use Rattle.lattice_core.specs.Sets.{items};
 ghost use Rattle.road_plan.specs.declared.limits.TheConstants.{MOST_REPLICAS};
 ghost use Rattle.road_delta.specs.Deltas as deltas;
 ghost use Rattle.road_sheet.specs.Sheets.{Sheet};
+ghost use Rattle.road_workers.specs.Crews.{gone_after};
 ghost use Rattle.road_world.specs.Answers.{IsAnswer, fault_at_replica, gone_after_answer, heads_wanted_fault};
 ghost use Rattle.road_world.specs.Answers.{replica_number, reply_to_event, sheet_at};
 ghost use Rattle.road_world.specs.Events.{asked_heads, world_after_event};
@@ -15,7 +16,7 @@ ghost use Rattle.road_world.specs.declared.faults.WorldFault.TheVariants.{NoMess
 ghost use Rattle.road_format.specs.Replies as replies;
 ghost use Rattle.road_format.specs.Views.{answer_view, command_view, plan_line_view, shares_view, texts};
 ghost use Rattle.road_commands.specs.Private.Caching.{IsCacheOf};
-ghost use Rattle.road_commands.specs.Laboratory.{answer_to, beyond_outcome, change_outcome, edits_held, gone_after};
+ghost use Rattle.road_commands.specs.Laboratory.{answer_to, beyond_outcome, change_outcome, edits_held};
 ghost use Rattle.road_commands.specs.Laboratory.{heads_outcome, import_outcome, laboratory_after};
 ghost use Rattle.road_commands.specs.Laboratory.{laboratory_of_winners, number_of, opening_laboratory, outcome_at};
 ghost use Rattle.road_commands.specs.Laboratory.{outcome_by_name};
@@ -26,7 +27,6 @@ ghost use Rattle.road_commands.specs.Private.Changes.{reply_answer};
 ghost use Rattle.road_commands.specs.Private.Questions.{answer_to_question};
 
 use crate::crowds::{crowd_of, crowd_refusal};
-use crate::faults::LaboratoryFault;
 use crate::names::Names;
 use crate::queries::answer;
 use crate::query_cache::QueryCache;
@@ -38,7 +38,7 @@ use road_format::{Answer, Command, PlanLine, Refusal};
 use road_plan::{OutOfMemory, Plan};
 use road_replica::{Crowd, Crowds, Reply};
 use road_scenario::Edit;
-use road_workers::Crew;
+use road_workers::{Crew, CrewFault};
 use road_world::{Event, Message, World, WorldFault};
 use std::alloc::Global;
 use std::marker::Model;
@@ -114,7 +114,7 @@ impl Laboratory {
         command: &Command,
         crew: &mut C,
         crowds: &K,
-    ) -> Result<Answer, LaboratoryFault>
+    ) -> Result<Answer, CrewFault>
         ensures answer { IfOk result (λ answer. answer_view answer ≡ answer_to self.old (command_view command.now)) }
         ensures after { OnOk result (self.new
             ≡ laboratory_of_winners (laboratory_after self.old (command_view command.now))) }
@@ -136,7 +136,7 @@ impl Laboratory {
         shares: &[Vec<Edit>],
         to: u32,
         crowds: &K,
-    ) -> Result<Answer, LaboratoryFault>
+    ) -> Result<Answer, CrewFault>
         ensures answer { IfOk result (λ answer. answer_view answer
             ≡ (crowd_outcome self.now (shares_view shares.now) to).answer) }
         ensures no_crew { (n : ℕ) → gone_after_command result
@@ -164,7 +164,7 @@ impl Laboratory {
         alloc: Global,
         command: &Command,
         crew: &mut C,
-    ) -> Result<Answer, LaboratoryFault>
+    ) -> Result<Answer, CrewFault>
         requires { laboratory.crowd_of (command_view command.now) ≡ None }
         ensures answer { IfOk result (λ answer. answer_view answer
             ≡ (outcome_by_name self.old (command_view command.now)).answer) }
@@ -206,7 +206,7 @@ impl Laboratory {
         at: u32,
         command: &Command,
         crew: &mut C,
-    ) -> Result<Answer, LaboratoryFault>
+    ) -> Result<Answer, CrewFault>
         requires there { at < length self.old.replica_names }
         requires no_crowd { laboratory.crowd_of (command_view command.now) ≡ None }
         ensures answer { IfOk result (λ answer. answer_view answer
@@ -280,7 +280,7 @@ impl Laboratory {
     }
 
     // What a replica is asked is answered by its sheet. No crew is needed.
-    fn ask(&mut self, alloc: Global, at: u32, question: Question) -> Result<Answer, LaboratoryFault>
+    fn ask(&mut self, alloc: Global, at: u32, question: Question) -> Result<Answer, CrewFault>
         requires { at < length self.old.replica_names }
         ensures answer { IfOk result (λ answer. answer_view answer
             ≡ answer_to_question (sheet_at self.old.world at) question) }
@@ -302,7 +302,7 @@ impl Laboratory {
         alloc: Global,
         event: &Event,
         crew: &mut C,
-    ) -> Result<Answer, LaboratoryFault>
+    ) -> Result<Answer, CrewFault>
         requires { replica_number event.now < length self.old.replica_names }
         ensures answer { IfOk result (λ answer. answer_view answer
             ≡ (change_outcome self.old event.now (reply_answer (reply_to_event self.old.world event.now))).answer) }
@@ -328,7 +328,7 @@ impl Laboratory {
         at: u32,
         edits: &Vec<Edit>,
         crew: &mut C,
-    ) -> Result<Answer, LaboratoryFault>
+    ) -> Result<Answer, CrewFault>
         requires { at < length self.old.replica_names }
         ensures answer { IfOk result (λ answer. answer_view answer
             ≡ (import_outcome self.old at edits.now.items).answer) }
@@ -348,7 +348,7 @@ impl Laboratory {
         at: u32,
         name: &str,
         crew: &mut C,
-    ) -> Result<Answer, LaboratoryFault>
+    ) -> Result<Answer, CrewFault>
         requires { at < length self.old.replica_names }
         ensures answer { IfOk result (λ answer. answer_view answer ≡ (take_outcome self.old at name.now).answer) }
         ensures after { OnOk result (self.new ≡ laboratory_of_winners (take_outcome self.old at name.now).after) }
@@ -374,7 +374,7 @@ impl Laboratory {
         at: u32,
         name: &str,
         crew: &mut C,
-    ) -> Result<Answer, LaboratoryFault>
+    ) -> Result<Answer, CrewFault>
         requires { at < length self.old.replica_names }
         ensures answer { IfOk result (λ answer. answer_view answer ≡ (send_outcome self.old at name.now).answer) }
         ensures after { OnOk result (self.new ≡ laboratory_of_winners (send_outcome self.old at name.now).after) }
@@ -398,7 +398,7 @@ impl Laboratory {
         at: u32,
         name: &str,
         crew: &mut C,
-    ) -> Result<Answer, LaboratoryFault>
+    ) -> Result<Answer, CrewFault>
         requires { at < length self.old.replica_names }
         ensures answer { IfOk result (λ answer. answer_view answer ≡ (heads_outcome self.old at name.now).answer) }
         ensures after { OnOk result (self.new ≡ laboratory_of_winners (heads_outcome self.old at name.now).after) }
@@ -423,7 +423,7 @@ impl Laboratory {
         asked: &str,
         name: &str,
         crew: &mut C,
-    ) -> Result<Answer, LaboratoryFault>
+    ) -> Result<Answer, CrewFault>
         requires { at < length self.old.replica_names }
         ensures answer { IfOk result (λ answer. answer_view answer
             ≡ (beyond_outcome self.old at asked.now name.now).answer) }
@@ -456,7 +456,7 @@ impl Laboratory {
         event: &Event,
         name: &str,
         crew: &mut C,
-    ) -> Result<(), LaboratoryFault>
+    ) -> Result<(), CrewFault>
         requires there { replica_number event.now < length self.old.replica_names }
         requires accepted { fault_at_replica self.old.world event.now ≡ None }
         requires free { number_of self.old.message_names name.now ≡ None }

@@ -14,7 +14,6 @@
 #![tactic(auto)]
 
 mod crowds;
-mod faults;
 mod laboratory;
 pub mod laws;
 mod names;
@@ -23,7 +22,6 @@ mod query_cache;
 mod question;
 mod translation;
 
-pub use faults::LaboratoryFault;
 pub use laboratory::Laboratory;
 /// Out of memory: an allocation failed.
 pub use std::alloc::AllocError as OutOfMemory;

@@ -5,9 +5,9 @@ ghost use Rattle.road_format.specs.Views.{answer_view, command_view};
 ghost use Rattle.road_commands.specs.Laboratory as laboratory;
 ghost use Rattle.road_commands.specs.Private.Changes as changes;
 
-use crate::faults::LaboratoryFault;
 use road_format::{Answer, Command, Refusal};
 use road_replica::{ReplicaFault, Reply};
+use road_workers::CrewFault;
 use road_world::{Event, WorldFault};
 
 // The name of a command's replica. A crowd names none.
@@ -91,12 +91,12 @@ pub(crate) fn replica_refusal(fault: ReplicaFault) -> Option<Refusal>
     }
 }
 
-// The fault of the laboratory, where the world refuses an event for no named cause.
-pub(crate) fn fault_by(fault: WorldFault) -> LaboratoryFault
+// Returns the crew's fault where the world refuses an event for no named cause.
+pub(crate) fn fault_by(fault: WorldFault) -> CrewFault
     ensures { result ≡ changes.fault_by fault }
 {
     match fault {
-        WorldFault::Replica(ReplicaFault::WorkersGone) => LaboratoryFault::WorkersGone,
-        _ => LaboratoryFault::OutOfMemory,
+        WorldFault::Replica(ReplicaFault::WorkersGone) => CrewFault::WorkersGone,
+        _ => CrewFault::OutOfMemory,
     }
 }

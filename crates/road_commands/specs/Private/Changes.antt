@@ -9,8 +9,8 @@ use Rattle.road_format.specs.declared.refusal.Refusal.TheVariants as refusals
 use Rattle.road_replica.specs.declared.faults.ReplicaFault.TheVariants as replica_faults
 use Rattle.road_world.specs.declared.faults.WorldFault.{WorldFault}
 use Rattle.road_world.specs.declared.faults.WorldFault.TheVariants as world_faults
-use Rattle.road_commands.specs.declared.faults.LaboratoryFault.{LaboratoryFault}
-use Rattle.road_commands.specs.declared.faults.LaboratoryFault.TheVariants as faults
+use Rattle.road_workers.specs.declared.faults.CrewFault.{CrewFault}
+use Rattle.road_workers.specs.declared.faults.CrewFault.TheVariants as crew_faults
 
 -- whether an event leaves the edits of its replica as they were
 abbrev pub keeps_edits : Event → Bool
@@ -30,7 +30,7 @@ reply_answer (replies.Touched step) = Touched step
 reply_answer (replies.Message number) = Refused refusals.NoMessage
 reply_answer (replies.Horizon to) = Horizon to
 
--- the fault of the laboratory where the world refuses an event for no named cause
-abbrev pub fault_by : WorldFault → LaboratoryFault
-fault_by (world_faults.Replica replica_faults.WorkersGone) = faults.WorkersGone
-fault_by fault = faults.OutOfMemory
+-- the crew's fault where the world refuses an event for no named cause
+abbrev pub fault_by : WorldFault → CrewFault
+fault_by (world_faults.Replica replica_faults.WorkersGone) = crew_faults.WorkersGone
+fault_by fault = crew_faults.OutOfMemory
