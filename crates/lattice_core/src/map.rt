@@ -2,10 +2,10 @@
 
 ghost use Rattle.std.specs.Prelude.{◌≡◌, ◌↔◌, [], IfOk, IfSome, IsOk, IsTrue, T};
 ghost use Rattle.std.specs.Option.{option_copied};
-ghost use Rattle.std.specs.FinMap.Entries.{find, is_sorted, put};
+ghost use Rattle.std.specs.FinMap.Entries.{find, is_sorted};
 ghost use Rattle.std.specs.Map.{keys_of};
-ghost use Rattle.lattice_core.specs.Map.{IsHeld, IsProperMap, map_with, entries_up_to, entries_after};
-ghost use Rattle.lattice_core.specs.Private.EntryLists.{IsAtMostOption, other_entries, left_union, join_with_option, joined_entries};
+ghost use Rattle.lattice_core.specs.Map.{IsHeld, IsProperMap, join_option, map_with, map_join, entries_up_to, entries_after};
+ghost use Rattle.lattice_core.specs.Private.EntryLists.{IsAtMostOption, put_joined};
 
 use crate::OutOfMemory;
 use crate::exact::Exact;
@@ -93,56 +93,46 @@ impl<K: Exact, V: Lattice> LatMap<K, V> {
     pub fn with(&self, key: K, value: &V) -> Result<Self, OutOfMemory>
         ensures { IfOk result (λ new. new ≡ map_with K.cmp V.join V.is_least self.now key value.now) }
     {
-        self.known();
         value.known();
-        let joined = joined_with(value, self.get(key))?;
-        if joined.is_bottom() {
+        if value.is_bottom() {
             return self.copied();
         }
-        let mut map = self.copied_others(key)?;
-        put_in(&mut map, key, joined)?;
+        let mut map = self.copied_entries()?;
+        join_in(&mut map, key, value)?;
         Ok(LatMap {
             map,
             alloc: self.alloc,
         })
     }
 
-    // The entries at all other keys.
-    fn copied_others(&self, key: K) -> Result<BTreeMap<K, V>, OutOfMemory>
-        ensures { IfOk result (λ map. map.entries ≡ other_entries K.cmp key self.now) }
-    {
-        let mut map = BTreeMap::new(self.alloc);
-        for (other, value) in &self.map {
-            if other.cmp(&key).is_ne() {
-                put_in(&mut map, *other, value.copied()?)?;
-            }
-        }
-        Ok(map)
-    }
-
-    // The entries of this map, each joined with what the other one has at its key.
-    fn joined_entries(&self, other: &Self) -> Result<BTreeMap<K, V>, OutOfMemory>
-        ensures made { IfOk result (λ map. map.entries ≡ joined_entries K.cmp V.join other.now self.now) }
+    // Copies the entries in their order.
+    fn copied_entries(&self) -> Result<BTreeMap<K, V>, OutOfMemory>
+        ensures made { IfOk result (λ map. map.entries ≡ self.now) }
         ensures grows_nothing { self.now ≡ [] → IsOk result }
     {
-        let mut map = BTreeMap::new(self.alloc);
-        for (key, value) in &self.map {
-            put_in(&mut map, *key, joined_with(value, other.map.get(key))?)?;
+        if self.map.is_empty() {
+            return Ok(BTreeMap::new(self.alloc));
         }
-        Ok(map)
+        let mut entries = Vec::with_capacity(self.alloc, self.map.len())?;
+        for (key, value) in &self.map {
+            entries.push((*key, value.copied()?))?;
+        }
+        BTreeMap::from_iter(self.alloc, entries)
     }
 
-    // Copies the entries whose keys the map lacks into it.
-    fn fill(&self, map: &mut BTreeMap<K, V>) -> Result<(), OutOfMemory>
-        ensures made { IfOk result (λ _. map.new.entries ≡ left_union K.cmp map.old.entries self.now) }
-        ensures grows_nothing { self.now ≡ [] → IsOk result }
+    // Copies the map, and joins in each entry of `other`.
+    fn with_all(&self, other: &Self) -> Result<Self, OutOfMemory>
+        ensures made { IfOk result (λ new. new ≡ map_join K.cmp V.join V.is_least self.now other.now) }
+        ensures grows_nothing { self.now ≡ [] → other.now ≡ [] → IsOk result }
     {
-        for (key, value) in &self.map {
-            if !map.contains_key(key) {
-                put_in(map, *key, value.copied()?)?;
-            }
+        let mut map = self.copied_entries()?;
+        for (key, value) in &other.map {
+            join_in(&mut map, *key, value)?;
         }
-        Ok(())
+        Ok(LatMap {
+            map,
+            alloc: self.alloc,
+        })
     }
 }
 
@@ -167,14 +157,10 @@ impl<K: Exact, V: Lattice> Lattice for LatMap<K, V> {
         ensures made { IfOk result (λ joined. joined ≡ map_join K.cmp V.join V.is_least self.now other.now) }
         ensures grows_nothing { self.now ≡ [] → other.now ≡ [] → IsOk result }
     {
-        self.known();
-        other.known();
-        let mut map = self.joined_entries(other)?;
-        other.fill(&mut map)?;
-        Ok(LatMap {
-            map,
-            alloc: self.alloc,
-        })
+        if self.map.len() < other.map.len() {
+            return other.with_all(self);
+        }
+        self.with_all(other)
     }
 
     /// A copy of each entry. It takes no memory where there is none.
@@ -186,12 +172,8 @@ impl<K: Exact, V: Lattice> Lattice for LatMap<K, V> {
         ensures made { IfOk result (λ copy. copy ≡ self.now) }
         ensures grows_nothing { self.now ≡ [] → IsOk result }
     {
-        let mut map = BTreeMap::new(self.alloc);
-        for (key, value) in &self.map {
-            put_in(&mut map, *key, value.copied()?)?;
-        }
         Ok(LatMap {
-            map,
+            map: self.copied_entries()?,
             alloc: self.alloc,
         })
     }
@@ -226,24 +208,25 @@ fn is_up_to<V: Lattice>(value: &V, other: Option<&V>) -> bool
     }
 }
 
-// Puts an entry in its place.
-fn put_in<K: Exact, V: Lattice>(
+// Joins a value with what the map has at its key.
+fn join_in<K: Exact, V: Lattice>(
     map: &mut BTreeMap<K, V>,
     key: K,
-    value: V,
+    value: &V,
 ) -> Result<(), OutOfMemory>
-    ensures { IfOk result (λ _. map.new.entries ≡ put K.cmp key value map.old.entries) }
+    ensures { IfOk result (λ _. map.new.entries ≡ put_joined K.cmp V.join map.old.entries key value.now) }
 {
-    map.insert(key, value)?;
+    let joined = joined_option(map.get(&key), value)?;
+    map.insert(key, joined)?;
     Ok(())
 }
 
-// A value joined with what there is at its key.
-fn joined_with<V: Lattice>(value: &V, other: Option<&V>) -> Result<V, OutOfMemory>
-    ensures { IfOk result (λ new. new ≡ join_with_option V.join value.now (option_copied other.entry)) }
+// Joins a value with what there is.
+fn joined_option<V: Lattice>(present: Option<&V>, value: &V) -> Result<V, OutOfMemory>
+    ensures { IfOk result (λ new. new ≡ join_option V.join (option_copied present.entry) value.now) }
 {
-    match other {
-        Some(other) => value.joined(other),
+    match present {
+        Some(present) => present.joined(value),
         None => value.copied(),
     }
 }
