@@ -11,7 +11,7 @@ use Rattle.lattice_core.proofs.map.LatMap.with.Goals as goal
 pub returns-then-is_bottom : goal.returns-then-is_bottom
 returns-then-is_bottom g c =
     let joined = put_joined g.K.Ord.cmp g.V.Lattice.join c.args.self.now c.args.key c.args.value.now in
-    let same = ap (λ b. cond b c.args.self.now joined) (sym (sym c.is_bottom.ensures ∙ c.if-is_bottom.true)) in
+    let same = ap (λ b. cond b c.args.self.now joined) (sym (sym c.is_bottom.ensures.least ∙ c.if-is_bottom.true)) in
     IfOk-weaker c.copied.result (λ copy. copy ≡ c.args.self.now)
     (λ new. new ≡ map_with g.K.Ord.cmp g.V.Lattice.join g.V.Lattice.is_least c.args.self.now c.args.key c.args.value.now)
     (λ copy is. is ∙ same) c.copied.ensures.made
@@ -19,13 +19,13 @@ returns-then-is_bottom g c =
 made : (g : given.Over) (c : goal.After-result-1 g) → c.join_in.new.map.entries ≡ map_with g.K.Ord.cmp g.V.Lattice.join g.V.Lattice.is_least c.args.self.now c.args.key c.args.value.now
 made g c =
     c.in_ok-join_in.ensures ∙ ap (λ es. put_joined g.K.Ord.cmp g.V.Lattice.join es c.args.key c.args.value.now) c.in_ok-map.ensures.made
-    ∙ ap (λ b. cond b c.args.self.now (put_joined g.K.Ord.cmp g.V.Lattice.join c.args.self.now c.args.key c.args.value.now)) (sym (sym c.is_bottom.ensures ∙ c.if-is_bottom.false))
+    ∙ ap (λ b. cond b c.args.self.now (put_joined g.K.Ord.cmp g.V.Lattice.join c.args.self.now c.args.key c.args.value.now)) (sym (sym c.is_bottom.ensures.least ∙ c.if-is_bottom.false))
 
 pub invariant_of-result : goal.invariant_of-result
 invariant_of-result g c =
     subst (IsProperMap g.K.Ord.cmp g.V.Lattice.is_proper g.V.Lattice.is_least) (sym (made g c))
     (proper-map_with g.K.Ord.cmp g.met.K.Ord.total g.met.K.Exact.exact g.V.Lattice.is_proper g.V.Lattice.join g.V.Lattice.is_least g.met.V.Lattice.laws
-    c.args.self.now c.args.key c.args.value.now (subst (IsProperMap g.K.Ord.cmp g.V.Lattice.is_proper g.V.Lattice.is_least) c.self.view_is c.self.invariant) c.known.ensures)
+    c.args.self.now c.args.key c.args.value.now (subst (IsProperMap g.K.Ord.cmp g.V.Lattice.is_proper g.V.Lattice.is_least) c.self.view_is c.self.invariant) c.is_bottom.ensures.proper)
 
 pub returns : goal.returns
 returns g c = made g c

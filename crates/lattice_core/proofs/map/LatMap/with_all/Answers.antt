@@ -19,14 +19,14 @@ loop-key-init g c =
 
 pub loop-key-preserved : goal.loop-key-preserved
 loop-key-preserved g c =
-    let held = subst (AllByRecursion (λ e. IsHeld g.V.Lattice.is_proper g.V.Lattice.is_least e.1)) c.in-Some.ensures.steps c.loop-key.invariant.held in
-    let before = ap (map_join g.K.Ord.cmp g.V.Lattice.join g.V.Lattice.is_least c.loop-key.map.entries) (sym c.in-Some.ensures.steps) ∙ c.loop-key.invariant.joined in
+    let is_held = AllByRecursion (λ e. IsHeld g.V.Lattice.is_proper g.V.Lattice.is_least e.1) in
     record {
-      held = held.1;
+      held = (subst is_held c.in-Some.ensures.steps c.loop-key.invariant.held).1;
       joined =
           joined_turn g.K.Ord.cmp g.met.K.Ord.total g.met.K.Exact.exact g.V.Lattice.is_proper g.V.Lattice.join g.V.Lattice.is_least g.met.V.Lattice.laws
-          c.loop-key.map.entries c.join_in.new.map.entries c.next.new.self
-          (map_join g.K.Ord.cmp g.V.Lattice.join g.V.Lattice.is_least c.args.self.now c.args.other.now) c.in-Some.key.now c.in-Some.value.now held before c.in_ok-join_in.ensures;
+          c.loop-key.map.entries c.join_in.new.map.entries c.loop-key.key-iterator c.next.new.self
+          (map_join g.K.Ord.cmp g.V.Lattice.join g.V.Lattice.is_least c.args.self.now c.args.other.now) c.in-Some.key.now c.in-Some.value.now
+          c.in-Some.ensures.steps c.loop-key.invariant.held c.loop-key.invariant.joined c.in_ok-join_in.ensures;
     }
 
 made : (g : given.Over) (c : goal.After-result-1 g) → c.loop-key.map.entries ≡ map_join g.K.Ord.cmp g.V.Lattice.join g.V.Lattice.is_least c.args.self.now c.args.other.now
