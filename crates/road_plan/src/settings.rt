@@ -3,6 +3,7 @@
 ghost use Rattle.std.specs.Prelude.{◌≡◌, ◌<◌, ◌≤◌, ◌↔◌, IsTrue, IfOk, length, map, true};
 ghost use Rattle.std.specs.List.{All};
 ghost use Rattle.std.specs.List.Sorted.{IsStrictlyIncreasing};
+ghost use Rattle.road_plan.specs.Plan.{IsWithinLimits};
 ghost use Rattle.road_plan.specs.Settings.{defaults, Fits};
 
 use crate::OutOfMemory;
@@ -53,6 +54,7 @@ impl Settings {
     pub fn of_plan(alloc: Global, plan: &Plan) -> Result<Settings, OutOfMemory>
         ensures made { IfOk result (λ settings. settings ≡ defaults plan.now) }
         ensures fits { IfOk result (λ settings. Fits plan.now settings) }
+        ensures within { IfOk result (λ _. IsWithinLimits plan.now) }
     {
         Ok(Settings {
             limits: speed_limits_of(alloc, plan.zones())?,

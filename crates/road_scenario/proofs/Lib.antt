@@ -16,6 +16,7 @@ pub mod WinnersOfLists
 pub mod WinnersOfHalves
 pub mod SettingsOfLists
 pub mod GreatestCounts
+pub mod DerivedOrders
 pub mod FirstFaults
 pub mod EditRanges
 pub mod NoEdits

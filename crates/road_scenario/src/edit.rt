@@ -1,8 +1,6 @@
 //! Edits with their stamps and values, how they are ordered, and whether one fits a plan.
 
 ghost use Rattle.std.specs.Prelude.{◌≡◌};
-ghost use Rattle.std.specs.Ordering.{nat_cmp};
-ghost use Rattle.road_scenario.specs.Edits as edits;
 ghost use Rattle.road_scenario.specs.Faults as faults;
 
 use crate::faults::EditFault;
@@ -40,29 +38,7 @@ pub struct Edit {
     pub value: Value,
 }
 
-impl Stamp {
-    /// That stamps are ordered by count, then by number. It is a fact for proofs: the call does nothing.
-    pub fn known_order(self, other: Stamp)
-        ensures { ⟦<Stamp as Ord>⟧.cmp self other
-            ≡ edits.number_pair_cmp (edits.stamp_key self) (edits.stamp_key other) }
-    {}
-}
-
-impl Value {
-    /// That a withdrawal is below every number, and numbers are in their order. It is a fact for proofs: the call does
-    /// nothing.
-    pub fn known_order(self, other: Value)
-        ensures { ⟦<Value as Ord>⟧.cmp self other ≡ nat_cmp (edits.value_key self) (edits.value_key other) }
-    {}
-}
-
 impl Edit {
-    /// That edits are ordered by object and step, then by stamp and value. It is a fact for proofs: the call does
-    /// nothing.
-    pub fn known_order(self, other: Edit)
-        ensures { ⟦<Edit as Ord>⟧.cmp self other ≡ edits.edit_cmp self other }
-    {}
-
     /// Its first fault in the order of `EditFault`, where it does not fit the plan; none where it does. It takes no
     /// memory.
     pub fn fault(&self, plan: &Plan) -> Option<EditFault>

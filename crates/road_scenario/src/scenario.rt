@@ -11,7 +11,7 @@ ghost use Rattle.road_scenario.specs.Edits.{Edits, edit_cmp};
 ghost use Rattle.road_scenario.specs.Faults.{AreInRange, fault_in, fault_of_edit, first_fault};
 ghost use Rattle.road_scenario.specs.Settings.{next_date, setting, settings_of};
 ghost use Rattle.road_scenario.specs.Touched.{IsBefore, first_touched_step};
-ghost use Rattle.road_scenario.specs.Winners.{join, winners};
+ghost use Rattle.road_scenario.specs.Winners.{AreWinners, join, winners};
 
 use crate::dates::first_date_after;
 use crate::edit::Edit;
@@ -49,8 +49,9 @@ impl Model for Scenario {
 
     ghost use Rattle.std.specs.Prelude.{◌≡◌};
     ghost use Rattle.road_scenario.specs.Counts.{greatest_count};
+    ghost use Rattle.road_scenario.specs.Instances.RegisterLattice.{AreRegisters};
 
-    ghost invariant = { λ s. s.greatest ≡ greatest_count (edit_set s.registers) };
+    ghost invariant = { λ s. AreRegisters s.registers × (s.greatest ≡ greatest_count (edit_set s.registers)) };
 }
 
 impl Scenario {
@@ -99,7 +100,6 @@ impl Scenario {
         ensures fits { (plan : Plan) → AreInRange plan self.now → fault_of_edit plan edit.now ≡ None →
             IfOk result (λ new. AreInRange plan new) }
     {
-        self.registers.known();
         let one = RegistersByStep::of(self.alloc, edit.step, edit.stamp, edit.value)?;
         let steps = Shared::of(self.alloc, one)?;
         Ok(Scenario {
@@ -119,8 +119,6 @@ impl Scenario {
         ensures fits { (plan : Plan) → AreInRange plan self.now → AreInRange plan other.now →
             IfOk result (λ joined. AreInRange plan joined) }
     {
-        self.registers.known();
-        other.registers.known();
         Ok(Scenario {
             registers: self.registers.joined(&other.registers)?,
             greatest: self.greatest.max(other.greatest),
@@ -150,7 +148,6 @@ impl Scenario {
         requires { is_in_plan plan.now object ≡ true }
         ensures { result ≡ setting plan.now self.now object step }
     {
-        self.registers.known();
         match number_of(&self.registers, object, step) {
             Some(number) => number,
             None => setting_without(&self.registers, plan, object, step),
@@ -173,8 +170,6 @@ impl Scenario {
         ensures made { IfOk result (λ settings. settings ≡ settings_of plan.now self.now step) }
         ensures fits { IfOk result (λ settings. Fits plan.now settings) }
     {
-        self.registers.known();
-        plan.known();
         let mut settings = Settings::of_plan(alloc, plan)?;
         put_all(&mut settings, &self.registers, step)?;
         Ok(settings)
@@ -187,7 +182,6 @@ impl Scenario {
         ensures settings { (plan : Plan) (t : ℕ) → step ≤ t → IsBefore t result →
             settings_of plan self.now t ≡ settings_of plan self.now step }
     {
-        self.registers.known();
         first_date_after(&self.registers, step)
     }
 
@@ -197,8 +191,6 @@ impl Scenario {
     pub fn touched(&self, other: &Scenario) -> Option<u32>
         ensures { result ≡ first_touched_step self.now other.now }
     {
-        self.registers.known();
-        other.registers.known();
         first_change(&self.registers, &other.registers)
     }
 
@@ -208,9 +200,6 @@ impl Scenario {
         requires { joined.now ≡ join self.now taken.now }
         ensures { result ≡ first_touched_step self.now joined.now }
     {
-        self.registers.known();
-        taken.registers.known();
-        joined.registers.known();
         first_change_by(&self.registers, &taken.registers, &joined.registers)
     }
 
@@ -223,9 +212,9 @@ impl Scenario {
         ensures all { IfOk result (λ edits. edits.items ≡ sets.items self.now) }
         ensures rising { IfOk result (λ edits. T (sets.is_rising edit_cmp edits.items)) }
         ensures grows_nothing { self.now ≡ sets.empty → IsOk result }
+        ensures winners { AreWinners self.now }
     {
-        self.registers.known();
-        Ok(all_edits(alloc, &self.registers)?)
+        all_edits(alloc, &self.registers)
     }
 
     /// The greatest count of the edits' stamps, 0 where there is none. It is the greatest count of every set of edits
@@ -244,7 +233,6 @@ impl Scenario {
         ensures fault { result ≡ fault_in plan.now self.now }
         ensures none { IsNone result ↔ AreInRange plan.now self.now }
     {
-        self.registers.known();
         fault_of_first(&self.registers, plan)
     }
 }
@@ -271,17 +259,14 @@ impl Lattice for Scenario {
     }
 
     fn is_bottom(&self) -> bool {
-        self.registers.known();
         self.registers.is_bottom()
     }
 
     fn at_most(&self, other: &Self) -> bool {
-        self.registers.known();
-        other.registers.known();
         self.registers.at_most(&other.registers)
     }
 
     fn known(&self) {
-        self.registers.known();
+        let _ = &self.registers;
     }
 }
