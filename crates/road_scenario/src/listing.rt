@@ -11,7 +11,7 @@ use lattice_core::greatest::Greatest;
 use road_plan::{Object, OutOfMemory, Plan};
 use std::alloc::Global;
 
-// All edits, by object and step. Where there is none, nothing grows.
+// Lists all edits, by object and step. Where there is none, nothing grows.
 pub(crate) fn all_edits(
     alloc: Global,
     registers: &RegistersByObject,
@@ -26,7 +26,6 @@ pub(crate) fn all_edits(
     Ok(edits)
 }
 
-// Adds the edits of an object, by step.
 fn push_edits(
     edits: &mut Vec<Edit>,
     object: Object,
@@ -48,7 +47,7 @@ fn push_edits(
     Ok(())
 }
 
-// The fault of the first faulty edit, by object and step.
+// Finds the fault of the first faulty edit, by object and step.
 pub(crate) fn fault_of_first(registers: &RegistersByObject, plan: &Plan) -> Option<EditFault>
     ensures { result ≡ first_fault plan.now (edit_list registers.now) }
 {
@@ -61,7 +60,6 @@ pub(crate) fn fault_of_first(registers: &RegistersByObject, plan: &Plan) -> Opti
     None
 }
 
-// The fault of an object's first faulty edit, by step.
 fn fault_at(object: Object, steps: &RegistersByStep, plan: &Plan) -> Option<EditFault>
     ensures { result ≡ first_fault plan.now (object_edits object steps.now) }
 {
@@ -72,7 +70,6 @@ fn fault_at(object: Object, steps: &RegistersByStep, plan: &Plan) -> Option<Edit
     first
 }
 
-// The fault of the edit that won at an object and step.
 fn fault_of_won(object: Object, step: u32, won: &Won, plan: &Plan) -> Option<EditFault>
     ensures { result ≡ first_fault plan.now (edits_from_register object step won.now []) }
 {

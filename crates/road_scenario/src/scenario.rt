@@ -27,7 +27,7 @@ use road_plan::{Object, OutOfMemory, Plan, Settings};
 use std::alloc::Global;
 use std::marker::Model;
 
-/// The winners of the edits that came. Contracts see the set of them.
+/// Holds the winners of the edits that came. Contracts see the set of them.
 #[derive(Drop)]
 pub struct Scenario {
     registers: RegistersByObject,
@@ -55,7 +55,7 @@ impl Model for Scenario {
 }
 
 impl Scenario {
-    /// The scenario without edits, which fits every plan. Its joins and copies take their memory from `alloc` too.
+    /// Makes the scenario without edits, which fits every plan. Its joins and copies take their memory from `alloc` too.
     pub fn empty(alloc: Global) -> Self
         ensures none { result ≡ sets.empty }
         ensures fits { (plan : Plan) → AreInRange plan result }
@@ -67,8 +67,8 @@ impl Scenario {
         }
     }
 
-    /// The winners of a list of edits, in whatever order they stand, by joins of halves: each edit is copied about as
-    /// often as the list can be halved. It fits a plan where no edit of the list has a fault.
+    /// Makes the winners of a list of edits, in whatever order they stand, by joins of halves: each edit is copied about
+    /// as often as the list can be halved. It fits a plan where no edit of the list has a fault.
     ///
     /// # Errors
     ///
@@ -90,7 +90,7 @@ impl Scenario {
         }
     }
 
-    /// The winners of this scenario's edits and one more. It fits a plan where both do.
+    /// Makes the winners of this scenario's edits and one more. It fits a plan where both do.
     ///
     /// # Errors
     ///
@@ -109,7 +109,7 @@ impl Scenario {
         })
     }
 
-    /// The winners of both scenarios' edits. It fits a plan where both do.
+    /// Makes the winners of both scenarios' edits. It fits a plan where both do.
     ///
     /// # Errors
     ///
@@ -126,7 +126,7 @@ impl Scenario {
         })
     }
 
-    /// An equal scenario with memory of its own.
+    /// Makes an equal scenario. Both share the registers of each object.
     ///
     /// # Errors
     ///
@@ -141,9 +141,10 @@ impl Scenario {
         })
     }
 
-    /// The number in force for an object at a step, in the object's units: the one put by the latest-dated edit up to
-    /// that step which isn't a withdrawal, the default where there is none. In place of a default, the slowing chance of
-    /// standing cars has the zone's slowing chance at that step. The plan must have the object (`Object::in_plan`).
+    /// Returns the number in force for an object at a step, in the object's units: the one put by the latest-dated edit
+    /// up to that step which isn't a withdrawal, the default where there is none. In place of a default, the slowing
+    /// chance of standing cars has the zone's slowing chance at that step. The plan must have the object
+    /// (`Object::in_plan`).
     pub fn setting(&self, plan: &Plan, object: Object, step: u32) -> u32
         requires { is_in_plan plan.now object ≡ true }
         ensures { result ≡ setting plan.now self.now object step }
@@ -154,8 +155,8 @@ impl Scenario {
         }
     }
 
-    /// All settings of the plan at a step, by one walk over the edits up to it. The scenario must fit the plan (`fits`
-    /// gives none), and so do the settings.
+    /// Makes all settings of the plan at a step, by one walk over the edits up to it. The scenario must fit the plan
+    /// (`fits` gives none), and so do the settings.
     ///
     /// # Errors
     ///
@@ -175,8 +176,8 @@ impl Scenario {
         Ok(settings)
     }
 
-    /// The first step after a step by which an edit is dated, a withdrawal too; none where there is no later one. The
-    /// settings of all steps before it are those of the step. It takes a look-up for each object and no memory.
+    /// Finds the first step after a step by which an edit is dated, a withdrawal too; none where there is no later one.
+    /// The settings of all steps before it are those of the step. It takes a look-up for each object and no memory.
     pub fn next_date(&self, step: u32) -> Option<u32>
         ensures date { result ≡ next_date self.now step }
         ensures settings { (plan : Plan) (t : ℕ) → step ≤ t → IsBefore t result →
@@ -185,8 +186,8 @@ impl Scenario {
         first_date_after(&self.registers, step)
     }
 
-    /// The least step of an object and step at which the numbers put here and in `other` differ: nothing is put where
-    /// there is no edit or a withdrawal. Settings at earlier steps are the same
+    /// Finds the least step of an object and step at which the numbers put here and in `other` differ: nothing is put
+    /// where there is no edit or a withdrawal. Settings at earlier steps are the same
     /// (`laws::settings_stay_before_touched`). It takes no memory.
     pub fn touched(&self, other: &Scenario) -> Option<u32>
         ensures { result ≡ first_touched_step self.now other.now }
@@ -194,8 +195,8 @@ impl Scenario {
         first_change(&self.registers, &other.registers)
     }
 
-    /// As [`Scenario::touched`], for another scenario that must be this one with what is `taken` joined in: just the
-    /// objects and steps of what is taken are looked at. It takes no memory.
+    /// Finds the step of [`Scenario::touched`] for another scenario that must be this one with what is `taken` joined
+    /// in: just the objects and steps of what is taken are looked at. It takes no memory.
     pub fn touched_by(&self, taken: &Scenario, joined: &Scenario) -> Option<u32>
         requires { joined.now ≡ join self.now taken.now }
         ensures { result ≡ first_touched_step self.now joined.now }
@@ -203,7 +204,7 @@ impl Scenario {
         first_change_by(&self.registers, &taken.registers, &joined.registers)
     }
 
-    /// The edits by object and step, each once.
+    /// Lists the edits by object and step, each once.
     ///
     /// # Errors
     ///
@@ -217,8 +218,8 @@ impl Scenario {
         all_edits(alloc, &self.registers)
     }
 
-    /// The greatest count of the edits' stamps, 0 where there is none. It is the greatest count of every set of edits
-    /// whose winners these are, and at most 2^48 where the scenario fits a plan. It takes no memory.
+    /// Returns the greatest count of the edits' stamps, 0 where there is none. It is the greatest count of every set of
+    /// edits whose winners these are, and at most 2^48 where the scenario fits a plan. It takes no memory.
     pub fn greatest_count(&self) -> u64
         ensures here { result ≡ greatest_count self.now }
         ensures every { (edits : Edits) → winners edits ≡ self.now → result ≡ greatest_count edits }
@@ -227,7 +228,7 @@ impl Scenario {
         self.greatest
     }
 
-    /// The fault of the first faulty edit, in the order of `edits`; none where all edits are in the plan and its
+    /// Finds the fault of the first faulty edit, in the order of `edits`; none where all edits are in the plan and its
     /// ranges. It takes no memory.
     pub fn fits(&self, plan: &Plan) -> Option<EditFault>
         ensures fault { result ≡ fault_in plan.now self.now }
