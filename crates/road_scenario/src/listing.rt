@@ -1,7 +1,8 @@
 //! Walks over a scenario's registers that list its edits and check them.
 
-ghost use Rattle.std.specs.Prelude.{◌≡◌, [], ◌++◌, OnOk, IfOk, IsOk};
+ghost use Rattle.std.specs.Prelude.{◌≡◌, ◌<◌, ◌^◌, [], ◌++◌, length, OnOk, IfOk, IsOk};
 ghost use Rattle.road_scenario.specs.Faults.{first_fault};
+ghost use Rattle.road_scenario.specs.Private.RegisterWalks.{held_count};
 ghost use Rattle.road_scenario.specs.Registers.{edits_from_register, edit_list, object_edits};
 
 use crate::edit::Edit;
@@ -45,6 +46,32 @@ fn push_edits(
         }
     }
     Ok(())
+}
+
+// Counts all edits.
+pub(crate) fn count_edits(registers: &RegistersByObject) -> usize
+    requires { length (edit_list registers.now) < 2 ^ 64 }
+    ensures { result ≡ length (edit_list registers.now) }
+{
+    let mut count = 0;
+    for (_, steps) in registers.iter() {
+        count += count_steps(steps.value());
+    }
+    count
+}
+
+fn count_steps(steps: &RegistersByStep) -> usize
+    requires { held_count steps.now < 2 ^ 64 }
+    ensures { result ≡ held_count steps.now }
+{
+    let mut count = 0;
+    for (_, won) in steps.iter() {
+        count += match *won {
+            Greatest::Nothing => 0,
+            Greatest::Of(_) => 1,
+        };
+    }
+    count
 }
 
 // Finds the fault of the first faulty edit, by object and step.

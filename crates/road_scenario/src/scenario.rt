@@ -1,6 +1,6 @@
 //! The winners of all edits that came: how they are joined, and what they put at each step.
 
-ghost use Rattle.std.specs.Prelude.{◌≡◌, ◌↔◌, ◌≤◌, ℕ, [], ◌∷◌, IfOk, IsNone, IsOk, None, T, true};
+ghost use Rattle.std.specs.Prelude.{◌≡◌, ◌↔◌, ◌≤◌, ℕ, [], ◌∷◌, IfOk, IsNone, IsOk, None, T, length, true};
 ghost use Rattle.lattice_core.specs.Sets as sets;
 ghost use Rattle.road_plan.specs.Objects.{is_in_plan};
 ghost use Rattle.road_plan.specs.Plan.{Plan};
@@ -8,7 +8,7 @@ ghost use Rattle.road_plan.specs.Settings.{Fits};
 ghost use Rattle.road_plan.specs.declared.limits.TheConstants.{GREATEST_COUNT};
 ghost use Rattle.road_scenario.specs.Counts.{greatest_count};
 ghost use Rattle.road_scenario.specs.Edits.{Edits, edit_cmp};
-ghost use Rattle.road_scenario.specs.Faults.{AreInRange, fault_in, fault_of_edit, first_fault};
+ghost use Rattle.road_scenario.specs.Faults.{AreInRange, FitsSomePlan, fault_in, fault_of_edit, first_fault};
 ghost use Rattle.road_scenario.specs.Settings.{next_date, setting, settings_of};
 ghost use Rattle.road_scenario.specs.Touched.{IsBefore, first_touched_step};
 ghost use Rattle.road_scenario.specs.Winners.{AreWinners, join, winners};
@@ -16,7 +16,7 @@ ghost use Rattle.road_scenario.specs.Winners.{AreWinners, join, winners};
 use crate::dates::first_date_after;
 use crate::edit::Edit;
 use crate::faults::EditFault;
-use crate::listing::{all_edits, fault_of_first};
+use crate::listing::{all_edits, count_edits, fault_of_first};
 use crate::registers::{RegistersByObject, RegistersByStep};
 use crate::settings::{number_of, put_all, setting_without};
 use crate::touched::{first_change, first_change_by};
@@ -216,6 +216,14 @@ impl Scenario {
         ensures winners { AreWinners self.now }
     {
         all_edits(alloc, &self.registers)
+    }
+
+    /// Counts the edits. The scenario must fit a plan. It takes no memory.
+    pub fn len(&self) -> usize
+        requires { FitsSomePlan self.now }
+        ensures { result ≡ length (sets.items self.now) }
+    {
+        count_edits(&self.registers)
     }
 
     /// Returns the greatest count of the edits' stamps, 0 where there is none. It is the greatest count of every set of
