@@ -16,21 +16,14 @@ use Rattle.lattice_core.proofs.SetElements.{contains-items, contains-retain, sam
 use Rattle.road_plan.specs.Objects.{order_key}
 use Rattle.road_plan.specs.Instances.ObjectOrder.{ordered}
 use Rattle.road_plan.specs.declared.object.Object.{Object}
-use Rattle.road_plan.specs.contracts.object.ObjectOrd.TheImpl as derived
 use Rattle.road_scenario.specs.declared.edit.Stamp.{Stamp}
 use Rattle.road_scenario.specs.declared.edit.Value.{Value}
 use Rattle.road_scenario.specs.declared.edit.Edit.{Edit}
 use Rattle.road_scenario.specs.Edits.{Edits, edit_cmp, is_exceeded_by, edit_place, edit_rank, number_pair_cmp, number_triple_cmp}
 use Rattle.road_scenario.specs.Instances.EditOrder.{edit_total, edit_exact, exceeds_strict, number_pair_total, number_triple_total}
 use Rattle.road_scenario.specs.Winners.{winners}
-use Rattle.road_scenario.specs.Instances.RegisterLattice.{AreRegistersByStep}
+use Rattle.road_scenario.specs.Instances.RegisterLattice.{AreRegistersByStep, AreRegisters, object_cmp}
 use Rattle.road_scenario.specs.Registers.{RegistersByStep, RegistersByObject, edit_with, edits_from_register, object_edits, edit_list, edit_set}
-
-abbrev pub object_cmp : Object → Object → Ordering
-object_cmp = derived.ghosts.cmp
-
-abbrev pub AreRegisters : RegistersByObject → Type 0
-AreRegisters = IsProperMap object_cmp AreRegistersByStep is_empty
 
 -- edits by object and step
 abbrev pub place_cmp : Edit → Edit → Ordering
