@@ -88,8 +88,8 @@ impl Road {
         self.cars.partition_point(|car| car.cell < cell)
     }
 
-    /// Returns the cars at the cells from `from` on and before `to`, where `from` is at most `to`. They are found by two
-    /// binary searches.
+    /// Returns the cars at the cells from `from` on and before `to`, where `from` is at most `to`. They are found by
+    /// two binary searches.
     pub fn between(&self, from: u32, to: u32) -> &[Car]
         requires { from ≤ to }
         ensures { result.now ≡ cars_from from (map (vehicle_at self.now) (range_with_len from (to - from))) }
@@ -99,8 +99,8 @@ impl Road {
         &self.cars()[first..end]
     }
 
-    /// Counts the free cells in front of a car, up to the next car or blocked cell, at most `GREATEST_SPEED` (the `j - 1`
-    /// of Nagel and Schreckenberg, J. Phys. I France 2 (1992) 2221, with blocked cells beside it).
+    /// Counts the free cells in front of a car, up to the next car or blocked cell, at most `GREATEST_SPEED` (the
+    /// `j - 1` of Nagel and Schreckenberg, J. Phys. I France 2 (1992) 2221, with blocked cells beside it).
     ///
     /// `place` is the car's place in [`Road::cars`], and `blocks` are the blocked cells, rising. A block behind the
     /// car or under it does not count. The road has no end here: all cells past the last car that are not blocked are
@@ -128,11 +128,11 @@ impl Road {
         to_car.min(to_block)
     }
 
-    /// A copy of the road, in one growth, or none where no car is on it.
+    /// Copies the road, in one allocation, or in none where no car is on it.
     ///
     /// # Errors
     ///
-    /// `OutOfMemory` where that growth is refused.
+    /// `OutOfMemory` where that allocation failed.
     pub fn copied(&self) -> Result<Road, OutOfMemory>
         ensures { IfOk result (λ road. road ≡ self.now) }
     {
@@ -142,7 +142,7 @@ impl Road {
     }
 }
 
-// The free cells in front of a car, as far as the next car.
+// Counts the free cells in front of a car, as far as the next car.
 fn free_to_car(cars: &[Car], place: usize) -> u8
     requires car { place < length cars.now }
     requires rising { AreRising cars.now }
