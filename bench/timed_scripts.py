@@ -104,7 +104,7 @@ def arguments(description):
 
 
 def built(name):
-    """Builds the program of a crate, proved, and returns its path. A program that reads lines gets those beside its source."""
+    """Builds the program of a crate, proved, and returns its path. One that reads lines gets those beside its source."""
     crate = os.path.join(CRATES, name)
     lines = os.path.join(crate, "stdin")
     with open(lines if os.path.exists(lines) else os.devnull, "rb") as given:
