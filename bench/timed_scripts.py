@@ -1,4 +1,5 @@
 """The roads and scripts that are timed, and what the programs of this folder share."""
+import argparse
 import json
 import os
 import subprocess
@@ -61,8 +62,8 @@ def late_blocks(plan, horizon, count):
     return "".join(lines) + cells(horizon)
 
 
-def random_questions(plan, horizon, count):
-    """A run, and then questions about it at random steps: by turns a row, and what a detector counted."""
+def random_queries(plan, horizon, count):
+    """A run, and then queries of it at random steps: by turns a row, and what a detector counted."""
     words, lines = random_words(), [line(plan), advance(horizon)]
     for number in range(count):
         if number % 2 == 0:
@@ -86,17 +87,24 @@ SCRIPTS = [
      "a9420509196dd6d5b81b3463fcbf0ebe5bedc2b50b2051ba94650c8f1c0cbdb8"),
     ("the third, and 1,000 late edits", late_blocks(WATCHED, 20000, 1000), 20000 + 224 * 1000,
      "1e76446fa58fbc1fd3efe20a7921fa3e2ca9f280b2ad69e7ec62c9ad77bd8689"),
-    ("the third, and 10,000 questions at random steps", random_questions(WATCHED, 20000, 10000), 20000,
+    ("the third, and 10,000 queries at random steps", random_queries(WATCHED, 20000, 10000), 20000,
      "32916fef17cebda9a4a4187d119ea2f6145ea1615ba87f4d3cf82a4c9c83e839"),
-    ("8,192 cells, random slowing, 1,000 questions at rising steps to 2,000",
+    ("8,192 cells, random slowing, 1,000 queries at rising steps to 2,000",
      line(RANDOM_SLOWING) + advance(2000) + "".join(cells(step) for step in range(2, 2001, 2)), 2000, None),
     ("12 cells, to step 0", at_the_end(FREE_ROAD, 0), 0, None),
     ("8,192 cells, to step 0", at_the_end(RANDOM_SLOWING, 0), 0, None),
 ]
 
 
+def arguments(description):
+    """A parser of a program's arguments, of which one is common to all; its help is the program's first lines."""
+    parser = argparse.ArgumentParser(description=description, formatter_class=argparse.RawDescriptionHelpFormatter)
+    parser.add_argument("--program", metavar="PATH")
+    return parser
+
+
 def built(name):
-    """Builds the program of a crate, proved, and says where it is. A program that reads lines gets those beside its source."""
+    """Builds the program of a crate, proved, and returns its path. One that reads lines gets those beside its source."""
     crate = os.path.join(CRATES, name)
     lines = os.path.join(crate, "stdin")
     with open(lines if os.path.exists(lines) else os.devnull, "rb") as given:

@@ -1,11 +1,18 @@
-//! Looks of one reader beside an idle writer and beside one that publishes, in plain Rust, with nothing proved and nothing of
-//! this repository: what the figures of `bench/sessions` are to be held against on a machine.
+//! Looks of one reader beside an idle writer and beside one that publishes, in plain Rust, with
+//! nothing proved and nothing of this repository: what the figures of `bench/time-sessions` are
+//! held against.
 //!
-//!     mkdir -p out && rustc -O bench/left_right_by_hand.rs -o out/left_right_by_hand && out/left_right_by_hand
+//!     mkdir -p bench/out
+//!     rustc -O bench/hand_written_left_right.rs -o bench/out/hand_written_left_right
+//!     bench/out/hand_written_left_right
 //!
-//! A look is one of three: it loads a word that the writer stores, the least that any look at what is published can do; it
-//! reads a number by left-right, with an epoch and two copies; or it takes a counted pointer by left-right, as a look of a
-//! session does. The writer publishes as fast as it can, or waits for so many nanoseconds each time. Medians of five.
+//! A look is one of three: it loads a word that the writer stores, the least that any look at what
+//! is published can do; it reads a number by left-right, with an epoch and two copies; or it takes
+//! a counted pointer by left-right, as a look of a session does. The writer publishes as fast as it
+//! can, or waits for so many nanoseconds each time.
+//!
+//! Prints a line for each look and pause: the looks in a second beside either writer, how often the
+//! writer published in one, and the ratio of the looks, medians of five turns and each of them.
 
 use std::cell::UnsafeCell;
 use std::hint::{black_box, spin_loop};
@@ -147,7 +154,8 @@ fn main() {
             let ratios: Vec<f64> = turns.iter().map(|(idle, (looked, _))| looked / idle).collect();
             let each: Vec<String> = ratios.iter().map(|ratio| format!("{ratio:.2}")).collect();
             println!(
-                "{kind}, a pause of {pause} ns: {:.1} million looks a second beside an idle writer, {:.1} beside one that publishes {:.0} times a second: {:.2} ({})",
+                "{kind}, a pause of {pause} ns: {:.1} million looks a second beside an idle writer, \
+                 {:.1} beside one that publishes {:.0} times a second: {:.2} ({})",
                 median(turns.iter().map(|(idle, _)| *idle).collect()) / 1e6,
                 median(turns.iter().map(|(_, (looked, _))| *looked).collect()) / 1e6,
                 median(turns.iter().map(|(_, (_, published))| *published).collect()),
