@@ -109,8 +109,4 @@ impl Lattice for RegistersByStep {
     fn at_most(&self, other: &Self) -> bool {
         self.won.at_most(&other.won)
     }
-
-    fn known(&self) {
-        self.won.known();
-    }
 }

@@ -274,8 +274,4 @@ impl Lattice for Scenario {
     fn at_most(&self, other: &Self) -> bool {
         self.registers.at_most(&other.registers)
     }
-
-    fn known(&self) {
-        let _ = &self.registers;
-    }
 }
