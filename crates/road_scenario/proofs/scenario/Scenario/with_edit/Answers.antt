@@ -26,12 +26,11 @@ made m new steps edits e are view is joined = ap edit_set joined ∙ edit_set-wi
 pub invariant_of-result : goal.invariant_of-result
 invariant_of-result c =
     let e = c.args.edit.now in
-    let is = c.in_ok-steps.ensures ∙ c.in_ok-one.ensures in
-    (
+    let is = c.in_ok-steps.ensures ∙ c.in_ok-one.ensures in (
       subst AreRegisters (sym c.in_ok-with.ensures) (proper-with c.self.inside.registers e c.in_ok-steps.steps c.self.invariant.0 is),
       c.max.ensures
-      ∙ (λ i. max ((c.self.invariant.1 ∙ ap greatest_count c.self.view_is) i) (sym (greatest_count-one e) i))
-      ∙ sym (ap greatest_count (made c.self.inside.registers c.in_ok-with.field-0 c.in_ok-steps.steps c.args.self.now e c.self.invariant.0 c.self.view_is is c.in_ok-with.ensures) ∙ greatest_count-join c.args.self.now (from_list (e ∷ []))),
+          ∙ (λ i. max ((c.self.invariant.1 ∙ ap greatest_count c.self.view_is) i) (sym (greatest_count-one e) i))
+          ∙ sym (ap greatest_count (made c.self.inside.registers c.in_ok-with.field-0 c.in_ok-steps.steps c.args.self.now e c.self.invariant.0 c.self.view_is is c.in_ok-with.ensures) ∙ greatest_count-join c.args.self.now (from_list (e ∷ []))),
     )
 
 pub returns-clause-winners : goal.returns-clause-winners
