@@ -17,7 +17,7 @@ const CLOSED: Parts = Parts {
     ..FREE
 };
 
-/// No speed is a list that does not grow: the answer is the same where all memory is refused.
+/// No speed is a list that does not grow: the answer is the same where every allocation fails.
 #[test]
 fn an_empty_road_needs_no_speeds(rt: HostRuntime) -> Result<(), Fail> {
     let input = first_input(rt.alloc(), &CLOSED)?;

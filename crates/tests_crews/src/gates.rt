@@ -19,7 +19,7 @@ pub(crate) struct Meeting<R> {
 }
 
 impl<R: Clock> Meeting<R> {
-    /// A gate at which nobody has arrived. A worker looks for the other one in so many turns.
+    /// Makes a gate at which nobody has arrived. A worker looks for the other one in so many turns.
     pub(crate) fn new(rt: R, turns: u32) -> Meeting<R> {
         Meeting {
             rt,
@@ -30,12 +30,11 @@ impl<R: Clock> Meeting<R> {
         }
     }
 
-    // Whether both have arrived.
     fn have_met(&self) -> bool {
         self.has_first.load(Ordering::SeqCst) && self.has_second.load(Ordering::SeqCst)
     }
 
-    /// Whether both have arrived, and neither before the other was there in vain.
+    /// Answers whether both have arrived, and neither before the other was there in vain.
     pub(crate) fn was_held(&self) -> bool {
         self.have_met() && self.missed.load(Ordering::SeqCst) == 0
     }
@@ -64,7 +63,7 @@ impl<R: Clock> Gate for Meeting<R> {
 pub(crate) struct Shared<R>(Arc<Meeting<R>>);
 
 impl<R> Shared<R> {
-    /// The same gate.
+    /// Shares the gate.
     pub(crate) fn of(meeting: &Arc<Meeting<R>>) -> Result<Shared<R>, OutOfMemory> {
         Ok(Shared(Arc::try_clone(meeting)?))
     }

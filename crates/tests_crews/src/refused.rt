@@ -1,5 +1,5 @@
-//! A refused call leaves a crew as it was. These tests say so where they are run with one growth refused, whichever it is,
-//! a worker's among them.
+//! A refused call leaves a crew as it was. These tests say so where they are run with one allocation failing, whichever
+//! it is, a worker's among them.
 
 use crate::rows::first_input;
 use road_ends::StepInput;
@@ -13,7 +13,7 @@ use tests_plans::DENSE;
 /// The new speeds of the dense road's first step, as its first worked row shows them.
 const SPEEDS: &[u8] = &[0, 1, 0, 1, 0, 0, 1, 0, 1];
 
-// Whether one of three calls at most is refused, and each other one gives the worked speeds.
+// Answers whether one of three calls at most is refused, and each other one gives the worked speeds.
 fn calls_go_on<C: Crew>(alloc: Global, crew: &mut C, input: &Arc<StepInput>) -> bool {
     let mut refused = 0u32;
     for _ in 0..3 {
@@ -29,13 +29,13 @@ fn calls_go_on<C: Crew>(alloc: Global, crew: &mut C, input: &Arc<StepInput>) -> 
     refused <= 1
 }
 
-// The same of calls with the input of the dense road's first step.
+// Answers the same of calls with the input of the dense road's first step.
 fn goes_on<C: Crew>(alloc: Global, crew: &mut C) -> Result<bool, Fail> {
     let input = first_input(alloc, &DENSE)?;
     Ok(calls_go_on(alloc, crew, &input))
 }
 
-// The same of threads made for each call.
+// Answers the same of threads made for each call.
 fn threads_go_on<R: Threads + Wait>(rt: &R, alloc: Global) -> Result<bool, Fail> {
     let mut crew = Scoped::new(rt, 3, Box::new(alloc, NoGate)?);
     goes_on(alloc, &mut crew)

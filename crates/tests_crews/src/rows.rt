@@ -12,12 +12,12 @@ use tests_plans::{
     DENSE, DENSE_ROWS, DENSE_START, DENSE_START_ROWS, HALF_SLOWED, HALF_SLOWED_ROWS, Parts, plan_of,
 };
 
-/// The plan of these parts, to be shared by the inputs of steps.
+/// Makes the plan of these parts, to be shared by the inputs of steps.
 pub(crate) fn shared_plan(alloc: Global, parts: &Parts) -> Result<Arc<Plan>, Fail> {
     Ok(Arc::new(alloc, plan_of(alloc, parts)?)?)
 }
 
-/// The settings of a plan of one zone: its own, and the slowing chance of standing cars where one is given.
+/// Makes the settings of a plan of one zone: its own, and the slowing chance of standing cars where one is given.
 pub(crate) fn settings_of(
     alloc: Global,
     plan: &Plan,
@@ -30,7 +30,7 @@ pub(crate) fn settings_of(
     Ok(settings)
 }
 
-/// The input of a step by these settings.
+/// Makes the input of a step by these settings.
 pub(crate) fn input_of(
     alloc: Global,
     plan: &Arc<Plan>,
@@ -45,13 +45,13 @@ pub(crate) fn input_of(
     Ok(enter(alloc, plan, settings, step, road)?)
 }
 
-/// The input of the first step of a plan of these parts, on the empty road.
+/// Makes the input of the first step of a plan of these parts, on the empty road.
 pub(crate) fn first_input(alloc: Global, parts: &Parts) -> Result<Arc<StepInput>, Fail> {
     let plan = shared_plan(alloc, parts)?;
     input_of(alloc, &plan, None, 0, &Road::empty(alloc))
 }
 
-// The road after a step, with the speeds that a crew gives.
+// Computes the road after a step, with the speeds that a crew gives.
 fn stepped_by<C: Crew>(
     crew: &mut C,
     alloc: Global,
@@ -65,7 +65,7 @@ fn stepped_by<C: Crew>(
     Ok(finish(alloc, &input, &speeds)?)
 }
 
-// The letter of a cell without blocks.
+// Returns the letter of a cell without blocks.
 fn letter_at(road: &Road, cell: u32) -> u8 {
     match road.car_at(cell) {
         Some(car) => STANDING.saturating_add(car.speed),
@@ -73,7 +73,7 @@ fn letter_at(road: &Road, cell: u32) -> u8 {
     }
 }
 
-// Whether a road is drawn as these letters, one for each cell.
+// Answers whether a road is drawn as these letters, one for each cell.
 fn is_drawn_as(road: &Road, letters: &[u8]) -> bool {
     (0u32..)
         .zip(letters)
@@ -110,7 +110,7 @@ pub(crate) fn gives<C: Crew>(
     takes_rows(rt, alloc, crew, &plan, None, rows)
 }
 
-// The same where standing cars have a slowing chance of their own.
+// Does so where standing cars have a slowing chance of their own.
 fn gives_with_start<C: Crew>(
     rt: &impl Abort,
     alloc: Global,

@@ -45,7 +45,7 @@ const OTHER_CELL: &[Car] = &[FIRST, Car { cell: 8, ..SECOND }];
 
 const OTHER_SPEED: &[Car] = &[FIRST, Car { speed: 2, ..SECOND }];
 
-// The input of a step of a run, which draws its words before it needs them.
+// Makes the input of a step of a run, which draws its words before it needs them.
 fn input_of_run(
     alloc: Global,
     plan: &Arc<Plan>,
@@ -62,8 +62,8 @@ fn input_of_run(
     Ok(enter_with(alloc, plan, settings, step, road, &mut words)?)
 }
 
-// The input of a step on this road, that of a run or that of a single step. The first has columns of its cars, the
-// second has none.
+// Makes the input of a step on this road, that of a run or that of a single step. The first has columns of its cars,
+// the second has none.
 fn input_on(
     alloc: Global,
     start: Option<u32>,
@@ -79,7 +79,7 @@ fn input_on(
     }
 }
 
-// The same with these cars.
+// Makes it with these cars.
 fn input_with(
     alloc: Global,
     start: Option<u32>,
@@ -96,7 +96,7 @@ fn input_with(
 /// With columns or without, of the first input and of the second.
 const KINDS: &[(bool, bool)] = &[(false, false), (false, true), (true, false), (true, true)];
 
-// Whether the input of step 3 with both cars is the same as another one, and that one as it.
+// Answers whether the input of step 3 with both cars is the same as another one, and that one as it.
 fn are_same(
     alloc: Global,
     kinds: (bool, bool),
@@ -111,7 +111,7 @@ fn are_same(
     Ok((input.same(&other), other.same(&input)))
 }
 
-// Whether they are, or are not, as is wanted, with columns and without.
+// Answers whether they are, or are not, as is wanted, with columns and without.
 fn all_are(
     alloc: Global,
     start: Option<u32>,

@@ -10,7 +10,7 @@ use std::sync::Wait;
 use std::test::Fail;
 use std::thread::Threads;
 
-// By workers whose threads are made for each call.
+// Compares them by workers whose threads are made for each call.
 fn scoped_gives<R: Threads + Wait + Abort>(rt: &R, alloc: Global, workers: u32) -> Result<(), Fail>
     requires some { 0 < workers }
     requires few { workers ≤ 16 }
@@ -27,7 +27,7 @@ fn threads_made_for_each_call_give_the_worked_rows(rt: HostRuntime) -> Result<()
     scoped_gives(&rt, rt.alloc(), 16)
 }
 
-// By lasting workers.
+// Compares them by lasting workers.
 fn pool_gives<R: Threads + Wait + Abort + Clone + Drop + Send + 'static>(
     rt: &R,
     alloc: Global,

@@ -1,0 +1,126 @@
+"""The roads and scripts that are timed, and what the programs of this folder share."""
+import argparse
+import json
+import os
+import subprocess
+import sys
+import time
+
+CRATES = os.path.join(os.path.dirname(os.path.abspath(__file__)), "..", "crates")
+
+# 12 cells, where a car enters whenever it can.
+FREE_ROAD = {
+    "detectors": [5], "exit": 1, "inlets": [[0, 65536]], "length": 12, "replicas": ["A"],
+    "words": 7, "zone": 12, "zones": [[2, 0]],
+}
+# 8,192 cells with one inlet and random slowing; the same with 64 detectors; and with 16 inlets besides, which fills.
+RANDOM_SLOWING = {
+    "detectors": [], "exit": 64, "inlets": [[0, 32768]], "length": 8192, "replicas": ["A"],
+    "words": 7, "zone": 128, "zones": [[5, 16384]] * 64,
+}
+WATCHED = dict(RANDOM_SLOWING, detectors=[125 * k for k in range(1, 65)])
+DENSE = dict(WATCHED, inlets=[[508 * k, 20000] for k in range(16)], zones=[[9, 8192]] * 64)
+
+
+def line(value):
+    return json.dumps(value, separators=(",", ":"), sort_keys=True) + "\n"
+
+
+def advance(to):
+    return line({"advance": {"at": "A", "to": to}})
+
+
+def cells(step):
+    return line({"cells": {"at": "A", "step": step}})
+
+
+def edit(kind, index, step, value):
+    return line({"edit": {"at": "A", "object": [kind, index], "step": step, "value": value}})
+
+
+def at_the_end(plan, step):
+    return line(plan) + advance(step) + cells(step)
+
+
+def random_words():
+    """Random words of 64 bits, always the same ones: SplitMix64 (Steele, Lea and Flood, OOPSLA 2014) from 42."""
+    last, state = (1 << 64) - 1, 42
+    while True:
+        state = (state + 0x9E3779B97F4A7C15) & last
+        word = ((state ^ state >> 30) * 0xBF58476D1CE4E5B9) & last
+        word = ((word ^ word >> 27) * 0x94D049BB133111EB) & last
+        yield word ^ word >> 31
+
+
+def late_blocks(plan, horizon, count):
+    """A run, and then edits 200 steps before its end: a random cell is closed, and opened again."""
+    words, lines = random_words(), [line(plan), advance(horizon)]
+    for number in range(count):
+        if number % 2 == 0:
+            cell = next(words) % plan["length"]
+        lines.append(edit("block", cell, horizon - 200, 1 - number % 2))
+    return "".join(lines) + cells(horizon)
+
+
+def random_queries(plan, horizon, count):
+    """A run, and then queries of it at random steps: by turns a row, and what a detector counted."""
+    words, lines = random_words(), [line(plan), advance(horizon)]
+    for number in range(count):
+        if number % 2 == 0:
+            lines.append(cells(next(words) % (horizon + 1)))
+        else:
+            detector = next(words) % len(plan["detectors"])
+            begin, end = sorted(next(words) % (horizon + 1) for _ in range(2))
+            lines.append(line({"count": {"at": "A", "detector": detector, "from": begin, "to": end}}))
+    return "".join(lines)
+
+
+# name, script, steps that it simulates, the sum (SHA-256) of its answers, computed by another program, or nothing
+SCRIPTS = [
+    ("12 cells, a car enters whenever it can, 65,536 steps", at_the_end(FREE_ROAD, 65536), 65536,
+     "1eadcf01d772cafae252e445c8f5caf2c9adbcd7a067d1ce003fe4182c75bc33"),
+    ("8,192 cells, random slowing, 2,000 steps", at_the_end(RANDOM_SLOWING, 2000), 2000,
+     "a8fa2e1ddeac719ee0a0606001b0fde9588cbd8764147b2ab9a0fe31b7456dd0"),
+    ("8,192 cells, random slowing, 64 detectors, 20,000 steps", at_the_end(WATCHED, 20000), 20000,
+     "3738265f58ba181fe9563cb79ecfc92a97843ea6c6f4e5b10c5f5e6e56c89c9b"),
+    ("8,192 cells, 16 inlets, dense, 20,000 steps", at_the_end(DENSE, 20000), 20000,
+     "a9420509196dd6d5b81b3463fcbf0ebe5bedc2b50b2051ba94650c8f1c0cbdb8"),
+    ("the third, and 1,000 late edits", late_blocks(WATCHED, 20000, 1000), 20000 + 224 * 1000,
+     "1e76446fa58fbc1fd3efe20a7921fa3e2ca9f280b2ad69e7ec62c9ad77bd8689"),
+    ("the third, and 10,000 queries at random steps", random_queries(WATCHED, 20000, 10000), 20000,
+     "32916fef17cebda9a4a4187d119ea2f6145ea1615ba87f4d3cf82a4c9c83e839"),
+    ("8,192 cells, random slowing, 1,000 queries at rising steps to 2,000",
+     line(RANDOM_SLOWING) + advance(2000) + "".join(cells(step) for step in range(2, 2001, 2)), 2000, None),
+    ("12 cells, to step 0", at_the_end(FREE_ROAD, 0), 0, None),
+    ("8,192 cells, to step 0", at_the_end(RANDOM_SLOWING, 0), 0, None),
+]
+
+
+def arguments(description):
+    """A parser of a program's arguments, of which one is common to all; its help is the program's first lines."""
+    parser = argparse.ArgumentParser(description=description, formatter_class=argparse.RawDescriptionHelpFormatter)
+    parser.add_argument("--program", metavar="PATH")
+    return parser
+
+
+def built(name):
+    """Builds the program of a crate, proved, and returns its path. One that reads lines gets those beside its source."""
+    crate = os.path.join(CRATES, name)
+    lines = os.path.join(crate, "stdin")
+    with open(lines if os.path.exists(lines) else os.devnull, "rb") as given:
+        subprocess.run(["rt", "run"], cwd=crate, stdin=given, stdout=subprocess.DEVNULL, check=True)
+    return os.path.join(crate, "out", name)
+
+
+def timed(program, script):
+    """The seconds that a program takes for a script, its start, reading and writing included, and its answers."""
+    begin = time.perf_counter()
+    ended = subprocess.run([program], input=script.encode(), stdout=subprocess.PIPE)
+    spent = time.perf_counter() - begin
+    if ended.returncode != 0:
+        sys.exit(f"status {ended.returncode}")
+    return spent, ended.stdout
+
+
+def load():
+    return f"load {os.getloadavg()[0]:.1f}"
