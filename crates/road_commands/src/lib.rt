@@ -18,7 +18,6 @@ mod laboratory;
 pub mod laws;
 mod names;
 mod queries;
-mod query_cache;
 mod question;
 mod translation;
 

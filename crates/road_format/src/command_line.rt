@@ -17,7 +17,7 @@ use crate::fields::{long_number_at, name_at, only_field};
 use crate::form::{LAST_FORM, is_known};
 use crate::message_commands::{beyond_in, heads_in, import_in, send_in, take_in};
 use crate::reading::value_in;
-use crate::replica_commands::local_of_name;
+use crate::replica_commands::replica_command_of_name;
 use road_plan::OutOfMemory;
 use serde_json::Value;
 use std::alloc::Global;
@@ -127,6 +127,6 @@ fn command_at(
         "heads" => heads_in(alloc, at, fields),
         "beyond" => beyond_in(alloc, at, fields),
         "take" => take_in(alloc, at, fields),
-        _ => Ok(local_of_name(name, at, fields)),
+        _ => Ok(replica_command_of_name(name, at, fields)),
     }
 }

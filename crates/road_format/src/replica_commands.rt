@@ -11,9 +11,9 @@ use crate::object::object_at;
 use serde_json::Value;
 
 // Reads the command of a name that tells or asks one replica, with these fields.
-#[tactic(auto, unfolding(crate::specs::CommandGrammar::local_of_name))]
-pub(crate) fn local_of_name(name: &str, at: String, fields: &Value) -> Option<Command>
-    ensures { option_map command_view result ≡ grammar.local_of_name name.now (string_bytes at) (view fields.now) }
+#[tactic(auto, unfolding(crate::specs::CommandGrammar::replica_command_of_name))]
+pub(crate) fn replica_command_of_name(name: &str, at: String, fields: &Value) -> Option<Command>
+    ensures { option_map command_view result ≡ grammar.replica_command_of_name name.now (string_bytes at) (view fields.now) }
 {
     match name {
         "edit" => edit_command_in(at, fields),

@@ -23,6 +23,24 @@ keeps_edits (events.Beyond r message) = true
 keeps_edits (events.Take r message) = false
 keeps_edits (events.Advance r to) = true
 
+-- whether a reply is the number of a message
+abbrev pub names_message : Reply → Bool
+names_message (replies.Stamped stamp) = false
+names_message (replies.Touched step) = false
+names_message (replies.Message number) = true
+names_message (replies.Horizon to) = false
+
+-- whether an event makes a message
+abbrev pub makes_message : Event → Bool
+makes_message (events.Edit r object step number) = false
+makes_message (events.Withdraw r object step) = false
+makes_message (events.Import r edits) = false
+makes_message (events.Send r) = true
+makes_message (events.Heads r) = true
+makes_message (events.Beyond r message) = true
+makes_message (events.Take r message) = false
+makes_message (events.Advance r to) = false
+
 -- a world's reply to a change; none is the number of a message
 abbrev pub reply_answer : Reply → Answer
 reply_answer (replies.Stamped stamp) = Stamped stamp
