@@ -1,5 +1,5 @@
 -- What is cached of a run is cached of each sheet with this run.
-use Rattle.std.proofs.Common.{◌≡◌, ◌∙◌, ap, sym}
+use Rattle.std.proofs.Common.{◌≡◌, ◌∙◌, ap}
 use Rattle.road_plan.specs.Plan.{Plan}
 use Rattle.road_replica.specs.QueryCaches.{CachedState, IsCacheOf}
 use Rattle.road_scenario.specs.Edits.{Edits}

@@ -6,14 +6,14 @@ use Rattle.lattice_core.specs.Sets.{empty}
 use Rattle.road_scenario.specs.Edits.{Edits}
 use Rattle.road_scenario.specs.Touched.{first_touched_step}
 use Rattle.road_scenario.specs.Winners.{join}
-use Rattle.road_sheet.specs.Commands.{Advance, SheetCommand, Take, sheet_after}
+use Rattle.road_sheet.specs.Commands.{Advance, SheetCommand, Take}
 use Rattle.road_sheet.specs.Drafts.{draft_start}
 use Rattle.road_sheet.specs.Sheets.{IsSheet, Sheet}
 use Rattle.road_rewind.proofs.StepCounts.{few_steps, start_at_horizon}
 use Rattle.road_rewind.specs.Growth.{TicksAtMost, grown_sheet, kept_step, meter_after, most_steps, touched_step}
 use Rattle.road_replica.proofs.GrownSheets.{few_steps_taking, grown_by_edits, grown_by_steps, max-zero, no_edit_touches}
 use Rattle.road_replica.specs.Refusals.{IsWriteRefusal}
-use Rattle.road_replica.specs.Replicas.{Replica, replica_after}
+use Rattle.road_replica.specs.Replicas.{Replica}
 use Rattle.road_replica.specs.Writes.{IsAccepted, IsRefused, IsWrite, most_steps_of_command, steps_of_command}
 use Rattle.road_replica.specs.declared.faults.ReplicaFault.{ReplicaFault}
 

@@ -1,5 +1,5 @@
 -- Edits for which no cause stands fit the plan, and a refusal loses no worker.
-use Rattle.std.proofs.Common.{◌≡◌, ◌∙◌, None, Option, ap, refl, sym, subst, rules}
+use Rattle.std.proofs.Common.{◌≡◌, ◌∙◌, None, Option, ap, sym, subst, rules}
 use Rattle.std.specs.Prelude.{IfOk, IfSome}
 use Rattle.lattice_core.specs.Sets.{from_list}
 use Rattle.road_scenario.specs.Edits.{Edits, edit_cmp}
