@@ -25,5 +25,5 @@ pub mod laws;
 pub mod map;
 pub mod shared;
 
-/// A growth of memory was refused. It is the only error of this crate, and a call that answers it changed nothing.
+/// An allocation failed. It is the only error of this crate, and a call that returns it changed nothing.
 pub use std::alloc::AllocError as OutOfMemory;

@@ -8,7 +8,7 @@ use std::alloc::Global;
 use std::marker::Model;
 use std::sync::Arc;
 
-/// A value of a lattice that its copies share: a copy counts one owner more and takes no memory, however great the
+/// A value of a lattice that its copies share: a copy counts one more owner and takes no memory, however great the
 /// value is. A join makes a new value. Contracts see the value.
 #[derive(Drop)]
 pub struct Shared<V: Lattice> {
@@ -25,11 +25,11 @@ impl<V: Lattice> Model for Shared<V> {
 }
 
 impl<V: Lattice> Shared<V> {
-    /// A value that no copy shares so far. Its joins take their memory from `alloc` too.
+    /// Makes a value that no copy shares so far. Its joins take their memory from `alloc` too.
     ///
     /// # Errors
     ///
-    /// `OutOfMemory` where a growth was refused.
+    /// `OutOfMemory` where an allocation failed.
     pub fn of(alloc: Global, value: V) -> Result<Self, OutOfMemory>
         ensures { IfOk result (λ shared. shared ≡ value) }
     {
@@ -37,7 +37,6 @@ impl<V: Lattice> Shared<V> {
         Ok(Shared { value, alloc })
     }
 
-    /// The value.
     pub fn value(&self) -> &V
         ensures { result.now ≡ self.now }
     {
@@ -54,20 +53,20 @@ impl<V: Lattice> Lattice for Shared<V> {
 
     ghost laws = { V.laws };
 
-    /// The join of the two values, which no copy shares.
+    /// Joins the two values into one that no copy shares.
     ///
     /// # Errors
     ///
-    /// `OutOfMemory` where a growth was refused. Both are then as before.
+    /// `OutOfMemory` where an allocation failed. Both are then as before.
     fn joined(&self, other: &Self) -> Result<Self, OutOfMemory> {
         Shared::of(self.alloc, self.value.joined(&other.value)?)
     }
 
-    /// The same value, shared.
+    /// Shares the same value.
     ///
     /// # Errors
     ///
-    /// `OutOfMemory` where the value can have no owner more.
+    /// `OutOfMemory` where the value can have no more owners.
     fn copied(&self) -> Result<Self, OutOfMemory> {
         let value = Arc::try_clone(&self.value)?;
         Ok(Shared {
@@ -82,9 +81,5 @@ impl<V: Lattice> Lattice for Shared<V> {
 
     fn at_most(&self, other: &Self) -> bool {
         self.value.at_most(&other.value)
-    }
-
-    fn known(&self) {
-        self.value.known();
     }
 }

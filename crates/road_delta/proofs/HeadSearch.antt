@@ -16,7 +16,7 @@ use Rattle.road_scenario.specs.declared.edit.Stamp.{Stamp}
 use Rattle.road_scenario.specs.contracts.edit.StampPartialOrd.TheImpl as derived_stamp
 use Rattle.road_scenario.specs.Edits.{Place, edit_place, number_triple_cmp, number_pair_cmp, stamp_key}
 use Rattle.road_scenario.specs.Instances.EditOrder.{number_pair_total, number_triple_exact, number_triple_total}
-use Rattle.road_scenario.proofs.RisingEdits.{object_cmp}
+use Rattle.road_scenario.specs.Instances.RegisterLattice.{object_cmp}
 use Rattle.road_delta.specs.declared.heads.Head.{Head}
 use Rattle.road_delta.specs.Deltas.{head_place, is_head_at, is_stamp_above, is_beyond, AreRisingHeads}
 use Rattle.road_delta.proofs.DeltaEdits.{is_head_reached}

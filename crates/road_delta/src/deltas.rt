@@ -6,13 +6,12 @@ ghost use Rattle.road_scenario.specs.Faults.{AreInRange};
 ghost use Rattle.road_delta.specs.Deltas.{AreRisingHeads, beyond, is_beyond};
 
 use crate::heads::{Head, Heads};
-use lattice_core::lattice::Lattice;
 use road_plan::OutOfMemory;
 use road_scenario::{Edit, Scenario};
 use std::alloc::Global;
 
-/// The edits of a scenario that are beyond heads: those whose object and step has no head, or one whose stamp is
-/// smaller or equal. Joined to the scenario of those heads they make what the whole scenario would
+/// Returns the edits of a scenario that are beyond heads: those whose object and step has no head, or one whose stamp
+/// is smaller or equal. Joined to the scenario of those heads they make what the whole scenario would
 /// (`laws::deltas_suffice`). They fit a plan where the scenario does. Each edit takes one binary search.
 ///
 /// # Errors
@@ -22,13 +21,11 @@ pub fn beyond(alloc: Global, scenario: &Scenario, heads: &Heads) -> Result<Scena
     ensures delta { IfOk result (λ delta. delta ≡ beyond scenario.now heads.now) }
     ensures fits { (plan : Plan) → AreInRange plan scenario.now → IfOk result (λ delta. AreInRange plan delta) }
 {
-    scenario.known();
     let mut edits = scenario.edits(alloc)?;
     edits.retain(|edit| is_beyond(heads.list(), edit));
     Scenario::of_edits(alloc, &edits)
 }
 
-// Whether an edit is beyond heads, which rise.
 fn is_beyond(heads: &[Head], edit: &Edit) -> bool
     requires { AreRisingHeads heads.now }
     ensures { result ≡ is_beyond heads.now edit.now }

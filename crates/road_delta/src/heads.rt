@@ -3,13 +3,12 @@
 ghost use Rattle.std.specs.Prelude.{◌≡◌, IfOk};
 ghost use Rattle.road_delta.specs.Deltas.{AreRisingHeads, head_of, heads};
 
-use lattice_core::lattice::Lattice;
 use road_plan::{Object, OutOfMemory};
 use road_scenario::{Edit, Scenario, Stamp};
 use std::alloc::Global;
 use std::marker::Model;
 
-/// An object and a step, and the stamp of the edit held there.
+/// Tells an object and a step, and the stamp of the edit held there.
 #[derive(Clone, Copy, Debug, PartialEq, Eq)]
 pub struct Head {
     /// The edit's object.
@@ -20,7 +19,7 @@ pub struct Head {
     pub stamp: Stamp,
 }
 
-/// The heads of a scenario, in the order of its edits: they rise by object and step. Contracts see the list.
+/// Holds the heads of a scenario, in the order of its edits: they rise by object and step. Contracts see the list.
 #[derive(Drop)]
 pub struct Heads {
     list: Vec<Head>,
@@ -39,7 +38,7 @@ impl Model for Heads {
 }
 
 impl Heads {
-    /// The heads, rising by object and step. It takes no memory.
+    /// Returns the heads, rising by object and step. It takes no memory.
     pub fn list(&self) -> &[Head]
         ensures all { result.now ≡ self.now }
         ensures rise { AreRisingHeads result.now }
@@ -48,7 +47,7 @@ impl Heads {
     }
 }
 
-/// The heads of a scenario: of each edit that won its object, step and stamp.
+/// Lists the heads of a scenario: of each edit that won its object, step and stamp.
 ///
 /// # Errors
 ///
@@ -56,7 +55,6 @@ impl Heads {
 pub fn heads_of(alloc: Global, scenario: &Scenario) -> Result<Heads, OutOfMemory>
     ensures { IfOk result (λ made. made ≡ heads scenario.now) }
 {
-    scenario.known();
     let edits = scenario.edits(alloc)?;
     let mut list = Vec::with_capacity(alloc, edits.len())?;
     for edit in &edits {
@@ -65,7 +63,6 @@ pub fn heads_of(alloc: Global, scenario: &Scenario) -> Result<Heads, OutOfMemory
     Ok(Heads { list })
 }
 
-// The head of an edit.
 fn head_of(edit: Edit) -> Head
     ensures { result ≡ head_of edit }
 {

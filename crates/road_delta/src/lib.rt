@@ -1,6 +1,6 @@
 //! Deltas: a replica tells what it holds by heads, and another sends it the edits beyond them, not all that it has.
 //!
-//! A caller with two scenarios; the second holds an edit more. The first tells its heads, the second sends what is
+//! A caller with two scenarios; the second holds one more edit. The first tells its heads, the second sends what is
 //! beyond them, and the first then holds what it would with all of the second's:
 //!
 //! ```

@@ -13,7 +13,7 @@ use crate::limits::{
 };
 use crate::parts::PlanParts;
 
-// The first fault of these parts, in the order of `PlanFault`. Takes no memory.
+// Finds the first fault of these parts, in the order of `PlanFault`. It takes no memory.
 pub(crate) fn first_fault(parts: &PlanParts) -> Option<PlanFault>
     ensures { result ≡ refusals.fault_of_plan (plan_of parts.now) }
 {
@@ -38,21 +38,18 @@ pub(crate) fn first_fault(parts: &PlanParts) -> Option<PlanFault>
     None
 }
 
-// Whether the road is neither too short nor too long.
 fn has_length(parts: &PlanParts) -> bool
     ensures { result ≡ refusals.has_length (plan_of parts.now) }
 {
     LEAST_LENGTH <= parts.length && parts.length <= GREATEST_LENGTH
 }
 
-// Whether the deleted zone is a part of the road.
 fn has_exit(parts: &PlanParts) -> bool
     ensures { result ≡ refusals.has_exit (plan_of parts.now) }
 {
     0 < parts.exit && parts.exit <= GREATEST_EXIT && parts.exit < parts.length
 }
 
-// Whether there is one entry for each zone of the road.
 fn has_zones(parts: &PlanParts) -> bool
     ensures { result ≡ refusals.has_zones (plan_of parts.now) }
 {
@@ -61,7 +58,6 @@ fn has_zones(parts: &PlanParts) -> bool
         && parts.zones.len() == (parts.length.saturating_sub(1) / parts.width + 1) as usize
 }
 
-// Whether the inlets are few enough, before the deleted zone, and at different cells.
 fn has_inlets(parts: &PlanParts) -> bool
     ensures { result ≡ refusals.has_inlets (plan_of parts.now) }
 {
@@ -72,14 +68,12 @@ fn has_inlets(parts: &PlanParts) -> bool
         && have_own_cells(&parts.inlets)
 }
 
-// Whether these inlets are before the deleted zone, which begins at `end`.
 fn are_before(inlets: &[(u32, u32)], end: u32) -> bool
     ensures { result ≡ list_all (λ inlet. nat_lt inlet.0 end) inlets.now }
 {
     inlets.iter().all(|inlet| inlet.0 < end)
 }
 
-// Whether no two of these inlets are at the same cell.
 fn have_own_cells(inlets: &[(u32, u32)]) -> bool
     ensures { result ≡ (distinct_count nat_eq (map (λ inlet. inlet.0) inlets.now) == length inlets.now) }
 {
@@ -89,14 +83,12 @@ fn have_own_cells(inlets: &[(u32, u32)]) -> bool
     }
 }
 
-// Whether one of these inlets is at this cell.
 fn has_inlet_at(cell: u32, inlets: &[(u32, u32)]) -> bool
     ensures { result ≡ list_any (λ inlet. nat_eq cell inlet.0) inlets.now }
 {
     inlets.iter().any(|inlet| cell == inlet.0)
 }
 
-// Whether the detectors are few enough, past the first cell and before the deleted zone.
 fn has_detectors(parts: &PlanParts) -> bool
     ensures { result ≡ refusals.has_detectors (plan_of parts.now) }
 {
@@ -104,21 +96,18 @@ fn has_detectors(parts: &PlanParts) -> bool
     parts.detectors.len() <= MOST_DETECTORS && are_between(&parts.detectors, end)
 }
 
-// Whether these sites are past the first cell and before the deleted zone, which begins at `end`.
 fn are_between(sites: &[u32], end: u32) -> bool
     ensures { result ≡ list_all (λ site. nat_lt 0 site && nat_lt site end) sites.now }
 {
     sites.iter().all(|&site| 0 < site && site < end)
 }
 
-// Whether each speed limit, slowing chance and inflow is in its range.
 fn has_defaults(parts: &PlanParts) -> bool
     ensures { result ≡ refusals.has_defaults (plan_of parts.now) }
 {
     are_zones(&parts.zones) && are_inflows(&parts.inlets)
 }
 
-// Whether the speed limit and the slowing chance of each zone are in their ranges.
 fn are_zones(zones: &[(u32, u32)]) -> bool
     ensures { result ≡ list_all (λ zone. nat_le zone.0 GREATEST_LIMIT && nat_le zone.1 CERTAIN) zones.now }
 {
@@ -127,7 +116,6 @@ fn are_zones(zones: &[(u32, u32)]) -> bool
         .all(|zone| zone.0 <= GREATEST_LIMIT && zone.1 <= CERTAIN)
 }
 
-// Whether the inflow of each inlet is a chance.
 fn are_inflows(inlets: &[(u32, u32)]) -> bool
     ensures { result ≡ list_all (λ inlet. nat_le inlet.1 CERTAIN) inlets.now }
 {

@@ -27,7 +27,7 @@ pub enum PlanFault {
     /// A speed limit, a slowing chance or an inflow is too great.
     #[error("a speed limit is above {limit}, or a slowing chance or an inflow above {chance}", limit = GREATEST_LIMIT, chance = CERTAIN)]
     Default,
-    /// There was no memory. The making of a plan takes none today, so it never answers this.
+    /// An allocation failed. `Plan::new` takes no memory, so it never answers this.
     #[error("no memory")]
     OutOfMemory,
 }

@@ -31,5 +31,5 @@ pub use parts::{PlanParts, WordKind};
 pub use plan::Plan;
 pub use settings::Settings;
 
-/// A growth of memory was refused.
+/// An allocation failed.
 pub use std::alloc::AllocError as OutOfMemory;

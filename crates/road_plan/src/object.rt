@@ -26,7 +26,7 @@ pub enum Object {
 }
 
 impl Object {
-    /// Whether the plan has the zone, cell, inlet or detector. A blocked cell may be any cell of the road.
+    /// Answers whether the plan has the zone, cell, inlet or detector. A blocked cell may be any cell of the road.
     pub fn in_plan(self, plan: &Plan) -> bool
         ensures { result ≡ objects.is_in_plan plan.now self }
     {
@@ -40,8 +40,8 @@ impl Object {
         }
     }
 
-    /// Whether it takes the value: speed limits from 0 to 9 cells per step, chances from 0 to 65,536 in 1/65,536, and 0
-    /// or 1 for what is off or on.
+    /// Answers whether it takes the value: speed limits from 0 to 9 cells per step, chances from 0 to 65,536 in
+    /// 1/65,536, and 0 or 1 for what is off or on.
     pub fn allows(self, value: u32) -> bool
         ensures { result ≡ objects.allows self value }
     {
@@ -52,8 +52,8 @@ impl Object {
         }
     }
 
-    /// What it is where nothing is put: the plan's number, no block, and a detector that is on. The plan must have the
-    /// object, and it must not be the slowing chance of standing cars, for which a plan has no number.
+    /// Returns what it is where nothing is put: the plan's number, no block, and a detector that is on. The plan must
+    /// have the object, and it must not be the slowing chance of standing cars, for which a plan has no number.
     pub fn default(self, plan: &Plan) -> u32
         requires in_plan { objects.is_in_plan plan.now self ≡ true }
         requires own { objects.is_start self ≡ false }
@@ -69,15 +69,10 @@ impl Object {
         }
     }
 
-    /// Whether it is the slowing chance of a zone's standing cars.
+    /// Answers whether it is the slowing chance of a zone's standing cars.
     pub fn is_start(self) -> bool
         ensures { result ≡ objects.is_start self }
     {
         matches!(self, Object::Start(_))
     }
-
-    /// Tells a proof that objects are ordered by their kinds, then by their indexes. It does nothing.
-    pub fn known_order(self, other: Object)
-        ensures { ⟦<Object as Ord>⟧.cmp self other ≡ objects.object_order self other }
-    {}
 }

@@ -2,7 +2,6 @@
 
 ghost use Rattle.std.specs.Prelude.{◌≡◌, IfOk, IfErr, IsOk, Some, None};
 ghost use Rattle.road_plan.specs.Plan.{plan_of, IsWithinLimits};
-ghost use Rattle.road_plan.specs.Settings.{Fits, defaults};
 ghost use Rattle.road_plan.specs.Refusals.{fault_of_plan};
 
 use crate::checks::first_fault;
@@ -27,7 +26,7 @@ impl Model for Plan {
 }
 
 impl Plan {
-    /// The plan of these parts, if they are within the limits. It takes no memory: the parts become the plan.
+    /// Makes the plan of these parts, if they are within the limits. It takes no memory: the parts become the plan.
     ///
     /// # Errors
     ///
@@ -49,66 +48,56 @@ impl Plan {
         }
     }
 
-    /// The cells of the road.
+    /// Returns the number of the road's cells.
     pub fn length(&self) -> u32
-        ensures { result ≡ self.now.cells }
+        ensures cells { result ≡ self.now.cells }
+        ensures within { IsWithinLimits self.now }
     {
         self.parts.length
     }
 
-    /// The cells of the deleted zone, the last ones of the road.
+    /// Returns the number of the cells of the deleted zone, the last ones of the road.
     pub fn exit(&self) -> u32
         ensures { result ≡ self.now.exit }
     {
         self.parts.exit
     }
 
-    /// The cells of a zone. The last zone may be shorter.
+    /// Returns the number of a zone's cells. The last zone may be shorter.
     pub fn width(&self) -> u32
-        ensures { result ≡ self.now.width }
+        ensures width { result ≡ self.now.width }
+        ensures within { IsWithinLimits self.now }
     {
         self.parts.width
     }
 
-    /// For each zone its speed limit, in cells per step, and its slowing chance, in 1/65,536.
+    /// Returns for each zone its speed limit, in cells per step, and its slowing chance, in 1/65,536.
     pub fn zones(&self) -> &[(u32, u32)]
         ensures { result.now ≡ self.now.zones }
     {
         &self.parts.zones
     }
 
-    /// For each inlet its cell and its inflow chance, in 1/65,536.
+    /// Returns for each inlet its cell and its inflow chance, in 1/65,536.
     pub fn inlets(&self) -> &[(u32, u32)]
-        ensures { result.now ≡ self.now.inlets }
+        ensures inlets { result.now ≡ self.now.inlets }
+        ensures within { IsWithinLimits self.now }
     {
         &self.parts.inlets
     }
 
-    /// For each detector its site.
+    /// Returns for each detector its site, a cell.
     pub fn detectors(&self) -> &[u32]
-        ensures { result.now ≡ self.now.detectors }
+        ensures detectors { result.now ≡ self.now.detectors }
+        ensures within { IsWithinLimits self.now }
     {
         &self.parts.detectors
     }
 
-    /// Where the random words come from.
+    /// Returns where the random words come from.
     pub fn words(&self) -> WordKind
         ensures { result ≡ self.now.words }
     {
         self.parts.words
-    }
-
-    /// Tells a proof that the plan is within the limits. It does nothing.
-    pub fn known(&self)
-        ensures { IsWithinLimits self.now }
-    {
-        let _ = &self.parts;
-    }
-
-    /// Tells a proof that the plan's own settings fit it. It does nothing.
-    pub fn known_own_settings(&self)
-        ensures { Fits self.now (defaults self.now) }
-    {
-        self.known();
     }
 }

@@ -3,6 +3,7 @@
 ghost use Rattle.std.specs.Prelude.{◌≡◌, ◌<◌, ◌≤◌, ◌↔◌, IsTrue, IfOk, length, map, true};
 ghost use Rattle.std.specs.List.{All};
 ghost use Rattle.std.specs.List.Sorted.{IsStrictlyIncreasing};
+ghost use Rattle.road_plan.specs.Plan.{IsWithinLimits};
 ghost use Rattle.road_plan.specs.Settings.{defaults, Fits};
 
 use crate::OutOfMemory;
@@ -44,7 +45,7 @@ impl Model for Settings {
 }
 
 impl Settings {
-    /// The plan's own settings: its speed limits, slowing chances and inflows, no blocked cell, every detector on.
+    /// Makes the plan's own settings: its speed limits, slowing chances and inflows, no blocked cell, every detector on.
     /// Standing cars are slowed like moving ones.
     ///
     /// # Errors
@@ -53,8 +54,8 @@ impl Settings {
     pub fn of_plan(alloc: Global, plan: &Plan) -> Result<Settings, OutOfMemory>
         ensures made { IfOk result (λ settings. settings ≡ defaults plan.now) }
         ensures fits { IfOk result (λ settings. Fits plan.now settings) }
+        ensures within { IfOk result (λ _. IsWithinLimits plan.now) }
     {
-        plan.known();
         Ok(Settings {
             limits: speed_limits_of(alloc, plan.zones())?,
             chances: chances_of(alloc, plan.zones())?,
@@ -65,15 +66,14 @@ impl Settings {
         })
     }
 
-    /// Whether they fit the plan: one allowed number for each zone, inlet and detector, and the blocked cells rise and
-    /// are on the road. It takes no memory.
+    /// Answers whether they fit the plan: one allowed number for each zone, inlet and detector, and the blocked cells
+    /// rise and are on the road. It takes no memory.
     pub fn fits(&self, plan: &Plan) -> bool
         ensures { IsTrue result ↔ Fits plan.now self.now }
     {
         self.have_sizes(plan) && self.are_allowed() && self.have_blocks(plan)
     }
 
-    // Whether there is one for each zone, inlet and detector.
     fn have_sizes(&self, plan: &Plan) -> bool
         ensures { IsTrue result ↔ (
             (length self.now.limits ≡ length plan.now.zones)
@@ -90,7 +90,6 @@ impl Settings {
             && self.starts.len() == plan.zones().len()
     }
 
-    // Whether each is in its range.
     fn are_allowed(&self) -> bool
         ensures { IsTrue result ↔ (
             All (λ n. n ≤ GREATEST_LIMIT) self.now.limits
@@ -105,7 +104,6 @@ impl Settings {
             && are_at_most(self.starts.as_slice(), CERTAIN)
     }
 
-    // Whether the blocked cells rise and are on the road.
     fn have_blocks(&self, plan: &Plan) -> bool
         ensures { IsTrue result ↔ (
             IsStrictlyIncreasing self.now.blocks × All (λ cell. cell < plan.now.cells) self.now.blocks
@@ -114,42 +112,42 @@ impl Settings {
         do_rise(self.blocks.as_slice()) && are_below(self.blocks.as_slice(), plan.length())
     }
 
-    /// For each zone its speed limit, in cells per step.
+    /// Returns for each zone its speed limit, in cells per step.
     pub fn limits(&self) -> &[u32]
         ensures { result.now ≡ self.now.limits }
     {
         &self.limits
     }
 
-    /// For each zone its slowing chance, in 1/65,536.
+    /// Returns for each zone its slowing chance, in 1/65,536.
     pub fn chances(&self) -> &[u32]
         ensures { result.now ≡ self.now.chances }
     {
         &self.chances
     }
 
-    /// For each inlet its inflow chance, in 1/65,536.
+    /// Returns for each inlet its inflow chance, in 1/65,536.
     pub fn inflows(&self) -> &[u32]
         ensures { result.now ≡ self.now.inflows }
     {
         &self.inflows
     }
 
-    /// The blocked cells, rising.
+    /// Returns the blocked cells, rising.
     pub fn blocks(&self) -> &[u32]
         ensures { result.now ≡ self.now.blocks }
     {
         &self.blocks
     }
 
-    /// For each detector whether it is on.
+    /// Returns for each detector whether it is on.
     pub fn watched(&self) -> &[bool]
         ensures { result.now ≡ self.now.watched }
     {
         &self.watched
     }
 
-    /// For each zone the slowing chance of standing cars, in 1/65,536.
+    /// Returns for each zone the slowing chance of standing cars, in 1/65,536.
     pub fn starts(&self) -> &[u32]
         ensures { result.now ≡ self.now.starts }
     {
@@ -157,49 +155,42 @@ impl Settings {
     }
 }
 
-// The speed limits of these zones.
 fn speed_limits_of(alloc: Global, zones: &[(u32, u32)]) -> Result<Vec<u32>, OutOfMemory>
     ensures { IfOk result (λ limits. limits.items ≡ map (λ zone. zone.0) zones.now) }
 {
     zones.iter().map(|zone| zone.0).collect(alloc)
 }
 
-// The slowing chances of these zones.
 fn chances_of(alloc: Global, zones: &[(u32, u32)]) -> Result<Vec<u32>, OutOfMemory>
     ensures { IfOk result (λ chances. chances.items ≡ map (λ zone. zone.1) zones.now) }
 {
     zones.iter().map(|zone| zone.1).collect(alloc)
 }
 
-// The inflow chances of these inlets.
 fn inflows_of(alloc: Global, inlets: &[(u32, u32)]) -> Result<Vec<u32>, OutOfMemory>
     ensures { IfOk result (λ inflows. inflows.items ≡ map (λ inlet. inlet.1) inlets.now) }
 {
     inlets.iter().map(|inlet| inlet.1).collect(alloc)
 }
 
-// Each of these detectors on.
 fn all_on(alloc: Global, detectors: &[u32]) -> Result<Vec<bool>, OutOfMemory>
     ensures { IfOk result (λ watched. watched.items ≡ map (λ site. true) detectors.now) }
 {
     detectors.iter().map(|_| true).collect(alloc)
 }
 
-// Whether none of these numbers is above `most`.
 fn are_at_most(numbers: &[u32], most: u32) -> bool
     ensures { IsTrue result ↔ All (λ n. n ≤ most) numbers.now }
 {
     numbers.iter().all(|n| *n <= most)
 }
 
-// Whether all of these cells are below `end`.
 fn are_below(cells: &[u32], end: u32) -> bool
     ensures { IsTrue result ↔ All (λ cell. cell < end) cells.now }
 {
     cells.iter().all(|cell| *cell < end)
 }
 
-// Whether these cells strictly rise.
 fn do_rise(cells: &[u32]) -> bool
     ensures { IsTrue result ↔ IsStrictlyIncreasing cells.now }
 {

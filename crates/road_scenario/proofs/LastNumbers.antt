@@ -28,7 +28,7 @@ use Rattle.road_scenario.specs.Instances.EditOrder.{number_pair_total}
 use Rattle.road_scenario.specs.Registers.{Register, RegistersByStep, RegistersByObject, edit_with, edits_from_register, object_edits, edit_list}
 use Rattle.road_scenario.specs.Settings.{is_put_up_to, latest_edit}
 use Rattle.road_scenario.specs.Private.RegisterWalks.{register_number, entry_number, last_number, registers_of_object}
-use Rattle.road_scenario.proofs.RisingEdits.{object_cmp}
+use Rattle.road_scenario.specs.Instances.RegisterLattice.{object_cmp}
 
 -- whether two objects are the same
 abbrev pub is_one : Object → Object → Bool

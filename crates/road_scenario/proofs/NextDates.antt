@@ -29,8 +29,7 @@ use Rattle.road_scenario.specs.Touched.{IsBefore}
 use Rattle.road_scenario.specs.Winners.{winners}
 use Rattle.road_scenario.specs.Private.RegisterWalks.{earlier_step, first_step_after, first_date_after}
 use Rattle.road_scenario.proofs.EditMembers.{IsIn, passing_in}
-use Rattle.road_scenario.specs.Instances.RegisterLattice.{AreRegistersByStep}
-use Rattle.road_scenario.proofs.RisingEdits.{AreRegisters}
+use Rattle.road_scenario.specs.Instances.RegisterLattice.{AreRegistersByStep, AreRegisters}
 use Rattle.road_scenario.proofs.SettingsBeforeTouched.{before_each}
 use Rattle.road_scenario.proofs.SettingsOfRegisters.{winners-items}
 use Rattle.road_scenario.proofs.LastNumbers.{AllLater, is_below}

@@ -24,8 +24,7 @@ use Rattle.road_plan.specs.declared.object.Object.TheVariants.{Limit, Slow, Bloc
 use Rattle.road_scenario.specs.Registers.{RegistersByStep, RegistersByObject, object_edits, edit_list}
 use Rattle.road_scenario.specs.Settings.{is_put_up_to, latest_edit, number_in, setting_by, setting_in, settings_in, all_settings}
 use Rattle.road_scenario.specs.Private.RegisterWalks.{last_number, registers_of_object, settings_with_number, settings_with_optional, settings_with_last_numbers, has_place}
-use Rattle.road_scenario.specs.Instances.RegisterLattice.{AreRegistersByStep}
-use Rattle.road_scenario.proofs.RisingEdits.{object_cmp, AreRegisters}
+use Rattle.road_scenario.specs.Instances.RegisterLattice.{AreRegistersByStep, object_cmp, AreRegisters}
 use Rattle.road_scenario.proofs.LastNumbers.{is_one, chosen, none_of_other, none_above, latest_number, other_above, steps_here, steps_there, one_object}
 
 -- ---- the setting of an object

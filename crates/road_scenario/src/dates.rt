@@ -6,7 +6,7 @@ ghost use Rattle.road_scenario.specs.Private.RegisterWalks as walks;
 use crate::registers::{RegistersByObject, RegistersByStep};
 use crate::touched::earlier;
 
-// The first date of all edits after a step: a look-up for each object.
+// Finds the first date of all edits after a step, by a look-up for each object.
 pub(crate) fn first_date_after(registers: &RegistersByObject, step: u32) -> Option<u32>
     ensures { result ≡ walks.first_date_after step registers.now }
 {
@@ -17,7 +17,6 @@ pub(crate) fn first_date_after(registers: &RegistersByObject, step: u32) -> Opti
     first
 }
 
-// The first of an object's dates after a step.
 fn first_step_after(steps: &RegistersByStep, step: u32) -> Option<u32>
     ensures { result ≡ walks.first_step_after step steps.now }
 {

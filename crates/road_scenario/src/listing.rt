@@ -1,7 +1,8 @@
 //! Walks over a scenario's registers that list its edits and check them.
 
-ghost use Rattle.std.specs.Prelude.{◌≡◌, [], ◌++◌, OnOk, IfOk, IsOk};
+ghost use Rattle.std.specs.Prelude.{◌≡◌, ◌<◌, ◌^◌, [], ◌++◌, length, OnOk, IfOk, IsOk};
 ghost use Rattle.road_scenario.specs.Faults.{first_fault};
+ghost use Rattle.road_scenario.specs.Private.RegisterWalks.{held_count};
 ghost use Rattle.road_scenario.specs.Registers.{edits_from_register, edit_list, object_edits};
 
 use crate::edit::Edit;
@@ -11,7 +12,7 @@ use lattice_core::greatest::Greatest;
 use road_plan::{Object, OutOfMemory, Plan};
 use std::alloc::Global;
 
-// All edits, by object and step. Where there is none, nothing grows.
+// Lists all edits, by object and step. Where there is none, nothing grows.
 pub(crate) fn all_edits(
     alloc: Global,
     registers: &RegistersByObject,
@@ -26,7 +27,6 @@ pub(crate) fn all_edits(
     Ok(edits)
 }
 
-// Adds the edits of an object, by step.
 fn push_edits(
     edits: &mut Vec<Edit>,
     object: Object,
@@ -48,7 +48,33 @@ fn push_edits(
     Ok(())
 }
 
-// The fault of the first faulty edit, by object and step.
+// Counts all edits.
+pub(crate) fn count_edits(registers: &RegistersByObject) -> usize
+    requires { length (edit_list registers.now) < 2 ^ 64 }
+    ensures { result ≡ length (edit_list registers.now) }
+{
+    let mut count = 0;
+    for (_, steps) in registers.iter() {
+        count += count_steps(steps.value());
+    }
+    count
+}
+
+fn count_steps(steps: &RegistersByStep) -> usize
+    requires { held_count steps.now < 2 ^ 64 }
+    ensures { result ≡ held_count steps.now }
+{
+    let mut count = 0;
+    for (_, won) in steps.iter() {
+        count += match *won {
+            Greatest::Nothing => 0,
+            Greatest::Of(_) => 1,
+        };
+    }
+    count
+}
+
+// Finds the fault of the first faulty edit, by object and step.
 pub(crate) fn fault_of_first(registers: &RegistersByObject, plan: &Plan) -> Option<EditFault>
     ensures { result ≡ first_fault plan.now (edit_list registers.now) }
 {
@@ -61,7 +87,6 @@ pub(crate) fn fault_of_first(registers: &RegistersByObject, plan: &Plan) -> Opti
     None
 }
 
-// The fault of an object's first faulty edit, by step.
 fn fault_at(object: Object, steps: &RegistersByStep, plan: &Plan) -> Option<EditFault>
     ensures { result ≡ first_fault plan.now (object_edits object steps.now) }
 {
@@ -72,7 +97,6 @@ fn fault_at(object: Object, steps: &RegistersByStep, plan: &Plan) -> Option<Edit
     first
 }
 
-// The fault of the edit that won at an object and step.
 fn fault_of_won(object: Object, step: u32, won: &Won, plan: &Plan) -> Option<EditFault>
     ensures { result ≡ first_fault plan.now (edits_from_register object step won.now []) }
 {

@@ -41,7 +41,7 @@ impl Model for RegistersByStep {
 }
 
 impl RegistersByStep {
-    // One register, in which an edit won.
+    // Makes one register, in which an edit won.
     pub(crate) fn of(
         alloc: Global,
         step: u32,
@@ -55,28 +55,24 @@ impl RegistersByStep {
         Ok(RegistersByStep { won })
     }
 
-    // The register of a step, if it has one.
     pub(crate) fn get(&self, step: u32) -> Option<&Won>
         ensures { option_copied result ≡ find nat_cmp step self.now }
     {
         self.won.get(step)
     }
 
-    // All registers, by step.
     pub(crate) fn iter(&self) -> Iter<'_, u32, Won>
         ensures { result ≡ self.now }
     {
         self.won.iter()
     }
 
-    // The registers up to a step.
     pub(crate) fn up_to(&self, step: u32) -> Range<'_, u32, Won>
         ensures { result ≡ entries_up_to nat_cmp step self.now }
     {
         self.won.up_to(step)
     }
 
-    // The registers after a step.
     pub(crate) fn after(&self, step: u32) -> Range<'_, u32, Won>
         ensures { result ≡ entries_after nat_cmp step self.now }
     {
@@ -84,7 +80,6 @@ impl RegistersByStep {
     }
 }
 
-// They are joined step by step.
 impl Lattice for RegistersByStep {
     ghost use Rattle.lattice_core.specs.Map.{is_empty};
     ghost use Rattle.road_scenario.specs.Instances.RegisterLattice.{AreRegistersByStep, steps_join, steps_laws};
@@ -113,9 +108,5 @@ impl Lattice for RegistersByStep {
 
     fn at_most(&self, other: &Self) -> bool {
         self.won.at_most(&other.won)
-    }
-
-    fn known(&self) {
-        self.won.known();
     }
 }

@@ -1,6 +1,6 @@
 //! The winners of all edits that came: how they are joined, and what they put at each step.
 
-ghost use Rattle.std.specs.Prelude.{◌≡◌, ◌↔◌, ◌≤◌, ℕ, [], ◌∷◌, IfOk, IsNone, IsOk, None, T, true};
+ghost use Rattle.std.specs.Prelude.{◌≡◌, ◌↔◌, ◌≤◌, ℕ, [], ◌∷◌, IfOk, IsNone, IsOk, None, T, length, true};
 ghost use Rattle.lattice_core.specs.Sets as sets;
 ghost use Rattle.road_plan.specs.Objects.{is_in_plan};
 ghost use Rattle.road_plan.specs.Plan.{Plan};
@@ -8,15 +8,15 @@ ghost use Rattle.road_plan.specs.Settings.{Fits};
 ghost use Rattle.road_plan.specs.declared.limits.TheConstants.{GREATEST_COUNT};
 ghost use Rattle.road_scenario.specs.Counts.{greatest_count};
 ghost use Rattle.road_scenario.specs.Edits.{Edits, edit_cmp};
-ghost use Rattle.road_scenario.specs.Faults.{AreInRange, fault_in, fault_of_edit, first_fault};
+ghost use Rattle.road_scenario.specs.Faults.{AreInRange, FitsSomePlan, fault_in, fault_of_edit, first_fault};
 ghost use Rattle.road_scenario.specs.Settings.{next_date, setting, settings_of};
 ghost use Rattle.road_scenario.specs.Touched.{IsBefore, first_touched_step};
-ghost use Rattle.road_scenario.specs.Winners.{join, winners};
+ghost use Rattle.road_scenario.specs.Winners.{AreWinners, join, winners};
 
 use crate::dates::first_date_after;
 use crate::edit::Edit;
 use crate::faults::EditFault;
-use crate::listing::{all_edits, fault_of_first};
+use crate::listing::{all_edits, count_edits, fault_of_first};
 use crate::registers::{RegistersByObject, RegistersByStep};
 use crate::settings::{number_of, put_all, setting_without};
 use crate::touched::{first_change, first_change_by};
@@ -27,7 +27,7 @@ use road_plan::{Object, OutOfMemory, Plan, Settings};
 use std::alloc::Global;
 use std::marker::Model;
 
-/// The winners of the edits that came. Contracts see the set of them.
+/// Holds the winners of the edits that came. Contracts see the set of them.
 #[derive(Drop)]
 pub struct Scenario {
     registers: RegistersByObject,
@@ -49,12 +49,13 @@ impl Model for Scenario {
 
     ghost use Rattle.std.specs.Prelude.{◌≡◌};
     ghost use Rattle.road_scenario.specs.Counts.{greatest_count};
+    ghost use Rattle.road_scenario.specs.Instances.RegisterLattice.{AreRegisters};
 
-    ghost invariant = { λ s. s.greatest ≡ greatest_count (edit_set s.registers) };
+    ghost invariant = { λ s. AreRegisters s.registers × (s.greatest ≡ greatest_count (edit_set s.registers)) };
 }
 
 impl Scenario {
-    /// The scenario without edits, which fits every plan. Its joins and copies take their memory from `alloc` too.
+    /// Makes the scenario without edits, which fits every plan. Its joins and copies take their memory from `alloc` too.
     pub fn empty(alloc: Global) -> Self
         ensures none { result ≡ sets.empty }
         ensures fits { (plan : Plan) → AreInRange plan result }
@@ -66,8 +67,8 @@ impl Scenario {
         }
     }
 
-    /// The winners of a list of edits, in whatever order they stand, by joins of halves: each edit is copied about as
-    /// often as the list can be halved. It fits a plan where no edit of the list has a fault.
+    /// Makes the winners of a list of edits, in whatever order they stand, by joins of halves: each edit is copied about
+    /// as often as the list can be halved. It fits a plan where no edit of the list has a fault.
     ///
     /// # Errors
     ///
@@ -89,7 +90,7 @@ impl Scenario {
         }
     }
 
-    /// The winners of this scenario's edits and one more. It fits a plan where both do.
+    /// Makes the winners of this scenario's edits and one more. It fits a plan where both do.
     ///
     /// # Errors
     ///
@@ -99,7 +100,6 @@ impl Scenario {
         ensures fits { (plan : Plan) → AreInRange plan self.now → fault_of_edit plan edit.now ≡ None →
             IfOk result (λ new. AreInRange plan new) }
     {
-        self.registers.known();
         let one = RegistersByStep::of(self.alloc, edit.step, edit.stamp, edit.value)?;
         let steps = Shared::of(self.alloc, one)?;
         Ok(Scenario {
@@ -109,7 +109,7 @@ impl Scenario {
         })
     }
 
-    /// The winners of both scenarios' edits. It fits a plan where both do.
+    /// Makes the winners of both scenarios' edits. It fits a plan where both do.
     ///
     /// # Errors
     ///
@@ -119,8 +119,6 @@ impl Scenario {
         ensures fits { (plan : Plan) → AreInRange plan self.now → AreInRange plan other.now →
             IfOk result (λ joined. AreInRange plan joined) }
     {
-        self.registers.known();
-        other.registers.known();
         Ok(Scenario {
             registers: self.registers.joined(&other.registers)?,
             greatest: self.greatest.max(other.greatest),
@@ -128,7 +126,7 @@ impl Scenario {
         })
     }
 
-    /// An equal scenario with memory of its own.
+    /// Makes an equal scenario. Both share the registers of each object.
     ///
     /// # Errors
     ///
@@ -143,22 +141,22 @@ impl Scenario {
         })
     }
 
-    /// The number in force for an object at a step, in the object's units: the one put by the latest-dated edit up to
-    /// that step which isn't a withdrawal, the default where there is none. In place of a default, the slowing chance of
-    /// standing cars has the zone's slowing chance at that step. The plan must have the object (`Object::in_plan`).
+    /// Returns the number in force for an object at a step, in the object's units: the one put by the latest-dated edit
+    /// up to that step which isn't a withdrawal, the default where there is none. In place of a default, the slowing
+    /// chance of standing cars has the zone's slowing chance at that step. The plan must have the object
+    /// (`Object::in_plan`).
     pub fn setting(&self, plan: &Plan, object: Object, step: u32) -> u32
         requires { is_in_plan plan.now object ≡ true }
         ensures { result ≡ setting plan.now self.now object step }
     {
-        self.registers.known();
         match number_of(&self.registers, object, step) {
             Some(number) => number,
             None => setting_without(&self.registers, plan, object, step),
         }
     }
 
-    /// All settings of the plan at a step, by one walk over the edits up to it. The scenario must fit the plan (`fits`
-    /// gives none), and so do the settings.
+    /// Makes all settings of the plan at a step, by one walk over the edits up to it. The scenario must fit the plan
+    /// (`fits` gives none), and so do the settings.
     ///
     /// # Errors
     ///
@@ -173,48 +171,40 @@ impl Scenario {
         ensures made { IfOk result (λ settings. settings ≡ settings_of plan.now self.now step) }
         ensures fits { IfOk result (λ settings. Fits plan.now settings) }
     {
-        self.registers.known();
-        plan.known();
         let mut settings = Settings::of_plan(alloc, plan)?;
         put_all(&mut settings, &self.registers, step)?;
         Ok(settings)
     }
 
-    /// The first step after a step by which an edit is dated, a withdrawal too; none where there is no later one. The
-    /// settings of all steps before it are those of the step. It takes a look-up for each object and no memory.
+    /// Finds the first step after a step by which an edit is dated, a withdrawal too; none where there is no later one.
+    /// The settings of all steps before it are those of the step. It takes a look-up for each object and no memory.
     pub fn next_date(&self, step: u32) -> Option<u32>
         ensures date { result ≡ next_date self.now step }
         ensures settings { (plan : Plan) (t : ℕ) → step ≤ t → IsBefore t result →
             settings_of plan self.now t ≡ settings_of plan self.now step }
     {
-        self.registers.known();
         first_date_after(&self.registers, step)
     }
 
-    /// The least step of an object and step at which the numbers put here and in `other` differ: nothing is put where
-    /// there is no edit or a withdrawal. Settings at earlier steps are the same
+    /// Finds the least step of an object and step at which the numbers put here and in `other` differ: nothing is put
+    /// where there is no edit or a withdrawal. Settings at earlier steps are the same
     /// (`laws::settings_stay_before_touched`). It takes no memory.
     pub fn touched(&self, other: &Scenario) -> Option<u32>
         ensures { result ≡ first_touched_step self.now other.now }
     {
-        self.registers.known();
-        other.registers.known();
         first_change(&self.registers, &other.registers)
     }
 
-    /// As [`Scenario::touched`], for another scenario that must be this one with what is `taken` joined in: just the
-    /// objects and steps of what is taken are looked at. It takes no memory.
+    /// Finds the step of [`Scenario::touched`] for another scenario that must be this one with what is `taken` joined
+    /// in: just the objects and steps of what is taken are looked at. It takes no memory.
     pub fn touched_by(&self, taken: &Scenario, joined: &Scenario) -> Option<u32>
         requires { joined.now ≡ join self.now taken.now }
         ensures { result ≡ first_touched_step self.now joined.now }
     {
-        self.registers.known();
-        taken.registers.known();
-        joined.registers.known();
         first_change_by(&self.registers, &taken.registers, &joined.registers)
     }
 
-    /// The edits by object and step, each once.
+    /// Lists the edits by object and step, each once.
     ///
     /// # Errors
     ///
@@ -223,13 +213,21 @@ impl Scenario {
         ensures all { IfOk result (λ edits. edits.items ≡ sets.items self.now) }
         ensures rising { IfOk result (λ edits. T (sets.is_rising edit_cmp edits.items)) }
         ensures grows_nothing { self.now ≡ sets.empty → IsOk result }
+        ensures winners { AreWinners self.now }
     {
-        self.registers.known();
-        Ok(all_edits(alloc, &self.registers)?)
+        all_edits(alloc, &self.registers)
     }
 
-    /// The greatest count of the edits' stamps, 0 where there is none. It is the greatest count of every set of edits
-    /// whose winners these are, and at most 2^48 where the scenario fits a plan. It takes no memory.
+    /// Counts the edits. The scenario must fit a plan. It takes no memory.
+    pub fn len(&self) -> usize
+        requires { FitsSomePlan self.now }
+        ensures { result ≡ length (sets.items self.now) }
+    {
+        count_edits(&self.registers)
+    }
+
+    /// Returns the greatest count of the edits' stamps, 0 where there is none. It is the greatest count of every set of
+    /// edits whose winners these are, and at most 2^48 where the scenario fits a plan. It takes no memory.
     pub fn greatest_count(&self) -> u64
         ensures here { result ≡ greatest_count self.now }
         ensures every { (edits : Edits) → winners edits ≡ self.now → result ≡ greatest_count edits }
@@ -238,13 +236,12 @@ impl Scenario {
         self.greatest
     }
 
-    /// The fault of the first faulty edit, in the order of `edits`; none where all edits are in the plan and its
+    /// Finds the fault of the first faulty edit, in the order of `edits`; none where all edits are in the plan and its
     /// ranges. It takes no memory.
     pub fn fits(&self, plan: &Plan) -> Option<EditFault>
         ensures fault { result ≡ fault_in plan.now self.now }
         ensures none { IsNone result ↔ AreInRange plan.now self.now }
     {
-        self.registers.known();
         fault_of_first(&self.registers, plan)
     }
 }
@@ -271,17 +268,10 @@ impl Lattice for Scenario {
     }
 
     fn is_bottom(&self) -> bool {
-        self.registers.known();
         self.registers.is_bottom()
     }
 
     fn at_most(&self, other: &Self) -> bool {
-        self.registers.known();
-        other.registers.known();
         self.registers.at_most(&other.registers)
-    }
-
-    fn known(&self) {
-        self.registers.known();
     }
 }

@@ -54,8 +54,8 @@ fn put(settings: &mut Settings, object: Object, number: u32) -> Result<(), OutOf
     Ok(())
 }
 
-// The setting of an object for which no number is in force: its default, and for the slowing chance of standing cars the
-// zone's slowing chance.
+// Finds the setting of an object for which no number is in force: its default, and for the slowing chance of standing
+// cars the zone's slowing chance.
 pub(crate) fn setting_without(
     registers: &RegistersByObject,
     plan: &Plan,
@@ -76,7 +76,6 @@ pub(crate) fn setting_without(
     }
 }
 
-// The last number that an object's steps put up to a step.
 pub(crate) fn number_of(registers: &RegistersByObject, object: Object, step: u32) -> Option<u32>
     ensures { result ≡ walks.last_number step (walks.registers_of_object (⟦<Object as Ord>⟧.cmp) registers.now object) }
 {
@@ -86,7 +85,7 @@ pub(crate) fn number_of(registers: &RegistersByObject, object: Object, step: u32
     }
 }
 
-// The last number put up to a step. The walk goes back from there, past withdrawals alone.
+// Finds the last number put up to a step. The walk goes back from there, past withdrawals alone.
 fn last_put(steps: &RegistersByStep, step: u32) -> Option<u32>
     ensures { result ≡ walks.last_number step steps.now }
 {
@@ -100,7 +99,7 @@ fn last_put(steps: &RegistersByStep, step: u32) -> Option<u32>
     None
 }
 
-// The number that won: nothing where a withdrawal did.
+// Returns the number that won: nothing where a withdrawal did.
 pub(crate) fn number_put(won: &Won) -> Option<u32>
     ensures { result ≡ walks.register_number won.now }
 {

@@ -9,7 +9,7 @@ use crate::settings::number_put;
 use lattice_core::shared::Shared;
 use road_plan::Object;
 
-// The first step at which one of the registers puts a number and the other none or another.
+// Finds the first step at which one of the registers puts a number and the other none or another.
 pub(crate) fn first_change(ours: &RegistersByObject, theirs: &RegistersByObject) -> Option<u32>
     ensures { let first_change = walks.first_change (⟦<Object as Ord>⟧.cmp) in
         result ≡ walks.earlier_step (first_change ours.now theirs.now) (first_change theirs.now ours.now) }
@@ -17,7 +17,7 @@ pub(crate) fn first_change(ours: &RegistersByObject, theirs: &RegistersByObject)
     earlier(changed(ours, theirs), changed(theirs, ours))
 }
 
-// The first step of ours at which the numbers put differ: one look-up for each object and step.
+// Finds the first step of ours at which the numbers put differ, by one look-up for each object and step.
 fn changed(ours: &RegistersByObject, theirs: &RegistersByObject) -> Option<u32>
     ensures { result ≡ walks.first_change (⟦<Object as Ord>⟧.cmp) ours.now theirs.now }
 {
@@ -28,7 +28,7 @@ fn changed(ours: &RegistersByObject, theirs: &RegistersByObject) -> Option<u32>
     first
 }
 
-// The first step of an object at which the numbers put differ. The others may have no entry of the object.
+// The others may have no entry of the object.
 fn changed_at(steps: &RegistersByStep, others: Option<&Shared<RegistersByStep>>) -> Option<u32>
     ensures { result ≡ walks.first_change_at steps.now (unwrap_or (option_copied others.entry) []) }
 {
@@ -40,8 +40,8 @@ fn changed_at(steps: &RegistersByStep, others: Option<&Shared<RegistersByStep>>)
     None
 }
 
-// The first of the steps of taken registers at which ours and the joined ones put different numbers: look-ups for each
-// object and step that was taken.
+// Finds the first of the steps of taken registers at which ours and the joined ones put different numbers, by look-ups
+// for each object and step that was taken.
 pub(crate) fn first_change_by(
     ours: &RegistersByObject,
     taken: &RegistersByObject,
@@ -57,7 +57,6 @@ pub(crate) fn first_change_by(
     first
 }
 
-// The first of some steps of an object at which the numbers put differ.
 fn changed_among(
     steps: &RegistersByStep,
     ours: Option<&Shared<RegistersByStep>>,
@@ -74,7 +73,6 @@ fn changed_among(
     None
 }
 
-// The number put at a step, if there are steps.
 fn number_at(steps: Option<&Shared<RegistersByStep>>, step: u32) -> Option<u32>
     ensures { result ≡ walks.number_at_step (unwrap_or (option_copied steps.entry) []) step }
 {
@@ -84,7 +82,6 @@ fn number_at(steps: Option<&Shared<RegistersByStep>>, step: u32) -> Option<u32>
     }
 }
 
-// The number put at a step.
 fn number_in(steps: &RegistersByStep, step: u32) -> Option<u32>
     ensures { result ≡ walks.number_at_step steps.now step }
 {
@@ -94,7 +91,6 @@ fn number_in(steps: &RegistersByStep, step: u32) -> Option<u32>
     }
 }
 
-// The earlier of two steps, if there are any.
 pub(crate) fn earlier(first: Option<u32>, second: Option<u32>) -> Option<u32>
     ensures { result ≡ walks.earlier_step first second }
 {

@@ -83,11 +83,11 @@ pub const DENSE_START_ROWS: &[&str] = &[
     "00..1.00.0.00.10..00.0.10.1..1..",
 ];
 
-/// These parts, with memory of their own.
+/// Copies these parts.
 ///
 /// # Errors
 ///
-/// `OutOfMemory` where the growth of a list is refused.
+/// `OutOfMemory` where an allocation failed.
 pub fn parts_of(alloc: Global, parts: &Parts) -> Result<PlanParts, OutOfMemory> {
     let (length, exit, width) = parts.road;
     Ok(PlanParts {
@@ -101,11 +101,11 @@ pub fn parts_of(alloc: Global, parts: &Parts) -> Result<PlanParts, OutOfMemory> 
     })
 }
 
-/// The plan of these parts.
+/// Makes the plan of these parts.
 ///
 /// # Errors
 ///
-/// `OutOfMemory` where the growth of a list is refused, else the fault of the plan.
+/// `OutOfMemory` where an allocation failed, else the fault of the plan.
 pub fn plan_of(alloc: Global, parts: &Parts) -> Result<Plan, PlanFault> {
     match parts_of(alloc, parts) {
         Ok(parts) => Plan::new(parts),

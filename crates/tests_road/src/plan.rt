@@ -445,7 +445,6 @@ const READ: &[Parts] = &[FREE, GREATEST];
 fn reads_the_parts(rt: HostRuntime) -> Result<(), Fail> {
     for (row, parts) in READ.iter().enumerate() {
         let plan = plan_of(rt.alloc(), parts)?;
-        plan.known();
         assert!(rt; reads(&plan, parts), "row {row}");
     }
     Ok(())

@@ -18,7 +18,7 @@ returns-clause-delta c =
     let t = c.args.scenario.now in
     let hs = c.args.heads.now in
     let kept = filter_same _ (is_beyond hs) _ (λ e b g called. search rules) _ _ c.retain.ensures.filtered in
-    IfOk-weaker c.of_edits.result _ _ (λ made is. is ∙ ap (λ es. winners (from_list {R = edit_cmp} es)) (c.deref.ensures.value ∙ kept ∙ ap (filter (is_beyond hs)) c.in_ok-edits.ensures.all) ∙ ap winners (from_list-beyond (items t) hs ∙ ap (λ s. beyond s hs) (from_list-items edit_total t)) ∙ winners-beyond t hs c.known.ensures) c.of_edits.ensures.winners
+    IfOk-weaker c.of_edits.result _ _ (λ made is. is ∙ ap (λ es. winners (from_list {R = edit_cmp} es)) (c.deref.ensures.value ∙ kept ∙ ap (filter (is_beyond hs)) c.in_ok-edits.ensures.all) ∙ ap winners (from_list-beyond (items t) hs ∙ ap (λ s. beyond s hs) (from_list-items edit_total t)) ∙ winners-beyond t hs c.edits.ensures.winners) c.of_edits.ensures.winners
 
 pub returns-clause-fits : goal.returns-clause-fits
 returns-clause-fits c = λ plan fits.

@@ -11,9 +11,8 @@ use Rattle.road_scenario.specs.Edits.{Edits}
 use Rattle.road_scenario.specs.Registers.{RegistersByObject, RegistersByStep, edit_set}
 use Rattle.road_scenario.proofs.EditRanges.{in_range-join, in_range-one}
 use Rattle.road_scenario.proofs.GreatestCounts.{greatest_count-join, greatest_count-one}
-use Rattle.road_scenario.specs.Instances.RegisterLattice.{steps_join}
-use Rattle.road_scenario.proofs.JoinedRegisters.{edit_set-with}
-use Rattle.road_scenario.proofs.RisingEdits.{AreRegisters, object_cmp}
+use Rattle.road_scenario.specs.Instances.RegisterLattice.{steps_join, AreRegisters, object_cmp}
+use Rattle.road_scenario.proofs.JoinedRegisters.{edit_set-with, proper-with}
 use Rattle.road_scenario.proofs.scenario.Scenario.with_edit.Goals as goal
 
 -- the register of the edit
@@ -27,16 +26,18 @@ made m new steps edits e are view is joined = ap edit_set joined ∙ edit_set-wi
 pub invariant_of-result : goal.invariant_of-result
 invariant_of-result c =
     let e = c.args.edit.now in
-    let is = c.in_ok-steps.ensures ∙ c.in_ok-one.ensures in
-    c.max.ensures
-    ∙ (λ i. max ((c.self.invariant ∙ ap greatest_count c.self.view_is) i) (sym (greatest_count-one e) i))
-    ∙ sym (ap greatest_count (made c.self.inside.registers c.in_ok-with.field-0 c.in_ok-steps.steps c.args.self.now e c.known.ensures c.self.view_is is c.in_ok-with.ensures) ∙ greatest_count-join c.args.self.now (from_list (e ∷ [])))
+    let is = c.in_ok-steps.ensures ∙ c.in_ok-one.ensures in (
+      subst AreRegisters (sym c.in_ok-with.ensures) (proper-with c.self.inside.registers e c.in_ok-steps.steps c.self.invariant.0 is),
+      c.max.ensures
+          ∙ (λ i. max ((c.self.invariant.1 ∙ ap greatest_count c.self.view_is) i) (sym (greatest_count-one e) i))
+          ∙ sym (ap greatest_count (made c.self.inside.registers c.in_ok-with.field-0 c.in_ok-steps.steps c.args.self.now e c.self.invariant.0 c.self.view_is is c.in_ok-with.ensures) ∙ greatest_count-join c.args.self.now (from_list (e ∷ []))),
+    )
 
 pub returns-clause-winners : goal.returns-clause-winners
 returns-clause-winners c =
     let e = c.args.edit.now in
     let is = c.in_ok-steps.ensures ∙ c.in_ok-one.ensures in
-    made c.self.inside.registers c.in_ok-with.field-0 c.in_ok-steps.steps c.args.self.now e c.known.ensures c.self.view_is is c.in_ok-with.ensures
+    made c.self.inside.registers c.in_ok-with.field-0 c.in_ok-steps.steps c.args.self.now e c.self.invariant.0 c.self.view_is is c.in_ok-with.ensures
 
 pub returns-clause-fits : goal.returns-clause-fits
 returns-clause-fits c = λ plan fits none.

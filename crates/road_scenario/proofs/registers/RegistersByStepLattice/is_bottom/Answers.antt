@@ -1,0 +1,7 @@
+-- The registers of an object are a proper map.
+use Rattle.std.proofs.Common.{subst}
+use Rattle.road_scenario.specs.Instances.RegisterLattice.{AreRegistersByStep}
+use Rattle.road_scenario.proofs.registers.RegistersByStepLattice.is_bottom.Goals as goal
+
+pub returns-clause-proper : goal.returns-clause-proper
+returns-clause-proper c = subst AreRegistersByStep c.self.view_is c.is_bottom.ensures.proper
