@@ -4,7 +4,7 @@ ghost use Rattle.std.specs.Prelude.{◌≡◌, ℕ, ◌<◌, ◌≤◌, length, 
 ghost use Rattle.std.specs.List.Sorted.{IsNonDecreasing};
 ghost use Rattle.road_cells.specs.Gap.{is_blocked, ArePartedAt};
 
-/// Whether a cell is one of the blocked ones, which rise: a binary search. It takes no memory.
+/// Answers whether a cell is one of the blocked ones, which rise: a binary search. It takes no memory.
 pub fn is_blocked(blocks: &[u32], cell: u32) -> bool
     requires { IsNonDecreasing blocks.now }
     ensures { result ≡ is_blocked blocks.now cell }
@@ -12,7 +12,7 @@ pub fn is_blocked(blocks: &[u32], cell: u32) -> bool
     blocks.binary_search(&cell).is_ok()
 }
 
-/// How many of the blocked cells, which rise, are not in front of a cell: a binary search. It takes no memory.
+/// Counts the blocked cells, which rise, that are not in front of a cell: a binary search. It takes no memory.
 pub fn reached_blocks(blocks: &[u32], cell: u32) -> usize
     requires { IsNonDecreasing blocks.now }
     ensures bound { result ≤ length blocks.now }
@@ -21,7 +21,7 @@ pub fn reached_blocks(blocks: &[u32], cell: u32) -> usize
     blocks.partition_point(|block| *block <= cell)
 }
 
-/// How many of the blocked cells, which rise, are not in front of a cell, where those from the `most`-th on are: a walk
+/// Counts the blocked cells, which rise, that are not in front of a cell, where those from the `most`-th on are: a walk
 /// down from there, for callers that go over falling cells. `most` is at most the number of blocked cells. It takes no
 /// memory.
 pub fn reached_blocks_below(blocks: &[u32], cell: u32, most: usize) -> usize

@@ -34,7 +34,7 @@ impl Model for Road {
 }
 
 impl Road {
-    /// The empty road. It takes no memory.
+    /// Makes the empty road. It takes no memory.
     pub fn empty(alloc: Global) -> Self
         ensures { result ≡ [] }
     {
@@ -43,7 +43,7 @@ impl Road {
         }
     }
 
-    /// The road of these cars, whose cells have to rise strictly. It keeps the list and takes no memory.
+    /// Makes the road of these cars, whose cells have to rise strictly. It keeps the list and takes no memory.
     pub fn of(cars: Vec<Car>) -> Self
         requires { AreRising cars.items }
         ensures road { result ≡ array_of cars.items }
@@ -52,7 +52,7 @@ impl Road {
         Road { cars }
     }
 
-    /// The cars in strictly rising cells, as the list that the road kept. It takes no memory.
+    /// Takes the cars out, in strictly rising cells, as the list that the road kept. It takes no memory.
     pub fn into_cars(self) -> Vec<Car>
         ensures all { result.items ≡ cars_of self }
         ensures rise { AreRising result.items }
@@ -62,7 +62,7 @@ impl Road {
         cars
     }
 
-    /// The cars in strictly rising cells. A car's index here is its place.
+    /// Returns the cars in strictly rising cells. A car's index here is its place.
     pub fn cars(&self) -> &[Car]
         ensures all { result.now ≡ cars_of self.now }
         ensures rise { AreRising result.now }
@@ -71,7 +71,7 @@ impl Road {
         self.cars.as_slice()
     }
 
-    /// The car at a cell, none where the cell is empty or past the last car. It is found by a binary search.
+    /// Finds the car at a cell by a binary search; none where the cell is empty or past the last car.
     pub fn car_at(&self, cell: u32) -> Option<Car>
         ensures { result ≡ option_map (car_of cell) (vehicle_at self.now cell) }
     {
@@ -81,15 +81,15 @@ impl Road {
         }
     }
 
-    /// How many cars stand before a cell: the place of the first one that does not. It is found by a binary search.
+    /// Counts the cars before a cell, by a binary search: this is the place of the first one that is not.
     pub fn cars_before(&self, cell: u32) -> usize
         ensures { result ≡ cars_before cell (cars_of self.now) }
     {
         self.cars.partition_point(|car| car.cell < cell)
     }
 
-    /// The cars at the cells from `from` on and before `to`, where `from` is at most `to`. They are found by two binary
-    /// searches.
+    /// Returns the cars at the cells from `from` on and before `to`, where `from` is at most `to`. They are found by
+    /// two binary searches.
     pub fn between(&self, from: u32, to: u32) -> &[Car]
         requires { from ≤ to }
         ensures { result.now ≡ cars_from from (map (vehicle_at self.now) (range_with_len from (to - from))) }
@@ -99,8 +99,8 @@ impl Road {
         &self.cars()[first..end]
     }
 
-    /// The free cells in front of a car, up to the next car or blocked cell, at most `GREATEST_SPEED` (the `j - 1` of
-    /// Nagel and Schreckenberg, J. Phys. I France 2 (1992) 2221, with blocked cells beside it).
+    /// Counts the free cells in front of a car, up to the next car or blocked cell, at most `GREATEST_SPEED` (the
+    /// `j - 1` of Nagel and Schreckenberg, J. Phys. I France 2 (1992) 2221, with blocked cells beside it).
     ///
     /// `place` is the car's place in [`Road::cars`], and `blocks` are the blocked cells, rising. A block behind the
     /// car or under it does not count. The road has no end here: all cells past the last car that are not blocked are
@@ -114,8 +114,8 @@ impl Road {
         self.gap_to(place, blocks, reached_blocks(blocks, cell))
     }
 
-    // The free cells in front of a car, where it is known how many of the blocked cells are not in front of it: the
-    // first `reached`. Nothing is searched.
+    // Counts the free cells in front of a car, where the first `reached` of the blocked cells are not in front of it.
+    // Nothing is searched.
     fn gap_to(&self, place: usize, blocks: &[u32], reached: usize) -> u8
         requires car { place < length (cars_of self.now) }
         requires rising { IsNonDecreasing blocks.now }
@@ -128,11 +128,11 @@ impl Road {
         to_car.min(to_block)
     }
 
-    /// A copy of the road, in one growth, or none where no car is on it.
+    /// Copies the road, in one allocation, or in none where no car is on it.
     ///
     /// # Errors
     ///
-    /// `OutOfMemory` where that growth is refused.
+    /// `OutOfMemory` where that allocation failed.
     pub fn copied(&self) -> Result<Road, OutOfMemory>
         ensures { IfOk result (λ road. road ≡ self.now) }
     {
@@ -142,7 +142,7 @@ impl Road {
     }
 }
 
-// The free cells in front of a car, as far as the next car.
+// Counts the free cells in front of a car, as far as the next car.
 fn free_to_car(cars: &[Car], place: usize) -> u8
     requires car { place < length cars.now }
     requires rising { AreRising cars.now }
@@ -155,7 +155,7 @@ fn free_to_car(cars: &[Car], place: usize) -> u8
     }
 }
 
-// The free cells in front of a cell, as far as the next blocked cell.
+// Counts the free cells in front of a cell, as far as the next blocked cell.
 fn free_to_block(cell: u32, blocks: &[u32], reached: usize) -> u8
     requires rising { IsNonDecreasing blocks.now }
     requires parted { ArePartedAt blocks.now cell reached }
@@ -167,7 +167,7 @@ fn free_to_block(cell: u32, blocks: &[u32], reached: usize) -> u8
     }
 }
 
-// The cells between two cells, at most `GREATEST_SPEED`.
+// Counts the cells between two cells, at most `GREATEST_SPEED`.
 fn free_between(cell: u32, next: u32) -> u8
     requires { cell < next }
     ensures { result ≡ min GREATEST_SPEED (next - (cell + 1)) }

@@ -21,8 +21,8 @@ pub struct Totals {
 }
 
 impl Totals {
-    /// These totals and those of further steps, in one. Both sums must be below 2^32, as those of a run are up to the
-    /// greatest horizon ([`crate::laws::totals_of_the_longest_run`]). It takes no memory.
+    /// Adds the totals of further steps. Both sums must be below 2^32, as those of a run are up to the greatest horizon
+    /// ([`crate::laws::totals_of_the_longest_run`]). It takes no memory.
     pub fn plus(self, later: Totals) -> Totals
         requires cars { self.cars + later.cars < 2 ^ 32 }
         requires speeds { self.speeds + later.speeds < 2 ^ 32 }
@@ -35,8 +35,8 @@ impl Totals {
     }
 }
 
-/// What a detector counts in a step: the cars that stand before its site and come to it or past it, those that are then
-/// deleted too, and the sum of their new speeds. Nothing where the detector is off.
+/// Counts what a detector counts in a step: the cars that stand before its site and come to it or past it, those that
+/// are then deleted too, and the sum of their new speeds. Nothing where the detector is off.
 ///
 /// The plan must have the detector. `speeds` has one speed for each car, in the order of the cars, and may be any
 /// speeds. The cars before the site are found by one search; only those from which the greatest of the speeds can reach
@@ -49,7 +49,7 @@ pub fn passes(input: &StepInput, speeds: &[u8], detector: u32) -> Totals
     passes_from(input, speeds, detector, greatest_speed(speeds), usize::MAX).totals
 }
 
-/// The greatest of these speeds, 0 where there is none. It takes no memory.
+/// Finds the greatest of these speeds, 0 where there is none. It takes no memory.
 pub fn greatest_speed(speeds: &[u8]) -> u8
     ensures bound { (i : ℕ) → slice_index speeds.now i ≤ result }
     ensures least { (most : ℕ) → ((i : ℕ) → slice_index speeds.now i ≤ most) → result ≤ most }
@@ -70,10 +70,10 @@ pub struct Passed {
     pub before: usize,
 }
 
-/// What a detector of the plan counts in a step, as [`passes`], where it is known that no speed is above `greatest`, in
-/// cells per step: only the cars from which such a speed can reach the site are looked at. `speeds` has one speed for
-/// each car. About as many cars as `near` stand before the site: where it is a few less, as after a detector that is a
-/// little before this one, nothing is searched. It takes no memory.
+/// Counts what a detector of the plan counts in a step, as [`passes`], where no speed is above `greatest`, in cells per
+/// step: only the cars from which such a speed can reach the site are looked at. `speeds` has one speed for each car.
+/// About as many cars as `near` stand before the site: where it is a few less, as after a detector that is a little
+/// before this one, nothing is searched. It takes no memory.
 pub fn passes_from(
     input: &StepInput,
     speeds: &[u8],
@@ -87,7 +87,6 @@ pub fn passes_from(
     ensures totals { result.totals ≡ passes_at input.now speeds.now detector }
     ensures before { result.before ≡ before_at input.now detector }
 {
-    input.known();
     if !input.settings().watched()[detector as usize] {
         return Passed {
             totals: Totals { cars: 0, speeds: 0 },
@@ -102,7 +101,7 @@ pub fn passes_from(
     }
 }
 
-// How many cars stand before a site: looked for among the few behind the first `near` ones, else searched.
+// Counts the cars before a site: looked for among the few behind the first `near` ones, else searched.
 fn place_of(road: &Road, site: u32, near: usize) -> usize
     ensures { result ≡ cars_before site (cars_of road.now) }
 {
@@ -118,7 +117,7 @@ fn place_of(road: &Road, site: u32, near: usize) -> usize
     road.cars_before(site)
 }
 
-// The cars that pass a site, where no speed is above `greatest`, and so many stand before it.
+// Counts the cars that pass a site, where no speed is above `greatest`, and so many stand before it.
 fn counted(road: &Road, speeds: &[u8], site: u32, greatest: u8, before: usize) -> Totals
     requires one_each { length speeds.now ≡ length (cars_of road.now) }
     requires short { length road.now ≤ GREATEST_LENGTH }

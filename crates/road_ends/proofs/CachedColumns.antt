@@ -1,4 +1,4 @@
--- The columns that are kept for a step.
+-- The columns of a step.
 use Rattle.std.proofs.Common.{◌≡◌, ℕ, List, [], ap, length, arith}
 use Rattle.road_plan.specs.declared.parts.WordKind.{WordKind}
 use Rattle.road_cells.specs.Array.{Array}

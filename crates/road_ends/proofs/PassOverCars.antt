@@ -113,7 +113,7 @@ module _ (p : Plan) (s : Settings) (t : ℕ) (a : Array) where
       named (nth_car cars k).number step ∙ (λ i. word p.words (nth_car (all i) k).number (now i)) in
       is ∙ (λ i. slowed_speed (wish i) (comes_about (drawn i) (chance_at (nth_car (all i) k).speed (slice_index (started i) (in_zone i)) (slice_index (chanced i) (in_zone i)))))
 
-  -- the same, by the high16 that is kept of the word
+  -- the same, by the upper 16 bits that are cached of the word
   pub read_cached_speed : (cars : List Car) (high16s blocks limits starts chances : List ℕ) (k zone free wished v : ℕ) → Fits p s → length a ≤ p.cells → AreHigh16s p.words t a high16s → k < length high16s
       → cars ≡ cars_of a → blocks ≡ s.blocks → limits ≡ s.limits → starts ≡ s.starts → chances ≡ s.chances → zone ≡ zone_of p (cell_at (cars_of a) k)
       → free ≡ free_cells blocks a (cell_at (cars_of a) k)

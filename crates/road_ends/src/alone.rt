@@ -27,8 +27,8 @@ pub struct Stepped {
     pub road: Road,
 }
 
-/// One step of the road, computed by this one caller: entries, speeds, motion, deletion. The settings must fit the
-/// plan. The meter counts the step once it is computed.
+/// Computes one step of the road by this one caller: entries, speeds, motion, deletion. The settings must fit the plan.
+/// The meter counts the step once it is computed.
 ///
 /// # Errors
 ///
@@ -61,8 +61,8 @@ pub fn step_alone(
     })
 }
 
-/// One step of the road, as [`step_alone`], of a run whose words are drawn for 64 steps at once. The settings must fit
-/// the plan, and the words must be the plan's. No meter counts it.
+/// Computes one step of the road, as [`step_alone`], of a run whose words are drawn for 64 steps at once. The settings
+/// must fit the plan, and the words must be the plan's. No meter counts it.
 ///
 /// # Errors
 ///

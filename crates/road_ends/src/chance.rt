@@ -21,7 +21,7 @@ pub(crate) struct Chances {
 }
 
 impl Chances {
-    // That of a car, by its speed before the acceleration.
+    // Returns that of a car, by its speed before the acceleration.
     #[inline(always)]
     pub(crate) fn at(self, speed: u8) -> u32
         ensures { result ≡ chance_at speed self.standing self.moving }
@@ -33,7 +33,7 @@ impl Chances {
         }
     }
 
-    // Whether neither leaves anything to a word.
+    // Answers whether neither leaves anything to a word.
     pub(crate) fn are_closed(self) -> bool
         ensures { result ≡ (is_closed self.standing && is_closed self.moving) }
     {
@@ -41,19 +41,20 @@ impl Chances {
     }
 }
 
-// Whether a chance leaves nothing to a word: it never comes, or always.
+// Answers whether a chance leaves nothing to a word: it never comes, or always.
 fn is_closed(chance: u32) -> bool
     ensures { result ≡ is_closed chance }
 {
     chance == 0 || chance >= CERTAIN
 }
 
-// Whether one of these chances leaves its event to a word.
+// Answers whether one of these chances leaves its event to a word.
 pub(crate) fn is_any_open(chances: &[u32]) -> bool {
     chances.iter().any(|chance| !is_closed(*chance))
 }
 
-// Whether an inlet's word at a step has its event under a chance. It is drawn only where the chance leaves that open.
+// Answers whether an inlet's word at a step has its event under a chance. It is drawn only where the chance leaves that
+// open.
 pub(crate) fn has_inflow(
     words: &mut WordCache,
     inlet: usize,
@@ -74,8 +75,8 @@ pub(crate) fn has_inflow(
     Ok(u32::from(high16) < chance)
 }
 
-// Whether the word at a place of a stream has its event under a chance. It is drawn only where the chance leaves that
-// open.
+// Answers whether the word at a place of a stream has its event under a chance. It is drawn only where the chance
+// leaves that open.
 fn has_event(words: &PlanWords, stream: u64, place: u64, chance: u32) -> bool
     ensures { result ≡ comes_about (⟦<PlanWords as Words>⟧.word_of words.now stream place) chance }
 {
@@ -85,7 +86,7 @@ fn has_event(words: &PlanWords, stream: u64, place: u64, chance: u32) -> bool
     chance >= CERTAIN || words.word(stream, place) >> 16 < chance
 }
 
-// A speed after rule 3, by the word at a place of a stream. It is drawn only where it can change the speed.
+// Applies rule 3 by the word at a place of a stream. It is drawn only where it can change the speed.
 #[inline(never)]
 pub(crate) fn slowed_by_chance(
     words: &PlanWords,
@@ -103,7 +104,7 @@ pub(crate) fn slowed_by_chance(
     }
 }
 
-// A speed after rule 3, by a chance that leaves nothing to the word.
+// Applies rule 3 by a chance that leaves nothing to the word.
 pub(crate) fn slowed_without_word(speed: u8, chance: u32) -> u8
     requires { is_closed chance ≡ true }
     ensures { (word : ℕ) → word < 2 ^ 32 → result ≡ slowed_speed speed (comes_about word chance) }
@@ -111,7 +112,7 @@ pub(crate) fn slowed_without_word(speed: u8, chance: u32) -> u8
     speed.saturating_sub(u8::from(chance > 0))
 }
 
-// A speed after rule 3, by the upper 16 bits of its word. Where the speed is 0 it may be any number.
+// Applies rule 3 by the upper 16 bits of the word. Where the speed is 0 these may be any number.
 pub(crate) fn slowed_by_high16(high16: u16, speed: u8, chance: u32) -> u8
     ensures { (word : ℕ) → (0 < speed → high16 ≡ word / 65536) → result ≡ slowed_speed speed (comes_about word chance) }
 {

@@ -18,7 +18,7 @@ pub(crate) struct Columns {
 }
 
 impl Columns {
-    // Columns of no car. It takes no memory.
+    // Makes columns of no car. It takes no memory.
     pub(crate) fn empty(alloc: Global) -> Columns
         ensures cells { result.cells.items ≡ [] }
         ensures speeds { result.speeds.items ≡ [] }

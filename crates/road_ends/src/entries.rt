@@ -3,6 +3,7 @@
 ghost use Rattle.std.specs.Prelude.{◌≡◌, ℕ, ◌≤◌, ◌<◌, length, nat_eq, None, IfOk};
 ghost use Rattle.std.specs.List.{position};
 ghost use Rattle.std.specs.Option.{option_map, option_or};
+ghost use Rattle.road_plan.specs.Plan.{IsWithinLimits};
 ghost use Rattle.road_plan.specs.Settings.{Fits};
 ghost use Rattle.road_cells.specs.Array.{vehicle_at};
 ghost use Rattle.road_cells.specs.Cars.{car_of};
@@ -16,9 +17,9 @@ use road_plan::limits::MOST_INLETS;
 use road_plan::{Plan, Settings};
 use std::alloc::Global;
 
-// The road with the cars that enter at a step: at each inlet whose cell is empty and not blocked, and whose word has
-// its event under the inflow chance. Cars past the road's end are left out. The cars between two inlets are copied as
-// they are, in one growth for all, or in the memory of a road before.
+// Makes the road with the cars that enter at a step: at each inlet whose cell is empty and not blocked, and whose word
+// has its event under the inflow chance. Cars past the road's end are left out. The cars between two inlets are copied
+// as they are, in one allocation for all, or in the memory of a road before.
 #[inline(never)]
 pub(crate) fn entered(
     alloc: Global,
@@ -32,9 +33,9 @@ pub(crate) fn entered(
     requires words { words.old ≡ plan.now.words }
     ensures moving { IfOk result (λ moving. moving ≡ road_with_entries plan.now settings.now step road.now) }
     ensures on_road { IfOk result (λ moving. length moving ≤ plan.now.cells) }
+    ensures within { IfOk result (λ _. IsWithinLimits plan.now) }
     ensures unchanged { words.new ≡ words.old }
 {
-    plan.known();
     words.resize_slots(road.cars().len())?;
     let mut cars = words.list(alloc);
     cars.reserve(road.cars().len() + plan.inlets().len())?;
@@ -53,7 +54,7 @@ pub(crate) fn entered(
     Ok(Road::of(cars))
 }
 
-// The first cell of an inlet from a cell on, or `end` where none is before it.
+// Finds the first cell of an inlet from a cell on, or `end` where none is before it.
 fn next_inlet(inlets: &[(u32, u32)], cell: u32, end: u32) -> u32
     requires { cell ≤ end }
     ensures from { cell ≤ result }
@@ -69,7 +70,7 @@ fn next_inlet(inlets: &[(u32, u32)], cell: u32, end: u32) -> u32
     next
 }
 
-// The car that stands at a cell, or else the one that enters there, as the one of that place in the list of cars.
+// Finds the car that stands at a cell, or else lets one enter there, as the one of that place in the list of cars.
 fn standing_or_entering(
     plan: &Plan,
     settings: &Settings,
@@ -91,7 +92,7 @@ fn standing_or_entering(
     }
 }
 
-// The car that enters at a cell, where that is an inlet's, as the one of that place in the list of cars.
+// Lets a car enter at a cell, where that is an inlet's, as the one of that place in the list of cars.
 fn entering(
     plan: &Plan,
     settings: &Settings,
@@ -105,7 +106,6 @@ fn entering(
     ensures car { IfOk result (λ car. car ≡ option_map (car_of cell) (entry_at plan.now settings.now step cell)) }
     ensures unchanged { words.new ≡ words.old }
 {
-    plan.known();
     let Some(inlet) = inlet_at(plan.inlets(), cell) else {
         return Ok(None);
     };
@@ -123,7 +123,7 @@ fn entering(
     }))
 }
 
-// The index of the inlet at a cell.
+// Finds the index of the inlet at a cell.
 fn inlet_at(inlets: &[(u32, u32)], cell: u32) -> Option<usize>
     ensures { result ≡ position (λ inlet. nat_eq cell inlet.0) inlets.now }
 {

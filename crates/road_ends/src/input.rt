@@ -4,6 +4,7 @@ ghost use Rattle.std.specs.Prelude.{◌≡◌, ◌≤◌, length, IfOk, IfSome};
 ghost use Rattle.std.specs.Arc.{arc_value};
 ghost use Rattle.std.specs.Box.{box_value};
 ghost use Rattle.road_plan.specs.Plan.{IsWithinLimits};
+ghost use Rattle.road_plan.specs.declared.limits.TheConstants.{GREATEST_LENGTH};
 ghost use Rattle.road_plan.specs.Settings.{Fits};
 ghost use Rattle.road_ends.specs.Input.{input_of, input_speeds};
 ghost use Rattle.road_ends.specs.Private.StepColumns.{AreColumns, AreHigh16s};
@@ -38,6 +39,7 @@ impl Model for StepInput {
     ghost use Rattle.std.specs.Prelude.{◌≤◌, length, IfSome};
     ghost use Rattle.std.specs.Arc.{arc_value};
     ghost use Rattle.std.specs.Box.{box_value};
+    ghost use Rattle.road_plan.specs.Plan.{IsWithinLimits};
     ghost use Rattle.road_plan.specs.Settings.{Fits};
     ghost use Rattle.road_ends.specs.Input.{StepInput};
     ghost use Rattle.road_ends.specs.Private.StepColumns.{AreColumns, AreHigh16s};
@@ -47,7 +49,8 @@ impl Model for StepInput {
     ghost view = { λ input. record
         { plan = arc_value input.plan; settings = arc_value input.settings; step = input.step; road = input.road } };
 
-    ghost invariant = { λ input. Fits (arc_value input.plan) (arc_value input.settings)
+    ghost invariant = { λ input. IsWithinLimits (arc_value input.plan)
+        × Fits (arc_value input.plan) (arc_value input.settings)
         × (length input.road ≤ (arc_value input.plan).cells)
         × IfSome input.columns (λ columns.
         AreHigh16s (arc_value input.plan).words input.step input.road (box_value columns).high16s.items
@@ -55,50 +58,53 @@ impl Model for StepInput {
 }
 
 impl StepInput {
-    /// The step.
+    /// Returns the number of the step.
     pub fn step(&self) -> u32
         ensures { result ≡ self.now.step }
     {
         self.step
     }
 
-    /// The road with the cars that have entered in this step, before they move.
+    /// Returns the road with the cars that have entered in this step, before they move.
     pub fn road(&self) -> &Road
-        ensures { result.now ≡ self.now.road }
+        ensures road { result.now ≡ self.now.road }
+        ensures on_road { length self.now.road ≤ self.now.plan.cells }
+        ensures short { length self.now.road ≤ GREATEST_LENGTH }
     {
         &self.road
     }
 
-    // The road and the columns, where the rest is no longer needed. It takes no memory.
+    // Takes the road and the columns out, where the rest is no longer needed. It takes no memory.
     pub(crate) fn into_parts(self) -> (Road, Option<Box<Columns>>) {
         let StepInput { road, columns, .. } = self;
         (road, columns)
     }
 
-    /// The plan.
+    /// Returns the plan.
     pub fn plan(&self) -> &Plan
-        ensures { result.now ≡ self.now.plan }
+        ensures plan { result.now ≡ self.now.plan }
+        ensures within { IsWithinLimits self.now.plan }
     {
         &self.plan
     }
 
-    /// The settings of the step.
+    /// Returns the settings of the step.
     pub fn settings(&self) -> &Settings
-        ensures { result.now ≡ self.now.settings }
+        ensures settings { result.now ≡ self.now.settings }
+        ensures fits { Fits self.now.plan self.now.settings }
     {
         &self.settings
     }
 
-    /// The new speeds of all cars of the step, in their order.
+    /// Computes the new speeds of all cars of the step, in their order.
     ///
     /// # Errors
     ///
-    /// `OutOfMemory` where their growth is refused.
+    /// `OutOfMemory` where the allocation of their list failed.
     #[tactic(auto, using(crate::proofs::CachedColumns::no_high16s, crate::proofs::CachedColumns::no_columns))]
     pub fn speeds(&self, alloc: Global) -> Result<Vec<u8>, OutOfMemory>
         ensures { IfOk result (λ new. new.items ≡ input_speeds self.now) }
     {
-        self.known();
         let (plan, settings, road) = (&self.plan, &self.settings, &self.road);
         match &self.columns {
             Some(columns) => speeds(alloc, plan, settings, self.step, road, columns),
@@ -108,23 +114,14 @@ impl StepInput {
             }
         }
     }
-
-    /// Tells a proof that the settings fit the plan, and that all cars stand on the road. It does nothing.
-    pub fn known(&self)
-        ensures settings { Fits self.now.plan self.now.settings }
-        ensures on_road { length self.now.road ≤ self.now.plan.cells }
-        ensures within { IsWithinLimits self.now.plan }
-    {
-        self.plan.known();
-    }
 }
 
-/// The input of a step: the road with the cars that enter in it, beside the plan, the settings and the step. The
+/// Makes the input of a step: the road with the cars that enter in it, beside the plan, the settings and the step. The
 /// settings must fit the plan.
 ///
 /// # Errors
 ///
-/// `OutOfMemory` where the growth of the new road, of an inlet's words, of the settings or of the input is refused, or
+/// `OutOfMemory` where an allocation failed, of the new road, of an inlet's words, of the settings or of the input, or
 /// the plan can have no more owners.
 pub fn enter(
     alloc: Global,
@@ -150,12 +147,12 @@ pub fn enter(
     Ok(Arc::new(alloc, input)?)
 }
 
-/// The input of a step, as [`enter`], of a run whose words are drawn for 64 steps at once. The settings must fit the
-/// plan, and the words must be the plan's.
+/// Makes the input of a step, as [`enter`], of a run whose words are drawn for 64 steps at once. The settings must fit
+/// the plan, and the words must be the plan's.
 ///
 /// # Errors
 ///
-/// `OutOfMemory` where the growth of the new road, of its words or of the input is refused, or the plan can have no
+/// `OutOfMemory` where an allocation failed, of the new road, of its words or of the input, or the plan can have no
 /// more owners. The words are the plan's as before.
 pub fn enter_with(
     alloc: Global,
@@ -171,7 +168,6 @@ pub fn enter_with(
         ≡ input_of (arc_value plan.now) (arc_value settings) step road.now) }
     ensures unchanged { words.new ≡ words.old }
 {
-    plan.known();
     let road = entered(alloc, plan, &settings, step, road, words)?;
     let columns = columns_of(alloc, &settings, step, &road, words)?;
     let plan = Arc::try_clone(plan)?;
@@ -185,7 +181,7 @@ pub fn enter_with(
     Ok(Arc::new(alloc, input)?)
 }
 
-// The columns of a road's cars at a step; none where no chance leaves a slowing to the cars' words.
+// Makes the columns of a road's cars at a step; none where no chance leaves a slowing to the cars' words.
 fn columns_of(
     alloc: Global,
     settings: &Settings,

@@ -45,14 +45,14 @@ pub fn cars_stop_at_blocks(plan: &Plan)
 pub fn cars_have_own_numbers(plan: &Plan)
     ensures { HaveOwnNumbers plan.now }
 {
-    plan.known();
+    let _ = plan.length();
 }
 
 /// Each car is before the deleted zone, at most as fast as the greatest speed, and numbered by a step that was before.
 pub fn cars_stay_on_road(plan: &Plan)
     ensures { StayOnRoad plan.now }
 {
-    plan.known();
+    let _ = plan.length();
 }
 
 /// Up to the greatest horizon each car's number is below 2^24.

@@ -19,14 +19,14 @@ impl Model for Meter {
 }
 
 impl Meter {
-    /// A meter that has counted nothing.
+    /// Makes a meter that has counted nothing.
     pub fn new() -> Self
         ensures { result ≡ 0 }
     {
         Meter { ticks: 0 }
     }
 
-    /// The steps counted, at most 2^64 - 1.
+    /// Returns the steps counted, at most 2^64 - 1.
     pub fn ticks(&self) -> u64
         ensures { result ≡ self.now }
     {

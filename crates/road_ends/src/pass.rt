@@ -55,7 +55,7 @@ struct Zone {
     chances: Chances,
 }
 
-// The new speeds of all cars, in the order of the cars, in one growth.
+// Computes the new speeds of all cars, in the order of the cars, in one allocation.
 pub(crate) fn speeds(
     alloc: Global,
     plan: &Plan,
@@ -74,10 +74,10 @@ pub(crate) fn speeds(
     Ok(speeds_between(alloc, plan, settings, step, road, columns, 0, count)?)
 }
 
-// The new speeds of the cars at the places from `first` to before `end`, in the order of the cars. It is one pass over
-// these cars from their far end, in one growth, and from stretch to stretch: the first car of each finds its zone and
-// the next blocked cell, and the cars behind it in the stretch share them, so that nothing is looked up for them. A
-// word is drawn only where its upper 16 bits are not given and it can change a speed.
+// Computes the new speeds of the cars at the places from `first` to before `end`, in the order of the cars. It is one
+// pass over these cars from their far end, in one allocation, and from stretch to stretch: the first car of each finds
+// its zone and the next blocked cell, and the cars behind it in the stretch share them, so that nothing is looked up
+// for them. A word is drawn only where its upper 16 bits are not given and it can change a speed.
 #[inline(never)]
 pub(crate) fn speeds_between(
     alloc: Global,
@@ -97,7 +97,6 @@ pub(crate) fn speeds_between(
     requires within { end ≤ length (cars_of road.now) }
     ensures { IfOk result (λ new. new.items ≡ slice_range (speeds plan.now settings.now step road.now) first end) }
 {
-    plan.known();
     let words = PlanWords::of(plan);
     let cars = road.cars();
     let width = plan.width();
@@ -124,8 +123,8 @@ pub(crate) fn speeds_between(
     Ok(new)
 }
 
-// The new speeds of the cars of a stretch at the places `from` to before `to`, in a list whose first car is at the
-// place `first`; the car at `to` is in front of them.
+// Writes the new speeds of the cars of a stretch at the places `from` to before `to`, into a list whose first car is at
+// the place `first`; the car at `to` is in front of them.
 #[inline(always)]
 fn speeds_behind(
     words: &PlanWords,
@@ -185,7 +184,7 @@ fn speeds_behind(
     }
 }
 
-// The cell of a car, or a cell past all roads where there is no such car.
+// Returns the cell of a car, or a cell past all roads where there is no such car.
 fn cell_at(cars: &[Car], place: usize) -> u32
     ensures { IsNthOrNowhere (length cars.now) place (cell_at cars.now place) result }
 {
@@ -195,7 +194,7 @@ fn cell_at(cars: &[Car], place: usize) -> u32
     }
 }
 
-// Where the pass begins: in front is a car at most, no blocked cell counts as reached yet, and no zone is looked up.
+// Begins the pass: in front is a car at most, no blocked cell counts as reached yet, and no zone is looked up.
 fn far_end(blocks: &[u32], next: u32) -> Cursor
     ensures next { result.next ≡ next }
     ensures reached { result.block.reached ≡ length blocks.now }
@@ -219,7 +218,7 @@ fn far_end(blocks: &[u32], next: u32) -> Cursor
     }
 }
 
-// The zone of a cell, with those before it that are alike: looked up where the cell lies before the last ones.
+// Finds the zone of a cell, with those before it that are alike: looked up where the cell lies before the last ones.
 #[inline(always)]
 fn zone_at(
     width: u32,
@@ -253,7 +252,7 @@ fn zone_at(
     }
 }
 
-// The first of the zones up to a zone that have its speed limit and its slowing chances, one beside the other.
+// Finds the first of the zones up to a zone that have its speed limit and its slowing chances, one beside the other.
 fn first_alike(limits: &[u32], starts: &[u32], chances: &[u32], zone: usize) -> usize
     requires limits { zone < length limits.now }
     requires starts { zone < length starts.now }
@@ -273,7 +272,7 @@ fn first_alike(limits: &[u32], starts: &[u32], chances: &[u32], zone: usize) -> 
     first
 }
 
-// The first blocked cell in front of a cell that is not in front of where the pass stood.
+// Finds the first blocked cell in front of a cell that is not in front of where the pass stood.
 #[inline(always)]
 fn block_ahead(blocks: &[u32], cell: u32, last: Block) -> Block
     requires rising { IsNonDecreasing blocks.now }
@@ -298,7 +297,8 @@ fn block_ahead(blocks: &[u32], cell: u32, last: Block) -> Block
     }
 }
 
-// The new speed of a car, where the pass stands: by the upper 16 bits of its word, where these are given, and else by its word.
+// Computes the new speed of a car, where the pass stands: by the upper 16 bits of its word, where these are given, and
+// else by its word.
 #[inline(always)]
 fn new_speed(
     words: &PlanWords,
@@ -330,7 +330,7 @@ fn new_speed(
     slowed_by_chance(words, car.number, u64::from(step), wished, chance)
 }
 
-// The cells between two cells, at most `GREATEST_SPEED`.
+// Counts the cells between two cells, at most `GREATEST_SPEED`.
 fn free_between(cell: u32, next: u32) -> u8
     requires { cell < next }
     ensures { result ≡ min GREATEST_SPEED (next - (cell + 1)) }

@@ -13,11 +13,10 @@ use road_plan::Plan;
 use road_rules::{moved, moved_in_place};
 use std::alloc::Global;
 
-/// The road without the cars in its deleted zone or past it. It takes no memory.
+/// Deletes the cars in the road's deleted zone or past it. It takes no memory.
 pub fn leave(plan: &Plan, road: Road) -> Road
     ensures { result ≡ road_before_exit plan.now road }
 {
-    plan.known();
     let end = plan.length() - plan.exit();
     let mut cars = road.into_cars();
     let staying = cars.partition_point(|car| car.cell < end);
@@ -25,29 +24,28 @@ pub fn leave(plan: &Plan, road: Road) -> Road
     Road::of(cars)
 }
 
-/// The road after a step, from its input and the new speeds of its cars: motion, then deletion. The speeds must be
-/// those that [`StepInput::speeds`] gives.
+/// Makes the road after a step, from its input and the new speeds of its cars: motion, then deletion. The speeds must
+/// be those that [`StepInput::speeds`] gives.
 ///
 /// # Errors
 ///
-/// `OutOfMemory` where the growth of the new road is refused.
+/// `OutOfMemory` where the allocation of the new road failed.
 pub fn finish(alloc: Global, input: &StepInput, speeds: &[u8]) -> Result<Road, OutOfMemory>
     requires { speeds.now ≡ input_speeds input.now }
     ensures step { IfOk result (λ later. later ≡ input_next input.now) }
     ensures parts { IfOk result (λ later. later
         ≡ road_before_exit input.now.plan (array_after_motion_at speeds.now input.now.road)) }
 {
-    input.known();
     let moved = moved(alloc, input.road(), speeds)?;
     Ok(leave(input.plan(), moved))
 }
 
-/// The road after a step, as [`finish`], in memory that these words keep where there is some. The speeds must be those
-/// that [`StepInput::speeds`] gives.
+/// Makes the road after a step, as [`finish`], in memory that these words keep where there is some. The speeds must be
+/// those that [`StepInput::speeds`] gives.
 ///
 /// # Errors
 ///
-/// `OutOfMemory` where the growth of the new road is refused. The words are as before.
+/// `OutOfMemory` where the allocation of the new road failed. The words are as before.
 pub fn finish_with(
     alloc: Global,
     input: &StepInput,
@@ -58,7 +56,6 @@ pub fn finish_with(
     ensures step { IfOk result (λ later. later ≡ input_next input.now) }
     ensures unchanged { words.new ≡ words.old }
 {
-    input.known();
     let mut cars = words.list(alloc);
     cars.extend_from_slice(input.road().cars())?;
     let moved = moved_in_place(Road::of(cars), speeds);

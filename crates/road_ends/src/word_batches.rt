@@ -1,4 +1,4 @@
-//! Batches of words that are drawn once and kept.
+//! Batches of words that are drawn once and cached.
 
 ghost use Rattle.std.specs.Prelude.{◌≡◌, ◌-◌, ◌/◌, ◌%◌, IfOk, IfSome};
 ghost use Rattle.road_words.specs.Words.{word};
@@ -15,8 +15,8 @@ pub(crate) const BATCH_STEPS: u32 = BATCH_WORDS as u32;
 // A slot of no batch.
 pub(crate) const NO_BATCH: u32 = u32::MAX;
 
-// How many batches are kept at most: one for each cell of the longest road, and one for each car that can enter it in a
-// batch's steps. Where there are more, as after calls for roads that do not follow one another, they are drawn anew.
+// How many batches are cached at most: one for each cell of the longest road, and one for each car that can enter it in
+// a batch's steps. Where there are more, as after calls for roads that do not follow one another, they are drawn anew.
 const MOST_BATCHES: usize = 66_560;
 
 // Batches of the words of one kind, all for the same 64 steps: of a stream's words at these steps the upper 16 bits.
@@ -40,7 +40,7 @@ pub(crate) struct Drawn {
 }
 
 impl WordBatches {
-    // No batches. It takes no memory.
+    // Makes a cache of no batches. It takes no memory.
     pub(crate) fn of(alloc: Global, kind: WordKind) -> WordBatches
         ensures { result.kind ≡ kind }
     {
@@ -52,7 +52,7 @@ impl WordBatches {
         }
     }
 
-    // The batches are for the steps round this one, from a multiple of 64 on: others are let go.
+    // Starts the batches of the steps round this one, from a multiple of 64 on: others are let go.
     #[inline(always)]
     pub(crate) fn start_batch(&mut self, step: u32)
         ensures first { self.new.first ≡ step - step % BATCH_STEPS }
@@ -65,7 +65,7 @@ impl WordBatches {
         }
     }
 
-    // The upper 16 bits of a stream's word at a step, where the batch at the slot is the stream's.
+    // Returns the upper 16 bits of a stream's word at a step, where the batch at the slot is the stream's.
     #[inline(always)]
     pub(crate) fn cached(&mut self, slot: u32, stream: u64, step: u32) -> Option<u16>
         ensures high16 { IfSome result (λ high16. high16 ≡ word self.old.kind stream step / 65536) }
@@ -75,7 +75,7 @@ impl WordBatches {
         self.cached_now(slot, stream, step)
     }
 
-    // The same, where the batches are for the steps round this one.
+    // Returns the same, where the batches are for the steps round this one.
     #[inline(always)]
     pub(crate) fn cached_now(&self, slot: u32, stream: u64, step: u32) -> Option<u16>
         requires { self.now.first ≡ step - step % BATCH_STEPS }
@@ -89,7 +89,7 @@ impl WordBatches {
         }
     }
 
-    // The upper 16 bits of a stream's word at a step, by a batch that is drawn for it.
+    // Draws a batch for a stream, and returns the upper 16 bits of its word at a step.
     #[inline(never)]
     pub(crate) fn draw(&mut self, stream: u64, step: u32) -> Result<Drawn, OutOfMemory>
         ensures high16 { IfOk result (λ drawn. drawn.high16 ≡ word self.old.kind stream step / 65536) }

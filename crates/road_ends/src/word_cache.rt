@@ -1,4 +1,4 @@
-//! The words of a run, drawn for 64 steps at once.
+//! The cache of a run's words, drawn for 64 steps at once.
 
 ghost use Rattle.std.specs.Prelude.{◌≡◌, ℕ, [], ◌-◌, ◌<◌, ◌≤◌, ◌/◌, ◌%◌, length, slice_index, IsTrue, IfOk, IfSome};
 ghost use Rattle.road_words.specs.Words.{word};
@@ -20,9 +20,9 @@ use std::sync::Arc;
 // The stream of the first inlet's words; the others follow it.
 const FIRST_INLET_STREAM: u64 = 1 << 63;
 
-/// The words of a plan's cars and inlets, drawn for 64 steps at once: for each car that can move, and for each inlet
-/// that is open, the upper 16 bits of its words. Contracts see where the words come from: they are those of the
-/// plan whatever is kept.
+/// Caches the words of a plan's cars and inlets, drawn for 64 steps at once: for each car that can move, and for each
+/// inlet that is open, the upper 16 bits of its words. Contracts see where the words come from: they are those of the
+/// plan whatever is cached.
 ///
 /// It serves a run whose steps follow one another. After any other step it draws anew. It also keeps the memory of two
 /// roads that the run no longer needs, for the next ones: see [`WordCache::reuse`].
@@ -30,7 +30,7 @@ const FIRST_INLET_STREAM: u64 = 1 << 63;
 pub struct WordCache {
     batches: WordBatches,
     // For each car of the last step, in order, the slot of its batch.
-    cars: Vec<u32>,
+    slots: Vec<u32>,
     inlets: [u32; MOST_INLETS],
     // The memory of roads that are no longer needed: of the last one, and of the one before it.
     spare: Vec<Car>,
@@ -48,13 +48,13 @@ impl Model for WordCache {
 }
 
 impl WordCache {
-    /// The words of this plan, of which none is drawn. It takes no memory.
+    /// Makes the cache of this plan's words, of which none is drawn. It takes no memory.
     pub fn of(alloc: Global, plan: &Plan) -> WordCache
         ensures { result ≡ plan.now.words }
     {
         WordCache {
             batches: WordBatches::of(alloc, plan.words()),
-            cars: Vec::new(alloc),
+            slots: Vec::new(alloc),
             inlets: [NO_BATCH; MOST_INLETS],
             spare: Vec::new(alloc),
             older_spare: Vec::new(alloc),
@@ -74,19 +74,16 @@ impl WordCache {
     pub fn reuse_input(&mut self, input: Arc<StepInput>)
         ensures { self.new ≡ self.old }
     {
-        match Arc::try_unwrap(input) {
-            Ok(input) => {
-                let (road, columns) = input.into_parts();
-                if columns.is_some() {
-                    self.columns = columns;
-                }
-                self.reuse(road);
+        if let Ok(input) = Arc::try_unwrap(input) {
+            let (road, columns) = input.into_parts();
+            if columns.is_some() {
+                self.columns = columns;
             }
-            Err(_) => {}
+            self.reuse(road);
         }
     }
 
-    // Columns to write to: those that are kept, where there are some.
+    // Takes columns to write to: the last step's, where there are some.
     pub(crate) fn columns(&mut self, alloc: Global) -> Result<Box<Columns>, OutOfMemory>
         ensures { self.new ≡ self.old }
     {
@@ -96,7 +93,7 @@ impl WordCache {
         }
     }
 
-    // A list without cars, in memory that is kept where there is some.
+    // Takes a list without cars, in the memory of a road before where there is some.
     pub(crate) fn list(&mut self, alloc: Global) -> Vec<Car>
         ensures empty { result.items ≡ [] }
         ensures unchanged { self.new ≡ self.old }
@@ -107,25 +104,25 @@ impl WordCache {
         cars
     }
 
-    // The road has so many cars before the next step's entries: those of the last step but for the ones that left, at
-    // its end.
+    // Resizes the slots to so many cars, those before the next step's entries: the last step's but for the ones that
+    // left, at its end.
     pub(crate) fn resize_slots(&mut self, cars: usize) -> Result<(), OutOfMemory>
         ensures { self.new ≡ self.old }
     {
-        self.cars.resize(cars, NO_BATCH)
+        self.slots.resize(cars, NO_BATCH)
     }
 
-    // A car enters at a place of the list of cars.
+    // Inserts a slot for a car that enters at a place of the list of cars.
     pub(crate) fn insert_slot(&mut self, place: usize) -> Result<(), OutOfMemory>
         ensures { self.new ≡ self.old }
     {
-        if place <= self.cars.len() {
-            self.cars.insert(place, NO_BATCH)?;
+        if place <= self.slots.len() {
+            self.slots.insert(place, NO_BATCH)?;
         }
         Ok(())
     }
 
-    // The upper 16 bits of an inlet's word at a step.
+    // Returns the upper 16 bits of an inlet's word at a step.
     pub(crate) fn inlet_high16(&mut self, inlet: usize, step: u32) -> Result<u16, OutOfMemory>
         requires { inlet < MOST_INLETS }
         ensures high16 { IfOk result (λ high16. high16 ≡ word self.old (inlet_stream inlet) step / 65536) }
@@ -140,8 +137,8 @@ impl WordCache {
         Ok(drawn.high16)
     }
 
-    // Writes the upper 16 bits of the words of a road's cars at a step into a column, in one growth and as many batches as
-    // are not drawn yet.
+    // Writes the upper 16 bits of the words of a road's cars at a step into a column, in one allocation and as many
+    // batches as are not drawn yet.
     #[inline(never)]
     pub(crate) fn write_high16s(
         &mut self,
@@ -153,13 +150,13 @@ impl WordCache {
         ensures unchanged { self.new ≡ self.old }
     {
         let cars = road.cars();
-        self.cars.resize(cars.len(), NO_BATCH)?;
-        write_high16s(&mut self.batches, &mut self.cars, cars, step, column)
+        self.slots.resize(cars.len(), NO_BATCH)?;
+        write_high16s(&mut self.batches, &mut self.slots, cars, step, column)
     }
 }
 
-// Writes the upper 16 bits of the words of cars at a step into a column, by their slots. Where a batch is not drawn yet it
-// is, and has its slot then.
+// Writes the upper 16 bits of the words of cars at a step into a column, by their slots. A batch that is not drawn yet
+// is drawn, and has its slot then.
 #[inline(always)]
 fn write_high16s(
     batches: &mut WordBatches,
@@ -189,8 +186,8 @@ fn write_high16s(
     Ok(())
 }
 
-// Writes the upper 16 bits of the words of cars at a step, from a place on, as far as their batches are drawn: the place of
-// the first car whose batch is not.
+// Writes the upper 16 bits of the words of cars at a step, from a place on, as far as their batches are drawn. Returns
+// the place of the first car whose batch is not.
 #[inline(always)]
 fn filled(
     batches: &WordBatches,
@@ -220,8 +217,8 @@ fn filled(
     cars.len()
 }
 
-// The upper 16 bits of a car's word at a step, where its batch is drawn; 0 of a car that cannot move, whose word nobody asks
-// for.
+// Returns the upper 16 bits of a car's word at a step, where its batch is drawn; 0 of a car that cannot move, whose
+// word nobody asks for.
 #[inline(always)]
 fn cached_high16(
     batches: &WordBatches,
@@ -240,7 +237,7 @@ fn cached_high16(
     batches.cached_now(slot, cars[place].number, step)
 }
 
-// Whether the next car stands right in front of a car.
+// Answers whether the next car stands right in front of a car.
 fn is_held_up(cars: &[Car], place: usize) -> bool
     requires { place < length cars.now }
     ensures { IsTrue result → IsHeldUp cars.now place }

@@ -3,8 +3,8 @@
 ghost use Rattle.std.specs.Prelude.{◌≡◌, ◌-◌, ◌<◌, ◌≤◌};
 ghost use Rattle.road_rules.specs.Speeds.{wanted_speed, speed_after_acceleration, speed_after_braking, comes_about, slowed_speed};
 
-/// Rules 1 and 2 as one: the speed grows by one, but neither above the limit nor above the free cells in front, so it
-/// is the least of `speed + 1`, `limit` and `gap`. A car above a lowered limit drops to it at once.
+/// Applies rules 1 and 2 as one: the speed grows by one, but neither above the limit nor above the free cells in front,
+/// so it is the least of `speed + 1`, `limit` and `gap`. A car above a lowered limit drops to it at once.
 ///
 /// `speed` and `limit` are in cells per step, `gap` is in cells (`road_cells::Road::gap`).
 pub fn wanted(speed: u8, limit: u32, gap: u8) -> u8
@@ -14,9 +14,9 @@ pub fn wanted(speed: u8, limit: u32, gap: u8) -> u8
     wished.min(u32::from(gap)) as u8
 }
 
-/// Rules 1 and 2 as in 1992: acceleration by one where the next vehicle is far enough, then slowing to one cell less
-/// than the distance where it is too near. At a speed of at most `vmax` this is [`wanted`] with the gap `distance - 1`;
-/// a speed above `vmax` does not drop to it.
+/// Applies rules 1 and 2 as in 1992: acceleration by one where the next vehicle is far enough, then slowing to one cell
+/// less than the distance where it is too near. At a speed of at most `vmax` this is [`wanted`] with the gap
+/// `distance - 1`; a speed above `vmax` does not drop to it.
 ///
 /// `distance`, at least 1, is that in cells to the next vehicle: one more than the free cells.
 pub fn two_rules(speed: u8, vmax: u8, distance: u32) -> u8
@@ -34,7 +34,7 @@ pub fn two_rules(speed: u8, vmax: u8, distance: u32) -> u8
     speed
 }
 
-/// Rule 3, randomization: a speed above 0 falls by one where the word has its event under the chance.
+/// Applies rule 3, randomization: a speed above 0 falls by one where the word has its event under the chance.
 ///
 /// The chance is in 1/65,536. Its event comes where the upper 16 bits of the word are below it: never at 0, and always
 /// from 65,536 on.

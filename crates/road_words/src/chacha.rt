@@ -16,7 +16,7 @@ pub struct ChaChaWords {
 }
 
 impl ChaChaWords {
-    /// The words under the key of this seed: its eight big-endian bytes, then 24 zeros. Takes no memory.
+    /// Makes the words under the key of this seed: its eight big-endian bytes, then 24 zeros. It takes no memory.
     pub fn new(seed: u64) -> Self
         ensures { (stream place : ℕ) →
             ⟦<ChaChaWords as Words>⟧.word_of result stream place ≡ seeded_word seed stream place }
@@ -26,7 +26,8 @@ impl ChaChaWords {
         ChaChaWords { key }
     }
 
-    /// The upper 16 bits of the words of a stream at the places from `first` on, by one generator. Takes no memory.
+    /// Draws the upper 16 bits of the words of a stream at the places from `first` on, by one generator. It takes no
+    /// memory.
     pub fn batch(&self, stream: u64, first: u32) -> [u16; BATCH_WORDS]
         ensures { (i : ℕ) → i < BATCH_WORDS →
             slice_index result i ≡ ⟦<ChaChaWords as Words>⟧.word_of self.now stream (first + i) / 65536 }

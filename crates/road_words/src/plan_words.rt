@@ -18,7 +18,7 @@ pub enum PlanWords {
 }
 
 impl PlanWords {
-    /// The words of this plan. Takes no memory.
+    /// Makes the words of this plan. It takes no memory.
     pub fn of(plan: &Plan) -> Self
         ensures { (stream place : ℕ) →
             ⟦<PlanWords as Words>⟧.word_of result stream place ≡ word plan.now.words stream place }
@@ -26,7 +26,7 @@ impl PlanWords {
         PlanWords::of_kind(plan.words())
     }
 
-    /// The words of this kind. Takes no memory.
+    /// Makes the words of this kind. It takes no memory.
     pub fn of_kind(kind: WordKind) -> Self
         ensures { (stream place : ℕ) →
             ⟦<PlanWords as Words>⟧.word_of result stream place ≡ word kind stream place }
@@ -37,8 +37,8 @@ impl PlanWords {
         }
     }
 
-    /// The upper 16 bits of the words of a stream at the places from `first` on, which one generator gives at once.
-    /// Takes no memory.
+    /// Draws the upper 16 bits of the words of a stream at the places from `first` on, which one generator gives at
+    /// once. It takes no memory.
     pub fn batch(&self, stream: u64, first: u32) -> [u16; BATCH_WORDS]
         ensures { (i : ℕ) → i < BATCH_WORDS →
             slice_index result i ≡ ⟦<PlanWords as Words>⟧.word_of self.now stream (first + i) / 65536 }

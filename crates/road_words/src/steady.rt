@@ -9,7 +9,7 @@ use crate::words::{BATCH_WORDS, Words};
 pub struct SteadyWords;
 
 impl SteadyWords {
-    /// The upper 16 bits of the words of a stream at the places from `first` on. Takes no memory.
+    /// Draws the upper 16 bits of the words of a stream at the places from `first` on. It takes no memory.
     pub fn batch(&self, stream: u64, first: u32) -> [u16; BATCH_WORDS]
         ensures { (i : ℕ) → i < BATCH_WORDS →
             slice_index result i ≡ ⟦<SteadyWords as Words>⟧.word_of self.now stream (first + i) / 65536 }

@@ -16,17 +16,8 @@ use std::sync::Arc;
 #[derive(Clone, Copy, Debug, PartialEq, Eq)]
 pub struct Alone;
 
-impl Alone {
-    /// Tells a proof that it has never answered `WorkersGone`. It does nothing.
-    pub fn known(&self)
-        ensures { ⟦<Alone as Crew>⟧.times_gone self.now ≡ 0 }
-    {
-        let _ = self;
-    }
-}
-
 impl Crew for Alone {
-    // It has no worker that could go, so its count stays 0.
+    // Its count is 0 by definition: no worker of it can go.
     ghost times_gone = { λ _. 0 };
 
     fn speeds(&mut self, alloc: Global, input: &Arc<StepInput>) -> Result<Vec<u8>, CrewFault>

@@ -15,8 +15,8 @@ pub trait Crew {
     /// A count: how often it has answered `WorkersGone`, at most 2^64 - 1. Contracts alone see it.
     ghost times_gone: { Self → ℕ };
 
-    /// The new speeds of all cars of a step, in their order, by rules 1 to 3. They are the same for every crew and
-    /// every number of workers.
+    /// Computes the new speeds of all cars of a step, in their order, by rules 1 to 3. They are the same for every crew
+    /// and every number of workers.
     ///
     /// # Errors
     ///
@@ -26,7 +26,7 @@ pub trait Crew {
         ensures gone { times_gone self.new ≡ gone_after result (times_gone self.old) };
 }
 
-// A crew's count of answers `WorkersGone` after one more answer.
+// Counts an answer `WorkersGone` after the others.
 pub(crate) fn gone_after<T>(answer: &Result<T, CrewFault>, gone: u64) -> u64
     ensures { result ≡ gone_after answer.now gone }
 {

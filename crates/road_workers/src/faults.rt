@@ -12,7 +12,7 @@ pub enum CrewFault {
     /// A worker's thread could not be started, or has gone.
     #[error("a worker could not be started or has gone")]
     WorkersGone,
-    /// There was no memory.
+    /// An allocation failed.
     #[error("no memory")]
     OutOfMemory,
 }

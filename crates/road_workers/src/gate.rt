@@ -2,7 +2,7 @@
 
 /// What each worker passes before it computes its piece, for a program that watches its workers.
 pub trait Gate {
-    /// A worker, numbered from 0, is about to compute its piece, which may be empty.
+    /// Lets a worker pass, numbered from 0, who is about to compute its piece, which may be empty.
     fn arrive(&self, worker: u32);
 }
 

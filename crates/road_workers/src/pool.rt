@@ -20,7 +20,7 @@ use crate::gate::{Gate, NoGate};
 use crate::piece::{Piece, PieceAnswer, cars_in, list_for};
 use crate::pool::gathering::{is_taken, places_for, put_together};
 use crate::pool::job::{Done, Job};
-use crate::pool::spin::{looks_of, stay_awake};
+use crate::pool::spin::{looks_for, spin_for_message};
 use crate::pool::working::work;
 use crossbeam_channel::{Receiver, SendError, Sender, bounded};
 use road_ends::{OutOfMemory, StepInput};
@@ -96,7 +96,7 @@ impl<R: Threads + Wait + Clone + Drop + Send + 'static> Pool<R> {
     {
         let mut started = Vec::with_capacity(alloc, workers as usize)?;
         let (done, results) = bounded(alloc, workers as usize)?;
-        let looks = looks_of(&rt, workers);
+        let looks = looks_for(&rt, workers);
         let fault = start_workers(&rt, alloc, workers, looks, &gate, &done, &mut started);
         drop(done);
         if started.len() < workers as usize {
@@ -152,12 +152,12 @@ impl<R: Wait> Crew for Pool<R> {
     }
 }
 
-// The gate that does nothing, for all workers.
+// Makes the gate that does nothing, for all workers.
 fn no_gate(alloc: Global) -> Result<Arc<NoGate>, OutOfMemory> {
     Ok(Arc::new(alloc, NoGate)?)
 }
 
-// Starts the workers in their order, up to the first that cannot be started. The fault is why that was.
+// Starts the workers in their order, up to the first that cannot be started. Returns why that was.
 fn start_workers<
     R: Threads + Wait + Clone + Drop + Send + 'static,
     G: Gate + Drop + Send + Sync + 'static,
@@ -186,7 +186,7 @@ fn start_workers<
     CrewFault::WorkersGone
 }
 
-// Starts a worker, who looks so often for a job before he sleeps.
+// Starts a worker, which looks so often for a job before it sleeps.
 fn start_worker<
     R: Threads + Wait + Clone + Drop + Send + 'static,
     G: Gate + Drop + Send + Sync + 'static,
@@ -221,7 +221,7 @@ fn finish_workers<R: Threads>(rt: &R, workers: Vec<Worker>) {
     }
 }
 
-// The speeds of a step: a job for each worker, and a result for each job.
+// Computes the speeds of a step: a job for each worker, and a result for each job.
 fn speeds_by<R: Wait>(
     rt: &R,
     alloc: Global,
@@ -246,7 +246,7 @@ fn speeds_by<R: Wait>(
     put_together(whole, places, input)
 }
 
-// Sends each worker its piece, up to the first that is refused. How many were sent, and whether it was all.
+// Sends each worker its piece, up to the first that is refused. Returns how many were sent, and whether it was all.
 fn send_jobs<R: Wait>(
     rt: &R,
     input: &Arc<StepInput>,
@@ -267,7 +267,6 @@ fn send_jobs<R: Wait>(
     (count, Ok(()))
 }
 
-// Sends a worker its piece.
 fn send_job<R: Wait>(
     rt: &R,
     input: &Arc<StepInput>,
@@ -302,7 +301,7 @@ fn take_result<R: Wait>(
     ensures gathered { AreGathered input.now places.new.items }
 {
     for _ in rt.forever() {
-        stay_awake(results, looks);
+        spin_for_message(results, looks);
         let Ok(done) = results.recv(rt) else {
             return Err(CrewFault::WorkersGone);
         };

@@ -46,7 +46,7 @@ impl<R> Model for Scoped<R> {
 }
 
 impl<R: Threads + Wait> Scoped<R> {
-    /// A crew of so many workers, 1 to 16. Each passes the gate before it computes its piece.
+    /// Makes a crew of so many workers, 1 to 16. Each passes the gate before it computes its piece.
     pub fn new(rt: R, workers: u32, gate: SharedGate) -> Scoped<R>
         requires some { 0 < workers }
         requires few { workers ≤ MOST_WORKERS }
@@ -92,8 +92,8 @@ impl<'a> Promise<PieceAnswer> for SpeedsOf<'a> {
 // A worker's thread.
 type Worker<'a> = PromisedHandle<PieceAnswer, SpeedsOf<'a>>;
 
-// The speeds of a step, by workers whose threads are started and joined here. Where one cannot be started, the others
-// are joined before the answer.
+// Computes the speeds of a step, by workers whose threads are started and joined here. Where one cannot be started, the
+// others are joined before the answer.
 fn speeds_by<R: Threads + Wait>(
     rt: &R,
     alloc: Global,
@@ -172,7 +172,7 @@ fn start_worker<'s, E>(
     started.ok()
 }
 
-// What a worker does.
+// Does what a worker does: it passes the gate, and computes its piece.
 fn piece_speeds(
     alloc: Global,
     input: &StepInput,

@@ -11,7 +11,7 @@ use std::sync::Arc;
 use std::test::Fail;
 use tests_plans::{FREE, Parts, plan_of};
 
-// The input of a step on a road, where the first detector is on or off.
+// Makes the input of a step on a road, where the first detector is on or off.
 fn input_of(
     rt: &impl Abort,
     alloc: Global,
@@ -28,7 +28,7 @@ fn input_of(
     enter(alloc, plan, settings, step, road)
 }
 
-// What a detector of the plan counts.
+// Counts what a detector of the plan counts.
 fn counted(rt: &impl Abort, input: &StepInput, speeds: &[u8], detector: u32) -> Totals {
     assert!(rt; speeds.len() == input.road().cars().len());
     assert!(rt; (detector as usize) < input.plan().detectors().len());
@@ -85,7 +85,7 @@ const COUNTS: &[Count] = &[
     },
 ];
 
-// What the first detector counts in a step, and the road after it.
+// Returns what the first detector counts in a step, and the road after it.
 fn step_counted(
     rt: &impl Abort,
     alloc: Global,
@@ -101,7 +101,7 @@ fn step_counted(
     Ok((counts, later))
 }
 
-// What the detector of the free road counts.
+// Returns what the detector of the free road counts.
 fn total(
     rt: &impl Abort,
     alloc: Global,
@@ -122,7 +122,7 @@ fn total(
     Ok(totals)
 }
 
-// The detector of the free road counts as each row says.
+// Checks that the detector of the free road counts as each row says.
 fn totals_are_counted(rt: &impl Abort, alloc: Global, plan: &Arc<Plan>) -> Result<(), Fail> {
     for (row, count) in COUNTS.iter().enumerate() {
         let totals = total(rt, alloc, plan, count)?;
@@ -199,7 +199,7 @@ const PASSES: &[(&[u8], u32, u32, u32)] = &[
     (&[0, 0, 0, 0, 98, 0], 3, 0, 0),
 ];
 
-// The detectors count as each row says.
+// Checks that the detectors count as each row says.
 fn passes_are_counted(rt: &impl Abort, input: &StepInput) {
     for (row, (speeds, detector, cars, sum)) in PASSES.iter().enumerate() {
         let counts = counted(rt, input, speeds, *detector);
@@ -207,7 +207,7 @@ fn passes_are_counted(rt: &impl Abort, input: &StepInput) {
     }
 }
 
-// They do on a road of the plan.
+// Checks them on a road of the plan.
 fn count_on_road(
     rt: &impl Abort,
     alloc: Global,
@@ -219,7 +219,7 @@ fn count_on_road(
     Ok(())
 }
 
-// They do on the road of the six cars.
+// Checks them on the road of the six cars.
 fn count_six_cars(rt: &impl Abort, alloc: Global, plan: &Arc<Plan>) -> Result<(), Fail> {
     let road = Road::of(CARS.to_vec(alloc)?);
     count_on_road(rt, alloc, plan, &road)
@@ -263,7 +263,7 @@ const ROWS: &[(&[u32], &str)] = &[
     (&[4_294_967_295], "9..0.......1"),
 ];
 
-// The cars of a road are drawn as each row says.
+// Checks that the cars of a road are drawn as each row says.
 fn rows_are_drawn(rt: &impl Abort, alloc: Global, road: &Road) -> Result<(), Fail> {
     for (row, (blocks, text)) in ROWS.iter().enumerate() {
         let drawn = row_of(rt, alloc, road, blocks, 12)?;

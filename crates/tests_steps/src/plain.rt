@@ -7,12 +7,13 @@ ghost use Rattle.std.specs.List.Sorted.{IsNonDecreasing};
 ghost use Rattle.std.specs.Option.{option_map, option_or};
 ghost use Rattle.std.specs.String.{string_bytes};
 ghost use Rattle.road_plan.specs.Settings.{Fits, defaults};
+ghost use Rattle.road_plan.specs.Plan.{IsWithinLimits};
 ghost use Rattle.road_cells.specs.Array.{vehicle_at};
 ghost use Rattle.road_cells.specs.Cars.{cars_of, cell_at, car_of, vehicle_of};
 ghost use Rattle.road_cells.specs.Gap.{is_blocked};
 ghost use Rattle.road_ends.specs.Entries.{entry_at, road_with_entries};
 ghost use Rattle.road_ends.specs.Speed.{gap, speed, speeds, nth_car};
-ghost use Rattle.road_ends.specs.Run.{road_after_motion, road_after_step, run};
+ghost use Rattle.road_ends.specs.Run.{road_after_step, run};
 ghost use Rattle.road_ends.specs.Row.{letter, row_of, row};
 ghost use Rattle.road_detector.proofs.MarkedRow.{HasDigits};
 
@@ -28,19 +29,18 @@ use std::alloc::Global;
 /// The stream of the first inlet's words; the others follow it.
 const FIRST_INLET_STREAM: u64 = 1 << 63;
 
-// The index of the inlet at a cell.
+// Finds the index of the inlet at a cell.
 fn inlet_at(inlets: &[(u32, u32)], cell: u32) -> Option<usize>
     ensures { result ≡ position (λ inlet. nat_eq cell inlet.0) inlets.now }
 {
     inlets.iter().position(|inlet| cell == inlet.0)
 }
 
-// The car that enters at a cell, where that is an inlet's.
+// Lets a car enter at a cell, where that is an inlet's.
 fn entering(plan: &Plan, settings: &Settings, step: u32, cell: u32) -> Option<Car>
     requires { Fits plan.now settings.now }
     ensures { result ≡ option_map (car_of cell) (entry_at plan.now settings.now step cell) }
 {
-    plan.known();
     let inlet = inlet_at(plan.inlets(), cell)?;
     if is_blocked(settings.blocks(), cell) {
         return None;
@@ -57,7 +57,7 @@ fn entering(plan: &Plan, settings: &Settings, step: u32, cell: u32) -> Option<Ca
     })
 }
 
-// The car that stands at a cell, or else the one that enters there.
+// Finds the car that stands at a cell, or else lets one enter there.
 fn standing_or_entering(
     plan: &Plan,
     settings: &Settings,
@@ -75,7 +75,7 @@ fn standing_or_entering(
     }
 }
 
-// The road with the cars that enter at a step, cell by cell.
+// Makes the road with the cars that enter at a step, cell by cell.
 fn entered(
     alloc: Global,
     plan: &Plan,
@@ -86,6 +86,7 @@ fn entered(
     requires { Fits plan.now settings.now }
     ensures moving { IfOk result (λ moving. moving ≡ road_with_entries plan.now settings.now step road.now) }
     ensures on_road { IfOk result (λ moving. length moving ≤ plan.now.cells) }
+    ensures within { IfOk result (λ _. IsWithinLimits plan.now) }
 {
     let mut cars = Vec::new(alloc);
     for cell in 0..plan.length() {
@@ -97,7 +98,7 @@ fn entered(
     Ok(Road::of(cars))
 }
 
-// The free cells in front of the car at a place of the list, at most 9. Cells past the end of the road are free.
+// Counts the free cells in front of the car at a place of the list, at most 9. Cells past the end of the road are free.
 fn gap(plan: &Plan, settings: &Settings, road: &Road, place: usize) -> u8
     requires fits { Fits plan.now settings.now }
     requires on_road { length road.now ≤ plan.now.cells }
@@ -107,7 +108,8 @@ fn gap(plan: &Plan, settings: &Settings, road: &Road, place: usize) -> u8
     road.gap(place, settings.blocks())
 }
 
-// The new speed of the car at a place of the list, with the limit and the slowing chance of the zone where it stands.
+// Computes the new speed of the car at a place of the list, by the limit and the slowing chance of the zone where it
+// stands.
 fn speed(plan: &Plan, settings: &Settings, step: u32, road: &Road, place: usize) -> u8
     requires fits { Fits plan.now settings.now }
     requires on_road { length road.now ≤ plan.now.cells }
@@ -115,7 +117,6 @@ fn speed(plan: &Plan, settings: &Settings, step: u32, road: &Road, place: usize)
     ensures { let car = nth_car (cars_of road.now) place in
         result ≡ speed plan.now settings.now step road.now car.cell (vehicle_of car) }
 {
-    plan.known();
     let car = road.cars()[place];
     let zone = (car.cell / plan.width()) as usize;
     let wished = wanted(
@@ -132,7 +133,7 @@ fn speed(plan: &Plan, settings: &Settings, step: u32, road: &Road, place: usize)
     slowed(wished, word, chance)
 }
 
-// The new speeds of all cars, in the order of the cars, car by car.
+// Computes the new speeds of all cars, in the order of the cars, car by car.
 fn speeds(
     alloc: Global,
     plan: &Plan,
@@ -151,24 +152,7 @@ fn speeds(
     Ok(new)
 }
 
-// The road after the motion of a step, from that with the cars that have entered.
-fn next(
-    alloc: Global,
-    plan: &Plan,
-    settings: &Settings,
-    step: u32,
-    road: &Road,
-) -> Result<Road, OutOfMemory>
-    requires fits { Fits plan.now settings.now }
-    requires on_road { length road.now ≤ plan.now.cells }
-    ensures { IfOk result (λ later. later ≡ road_after_motion plan.now settings.now step road.now) }
-{
-    plan.known();
-    let speeds = speeds(alloc, plan, settings, step, road)?;
-    Ok(leave(plan, moved(alloc, road, &speeds)?))
-}
-
-/// The road after a step: entries, speeds, motion, deletion.
+/// Computes the road after a step: entries, speeds, motion, deletion.
 pub(crate) fn stepped(
     alloc: Global,
     plan: &Plan,
@@ -180,14 +164,14 @@ pub(crate) fn stepped(
     ensures { IfOk result (λ later. later ≡ road_after_step plan.now settings.now step road.now) }
 {
     let moving = entered(alloc, plan, settings, step, road)?;
-    next(alloc, plan, settings, step, &moving)
+    let speeds = speeds(alloc, plan, settings, step, &moving)?;
+    Ok(leave(plan, moved(alloc, &moving, &speeds)?))
 }
 
-/// The road at a step of a plan that nobody edits, run from the empty road of step 0.
+/// Runs a plan that nobody edits from the empty road of step 0 to a step.
 pub(crate) fn run(alloc: Global, plan: &Plan, step: u32) -> Result<Road, OutOfMemory>
     ensures { IfOk result (λ road. road ≡ run plan.now (λ _. defaults plan.now) step) }
 {
-    plan.known_own_settings();
     let settings = Settings::of_plan(alloc, plan)?;
     let mut road = Road::empty(alloc);
     for now in 0..step {
@@ -196,7 +180,7 @@ pub(crate) fn run(alloc: Global, plan: &Plan, step: u32) -> Result<Road, OutOfMe
     Ok(road)
 }
 
-// The letter of a cell.
+// Returns the letter of a cell.
 fn letter(blocks: &[u32], road: &Road, cell: u32) -> u8
     requires rising { IsNonDecreasing blocks.now }
     requires digits { HasDigits road.now }
@@ -210,7 +194,7 @@ fn letter(blocks: &[u32], road: &Road, cell: u32) -> u8
     }
 }
 
-// The road as a row of text, letter by letter.
+// Draws the road as a row of text, letter by letter.
 fn row_text(alloc: Global, length: u32, blocks: &[u32], road: &Road) -> Result<String, OutOfMemory>
     requires rising { IsNonDecreasing blocks.now }
     requires digits { HasDigits road.now }
@@ -223,11 +207,10 @@ fn row_text(alloc: Global, length: u32, blocks: &[u32], road: &Road) -> Result<S
     Ok(text)
 }
 
-/// The row of text of a step of a plan that nobody edits.
+/// Draws the row of text of a step of a plan that nobody edits.
 pub(crate) fn row(alloc: Global, plan: &Plan, step: u32) -> Result<String, OutOfMemory>
     ensures { IfOk result (λ text. string_bytes text ≡ row plan.now (λ _. defaults plan.now) step) }
 {
-    plan.known_own_settings();
     cars_stay_on_road(plan);
     let road = run(alloc, plan, step)?;
     let settings = Settings::of_plan(alloc, plan)?;

@@ -9,14 +9,14 @@ use road_ends::OutOfMemory;
 use std::alloc::Global;
 use std::process::Abort;
 
-// Whether each speed is a digit.
+// Answers whether each speed is a digit.
 fn have_digits(cars: &[Car]) -> bool
     ensures { IsTrue result ↔ HaveDigits cars.now }
 {
     cars.iter().all(|car| car.speed <= 9)
 }
 
-/// The row of a road with so many cells and these blocked ones.
+/// Draws the row of a road with so many cells and these blocked ones.
 pub(crate) fn row_of(
     rt: &impl Abort,
     alloc: Global,

@@ -237,7 +237,7 @@ const RANDOM_STARTS: Example = Example {
     ..RANDOM
 };
 
-// What is set at a step: the last number from a step up to it.
+// Finds what is set at a step: the last number from a step up to it.
 fn latest(set: &[(u32, u32)], step: u32) -> Option<u32> {
     let mut last = None;
     for (from, number) in set {
@@ -248,7 +248,7 @@ fn latest(set: &[(u32, u32)], step: u32) -> Option<u32> {
     last
 }
 
-// The chances of standing cars that are set at a step: the last ones from a step up to it.
+// Finds the chances of standing cars that are set at a step: the last ones from a step up to it.
 fn latest_starts(set: &[(u32, &'static [u32])], step: u32) -> Option<&'static [u32]> {
     let mut last = None;
     for (from, chances) in set {
@@ -259,7 +259,7 @@ fn latest_starts(set: &[(u32, &'static [u32])], step: u32) -> Option<&'static [u
     last
 }
 
-// The settings of an example at a step.
+// Makes the settings of an example at a step.
 fn settings_of(
     alloc: Global,
     plan: &Plan,
@@ -279,7 +279,7 @@ fn settings_of(
     Ok(settings)
 }
 
-// The road of an example after a step.
+// Computes the road of an example after a step.
 fn stepped(
     rt: &impl Abort,
     alloc: Global,
@@ -294,7 +294,7 @@ fn stepped(
     Ok(step_alone(alloc, plan, settings, step, road, meter)?.road)
 }
 
-// The row of an example's road at a step.
+// Draws the row of an example's road at a step.
 fn drawn(
     rt: &impl Abort,
     alloc: Global,
@@ -307,7 +307,7 @@ fn drawn(
     row_of(rt, alloc, road, settings.blocks(), plan.length())
 }
 
-// The road of an example, stepped from one step to another.
+// Steps the road of an example from one step to another.
 fn stepped_on(
     rt: &impl Abort,
     alloc: Global,
@@ -323,7 +323,7 @@ fn stepped_on(
     Ok(road)
 }
 
-// An example's road is drawn so at a step.
+// Checks that an example's road is drawn so at a step.
 fn is_drawn(
     rt: &impl Abort,
     alloc: Global,
@@ -337,7 +337,7 @@ fn is_drawn(
     Ok(())
 }
 
-// An example's rows on its plan, stepped alone, with the steps counted.
+// Compares an example's rows on its plan, stepped alone, with the steps counted.
 fn steps_rows(
     rt: &impl Abort,
     alloc: Global,
@@ -356,7 +356,7 @@ fn steps_rows(
     Ok(())
 }
 
-// An example's rows, stepped alone.
+// Compares an example's rows, stepped alone.
 fn steps_alone(rt: &impl Abort, alloc: Global, example: &Example) -> Result<(), Fail> {
     let plan = Arc::new(alloc, plan_of(alloc, &example.parts)?)?;
     steps_rows(rt, alloc, &plan, example)
@@ -379,7 +379,7 @@ const EDITED: &[Example] = &[
     RANDOM_STARTS,
 ];
 
-// Examples, stepped alone.
+// Compares the rows of examples, stepped alone.
 fn step_alone_all(rt: &impl Abort, alloc: Global, examples: &[Example]) -> Result<(), Fail> {
     for example in examples {
         steps_alone(rt, alloc, example)?;
@@ -398,7 +398,7 @@ fn steps_to_the_greatest_horizon(rt: HostRuntime) -> Result<(), Fail> {
     steps_alone(&rt, rt.alloc(), &BLOCKED_INLET)
 }
 
-// The road of an example after a step, by the plain program.
+// Computes the road of an example after a step, by the plain program.
 fn stepped_plainly(
     rt: &impl Abort,
     alloc: Global,
@@ -412,7 +412,7 @@ fn stepped_plainly(
     plain::stepped(alloc, plan, &settings, step, road)
 }
 
-// The road of an example, stepped from one step to another by the plain program.
+// Steps the road of an example from one step to another by the plain program.
 fn stepped_on_plainly(
     rt: &impl Abort,
     alloc: Global,
@@ -427,7 +427,7 @@ fn stepped_on_plainly(
     Ok(road)
 }
 
-// An example's rows on its plan, stepped by the plain program.
+// Compares an example's rows on its plan, stepped by the plain program.
 fn steps_rows_plainly(
     rt: &impl Abort,
     alloc: Global,
@@ -444,7 +444,7 @@ fn steps_rows_plainly(
     Ok(())
 }
 
-// An example's rows, stepped by the plain program.
+// Compares an example's rows, stepped by the plain program.
 fn steps_plainly(rt: &impl Abort, alloc: Global, example: &Example) -> Result<(), Fail> {
     let plan = plan_of(alloc, &example.parts)?;
     steps_rows_plainly(rt, alloc, &plan, example)
@@ -458,7 +458,7 @@ fn steps_the_edited_examples_plainly(rt: HostRuntime) -> Result<(), Fail> {
     Ok(())
 }
 
-// An example's rows, by the plain program.
+// Compares an example's rows, by the plain program.
 fn runs_plainly(rt: &impl Abort, alloc: Global, example: &Example) -> Result<(), Fail> {
     let plan = plan_of(alloc, &example.parts)?;
     for (step, text) in example.rows {
@@ -519,24 +519,23 @@ const STEADY: Parts = Parts {
     words: WordKind::Steady,
 };
 
-// The input of step 1 on a road.
+// Makes the input of step 1 on a road.
 fn input_of_step_one(
     alloc: Global,
     plan: &Arc<Plan>,
     road: &Road,
 ) -> Result<Arc<StepInput>, OutOfMemory> {
-    plan.known_own_settings();
     let settings = Settings::of_plan(alloc, plan)?;
     enter(alloc, plan, settings, 1, road)
 }
 
-// The cars after a step with this input.
+// Computes the cars after a step with this input.
 fn cars_after(alloc: Global, input: &Arc<StepInput>) -> Result<Vec<Car>, OutOfMemory> {
     let speeds = input.speeds(alloc)?;
     Ok(finish(alloc, input, &speeds)?.into_cars())
 }
 
-// The cars after step 1 of a road with one car, or with none.
+// Computes the cars after step 1 of a road with one car, or with none.
 fn after_step_one(alloc: Global, parts: &Parts, car: Option<Car>) -> Result<Vec<Car>, Fail> {
     let plan = Arc::new(alloc, plan_of(alloc, parts)?)?;
     let road = match car {

@@ -12,11 +12,11 @@ use Rattle.road_ends.specs.Speed.{nth_car}
 abbrev pub IsHeldUp : List Car → ℕ → Type 0
 IsHeldUp cars k = (k + 1 < length cars) × (cell_at cars (k + 1) ≡ cell_at cars k + 1)
 
--- the high16 of the k-th car's word at step t; of a car that cannot move it may be any number
+-- the upper 16 bits of the k-th car's word at step t; of a car that cannot move they may be any number
 abbrev pub IsHigh16 : WordKind → ℕ → List Car → ℕ → ℕ → Type 0
 IsHigh16 kind t cars k high16 = ¬ (IsHeldUp cars k) → high16 ≡ word kind (nth_car cars k).number t / 65536
 
--- such high16s of the first cars of an array: of all of them, or of none
+-- such upper 16 bits of the first cars of an array: of all of them, or of none
 pub record AreHigh16s (kind : WordKind) (t : ℕ) (a : Array) (high16s : List ℕ) : Type 0 where
   pub each : (k : ℕ) → k < length high16s → IsHigh16 kind t (cars_of a) k (slice_index high16s k)
 

@@ -11,12 +11,13 @@ use crate::pass::speeds_between;
 use std::alloc::Global;
 
 impl StepInput {
-    /// The new speeds of the cars at the places from `first` to before `end`, in their order, where `first` is at most
-    /// `end`, and `end` at most the number of cars. It is one pass over these cars alone, which reads the whole road.
+    /// Computes the new speeds of the cars at the places from `first` to before `end`, in their order, where `first` is
+    /// at most `end`, and `end` at most the number of cars. It is one pass over these cars alone, which reads the whole
+    /// road.
     ///
     /// # Errors
     ///
-    /// `OutOfMemory` where their growth is refused.
+    /// `OutOfMemory` where the allocation of their list failed.
     #[tactic(auto, using(crate::proofs::CachedColumns::no_high16s, crate::proofs::CachedColumns::no_columns))]
     pub fn speeds_between(
         &self,
@@ -28,7 +29,6 @@ impl StepInput {
         requires within { end ≤ length (cars_of self.now.road) }
         ensures { IfOk result (λ new. new.items ≡ input_speeds_between self.now first end) }
     {
-        self.known();
         let (plan, settings, road) = (&self.plan, &self.settings, &self.road);
         match &self.columns {
             Some(columns) => {

@@ -10,7 +10,7 @@ use road_cells::{Car, Road};
 use road_plan::{Plan, Settings};
 
 impl StepInput {
-    /// Whether two inputs are the same: in step, road, plan and settings. It takes no memory.
+    /// Answers whether two inputs are the same: in step, road, plan and settings. It takes no memory.
     pub fn same(&self, other: &StepInput) -> bool
         ensures { IsTrue result ↔ (self.now ≡ other.now) }
     {
@@ -21,7 +21,6 @@ impl StepInput {
     }
 }
 
-// Whether two inputs have the same cars in the same cells.
 fn have_same_roads(input: &StepInput, other: &StepInput) -> bool
     ensures { IsTrue result ↔ (input.now.road ≡ other.now.road) }
 {
@@ -33,8 +32,8 @@ fn have_same_roads(input: &StepInput, other: &StepInput) -> bool
     }
 }
 
-// Whether two roads have the same cars in the same cells. Columns of all their cars are compared in place of the cars,
-// since the compiler compares many of their numbers at once.
+// Compares two roads. Columns of all their cars are compared in place of the cars, since the compiler compares many of
+// their numbers at once.
 #[tactic(auto, using(crate::proofs::SameInputs::same_by_columns))]
 fn is_same_by_columns(road: &Road, columns: &Columns, other: &Road, others: &Columns) -> bool
     requires ours { AreColumns road.now columns.now.cells.items columns.now.speeds.items }
@@ -51,7 +50,7 @@ fn is_same_by_columns(road: &Road, columns: &Columns, other: &Road, others: &Col
     are_alike(cars, columns, those, others)
 }
 
-// Whether these cars' columns are the same, and their numbers.
+// Compares these cars' columns, and their numbers.
 fn are_alike(cars: &[Car], columns: &Columns, those: &[Car], others: &Columns) -> bool
     requires long { length cars.now ≡ length those.now }
     requires cells { length columns.now.cells.items ≡ length others.now.cells.items }
@@ -67,7 +66,7 @@ fn are_alike(cars: &[Car], columns: &Columns, those: &[Car], others: &Columns) -
         && are_numbered_alike(cars, those)
 }
 
-// Whether there are columns of so many cars.
+// Answers whether there are columns of so many cars.
 fn are_of_all(columns: &Columns, cars: usize) -> bool
     ensures { IsTrue result ↔ (
         (length columns.now.cells.items ≡ cars) × (length columns.now.speeds.items ≡ cars)
@@ -76,21 +75,18 @@ fn are_of_all(columns: &Columns, cars: usize) -> bool
     columns.cells.len() == cars && columns.speeds.len() == cars
 }
 
-// Whether two roads have the same cars in the same cells.
 fn is_same_road(road: &Road, other: &Road) -> bool
     ensures { IsTrue result ↔ (road.now ≡ other.now) }
 {
     are_same_cars(road.cars(), other.cars())
 }
 
-// Whether two plans are the same in all their parts.
 fn is_same_plan(plan: &Plan, other: &Plan) -> bool
     ensures { IsTrue result ↔ (plan.now ≡ other.now) }
 {
     have_same_numbers(plan, other) && have_same_lists(plan, other)
 }
 
-// Whether two plans have roads of the same length, exit and zone width, and the same words.
 fn have_same_numbers(plan: &Plan, other: &Plan) -> bool
     ensures { IsTrue result ↔ (
         (plan.now.cells ≡ other.now.cells)
@@ -105,7 +101,6 @@ fn have_same_numbers(plan: &Plan, other: &Plan) -> bool
         && plan.words() == other.words()
 }
 
-// Whether two plans have the same zones, inlets and detectors.
 fn have_same_lists(plan: &Plan, other: &Plan) -> bool
     ensures { IsTrue result ↔ (
         (plan.now.zones ≡ other.now.zones)
@@ -118,14 +113,12 @@ fn have_same_lists(plan: &Plan, other: &Plan) -> bool
         && are_same_numbers(plan.detectors(), other.detectors())
 }
 
-// Whether these settings are the same.
 fn are_same_settings(settings: &Settings, other: &Settings) -> bool
     ensures { IsTrue result ↔ (settings.now ≡ other.now) }
 {
     have_same_chances(settings, other) && have_same_places(settings, other)
 }
 
-// Whether these settings have the same limits, slowing chances, of standing cars too, and inflows.
 fn have_same_chances(settings: &Settings, other: &Settings) -> bool
     ensures { IsTrue result ↔ (
         (settings.now.limits ≡ other.now.limits)
@@ -140,7 +133,6 @@ fn have_same_chances(settings: &Settings, other: &Settings) -> bool
         && are_same_numbers(settings.starts(), other.starts())
 }
 
-// Whether these settings have the same blocked cells, and the same detectors on.
 fn have_same_places(settings: &Settings, other: &Settings) -> bool
     ensures { IsTrue result ↔ (
         (settings.now.blocks ≡ other.now.blocks) × (settings.now.watched ≡ other.now.watched)
@@ -150,28 +142,25 @@ fn have_same_places(settings: &Settings, other: &Settings) -> bool
         && are_same_flags(settings.watched(), other.watched())
 }
 
-// Whether these numbers are the same.
 fn are_same_numbers(numbers: &[u32], other: &[u32]) -> bool
     ensures { IsTrue result ↔ (numbers.now ≡ other.now) }
 {
     numbers == other
 }
 
-// Whether these pairs are the same.
 fn are_same_pairs(pairs: &[(u32, u32)], other: &[(u32, u32)]) -> bool
     ensures { IsTrue result ↔ (pairs.now ≡ other.now) }
 {
     pairs == other
 }
 
-// Whether these flags are the same.
 fn are_same_flags(flags: &[bool], other: &[bool]) -> bool
     ensures { IsTrue result ↔ (flags.now ≡ other.now) }
 {
     flags == other
 }
 
-// Whether these cars are the same. A loop of its own takes less time for each car than `==` of the lists does.
+// Compares cars. A loop of its own takes less time for each car than `==` of the lists does.
 fn are_same_cars(cars: &[Car], other: &[Car]) -> bool
     ensures { IsTrue result ↔ (cars.now ≡ other.now) }
 {
@@ -186,14 +175,13 @@ fn are_same_cars(cars: &[Car], other: &[Car]) -> bool
     true
 }
 
-// Whether two cars are the same.
 fn is_same_car(car: &Car, other: &Car) -> bool
     ensures { IsTrue result ↔ (car.now ≡ other.now) }
 {
     car.number == other.number && car.cell == other.cell && car.speed == other.speed
 }
 
-// Whether these columns of cells are the same. It has no branch that ends it early.
+// Compares columns of cells. It has no branch that ends it early.
 fn are_same_cells(cells: &[u16], other: &[u16]) -> bool
     requires { length cells.now ≡ length other.now }
     ensures { IsTrue result ↔ (cells.now ≡ other.now) }
@@ -207,7 +195,7 @@ fn are_same_cells(cells: &[u16], other: &[u16]) -> bool
     same
 }
 
-// Whether these columns of speeds are the same. It has no branch that ends it early.
+// Compares columns of speeds. It has no branch that ends it early.
 fn are_same_speeds(speeds: &[u8], other: &[u8]) -> bool
     requires { length speeds.now ≡ length other.now }
     ensures { IsTrue result ↔ (speeds.now ≡ other.now) }
@@ -221,7 +209,7 @@ fn are_same_speeds(speeds: &[u8], other: &[u8]) -> bool
     same
 }
 
-// Whether these cars have the same numbers. It has no branch that ends it early.
+// Compares the numbers of cars. It has no branch that ends it early.
 fn are_numbered_alike(cars: &[Car], other: &[Car]) -> bool
     requires { length cars.now ≡ length other.now }
     ensures { IsTrue result ↔ ((k : ℕ) → k < length cars.now

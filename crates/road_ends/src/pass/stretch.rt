@@ -23,7 +23,7 @@ const FEW: usize = 8;
 // The greatest number of a column.
 const GREATEST_NARROW: u32 = 65_535;
 
-// The first cell of the stretch where the pass stands: of its zones, and not before a blocked cell that is not in
+// Finds the first cell of the stretch where the pass stands: of its zones, and not before a blocked cell that is not in
 // front.
 pub(super) fn first_cell(blocks: &[u32], cursor: Cursor) -> u32
     requires bound { cursor.block.reached ≤ length blocks.now }
@@ -37,8 +37,8 @@ pub(super) fn first_cell(blocks: &[u32], cursor: Cursor) -> u32
     blocks[cursor.block.reached - 1].max(cursor.zone.start)
 }
 
-// The place of the first car that does not stand before a cell, among those from the place `first` to before `end`; or
-// `end` where all of them stand before it, and where they are too few to be taken together.
+// Finds the place of the first car that does not stand before a cell, among those from the place `first` to before
+// `end`; or `end` where all of them stand before it, and where they are too few to be taken together.
 pub(super) fn first_car(road: &Road, cell: u32, first: usize, end: usize) -> usize
     requires order { first ≤ end }
     requires within { end ≤ length (cars_of road.now) }
@@ -52,8 +52,8 @@ pub(super) fn first_car(road: &Road, cell: u32, first: usize, end: usize) -> usi
     road.cars_before(cell).max(first).min(end)
 }
 
-// Rules 1 and 2 for the cars at the places `from` to before `to`, in a list whose first car is at the place `first`: by
-// the columns, where there are some.
+// Applies rules 1 and 2 to the cars at the places `from` to before `to`, in a list whose first car is at the place
+// `first`: by the columns, where there are some.
 pub(super) fn write_wanted(
     cars: &[Car],
     columns: &Columns,
@@ -94,7 +94,7 @@ pub(super) fn write_wanted(
     }
 }
 
-// The same, by the list of cars.
+// Applies them by the list of cars.
 fn write_wanted_by_cars(
     cars: &[Car],
     cursor: Cursor,
@@ -123,7 +123,7 @@ fn write_wanted_by_cars(
     }
 }
 
-// The same, by the columns of the cars' cells and speeds.
+// Applies them by the columns of the cars' cells and speeds.
 fn write_wanted_by_columns(
     cells: &[u16],
     speeds: &[u8],
@@ -156,7 +156,7 @@ fn write_wanted_by_columns(
     }
 }
 
-// Rule 3 for the same cars, by the upper 16 bits of their words and the column of their speeds.
+// Applies rule 3 to these cars, by the upper 16 bits of their words and the column of their speeds.
 pub(super) fn slow_by_high16s(
     high16s: &[u16],
     speeds: &[u8],
@@ -184,7 +184,7 @@ pub(super) fn slow_by_high16s(
     }
 }
 
-// Rule 3 for the same cars, by chances that leave nothing to their words.
+// Applies rule 3 to these cars, by chances that leave nothing to their words.
 pub(super) fn slow_without_words(
     cars: &[Car],
     chances: Chances,
@@ -210,7 +210,7 @@ pub(super) fn slow_without_words(
     }
 }
 
-// Rule 3 for the same cars, by their words.
+// Applies rule 3 to these cars, by their words.
 pub(super) fn slow_by_words(
     words: &PlanWords,
     step: u32,

@@ -14,7 +14,7 @@ use crate::pool::job::Done;
 use road_ends::{OutOfMemory, StepInput};
 use std::alloc::Global;
 
-// One place for each worker, none of which has answered yet.
+// Makes one place for each worker, none of which has answered yet.
 pub(crate) fn places_for(
     alloc: Global,
     workers: u32,
@@ -31,7 +31,7 @@ pub(crate) fn places_for(
 }
 
 // Takes a result where its input is the one asked and its piece is still missing: it drops doubles and strangers.
-// Whether it took it.
+// Answers whether it took it.
 pub(crate) fn is_taken(
     places: &mut Vec<Option<PieceAnswer>>,
     done: Done,
@@ -60,7 +60,7 @@ pub(crate) fn is_taken(
     true
 }
 
-// The first worker whose piece it is and who has not answered yet.
+// Finds the first worker whose piece it is and which has not answered yet.
 fn missing_place(places: &[Option<PieceAnswer>], piece: Piece, cars: usize) -> Option<usize>
     requires few { length places.now ≤ MOST_WORKERS }
     requires short { cars ≤ GREATEST_LENGTH }
@@ -77,7 +77,7 @@ fn missing_place(places: &[Option<PieceAnswer>], piece: Piece, cars: usize) -> O
     None
 }
 
-// The speeds of all workers, one behind the other in the list `whole`. Where one has not answered, it has gone.
+// Puts the speeds of all workers one behind the other into the list `whole`. Where one has not answered, it has gone.
 pub(crate) fn put_together(
     whole: Vec<u8>,
     places: Vec<Option<PieceAnswer>>,

@@ -31,7 +31,7 @@ pub(crate) struct Done {
 }
 
 impl Job {
-    // The job of a piece.
+    // Makes the job of a piece.
     pub fn new(input: Arc<StepInput>, piece: Piece) -> Job
         requires order { piece.first ≤ piece.end }
         requires within { piece.end ≤ length (cars_of (arc_value input).road) }

@@ -2,12 +2,12 @@
 
 use crate::gate::Gate;
 use crate::pool::job::{Done, Job};
-use crate::pool::spin::stay_awake;
+use crate::pool::spin::spin_for_message;
 use crossbeam_channel::{Receiver, SendError, Sender};
 use std::alloc::Global;
 use std::sync::{Arc, Wait};
 
-// What a worker does until its channel of jobs is closed, or nobody takes results. It looks so often for a job before
+// Does a worker's jobs until its channel of jobs is closed, or nobody takes results. It looks so often for a job before
 // it sleeps.
 pub(crate) fn work<R: Wait, G: Gate>(
     rt: &R,
@@ -19,7 +19,7 @@ pub(crate) fn work<R: Wait, G: Gate>(
     results: &Sender<Done>,
 ) {
     for _ in rt.forever() {
-        stay_awake(jobs, looks);
+        spin_for_message(jobs, looks);
         let Ok(job) = jobs.recv(rt) else {
             return;
         };
@@ -30,7 +30,7 @@ pub(crate) fn work<R: Wait, G: Gate>(
     }
 }
 
-// Gives a result, which is offered again where there was no memory to give it. Whether somebody takes results.
+// Gives a result, which is offered again where there was no memory to give it. Answers whether somebody takes results.
 fn is_given<R: Wait>(rt: &R, done: Done, results: &Sender<Done>) -> bool {
     let mut done = done;
     for _ in rt.forever() {

@@ -29,21 +29,21 @@ loop-cell-preserved c =
     let n = c.args.plan.now.cells in
     let inlet = c.next_inlet-inlet.result in
     let cars = c.extend_from_slice.new.self.items in
-    let within : inlet ≤ n = let low = c.next_inlet-inlet.ensures.within in let end = c.length-in-loop-cell.ensures in omega arith in
+    let within : inlet ≤ n = let low = c.next_inlet-inlet.ensures.within in let end = c.length-in-loop-cell.ensures.cells in omega arith in
     let copied = cars_up_to f (vehicle_at a) n c.loop-cell.cell inlet c.loop-cell.cars.items cars _ c.next_inlet-inlet.ensures.from within
-    (λ cell low high. nobody_enters c.args.plan.now c.args.settings.now c.args.step a cell (subst (λ inlets. position (λ x. nat_eq cell x.0) inlets ≡ None) c.inlets-in-loop-cell.ensures (c.next_inlet-inlet.ensures.first cell low high)))
+    (λ cell low high. nobody_enters c.args.plan.now c.args.settings.now c.args.step a cell (subst (λ inlets. position (λ x. nat_eq cell x.0) inlets ≡ None) c.inlets-in-loop-cell.ensures.inlets (c.next_inlet-inlet.ensures.first cell low high)))
     (c.in_ok-extend_from_slice.ensures.items ∙ ap (λ found. c.loop-cell.cars.items ++ found) c.between.ensures)
     c.loop-cell.invariant.cars in
     record {
       cars = elim c.if-inlet-length.branch [
         | then-inlet-length+in_ok-car+in-Some+in_ok-push-in-Some w ↦
-            let below : inlet < n = let test = w.if-inlet-length.true in let end = c.length-in-loop-cell-2.ensures in omega arith in
+            let below : inlet < n = let test = w.if-inlet-length.true in let end = c.length-in-loop-cell-2.ensures.cells in omega arith in
             one_here f n inlet cars c.if-inlet-length.cars.items _ w.in-Some.car below (sym w.in-Some.is ∙ w.in_ok-car.ensures.car) (ap (λ (v : Vec Car Global). v.items) w.cars-is ∙ w.in_ok-push-in-Some.ensures.items) copied
         | then-inlet-length+in_ok-car+in-None w ↦
-            let below : inlet < n = let test = w.if-inlet-length.true in let end = c.length-in-loop-cell-2.ensures in omega arith in
+            let below : inlet < n = let test = w.if-inlet-length.true in let end = c.length-in-loop-cell-2.ensures.cells in omega arith in
             ap (λ (v : Vec Car Global). v.items ++ cars_left f n (inlet + 1)) w.cars-is ∙ nobody_here f n inlet cars _ below (sym w.in-None.is ∙ w.in_ok-car.ensures.car) copied
         | else-inlet-length w ↦
-            let past : n ≤ inlet = let test = w.if-inlet-length.false in let end = c.length-in-loop-cell-2.ensures in omega arith in
+            let past : n ≤ inlet = let test = w.if-inlet-length.false in let end = c.length-in-loop-cell-2.ensures.cells in omega arith in
             ap (λ (v : Vec Car Global). v.items ++ cars_left f n (inlet + 1)) w.cars-is ∙ nobody_past f n inlet cars _ past copied
       ];
       words = elim c.if-inlet-length.branch [
@@ -56,19 +56,19 @@ loop-cell-preserved c =
 pub of-requires : goal.of-requires
 of-requires c =
     let f = λ (c' : ℕ). option_or (vehicle_at c.args.road.now c') (entry_at c.args.plan.now c.args.settings.now c.args.step c') in
-    let past : c.args.plan.now.cells ≤ c.loop-cell.cell = let end = c.length.ensures in let test = c.loop-cell-test.false in omega arith in
+    let past : c.args.plan.now.cells ≤ c.loop-cell.cell = let end = c.length.ensures.cells in let test = c.loop-cell-test.false in omega arith in
     subst AreRising (sym (all_here f c.args.plan.now.cells c.loop-cell.cell c.loop-cell.cars.items _ past c.loop-cell.invariant.cars)) (rise-cars_from 0 (map f (range_with_len 0 c.args.plan.now.cells)))
 
 pub returns-clause-moving : goal.returns-clause-moving
 returns-clause-moving c =
     let f = λ (c' : ℕ). option_or (vehicle_at c.args.road.now c') (entry_at c.args.plan.now c.args.settings.now c.args.step c') in
-    let past : c.args.plan.now.cells ≤ c.loop-cell.cell = let end = c.length.ensures in let test = c.loop-cell-test.false in omega arith in
+    let past : c.args.plan.now.cells ≤ c.loop-cell.cell = let end = c.length.ensures.cells in let test = c.loop-cell-test.false in omega arith in
     c.of.ensures.road ∙ ap array_of (all_here f c.args.plan.now.cells c.loop-cell.cell c.loop-cell.cars.items _ past c.loop-cell.invariant.cars) ∙ array_of-cars_from c.args.plan.now.cells f
 
 pub returns-clause-on_road : goal.returns-clause-on_road
 returns-clause-on_road c =
     let f = λ (c' : ℕ). option_or (vehicle_at c.args.road.now c') (entry_at c.args.plan.now c.args.settings.now c.args.step c') in
-    let past : c.args.plan.now.cells ≤ c.loop-cell.cell = let end = c.length.ensures in let test = c.loop-cell-test.false in omega arith in
+    let past : c.args.plan.now.cells ≤ c.loop-cell.cell = let end = c.length.ensures.cells in let test = c.loop-cell-test.false in omega arith in
     subst (λ a. length a ≤ c.args.plan.now.cells)
     (sym (c.of.ensures.road ∙ ap array_of (all_here f c.args.plan.now.cells c.loop-cell.cell c.loop-cell.cars.items _ past c.loop-cell.invariant.cars) ∙ array_of-cars_from c.args.plan.now.cells f))
     (length-array c.args.plan.now.cells f)

@@ -6,7 +6,6 @@ use Rattle.road_ends.proofs.input.enter_with.Goals as goal
 pub columns_of-requires : goal.columns_of-requires
 columns_of-requires c =
     let on_road = c.in_ok-road.ensures.on_road in
-    let short = c.known.ensures.short_enough in
-    let known = ap (λ (p : Plan). p.cells) c.deref.ensures in
-    let entered = ap (λ (p : Plan). p.cells) c.deref-2.ensures in
+    let short = c.in_ok-road.ensures.within.short_enough in
+    let entered = ap (λ (p : Plan). p.cells) c.deref.ensures in
     omega arith

@@ -25,7 +25,7 @@ zone_at-cursor-requires-clause-limits c =
     let most = c.loop-place-test.true in
     let last = c.loop-place.invariant.to_end in
     let within = c.requires.within in
-    let inside = zone_in_plan c.args.plan.now c.args.road.now c.cars-cars.result.now (c.loop-place.place - 1) c.width-width.result c.known.ensures c.requires.on_road (omega arith) c.cars-cars.ensures.all c.width-width.ensures in
+    let inside = zone_in_plan c.args.plan.now c.args.road.now c.cars-cars.result.now (c.loop-place.place - 1) c.width-width.result c.width-width.ensures.within c.requires.on_road (omega arith) c.cars-cars.ensures.all c.width-width.ensures.width in
     let each = c.requires.fits.speed_limit_each in
     let read = ap length c.limits-limits.ensures in
     omega arith
@@ -36,7 +36,7 @@ zone_at-cursor-requires-clause-chances c =
     let most = c.loop-place-test.true in
     let last = c.loop-place.invariant.to_end in
     let within = c.requires.within in
-    let inside = zone_in_plan c.args.plan.now c.args.road.now c.cars-cars.result.now (c.loop-place.place - 1) c.width-width.result c.known.ensures c.requires.on_road (omega arith) c.cars-cars.ensures.all c.width-width.ensures in
+    let inside = zone_in_plan c.args.plan.now c.args.road.now c.cars-cars.result.now (c.loop-place.place - 1) c.width-width.result c.width-width.ensures.within c.requires.on_road (omega arith) c.cars-cars.ensures.all c.width-width.ensures.width in
     let each = c.requires.fits.chance_each in
     let read = ap length c.chances-chances.ensures in
     omega arith
@@ -47,7 +47,7 @@ zone_at-cursor-requires-clause-starts c =
     let most = c.loop-place-test.true in
     let last = c.loop-place.invariant.to_end in
     let within = c.requires.within in
-    let inside = zone_in_plan c.args.plan.now c.args.road.now c.cars-cars.result.now (c.loop-place.place - 1) c.width-width.result c.known.ensures c.requires.on_road (omega arith) c.cars-cars.ensures.all c.width-width.ensures in
+    let inside = zone_in_plan c.args.plan.now c.args.road.now c.cars-cars.result.now (c.loop-place.place - 1) c.width-width.result c.width-width.ensures.within c.requires.on_road (omega arith) c.cars-cars.ensures.all c.width-width.ensures.width in
     let each = c.requires.fits.start_each in
     let read = ap length c.starts-starts.ensures in
     omega arith
@@ -58,7 +58,7 @@ zone_at-cursor-requires-clause-last c = λ cell after before.
     let front = c.loop-place.place - 1 in
     let most = c.loop-place-test.true in
     let here : cell_at c.cars-cars.result.now front ≡ cell_at (cars_of a) front = ap (λ cars. cell_at cars front) c.cars-cars.ensures.all in
-    let wide = c.width-width.ensures in
+    let wide = c.width-width.ensures.width in
     let found = c.loop-place.invariant.alike front (omega arith) cell after (omega arith) in
     record {
       limit_is = found.limit_is ∙ (λ i. slice_index (sym c.limits-limits.ensures i) (cell / sym wide i));
@@ -81,7 +81,7 @@ new_speed-requires-clause-next c =
     let last = c.loop-place.invariant.to_end in
     let within = c.requires.within in
     let on_road = c.requires.on_road in
-    let short = c.known.ensures.short_enough in
+    let short = c.width-width.ensures.within.short_enough in
     let here : cell_at c.cars-cars.result.now k ≡ cell_at (cars_of a) k = ap (λ cars. cell_at cars k) c.cars-cars.ensures.all in
     let next : c.loop-place.place ≡ k + 1 = omega arith in
     let before = before_next a k c.loop-place.cursor.next (omega arith) (omega arith) (subst (λ n. IsNthOrNowhere (length (cars_of a)) n (cell_at (cars_of a) n) c.loop-place.cursor.next) next c.loop-place.invariant.next) in
@@ -96,7 +96,7 @@ new_speed-requires-clause-block c =
     let last = c.loop-place.invariant.to_end in
     let within = c.requires.within in
     let on_road = c.requires.on_road in
-    let short = c.known.ensures.short_enough in
+    let short = c.width-width.ensures.within.short_enough in
     let here : cell_at c.cars-cars.result.now k ≡ cell_at (cars_of a) k = ap (λ cars. cell_at cars k) c.cars-cars.ensures.all in
     let end = cell_at-end 0 a k (omega arith) in
     before_block c.blocks-blocks.result.now (cell_at c.cars-cars.result.now k) c.block_ahead-cursor.result.reached c.block_ahead-cursor.result.cell (omega arith) c.block_ahead-cursor.ensures.parted c.block_ahead-cursor.ensures.named
@@ -110,7 +110,7 @@ speeds_behind-requires-clause-apart c = λ k after before.
     let last = c.loop-place.invariant.to_end in
     let within = c.requires.within in
     let on_road = c.requires.on_road in
-    let short = c.known.ensures.short_enough in
+    let short = c.width-width.ensures.within.short_enough in
     let same : (j : ℕ) → cell_at c.cars-cars.result.now j ≡ cell_at (cars_of a) j = λ j. ap (λ cars. cell_at cars j) c.cars-cars.ensures.all in
     let here = same k in
     let next = same (k + 1) in
@@ -129,7 +129,7 @@ loop-place-init c =
     let all = c.far_end-cursor.ensures.reached in
     let within = c.requires.within in
     let on_road = c.requires.on_road in
-    let short = c.known.ensures.short_enough in
+    let short = c.width-width.ensures.within.short_enough in
     let nowhere = c.far_end-cursor.ensures.zone in
     record {
       one_each = search rules;
@@ -162,7 +162,7 @@ loop-place-preserved c =
     let last = c.loop-place.invariant.to_end in
     let within = c.requires.within in
     let on_road = c.requires.on_road in
-    let short = c.known.ensures.short_enough in
+    let short = c.width-width.ensures.within.short_enough in
     let long = ap length c.cars-cars.ensures.all in
     let below : front < length (cars_of a) = omega arith in
     let next : place ≡ front + 1 = omega arith in
@@ -184,7 +184,7 @@ loop-place-preserved c =
     subst (λ (xs : List ℕ). IsNthOrNowhere (length xs) block.reached (slice_index xs block.reached) block.cell) c.blocks-blocks.ensures c.block_ahead-cursor.ensures.named in
     let alike : (cell : ℕ) → zone.start ≤ cell → cell ≤ cell_at (cars_of a) front → AreOfZone s.limits s.starts s.chances (zone_of p cell) zone.limit zone.chances.standing zone.chances.moving =
     λ cell after before.
-    let wide = c.width-width.ensures in
+    let wide = c.width-width.ensures.width in
     let found = c.zone_at-cursor.ensures.alike cell after (omega arith) in
     record {
       limit_is = found.limit_is ∙ (λ i. slice_index (c.limits-limits.ensures i) (cell / wide i));

@@ -1,14 +1,13 @@
-use Rattle.std.proofs.Common.{ℕ, ◌∙◌, ap, sym, subst}
+use Rattle.std.proofs.Common.{ℕ, sym, subst}
 use Rattle.std.specs.List.Sorted.{IsNonDecreasing}
-use Rattle.road_plan.specs.Settings.{Settings, defaults}
+use Rattle.road_plan.specs.Settings.{defaults}
 use Rattle.road_detector.proofs.MarkedRow.{HasDigits}
 use Rattle.road_ends.proofs.StepByCars.{not_falling}
 use Rattle.tests_steps.proofs.plain.row.Goals as goal
 
 pub row_text-requires-clause-rising : goal.row_text-requires-clause-rising
 row_text-requires-clause-rising c =
-    subst IsNonDecreasing (sym (c.blocks-2.ensures ∙ ap (λ (settings : Settings). settings.blocks) c.in_ok-settings.ensures.made))
-    (not_falling (defaults c.args.plan.now).blocks c.known_own_settings.ensures.blocks_rise)
+    subst IsNonDecreasing (sym c.blocks-2.ensures) (not_falling c.in_ok-settings.settings.blocks c.in_ok-settings.ensures.fits.blocks_rise)
 
 pub row_text-requires-clause-digits : goal.row_text-requires-clause-digits
 row_text-requires-clause-digits c =
