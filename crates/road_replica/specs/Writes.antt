@@ -22,20 +22,23 @@ most_steps_of_command (Advance to) s = max s.horizon to - s.horizon
 
 -- an accepted write: no named cause stands, the replica's sheet is that after the command, and the meter counts just
 -- the steps that are computed
-pub record IsAccepted (command : SheetCommand) (cause : Option ReplicaFault) (old new : Replica) (meter later : ℕ) : Type 0 where
+pub record IsAccepted (command : SheetCommand) (cause : Option ReplicaFault) (old new : Replica)
+    (meter later : ℕ) : Type 0 where
   pub accepted : cause ≡ None
   pub after : new ≡ replica_after command old
   pub steps : later ≡ meter_after meter (steps_of_command command old.sheet)
 
 -- a refused write: it leaves the replica as it was, and the meter too where a named cause stands
-pub record IsRefused (command : SheetCommand) (cause : Option ReplicaFault) (fault : ReplicaFault) (old new : Replica) (meter later : ℕ) : Type 0 where
+pub record IsRefused (command : SheetCommand) (cause : Option ReplicaFault) (fault : ReplicaFault) (old new : Replica)
+    (meter later : ℕ) : Type 0 where
   pub refused : IsWriteRefusal cause fault
   pub unchanged : new ≡ old
   pub named : cause ≢ None → later ≡ meter
   pub few_steps : TicksAtMost (most_steps_of_command command old.sheet) meter later
 
 -- a write that is a command to the replica's sheet, and the first named cause for which it is refused
-abbrev pub IsWrite : {A : Type 0} → SheetCommand → Option ReplicaFault → Result A ReplicaFault → Replica → Replica → ℕ → ℕ → Type 0
+abbrev pub IsWrite : {A : Type 0} → SheetCommand → Option ReplicaFault → Result A ReplicaFault
+    → Replica → Replica → ℕ → ℕ → Type 0
 IsWrite command cause result old new meter later = MatchResult result
     (λ _. IsAccepted command cause old new meter later)
     (λ fault. IsRefused command cause fault old new meter later)

@@ -1,4 +1,5 @@
--- What private fields and functions say of the intervals, and of what is kept between steps; no public contract names it.
+-- What private fields and functions say of the intervals, and of what is kept between steps. No public contract
+-- names it.
 pub mod Intervals
 pub mod SettingsCache
 pub mod Checkpoints

@@ -58,10 +58,9 @@ impl Interval {
             slice_index_or self.new.totals.items d no_totals
             ≡ plus (slice_index_or self.old.totals.items d no_totals) (passes_at input.now speeds.now d) }
     {
-        input.known();
         let greatest = greatest_speed(speeds);
         let mut before = 0;
-        for detector in 0..self.totals.len() {
+        for detector in 0..input.plan().detectors().len() {
             let passed = passes_from(input, speeds, detector as u32, greatest, before);
             self.totals[detector] = self.totals[detector].plus(passed.totals);
             before = passed.before;

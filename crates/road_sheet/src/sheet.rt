@@ -358,7 +358,7 @@ impl Sheet {
           horizon = draft_start self.now.horizon keep;
         }) }
     {
-        joined.known();
+        let _ = joined.is_bottom();
         settings_stay_before_touched();
         runs_depend_on_earlier_settings(&self.plan);
         let sheet = if keep == self.horizon() {
@@ -512,10 +512,10 @@ impl Sheet {
         ensures totals { IfOk result (λ interval. interval.totals.items
             ≡ replicate (length self.now.plan.detectors) no_totals) }
     {
-        self.plan.known();
         cars_stay_on_road(&self.plan);
+        let detectors = self.plan.detectors().len();
         let kept = Checkpoint::of(alloc, road)?;
-        Interval::begin(alloc, kept, self.plan.detectors().len())
+        Interval::begin(alloc, kept, detectors)
     }
 
     // Adds one more step that ends the interval, and returns the road before it. What can fail for memory is done

@@ -113,12 +113,12 @@ impl Dice {
 // Whether a sheet shows the states that the run from step zero has at some steps, which goes on from each to the next; the
 // sheet by words that are kept.
 fn states_agree(alloc: Global, sheet: &Sheet, steps: &[u32]) -> Result<bool, Fail> {
-    sheet.known();
     let mut words = WordCache::of(alloc, sheet.plan());
     let mut last = State::opening(alloc);
     for place in steps {
         let step = (*place).min(sheet.horizon());
-        last = state_at(alloc, sheet.plan(), sheet.scenario(), &last, step)?;
+        let mut fresh = WordCache::of(alloc, sheet.plan());
+        last = state_at(alloc, sheet.plan(), sheet.scenario(), &last, step, &mut fresh)?;
         if sheet.state_with(alloc, step, &mut words)?.cars() != last.road.cars() {
             return Ok(false);
         }
@@ -134,13 +134,14 @@ fn totals_of_run(
     from: u32,
     to: u32,
 ) -> Result<Totals, Fail> {
-    sheet.known();
     if from > to || to > 1_048_576 || sheet.plan().detectors().len() <= detector as usize {
         return Err(Fail::new("no such steps, or no such detector"));
     }
+    let (plan, scenario) = (sheet.plan(), sheet.scenario());
+    let mut words = WordCache::of(alloc, plan);
     let opening = State::opening(alloc);
-    let first = state_at(alloc, sheet.plan(), sheet.scenario(), &opening, from)?;
-    let (totals, _) = totals_between(alloc, sheet.plan(), sheet.scenario(), first, detector, to)?;
+    let first = state_at(alloc, plan, scenario, &opening, from, &mut words)?;
+    let (totals, _) = totals_between(alloc, plan, scenario, first, detector, to, &mut words)?;
     Ok(totals)
 }
 

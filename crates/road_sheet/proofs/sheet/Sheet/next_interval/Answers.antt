@@ -14,6 +14,6 @@ of-requires c =
     let s = c.args.self.now in
     subst (λ a. AreSmall (cars_of a)) (sym c.requires.road)
     (small_cars s.plan (settings_of s.plan s.edits) (s.horizon + 1)
-    (subst IsWithinLimits (c.deref.ensures ∙ ap (λ (x : Sheet). x.plan) c.self.view_is) c.known.ensures)
+    (subst IsWithinLimits (c.deref-2.ensures ∙ ap (λ (x : Sheet). x.plan) c.self.view_is) c.detectors-detectors.ensures.within)
     (omega arith)
-    (subst StayOnRoad (c.deref-2.ensures ∙ ap (λ (x : Sheet). x.plan) c.self.view_is) c.cars_stay_on_road.ensures))
+    (subst StayOnRoad (c.deref.ensures ∙ ap (λ (x : Sheet). x.plan) c.self.view_is) c.cars_stay_on_road.ensures))

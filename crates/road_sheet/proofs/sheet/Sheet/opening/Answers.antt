@@ -16,5 +16,5 @@ invariant_of-result c =
     (c.empty-3.ensures.fits p)
     c.in_ok-intervals.ensures
     (c.in_ok-open_interval.ensures.start ∙ c.empty.ensures)
-    (c.in_ok-open_interval.ensures.totals ∙ ap (λ n. replicate n no_totals) (ap length c.detectors.ensures ∙ ap (λ (q : Plan). length q.detectors) c.deref.ensures))
+    (c.in_ok-open_interval.ensures.totals ∙ ap (λ n. replicate n no_totals) (ap length c.detectors.ensures.detectors ∙ ap (λ (q : Plan). length q.detectors) c.deref.ensures))
     c.empty-4.ensures
