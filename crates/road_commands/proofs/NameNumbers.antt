@@ -1,13 +1,12 @@
 -- Names in a list, and their numbers in a map.
 use Rattle.std.proofs.Common.{◌≡◌, ◌<◌, ◌+◌, ℕ, List, [], ◌∷◌, ◌++◌, Bool, true, false, Option, Some, None, cond, nat_lt, suc, length, arith, refl, ap, sym, ◌∙◌, subst, append_assoc, string_bytes, String, Global}
-use Rattle.std.specs.Prelude.{not, take, ◌||◌}
+use Rattle.std.specs.Prelude.{not, ◌||◌}
 use Rattle.std.specs.Option.{option_map}
 use Rattle.std.specs.Str.{bytes_eq}
 use Rattle.std.specs.Cmp.Lexicographic.{bytes_decides, nat_list_eq_equiv}
 use Rattle.std.specs.BTreeMap.{BTreeMap, get_by_text}
 use Rattle.std.specs.List.{position, prefix_len, list_any, AllByRecursion, IsDistinct}
 use Rattle.std.proofs.lemmas.Bool.{lt-ltb, ltb-true, ltb-false, le-ltb}
-use Rattle.std.proofs.lemmas.List.{take-map}
 use Rattle.road_format.specs.Views.{texts}
 use Rattle.road_commands.specs.Laboratory.{number_of}
 use Rattle.road_commands.specs.Private.Numbering.{IsNumbering}
@@ -171,8 +170,3 @@ pub next_put : (all done new : List (List ℕ)) (rest behind : List (String Glob
 next_put all done new rest behind name is next put =
     ap (λ (xs : List (List ℕ)). xs ++ texts behind) put ∙ append_assoc done (string_bytes name ∷ []) (texts behind)
     ∙ ap (λ (xs : List (String Global)). done ++ texts xs) (sym next) ∙ is
-
--- ---- the first names
-
-pub texts_cut : (strings new : List (String Global)) (n : ℕ) (names : List (List ℕ)) → texts strings ≡ names → new ≡ take n strings → texts new ≡ take n names
-texts_cut strings new n names are cut = ap texts cut ∙ sym (take-map string_bytes n strings) ∙ ap (take n) are
