@@ -99,9 +99,9 @@ impl Laboratory {
         })
     }
 
-    /// Answers a command. A write computes anew, by the crew that it is given, every simulated step that it
-    /// touches before it answers. A crowd that nothing refuses is gathered by `crowds`. A refused command changes nothing,
-    /// and a crowd neither.
+    /// Answers a command. A write computes anew, by the crew that it is given, every simulated step that it touches before
+    /// it answers. A crowd that nothing refuses is gathered by `crowds`. A refused command changes nothing, and a crowd
+    /// neither.
     ///
     /// # Errors
     ///

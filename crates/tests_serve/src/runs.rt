@@ -20,7 +20,7 @@ const FREE_ROAD: &str =
     r#"{"detectors":[5],"exit":1,"inlets":[[0,65536]],"length":12,"replicas":["A","B","C"],"words":7,"zone":12,"zones":[[2,0]]}
 "#;
 
-// A sink with room for 1,000 bytes, so that none of its writes wants memory.
+// Returns a sink with room for 1,000 bytes, so that none of its writes wants memory.
 fn sink(alloc: Global) -> Result<MemorySink, OutOfMemory> {
     let bytes = Vec::with_capacity(alloc, 1000)?;
     Ok(MemorySink::new(bytes, 1000, Failing::Never, Failing::Never))
@@ -41,7 +41,7 @@ impl Crowds for Unmanned {
     }
 }
 
-// How a run ended. out of memory ends the test in its place.
+// Returns how a run ended. Out of memory ends the test in its place.
 fn end_of(ended: Result<Served, ServeFault>) -> Result<Result<Served, ServeFault>, OutOfMemory> {
     match ended {
         Err(ServeFault::OutOfMemory) => Err(OutOfMemory),
@@ -271,7 +271,7 @@ const CROWDS: &str = r#"{"crowd":{"form":2,"shares":[[["limit",0,0,1,3,1]]],"to"
 {"advance":{"at":"A","to":1}}
 "#;
 
-// What cannot be gathered ends the run, and the crew, which was not asked, has not answered so. A refused crowd asks nobody.
+// Returns what cannot be gathered ends the run, and the crew, which was not asked, has not answered so. A refused crowd asks nobody.
 #[test]
 fn a_crowd_without_threads(rt: HostRuntime) -> Result<(), Fail> {
     let alloc = rt.alloc();
@@ -377,7 +377,7 @@ impl io::Read for Faltering {
     }
 }
 
-// A run over a writer of std: all its replies are passed on, or the flush that fails ends it, and no flush is tried again.
+// Returns a run over a writer of std: all its replies are passed on, or the flush that fails ends it, and no flush is tried again.
 #[test]
 fn writers_of_std(rt: HostRuntime) -> Result<(), Fail> {
     for (fails_at, whole) in [(u32::MAX, true), (0, false), (1, false)] {
@@ -403,7 +403,7 @@ fn writers_of_std(rt: HostRuntime) -> Result<(), Fail> {
     Ok(())
 }
 
-// A write that fails, or takes no byte, is not tried again, though the next one would succeed.
+// Returns a write that fails, or takes no byte, is not tried again, though the next one would succeed.
 #[test]
 fn a_failed_write_of_std(rt: HostRuntime) -> Result<(), Fail> {
     for is_empty in [false, true] {
@@ -420,7 +420,7 @@ fn a_failed_write_of_std(rt: HostRuntime) -> Result<(), Fail> {
     Ok(())
 }
 
-// A reader of std: its error is a fault and no end of input, and its next bytes come with the next call.
+// Returns a reader of std: its error is a fault and no end of input, and its next bytes come with the next call.
 #[test]
 fn readers_of_std(rt: HostRuntime) {
     let mut reader = StdSource::new(Faltering { calls: 0 });
