@@ -899,7 +899,7 @@ fn long_import(alloc: Global, count: usize) -> Result<String, OutOfMemory> {
     )
 }
 
-// Returns that an import has so many edits that put 2 and behind them one that puts 3.
+// Tests that an import has so many edits that put 2 and behind them one that puts 3.
 fn has_edits(rt: &impl Abort, command: &Command, count: usize) {
     let edits = match command {
         Command::Import { edits, .. } => edits.as_slice(),

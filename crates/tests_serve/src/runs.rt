@@ -271,7 +271,7 @@ const CROWDS: &str = r#"{"crowd":{"form":2,"shares":[[["limit",0,0,1,3,1]]],"to"
 {"advance":{"at":"A","to":1}}
 "#;
 
-// Returns what cannot be gathered ends the run, and the crew, which was not asked, has not answered so. A refused crowd asks nobody.
+// What cannot be gathered ends the run, and the crew, which was not asked, has not answered so. A refused crowd asks nobody.
 #[test]
 fn a_crowd_without_threads(rt: HostRuntime) -> Result<(), Fail> {
     let alloc = rt.alloc();
@@ -377,7 +377,7 @@ impl io::Read for Faltering {
     }
 }
 
-// Returns a run over a writer of std: all its replies are passed on, or the flush that fails ends it, and no flush is tried again.
+// A run over a writer of std: all its replies are passed on, or the flush that fails ends it, and no flush is tried again.
 #[test]
 fn writers_of_std(rt: HostRuntime) -> Result<(), Fail> {
     for (fails_at, whole) in [(u32::MAX, true), (0, false), (1, false)] {
@@ -403,7 +403,7 @@ fn writers_of_std(rt: HostRuntime) -> Result<(), Fail> {
     Ok(())
 }
 
-// Returns a write that fails, or takes no byte, is not tried again, though the next one would succeed.
+// A write that fails, or takes no byte, is not tried again, though the next one would succeed.
 #[test]
 fn a_failed_write_of_std(rt: HostRuntime) -> Result<(), Fail> {
     for is_empty in [false, true] {
@@ -420,7 +420,7 @@ fn a_failed_write_of_std(rt: HostRuntime) -> Result<(), Fail> {
     Ok(())
 }
 
-// Returns a reader of std: its error is a fault and no end of input, and its next bytes come with the next call.
+// A reader of std: its error is a fault and no end of input, and its next bytes come with the next call.
 #[test]
 fn readers_of_std(rt: HostRuntime) {
     let mut reader = StdSource::new(Faltering { calls: 0 });
