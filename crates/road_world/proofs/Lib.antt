@@ -8,6 +8,6 @@ pub mod PlayedEvents
 pub mod EventSteps
 pub mod KeptWorlds
 pub mod EventAnswers
-pub mod LocalEdits
+pub mod AppliedEvents
 pub mod ListedWorlds
 pub mod Examples
