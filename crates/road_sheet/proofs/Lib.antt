@@ -8,3 +8,4 @@ pub mod SameRuns
 pub mod Shelves
 pub mod SheetIntervals
 pub mod SmallCars
+mod Examples

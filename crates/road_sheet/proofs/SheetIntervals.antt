@@ -1,4 +1,4 @@
--- The intervals of a sheet: one step more, cut back, and the same run by other edits.
+-- The intervals of a sheet: one more step, a checkpoint, and the same run by other edits.
 use Rattle.std.proofs.Common.{◌≡◌, ◌≢◌, ◌≤◌, ◌<◌, ◌+◌, ◌*◌, ◌/◌, ◌%◌, ◌^◌, ◌∙◌, ◌⊎◌, inl, inr, ℕ, zero, suc, List, [], ◌∷◌, ◌++◌, length, take, replicate, min, Some, ap, sym, subst, arith, refl}
 use Rattle.std.proofs.lemmas.List.{get_or-replicate, length-replicate, length-take-le, length_push}
 use Rattle.std.proofs.lemmas.Option.{slice_get_within}
@@ -72,19 +72,18 @@ get_take (suc n) (y ∷ xs) x (suc k) h = let r = get_take n xs x k h in (r.0, o
 later : (s : Sheet) → IsSheet s → s.horizon < GREATEST_HORIZON → IsSheet (sheet_after_step s)
 later s is early = record { winners = is.winners; in_range = is.in_range; within_limit = omega (arith, early) }
 
--- the first step of the interval that the horizon cuts
 cut_start : (n h : ℕ) → 64 * n ≤ h → h < 64 * n + 64 → 64 * (h / 64) ≡ 64 * n
 cut_start n h begun going = omega arith
 
 -- within the interval
-pub step_within : (s : Sheet) (whole : List Interval) (cut new : Interval) (last road : Array) → IsRunOf s whole cut last → s.horizon < GREATEST_HORIZON → road ≡ run_at s.plan s.edits (s.horizon + 1) → new.start ≡ cut.start
-    → AreTotals s.plan s.edits (64 * (s.horizon / 64)) (s.horizon + 1) new.totals.items → (s.horizon + 1) % 64 ≢ 0 → IsRunOf (sheet_after_step s) whole new road
-step_within s whole cut new last road is early next start totals off = record {
+pub step_within : (s : Sheet) (intervals : List Interval) (open_interval new : Interval) (at_horizon road : Array) → IsRunOf s intervals open_interval at_horizon → s.horizon < GREATEST_HORIZON → road ≡ run_at s.plan s.edits (s.horizon + 1) → new.start ≡ open_interval.start
+    → AreTotals s.plan s.edits (64 * (s.horizon / 64)) (s.horizon + 1) new.totals.items → (s.horizon + 1) % 64 ≢ 0 → IsRunOf (sheet_after_step s) intervals new road
+step_within s intervals open_interval new at_horizon road is early next start totals off = record {
   sheet = later s is.sheet early;
   begun = let b = is.begun in omega (arith, b);
-  not_ended = going (length whole) s.horizon is.begun is.not_ended off;
+  not_ended = going (length intervals) s.horizon is.begun is.not_ended off;
   each = is.each;
-  open_interval = record { start = start ∙ is.open_interval.start; totals = subst (λ n. AreTotals s.plan s.edits n (s.horizon + 1) new.totals.items) (cut_start (length whole) s.horizon is.begun is.not_ended) totals };
+  open_interval = record { start = start ∙ is.open_interval.start; totals = subst (λ n. AreTotals s.plan s.edits n (s.horizon + 1) new.totals.items) (cut_start (length intervals) s.horizon is.begun is.not_ended) totals };
   at_horizon = next;
 }
   where
@@ -92,21 +91,21 @@ step_within s whole cut new last road is early next start totals off = record {
     going n h a b c = omega (arith, a, b, c)
 
 -- to the end of the interval
-pub step_to_end : (s : Sheet) (whole more : List Interval) (cut new begun : Interval) (last road : Array) → IsRunOf s whole cut last → s.horizon < GREATEST_HORIZON → road ≡ run_at s.plan s.edits (s.horizon + 1) → new.start ≡ cut.start
+pub step_to_end : (s : Sheet) (intervals more : List Interval) (open_interval new begun : Interval) (at_horizon road : Array) → IsRunOf s intervals open_interval at_horizon → s.horizon < GREATEST_HORIZON → road ≡ run_at s.plan s.edits (s.horizon + 1) → new.start ≡ open_interval.start
     → AreTotals s.plan s.edits (64 * (s.horizon / 64)) (s.horizon + 1) new.totals.items
-    → begun.start ≡ road → begun.totals.items ≡ replicate (length s.plan.detectors) no_totals → more ≡ whole ++ new ∷ []
+    → begun.start ≡ road → begun.totals.items ≡ replicate (length s.plan.detectors) no_totals → more ≡ intervals ++ new ∷ []
     → (s.horizon + 1) % 64 ≡ 0 → IsRunOf (sheet_after_step s) more begun road
-step_to_end s whole more cut new begun last road is early next start totals first zeros all on =
-    let many_more = length_push whole new in
-    let end : s.horizon + 1 ≡ 64 * length whole + 64 = at_end (length whole) s.horizon is.begun is.not_ended on in
-    let next_interval : 64 * length (whole ++ new ∷ []) ≡ s.horizon + 1 = omega (arith, many_more, end) in
-    let counted = subst (λ n. AreTotals s.plan s.edits n (s.horizon + 1) new.totals.items) (cut_start (length whole) s.horizon is.begun is.not_ended) totals in
-    let here : IsInterval s.plan s.edits (64 * length whole) (64 * length whole + 64) new = record { start = start ∙ is.open_interval.start; totals = subst (λ n. AreTotals s.plan s.edits (64 * length whole) n new.totals.items) end counted } in
+step_to_end s intervals more open_interval new begun at_horizon road is early next start totals first zeros all on =
+    let many_more = length_push intervals new in
+    let end : s.horizon + 1 ≡ 64 * length intervals + 64 = at_end (length intervals) s.horizon is.begun is.not_ended on in
+    let next_interval : 64 * length (intervals ++ new ∷ []) ≡ s.horizon + 1 = omega (arith, many_more, end) in
+    let counted = subst (λ n. AreTotals s.plan s.edits n (s.horizon + 1) new.totals.items) (cut_start (length intervals) s.horizon is.begun is.not_ended) totals in
+    let here : IsInterval s.plan s.edits (64 * length intervals) (64 * length intervals + 64) new = record { start = start ∙ is.open_interval.start; totals = subst (λ n. AreTotals s.plan s.edits (64 * length intervals) n new.totals.items) end counted } in
     rw all (record {
       sheet = later s is.sheet early;
       begun = omega (arith, next_interval);
       not_ended = omega (arith, next_interval);
-      each = λ k b g. elim (get_push whole new b k g) as (λ _. IsInterval s.plan s.edits (64 * k) (64 * k + 64) b) [
+      each = λ k b g. elim (get_push intervals new b k g) as (λ _. IsInterval s.plan s.edits (64 * k) (64 * k + 64) b) [
         | inl i ↦ is.each k b i
         | inr i ↦ subst (λ c. IsInterval s.plan s.edits (64 * k) (64 * k + 64) c) i.1 (subst (λ n. IsInterval s.plan s.edits (64 * n) (64 * n + 64) new) (sym i.0) here)
       ];
@@ -118,55 +117,55 @@ step_to_end s whole more cut new begun last road is early next start totals firs
     at_end n h a b c = omega (arith, a, b, c)
 
 -- the same, by the sheet that contracts see
-pub ends_interval : (s now : Sheet) (h : ℕ) (whole more : List Interval) (cut new begun : Interval) (last road : Array) → IsRunOf s whole cut last → s ≡ now → now.horizon < GREATEST_HORIZON → road ≡ run_at now.plan now.edits (now.horizon + 1)
+pub ends_interval : (s now : Sheet) (h : ℕ) (intervals more : List Interval) (open_interval new begun : Interval) (at_horizon road : Array) → IsRunOf s intervals open_interval at_horizon → s ≡ now → now.horizon < GREATEST_HORIZON → road ≡ run_at now.plan now.edits (now.horizon + 1)
     → AreTotals now.plan now.edits (64 * (now.horizon / 64)) (now.horizon + 1) new.totals.items → (now.horizon + 1) % 64 ≡ 0 → h ≡ now.horizon → begun.totals.items ≡ replicate (length now.plan.detectors) no_totals
-    → new.start ≡ cut.start → begun.start ≡ road → more ≡ whole ++ new ∷ [] → IsRunOf (record { plan = s.plan; edits = s.edits; horizon = h + 1 }) more begun road
-ends_interval s now h whole more cut new begun last road is view early next totals on same zeros start first all =
+    → new.start ≡ open_interval.start → begun.start ≡ road → more ≡ intervals ++ new ∷ [] → IsRunOf (record { plan = s.plan; edits = s.edits; horizon = h + 1 }) more begun road
+ends_interval s now h intervals more open_interval new begun at_horizon road is view early next totals on same zeros start first all =
     subst
     (λ (x : Sheet). x.horizon < GREATEST_HORIZON → road ≡ run_at x.plan x.edits (x.horizon + 1) → AreTotals x.plan x.edits (64 * (x.horizon / 64)) (x.horizon + 1) new.totals.items → (x.horizon + 1) % 64 ≡ 0 → h ≡ x.horizon
     → begun.totals.items ≡ replicate (length x.plan.detectors) no_totals → IsRunOf (record { plan = s.plan; edits = s.edits; horizon = h + 1 }) more begun road) view
-    (λ e n t o k z. subst (λ (u : ℕ). IsRunOf (record { plan = s.plan; edits = s.edits; horizon = u + 1 }) more begun road) (sym k) (step_to_end s whole more cut new begun last road is e n start t first z all o)) early next totals on same zeros
+    (λ e n t o k z. subst (λ (u : ℕ). IsRunOf (record { plan = s.plan; edits = s.edits; horizon = u + 1 }) more begun road) (sym k) (step_to_end s intervals more open_interval new begun at_horizon road is e n start t first z all o)) early next totals on same zeros
 
 -- a step within the interval, by the sheet that contracts see
-pub stays_in_interval : (s now : Sheet) (h : ℕ) (whole : List Interval) (cut new : Interval) (last road : Array) → IsRunOf s whole cut last → s ≡ now → now.horizon < GREATEST_HORIZON → road ≡ run_at now.plan now.edits (now.horizon + 1)
-    → AreTotals now.plan now.edits (64 * (now.horizon / 64)) (now.horizon + 1) new.totals.items → (now.horizon + 1) % 64 ≢ 0 → h ≡ now.horizon → new.start ≡ cut.start → IsRunOf (record { plan = s.plan; edits = s.edits; horizon = h + 1 }) whole new road
-stays_in_interval s now h whole cut new last road is view early next totals off same start =
+pub stays_in_interval : (s now : Sheet) (h : ℕ) (intervals : List Interval) (open_interval new : Interval) (at_horizon road : Array) → IsRunOf s intervals open_interval at_horizon → s ≡ now → now.horizon < GREATEST_HORIZON → road ≡ run_at now.plan now.edits (now.horizon + 1)
+    → AreTotals now.plan now.edits (64 * (now.horizon / 64)) (now.horizon + 1) new.totals.items → (now.horizon + 1) % 64 ≢ 0 → h ≡ now.horizon → new.start ≡ open_interval.start → IsRunOf (record { plan = s.plan; edits = s.edits; horizon = h + 1 }) intervals new road
+stays_in_interval s now h intervals open_interval new at_horizon road is view early next totals off same start =
     subst
     (λ (x : Sheet). x.horizon < GREATEST_HORIZON → road ≡ run_at x.plan x.edits (x.horizon + 1) → AreTotals x.plan x.edits (64 * (x.horizon / 64)) (x.horizon + 1) new.totals.items → (x.horizon + 1) % 64 ≢ 0 → h ≡ x.horizon
-    → IsRunOf (record { plan = s.plan; edits = s.edits; horizon = h + 1 }) whole new road) view
-    (λ e n t o k. subst (λ (u : ℕ). IsRunOf (record { plan = s.plan; edits = s.edits; horizon = u + 1 }) whole new road) (sym k) (step_within s whole cut new last road is e n start t o)) early next totals off same
+    → IsRunOf (record { plan = s.plan; edits = s.edits; horizon = h + 1 }) intervals new road) view
+    (λ e n t o k. subst (λ (u : ℕ). IsRunOf (record { plan = s.plan; edits = s.edits; horizon = u + 1 }) intervals new road) (sym k) (step_within s intervals open_interval new at_horizon road is e n start t o)) early next totals off same
 
 -- the totals of the cut interval
-pub cut_totals : (s t : Sheet) (whole : List Interval) (cut : Interval) (last : Array) → IsRunOf s whole cut last → s ≡ t → AreTotals t.plan t.edits (64 * (t.horizon / 64)) t.horizon cut.totals.items
-cut_totals s t whole cut last is same =
-    subst (λ (x : Sheet). AreTotals x.plan x.edits (64 * (x.horizon / 64)) x.horizon cut.totals.items) same
-    (subst (λ n. AreTotals s.plan s.edits n s.horizon cut.totals.items) (sym (cut_start (length whole) s.horizon is.begun is.not_ended)) is.open_interval.totals)
+pub cut_totals : (s t : Sheet) (intervals : List Interval) (open_interval : Interval) (at_horizon : Array) → IsRunOf s intervals open_interval at_horizon → s ≡ t → AreTotals t.plan t.edits (64 * (t.horizon / 64)) t.horizon open_interval.totals.items
+cut_totals s t intervals open_interval at_horizon is same =
+    subst (λ (x : Sheet). AreTotals x.plan x.edits (64 * (x.horizon / 64)) x.horizon open_interval.totals.items) same
+    (subst (λ n. AreTotals s.plan s.edits n s.horizon open_interval.totals.items) (sym (cut_start (length intervals) s.horizon is.begun is.not_ended)) is.open_interval.totals)
 
 -- ---- what the detectors have counted with the next step
 
 -- the cars fit
-pub next_cars_fit : (s t : Sheet) (whole : List Interval) (cut : Interval) (last : Array) (input : StepInput) (speeds : List ℕ) (xs : List Totals) → IsRunOf s whole cut last → s ≡ t → BoundTotals s.plan → PassOneByOne s.plan → t.horizon < GREATEST_HORIZON
-    → input ≡ next_input t → speeds ≡ input_speeds input → xs ≡ cut.totals.items → (d : ℕ) → d < length xs → (slice_index_or xs d no_totals).cars + (passes_at input speeds d).cars < 2 ^ 32
-next_cars_fit s t whole cut last input speeds xs is same bounded alone early at new kept d below =
-    let counted = subst (AreTotals t.plan t.edits (64 * (t.horizon / 64)) t.horizon) (sym kept) (cut_totals s t whole cut last is same) in
+pub next_cars_fit : (s t : Sheet) (intervals : List Interval) (open_interval : Interval) (at_horizon : Array) (input : StepInput) (speeds : List ℕ) (xs : List Totals) → IsRunOf s intervals open_interval at_horizon → s ≡ t → BoundTotals s.plan → PassOneByOne s.plan → t.horizon < GREATEST_HORIZON
+    → input ≡ next_input t → speeds ≡ input_speeds input → xs ≡ open_interval.totals.items → (d : ℕ) → d < length xs → (slice_index_or xs d no_totals).cars + (passes_at input speeds d).cars < 2 ^ 32
+next_cars_fit s t intervals open_interval at_horizon input speeds xs is same bounded alone early at new kept d below =
+    let counted = subst (AreTotals t.plan t.edits (64 * (t.horizon / 64)) t.horizon) (sym kept) (cut_totals s t intervals open_interval at_horizon is same) in
     let plan = ap (λ (x : Sheet). x.plan) same in
     cars_fit t.plan (settings_of t.plan t.edits) d (64 * (t.horizon / 64)) t.horizon (slice_index_or xs d no_totals) (passes_at input speeds d) (subst BoundTotals plan bounded) (subst PassOneByOne plan alone) (omega (arith, early))
     (counted.counted d (omega (arith, counted.each, below))) (passed_next t input speeds d at new)
 
 -- their speeds fit
-pub next_speeds_fit : (s t : Sheet) (whole : List Interval) (cut : Interval) (last : Array) (input : StepInput) (speeds : List ℕ) (xs : List Totals) → IsRunOf s whole cut last → s ≡ t → BoundTotals s.plan → PassOneByOne s.plan → t.horizon < GREATEST_HORIZON
-    → input ≡ next_input t → speeds ≡ input_speeds input → xs ≡ cut.totals.items → (d : ℕ) → d < length xs → (slice_index_or xs d no_totals).speeds + (passes_at input speeds d).speeds < 2 ^ 32
-next_speeds_fit s t whole cut last input speeds xs is same bounded alone early at new kept d below =
-    let counted = subst (AreTotals t.plan t.edits (64 * (t.horizon / 64)) t.horizon) (sym kept) (cut_totals s t whole cut last is same) in
+pub next_speeds_fit : (s t : Sheet) (intervals : List Interval) (open_interval : Interval) (at_horizon : Array) (input : StepInput) (speeds : List ℕ) (xs : List Totals) → IsRunOf s intervals open_interval at_horizon → s ≡ t → BoundTotals s.plan → PassOneByOne s.plan → t.horizon < GREATEST_HORIZON
+    → input ≡ next_input t → speeds ≡ input_speeds input → xs ≡ open_interval.totals.items → (d : ℕ) → d < length xs → (slice_index_or xs d no_totals).speeds + (passes_at input speeds d).speeds < 2 ^ 32
+next_speeds_fit s t intervals open_interval at_horizon input speeds xs is same bounded alone early at new kept d below =
+    let counted = subst (AreTotals t.plan t.edits (64 * (t.horizon / 64)) t.horizon) (sym kept) (cut_totals s t intervals open_interval at_horizon is same) in
     let plan = ap (λ (x : Sheet). x.plan) same in
     speeds_fit t.plan (settings_of t.plan t.edits) d (64 * (t.horizon / 64)) t.horizon (slice_index_or xs d no_totals) (passes_at input speeds d) (subst BoundTotals plan bounded) (subst PassOneByOne plan alone) (omega (arith, early))
     (counted.counted d (omega (arith, counted.each, below))) (passed_next t input speeds d at new)
 
 -- they are the totals up to the step after it
-pub counted_next : (s t : Sheet) (whole : List Interval) (cut : Interval) (last : Array) (input : StepInput) (speeds : List ℕ) (xs ys : List Totals) → IsRunOf s whole cut last → s ≡ t → input ≡ next_input t → speeds ≡ input_speeds input → xs ≡ cut.totals.items
+pub counted_next : (s t : Sheet) (intervals : List Interval) (open_interval : Interval) (at_horizon : Array) (input : StepInput) (speeds : List ℕ) (xs ys : List Totals) → IsRunOf s intervals open_interval at_horizon → s ≡ t → input ≡ next_input t → speeds ≡ input_speeds input → xs ≡ open_interval.totals.items
     → length ys ≡ length xs → ((d : ℕ) → d < length xs → slice_index_or ys d no_totals ≡ plus (slice_index_or xs d no_totals) (passes_at input speeds d)) → AreTotals t.plan t.edits (64 * (t.horizon / 64)) (t.horizon + 1) ys
-counted_next s t whole cut last input speeds xs ys is same at new kept many more =
-    let counted = subst (AreTotals t.plan t.edits (64 * (t.horizon / 64)) t.horizon) (sym kept) (cut_totals s t whole cut last is same) in
+counted_next s t intervals open_interval at_horizon input speeds xs ys is same at new kept many more =
+    let counted = subst (AreTotals t.plan t.edits (64 * (t.horizon / 64)) t.horizon) (sym kept) (cut_totals s t intervals open_interval at_horizon is same) in
     counted_more t.plan t.edits (64 * (t.horizon / 64)) t.horizon xs ys (omega arith) counted many
     (λ d below. more d below ∙ ap (plus (slice_index_or xs d no_totals)) (passed_next t input speeds d at new))
 
@@ -184,29 +183,29 @@ copied p e a h b c start totals is = record { start = start ∙ is.start; totals
 abbrev with_edits : Sheet → Edits → ℕ → Sheet
 with_edits s t h = record { plan = s.plan; edits = t; horizon = h }
 
-went_on : (s : Sheet) (t : Edits) (whole shared : List Interval) (cut new : Interval) (last road : Array) → IsRunOf s whole cut last → AreWinners t → AreInRange s.plan t → GiveSameRun s.plan s.edits t s.horizon
-    → shared ≡ whole → new.start ≡ cut.start → new.totals.items ≡ cut.totals.items → road ≡ last → IsRunOf (with_edits s t s.horizon) shared new road
-went_on s t whole shared cut new last road is won fits same all start totals at = rw all (record {
+went_on : (s : Sheet) (t : Edits) (intervals shared : List Interval) (open_interval new : Interval) (at_horizon road : Array) → IsRunOf s intervals open_interval at_horizon → AreWinners t → AreInRange s.plan t → GiveSameRun s.plan s.edits t s.horizon
+    → shared ≡ intervals → new.start ≡ open_interval.start → new.totals.items ≡ open_interval.totals.items → road ≡ at_horizon → IsRunOf (with_edits s t s.horizon) shared new road
+went_on s t intervals shared open_interval new at_horizon road is won fits same all start totals at = rw all (record {
   sheet = record { winners = won; in_range = fits; within_limit = is.sheet.within_limit };
   begun = is.begun;
   not_ended = is.not_ended;
-  each = λ k b g. let l = slice_get_within whole k b g in let n = is.begun in moved s.plan s.edits t s.horizon (64 * k) (64 * k + 64) b same (omega arith) (omega (arith, l, n)) (is.each k b g);
-  open_interval = let n = is.begun in moved s.plan s.edits t s.horizon (64 * length whole) s.horizon new same n (omega arith) (copied s.plan s.edits (64 * length whole) s.horizon cut new start totals is.open_interval);
+  each = λ k b g. let l = slice_get_within intervals k b g in let n = is.begun in moved s.plan s.edits t s.horizon (64 * k) (64 * k + 64) b same (omega arith) (omega (arith, l, n)) (is.each k b g);
+  open_interval = let n = is.begun in moved s.plan s.edits t s.horizon (64 * length intervals) s.horizon new same n (omega arith) (copied s.plan s.edits (64 * length intervals) s.horizon open_interval new start totals is.open_interval);
   at_horizon = at ∙ is.at_horizon ∙ same.state s.horizon (omega arith);
 })
 
-went_back : (s : Sheet) (t : Edits) (m : ℕ) (whole shared : List Interval) (cut new : Interval) (last road : Array) → IsRunOf s whole cut last → AreWinners t → AreInRange s.plan t → 64 * m ≤ s.horizon → GiveSameRun s.plan s.edits t (64 * m)
-    → shared ≡ take m whole → road ≡ run_at s.plan s.edits (64 * m) → new.start ≡ road → new.totals.items ≡ replicate (length s.plan.detectors) no_totals → IsRunOf (with_edits s t (64 * m)) shared new road
-went_back s t m whole shared cut new last road is won fits below same some at start zeros =
+went_back : (s : Sheet) (t : Edits) (m : ℕ) (intervals shared : List Interval) (open_interval new : Interval) (at_horizon road : Array) → IsRunOf s intervals open_interval at_horizon → AreWinners t → AreInRange s.plan t → 64 * m ≤ s.horizon → GiveSameRun s.plan s.edits t (64 * m)
+    → shared ≡ take m intervals → road ≡ run_at s.plan s.edits (64 * m) → new.start ≡ road → new.totals.items ≡ replicate (length s.plan.detectors) no_totals → IsRunOf (with_edits s t (64 * m)) shared new road
+went_back s t m intervals shared open_interval new at_horizon road is won fits below same some at start zeros =
     let n = is.not_ended in
     let e = is.sheet.within_limit in
-    let many : length (take m whole) ≡ m = length-take-le m whole (omega (arith, n, below)) in
+    let many : length (take m intervals) ≡ m = length-take-le m intervals (omega (arith, n, below)) in
     let here : road ≡ run_at s.plan t (64 * m) = at ∙ same.state (64 * m) (omega arith) in
     rw some (record {
       sheet = record { winners = won; in_range = fits; within_limit = omega (arith, below, e) };
       begun = omega (arith, many);
       not_ended = omega (arith, many);
-      each = λ k b g. let r = get_take m whole b k g in let q = r.1 in moved s.plan s.edits t (64 * m) (64 * k) (64 * k + 64) b same (omega arith) (omega (arith, q)) (is.each k b r.0);
+      each = λ k b g. let r = get_take m intervals b k g in let q = r.1 in moved s.plan s.edits t (64 * m) (64 * k) (64 * k + 64) b same (omega arith) (omega (arith, q)) (is.each k b r.0);
       open_interval = subst (λ x. IsInterval s.plan t (64 * x) (64 * m) new) (sym many) (fresh s.plan t (64 * m) new (start ∙ here) zeros);
       at_horizon = here;
     })
@@ -216,61 +215,62 @@ sheet_of : (now : Sheet) (t : Edits) (p : Plan) (h k : ℕ) → p ≡ now.plan �
 sheet_of now t p h k plan same = λ i. record { plan = plan i; edits = t; horizon = same i }
 
 -- other edits that give the same run up to the horizon: all intervals stay
-pub stays_whole : (s now : Sheet) (t : Edits) (p : Plan) (h : ℕ) (whole shared : List Interval) (cut new : Interval) (last road : Array) → IsRunOf s whole cut last → s ≡ now → AreWinners t → AreInRange now.plan t
-    → GiveSameRun now.plan now.edits t now.horizon → p ≡ now.plan → h ≡ now.horizon → shared ≡ whole → new.start ≡ cut.start → new.totals.items ≡ cut.totals.items → road ≡ last
+pub stays_whole : (s now : Sheet) (t : Edits) (p : Plan) (h : ℕ) (intervals shared : List Interval) (open_interval new : Interval) (at_horizon road : Array) → IsRunOf s intervals open_interval at_horizon → s ≡ now → AreWinners t → AreInRange now.plan t
+    → GiveSameRun now.plan now.edits t now.horizon → p ≡ now.plan → h ≡ now.horizon → shared ≡ intervals → new.start ≡ open_interval.start → new.totals.items ≡ open_interval.totals.items → road ≡ at_horizon
     → IsRunOf (record { plan = p; edits = t; horizon = h }) shared new road
-stays_whole s now t p h whole shared cut new last road is view win fit same plan horizon all start totals at =
+stays_whole s now t p h intervals shared open_interval new at_horizon road is view win fit same plan horizon all start totals at =
     subst (λ (x : Sheet). IsRunOf x shared new road) (sym (sheet_of now t p h now.horizon plan horizon))
-    (went_on now t whole shared cut new last road (subst (λ (x : Sheet). IsRunOf x whole cut last) view is) win fit same all start totals at)
+    (went_on now t intervals shared open_interval new at_horizon road (subst (λ (x : Sheet). IsRunOf x intervals open_interval at_horizon) view is) win fit same all start totals at)
 
 -- other edits that give the same run up to the first step of an interval: the intervals before it stay
-pub stays_below : (s now : Sheet) (t : Edits) (p : Plan) (h m : ℕ) (whole shared : List Interval) (cut new : Interval) (last road : Array) → IsRunOf s whole cut last → s ≡ now → AreWinners t → AreInRange now.plan t
-    → 64 * m ≤ now.horizon → GiveSameRun now.plan now.edits t (64 * m) → p ≡ now.plan → h ≡ 64 * m → shared ≡ take m whole → road ≡ run_at now.plan now.edits (64 * m) → new.start ≡ road
+pub stays_below : (s now : Sheet) (t : Edits) (p : Plan) (h m : ℕ) (intervals shared : List Interval) (open_interval new : Interval) (at_horizon road : Array) → IsRunOf s intervals open_interval at_horizon → s ≡ now → AreWinners t → AreInRange now.plan t
+    → 64 * m ≤ now.horizon → GiveSameRun now.plan now.edits t (64 * m) → p ≡ now.plan → h ≡ 64 * m → shared ≡ take m intervals → road ≡ run_at now.plan now.edits (64 * m) → new.start ≡ road
     → new.totals.items ≡ replicate (length p.detectors) no_totals → IsRunOf (record { plan = p; edits = t; horizon = h }) shared new road
-stays_below s now t p h m whole shared cut new last road is view win fit below same plan horizon some at start zeros =
+stays_below s now t p h m intervals shared open_interval new at_horizon road is view win fit below same plan horizon some at start zeros =
     subst (λ (x : Sheet). IsRunOf x shared new road) (sym (sheet_of now t p h (64 * m) plan horizon))
-    (went_back now t m whole shared cut new last road (subst (λ (x : Sheet). IsRunOf x whole cut last) view is) win fit below same some at start
+    (went_back now t m intervals shared open_interval new at_horizon road (subst (λ (x : Sheet). IsRunOf x intervals open_interval at_horizon) view is) win fit below same some at start
     (zeros ∙ ap (λ (x : Plan). replicate (length x.detectors) no_totals) plan))
 
 -- ---- the opening sheet
 
-pub opened : (p : Plan) (e : Edits) (intervals : List Interval) (cut : Interval) (last : Array) → AreWinners e → AreInRange p e → intervals ≡ [] → cut.start ≡ [] → cut.totals.items ≡ replicate (length p.detectors) no_totals → last ≡ []
-    → IsRunOf (record { plan = p; edits = e; horizon = 0 }) intervals cut last
-opened p e intervals cut last win fit none bare zeros road = rw none (record {
+pub opened : (p : Plan) (e : Edits) (intervals : List Interval) (open_interval : Interval) (at_horizon : Array) → AreWinners e → AreInRange p e → intervals ≡ [] → open_interval.start ≡ [] → open_interval.totals.items ≡ replicate (length p.detectors) no_totals → at_horizon ≡ []
+    → IsRunOf (record { plan = p; edits = e; horizon = 0 }) intervals open_interval at_horizon
+opened p e intervals open_interval at_horizon win fit none bare zeros road = rw none (record {
   sheet = record { winners = win; in_range = fit; within_limit = omega arith };
   begun = omega arith;
   not_ended = omega arith;
   each = λ k b g. absurd (cc);
-  open_interval = fresh p e 0 cut bare zeros;
+  open_interval = fresh p e 0 open_interval bare zeros;
   at_horizon = road;
 })
 
--- ---- one interval
+-- ---- what is read of a sheet
+
+pub horizon_within : (s t : Sheet) (intervals : List Interval) (open_interval : Interval) (at_horizon : Array) → IsRunOf s intervals open_interval at_horizon → s ≡ t → t.horizon ≤ GREATEST_HORIZON
+horizon_within s t intervals open_interval at_horizon is same = subst (λ (x : Sheet). x.horizon ≤ GREATEST_HORIZON) same is.sheet.within_limit
 
 -- how many are whole
-pub many_whole : (s t : Sheet) (intervals : List Interval) (part : Interval) (road : Array) → IsRunOf s intervals part road → s ≡ t → length intervals ≡ t.horizon / 64
-many_whole s t intervals part road is same =
+pub many_whole : (s t : Sheet) (intervals : List Interval) (open_interval : Interval) (road : Array) → IsRunOf s intervals open_interval road → s ≡ t → length intervals ≡ t.horizon / 64
+many_whole s t intervals open_interval road is same =
     let horizon : s.horizon ≡ t.horizon = ap (λ (x : Sheet). x.horizon) same in
     let begun = is.begun in
     let ended = is.not_ended in
     omega (arith, horizon, begun, ended)
 
--- a whole one
-pub whole_interval : (s t : Sheet) (intervals : List Interval) (part : Interval) (road : Array) (k : ℕ) (b : Interval) → IsRunOf s intervals part road → s ≡ t → slice_get intervals k ≡ Some b
+pub whole_interval : (s t : Sheet) (intervals : List Interval) (open_interval : Interval) (road : Array) (k : ℕ) (b : Interval) → IsRunOf s intervals open_interval road → s ≡ t → slice_get intervals k ≡ Some b
     → IsInterval t.plan t.edits (64 * k) (min (64 * k + 64) t.horizon) b
-whole_interval s t intervals part road k b is same here =
+whole_interval s t intervals open_interval road k b is same here =
     let below = slice_get_within intervals k b here in
     let begun = is.begun in
     let end : 64 * k + 64 ≡ min (64 * k + 64) s.horizon = omega (arith, below, begun) in
     subst (λ (x : Sheet). IsInterval x.plan x.edits (64 * k) (min (64 * k + 64) x.horizon) b) same (subst (λ n. IsInterval s.plan s.edits (64 * k) n b) end (is.each k b here))
 
--- the interval that the horizon cuts
-pub cut_interval : (s t : Sheet) (intervals : List Interval) (part : Interval) (road : Array) (k : ℕ) → IsRunOf s intervals part road → s ≡ t → length intervals ≤ k → 64 * k ≤ t.horizon
-    → IsInterval t.plan t.edits (64 * k) (min (64 * k + 64) t.horizon) part
-cut_interval s t intervals part road k is same past begun =
+pub cut_interval : (s t : Sheet) (intervals : List Interval) (open_interval : Interval) (road : Array) (k : ℕ) → IsRunOf s intervals open_interval road → s ≡ t → length intervals ≤ k → 64 * k ≤ t.horizon
+    → IsInterval t.plan t.edits (64 * k) (min (64 * k + 64) t.horizon) open_interval
+cut_interval s t intervals open_interval road k is same past begun =
     let h : s.horizon ≡ t.horizon = ap (λ (x : Sheet). x.horizon) same in
     let ended = is.not_ended in
     let here : length intervals ≡ k = omega (arith, h, past, begun, ended) in
     let end : s.horizon ≡ min (64 * k + 64) s.horizon = omega (arith, here, ended) in
-    subst (λ (x : Sheet). IsInterval x.plan x.edits (64 * k) (min (64 * k + 64) x.horizon) part) same
-    (subst (λ n. IsInterval s.plan s.edits (64 * k) n part) end (subst (λ n. IsInterval s.plan s.edits (64 * n) s.horizon part) here is.open_interval))
+    subst (λ (x : Sheet). IsInterval x.plan x.edits (64 * k) (min (64 * k + 64) x.horizon) open_interval) same
+    (subst (λ n. IsInterval s.plan s.edits (64 * k) n open_interval) end (subst (λ n. IsInterval s.plan s.edits (64 * n) s.horizon open_interval) here is.open_interval))

@@ -1,5 +1,5 @@
 -- Sheets: a set of edits, and how far its run is simulated.
-use Rattle.std.specs.Prelude.{◌≡◌, ◌≤◌, ◌+◌, ℕ, not, nat_lt, List, length, if◌then◌else◌}
+use Rattle.std.specs.Prelude.{◌≡◌, ◌≤◌, ◌+◌, ◌%◌, ◌⊎◌, ℕ, not, nat_lt, List, length, if◌then◌else◌}
 use Rattle.std.specs.declared.option.Option.{Option}
 use Rattle.std.specs.declared.option.Option.TheVariants.{None, Some}
 use Rattle.lattice_core.specs.declared.greatest.Greatest.{Greatest}
@@ -17,6 +17,7 @@ use Rattle.road_detector.specs.declared.counts.Totals.{Totals}
 use Rattle.road_sheet.specs.Shown.{run_at, row_at, rows_at, total_at}
 use Rattle.road_sheet.specs.declared.faults.SheetFault.{SheetFault}
 use Rattle.road_sheet.specs.declared.faults.SheetFault.TheVariants.{NoDetector, Range, NotSimulated, OutOfMemory}
+use Rattle.road_sheet.specs.declared.interval.TheConstants.{INTERVAL_STEPS}
 
 -- a plan, edits, and the horizon: so many steps are simulated, and the road is known at each step from 0 to it
 pub record Sheet : Type 0 where
@@ -71,6 +72,11 @@ totals_fault s detector from to =
     if not (nat_lt detector (length s.plan.detectors)) then Some NoDetector
     else (if nat_lt to from then Some Range
     else (if nat_lt s.horizon to then Some NotSimulated else None))
+
+-- steps from a checkpoint up to a checkpoint or the horizon
+pub record AreWholeIntervals (s : Sheet) (from to : ℕ) : Type 0 where
+  pub begin : from % INTERVAL_STEPS ≡ 0
+  pub end : (to % INTERVAL_STEPS ≡ 0) ⊎ (to ≡ s.horizon)
 
 -- a refusal is for the named cause where there is one, and else for out of memory
 abbrev pub IsRefusalBy : Option SheetFault → SheetFault → Type 0

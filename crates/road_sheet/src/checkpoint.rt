@@ -1,4 +1,4 @@
-//! Roads that are kept.
+//! Checkpoints: roads that are kept in few bytes.
 
 ghost use Rattle.std.specs.Prelude.{◌≡◌, [], map, IfOk};
 ghost use Rattle.road_cells.specs.Cars.{cars_of};
@@ -9,7 +9,7 @@ use road_plan::OutOfMemory;
 use std::alloc::Global;
 use std::marker::Model;
 
-// A car of a checkpoint, in 6 bytes: of its number, which is below 2^24, the lower 16 bits and the upper 8.
+// A car in 6 bytes: of its number, which is below 2^24, the lower 16 bits and the upper 8.
 #[derive(Clone, Copy, Debug, PartialEq, Eq)]
 struct PackedCar {
     low: u16,
@@ -18,7 +18,7 @@ struct PackedCar {
     speed: u8,
 }
 
-// A road that is kept to go on from: its cars in 6 bytes each, in a list of exactly as many. Contracts see the road.
+// A road from which a run resumes. Contracts see the road.
 #[derive(Drop)]
 pub(crate) struct Checkpoint {
     cars: Vec<PackedCar>,
@@ -38,7 +38,7 @@ impl Model for Checkpoint {
 }
 
 impl Checkpoint {
-    // The empty road. It takes no memory.
+    // Keeps the empty road. It allocates nothing.
     pub(crate) fn empty(alloc: Global) -> Checkpoint
         ensures { result ≡ [] }
     {
@@ -47,7 +47,7 @@ impl Checkpoint {
         }
     }
 
-    // A road of cars that fit, in one growth.
+    // Keeps a road of cars that fit, by one allocation.
     pub(crate) fn of(alloc: Global, road: &Road) -> Result<Checkpoint, OutOfMemory>
         requires { AreSmall (cars_of road.now) }
         ensures { IfOk result (λ kept. kept ≡ road.now) }
@@ -56,7 +56,6 @@ impl Checkpoint {
         Ok(Checkpoint { cars })
     }
 
-    // The same again, in one growth.
     pub(crate) fn copied(&self) -> Result<Checkpoint, OutOfMemory>
         ensures { IfOk result (λ kept. kept ≡ self.now) }
     {
@@ -64,7 +63,7 @@ impl Checkpoint {
         Ok(Checkpoint { cars })
     }
 
-    // The road, in one growth.
+    // Returns the road, by one allocation.
     pub(crate) fn road(&self, alloc: Global) -> Result<Road, OutOfMemory>
         ensures { IfOk result (λ road. road ≡ self.now) }
     {
@@ -73,7 +72,6 @@ impl Checkpoint {
     }
 }
 
-// Cars as they are kept.
 fn packed_cars(alloc: Global, cars: &[Car]) -> Result<Vec<PackedCar>, OutOfMemory>
     requires { AreSmall cars.now }
     ensures { IfOk result (λ kept. map unpacked_car kept.items ≡ cars.now) }
@@ -85,7 +83,6 @@ fn packed_cars(alloc: Global, cars: &[Car]) -> Result<Vec<PackedCar>, OutOfMemor
     Ok(kept)
 }
 
-// A car as it is kept.
 fn packed_car(car: Car) -> PackedCar
     requires { IsSmall car }
     ensures { unpacked_car result ≡ car }
@@ -98,7 +95,6 @@ fn packed_car(car: Car) -> PackedCar
     }
 }
 
-// Kept cars as they were.
 fn unpacked_cars(alloc: Global, kept: &[PackedCar]) -> Result<Vec<Car>, OutOfMemory>
     ensures { IfOk result (λ cars. cars.items ≡ map unpacked_car kept.now) }
 {

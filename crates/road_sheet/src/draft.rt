@@ -1,4 +1,4 @@
-//! A sheet that is being made: it grows by a step at a time.
+//! Drafts: sheets that grow by a step at a time.
 
 ghost use Rattle.std.specs.Prelude.{◌≡◌, ◌<◌, IfOk, OnErr, OnOk};
 ghost use Rattle.std.specs.Arc.{arc_value};
@@ -40,14 +40,14 @@ impl Model for Draft {
 }
 
 impl Draft {
-    /// How many steps are simulated so far: the road is known at each step from 0 to it.
+    /// Returns how many steps are simulated so far.
     pub fn horizon(&self) -> u32
         ensures { result ≡ self.now.horizon }
     {
         self.sheet.horizon()
     }
 
-    /// The input of the next step.
+    /// Makes the input of the next step.
     ///
     /// # Errors
     ///
@@ -60,7 +60,7 @@ impl Draft {
             .next_input(alloc, &mut self.settings, &mut self.words)
     }
 
-    /// One step more, from its input and the new speeds of its cars. The input must be that of the next step, the
+    /// Adds one more step, from its input and the new speeds of its cars. The input must be that of the next step, the
     /// speeds must be those of its cars by the rules, and the horizon must be below 1,048,576.
     ///
     /// # Errors
@@ -88,7 +88,7 @@ impl Draft {
         self.words.reuse_input(input);
     }
 
-    /// The sheet.
+    /// Returns the sheet.
     pub fn sheet(self) -> Sheet
         ensures { result ≡ self }
     {

@@ -6,7 +6,7 @@ ghost use Rattle.road_sheet.specs.declared.faults.SheetFault.TheVariants.{OutOfM
 use std::alloc::AllocError;
 use thiserror::Error;
 
-/// Why a sheet does not answer a question. The causes are asked in this order.
+/// Why a sheet does not answer a query. The causes are asked in this order.
 #[derive(Clone, Copy, Debug, PartialEq, Eq, Error)]
 pub enum SheetFault {
     /// The plan has no such detector.
@@ -18,7 +18,7 @@ pub enum SheetFault {
     /// A step is above the horizon.
     #[error("a step is not simulated")]
     NotSimulated,
-    /// There was no memory.
+    /// An allocation failed.
     #[error("no memory")]
     OutOfMemory,
 }

@@ -1,4 +1,4 @@
-//! Intervals: steps that a sheet keeps together.
+//! Intervals: the steps from a checkpoint up to the next.
 
 ghost use Rattle.std.specs.Prelude.{◌≡◌, ◌<◌, ◌+◌, ◌^◌, ℕ, length, replicate, IfOk};
 ghost use Rattle.std.specs.List.{slice_index_or};
@@ -10,10 +10,10 @@ use road_detector::{OutOfMemory, Totals, greatest_speed, passes_from};
 use road_ends::StepInput;
 use std::alloc::Global;
 
-/// How many steps an interval has, which a sheet keeps together.
+/// How many steps a whole interval has.
 pub const INTERVAL_STEPS: u32 = 64;
 
-/// An interval: the road at its first step, and what each detector counts in those of its steps that are simulated.
+/// The road at an interval's first step, and what each detector counts in those of its steps that are simulated.
 #[derive(Drop)]
 pub struct Interval {
     pub(crate) start: Checkpoint,
@@ -21,7 +21,7 @@ pub struct Interval {
 }
 
 impl Interval {
-    // An interval of which no step is simulated.
+    // Begins an interval, of which no step is simulated.
     pub(crate) fn begin(
         alloc: Global,
         start: Checkpoint,
@@ -34,7 +34,6 @@ impl Interval {
         Ok(Interval { start, totals })
     }
 
-    // An equal interval with memory of its own.
     pub(crate) fn copied(&self) -> Result<Interval, OutOfMemory>
         ensures start { IfOk result (λ interval. interval.start ≡ self.now.start) }
         ensures totals { IfOk result (λ interval. interval.totals.items ≡ self.now.totals.items) }
@@ -44,7 +43,7 @@ impl Interval {
         Ok(Interval { start, totals })
     }
 
-    // Counts one more step. It takes no memory.
+    // Counts one more step. It allocates nothing.
     pub(crate) fn count(&mut self, input: &StepInput, speeds: &[u8])
         requires one_each { length speeds.now ≡ length (cars_of input.now.road) }
         requires each { length self.old.totals.items ≡ length input.now.plan.detectors }

@@ -1,4 +1,4 @@
-//! The settings that a run keeps from a step to the next, so that they are not made anew.
+//! The cache of the settings that a run uses from a step to the next.
 
 ghost use Rattle.std.specs.Prelude.{◌≡◌, ◌<◌, ◌≤◌, ℕ, IfOk, IfSome};
 ghost use Rattle.std.specs.Arc.{arc_value};
@@ -22,7 +22,7 @@ pub(crate) struct InForce {
 }
 
 impl InForce {
-    // The settings, where they are in force at a step.
+    // Returns the settings, where they are in force at a step.
     fn at(&self, step: u32) -> Result<Option<Arc<Settings>>, OutOfMemory>
         ensures { IfOk result (λ found. IfSome found (λ settings. (arc_value settings ≡ arc_value self.now.settings)
             × (self.now.from ≤ step) × (step < self.now.until))) }
@@ -34,7 +34,7 @@ impl InForce {
     }
 }
 
-// The settings that a run keeps from a step to the next: those that it made last, if any.
+// The settings that a run made last, if any.
 #[derive(Drop)]
 pub(crate) struct SettingsCache {
     last: Option<InForce>,
@@ -43,14 +43,13 @@ pub(crate) struct SettingsCache {
 impl SettingsCache {
     ghost use Rattle.road_sheet.specs.Private.SettingsCache.{AreCached};
 
-    // Before the first step there are none.
     pub(crate) fn none() -> SettingsCache
         ensures { (plan : Plan) (edits : Edits) → AreCached plan edits result }
     {
         SettingsCache { last: None }
     }
 
-    // The settings of a step: the last ones where no edit is dated since, and else made anew.
+    // Returns the settings of a step: the cached ones where no edit is dated since, and else new ones.
     pub(crate) fn at(
         &mut self,
         alloc: Global,
@@ -71,7 +70,6 @@ impl SettingsCache {
         self.renewed(alloc, plan, scenario, step)
     }
 
-    // The last settings, where they are in force at a step.
     fn cached(&self, step: u32) -> Result<Option<Arc<Settings>>, OutOfMemory>
         ensures { (plan : Plan) (edits : Edits) → AreCached plan edits self.now → IfOk result (λ found.
             IfSome found (λ settings. (arc_value settings ≡ settings_of plan edits step)
@@ -83,7 +81,7 @@ impl SettingsCache {
         }
     }
 
-    // The settings of a step, made anew and kept.
+    // Makes the settings of a step, and caches them.
     fn renewed(
         &mut self,
         alloc: Global,
@@ -109,7 +107,7 @@ impl SettingsCache {
     }
 }
 
-// Up to which step the settings of a step are in force: the greatest of all where no edit is dated after it.
+// Returns up to which step the settings of a step are in force: the greatest where no edit is dated after it.
 fn until(scenario: &Scenario, step: u32) -> u32
     ensures { (plan : Plan) (t : ℕ) → step ≤ t → t < result →
         settings_of plan scenario.now t ≡ settings_of plan scenario.now step }

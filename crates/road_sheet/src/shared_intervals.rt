@@ -13,8 +13,8 @@ use std::sync::Arc;
 // How many intervals a full shelf has.
 const SHELF_INTERVALS: usize = 64;
 
-// The whole intervals of a run: full shelves, all of them shared as one, and a last shelf of the intervals behind them, which
-// is not full. Contracts see the list of intervals.
+// Full shelves, all of them shared as one, and a last shelf that is not full, of the intervals behind them. Contracts
+// see the list of intervals.
 #[derive(Drop)]
 pub(crate) struct SharedIntervals {
     full: Arc<Vec<Arc<Shelf>>>,
@@ -37,7 +37,6 @@ impl Model for SharedIntervals {
 }
 
 impl SharedIntervals {
-    // No intervals.
     pub(crate) fn empty(alloc: Global) -> Result<SharedIntervals, OutOfMemory>
         ensures { IfOk result (λ intervals. intervals ≡ []) }
     {
@@ -47,7 +46,6 @@ impl SharedIntervals {
         })
     }
 
-    // An interval.
     pub(crate) fn get(&self, index: usize) -> &Interval
         requires { index < length self.now }
         ensures { slice_get self.now index ≡ Some result.now }
@@ -60,7 +58,7 @@ impl SharedIntervals {
         }
     }
 
-    // Puts an interval behind the others. Where it is refused, these are as they were.
+    // Adds an interval behind the others.
     pub(crate) fn push(&mut self, alloc: Global, interval: Interval) -> Result<(), OutOfMemory>
         ensures pushed { OnOk result (self.new ≡ self.old ++ interval ∷ []) }
         ensures unchanged { OnErr result (self.new ≡ self.old) }
@@ -75,7 +73,7 @@ impl SharedIntervals {
         Ok(())
     }
 
-    // The first intervals, shared. All that are there take at most 64 owners more.
+    // Shares the first intervals. At most 64 values get one more owner where all are shared.
     pub(crate) fn first(&self, alloc: Global, count: usize) -> Result<SharedIntervals, OutOfMemory>
         requires { count ≤ length self.now }
         ensures { IfOk result (λ first. first ≡ take count self.now) }
@@ -93,7 +91,7 @@ impl SharedIntervals {
     }
 }
 
-// These shelves, shared, and one more.
+// Shares these shelves, and adds one more.
 fn with_shelf(
     alloc: Global,
     shelves: &[Arc<Shelf>],

@@ -1,6 +1,6 @@
-//! The known part of a run: intervals of steps up to the horizon, and what is read from them.
+//! Sheets: the intervals of a run up to its horizon, and what is read from them.
 
-ghost use Rattle.std.specs.Prelude.{◌≡◌, ◌≢◌, ◌<◌, ◌≤◌, ◌+◌, ◌*◌, ◌/◌, ◌%◌, IfOk, IfErr, OnErr, OnOk, None, length, min, replicate, take};
+ghost use Rattle.std.specs.Prelude.{◌≡◌, ◌≢◌, ◌<◌, ◌≤◌, ◌+◌, ◌*◌, ◌/◌, ◌%◌, IfOk, IfErr, IsOk, OnErr, OnOk, None, length, min, replicate, take};
 ghost use Rattle.std.specs.Arc.{arc_value};
 ghost use Rattle.road_plan.specs.declared.limits.TheConstants.{GREATEST_HORIZON};
 ghost use Rattle.road_detector.specs.Passes.{no_totals};
@@ -11,7 +11,7 @@ ghost use Rattle.road_scenario.specs.Winners.{AreWinners, join};
 ghost use Rattle.road_sheet.specs.Drafts.{IsUpTo, draft_start};
 ghost use Rattle.road_sheet.specs.Private.Intervals.{AreTotals, IsInterval, GiveSameRun};
 ghost use Rattle.road_sheet.specs.Sheets.{IsSheet, opening_sheet, state_of, total_of, next_input, sheet_after_step};
-ghost use Rattle.road_sheet.specs.Sheets.{IsRefusalBy, state_fault, totals_fault};
+ghost use Rattle.road_sheet.specs.Sheets.{AreWholeIntervals, IsRefusalBy, state_fault, totals_fault};
 
 use crate::checkpoint::Checkpoint;
 use crate::draft::Draft;
@@ -19,7 +19,7 @@ use crate::faults::SheetFault;
 use crate::interval::{INTERVAL_STEPS, Interval};
 use crate::settings_cache::SettingsCache;
 use crate::shared_intervals::SharedIntervals;
-use crate::simulation::{State, run_on, totals_with};
+use crate::simulation::{State, run_on, totals_between};
 use lattice_core::both::Both;
 use lattice_core::greatest::Greatest;
 use lattice_core::lattice::Lattice;
@@ -37,17 +37,18 @@ use std::mem;
 use std::sync::Arc;
 
 /// A scenario, a horizon, and the run so far: it shows the road at each step up to the horizon, and what the
-/// detectors count up to there. It never changes; [`Sheet::draft`] goes on from it.
+/// detectors count up to there. It never changes; [`Sheet::draft`] resumes its run.
 ///
-/// The run is kept as intervals of 64 steps: of each the road at its first step and what each detector counts in it; then
-/// the interval that the horizon cuts, and the road at the horizon. Sheets share the whole intervals, 64 on a shelf and all full
-/// shelves as one: to go on from a sheet costs no more at a far horizon.
+/// The run is kept as intervals of 64 steps: of each the road at its first step, a checkpoint, and what each detector
+/// counts in it. Sheets share the whole intervals, so that to resume a run costs no more at a far horizon.
 #[derive(Drop)]
 pub struct Sheet {
     plan: Arc<Plan>,
     known: Both<Scenario, Greatest<u32>>,
     intervals: SharedIntervals,
+    // The interval that the horizon cuts.
     open_interval: Interval,
+    // The road at the horizon.
     at_horizon: Road,
 }
 
@@ -76,7 +77,7 @@ impl Model for Sheet {
 impl Sheet {
     ghost use Rattle.road_sheet.specs.Private.SettingsCache.{AreCached};
 
-    /// The sheet without edits, of which no step is simulated.
+    /// Makes the sheet without edits, of which no step is simulated.
     ///
     /// # Errors
     ///
@@ -102,23 +103,25 @@ impl Sheet {
         })
     }
 
-    /// The plan.
+    /// Returns the plan.
     pub fn plan(&self) -> &Arc<Plan>
         ensures { arc_value result.now ≡ self.now.plan }
     {
         &self.plan
     }
 
-    /// The scenario.
+    /// Returns the scenario: each of its edits fits the plan, and none exceeds another.
     pub fn scenario(&self) -> &Scenario
-        ensures { result.now ≡ self.now.edits }
+        ensures scenario { result.now ≡ self.now.edits }
+        ensures is_sheet { IsSheet self.now }
     {
         &self.known.first
     }
 
-    /// How many steps are simulated: the road is known at each step from 0 to it.
+    /// Returns how many steps are simulated, at most 1,048,576: the road is known at each step from 0 to it.
     pub fn horizon(&self) -> u32
-        ensures { result ≡ self.now.horizon }
+        ensures horizon { result ≡ self.now.horizon }
+        ensures is_sheet { IsSheet self.now }
     {
         match self.known.second {
             Greatest::Nothing => 0,
@@ -126,15 +129,7 @@ impl Sheet {
         }
     }
 
-    /// That its edits win and fit the plan, and that its horizon is at most 1,048,576. It is a fact for proofs: the
-    /// call does nothing.
-    pub fn known(&self)
-        ensures { IsSheet self.now }
-    {
-        let _ = &self.at_horizon;
-    }
-
-    /// The road at a step. At most 63 steps are computed for it.
+    /// Returns the road at a step. It computes at most 63 steps, from the nearest checkpoint.
     ///
     /// # Errors
     ///
@@ -148,13 +143,12 @@ impl Sheet {
         self.state_with(alloc, step, &mut words)
     }
 
-    /// The road at a step, as [`Sheet::state`], by words that whoever asks keeps: what is drawn for it serves to go on
-    /// from there. The words must be the plan's.
+    /// Returns the road at a step, as [`Sheet::state`], by the caller's cache of words, which must be the plan's.
     ///
     /// # Errors
     ///
-    /// `NotSimulated` where the step is above the horizon, else `OutOfMemory` where an allocation failed. The words are
-    /// the plan's as before.
+    /// `NotSimulated` where the step is above the horizon, else `OutOfMemory` where an allocation failed. The cache
+    /// stays one of the plan's words.
     pub fn state_with(
         &self,
         alloc: Global,
@@ -173,8 +167,8 @@ impl Sheet {
         Ok(self.road_at(alloc, step, words)?)
     }
 
-    /// What a detector counts in the steps from one up to another, that one not among them. The steps of the intervals
-    /// that `from` and `to` cut are computed for it; of the others the counts are kept.
+    /// Returns what a detector counts in the steps from one up to another, that one not among them. It computes the
+    /// steps of the intervals that `from` and `to` cut; the counts of whole ones are kept, and allocate nothing.
     ///
     /// # Errors
     ///
@@ -190,6 +184,8 @@ impl Sheet {
         ensures totals { IfOk result (λ totals. totals ≡ total_of self.now detector from to) }
         ensures accepted { IfOk result (λ _. totals_fault self.now detector from to ≡ None) }
         ensures refused { IfErr result (λ fault. IsRefusalBy (totals_fault self.now detector from to) fault) }
+        ensures kept { totals_fault self.now detector from to ≡ None → AreWholeIntervals self.now from to
+            → IsOk result }
     {
         if detector as usize >= self.plan.detectors().len() {
             return Err(SheetFault::NoDetector);
@@ -203,7 +199,7 @@ impl Sheet {
         Ok(self.totals_between(alloc, detector, from, to)?)
     }
 
-    // The road at a step.
+    // Returns the road at a step.
     fn road_at(&self, alloc: Global, step: u32, words: &mut WordCache) -> Result<Road, OutOfMemory>
         requires simulated { step ≤ self.now.horizon }
         requires words { words.old ≡ self.now.plan.words }
@@ -218,7 +214,7 @@ impl Sheet {
         Ok(state.road)
     }
 
-    // The state at a step of an interval, from the road at the interval's first step.
+    // Computes the state at a step of an interval, from the interval's checkpoint.
     fn state_in(
         &self,
         alloc: Global,
@@ -240,7 +236,7 @@ impl Sheet {
         run_on(alloc, &self.plan, &self.known.first, first, step, words)
     }
 
-    // An interval.
+    // Returns an interval, whole or open.
     fn interval(&self, interval: usize) -> &Interval
         requires { INTERVAL_STEPS * interval ≤ self.now.horizon }
         ensures { IsInterval self.now.plan self.now.edits (INTERVAL_STEPS * interval)
@@ -253,14 +249,13 @@ impl Sheet {
         }
     }
 
-    // How many intervals are whole.
     fn whole_intervals(&self) -> usize
         ensures { result ≡ self.now.horizon / INTERVAL_STEPS }
     {
         (self.horizon() / INTERVAL_STEPS) as usize
     }
 
-    // What a detector counts in some steps, interval by interval.
+    // Adds up what a detector counts, interval by interval.
     fn totals_between(
         &self,
         alloc: Global,
@@ -271,9 +266,9 @@ impl Sheet {
         requires in_plan { detector < length self.now.plan.detectors }
         requires order { from ≤ to }
         requires simulated { to ≤ self.now.horizon }
-        ensures { IfOk result (λ totals. totals ≡ total_of self.now detector from to) }
+        ensures totals { IfOk result (λ totals. totals ≡ total_of self.now detector from to) }
+        ensures kept { AreWholeIntervals self.now from to → IsOk result }
     {
-        self.known();
         totals_are_bounded(&self.plan);
         let mut totals = Totals { cars: 0, speeds: 0 };
         for interval in from / INTERVAL_STEPS..to.div_ceil(INTERVAL_STEPS) {
@@ -286,7 +281,7 @@ impl Sheet {
         Ok(totals)
     }
 
-    // What a detector counts in some steps of an interval: it is kept where these are all that are simulated.
+    // Counts some steps of an interval; the counts of all that are simulated are kept.
     fn totals_in(
         &self,
         alloc: Global,
@@ -300,17 +295,19 @@ impl Sheet {
         requires order { from ≤ to }
         requires ended { to ≤ INTERVAL_STEPS * interval + INTERVAL_STEPS }
         requires simulated { to ≤ self.now.horizon }
-        ensures { IfOk result (λ totals. totals ≡ total_of self.now detector from to) }
+        ensures totals { IfOk result (λ totals. totals ≡ total_of self.now detector from to) }
+        ensures kept { from ≡ INTERVAL_STEPS * interval
+            → to ≡ min (INTERVAL_STEPS * interval + INTERVAL_STEPS) self.now.horizon → IsOk result }
     {
-        self.known();
+        let horizon = self.horizon();
         let first = interval * INTERVAL_STEPS;
-        let end = (first + INTERVAL_STEPS).min(self.horizon());
+        let end = (first + INTERVAL_STEPS).min(horizon);
         if from == first && to == end {
             return Ok(self.interval(interval as usize).totals[detector as usize]);
         }
         let mut words = WordCache::of(alloc, &self.plan);
         let state = self.state_in(alloc, interval, from, &mut words)?;
-        let (totals, _) = totals_with(
+        let (totals, _) = totals_between(
             alloc,
             &self.plan,
             &self.known.first,
@@ -322,8 +319,8 @@ impl Sheet {
         Ok(totals)
     }
 
-    /// The run of this sheet's edits with a scenario joined in, as far as it is there already: a draft that goes on
-    /// from the horizon where that is `keep`, and else from the first step of the interval of `keep`.
+    /// Begins the run of this sheet's edits with a scenario joined in: a draft that resumes at the horizon where that
+    /// is `keep`, and else at the checkpoint at or before `keep`.
     ///
     /// The scenario must fit the plan; `keep` must not be above the horizon, nor above the first step at which the
     /// joined scenario puts other numbers.
@@ -341,12 +338,12 @@ impl Sheet {
           horizon = draft_start self.now.horizon keep;
         }) }
     {
-        self.known();
-        let joined = self.known.first.joined(scenario)?;
+        let joined = self.scenario().joined(scenario)?;
         self.draft_of(alloc, joined, keep)
     }
 
-    /// As [`Sheet::draft`], for a scenario that is joined already. It must fit the plan, and `keep` must be as there.
+    /// Begins a run as [`Sheet::draft`], of a scenario that is joined already. It must fit the plan, and `keep` must be
+    /// as there.
     ///
     /// # Errors
     ///
@@ -377,7 +374,7 @@ impl Sheet {
         })
     }
 
-    // The sheet with other edits, which give the same run up to the horizon.
+    // Replaces the edits by others, which give the same run up to the horizon.
     fn resume_at_horizon(&self, alloc: Global, scenario: Scenario) -> Result<Sheet, OutOfMemory>
         requires winners { AreWinners scenario }
         requires fits { AreInRange self.now.plan scenario }
@@ -408,7 +405,7 @@ impl Sheet {
         })
     }
 
-    // The sheet with other edits, which give the same run up to the first step of an interval; that step is its horizon.
+    // Replaces the edits by others, which give the same run up to an interval's checkpoint; that step is the horizon.
     fn resume_at_checkpoint(
         &self,
         alloc: Global,
@@ -446,7 +443,7 @@ impl Sheet {
         })
     }
 
-    // The input of the next step.
+    // Makes the input of the next step.
     pub(crate) fn next_input(
         &self,
         alloc: Global,
@@ -459,13 +456,12 @@ impl Sheet {
         ensures cached { AreCached self.now.plan self.now.edits settings.new }
         ensures unchanged { words.new ≡ words.old }
     {
-        self.known();
         let step = self.horizon();
         let settings = settings.at(alloc, &self.plan, &self.known.first, step)?;
         enter_with(alloc, &self.plan, settings, step, &self.at_horizon, words)
     }
 
-    // One more step. What can fail for memory is done before the sheet is changed.
+    // Adds one more step. What can fail for memory is done before the sheet is changed.
     pub(crate) fn grow(
         &mut self,
         alloc: Global,
@@ -490,7 +486,7 @@ impl Sheet {
         Ok(())
     }
 
-    // One more step that does not end the interval; what comes back is the road before it.
+    // Adds one more step that does not end the interval, and returns the road before it.
     fn step_within(&mut self, input: &StepInput, speeds: &[u8], road: Road) -> Road
         requires input { input.now ≡ next_input self.old }
         requires speeds { speeds.now ≡ input_speeds input.now }
@@ -508,7 +504,7 @@ impl Sheet {
         last
     }
 
-    // The interval that begins with the road of the next step.
+    // Begins the interval of the next step's road.
     fn next_interval(&self, alloc: Global, road: &Road) -> Result<Interval, OutOfMemory>
         requires within_limit { self.now.horizon < GREATEST_HORIZON }
         requires road { road.now ≡ state_of self.now (self.now.horizon + 1) }
@@ -522,8 +518,8 @@ impl Sheet {
         Interval::begin(alloc, kept, self.plan.detectors().len())
     }
 
-    // One more step that ends the interval; what comes back is the road before it. What can fail for memory is done before
-    // the sheet is changed.
+    // Adds one more step that ends the interval, and returns the road before it. What can fail for memory is done
+    // before the sheet is changed.
     fn step_to_end(
         &mut self,
         alloc: Global,
@@ -553,7 +549,7 @@ impl Sheet {
     }
 }
 
-// The interval that begins at a checkpoint, and the road there.
+// Begins the interval of a checkpoint, and returns the road there.
 fn begun(
     alloc: Global,
     start: &Checkpoint,
@@ -568,7 +564,6 @@ fn begun(
     Ok((interval, road))
 }
 
-// An equal interval and an equal road.
 fn copies(interval: &Interval, road: &Road) -> Result<(Interval, Road), OutOfMemory>
     ensures start { IfOk result (λ copies. copies.0.start ≡ interval.now.start) }
     ensures totals { IfOk result (λ copies. copies.0.totals.items ≡ interval.now.totals.items) }
@@ -578,7 +573,7 @@ fn copies(interval: &Interval, road: &Road) -> Result<(Interval, Road), OutOfMem
     Ok((copy, road.copied()?))
 }
 
-// A plan, and the first of these intervals, shared.
+// Shares a plan, and the first of these intervals.
 fn shared_with_plan(
     alloc: Global,
     plan: &Arc<Plan>,

@@ -9,7 +9,7 @@ use std::alloc::Global;
 use std::marker::Model;
 use std::sync::Arc;
 
-// Intervals in order, each of them shared. Contracts see the list of intervals.
+// Contracts see the list of intervals.
 #[derive(Drop)]
 pub(crate) struct Shelf {
     intervals: Vec<Arc<Interval>>,
@@ -26,7 +26,7 @@ impl Model for Shelf {
 }
 
 impl Shelf {
-    // No intervals. It takes no memory.
+    // Makes a shelf of no intervals. It allocates nothing.
     pub(crate) fn empty(alloc: Global) -> Shelf
         ensures { result ≡ [] }
     {
@@ -35,14 +35,12 @@ impl Shelf {
         }
     }
 
-    // How many intervals it has.
     pub(crate) fn len(&self) -> usize
         ensures { result ≡ length self.now }
     {
         self.intervals.len()
     }
 
-    // An interval.
     pub(crate) fn get(&self, index: usize) -> &Interval
         requires { index < length self.now }
         ensures { slice_get self.now index ≡ Some result.now }
@@ -50,7 +48,7 @@ impl Shelf {
         &self.intervals[index]
     }
 
-    // Puts an interval behind the others. Where it is refused, these are as they were.
+    // Adds an interval behind the others.
     pub(crate) fn push(&mut self, alloc: Global, interval: Interval) -> Result<(), OutOfMemory>
         ensures pushed { OnOk result (self.new ≡ self.old ++ interval ∷ []) }
         ensures unchanged { OnErr result (self.new ≡ self.old) }
@@ -60,7 +58,7 @@ impl Shelf {
         Ok(())
     }
 
-    // The first intervals, shared.
+    // Shares the first intervals.
     pub(crate) fn first(&self, alloc: Global, count: usize) -> Result<Shelf, OutOfMemory>
         requires { count ≤ length self.now }
         ensures { IfOk result (λ first. first ≡ take count self.now) }
@@ -70,7 +68,7 @@ impl Shelf {
     }
 }
 
-// The first of these values, shared: one owner more of each.
+// Shares the first of these values: each has one more owner.
 pub(crate) fn shared<T: Drop>(
     alloc: Global,
     values: &[Arc<T>],

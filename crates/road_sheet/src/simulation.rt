@@ -1,7 +1,6 @@
-//! What is seen of a road's run by the settings that edits give: states, rows and counts, computed step by step.
+//! What is seen of a run: states, rows and counts, computed step by step by the settings that edits give.
 //!
-//! Who asks often hands in words of the plan and keeps them: what is drawn for the steps round the last one serves the
-//! next question too, whatever the edits.
+//! The caller keeps the cache of words, so that what is drawn for a step serves its next query too, whatever the edits.
 
 ghost use Rattle.std.specs.Prelude.{◌≡◌, IfOk, OnOk, ◌≤◌, ◌<◌, ◌+◌, [], length, map, string_bytes};
 ghost use Rattle.std.specs.Arc.{arc_value};
@@ -33,7 +32,7 @@ pub struct State {
 }
 
 impl State {
-    /// The empty road of step 0.
+    /// Returns the empty road of step 0.
     pub fn opening(alloc: Global) -> State
         ensures step { result.step ≡ 0 }
         ensures road { result.road ≡ [] }
@@ -44,7 +43,6 @@ impl State {
         }
     }
 
-    // The same state once more.
     fn copied(&self) -> Result<State, OutOfMemory>
         ensures step { IfOk result (λ state. state.step ≡ self.now.step) }
         ensures road { IfOk result (λ state. state.road ≡ self.now.road) }
@@ -56,38 +54,17 @@ impl State {
     }
 }
 
-/// The state at a step of the run by these edits. It goes on from the last state, where that is not after the step, and
-/// else begins at step 0.
+/// Computes the state at a step of the run by these edits. It resumes from the last state, where that is not after the
+/// step, and else begins at step 0.
 ///
-/// The scenario must fit the plan, and the last state must be one of the run by its edits.
+/// The scenario must fit the plan, the last state must be one of the run by its edits, and the cache must be of the
+/// plan's words.
 ///
 /// # Errors
 ///
-/// `OutOfMemory` where an allocation failed, or the settings can have no more owners.
+/// `OutOfMemory` where an allocation failed, or the settings can have no more owners. The cache stays one of the plan's
+/// words.
 pub fn state_at(
-    alloc: Global,
-    plan: &Arc<Plan>,
-    scenario: &Scenario,
-    last: &State,
-    step: u32,
-) -> Result<State, OutOfMemory>
-    requires fits { AreInRange (arc_value plan.now) scenario.now }
-    requires run { last.now.road ≡ run_at (arc_value plan.now) scenario.now last.now.step }
-    ensures step { IfOk result (λ state. state.step ≡ step) }
-    ensures road { IfOk result (λ state. state.road ≡ run_at (arc_value plan.now) scenario.now step) }
-{
-    let mut words = WordCache::of(alloc, plan);
-    state_with(alloc, plan, scenario, last, step, &mut words)
-}
-
-/// The state at a step, as [`state_at`] and under its conditions, by words that whoever asks keeps. The words must be
-/// the plan's.
-///
-/// # Errors
-///
-/// `OutOfMemory` where an allocation failed, or the settings can have no more owners. The words are the plan's as
-/// before.
-pub fn state_with(
     alloc: Global,
     plan: &Arc<Plan>,
     scenario: &Scenario,
@@ -109,7 +86,7 @@ pub fn state_with(
     run_on(alloc, plan, scenario, State::opening(alloc), step, words)
 }
 
-// The state at a step, from one that is not later.
+// Computes the state at a step from one that is not later.
 pub(crate) fn run_on(
     alloc: Global,
     plan: &Arc<Plan>,
@@ -142,7 +119,7 @@ pub(crate) fn run_on(
     Ok(State { step, road })
 }
 
-// The step that turns the road of a step into that of the next.
+// Computes the step that turns the road of a step into that of the next.
 fn next(
     alloc: Global,
     plan: &Arc<Plan>,
@@ -168,7 +145,7 @@ fn next(
     Ok(stepped)
 }
 
-/// The row of a state, with the blocks of its step.
+/// Writes the row of a state, with the blocks of its step.
 ///
 /// The scenario must fit the plan, and the state must be one of the run by its edits.
 ///
@@ -191,43 +168,17 @@ pub fn row_of(
     row_text(alloc, &state.road, settings.blocks(), plan.length())
 }
 
-/// The rows of the states from a step to another, both of them, and the last of these states. It goes on from a state
-/// at the first step.
+/// Writes the rows of the states from a step to another, both of them, a space-time diagram, and returns the last of
+/// these states beside them. It resumes from the state at the first step.
 ///
-/// The scenario must fit the plan, and the first state must be one of the run by its edits, at a step that is not after
-/// `to`. `to` must be at most 1,048,576.
+/// The scenario must fit the plan, the first state must be one of the run by its edits, at a step that is not after
+/// `to`, and the cache must be of the plan's words. `to` must be at most 1,048,576.
 ///
 /// # Errors
 ///
-/// `OutOfMemory` where an allocation failed, or the settings can have no more owners.
+/// `OutOfMemory` where an allocation failed, or the settings can have no more owners. The cache stays one of the plan's
+/// words.
 pub fn rows_between(
-    alloc: Global,
-    plan: &Arc<Plan>,
-    scenario: &Scenario,
-    first: State,
-    to: u32,
-) -> Result<(Vec<String>, State), OutOfMemory>
-    requires fits { AreInRange (arc_value plan.now) scenario.now }
-    requires before { first.step ≤ to }
-    requires horizon { to ≤ GREATEST_HORIZON }
-    requires run { first.road ≡ run_at (arc_value plan.now) scenario.now first.step }
-    ensures rows { IfOk result (λ seen. map string_bytes seen.0.items
-        ≡ rows_at (arc_value plan.now) scenario.now first.step to) }
-    ensures step { IfOk result (λ seen. seen.1.step ≡ to) }
-    ensures road { IfOk result (λ seen. seen.1.road ≡ run_at (arc_value plan.now) scenario.now seen.1.step) }
-{
-    let mut words = WordCache::of(alloc, plan);
-    rows_with(alloc, plan, scenario, first, to, &mut words)
-}
-
-/// The rows of some states and the last of these, as [`rows_between`] and under its conditions, by words that whoever
-/// asks keeps. The words must be the plan's.
-///
-/// # Errors
-///
-/// `OutOfMemory` where an allocation failed, or the settings can have no more owners. The words are the plan's as
-/// before.
-pub fn rows_with(
     alloc: Global,
     plan: &Arc<Plan>,
     scenario: &Scenario,
@@ -258,7 +209,7 @@ pub fn rows_with(
     Ok((rows, state))
 }
 
-// Takes a state to the next step. The answer is the row of that.
+// Takes a state to the next step, and returns the row of that.
 fn next_row(
     alloc: Global,
     plan: &Arc<Plan>,
@@ -288,43 +239,16 @@ fn next_row(
     row_of(alloc, plan, scenario, state)
 }
 
-/// What a detector counts in the steps from that of a state up to another, and the state after them.
+/// Returns what a detector counts in the steps from that of a state up to another, and the state after them.
 ///
-/// The scenario must fit the plan, and the first state must be one of the run by its edits, at a step that is not after
-/// `to`. The plan must have the detector, and `to` must be at most 1,048,576.
+/// The scenario must fit the plan, the first state must be one of the run by its edits, at a step that is not after
+/// `to`, and the cache must be of the plan's words. The plan must have the detector, and `to` must be at most 1,048,576.
 ///
 /// # Errors
 ///
-/// `OutOfMemory` where an allocation failed, or the settings can have no more owners.
+/// `OutOfMemory` where an allocation failed, or the settings can have no more owners. The cache stays one of the plan's
+/// words.
 pub fn totals_between(
-    alloc: Global,
-    plan: &Arc<Plan>,
-    scenario: &Scenario,
-    first: State,
-    detector: u32,
-    to: u32,
-) -> Result<(Totals, State), OutOfMemory>
-    requires fits { AreInRange (arc_value plan.now) scenario.now }
-    requires in_plan { detector < length (arc_value plan.now).detectors }
-    requires before { first.step ≤ to }
-    requires horizon { to ≤ GREATEST_HORIZON }
-    requires run { first.road ≡ run_at (arc_value plan.now) scenario.now first.step }
-    ensures totals { IfOk result (λ seen. seen.0 ≡ total_at (arc_value plan.now) scenario.now detector first.step to) }
-    ensures step { IfOk result (λ seen. seen.1.step ≡ to) }
-    ensures road { IfOk result (λ seen. seen.1.road ≡ run_at (arc_value plan.now) scenario.now seen.1.step) }
-{
-    let mut words = WordCache::of(alloc, plan);
-    totals_with(alloc, plan, scenario, first, detector, to, &mut words)
-}
-
-/// What a detector counts in some steps and the state after them, as [`totals_between`] and under its conditions, by
-/// words that whoever asks keeps. The words must be the plan's.
-///
-/// # Errors
-///
-/// `OutOfMemory` where an allocation failed, or the settings can have no more owners. The words are the plan's as
-/// before.
-pub fn totals_with(
     alloc: Global,
     plan: &Arc<Plan>,
     scenario: &Scenario,

@@ -22,15 +22,14 @@ pub record IsInterval (plan : Plan) (edits : Edits) (a b : ℕ) (interval : Inte
   pub start : interval.start ≡ run_at plan edits a
   pub totals : AreTotals plan edits a b interval.totals.items
 
--- a sheet's run: an interval for each INTERVAL_STEPS steps up to the horizon, the interval that the horizon cuts, and the road
--- at the horizon
-pub record IsRunOf (s : Sheet) (intervals : List Interval) (part : Interval) (road : Array) : Type 0 where
+-- a sheet's run: the whole intervals up to the horizon, the interval that the horizon cuts, and the road at the horizon
+pub record IsRunOf (s : Sheet) (intervals : List Interval) (cut : Interval) (road : Array) : Type 0 where
   pub sheet : IsSheet s
   pub begun : INTERVAL_STEPS * length intervals ≤ s.horizon
   pub not_ended : s.horizon < INTERVAL_STEPS * length intervals + INTERVAL_STEPS
   pub each : (k : ℕ) (interval : Interval) → slice_get intervals k ≡ Some interval
       → IsInterval s.plan s.edits (INTERVAL_STEPS * k) (INTERVAL_STEPS * k + INTERVAL_STEPS) interval
-  pub open_interval : IsInterval s.plan s.edits (INTERVAL_STEPS * length intervals) s.horizon part
+  pub open_interval : IsInterval s.plan s.edits (INTERVAL_STEPS * length intervals) s.horizon cut
   pub at_horizon : road ≡ run_at s.plan s.edits s.horizon
 
 -- edits that give the same run and the same counts up to a step

@@ -1,4 +1,4 @@
--- Each car of a road is kept in 8 bytes.
+-- Each car of a road is kept in 6 bytes.
 use Rattle.std.proofs.Common.{◌≡◌, ◌++◌, map, drop}
 use Rattle.road_sheet.specs.Private.Checkpoints.{unpacked_car}
 use Rattle.road_sheet.proofs.checkpoint.packed_cars.Given as goal

@@ -1,5 +1,5 @@
 -- The first intervals end on a full shelf or behind these.
-use Rattle.std.proofs.Common.{◌≡◌, ◌/◌, Some, length, map, slice_get, take, arith}
+use Rattle.std.proofs.Common.{◌≡◌, ◌/◌, map, take, arith}
 use Rattle.std.proofs.lemmas.List.{length-map}
 use Rattle.std.specs.Arc.{arc_value}
 use Rattle.road_sheet.proofs.Shelves.{first_behind, first_on_shelf, full_at, many_intervals, read_at}

@@ -1,5 +1,5 @@
 -- An interval stands on a full shelf or behind these.
-use Rattle.std.proofs.Common.{◌≡◌, ◌/◌, Some, length, map, slice_get, arith}
+use Rattle.std.proofs.Common.{◌/◌, map, arith}
 use Rattle.std.proofs.lemmas.List.{length-map}
 use Rattle.std.specs.Arc.{arc_value}
 use Rattle.road_sheet.proofs.Shelves.{behind, full_at, many_intervals, on_shelf, read_at}

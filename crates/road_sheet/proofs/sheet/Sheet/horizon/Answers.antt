@@ -2,5 +2,5 @@
 use Rattle.std.proofs.Common.{rules}
 use Rattle.road_sheet.proofs.sheet.Sheet.horizon.Goals as goal
 
-pub returns-in-Of : goal.returns-in-Of
-returns-in-Of c = search rules
+pub returns-in-Of-clause-horizon : goal.returns-in-Of-clause-horizon
+returns-in-Of-clause-horizon c = search rules

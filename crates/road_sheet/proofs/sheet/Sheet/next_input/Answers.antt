@@ -16,7 +16,7 @@ returns-clause-input c =
     let plan = ap (λ (x : Sheet). x.plan) c.self.view_is in
     let edits = ap (λ (x : Sheet). x.edits) c.self.view_is in
     let settings = c.in_ok-settings.ensures.settings ∙ ap (λ (x : Plan). settings_of x c.self.inside.known.first c.horizon-step.result) plan
-    ∙ ap (λ (x : Edits). settings_of s.plan x c.horizon-step.result) edits ∙ ap (settings_of s.plan s.edits) c.horizon-step.ensures in
+    ∙ ap (λ (x : Edits). settings_of s.plan x c.horizon-step.result) edits ∙ ap (settings_of s.plan s.edits) c.horizon-step.ensures.horizon in
     let last = c.self.invariant.at_horizon ∙ ap (λ (x : Sheet). state_of x x.horizon) c.self.view_is in
     IfOk-weaker c.enter_with.result (λ input. arc_value input ≡ input_of (arc_value c.self.inside.plan) (arc_value c.in_ok-settings.settings) c.horizon-step.result c.self.inside.at_horizon) (λ input. arc_value input ≡ next_input s)
-    (λ input is. is ∙ next_is s (arc_value c.self.inside.plan) (arc_value c.in_ok-settings.settings) c.horizon-step.result c.self.inside.at_horizon plan settings c.horizon-step.ensures last) c.enter_with.ensures.input
+    (λ input is. is ∙ next_is s (arc_value c.self.inside.plan) (arc_value c.in_ok-settings.settings) c.horizon-step.result c.self.inside.at_horizon plan settings c.horizon-step.ensures.horizon last) c.enter_with.ensures.input

@@ -11,7 +11,7 @@ invariant_of-result c =
     let now = c.args.self.now in
     stays_whole _ now c.args.scenario (arc_value c.in_ok-plan.plan) _ _ _ _ c.in_ok-open_interval.open_interval _ c.in_ok-open_interval.at_horizon c.self.invariant c.self.view_is c.requires.winners c.requires.fits c.requires.same
     (c.in_ok-plan.ensures.plan ∙ ap (λ (x : Sheet). x.plan) c.self.view_is)
-    c.horizon.ensures
+    c.horizon.ensures.horizon
     (c.in_ok-plan.ensures.intervals ∙ take_all c.whole_intervals.result c.self.inside.intervals (omega (arith, c.whole_intervals.ensures, many_whole _ _ _ _ _ c.self.invariant c.self.view_is)))
     c.in_ok-open_interval.ensures.start
     c.in_ok-open_interval.ensures.totals

@@ -20,9 +20,9 @@ invariant_of-self-2 c =
     let counted =
     counted_next _ c.args.self.now _ c.self.inside.open_interval _ c.args.input.now c.args.speeds.now c.in_ok-ended.ended.totals.items ended.totals.items c.self.invariant c.self.view_is c.requires.input c.requires.speeds c.in_ok-ended.ensures.totals
     c.count.ensures.each c.count.ensures.totals in
-    ends_interval _ c.args.self.now c.horizon-horizon.result c.self.inside.intervals c.push.new.self c.self.inside.open_interval ended c.in_ok-next.next _ c.replace-at_horizon.new.dest c.self.invariant c.self.view_is c.requires.within_limit (c.replace-at_horizon.ensures.after ∙ c.requires.road)
-    counted c.requires.at_end c.horizon-horizon.ensures
+    ends_interval _ c.args.self.now c.horizon-horizon.result c.self.inside.intervals c.push.new.self c.self.inside.open_interval ended c.in_ok-next.next _ c.replace-last.new.dest c.self.invariant c.self.view_is c.requires.within_limit (c.replace-last.ensures.after ∙ c.requires.road)
+    counted c.requires.at_end c.horizon-horizon.ensures.horizon
     c.in_ok-next.ensures.totals
     (c.count.ensures.start ∙ c.in_ok-ended.ensures.start)
-    (c.in_ok-next.ensures.start ∙ sym c.replace-at_horizon.ensures.after)
+    (c.in_ok-next.ensures.start ∙ sym c.replace-last.ensures.after)
     c.in_ok-push.ensures.pushed

@@ -16,6 +16,6 @@ count-requires-clause-speeds c =
 
 pub invariant_of-self : goal.invariant_of-self
 invariant_of-self c =
-    stays_in_interval _ c.args.self.now c.horizon-horizon.result _ c.self.inside.open_interval c.count.new.self _ c.replace-at_horizon.new.dest c.self.invariant c.self.view_is c.requires.within_limit (c.replace-at_horizon.ensures.after ∙ c.requires.road)
+    stays_in_interval _ c.args.self.now c.horizon-horizon.result _ c.self.inside.open_interval c.count.new.self _ c.replace-last.new.dest c.self.invariant c.self.view_is c.requires.within_limit (c.replace-last.ensures.after ∙ c.requires.road)
     (counted_next _ c.args.self.now _ c.self.inside.open_interval _ c.args.input.now c.args.speeds.now c.self.inside.open_interval.totals.items c.count.new.self.totals.items c.self.invariant c.self.view_is c.requires.input c.requires.speeds refl c.count.ensures.each c.count.ensures.totals)
-    c.requires.within_interval c.horizon-horizon.ensures c.count.ensures.start
+    c.requires.within_interval c.horizon-horizon.ensures.horizon c.count.ensures.start

@@ -4,7 +4,7 @@ use Rattle.std.specs.Arc.{arc_value}
 use Rattle.road_sheet.specs.Private.SettingsCache.{AreCached}
 use Rattle.road_sheet.specs.Shown.{rows_at}
 use Rattle.road_sheet.specs.Shown.{run_at}
-use Rattle.road_sheet.proofs.simulation.rows_with.Given as goal
+use Rattle.road_sheet.proofs.simulation.rows_between.Given as goal
 
 -- the state is that of the step that is to come, and the rows are those up to it
 abbrev pub invariant-loop-step : goal.invariant-loop-step

@@ -5,7 +5,7 @@ use Rattle.road_scenario.specs.Settings.{settings_of}
 use Rattle.road_detector.specs.Passes.{total}
 use Rattle.road_sheet.specs.Private.SettingsCache.{AreCached}
 use Rattle.road_sheet.specs.Shown.{run_at}
-use Rattle.road_sheet.proofs.simulation.totals_with.Given as goal
+use Rattle.road_sheet.proofs.simulation.totals_between.Given as goal
 
 -- the road is that of the step that is to come, and the totals are those of the steps before it
 abbrev pub invariant-loop-step : goal.invariant-loop-step

@@ -3,7 +3,7 @@ use Rattle.std.proofs.Common.{◌∙◌, ◌+◌, List, map, ap, String, Global,
 use Rattle.std.specs.Arc.{arc_value}
 use Rattle.road_sheet.specs.Shown.{row_at, run_at}
 use Rattle.road_sheet.proofs.RunRows.{one_row_more}
-use Rattle.road_sheet.proofs.simulation.rows_with.Goals as goal
+use Rattle.road_sheet.proofs.simulation.rows_between.Goals as goal
 
 pub loop-step-preserved : goal.loop-step-preserved
 loop-step-preserved c = (

@@ -4,7 +4,7 @@ use Rattle.std.specs.Arc.{arc_value}
 use Rattle.road_scenario.specs.Settings.{settings_of}
 use Rattle.road_detector.specs.Laws.{PassOneByOne, BoundTotals}
 use Rattle.road_sheet.proofs.RunTotals.{passed_is, cars_fit, speeds_fit, counted_more}
-use Rattle.road_sheet.proofs.simulation.totals_with.Goals as goal
+use Rattle.road_sheet.proofs.simulation.totals_between.Goals as goal
 
 pub plus-totals-requires-clause-cars : goal.plus-totals-requires-clause-cars
 plus-totals-requires-clause-cars c =
