@@ -24,7 +24,8 @@ use Rattle.road_scenario.proofs.FirstFaults.{all_in_range, each_in_range}
 use Rattle.road_sheet.specs.Commands.{IsAllowed, SheetCommand, sheet_after}
 use Rattle.road_sheet.specs.Commands as commands
 use Rattle.road_sheet.specs.Sheets.{IsSheet, Sheet}
-use Rattle.road_rewind.specs.Growth.{TicksAtMost, meter_after}
+use Rattle.road_rewind.specs.Growth.{TicksAtMost, meter_after, touched_step}
+use Rattle.road_rewind.proofs.StepCounts.{few_steps}
 use Rattle.road_replica.specs.Refusals.{advance_fault, arrived_edit_fault, edit_fault, import_fault, made_edit_fault, take_fault}
 use Rattle.road_replica.specs.Replicas.{Replica, edit_made, replica_after, single_edit}
 use Rattle.road_replica.specs.Writes.{IsAccepted, IsRefused, most_steps_of_command, steps_of_command}
@@ -35,7 +36,7 @@ use Rattle.road_replica.specs.declared.reply.Reply.TheVariants as replies
 use Rattle.road_replica.proofs.GrownSheets.{grown_by_edits, grown_is_sheet}
 use Rattle.road_replica.proofs.ImportedEdits.{no_fault_imported}
 use Rattle.road_replica.proofs.Writes.{few_steps_of}
-use Rattle.road_world.specs.Answers.{IsAnswer, IsRefusal, IsUnnamedRefusal, fault_at_replica, replica_number, replica_with_sheet, reply_to_event, sheet_at, stamp_reply}
+use Rattle.road_world.specs.Answers.{IsAnswer, IsRefusal, fault_at_replica, replica_number, replica_with_sheet, reply_to_event, sheet_at, stamp_reply}
 use Rattle.road_world.specs.Applied.{IsApplied}
 use Rattle.road_world.specs.Events.{World, carried_edits, world_after_event, world_of_winners}
 use Rattle.road_world.specs.Private.LocalEvents.{local_event}
@@ -95,7 +96,7 @@ read_command read o command s is = ap (λ (p : Option SheetCommand). unwrap_or (
 -- and at most as many as those of a refused one
 few_of_command : (o : Option SheetCommand) (s : Sheet) → unwrap_or (option_map (λ c. steps_of_command c s) o) 0 ≤ unwrap_or (option_map (λ c. most_steps_of_command c s) o) 0
 few_of_command None s = omega arith
-few_of_command (Some (commands.Take edits)) s = (few_steps_of (commands.Take edits) s 0 _ refl).few
+few_of_command (Some (commands.Take edits)) s = few_steps s.horizon s.horizon (touched_step s edits)
 few_of_command (Some (commands.Advance to)) s = omega arith
 
 pub few_of_event : (w : World) (event : Event) → steps_of_event w event ≤ most_steps_of_event w event
@@ -207,17 +208,6 @@ module _ (plan : Plan) (xs : List Replica) (ms : List Message) (kept : IsWorldKe
 no_steps : (most meter : ℕ) → TicksAtMost most meter meter
 no_steps most meter = record { ticks = 0; few = omega arith; counted = refl }
 
--- an event that is refused before anything is computed
-pub refused_at_once : (event : Event) (w : World) (fault : WorldFault) (meter : ℕ) → IsAnswer w event (Err fault) → IsApplied event (Err fault) w w meter meter
-refused_at_once event w fault meter answer = record {
-  answer = answer;
-  after = tt;
-  unchanged = refl;
-  steps = tt;
-  named = λ some. refl;
-  few_steps = no_steps (most_steps_of_event w event) meter;
-}
-
 -- a message that is made
 pub message_made : (event : Event) (old new : World) (reply : Reply) (meter : ℕ) → command_of_event old event ≡ None → IsAnswer old event (Ok reply) → new ≡ world_of_winners (world_after_event event old) → IsApplied event (Ok reply) old new meter meter
 message_made event old new reply meter none answer after =
@@ -230,12 +220,3 @@ message_made event old new reply meter none answer after =
       named = tt;
       few_steps = no_steps (most_steps_of_event old event) meter;
     }
-
--- a message for which there is no memory
-pub message_refused : (event : Event) (w : World) (result : Result Reply WorldFault) (fault : WorldFault) (meter : ℕ) → replica_number event < length w.replicas → fault_at_replica w event ≡ None → IsUnnamedRefusal event fault
-    → IsErrAnd result (λ given. given ≡ fault) → IsApplied event result w w meter meter
-message_refused event w (Ok reply) fault meter below at unnamed given = absurd given
-message_refused event w (Err other) fault meter below at unnamed given =
-    refused_at_once event w other meter
-    (subst (λ (f : WorldFault). IsAnswer w event (Err f)) (sym given)
-    (not_accepted w event fault below (subst (λ (o : Option WorldFault). IsRefusal event o fault) (sym at) unnamed)))

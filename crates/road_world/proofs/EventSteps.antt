@@ -105,10 +105,10 @@ added-of_winners : (w : World) (r to : ℕ) → max (sheet_at (world_of_winners 
 added-of_winners w r to = ap (λ (x : WorldReplica). max x.horizon to - x.horizon) (replica-of_winners w r)
 
 -- how many steps are computed, by the horizon and the touched step
-just : ℕ → Option ℕ → ℕ
+abbrev just : ℕ → Option ℕ → ℕ
 just horizon touched = horizon - draft_start horizon (kept_step horizon touched)
 
-most : ℕ → Option ℕ → ℕ
+abbrev most : ℕ → Option ℕ → ℕ
 most horizon touched = most_steps horizon horizon touched
 
 -- an event costs as many steps in a world of winners as in the world,

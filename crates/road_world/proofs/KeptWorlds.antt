@@ -237,6 +237,12 @@ module _ (plan : Plan) (xs : List Replica) (ms : List Message) (kept : IsWorldKe
     sent_heads r x hs is below all =
         ap Asked (all ∙ ap heads (sym (is_replica r x is below).sheet.winners)) ∙ ap (λ (q : WorldReplica). Asked (heads (winners q.edits))) (sym (read r x is below))
 
+    pub held_sendable : (r : ℕ) (x : Replica) (edits : Edits) → x ≡ slice_index_or xs r x → r < length xs → edits ≡ x.sheet.edits → AreSendable k.plan edits
+    held_sendable r x edits is below all =
+        let of = is_replica r x is below in
+        let held : AreSendable x.sheet.plan x.sheet.edits = record { winners = of.sheet.winners; in_range = of.sheet.in_range } in
+        subst (λ (p : Plan). AreSendable p edits) (of.plan_is ∙ plan_same) (subst (λ (s : Edits). AreSendable x.sheet.plan s) (sym all) held)
+
     -- what it holds beyond heads
     pub sent_beyond : (r : ℕ) (x : Replica) (delta : Edits) (hs : List Head) → x ≡ slice_index_or xs r x → r < length xs → delta ≡ beyond x.sheet.edits hs
         → Answer delta ≡ message_of_winners (Answer (beyond (winners (replica_at k r).edits) hs))

@@ -4,6 +4,7 @@ pub mod EventLists
 pub mod GrowingCounts
 pub mod FreshStamps
 pub mod HeadlineOfWinners
+pub mod ShownRuns
 pub mod PlayedEvents
 pub mod EventSteps
 pub mod KeptWorlds
