@@ -1,0 +1,11 @@
+-- A message is made at whatever count of the meter.
+use Rattle.road_world.proofs.world.World.apply.Goals as goal
+
+pub returns-in-Send-clause-applied : goal.returns-in-Send-clause-applied
+returns-in-Send-clause-applied g c = let h = c.in-Send in c.send.ensures.applied c.args.meter.now
+
+pub returns-in-Heads-clause-applied : goal.returns-in-Heads-clause-applied
+returns-in-Heads-clause-applied g c = c.heads.ensures.applied c.args.meter.now
+
+pub returns-in-Beyond-clause-applied : goal.returns-in-Beyond-clause-applied
+returns-in-Beyond-clause-applied g c = c.beyond.ensures.applied c.args.meter.now
