@@ -481,9 +481,7 @@ impl Laboratory {
         ensures { IfOk result (λ edits. edits.items ≡ items (edits_held self.now.world at)) }
     {
         match self.world.replica(at) {
-            Some(replica) => {
-                replica.scenario().edits(alloc)
-            }
+            Some(replica) => replica.scenario().edits(alloc),
             None => unreachable!(),
         }
     }
@@ -494,9 +492,7 @@ impl Laboratory {
         ensures { IfOk result (λ heads. heads.items ≡ deltas.heads (edits_held self.now.world at)) }
     {
         match self.world.replica(at) {
-            Some(replica) => {
-                heads_of(alloc, replica.scenario())?.list().to_vec(alloc)
-            }
+            Some(replica) => heads_of(alloc, replica.scenario())?.list().to_vec(alloc),
             None => unreachable!(),
         }
     }
