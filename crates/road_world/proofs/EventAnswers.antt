@@ -32,7 +32,7 @@ pub fault_there : (w : World) (event : Event) → replica_number event < length 
 fault_there w event below = ap (λ b. if b then fault_at_replica w event else Some NoReplica) (lt-ltb (replica_number event) (length w.replicas) below)
 
 -- a refusal for the cause at the replica is one for the event
-not_accepted : (w : World) (event : Event) (fault : WorldFault) → replica_number event < length w.replicas → IsRefusal event (fault_at_replica w event) fault → IsAnswer w event (Err fault)
+pub not_accepted : (w : World) (event : Event) (fault : WorldFault) → replica_number event < length w.replicas → IsRefusal event (fault_at_replica w event) fault → IsAnswer w event (Err fault)
 not_accepted w event fault below is = subst (λ cause. IsRefusal event cause fault) (sym (fault_there w event below)) is
 
 -- so is a result that is that refusal, once the world hands it on

@@ -21,7 +21,7 @@ use Rattle.road_replica.specs.declared.reply.Reply.{Reply}
 use Rattle.road_replica.specs.declared.reply.Reply.TheVariants.{Stamped, Touched, Message, Horizon}
 use Rattle.road_world.specs.Answers.{AreAnswers}
 use Rattle.road_world.specs.Events.{opening_world, replica_after_events}
-use Rattle.road_world.specs.Steps.{least_steps_of_events, most_steps_of_events}
+use Rattle.road_world.specs.Steps.{most_wasted_steps, most_wasted_steps_of_events, steps_of_events}
 use Rattle.road_world.specs.declared.event.Event.{Event}
 use Rattle.road_world.specs.declared.event.Event.TheVariants.{Edit, Withdraw, Import, Send, Heads, Beyond, Take, Advance}
 use Rattle.road_world.specs.declared.faults.WorldFault.{WorldFault}
@@ -240,16 +240,20 @@ all_advance = Ok (Horizon 6) ∷ Ok (Horizon 6) ∷ Ok (Horizon 2) ∷ []
 abbrev last_refused : EventAnswers
 last_refused = Ok (Horizon 6) ∷ Ok (Horizon 6) ∷ Err (Replica replica_faults.WorkersGone) ∷ []
 
--- accepted, they compute eight steps,
-advances_compute_eight_at_most : most_steps_of_events (opening_world small 3) counted_advances all_advance ≡ 8
-advances_compute_eight_at_most = refl
+-- accepted, they compute eight steps, and none is wasted
+advances_compute_eight : steps_of_events (opening_world small 3) counted_advances all_advance ≡ 8
+advances_compute_eight = refl
 
-advances_compute_eight_at_least : least_steps_of_events (opening_world small 3) counted_advances all_advance ≡ 8
-advances_compute_eight_at_least = refl
+advances_waste_none : most_wasted_steps_of_events (opening_world small 3) counted_advances all_advance ≡ 0
+advances_waste_none = refl
 
 -- else six, and up to two more before the refusal
-refused_advance_computes_two_at_most : most_steps_of_events (opening_world small 3) counted_advances last_refused ≡ 8
-refused_advance_computes_two_at_most = refl
+refused_advance_leaves_six : steps_of_events (opening_world small 3) counted_advances last_refused ≡ 6
+refused_advance_leaves_six = refl
 
-refused_advance_may_compute_none : least_steps_of_events (opening_world small 3) counted_advances last_refused ≡ 6
-refused_advance_may_compute_none = refl
+refused_advance_wastes_two : most_wasted_steps_of_events (opening_world small 3) counted_advances last_refused ≡ 2
+refused_advance_wastes_two = refl
+
+-- at a replica that is not there nothing is computed
+no_replica_wastes_none : most_wasted_steps (opening_world small 3) (Advance 7 1) (Err NoReplica) ≡ 0
+no_replica_wastes_none = refl

@@ -9,13 +9,11 @@ use Rattle.std.proofs.lemmas.Option.{slice_get_read, slice_get_within, get_or_fr
 use Rattle.lattice_core.specs.Sets.{contains, items, union}
 use Rattle.road_plan.specs.Plan.{Plan}
 use Rattle.road_plan.specs.declared.limits.TheConstants.{MOST_REPLICAS}
-use Rattle.road_plan.specs.declared.object.Object.{Object}
 use Rattle.road_scenario.specs.Edits.{Edits}
 use Rattle.road_scenario.specs.Faults.{IsInRange, fault_in}
 use Rattle.road_scenario.specs.Touched.{first_touched_step, first_touched_step_in}
 use Rattle.road_scenario.specs.Winners.{winners, AreWinners}
 use Rattle.road_scenario.specs.Instances.EditOrder.{winners_laws}
-use Rattle.road_scenario.specs.declared.edit.Value.{Value}
 use Rattle.road_scenario.proofs.NoEdits.{winners-empty}
 use Rattle.road_scenario.proofs.EditRanges.{in_range-empty, in_range-faultless}
 use Rattle.road_delta.specs.Deltas.{heads, beyond}
@@ -23,12 +21,12 @@ use Rattle.road_delta.specs.declared.heads.Head.{Head}
 use Rattle.road_delta.proofs.DeltaEdits.{from_set, winners-beyond}
 use Rattle.road_sheet.specs.Commands.{SheetCommand, Advance, Take, sheet_after}
 use Rattle.road_sheet.specs.Sheets.{Sheet, IsSheet, opening_sheet}
-use Rattle.road_rewind.specs.Growth.{TicksAtMost, meter_after, touched_step}
+use Rattle.road_rewind.specs.Growth.{touched_step}
 use Rattle.road_replica.specs.Refusals.{arrived_edit_fault, take_fault}
-use Rattle.road_replica.specs.Replicas.{Replica, edit_made, most_steps_taking, replica_after, single_edit}
+use Rattle.road_replica.specs.Replicas.{Replica, replica_after}
 use Rattle.road_world.specs.Answers.{edits_wanted_fault, replica_with_sheet, sheet_at}
 use Rattle.road_world.specs.Events.{World, WorldReplica, opening_replica, replica_at, carried_edits, replica_of_winners, message_of_winners, world_of_winners}
-use Rattle.road_world.specs.Events.{world_with_advance, world_with_edits, world_with_local_edit, world_with_message}
+use Rattle.road_world.specs.Events.{world_with_advance, world_with_edits, world_with_message}
 use Rattle.road_world.specs.Private.Worlds.{world_replica, IsReplicaOf, AreSendable, IsSendable, IsWorldKept}
 use Rattle.road_world.specs.declared.faults.WorldFault.{WorldFault}
 use Rattle.road_world.specs.declared.message.Message.{Message}
@@ -40,10 +38,10 @@ viewed plan xs ms = record { plan = plan; replicas = map world_replica xs; messa
 
 -- ---- lists
 
-same_some : {A : Type 0} (x y : A) → Some x ≡ Some y → x ≡ y
+pub same_some : {A : Type 0} (x y : A) → Some x ≡ Some y → x ≡ y
 same_some x y h = cc
 
-none_is_no_item : {A : Type 0} (x : A) → None ≡ Some x → ⊥
+pub none_is_no_item : {A : Type 0} (x : A) → None ≡ Some x → ⊥
 none_is_no_item x h = cc
 
 -- what both say of an item that is there
@@ -184,18 +182,6 @@ module _ (plan : Plan) (xs : List Replica) (ms : List Message) (kept : IsWorldKe
         ap (λ (s : Edits). first_touched_step_in (items (winners x.sheet.edits)) (items s)) (winners_laws.of_tops (union x.sheet.edits edits))
         ∙ ap (λ (q : WorldReplica). first_touched_step q.edits (union q.edits edits)) (sym (read r x is below))
 
-    -- what a write costs the replica, it costs the world
-    pub few_steps_there : (r : ℕ) (x : Replica) (most : Sheet → ℕ) (meter later : ℕ) → x ≡ slice_index_or xs r x → r < length xs → TicksAtMost (most x.sheet) meter later → TicksAtMost (most (sheet_at k r)) meter later
-    few_steps_there r x most meter later is below few = subst (λ (y : Replica). TicksAtMost (most y.sheet) meter later) (with_sheet r x is below) few
-
-    pub new_steps_there : (r : ℕ) (x : Replica) (steps : Sheet → ℕ) (meter later : ℕ) → x ≡ slice_index_or xs r x → r < length xs → later ≡ meter_after meter (steps x.sheet) → later ≡ meter_after meter (steps (sheet_at k r))
-    new_steps_there r x steps meter later is below counted = counted ∙ ap (λ (y : Replica). meter_after meter (steps y.sheet)) (with_sheet r x is below)
-
-    pub few_steps_taking : (r : ℕ) (x : Replica) (edits given : Edits) (meter later : ℕ) → x ≡ slice_index_or xs r x → r < length xs → edits ≡ given → TicksAtMost (most_steps_taking x.sheet edits) meter later
-        → TicksAtMost (most_steps_taking (sheet_at k r) given) meter later
-    few_steps_taking r x edits given meter later is below same few =
-        few_steps_there r x (λ (s : Sheet). most_steps_taking s given) meter later is below (subst (λ (es : Edits). TicksAtMost (most_steps_taking x.sheet es) meter later) same few)
-
     -- ---- a write
 
     -- a replica after a command
@@ -221,12 +207,6 @@ module _ (plan : Plan) (xs : List Replica) (ms : List Message) (kept : IsWorldKe
     taken r x y edits is below after =
         changed r y (record (replica_at k r) { edits = union (replica_at k r).edits edits })
         (ap world_replica after ∙ ap (λ (q : WorldReplica). let p : WorldReplica = record { edits = winners (union q.edits edits); horizon = q.horizon } in p) (sym (read r x is below)))
-
-    pub edited : (r : ℕ) (x y : Replica) (object : Object) (step : ℕ) (value : Value) → x ≡ slice_index_or xs r x → r < length xs → y ≡ replica_after (Take (single_edit (edit_made x object step value))) x
-        → viewed plan (slice_set xs r y) ms ≡ world_of_winners (world_with_local_edit r object step value k)
-    edited r x y object step value is below after =
-        taken r x y (single_edit (edit_made x object step value)) is below after
-        ∙ ap (λ (z : Replica). world_of_winners (world_with_edits r (single_edit (edit_made z object step value)) k)) (with_sheet r x is below)
 
     pub advanced : (r to : ℕ) (x y : Replica) → x ≡ slice_index_or xs r x → r < length xs → y ≡ replica_after (Advance to) x → viewed plan (slice_set xs r y) ms ≡ world_of_winners (world_with_advance r to k)
     advanced r to x y is below after =
@@ -254,6 +234,12 @@ module _ (plan : Plan) (xs : List Replica) (ms : List Message) (kept : IsWorldKe
     pub sent_heads : (r : ℕ) (x : Replica) (hs : List Head) → x ≡ slice_index_or xs r x → r < length xs → hs ≡ heads x.sheet.edits → Asked hs ≡ Asked (heads (winners (replica_at k r).edits))
     sent_heads r x hs is below all =
         ap Asked (all ∙ ap heads (sym (is_replica r x is below).sheet.winners)) ∙ ap (λ (q : WorldReplica). Asked (heads (winners q.edits))) (sym (read r x is below))
+
+    pub held_sendable : (r : ℕ) (x : Replica) (edits : Edits) → x ≡ slice_index_or xs r x → r < length xs → edits ≡ x.sheet.edits → AreSendable k.plan edits
+    held_sendable r x edits is below all =
+        let of = is_replica r x is below in
+        let held : AreSendable x.sheet.plan x.sheet.edits = record { winners = of.sheet.winners; in_range = of.sheet.in_range } in
+        subst (λ (p : Plan). AreSendable p edits) (of.plan_is ∙ plan_same) (subst (λ (s : Edits). AreSendable x.sheet.plan s) (sym all) held)
 
     -- what it holds beyond heads
     pub sent_beyond : (r : ℕ) (x : Replica) (delta : Edits) (hs : List Head) → x ≡ slice_index_or xs r x → r < length xs → delta ≡ beyond x.sheet.edits hs

@@ -4,10 +4,11 @@ pub mod EventLists
 pub mod GrowingCounts
 pub mod FreshStamps
 pub mod HeadlineOfWinners
+pub mod ShownRuns
 pub mod PlayedEvents
 pub mod EventSteps
 pub mod KeptWorlds
 pub mod EventAnswers
-pub mod LocalEdits
+pub mod AppliedEvents
 pub mod ListedWorlds
 pub mod Examples

@@ -1,11 +1,11 @@
 -- A world that was played through some events: what it holds, and what one event more makes of it.
-use Rattle.std.proofs.Common.{◌≡◌, ℕ, List, [], ◌∷◌, ◌++◌, map, ap, sym, subst, ◌∙◌}
+use Rattle.std.proofs.Common.{◌≡◌, ℕ, List, [], ◌∷◌, ◌++◌, ap, sym, subst, ◌∙◌}
 use Rattle.std.specs.Prelude.{OnErr, OnOk, Result}
 use Rattle.std.specs.declared.result.Result.TheVariants.{Ok, Err}
 use Rattle.road_plan.specs.Plan.{Plan}
 use Rattle.road_replica.specs.declared.reply.Reply.{Reply}
 use Rattle.road_world.specs.Answers.{IsAnswer, AreAnswers}
-use Rattle.road_world.specs.Events.{World, message_of_winners, opening_world, world_after_event, world_of_events, world_of_winners}
+use Rattle.road_world.specs.Events.{World, opening_world, world_after_event, world_of_events, world_of_winners}
 use Rattle.road_world.specs.declared.event.Event.{Event}
 use Rattle.road_world.specs.declared.faults.WorldFault.{WorldFault}
 use Rattle.road_world.proofs.EventLists.{answers-one_more, world-one_more}
@@ -46,8 +46,3 @@ module _ (plan : Plan) (count : ℕ) (events : List Event) (replies : List (Resu
   pub played_one_more : (reply : Result Reply WorldFault) → IsAnswer old event reply → OnOk reply (new ≡ world_of_winners (world_after_event event old)) → OnErr reply (new ≡ old)
       → IsPlayed plan count (events ++ event ∷ []) (replies ++ reply ∷ []) new
   played_one_more reply answer done same = record { holds = more_holds reply done same; answers = more_answers reply answer }
-
--- each message holds what its event put into it, of edits the winners
-pub played_messages : (plan : Plan) (count : ℕ) (events : List Event) (replies : List (Result Reply WorldFault)) (world : World) → IsPlayed plan count events replies world
-    → world.messages ≡ map message_of_winners (world_of_events plan count events replies).messages
-played_messages plan count events replies world played = ap (λ (w : World). w.messages) played.holds

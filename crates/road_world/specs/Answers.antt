@@ -14,6 +14,7 @@ use Rattle.road_scenario.specs.declared.edit.Value.TheVariants.{Withdrawn, Put}
 use Rattle.road_sheet.specs.Sheets.{Sheet}
 use Rattle.road_replica.specs.Refusals.{edit_fault, import_fault, advance_fault, gone_after_fault}
 use Rattle.road_replica.specs.Replicas.{Replica, edit_made}
+use Rattle.road_replica.specs.declared.faults.ReplicaFault.{ReplicaFault}
 use Rattle.road_replica.specs.declared.faults.ReplicaFault.TheVariants.{WorkersGone, OutOfMemory}
 use Rattle.road_replica.specs.declared.reply.Reply.{Reply}
 use Rattle.road_replica.specs.declared.reply.Reply.TheVariants as replies
@@ -101,6 +102,17 @@ fault_at_replica w (Advance r to) = option_map faults.Replica (advance_fault to)
 abbrev pub fault_of_event : World → Event → Option WorldFault
 fault_of_event w event = if nat_lt (replica_number event) (length w.replicas) then fault_at_replica w event
     else Some NoReplica
+
+-- ---- a query
+
+-- the first named cause for which a query at replica r is refused: whether it is there is asked first
+abbrev pub query_fault : World → ℕ → Option ReplicaFault → Option WorldFault
+query_fault w r cause = if nat_lt r (length w.replicas) then option_map faults.Replica cause else Some NoReplica
+
+-- a query is refused for the named cause where there is one, and else for out of memory
+abbrev pub IsQueryRefusal : Option WorldFault → WorldFault → Type 0
+IsQueryRefusal (Some cause) fault = fault ≡ cause
+IsQueryRefusal None fault = fault ≡ faults.Replica OutOfMemory
 
 -- ---- the answer to any event
 

@@ -5,7 +5,8 @@
 --
 -- What a replica shows is told by its sheet s: `Replica::state` answers `state_of s step`, or refuses for
 -- `state_fault s step`; likewise `rows` by `rows_of` and `rows_fault`, `totals` by `total_of` and `totals_fault`.
--- A run (`run_at`, `rows_at`, `total_at`) begins at step zero always, and knows no kept state, no crew and no meter.
+-- `World::state`, `rows` and `totals` answer by `run_at`, `rows_at` and `total_at` of the winners themselves.
+-- A run (`run_at`, `rows_at`, `total_at`) begins at step zero always, and knows no checkpoint, no crew and no meter.
 use Rattle.std.specs.Prelude.{◌≡◌, ◌<◌, ◌≤◌, ℕ, List, Result, length, false}
 use Rattle.std.specs.declared.option.Option.{Option}
 use Rattle.std.specs.declared.option.Option.TheVariants.{None}
@@ -67,13 +68,3 @@ pub record ShowsRuns (plan : Plan) (count : ℕ) (past : ℕ → WorldReplica) (
 -- replica, a refused event left out
 abbrev pub Headline : Plan → ℕ → List Event → List (Result Reply WorldFault) → World → Type 0
 Headline plan count events replies world = ShowsRuns plan count (replica_after_events plan count events replies) world
-
--- It stands on these definitions, in reading order:
---   the plan: `Plan`, `Settings`, the objects and their defaults (road_plan), `word` (road_words);
---   the road: `Array` (road_cells), `wanted_speed`, `slowed_speed` and the motion (road_rules), then
---   `road_with_entries`, `gap`, `speed`, `road_after_step` and `run` (road_ends), and `row` and `total`
---   (road_detector);
---   edits: `Sets` (lattice_core), `Edits`, `winners`, `settings_of`, `first_touched_step` (road_scenario), `heads`,
---   `beyond` (road_delta);
---   what is shown: `run_at`, `rows_at`, `total_at`, `Sheet` (road_sheet), `local_edit` and the refusals (road_replica);
---   events: `opening_world`, `world_after_event`, `accepted_events`, `replica_after_events` (road_world).

@@ -2,6 +2,7 @@
 pub mod Events
 pub mod Answers
 pub mod Steps
+pub mod Applied
 pub mod Stamps
 pub mod Headline
 pub mod Private

@@ -1,2 +1,3 @@
--- What private fields say of a world; no public contract names it.
+-- What private fields and private functions say of a world; no public contract names it.
 pub mod Worlds
+pub mod LocalEvents

@@ -1,16 +1,14 @@
 //! A list of events, played one after another from the opened world on.
 
-ghost use Rattle.std.specs.Prelude.{◌≡◌, ◌≤◌, ◌++◌, ◌∷◌, [], IfOk, OnErr, OnOk, map};
+ghost use Rattle.std.specs.Prelude.{◌≡◌, ◌≤◌, ◌++◌, ◌∷◌, [], IfOk, OnErr, OnOk};
 ghost use Rattle.std.specs.Prelude.{vec_capacity, vec_len};
 ghost use Rattle.std.specs.Arc.{arc_value};
 ghost use Rattle.road_plan.specs.declared.limits.TheConstants.{MOST_REPLICAS};
-ghost use Rattle.road_rewind.specs.Growth.{TicksAtMost};
+ghost use Rattle.road_rewind.specs.Growth.{TicksAtMost, meter_after};
 ghost use Rattle.road_world.specs.Answers.{AreAnswers, gone_after_answers};
-ghost use Rattle.road_world.specs.Events.{accepted_events, message_of_winners, opening_world};
-ghost use Rattle.road_world.specs.Events.{world_of_events, world_of_winners};
+ghost use Rattle.road_world.specs.Events.{opening_world, world_of_events, world_of_winners};
 ghost use Rattle.road_world.specs.Headline.{Headline};
-ghost use Rattle.road_world.specs.Stamps.{AreFresh, imported_stamps, issued_stamps};
-ghost use Rattle.road_world.specs.Steps.{TicksAtLeast, least_steps_of_events, most_steps_of_events};
+ghost use Rattle.road_world.specs.Steps.{most_wasted_steps_of_events, steps_of_events};
 
 use crate::event::Event;
 use crate::faults::{PlayFault, WorldFault};
@@ -31,12 +29,13 @@ pub struct Played {
     pub replies: Vec<Result<Reply, WorldFault>>,
 }
 
-/// The world of a plan and so many replicas, at most 64, after some events. A refused event does nothing, and the next
-/// ones go on; out of memory in an event is that event's reply. The meter counts the steps that the events compute.
+/// Plays some events, one after another, in the world of a plan and so many replicas, at most 64. A refused event does
+/// nothing, and the next ones go on; out of memory in an event is that event's reply. The meter counts the steps that
+/// the events compute.
 ///
 /// # Errors
 ///
-/// `OutOfMemory` where the growth of the opened world or of the list of replies was refused. No step is computed then.
+/// `OutOfMemory` where no memory was left to open the world, or for the list of replies. No step is computed then.
 pub fn play<C: Crew>(
     alloc: Global,
     plan: Arc<Plan>,
@@ -54,20 +53,13 @@ pub fn play<C: Crew>(
     // Each event has its answer.
     ensures answers { IfOk result (λ played.
         AreAnswers (opening_world (arc_value plan) replicas) events.now played.replies.items) }
-    // Each message holds what its event put into it, of edits the winners.
-    ensures messages { IfOk result (λ played. played.world.messages ≡ map message_of_winners
-        (world_of_events (arc_value plan) replicas events.now played.replies.items).messages) }
-    // No stamp is issued twice, and none is that of an import.
-    ensures stamps { IfOk result (λ played. AreFresh (issued_stamps played.replies.items)
-        (imported_stamps (accepted_events events.now played.replies.items))) }
-    // Each event computes at most the steps that it may cost in the world after those before it.
-    ensures few_steps { IfOk result (λ played. TicksAtMost
-        (most_steps_of_events (opening_world (arc_value plan) replicas) events.now played.replies.items)
-        meter.old meter.new) }
-    // Each accepted advance computes at least the steps that it adds.
-    ensures new_steps { IfOk result (λ played. TicksAtLeast
-        (least_steps_of_events (opening_world (arc_value plan) replicas) events.now played.replies.items)
-        meter.old meter.new) }
+    // The meter counts the sum of the steps of the accepted events, and for events that are refused for out of memory or
+    // lost workers at most the steps that they may cost.
+    ensures steps { IfOk result (λ played. TicksAtMost
+        (most_wasted_steps_of_events (opening_world (arc_value plan) replicas) events.now played.replies.items)
+        (meter_after meter.old
+        (steps_of_events (opening_world (arc_value plan) replicas) events.now played.replies.items))
+        meter.new) }
     ensures no_steps { OnErr result (meter.new ≡ meter.old) }
     ensures gone { IfOk result (λ played.
         C.times_gone crew.new ≡ gone_after_answers played.replies.items (C.times_gone crew.old)) }
@@ -82,7 +74,7 @@ pub fn play<C: Crew>(
     Ok(Played { world, replies })
 }
 
-// One reply more.
+// Appends a reply.
 fn add(
     replies: &mut Vec<Result<Reply, WorldFault>>,
     reply: Result<Reply, WorldFault>,

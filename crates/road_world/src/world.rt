@@ -1,32 +1,37 @@
 //! A world: its replicas, the messages that were sent, and what each event does to them.
 
-ghost use Rattle.std.specs.Prelude.{◌≡◌, ◌<◌, ◌≤◌, ◌↔◌, ℕ, IfOk, IfSome, IsSome, OnErr, OnOk, length};
-ghost use Rattle.std.specs.Prelude.{MatchOption, None, Some};
+ghost use Rattle.std.specs.Prelude.{◌≡◌, ◌<◌, ◌≤◌, ◌↔◌, ℕ, IfErr, IfOk, IfSome, IsOk, IsSome, OnErr, OnOk, length};
+ghost use Rattle.std.specs.Prelude.{MatchOption, None, Some, map, string_bytes};
 ghost use Rattle.std.specs.Arc.{arc_value};
 ghost use Rattle.std.specs.List.{slice_get};
 ghost use Rattle.road_plan.specs.declared.limits.TheConstants.{MOST_REPLICAS};
-ghost use Rattle.road_replica.specs.declared.reply.Reply.TheVariants as replies;
 ghost use Rattle.road_scenario.specs.Faults.{AreInRange};
-ghost use Rattle.road_scenario.specs.Winners.{AreWinners};
+ghost use Rattle.road_scenario.specs.Winners.{AreWinners, winners};
 ghost use Rattle.road_sheet.specs.Sheets.{IsSheet, opening_sheet};
-ghost use Rattle.road_world.specs.Answers.{IsAnswer, gone_after_answer, sheet_at};
-ghost use Rattle.road_world.specs.Answers.{edits_wanted_fault, heads_wanted_fault};
-ghost use Rattle.road_world.specs.Events.{asked_heads, carried_edits, opening_world, world_after_event};
+ghost use Rattle.road_sheet.specs.Shown.{rows_at, run_at, total_at};
+ghost use Rattle.road_replica.specs.Refusals.{rows_fault, state_fault, totals_fault};
+ghost use Rattle.road_replica.specs.declared.reply.Reply.TheVariants as replies;
+ghost use Rattle.road_world.specs.Answers.{IsQueryRefusal, edits_wanted_fault, gone_after_answer, heads_wanted_fault};
+ghost use Rattle.road_world.specs.Answers.{query_fault, sheet_at};
+ghost use Rattle.road_world.specs.Applied.{IsApplied};
+ghost use Rattle.road_world.specs.Events as worlds;
+ghost use Rattle.road_world.specs.Events.{asked_heads, carried_edits, opening_world, replica_at};
 ghost use Rattle.road_world.specs.Events.{world_of_winners, world_with_message};
-ghost use Rattle.road_rewind.specs.Growth.{TicksAtMost, meter_after};
+ghost use Rattle.road_world.specs.Private.LocalEvents.{local_event};
 ghost use Rattle.road_world.specs.Private.Worlds.{IsSendable};
-ghost use Rattle.road_world.specs.Steps.{added_steps, most_steps_of_event, new_steps_of_event};
 ghost use Rattle.road_world.specs.declared.event.Event.TheVariants as events;
 ghost use Rattle.road_world.specs.declared.faults.WorldFault.TheVariants.{NoMessage};
 
 use crate::event::Event;
 use crate::faults::WorldFault;
 use crate::message::Message;
+use road_cells::Road;
 use road_delta::Heads;
+use road_detector::Totals;
 use road_ends::Meter;
 use road_plan::{Object, OutOfMemory, Plan};
 use road_replica::{Replica, Reply};
-use road_scenario::{Edit, Scenario};
+use road_scenario::{Edit, Scenario, Value};
 use road_workers::Crew;
 use std::alloc::Global;
 use std::marker::Model;
@@ -63,14 +68,15 @@ impl Model for World {
 }
 
 impl World {
-    /// The world of a plan and so many replicas, at most 64, before any event.
+    /// Opens the world of a plan and so many replicas, at most 64, before any event.
     ///
     /// # Errors
     ///
-    /// `OutOfMemory` where an allocation failed.
+    /// `OutOfMemory` where an allocation failed; a world without replicas needs none.
     pub fn open(alloc: Global, plan: Arc<Plan>, replicas: u32) -> Result<World, OutOfMemory>
         requires { replicas ≤ MOST_REPLICAS }
-        ensures { IfOk result (λ world. world ≡ opening_world (arc_value plan) replicas) }
+        ensures world { IfOk result (λ world. world ≡ opening_world (arc_value plan) replicas) }
+        ensures of_none { replicas ≡ 0 → IsOk result }
     {
         let mut opened = Vec::with_capacity(alloc, replicas as usize)?;
         for number in 0..replicas {
@@ -83,46 +89,122 @@ impl World {
         })
     }
 
-    /// The plan.
+    /// Returns the plan. What the world holds and carries are winners alone.
     pub fn plan(&self) -> &Arc<Plan>
-        ensures { arc_value result.now ≡ self.now.plan }
+        ensures plan { arc_value result.now ≡ self.now.plan }
+        ensures winners { world_of_winners self.now ≡ self.now }
     {
         &self.plan
     }
 
-    /// The replica of a number, if the world has it.
+    /// Returns how many replicas the world has: at most 64.
+    pub fn replica_count(&self) -> u32
+        ensures count { result ≡ length self.now.replicas }
+        ensures few { length self.now.replicas ≤ MOST_REPLICAS }
+    {
+        self.replicas.len() as u32
+    }
+
+    /// Returns the replica of a number, if the world has it.
     pub fn replica(&self, number: u32) -> Option<&Replica>
         ensures there { IsSome result ↔ (number < length self.now.replicas) }
         ensures number { IfSome result (λ replica. replica.now.number ≡ number) }
         ensures sheet { IfSome result (λ replica. replica.now.sheet ≡ sheet_at self.now number) }
+        ensures is_sheet { IfSome result (λ replica. IsSheet replica.now.sheet) }
     {
         self.replicas.get(number as usize)
     }
 
-    /// The message of a number, if there is one.
+    /// Returns the message of a number, if there is one. The edits that it carries win and fit the plan.
     pub fn message(&self, number: u64) -> Option<&Message>
         ensures there { IsSome result ↔ (number < length self.now.messages) }
         ensures message { IfSome result (λ message. slice_get self.now.messages number ≡ Some message.now) }
+        ensures winners { AreWinners (carried_edits (slice_get self.now.messages number)) }
+        ensures fits { AreInRange self.now.plan (carried_edits (slice_get self.now.messages number)) }
     {
         self.messages.get(number as usize)
     }
 
-    /// That the replicas are at most 64, that the edits of each win and fit the plan, and its horizon is at most
-    /// 1,048,576, and that the edits that each message carries win and fit the plan. It is a fact for proofs: the call
-    /// does nothing.
-    pub fn known(&self)
-        ensures few { length self.now.replicas ≤ MOST_REPLICAS }
-        ensures sheets { (number : ℕ) → number < length self.now.replicas → IsSheet (sheet_at self.now number) }
-        ensures messages { (number : ℕ) → AreWinners (carried_edits (slice_get self.now.messages number)) }
-        ensures messages_fit { (number : ℕ) →
-            AreInRange self.now.plan (carried_edits (slice_get self.now.messages number)) }
+    // ---- what its replicas show
+
+    /// Returns the road of a replica at a step: whatever edits reached the replica, it is that of the run of their
+    /// winners from step zero.
+    ///
+    /// # Errors
+    ///
+    /// `NoReplica` where the world has no replica of the number, else as [`Replica::state`].
+    pub fn state(&self, alloc: Global, replica: u32, step: u32) -> Result<Road, WorldFault>
+        ensures state { IfOk result (λ road. (reached : worlds.World) → self.now ≡ world_of_winners reached →
+            road ≡ run_at self.now.plan (winners (replica_at reached replica).edits) step) }
+        ensures accepted { IfOk result (λ _.
+            query_fault self.now replica (state_fault (sheet_at self.now replica) step) ≡ None) }
+        ensures refused { IfErr result
+            (IsQueryRefusal (query_fault self.now replica (state_fault (sheet_at self.now replica) step))) }
     {
-        let _ = &self.plan;
+        let Some(shown) = self.replica(replica) else {
+            return Err(WorldFault::NoReplica);
+        };
+        Ok(shown.state(alloc, step)?)
     }
 
-    /// What an event does: the replica at which it is writes, or makes a message. Each write computes anew every
-    /// simulated step that it touches before it answers, by the crew that it is given, and the meter counts the steps:
-    /// for an accepted advance just those that it adds, for a message none.
+    /// Returns the rows of a replica's space-time diagram: whatever edits reached the replica, they are those of the
+    /// run of their winners from step zero, each with the blocks of its step.
+    ///
+    /// # Errors
+    ///
+    /// `NoReplica` where the world has no replica of the number, else as [`Replica::rows`].
+    pub fn rows(
+        &self,
+        alloc: Global,
+        replica: u32,
+        from: u32,
+        to: u32,
+    ) -> Result<Vec<String>, WorldFault>
+        ensures rows { IfOk result (λ rows. (reached : worlds.World) → self.now ≡ world_of_winners reached →
+            map string_bytes rows.items ≡ rows_at self.now.plan (winners (replica_at reached replica).edits) from to) }
+        ensures accepted { IfOk result (λ _.
+            query_fault self.now replica (rows_fault (sheet_at self.now replica) from to) ≡ None) }
+        ensures refused { IfErr result
+            (IsQueryRefusal (query_fault self.now replica (rows_fault (sheet_at self.now replica) from to))) }
+    {
+        let Some(shown) = self.replica(replica) else {
+            return Err(WorldFault::NoReplica);
+        };
+        Ok(shown.rows(alloc, from, to)?)
+    }
+
+    /// Returns what a detector counts at a replica, from one step up to another: whatever edits reached the replica, it
+    /// is the count of the run of their winners from step zero.
+    ///
+    /// # Errors
+    ///
+    /// `NoReplica` where the world has no replica of the number, else as [`Replica::totals`].
+    pub fn totals(
+        &self,
+        alloc: Global,
+        replica: u32,
+        detector: u32,
+        from: u32,
+        to: u32,
+    ) -> Result<Totals, WorldFault>
+        ensures totals { IfOk result (λ totals. (reached : worlds.World) → self.now ≡ world_of_winners reached →
+            totals ≡ total_at self.now.plan (winners (replica_at reached replica).edits) detector from to) }
+        ensures accepted { IfOk result (λ _.
+            query_fault self.now replica (totals_fault (sheet_at self.now replica) detector from to) ≡ None) }
+        ensures refused { IfErr result
+            (IsQueryRefusal (query_fault self.now replica (totals_fault (sheet_at self.now replica) detector from to))) }
+    {
+        let Some(shown) = self.replica(replica) else {
+            return Err(WorldFault::NoReplica);
+        };
+        Ok(shown.totals(alloc, detector, from, to)?)
+    }
+
+    // ---- events
+
+    /// Applies an event: the replica at which it is writes, or makes a message. Each write computes anew every simulated
+    /// step that it touches before it answers, by the crew that it is given, and the meter counts just these steps; for
+    /// a message, and for an event that is refused for a named cause, none.
     ///
     /// # Errors
     ///
@@ -136,13 +218,7 @@ impl World {
         crew: &mut C,
         meter: &mut Meter,
     ) -> Result<Reply, WorldFault>
-        ensures answer { IsAnswer self.old event.now result }
-        ensures after { OnOk result (self.new ≡ world_of_winners (world_after_event event.now self.old)) }
-        ensures unchanged { OnErr result (self.new ≡ self.old) }
-        // Where the event says how many steps it computes, just these are computed.
-        ensures new_steps { IfSome (new_steps_of_event self.old event.now) (λ steps.
-            OnOk result (meter.new ≡ meter_after meter.old steps)) }
-        ensures few_steps { TicksAtMost (most_steps_of_event self.old event.now) meter.old meter.new }
+        ensures applied { IsApplied event.now result self.old self.new meter.old meter.new }
         ensures gone { C.times_gone crew.new ≡ gone_after_answer result (C.times_gone crew.old) }
     {
         if event.replica() as usize >= self.replicas.len() {
@@ -154,9 +230,9 @@ impl World {
                 object,
                 step,
                 value,
-            } => self.edit(alloc, *at, *object, *step, *value, crew, meter),
+            } => self.put(alloc, *at, *object, *step, Value::Put(*value), crew, meter),
             Event::Withdraw { at, object, step } => {
-                self.withdraw(alloc, *at, *object, *step, crew, meter)
+                self.put(alloc, *at, *object, *step, Value::Withdrawn, crew, meter)
             }
             Event::Import { at, edits } => self.import(alloc, *at, edits, crew, meter),
             Event::Send { at } => self.send(*at),
@@ -169,58 +245,27 @@ impl World {
 
     // ---- writes
 
-    // A replica puts a number.
-    fn edit<C: Crew>(
+    // Puts a number at a replica, or withdraws what is put.
+    fn put<C: Crew>(
         &mut self,
         alloc: Global,
         at: u32,
         object: Object,
         step: u32,
-        value: u32,
+        value: Value,
         crew: &mut C,
         meter: &mut Meter,
     ) -> Result<Reply, WorldFault>
         requires { at < length self.old.replicas }
-        ensures answer { IsAnswer self.old (events.Edit at object step value) result }
-        ensures after { OnOk result (self.new
-            ≡ world_of_winners (world_after_event (events.Edit at object step value) self.old)) }
-        ensures unchanged { OnErr result (self.new ≡ self.old) }
-        ensures few_steps { TicksAtMost (most_steps_of_event self.old (events.Edit at object step value))
-            meter.old meter.new }
+        ensures applied { IsApplied (local_event at object step value) result self.old self.new meter.old meter.new }
         ensures gone { C.times_gone crew.new ≡ gone_after_answer result (C.times_gone crew.old) }
     {
         let replica = &mut self.replicas[at as usize];
-        let stamp = replica.edit(alloc, object, step, value, crew, meter)?;
-        replica.known();
+        let stamp = replica.put(alloc, object, step, value, crew, meter)?;
         Ok(Reply::Stamped(stamp))
     }
 
-    // A replica withdraws what is put.
-    fn withdraw<C: Crew>(
-        &mut self,
-        alloc: Global,
-        at: u32,
-        object: Object,
-        step: u32,
-        crew: &mut C,
-        meter: &mut Meter,
-    ) -> Result<Reply, WorldFault>
-        requires { at < length self.old.replicas }
-        ensures answer { IsAnswer self.old (events.Withdraw at object step) result }
-        ensures after { OnOk result (self.new
-            ≡ world_of_winners (world_after_event (events.Withdraw at object step) self.old)) }
-        ensures unchanged { OnErr result (self.new ≡ self.old) }
-        ensures few_steps { TicksAtMost (most_steps_of_event self.old (events.Withdraw at object step))
-            meter.old meter.new }
-        ensures gone { C.times_gone crew.new ≡ gone_after_answer result (C.times_gone crew.old) }
-    {
-        let replica = &mut self.replicas[at as usize];
-        let stamp = replica.withdraw(alloc, object, step, crew, meter)?;
-        replica.known();
-        Ok(Reply::Stamped(stamp))
-    }
-
-    // Edits reach a replica from outside.
+    // Imports edits at a replica.
     fn import<C: Crew>(
         &mut self,
         alloc: Global,
@@ -230,21 +275,15 @@ impl World {
         meter: &mut Meter,
     ) -> Result<Reply, WorldFault>
         requires { at < length self.old.replicas }
-        ensures answer { IsAnswer self.old (events.Import at edits.now) result }
-        ensures after { OnOk result (self.new
-            ≡ world_of_winners (world_after_event (events.Import at edits.now) self.old)) }
-        ensures unchanged { OnErr result (self.new ≡ self.old) }
-        ensures few_steps { TicksAtMost (most_steps_of_event self.old (events.Import at edits.now))
-            meter.old meter.new }
+        ensures applied { IsApplied (events.Import at edits.now) result self.old self.new meter.old meter.new }
         ensures gone { C.times_gone crew.new ≡ gone_after_answer result (C.times_gone crew.old) }
     {
         let replica = &mut self.replicas[at as usize];
         let touched = replica.import(alloc, edits, crew, meter)?;
-        replica.known();
         Ok(Reply::Touched(touched))
     }
 
-    // A message reaches a replica.
+    // Takes a message at a replica.
     fn take<C: Crew>(
         &mut self,
         alloc: Global,
@@ -254,12 +293,7 @@ impl World {
         meter: &mut Meter,
     ) -> Result<Reply, WorldFault>
         requires { at < length self.old.replicas }
-        ensures answer { IsAnswer self.old (events.Take at message) result }
-        ensures after { OnOk result (self.new
-            ≡ world_of_winners (world_after_event (events.Take at message) self.old)) }
-        ensures unchanged { OnErr result (self.new ≡ self.old) }
-        ensures few_steps { TicksAtMost (most_steps_of_event self.old (events.Take at message))
-            meter.old meter.new }
+        ensures applied { IsApplied (events.Take at message) result self.old self.new meter.old meter.new }
         ensures gone { C.times_gone crew.new ≡ gone_after_answer result (C.times_gone crew.old) }
     {
         let Some(scenario) = carried_edits(&self.messages, message) else {
@@ -267,11 +301,10 @@ impl World {
         };
         let replica = &mut self.replicas[at as usize];
         let touched = replica.take(alloc, scenario, crew, meter)?;
-        replica.known();
         Ok(Reply::Touched(touched))
     }
 
-    // A replica simulates.
+    // Advances a replica to a step.
     fn advance<C: Crew>(
         &mut self,
         alloc: Global,
@@ -281,68 +314,50 @@ impl World {
         meter: &mut Meter,
     ) -> Result<Reply, WorldFault>
         requires { at < length self.old.replicas }
-        ensures answer { IsAnswer self.old (events.Advance at to) result }
-        ensures after { OnOk result (self.new
-            ≡ world_of_winners (world_after_event (events.Advance at to) self.old)) }
-        ensures unchanged { OnErr result (self.new ≡ self.old) }
-        ensures new_steps { OnOk result (meter.new ≡ meter_after meter.old (added_steps self.old at to)) }
-        ensures few_steps { TicksAtMost (most_steps_of_event self.old (events.Advance at to))
-            meter.old meter.new }
+        ensures applied { IsApplied (events.Advance at to) result self.old self.new meter.old meter.new }
         ensures gone { C.times_gone crew.new ≡ gone_after_answer result (C.times_gone crew.old) }
     {
         let replica = &mut self.replicas[at as usize];
         let horizon = replica.advance(alloc, to, crew, meter)?;
-        replica.known();
         Ok(Reply::Horizon(horizon))
     }
 
-    // ---- messages
+    // ---- messages, for which no meter and no crew is asked
 
-    // A replica sends all that it holds.
+    // Sends all that a replica holds.
     fn send(&mut self, at: u32) -> Result<Reply, WorldFault>
         requires { at < length self.old.replicas }
-        ensures answer { IsAnswer self.old (events.Send at) result }
-        ensures after { OnOk result (self.new ≡ world_of_winners (world_after_event (events.Send at) self.old)) }
-        ensures unchanged { OnErr result (self.new ≡ self.old) }
+        ensures applied { (meter : ℕ) → IsApplied (events.Send at) result self.old self.new meter meter }
         ensures no_crew { (n : ℕ) → gone_after_answer result n ≡ n }
     {
-        let replica = &self.replicas[at as usize];
-        replica.known();
-        let scenario = replica.message()?;
+        let scenario = self.replicas[at as usize].message()?;
         Ok(self.post(Message::Whole(scenario))?)
     }
 
-    // A replica sends its heads.
+    // Sends a replica's heads.
     fn heads(&mut self, alloc: Global, at: u32) -> Result<Reply, WorldFault>
         requires { at < length self.old.replicas }
-        ensures answer { IsAnswer self.old (events.Heads at) result }
-        ensures after { OnOk result (self.new ≡ world_of_winners (world_after_event (events.Heads at) self.old)) }
-        ensures unchanged { OnErr result (self.new ≡ self.old) }
+        ensures applied { (meter : ℕ) → IsApplied (events.Heads at) result self.old self.new meter meter }
         ensures no_crew { (n : ℕ) → gone_after_answer result n ≡ n }
     {
         let heads = self.replicas[at as usize].heads(alloc)?;
         Ok(self.post(Message::Asked(heads))?)
     }
 
-    // A replica answers heads.
+    // Answers heads by what a replica holds beyond them.
     fn beyond(&mut self, alloc: Global, at: u32, message: u64) -> Result<Reply, WorldFault>
         requires { at < length self.old.replicas }
-        ensures answer { IsAnswer self.old (events.Beyond at message) result }
-        ensures after { OnOk result (self.new
-            ≡ world_of_winners (world_after_event (events.Beyond at message) self.old)) }
-        ensures unchanged { OnErr result (self.new ≡ self.old) }
+        ensures applied { (meter : ℕ) → IsApplied (events.Beyond at message) result self.old self.new meter meter }
         ensures no_crew { (n : ℕ) → gone_after_answer result n ≡ n }
     {
         let Some(heads) = asked_heads(&self.messages, message) else {
             return Err(WorldFault::NoMessage);
         };
-        let replica = &self.replicas[at as usize];
-        replica.known();
-        let delta = replica.beyond(alloc, heads)?;
+        let delta = self.replicas[at as usize].beyond(alloc, heads)?;
         Ok(self.post(Message::Answer(delta))?)
     }
 
-    // A message more. The answer is its number.
+    // Appends a message, and answers its number.
     fn post(&mut self, message: Message) -> Result<Reply, OutOfMemory>
         requires { IsSendable self.old.plan message }
         ensures number { IfOk result (λ reply. reply ≡ replies.Message (length self.old.messages)) }
@@ -355,7 +370,7 @@ impl World {
     }
 }
 
-// A replica of a world before any event.
+// Opens a replica of a world.
 fn opening_replica(alloc: Global, plan: &Arc<Plan>, number: u32) -> Result<Replica, OutOfMemory>
     requires { number < MOST_REPLICAS }
     ensures { IfOk result (λ replica. replica
@@ -364,7 +379,7 @@ fn opening_replica(alloc: Global, plan: &Arc<Plan>, number: u32) -> Result<Repli
     Replica::open(alloc, Arc::try_clone(plan)?, number)
 }
 
-// The edits that a message carries, if there is such a message and it carries edits.
+// Returns the edits that a message carries, if there is such a message and it carries edits.
 fn carried_edits(messages: &[Message], number: u64) -> Option<&Scenario>
     ensures edits { IfSome result (λ edits. edits.now ≡ carried_edits (slice_get messages.now number)) }
     ensures wanted { MatchOption result (edits_wanted_fault (slice_get messages.now number) ≡ Some NoMessage)
@@ -378,7 +393,7 @@ fn carried_edits(messages: &[Message], number: u64) -> Option<&Scenario>
     }
 }
 
-// The heads with which a message asks, if there is such a message and it asks.
+// Returns the heads with which a message asks, if there is such a message and it asks.
 fn asked_heads(messages: &[Message], number: u64) -> Option<&Heads>
     ensures heads { IfSome result (λ heads. heads.now ≡ asked_heads (slice_get messages.now number)) }
     ensures wanted { MatchOption result (heads_wanted_fault (slice_get messages.now number) ≡ Some NoMessage)

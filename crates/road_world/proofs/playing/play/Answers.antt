@@ -11,9 +11,8 @@ use Rattle.road_world.specs.declared.event.Event.{Event}
 use Rattle.road_world.specs.declared.faults.WorldFault.{WorldFault}
 use Rattle.road_world.proofs.EventLists.{gone-one_more}
 use Rattle.road_world.proofs.EventSteps.{IsMetered, metered_all, metered_none, metered_one_more}
-use Rattle.road_world.proofs.FreshStamps.{stamps_are_fresh}
 use Rattle.road_world.proofs.HeadlineOfWinners.{headline}
-use Rattle.road_world.proofs.PlayedEvents.{IsPlayed, played_none, played_one_more, played_messages}
+use Rattle.road_world.proofs.PlayedEvents.{IsPlayed, played_none, played_one_more}
 use Rattle.road_world.proofs.playing.play.Goals as goal
 
 -- what is played at the end of a loop over the events is all of them
@@ -24,7 +23,7 @@ pub loop-event-init : goal.loop-event-init
 loop-event-init g c =
     let plan = arc_value c.args.plan in
     let none = sym c.in_ok-replies.ensures.items in
-    let opened = subst (λ (w : World). IsPlayed plan c.args.replicas [] [] w) (sym c.in_ok-world.ensures) (played_none plan c.args.replicas) in record {
+    let opened = subst (λ (w : World). IsPlayed plan c.args.replicas [] [] w) (sym c.in_ok-world.ensures.world) (played_none plan c.args.replicas) in record {
       played = subst (λ (replies : List (Result Reply WorldFault)). IsPlayed plan c.args.replicas [] replies c.in_ok-world.world) none opened;
       gone = ap (λ (replies : List (Result Reply WorldFault)). gone_after_answers replies (g.C.Crew.times_gone c.args.crew.now)) none;
       metered = subst (λ (replies : List (Result Reply WorldFault)). IsMetered plan c.args.replicas [] replies c.args.meter.now c.args.meter.now) none (metered_none plan c.args.replicas c.args.meter.now);
@@ -49,9 +48,9 @@ loop-event-preserved g c =
     let room = c.loop-event.invariant.room in
     let kept = c.in_ok-add.ensures.capacity in
     let e = c.apply-reply.ensures in
-    let played = played_one_more plan c.args.replicas events replies c.loop-event.world new event c.loop-event.invariant.played reply e.answer e.after e.unchanged in
-    let metered = metered_one_more plan c.args.replicas events replies c.loop-event.world event reply c.args.meter.now c.loop-event.meter c.apply-reply.new.meter
-    c.loop-event.invariant.played c.loop-event.invariant.metered e.few_steps e.new_steps in record {
+    let played = played_one_more plan c.args.replicas events replies c.loop-event.world new event c.loop-event.invariant.played reply e.applied.answer e.applied.after e.applied.unchanged in
+    let metered = metered_one_more plan c.args.replicas events replies c.loop-event.world new event reply c.args.meter.now c.loop-event.meter c.apply-reply.new.meter
+    c.loop-event.invariant.played c.loop-event.invariant.metered e.applied in record {
       played = subst (λ (es : List Event). IsPlayed plan c.args.replicas es c.add.new.replies.items new) more
           (subst (λ (rs : List (Result Reply WorldFault)). IsPlayed plan c.args.replicas (events ++ event ∷ []) rs new) added played);
       gone = e.gone ∙ ap (gone_after_answer reply) c.loop-event.invariant.gone ∙ sym (gone-one_more replies reply start) ∙ ap (λ (rs : List (Result Reply WorldFault)). gone_after_answers rs start) added;
@@ -66,31 +65,17 @@ returns-clause-headline g c =
     let all = played_all (arc_value c.args.plan) c.args.replicas c.loop-event.event-index c.args.events.now c.loop-event.replies.items c.loop-event.world c.loop-event-test.false c.loop-event.invariant.played in
     headline (arc_value c.args.plan) c.args.replicas c.args.events.now c.loop-event.replies.items c.loop-event.world all.holds
 
-pub returns-clause-stamps : goal.returns-clause-stamps
-returns-clause-stamps g c =
-    let all = played_all (arc_value c.args.plan) c.args.replicas c.loop-event.event-index c.args.events.now c.loop-event.replies.items c.loop-event.world c.loop-event-test.false c.loop-event.invariant.played in
-    stamps_are_fresh (arc_value c.args.plan) c.args.replicas c.args.events.now c.loop-event.replies.items c.requires all.answers
-
 pub returns-clause-answers : goal.returns-clause-answers
 returns-clause-answers g c =
     (played_all (arc_value c.args.plan) c.args.replicas c.loop-event.event-index c.args.events.now c.loop-event.replies.items c.loop-event.world c.loop-event-test.false c.loop-event.invariant.played).answers
-
-pub returns-clause-messages : goal.returns-clause-messages
-returns-clause-messages g c =
-    let all = played_all (arc_value c.args.plan) c.args.replicas c.loop-event.event-index c.args.events.now c.loop-event.replies.items c.loop-event.world c.loop-event-test.false c.loop-event.invariant.played in
-    played_messages (arc_value c.args.plan) c.args.replicas c.args.events.now c.loop-event.replies.items c.loop-event.world all
 
 pub returns-clause-world : goal.returns-clause-world
 returns-clause-world g c =
     (played_all (arc_value c.args.plan) c.args.replicas c.loop-event.event-index c.args.events.now c.loop-event.replies.items c.loop-event.world c.loop-event-test.false c.loop-event.invariant.played).holds
 
-pub returns-clause-few_steps : goal.returns-clause-few_steps
-returns-clause-few_steps g c =
-    (metered_all (arc_value c.args.plan) c.args.replicas c.loop-event.event-index c.args.events.now c.loop-event.replies.items c.args.meter.now c.loop-event.meter c.loop-event-test.false c.loop-event.invariant.metered).few
-
-pub returns-clause-new_steps : goal.returns-clause-new_steps
-returns-clause-new_steps g c =
-    (metered_all (arc_value c.args.plan) c.args.replicas c.loop-event.event-index c.args.events.now c.loop-event.replies.items c.args.meter.now c.loop-event.meter c.loop-event-test.false c.loop-event.invariant.metered).many
+pub returns-clause-steps : goal.returns-clause-steps
+returns-clause-steps g c =
+    metered_all (arc_value c.args.plan) c.args.replicas c.loop-event.event-index c.args.events.now c.loop-event.replies.items c.args.meter.now c.loop-event.meter c.loop-event-test.false c.loop-event.invariant.metered
 
 pub returns-in_err-add-clause-no_steps : goal.returns-in_err-add-clause-no_steps
 returns-in_err-add-clause-no_steps g c =

@@ -1,0 +1,220 @@
+-- What a replica answers to a write, and the world that it leaves, are what the event says; so for messages.
+use Rattle.std.proofs.Common.{◌≡◌, ◌≤◌, ◌<◌, ◌∙◌, ℕ, List, length, Option, Some, None, refl, ap, arith, sym, subst}
+use Rattle.std.specs.Prelude.{IsErrAnd, IsNone, Result, slice_set, unwrap_or}
+use Rattle.std.specs.List.{slice_get, slice_index_or}
+use Rattle.std.specs.Option.{option_map}
+use Rattle.std.specs.declared.result.Result.TheVariants.{Ok, Err}
+use Rattle.std.proofs.lemmas.Bool.Decides.{nat_tests}
+use Rattle.std.proofs.lemmas.List.{set-get_or}
+use Rattle.lattice_core.specs.Sets.{from_list}
+use Rattle.lattice_core.proofs.SetElements.{contains-from_list}
+use Rattle.road_plan.specs.Plan.{Plan}
+use Rattle.road_plan.specs.declared.object.Object.{Object}
+use Rattle.road_scenario.specs.Edits.{Edits}
+use Rattle.road_scenario.specs.Faults.{fault_in, fault_of_edit}
+use Rattle.road_scenario.specs.Instances.EditOrder.{edit_total}
+use Rattle.road_scenario.specs.declared.edit.Edit as edit
+use Rattle.road_scenario.specs.declared.edit.Stamp.{Stamp}
+use Rattle.road_scenario.specs.declared.edit.Value.{Value}
+use Rattle.road_scenario.specs.declared.edit.Value.TheVariants.{Withdrawn, Put}
+use Rattle.road_scenario.specs.declared.faults.EditFault.{EditFault}
+use Rattle.road_scenario.proofs.EditRanges.{in_range-one}
+use Rattle.road_scenario.proofs.FirstFaults.{all_in_range, each_in_range}
+use Rattle.road_sheet.specs.Commands.{IsAllowed, SheetCommand, sheet_after}
+use Rattle.road_sheet.specs.Commands as commands
+use Rattle.road_sheet.specs.Sheets.{IsSheet, Sheet}
+use Rattle.road_rewind.specs.Growth.{TicksAtMost, meter_after, touched_step}
+use Rattle.road_rewind.proofs.StepCounts.{few_steps}
+use Rattle.road_replica.specs.Refusals.{advance_fault, arrived_edit_fault, edit_fault, import_fault, made_edit_fault, take_fault}
+use Rattle.road_replica.specs.Replicas.{Replica, edit_made, replica_after, single_edit}
+use Rattle.road_replica.specs.Writes.{IsAccepted, IsRefused, most_steps_of_command, steps_of_command}
+use Rattle.road_replica.specs.declared.faults.ReplicaFault.{ReplicaFault}
+use Rattle.road_replica.specs.declared.reply.Reply.{Reply}
+use Rattle.road_replica.specs.declared.reply.Reply.TheVariants as replies
+use Rattle.road_replica.proofs.GrownSheets.{grown_by_edits, grown_is_sheet}
+use Rattle.road_replica.proofs.ImportedEdits.{no_fault_imported}
+use Rattle.road_replica.proofs.Writes.{few_steps_of}
+use Rattle.road_world.specs.Answers.{IsAnswer, IsRefusal, fault_at_replica, replica_number, replica_with_sheet, reply_to_event, sheet_at, stamp_reply}
+use Rattle.road_world.specs.Applied.{IsApplied}
+use Rattle.road_world.specs.Events.{World, carried_edits, world_after_event, world_of_winners}
+use Rattle.road_world.specs.Private.LocalEvents.{local_event}
+use Rattle.road_world.specs.Private.Worlds.{IsWorldKept}
+use Rattle.road_world.specs.Steps.{command_of_event, most_steps_of_event, steps_of_event}
+use Rattle.road_world.specs.declared.event.Event.{Event}
+use Rattle.road_world.specs.declared.event.Event.TheVariants.{Edit, Withdraw, Import, Send, Heads, Beyond, Take, Advance}
+use Rattle.road_world.specs.declared.faults.WorldFault.{WorldFault}
+use Rattle.road_world.specs.declared.faults.WorldFault.TheVariants as faults
+use Rattle.road_world.specs.declared.message.Message.{Message}
+use Rattle.road_world.proofs.EventAnswers.{IsWrite, fault_there, not_accepted, refused}
+use Rattle.road_world.proofs.KeptWorlds.{advanced, is_replica, none_is_no_item, same_some, still_kept, taken, viewed, with_sheet, written}
+
+-- ---- what is allowed
+
+-- an allowed command makes a sheet of a sheet
+sheet_kept : (command : SheetCommand) (s : Sheet) → IsSheet s → IsAllowed s.plan command → IsSheet (sheet_after command s)
+sheet_kept (commands.Take edits) s is fits = subst IsSheet (grown_by_edits s edits) (grown_is_sheet s edits 0 is fits (omega arith))
+sheet_kept (commands.Advance to) s is within = record {
+  winners = is.winners;
+  in_range = is.in_range;
+  within_limit = let old = is.within_limit in omega (arith, within, old);
+}
+
+none_of : {A B : Type 0} (f : A → B) (o : Option A) → option_map f o ≡ None → o ≡ None
+none_of f None none = refl
+none_of f (Some a) none = cc
+
+nothing : (o : Option EditFault) → o ≡ None → IsNone o
+nothing None none = refl
+nothing (Some fault) none = cc
+
+-- an edit for which no cause stands is allowed,
+pub edit_allowed : (x : Replica) (object : Object) (step : ℕ) (value : Value) → edit_fault x object step value ≡ None → IsAllowed x.sheet.plan (commands.Take (single_edit (edit_made x object step value)))
+edit_allowed x object step value none =
+    let made : edit.Edit = edit_made x object step value in
+    in_range-one x.sheet.plan made (none_of made_edit_fault (fault_of_edit x.sheet.plan made) none)
+
+-- so are imported ones,
+pub import_allowed : (p : Plan) (edits : List edit.Edit) → import_fault p edits ≡ None → IsAllowed p (commands.Take (from_list edits))
+import_allowed p edits none e i = each_in_range p edits (no_fault_imported p edits none) e (sym (contains-from_list edit_total edits e) ∙ i)
+
+-- the edits of a scenario
+pub take_allowed : (p : Plan) (edits : Edits) → take_fault p edits ≡ None → IsAllowed p (commands.Take edits)
+take_allowed p edits none = all_in_range p edits (fault_in p edits) refl (nothing _ (none_of arrived_edit_fault (fault_in p edits) none))
+
+-- and a step
+pub advance_allowed : (p : Plan) (to : ℕ) → advance_fault to ≡ None → IsAllowed p (commands.Advance to)
+advance_allowed p to none = grind (arith, nat_tests)
+
+-- ---- steps
+
+-- the steps of an event that is a command are those of the command
+read_command : (read : SheetCommand → Sheet → ℕ) (o : Option SheetCommand) (command : SheetCommand) (s : Sheet) → o ≡ Some command → unwrap_or (option_map (λ c. read c s) o) 0 ≡ read command s
+read_command read o command s is = ap (λ (p : Option SheetCommand). unwrap_or (option_map (λ c. read c s) p) 0) is
+
+-- and at most as many as those of a refused one
+few_of_command : (o : Option SheetCommand) (s : Sheet) → unwrap_or (option_map (λ c. steps_of_command c s) o) 0 ≤ unwrap_or (option_map (λ c. most_steps_of_command c s) o) 0
+few_of_command None s = omega arith
+few_of_command (Some (commands.Take edits)) s = few_steps s.horizon s.horizon (touched_step s edits)
+few_of_command (Some (commands.Advance to)) s = omega arith
+
+pub few_of_event : (w : World) (event : Event) → steps_of_event w event ≤ most_steps_of_event w event
+few_of_event w event = few_of_command (command_of_event w event) (sheet_at w (replica_number event))
+
+-- ---- a write
+
+module _ (plan : Plan) (xs : List Replica) (ms : List Message) (kept : IsWorldKept plan xs ms) (k : World) (v : viewed plan xs ms ≡ k) where
+  -- a replica after the command of an event is the world after the event
+  after_write : (event : Event) (command : SheetCommand) (x y : Replica) → x ≡ slice_index_or xs (replica_number event) x → replica_number event < length xs → command_of_event k event ≡ Some command → y ≡ replica_after command x
+      → viewed plan (slice_set xs (replica_number event) y) ms ≡ world_of_winners (world_after_event event k)
+  after_write (Edit r object step number) command x y is below of after =
+      taken plan xs ms kept k v r x y (single_edit (edit_made (replica_with_sheet k r) object step (Put number))) is below (after ∙ ap (λ (c : SheetCommand). replica_after c x) (sym (same_some _ _ of)))
+  after_write (Withdraw r object step) command x y is below of after =
+      taken plan xs ms kept k v r x y (single_edit (edit_made (replica_with_sheet k r) object step Withdrawn)) is below (after ∙ ap (λ (c : SheetCommand). replica_after c x) (sym (same_some _ _ of)))
+  after_write (Import r edits) command x y is below of after =
+      taken plan xs ms kept k v r x y (from_list edits.items) is below (after ∙ ap (λ (c : SheetCommand). replica_after c x) (sym (same_some _ _ of)))
+  after_write (Send r) command x y is below of after = absurd (none_is_no_item command of)
+  after_write (Heads r) command x y is below of after = absurd (none_is_no_item command of)
+  after_write (Beyond r message) command x y is below of after = absurd (none_is_no_item command of)
+  after_write (Take r message) command x y is below of after =
+      taken plan xs ms kept k v r x y (carried_edits (slice_get k.messages message)) is below (after ∙ ap (λ (c : SheetCommand). replica_after c x) (sym (same_some _ _ of)))
+  after_write (Advance r to) command x y is below of after =
+      advanced plan xs ms kept k v r to x y is below (after ∙ ap (λ (c : SheetCommand). replica_after c x) (sym (same_some _ _ of)))
+
+  -- the replica that accepted a command is put back
+  pub accepted_kept : (r : ℕ) (command : SheetCommand) (cause : Option ReplicaFault) (x y : Replica) (meter later : ℕ) → x ≡ slice_index_or xs r x → r < length xs → (cause ≡ None → IsAllowed x.sheet.plan command) → IsAccepted command cause x y meter later
+      → IsWorldKept plan (slice_set xs r y) ms
+  accepted_kept r command cause x y meter later is there allowed accepted =
+      let of = is_replica plan xs ms kept r x is there in
+      let sheet : IsSheet y.sheet = subst IsSheet (sym (ap (λ (z : Replica). z.sheet) accepted.after)) (sheet_kept command x.sheet of.sheet (allowed accepted.accepted)) in
+      still_kept plan xs ms kept r y (written plan xs ms kept k v r x y command is there accepted.after sheet)
+
+  module _ (event : Event) (command : SheetCommand) (cause : Option ReplicaFault) (x y : Replica) (meter later : ℕ) (is : x ≡ slice_index_or xs (replica_number event) x) (there : replica_number event < length xs) (below : replica_number event < length k.replicas) where
+    same : x ≡ replica_with_sheet k (replica_number event)
+    same = with_sheet plan xs ms kept k v (replica_number event) x is there
+
+    -- what is read of the replica's sheet is read of the world's
+    read_there : (read : SheetCommand → Sheet → ℕ) → command_of_event k event ≡ Some command → read command x.sheet ≡ unwrap_or (option_map (λ c. read c (sheet_at k (replica_number event))) (command_of_event k event)) 0
+    read_there read of =
+        ap (λ (z : Replica). read command z.sheet) same ∙ sym (read_command read (command_of_event k event) command (sheet_at k (replica_number event)) of)
+
+    -- accepted by the replica, the event is applied
+    pub accepted_applied : (reply : Reply) → command_of_event k event ≡ Some command → fault_at_replica k event ≡ option_map faults.Replica cause → reply ≡ reply_to_event k event → IsAccepted command cause x y meter later
+        → IsApplied event (Ok reply) k (viewed plan (slice_set xs (replica_number event) y) ms) meter later
+    accepted_applied reply of at answered accepted = record {
+      answer = (fault_there k event below ∙ at ∙ ap (option_map faults.Replica) accepted.accepted, answered);
+      after = after_write event command x y is there of accepted.after;
+      unchanged = tt;
+      steps = accepted.steps ∙ ap (meter_after meter) (read_there steps_of_command of);
+      named = tt;
+      few_steps = subst (λ n. TicksAtMost n meter later) (read_there most_steps_of_command of) (few_steps_of command x.sheet meter later accepted.steps);
+    }
+
+    -- refused by the replica, it is refused
+    pub refused_applied : (result : Result Reply WorldFault) (fault : ReplicaFault) → command_of_event k event ≡ Some command → fault_at_replica k event ≡ option_map faults.Replica cause → IsWrite event → IsRefused command cause fault x y meter later
+        → IsErrAnd result (λ given. given ≡ faults.Replica fault) → IsApplied event result k (viewed plan (slice_set xs (replica_number event) y) ms) meter later
+    refused_applied (Ok reply) fault of at writes is_refused given = absurd given
+    refused_applied (Err other) fault of at writes is_refused given =
+        let cause_here : IsRefusal event (fault_at_replica k event) (faults.Replica fault) =
+        subst (λ (o : Option WorldFault). IsRefusal event o (faults.Replica fault)) (sym at) (refused event cause fault writes is_refused.refused) in record {
+          answer = subst (λ (f : WorldFault). IsAnswer k event (Err f)) (sym given) (not_accepted k event (faults.Replica fault) below cause_here);
+          after = tt;
+          unchanged = ap (λ (ys : List Replica). viewed plan ys ms)
+              (ap (slice_set xs (replica_number event)) (is_refused.unchanged ∙ is) ∙ set-get_or xs (replica_number event) x) ∙ v;
+          steps = tt;
+          named = λ some. is_refused.named (λ none. some (fault_there k event below ∙ at ∙ ap (option_map faults.Replica) none));
+          few_steps = subst (λ n. TicksAtMost n meter later) (read_there most_steps_of_command of) is_refused.few_steps;
+        }
+
+  -- ---- an edit or a withdrawal that a replica makes
+
+  module _ (r : ℕ) (object : Object) (step : ℕ) (x y : Replica) (meter later : ℕ) (is : x ≡ slice_index_or xs r x) (there : r < length xs) (below : r < length k.replicas) where
+    same_local : x ≡ replica_with_sheet k r
+    same_local = with_sheet plan xs ms kept k v r x is there
+
+    command_local : (value : Value) → Some (commands.Take (single_edit (edit_made (replica_with_sheet k r) object step value))) ≡ Some (commands.Take (single_edit (edit_made x object step value)))
+    command_local value = ap (λ (z : Replica). Some (commands.Take (single_edit (edit_made z object step value)))) (sym same_local)
+
+    fault_local : (value : Value) → option_map faults.Replica (edit_fault (replica_with_sheet k r) object step value) ≡ option_map faults.Replica (edit_fault x object step value)
+    fault_local value = ap (λ (z : Replica). option_map faults.Replica (edit_fault z object step value)) (sym same_local)
+
+    stamp_local : (value : Value) (stamp : Stamp) → stamp ≡ (edit_made x object step value).stamp → replies.Stamped stamp ≡ stamp_reply k r object step value
+    stamp_local value stamp is_stamp = ap replies.Stamped (is_stamp ∙ ap (λ (z : Replica). (edit_made z object step value).stamp) same_local)
+
+    -- accepted, it is answered by its stamp
+    pub local_accepted : (value : Value) (stamp : Stamp) → stamp ≡ (edit_made x object step value).stamp → IsAccepted (commands.Take (single_edit (edit_made x object step value))) (edit_fault x object step value) x y meter later
+        → IsApplied (local_event r object step value) (Ok (replies.Stamped stamp)) k (viewed plan (slice_set xs r y) ms) meter later
+    local_accepted (Put number) stamp is_stamp accepted =
+        accepted_applied (Edit r object step number) (commands.Take (single_edit (edit_made x object step (Put number)))) (edit_fault x object step (Put number)) x y meter later is there below
+        (replies.Stamped stamp) (command_local (Put number)) (fault_local (Put number)) (stamp_local (Put number) stamp is_stamp) accepted
+    local_accepted Withdrawn stamp is_stamp accepted =
+        accepted_applied (Withdraw r object step) (commands.Take (single_edit (edit_made x object step Withdrawn))) (edit_fault x object step Withdrawn) x y meter later is there below
+        (replies.Stamped stamp) (command_local Withdrawn) (fault_local Withdrawn) (stamp_local Withdrawn stamp is_stamp) accepted
+
+    -- refused, it is refused
+    pub local_refused : (value : Value) (result : Result Reply WorldFault) (fault : ReplicaFault) → IsRefused (commands.Take (single_edit (edit_made x object step value))) (edit_fault x object step value) fault x y meter later
+        → IsErrAnd result (λ given. given ≡ faults.Replica fault) → IsApplied (local_event r object step value) result k (viewed plan (slice_set xs r y) ms) meter later
+    local_refused (Put number) result fault is_refused given =
+        refused_applied (Edit r object step number) (commands.Take (single_edit (edit_made x object step (Put number)))) (edit_fault x object step (Put number)) x y meter later is there below
+        result fault (command_local (Put number)) (fault_local (Put number)) (λ f h. h) is_refused given
+    local_refused Withdrawn result fault is_refused given =
+        refused_applied (Withdraw r object step) (commands.Take (single_edit (edit_made x object step Withdrawn))) (edit_fault x object step Withdrawn) x y meter later is there below
+        result fault (command_local Withdrawn) (fault_local Withdrawn) (λ f h. h) is_refused given
+
+-- ---- what computes nothing
+
+-- no steps are at most any
+no_steps : (most meter : ℕ) → TicksAtMost most meter meter
+no_steps most meter = record { ticks = 0; few = omega arith; counted = refl }
+
+-- a message that is made
+pub message_made : (event : Event) (old new : World) (reply : Reply) (meter : ℕ) → command_of_event old event ≡ None → IsAnswer old event (Ok reply) → new ≡ world_of_winners (world_after_event event old) → IsApplied event (Ok reply) old new meter meter
+message_made event old new reply meter none answer after =
+    let counted : meter ≡ meter_after meter (steps_of_event old event) =
+    ap (λ (o : Option SheetCommand). meter_after meter (unwrap_or (option_map (λ c. steps_of_command c (sheet_at old (replica_number event))) o) 0)) (sym none) in record {
+      answer = answer;
+      after = after;
+      unchanged = tt;
+      steps = counted;
+      named = tt;
+      few_steps = no_steps (most_steps_of_event old event) meter;
+    }

@@ -1,0 +1,25 @@
+-- What the application of an event to a world comes to.
+use Rattle.std.specs.Prelude.{◌≡◌, ◌≢◌, ℕ, OnErr, OnOk, Result}
+use Rattle.std.specs.declared.option.Option.TheVariants.{None}
+use Rattle.road_rewind.specs.Growth.{TicksAtMost, meter_after}
+use Rattle.road_replica.specs.declared.reply.Reply.{Reply}
+use Rattle.road_world.specs.Answers.{IsAnswer, fault_of_event}
+use Rattle.road_world.specs.Events.{World, world_after_event, world_of_winners}
+use Rattle.road_world.specs.Steps.{most_steps_of_event, steps_of_event}
+use Rattle.road_world.specs.declared.event.Event.{Event}
+use Rattle.road_world.specs.declared.faults.WorldFault.{WorldFault}
+
+-- an event is applied to a world, and a meter counts the steps that are computed
+pub record IsApplied (event : Event) (result : Result Reply WorldFault) (old new : World) (meter later : ℕ) : Type 0 where
+  -- the event has its answer
+  pub answer : IsAnswer old event result
+  -- accepted, it does what its definition says, of edits the winners
+  pub after : OnOk result (new ≡ world_of_winners (world_after_event event old))
+  -- refused, it does nothing
+  pub unchanged : OnErr result (new ≡ old)
+  -- accepted, just its steps are computed
+  pub steps : OnOk result (later ≡ meter_after meter (steps_of_event old event))
+  -- refused for a named cause, none
+  pub named : OnErr result (fault_of_event old event ≢ None → later ≡ meter)
+  -- and else at most those that it may cost
+  pub few_steps : TicksAtMost (most_steps_of_event old event) meter later
