@@ -1,12 +1,8 @@
--- The store admits a reader whose view is new; the next session has seen and written nothing, and has the next number.
+-- The next session has seen and written nothing, and has the next number.
 use Rattle.std.proofs.Common.{◌≡◌, ◌+◌, ◌++◌, [], ◌∷◌, length, length-append, arith}
 use Rattle.road_sessions.specs.Sessions.{Session}
 use Rattle.road_sessions.proofs.SessionWrites.{new_sessions_with}
-use Rattle.road_sessions.proofs.StoreRule.{admits_new_view}
 use Rattle.road_sessions.proofs.held.Held.new_sessions.Goals as goal
-
-pub reader-requires : goal.reader-requires
-reader-requires g c = admits_new_view
 
 pub loop-number-preserved : goal.loop-number-preserved
 loop-number-preserved g c =
