@@ -1,13 +1,17 @@
 -- Growing by edits alone is taking them, and growing by steps alone is advancing.
-use Rattle.std.proofs.Common.{◌≡◌, ◌∙◌, ℕ, max, min, ap, sym, subst, arith, refl, List, [], ◌∷◌, ◌++◌, map, true, None}
+use Rattle.std.proofs.Common.{◌≡◌, ◌≤◌, ◌∙◌, ℕ, max, min, ap, sym, subst, arith, refl, List, [], ◌∷◌, ◌++◌, map, true, None}
 use Rattle.std.specs.Prelude.{cond, not}
 use Rattle.std.specs.Cmp.Lexicographic.{options_equiv}
 use Rattle.std.specs.List.{filter, reduce}
 use Rattle.std.proofs.lemmas.Cmp.{nat_eq_equiv}
 use Rattle.lattice_core.specs.Map.{is_empty}
-use Rattle.lattice_core.specs.Sets.{empty, from_list, items}
+use Rattle.lattice_core.specs.Sets.{empty, from_list, items, union}
 use Rattle.lattice_core.proofs.SetElements.{items-empty}
+use Rattle.road_plan.specs.Plan.{Plan}
+use Rattle.road_plan.specs.declared.limits.TheConstants.{GREATEST_HORIZON}
+use Rattle.road_scenario.proofs.EditRanges.{in_range-empty, in_range-join}
 use Rattle.road_scenario.specs.Edits.{Edits, edit_cmp, edit_place}
+use Rattle.road_scenario.specs.Faults.{AreInRange}
 use Rattle.road_scenario.specs.Touched.{has_other_number, put_number_at, first_touched_step}
 use Rattle.road_scenario.specs.Winners.{AreWinners, has_no_edit, join, winners}
 use Rattle.road_scenario.specs.Instances.EditOrder.{winners_laws}
@@ -16,11 +20,11 @@ use Rattle.road_scenario.specs.declared.edit.Edit.{Edit}
 use Rattle.road_scenario.proofs.JoinedRegisters.{winners-single}
 use Rattle.road_scenario.proofs.NoEdits.{winners-empty}
 use Rattle.road_sheet.specs.Commands.{Advance, Take, sheet_after}
-use Rattle.road_sheet.specs.Sheets.{Sheet, IsSheet}
+use Rattle.road_sheet.specs.Sheets.{Sheet, IsSheet, opening_sheet}
 use Rattle.road_rewind.specs.Growth.{grown_sheet, most_steps, touched_step, TicksAtMost}
 use Rattle.road_replica.specs.Replicas.{most_steps_taking, single_edit}
 
-max-zero : (n : ℕ) → max n 0 ≡ n
+pub max-zero : (n : ℕ) → max n 0 ≡ n
 max-zero n = omega arith
 
 no_edit : has_no_edit empty ≡ true
@@ -43,6 +47,22 @@ grown_by_edits s edits = ap (λ (h : ℕ). let t : Sheet = record { plan = s.pla
 
 pub grown_by_steps : (s : Sheet) (to : ℕ) → IsSheet s → grown_sheet s empty to ≡ sheet_after (Advance to) s
 grown_by_steps s to is = ap (λ (edits : Edits). let t : Sheet = record { plan = s.plan; edits = edits; horizon = max s.horizon to } in t) (join-no_edit s.edits is.winners)
+
+-- a sheet stays one when it grows
+pub grown_is_sheet : (s : Sheet) (edits : Edits) (to : ℕ) → IsSheet s → AreInRange s.plan edits → to ≤ GREATEST_HORIZON → IsSheet (grown_sheet s edits to)
+grown_is_sheet s edits to is fits within = record {
+  winners = winners_laws.of_tops (union s.edits edits);
+  in_range = in_range-join s.plan s.edits edits is.in_range fits;
+  within_limit = let old = is.within_limit in omega (arith, within, old);
+}
+
+-- and the opening one is one
+pub opening_is_sheet : (plan : Plan) → IsSheet (opening_sheet plan)
+opening_is_sheet plan = record {
+  winners = winners-empty;
+  in_range = in_range-empty plan;
+  within_limit = omega arith;
+}
 
 -- all edits of a list, joined to winners, do as their winners do
 pub join-winners : (s edits : Edits) → AreWinners s → join s (winners edits) ≡ join s edits

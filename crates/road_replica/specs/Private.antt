@@ -1,2 +1,2 @@
--- What contracts of private functions say of refusals; no public contract names it.
-pub mod GrowthFaults
+-- What contracts of private functions say of counted steps; no public contract names it.
+pub mod CountedSteps

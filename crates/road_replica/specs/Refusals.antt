@@ -1,5 +1,6 @@
 -- What a replica refuses, and for which cause.
 use Rattle.std.specs.Prelude.{◌≡◌, ◌⊎◌, ◌||◌, ◌+◌, ◌-◌, ◌^◌, ℕ, suc, min, nat_lt, Bool, List, [], ◌∷◌, if◌then◌else◌}
+use Rattle.std.specs.Prelude.{MatchResult, Result}
 use Rattle.std.specs.Option.{option_or, option_map}
 use Rattle.std.specs.declared.option.Option.{Option}
 use Rattle.std.specs.declared.option.Option.TheVariants.{None, Some}
@@ -16,6 +17,8 @@ use Rattle.road_sheet.specs.Sheets.{Sheet}
 use Rattle.road_sheet.specs.Sheets as sheets
 use Rattle.road_sheet.specs.declared.faults.SheetFault.{SheetFault}
 use Rattle.road_sheet.specs.declared.faults.SheetFault.TheVariants as sheet_faults
+use Rattle.road_rewind.specs.declared.faults.GrownFault.{GrownFault}
+use Rattle.road_rewind.specs.declared.faults.GrownFault.TheVariants as growth
 use Rattle.road_replica.specs.Replicas.{Replica, edit_made}
 use Rattle.road_replica.specs.declared.faults.ReplicaFault.{ReplicaFault}
 use Rattle.road_replica.specs.declared.faults.ReplicaFault.TheVariants.{NoObject, Step, ValueOutOfRange, Count, Insider}
@@ -38,12 +41,17 @@ made_edit_fault edits.Step = Step
 made_edit_fault edits.ValueOutOfRange = ValueOutOfRange
 made_edit_fault edits.Count = CountsSpent
 
--- the refusal of a question, where the sheet refuses it
+-- the refusal of a query, where the sheet refuses it
 abbrev pub question_fault : SheetFault → ReplicaFault
 question_fault sheet_faults.NoDetector = NoDetector
 question_fault sheet_faults.Range = Range
 question_fault sheet_faults.NotSimulated = NotSimulated
 question_fault sheet_faults.OutOfMemory = OutOfMemory
+
+-- the refusal of a write, where the sheet does not grow
+abbrev pub growth_fault : GrownFault → ReplicaFault
+growth_fault growth.WorkersGone = WorkersGone
+growth_fault growth.OutOfMemory = OutOfMemory
 
 -- ---- the first named cause for which a call is refused
 
@@ -69,11 +77,11 @@ take_fault plan edits = option_map arrived_edit_fault (fault_in plan edits)
 abbrev pub advance_fault : ℕ → Option ReplicaFault
 advance_fault to = if nat_lt GREATEST_HORIZON to then Some Horizon else None
 
--- the cause for which a question for a state is refused
+-- the cause for which a query for a state is refused
 abbrev pub state_fault : Sheet → ℕ → Option ReplicaFault
 state_fault s step = option_map question_fault (sheets.state_fault s step)
 
--- the first named cause for which a question for totals is refused
+-- the first named cause for which a query for totals is refused
 abbrev pub totals_fault : Sheet → ℕ → ℕ → ℕ → Option ReplicaFault
 totals_fault s detector from to = option_map question_fault (sheets.totals_fault s detector from to)
 
@@ -81,7 +89,7 @@ totals_fault s detector from to = option_map question_fault (sheets.totals_fault
 abbrev pub is_out_of_range : ℕ → ℕ → Bool
 is_out_of_range from to = nat_lt to from || nat_lt MOST_ROWS (suc to - from)
 
--- the first named cause for which a question for rows is refused
+-- the first named cause for which a query for rows is refused
 abbrev pub rows_fault : Sheet → ℕ → ℕ → Option ReplicaFault
 rows_fault s from to = if is_out_of_range from to then Some Range
     else (if nat_lt s.horizon to then Some NotSimulated else None)
@@ -102,3 +110,7 @@ IsRefusal None fault = fault ≡ OutOfMemory
 abbrev pub gone_after_fault : ReplicaFault → ℕ → ℕ
 gone_after_fault WorkersGone n = min (n + 1) (2 ^ 64 - 1)
 gone_after_fault fault n = n
+
+-- a crew has answered `WorkersGone` once more where a write is refused so, and else as often as before
+abbrev pub CountsGone : {A : Type 0} → Result A ReplicaFault → ℕ → ℕ → Type 0
+CountsGone result gone later = MatchResult result (λ _. later ≡ gone) (λ fault. later ≡ gone_after_fault fault gone)

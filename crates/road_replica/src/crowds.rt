@@ -30,8 +30,8 @@ pub struct Crowd {
 /// Whoever gathers crowds. Nothing here says that a call may wait or starts threads: whoever is handed one waits only
 /// where that one does.
 pub trait Crowds {
-    /// What is left of a replica without edits once 1 to 8 sessions have written to it, in whatever order: each takes
-    /// the edits of its share, one after another, and then advances to the step.
+    /// Returns what is left of a replica without edits once 1 to 8 sessions have written to it, in whatever order: each
+    /// takes the edits of its share, one after another, and then advances to the step.
     ///
     /// # Errors
     ///
@@ -53,7 +53,8 @@ pub trait Crowds {
             ≡ row_at (arc_value plan.now) (crowd_winners (shares_of shares.now)) to) };
 }
 
-/// How many writes the sessions of these shares make: one for each edit, and an advance each. It counts to 2^64 - 1.
+/// Counts the writes that the sessions of these shares make: one for each edit, and an advance each. It counts to
+/// 2^64 - 1.
 pub fn write_count(shares: &[Vec<Edit>]) -> u64
     ensures { result ≡ min (crowd_writes (shares_of shares.now)) (2 ^ 64 - 1) }
 {

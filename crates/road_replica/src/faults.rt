@@ -1,7 +1,6 @@
 //! The causes for which a replica refuses a call, and the names that causes of the layers below have here.
 
 ghost use Rattle.std.specs.Prelude.{◌≡◌};
-ghost use Rattle.road_replica.specs.Private.GrowthFaults.{write_fault};
 ghost use Rattle.road_replica.specs.Refusals as refusals;
 ghost use Rattle.road_replica.specs.declared.faults.ReplicaFault.TheVariants.{OutOfMemory};
 
@@ -64,7 +63,31 @@ impl From<AllocError> for ReplicaFault {
     }
 }
 
-// The refusal of an edit that comes from elsewhere.
+impl From<SheetFault> for ReplicaFault {
+    ghost from_gives = { λ fault made. made ≡ refusals.question_fault fault };
+
+    fn from(fault: SheetFault) -> ReplicaFault {
+        match fault {
+            SheetFault::NoDetector => ReplicaFault::NoDetector,
+            SheetFault::Range => ReplicaFault::Range,
+            SheetFault::NotSimulated => ReplicaFault::NotSimulated,
+            SheetFault::OutOfMemory => ReplicaFault::OutOfMemory,
+        }
+    }
+}
+
+impl From<GrownFault> for ReplicaFault {
+    ghost from_gives = { λ fault made. made ≡ refusals.growth_fault fault };
+
+    fn from(fault: GrownFault) -> ReplicaFault {
+        match fault {
+            GrownFault::WorkersGone => ReplicaFault::WorkersGone,
+            GrownFault::OutOfMemory => ReplicaFault::OutOfMemory,
+        }
+    }
+}
+
+// Names the refusal of an edit that comes from elsewhere.
 pub(crate) fn arrived_fault(fault: EditFault) -> ReplicaFault
     ensures { result ≡ refusals.arrived_edit_fault fault }
 {
@@ -76,7 +99,7 @@ pub(crate) fn arrived_fault(fault: EditFault) -> ReplicaFault
     }
 }
 
-// The refusal of an edit that the replica would make.
+// Names the refusal of an edit that the replica would make.
 pub(crate) fn made_fault(fault: EditFault) -> ReplicaFault
     ensures { result ≡ refusals.made_edit_fault fault }
 {
@@ -85,27 +108,5 @@ pub(crate) fn made_fault(fault: EditFault) -> ReplicaFault
         EditFault::Step => ReplicaFault::Step,
         EditFault::ValueOutOfRange => ReplicaFault::ValueOutOfRange,
         EditFault::Count => ReplicaFault::CountsSpent,
-    }
-}
-
-// The refusal of a question, where the sheet refuses it.
-pub(crate) fn question_fault(fault: SheetFault) -> ReplicaFault
-    ensures { result ≡ refusals.question_fault fault }
-{
-    match fault {
-        SheetFault::NoDetector => ReplicaFault::NoDetector,
-        SheetFault::Range => ReplicaFault::Range,
-        SheetFault::NotSimulated => ReplicaFault::NotSimulated,
-        SheetFault::OutOfMemory => ReplicaFault::OutOfMemory,
-    }
-}
-
-// The refusal of a write, where the sheet does not grow.
-pub(crate) fn write_fault(fault: GrownFault) -> ReplicaFault
-    ensures { result ≡ write_fault fault }
-{
-    match fault {
-        GrownFault::WorkersGone => ReplicaFault::WorkersGone,
-        GrownFault::OutOfMemory => ReplicaFault::OutOfMemory,
     }
 }

@@ -1,37 +1,37 @@
 //! A replica: its writes, the messages that it makes and takes, and what it shows of its run.
 
-ghost use Rattle.std.specs.Prelude.{◌≡◌, ◌<◌, ◌≤◌, ◌-◌, max, IfErr, IfNone, IfOk};
-ghost use Rattle.std.specs.Prelude.{MatchResult, None, OnErr, OnOk, map, string_bytes, true};
+ghost use Rattle.std.specs.Prelude.{◌≡◌, ◌<◌, ◌≤◌, ◌-◌, max, IfErr, IfNone, IfOk, IsOk};
+ghost use Rattle.std.specs.Prelude.{None, OnErr, OnOk, map, string_bytes, true};
 ghost use Rattle.std.specs.Arc.{arc_value};
 ghost use Rattle.std.specs.declared.cmp.Ordering.TheVariants.{Less};
 ghost use Rattle.lattice_core.specs.Sets.{contains, from_list};
 ghost use Rattle.road_plan.specs.declared.limits.TheConstants.{GREATEST_HORIZON, MOST_REPLICAS};
 ghost use Rattle.road_scenario.specs.declared.edit.Edit as edit;
-ghost use Rattle.road_scenario.specs.declared.edit.Value.{Value};
 ghost use Rattle.road_scenario.specs.declared.edit.Value.TheVariants.{Put, Withdrawn};
 ghost use Rattle.road_scenario.specs.Edits.{number_pair_cmp, stamp_key};
 ghost use Rattle.road_scenario.specs.Faults.{AreInRange};
 ghost use Rattle.road_delta.specs.Deltas as deltas;
 ghost use Rattle.road_sheet.specs.Commands.{Advance, Take};
-ghost use Rattle.road_sheet.specs.Sheets.{IsSheet, opening_sheet, rows_of, state_of, total_of};
+ghost use Rattle.road_sheet.specs.Drafts.{draft_start};
+ghost use Rattle.road_sheet.specs.Sheets.{AreWholeIntervals, IsSheet, opening_sheet, rows_of, state_of, total_of};
 ghost use Rattle.road_rewind.specs.Growth.{TicksAtMost, grown_sheet, kept_step, meter_after, most_steps, touched_step};
 ghost use Rattle.road_replica.specs.Crowds as crowds;
 ghost use Rattle.road_replica.specs.Refusals as refusals;
-ghost use Rattle.road_replica.specs.Refusals.{IsRefusal, IsWriteRefusal, gone_after_fault};
-ghost use Rattle.road_replica.specs.Replicas.{edit_made, most_steps_taking, replica_after, single_edit};
+ghost use Rattle.road_replica.specs.Refusals.{CountsGone, IsRefusal, IsWriteRefusal};
+ghost use Rattle.road_replica.specs.Replicas.{edit_made, single_edit};
+ghost use Rattle.road_replica.specs.Writes.{IsWrite};
 
-use crate::faults::{ReplicaFault, arrived_fault, made_fault, question_fault, write_fault};
+use crate::faults::{ReplicaFault, arrived_fault, made_fault};
+use crate::query_cache::QueryCache;
 use road_cells::Road;
 use road_delta::{Heads, beyond, heads_of};
 use road_detector::Totals;
 use road_ends::Meter;
-use road_plan::limits::{FIRST_IMPORT_NUMBER, GREATEST_HORIZON, MOST_ROWS};
+use road_plan::limits::{FIRST_IMPORT_NUMBER, GREATEST_HORIZON};
 use road_plan::{Object, OutOfMemory, Plan};
 use road_rewind::{Grown, grown};
-use road_scenario::laws::winners_agree;
 use road_scenario::{Edit, Scenario, Stamp, Value};
 use road_sheet::Sheet;
-use road_sheet::simulation::{State, rows_between};
 use road_workers::Crew;
 use std::alloc::Global;
 use std::marker::Model;
@@ -51,6 +51,7 @@ impl Model for Replica {
     ghost use Rattle.std.specs.Coded.{codes};
     ghost use Rattle.road_plan.specs.declared.limits.TheConstants.{MOST_REPLICAS};
     ghost use Rattle.road_scenario.specs.Instances.EditOrder.{edits_code};
+    ghost use Rattle.road_sheet.specs.Sheets.{IsSheet};
     ghost use Rattle.road_replica.specs.Replicas.{Replica};
 
     ghost Value = { Replica };
@@ -59,11 +60,11 @@ impl Model for Replica {
 
     ghost view = { λ r. record { number = r.number; sheet = arc_value r.sheet } };
 
-    ghost invariant = { λ r. r.number < MOST_REPLICAS };
+    ghost invariant = { λ r. (r.number < MOST_REPLICAS) × IsSheet (arc_value r.sheet) };
 }
 
 impl Replica {
-    /// A replica without edits, of which no step is simulated. Its number must be below 64.
+    /// Opens a replica without edits, of which no step is simulated. Its number must be below 64.
     ///
     /// # Errors
     ///
@@ -77,37 +78,37 @@ impl Replica {
         Ok(Replica { number, sheet })
     }
 
-    /// The sheet. Whoever keeps it sees the replica as it is now, whatever comes later.
+    /// Returns its number, which is below 64.
+    pub fn number(&self) -> u32
+        ensures number { result ≡ self.now.number }
+        ensures below { self.now.number < MOST_REPLICAS }
+    {
+        self.number
+    }
+
+    /// Returns the sheet. Whoever keeps it sees the replica as it is now, whatever comes later.
     pub fn sheet(&self) -> &Arc<Sheet>
-        ensures { arc_value result.now ≡ self.now.sheet }
+        ensures sheet { arc_value result.now ≡ self.now.sheet }
+        ensures is_sheet { IsSheet self.now.sheet }
     {
         &self.sheet
     }
 
-    /// The sheet alone.
+    /// Returns the sheet alone.
     pub fn into_sheet(self) -> Arc<Sheet>
         ensures { arc_value result ≡ self.sheet }
     {
         self.sheet
     }
 
-    /// The winners of all edits that the replica made, took and imported.
+    /// Returns the winners of all edits that the replica made, took and imported.
     pub fn scenario(&self) -> &Scenario
         ensures { result.now ≡ self.now.sheet.edits }
     {
         self.sheet.scenario()
     }
 
-    /// That its number is below 64, its edits win and fit the plan, and its horizon is at most 1,048,576. It is a fact
-    /// for proofs: the call does nothing.
-    pub fn known(&self)
-        ensures number { self.now.number < MOST_REPLICAS }
-        ensures sheet { IsSheet self.now.sheet }
-    {
-        self.sheet.known();
-    }
-
-    /// Another replica with the same plan, number and sheet. What is written to one leaves the other as it is.
+    /// Makes another replica with the same plan, number and sheet. What is written to one leaves the other as it is.
     ///
     /// # Errors
     ///
@@ -124,8 +125,8 @@ impl Replica {
 
     // ---- the named causes for which writes are refused
 
-    /// The cause for which the replica would refuse to make an edit; none where it would not, but for lost workers or
-    /// out of memory.
+    /// Returns the cause for which the replica would refuse to make an edit; none where it would not, but for lost
+    /// workers or out of memory.
     pub fn edit_fault(&self, object: Object, step: u32, value: Value) -> Option<ReplicaFault>
         ensures { result ≡ refusals.edit_fault self.now object step value }
     {
@@ -135,7 +136,7 @@ impl Replica {
         }
     }
 
-    /// The cause for which the replica would refuse to take a scenario; none where its edits fit the plan.
+    /// Returns the cause for which the replica would refuse to take a scenario; none where its edits fit the plan.
     pub fn take_fault(&self, scenario: &Scenario) -> Option<ReplicaFault>
         ensures fault { result ≡ refusals.take_fault self.now.sheet.plan scenario.now }
         ensures fits { IfNone result (AreInRange self.now.sheet.plan scenario.now) }
@@ -148,8 +149,8 @@ impl Replica {
 
     // ---- writes
 
-    /// The replica puts a number for an object from a step on, in the object's units. The stamp has the replica's
-    /// number, and a count that is one more than the greatest that the replica holds.
+    /// Puts a number for an object from a step on, in the object's units. The stamp has the replica's number, and a
+    /// count that is one more than the greatest that the replica holds.
     ///
     /// # Errors
     ///
@@ -168,22 +169,15 @@ impl Replica {
         // It is greater than each stamp that the replica held.
         ensures fresh { IfOk result (λ stamp. (e : edit.Edit) → contains self.old.sheet.edits e ≡ true →
             number_pair_cmp (stamp_key e.stamp) (stamp_key stamp) ≡ Less) }
-        ensures taken { OnOk result (self.new
-            ≡ replica_after (Take (single_edit (edit_made self.old object step (Put value)))) self.old) }
-        ensures accepted { IfOk result (λ _. refusals.edit_fault self.old object step (Put value) ≡ None) }
-        ensures refused { IfErr result (IsWriteRefusal (refusals.edit_fault self.old object step (Put value))) }
-        ensures unchanged { OnErr result (self.new ≡ self.old) }
-        ensures few_steps { TicksAtMost
-            (most_steps_taking self.old.sheet (single_edit (edit_made self.old object step (Put value))))
-            meter.old meter.new }
-        ensures gone { MatchResult result (λ _. C.times_gone crew.new ≡ C.times_gone crew.old)
-            (λ fault. C.times_gone crew.new ≡ gone_after_fault fault (C.times_gone crew.old)) }
+        ensures write { IsWrite (Take (single_edit (edit_made self.old object step (Put value))))
+            (refusals.edit_fault self.old object step (Put value)) result self.old self.new meter.old meter.new }
+        ensures gone { CountsGone result (C.times_gone crew.old) (C.times_gone crew.new) }
     {
-        self.make(alloc, object, step, Value::Put(value), crew, meter)
+        self.put(alloc, object, step, Value::Put(value), crew, meter)
     }
 
-    /// The replica withdraws what is put for an object at a step: from there on the latest earlier number is in force,
-    /// or the default. What was never put can be withdrawn too. The stamp is as for [`Replica::edit`].
+    /// Withdraws what is put for an object at a step: from there on the latest earlier number is in force, or the
+    /// default. What was never put can be withdrawn too. The stamp is as for [`Replica::edit`].
     ///
     /// # Errors
     ///
@@ -200,22 +194,47 @@ impl Replica {
         // It is greater than each stamp that the replica held.
         ensures fresh { IfOk result (λ stamp. (e : edit.Edit) → contains self.old.sheet.edits e ≡ true →
             number_pair_cmp (stamp_key e.stamp) (stamp_key stamp) ≡ Less) }
-        ensures taken { OnOk result (self.new
-            ≡ replica_after (Take (single_edit (edit_made self.old object step Withdrawn))) self.old) }
-        ensures accepted { IfOk result (λ _. refusals.edit_fault self.old object step Withdrawn ≡ None) }
-        ensures refused { IfErr result (IsWriteRefusal (refusals.edit_fault self.old object step Withdrawn)) }
-        ensures unchanged { OnErr result (self.new ≡ self.old) }
-        ensures few_steps { TicksAtMost
-            (most_steps_taking self.old.sheet (single_edit (edit_made self.old object step Withdrawn)))
-            meter.old meter.new }
-        ensures gone { MatchResult result (λ _. C.times_gone crew.new ≡ C.times_gone crew.old)
-            (λ fault. C.times_gone crew.new ≡ gone_after_fault fault (C.times_gone crew.old)) }
+        ensures write { IsWrite (Take (single_edit (edit_made self.old object step Withdrawn)))
+            (refusals.edit_fault self.old object step Withdrawn) result self.old self.new meter.old meter.new }
+        ensures gone { CountsGone result (C.times_gone crew.old) (C.times_gone crew.new) }
     {
-        self.make(alloc, object, step, Value::Withdrawn, crew, meter)
+        self.put(alloc, object, step, Value::Withdrawn, crew, meter)
     }
 
-    /// Edits from outside this world, in any order, whose stamps have numbers from 64 on. All are taken, or none. The
-    /// answer is the first step at which other numbers are put than before.
+    /// Makes an edit of an object from a step on: it puts a number, as [`Replica::edit`], or withdraws what is put, as
+    /// [`Replica::withdraw`], and answers as these do.
+    ///
+    /// # Errors
+    ///
+    /// As for [`Replica::edit`].
+    pub fn put<C: Crew>(
+        &mut self,
+        alloc: Global,
+        object: Object,
+        step: u32,
+        value: Value,
+        crew: &mut C,
+        meter: &mut Meter,
+    ) -> Result<Stamp, ReplicaFault>
+        ensures stamp { IfOk result (λ stamp. stamp ≡ (edit_made self.old object step value).stamp) }
+        // It is greater than each stamp that the replica held.
+        ensures fresh { IfOk result (λ stamp. (e : edit.Edit) → contains self.old.sheet.edits e ≡ true →
+            number_pair_cmp (stamp_key e.stamp) (stamp_key stamp) ≡ Less) }
+        ensures write { IsWrite (Take (single_edit (edit_made self.old object step value)))
+            (refusals.edit_fault self.old object step value) result self.old self.new meter.old meter.new }
+        ensures gone { CountsGone result (C.times_gone crew.old) (C.times_gone crew.new) }
+    {
+        let edit = self.edit_made(object, step, value);
+        if let Some(fault) = edit.fault(self.sheet.plan()) {
+            return Err(made_fault(fault));
+        }
+        let taken = Scenario::empty(alloc).with_edit(&edit)?;
+        self.join(alloc, &taken, crew, meter)?;
+        Ok(edit.stamp)
+    }
+
+    /// Imports edits from outside this world, in any order, whose stamps have numbers from 64 on. All are taken, or
+    /// none. The answer is the first step at which other numbers are put than before.
     ///
     /// # Errors
     ///
@@ -229,26 +248,19 @@ impl Replica {
         meter: &mut Meter,
     ) -> Result<Option<u32>, ReplicaFault>
         ensures touched { IfOk result (λ touched. touched ≡ touched_step self.old.sheet (from_list edits.now)) }
-        ensures taken { OnOk result (self.new ≡ replica_after (Take (from_list edits.now)) self.old) }
-        ensures accepted { IfOk result (λ _. refusals.import_fault self.old.sheet.plan edits.now ≡ None) }
-        ensures refused { IfErr result (IsWriteRefusal (refusals.import_fault self.old.sheet.plan edits.now)) }
-        ensures unchanged { OnErr result (self.new ≡ self.old) }
-        ensures few_steps { TicksAtMost (most_steps_taking self.old.sheet (from_list edits.now))
-            meter.old meter.new }
-        ensures gone { MatchResult result (λ _. C.times_gone crew.new ≡ C.times_gone crew.old)
-            (λ fault. C.times_gone crew.new ≡ gone_after_fault fault (C.times_gone crew.old)) }
+        ensures write { IsWrite (Take (from_list edits.now)) (refusals.import_fault self.old.sheet.plan edits.now)
+            result self.old self.new meter.old meter.new }
+        ensures gone { CountsGone result (C.times_gone crew.old) (C.times_gone crew.new) }
     {
         if let Some(fault) = import_fault(self.sheet.plan(), edits) {
             return Err(fault);
         }
-        self.known();
-        winners_agree();
         let scenario = Scenario::of_edits(alloc, edits)?;
-        self.grow(alloc, &scenario, 0, crew, meter)
+        self.join(alloc, &scenario, crew, meter)
     }
 
-    /// The replica takes a scenario: what another replica holds, or a part of it. The answer is the first step at which
-    /// other numbers are put than before.
+    /// Takes a scenario: what another replica holds, or a part of it. The answer is the first step at which other
+    /// numbers are put than before.
     ///
     /// # Errors
     ///
@@ -262,28 +274,22 @@ impl Replica {
         meter: &mut Meter,
     ) -> Result<Option<u32>, ReplicaFault>
         ensures touched { IfOk result (λ touched. touched ≡ touched_step self.old.sheet scenario.now) }
-        ensures taken { OnOk result (self.new ≡ replica_after (Take scenario.now) self.old) }
-        ensures accepted { IfOk result (λ _. refusals.take_fault self.old.sheet.plan scenario.now ≡ None) }
-        ensures refused { IfErr result (IsWriteRefusal (refusals.take_fault self.old.sheet.plan scenario.now)) }
-        ensures unchanged { OnErr result (self.new ≡ self.old) }
-        ensures few_steps { TicksAtMost (most_steps_taking self.old.sheet scenario.now)
-            meter.old meter.new }
-        ensures gone { MatchResult result (λ _. C.times_gone crew.new ≡ C.times_gone crew.old)
-            (λ fault. C.times_gone crew.new ≡ gone_after_fault fault (C.times_gone crew.old)) }
+        ensures write { IsWrite (Take scenario.now) (refusals.take_fault self.old.sheet.plan scenario.now)
+            result self.old self.new meter.old meter.new }
+        ensures gone { CountsGone result (C.times_gone crew.old) (C.times_gone crew.new) }
     {
-        match scenario.fits(self.sheet.plan()) {
-            Some(fault) => Err(arrived_fault(fault)),
-            None => self.grow(alloc, scenario, 0, crew, meter),
+        if let Some(fault) = self.take_fault(scenario) {
+            return Err(fault);
         }
+        self.join(alloc, scenario, crew, meter)
     }
 
-    /// The replica simulates up to a step, where it has not yet. The answer is its horizon: the greater of that before
-    /// and `to`.
+    /// Simulates up to a step, where it has not yet. The answer is its horizon: the greater of that before and `to`.
     ///
     /// # Errors
     ///
-    /// `Horizon` where `to` is above 1,048,576; else `WorkersGone` where the crew answers so, or `OutOfMemory` where a
-    /// growth was refused.
+    /// `Horizon` where `to` is above 1,048,576; else `WorkersGone` where the crew answers so, or `OutOfMemory` where an
+    /// allocation failed.
     pub fn advance<C: Crew>(
         &mut self,
         alloc: Global,
@@ -292,65 +298,22 @@ impl Replica {
         meter: &mut Meter,
     ) -> Result<u32, ReplicaFault>
         ensures horizon { IfOk result (λ horizon. horizon ≡ max self.old.sheet.horizon to) }
-        ensures advanced { OnOk result (self.new ≡ replica_after (Advance to) self.old) }
-        ensures accepted { IfOk result (λ _. refusals.advance_fault to ≡ None) }
-        ensures refused { IfErr result (IsWriteRefusal (refusals.advance_fault to)) }
-        ensures unchanged { OnErr result (self.new ≡ self.old) }
-        // Just the steps after the old horizon are computed.
-        ensures new_steps { IfOk result (λ _. meter.new
-            ≡ meter_after meter.old (max self.old.sheet.horizon to - self.old.sheet.horizon)) }
-        ensures few_steps { TicksAtMost (max self.old.sheet.horizon to - self.old.sheet.horizon) meter.old meter.new }
-        ensures gone { MatchResult result (λ _. C.times_gone crew.new ≡ C.times_gone crew.old)
-            (λ fault. C.times_gone crew.new ≡ gone_after_fault fault (C.times_gone crew.old)) }
+        ensures write { IsWrite (Advance to) (refusals.advance_fault to)
+            result self.old self.new meter.old meter.new }
+        ensures gone { CountsGone result (C.times_gone crew.old) (C.times_gone crew.new) }
     {
         if to > GREATEST_HORIZON {
             return Err(ReplicaFault::Horizon);
         }
-        self.known();
+        let horizon = self.sheet.horizon().max(to);
         self.grow(alloc, &Scenario::empty(alloc), to, crew, meter)?;
-        Ok(self.sheet.horizon())
+        Ok(horizon)
     }
 
-    // The replica makes an edit.
-    fn make<C: Crew>(
-        &mut self,
-        alloc: Global,
-        object: Object,
-        step: u32,
-        value: Value,
-        crew: &mut C,
-        meter: &mut Meter,
-    ) -> Result<Stamp, ReplicaFault>
-        ensures stamp { IfOk result (λ stamp. stamp ≡ (edit_made self.old object step value).stamp) }
-        ensures fresh { IfOk result (λ stamp. (e : edit.Edit) → contains self.old.sheet.edits e ≡ true →
-            number_pair_cmp (stamp_key e.stamp) (stamp_key stamp) ≡ Less) }
-        ensures taken { OnOk result (self.new
-            ≡ replica_after (Take (single_edit (edit_made self.old object step value))) self.old) }
-        ensures accepted { IfOk result (λ _. refusals.edit_fault self.old object step value ≡ None) }
-        ensures refused { IfErr result (IsWriteRefusal (refusals.edit_fault self.old object step value)) }
-        ensures unchanged { OnErr result (self.new ≡ self.old) }
-        ensures few_steps { TicksAtMost
-            (most_steps_taking self.old.sheet (single_edit (edit_made self.old object step value)))
-            meter.old meter.new }
-        ensures gone { MatchResult result (λ _. C.times_gone crew.new ≡ C.times_gone crew.old)
-            (λ fault. C.times_gone crew.new ≡ gone_after_fault fault (C.times_gone crew.old)) }
-    {
-        let edit = self.edit_made(object, step, value);
-        match edit.fault(self.sheet.plan()) {
-            Some(fault) => Err(made_fault(fault)),
-            None => {
-                let taken = Scenario::empty(alloc).with_edit(&edit)?;
-                self.grow(alloc, &taken, 0, crew, meter)?;
-                Ok(edit.stamp)
-            }
-        }
-    }
-
-    // The edit that the replica makes.
+    // Returns the edit that the replica makes.
     fn edit_made(&self, object: Object, step: u32, value: Value) -> Edit
         ensures { result ≡ edit_made self.now object step value }
     {
-        self.known();
         let count = self.sheet.scenario().greatest_count() + 1;
         let number = self.number as u16;
         Edit {
@@ -361,7 +324,23 @@ impl Replica {
         }
     }
 
-    // Its sheet takes a scenario and is simulated up to a step.
+    // Joins a scenario that fits the plan.
+    fn join<C: Crew>(
+        &mut self,
+        alloc: Global,
+        scenario: &Scenario,
+        crew: &mut C,
+        meter: &mut Meter,
+    ) -> Result<Option<u32>, ReplicaFault>
+        requires { AreInRange self.old.sheet.plan scenario.now }
+        ensures touched { IfOk result (λ touched. touched ≡ touched_step self.old.sheet scenario.now) }
+        ensures write { IsWrite (Take scenario.now) None result self.old self.new meter.old meter.new }
+        ensures gone { CountsGone result (C.times_gone crew.old) (C.times_gone crew.new) }
+    {
+        self.grow(alloc, scenario, 0, crew, meter)
+    }
+
+    // Joins a scenario that fits the plan, and simulates up to a step.
     fn grow<C: Crew>(
         &mut self,
         alloc: Global,
@@ -377,28 +356,23 @@ impl Replica {
             ≡ record self.old { sheet = grown_sheet self.old.sheet scenario.now to }) }
         ensures refused { IfErr result (IsWriteRefusal None) }
         ensures unchanged { OnErr result (self.new ≡ self.old) }
-        ensures new_steps { IfOk result (λ _.
-            kept_step self.old.sheet.horizon (touched_step self.old.sheet scenario.now) ≡ self.old.sheet.horizon
-            → meter.new ≡ meter_after meter.old (max self.old.sheet.horizon to - self.old.sheet.horizon)) }
+        ensures steps { OnOk result (meter.new ≡ meter_after meter.old (max self.old.sheet.horizon to
+            - draft_start self.old.sheet.horizon
+            (kept_step self.old.sheet.horizon (touched_step self.old.sheet scenario.now)))) }
         ensures few_steps { TicksAtMost
             (most_steps self.old.sheet.horizon (max self.old.sheet.horizon to)
             (touched_step self.old.sheet scenario.now))
             meter.old meter.new }
-        ensures gone { MatchResult result (λ _. C.times_gone crew.new ≡ C.times_gone crew.old)
-            (λ fault. C.times_gone crew.new ≡ gone_after_fault fault (C.times_gone crew.old)) }
+        ensures gone { CountsGone result (C.times_gone crew.old) (C.times_gone crew.new) }
     {
-        match grown(alloc, &self.sheet, scenario, to, crew, meter) {
-            Ok(Grown { sheet, touched }) => {
-                self.sheet = shared(alloc, sheet)?;
-                Ok(touched)
-            }
-            Err(fault) => Err(write_fault(fault)),
-        }
+        let Grown { sheet, touched } = grown(alloc, &self.sheet, scenario, to, crew, meter)?;
+        self.sheet = shared(alloc, sheet)?;
+        Ok(touched)
     }
 
     // ---- what it sends
 
-    /// All that the replica holds, to be sent to others.
+    /// Makes a message of all that the replica holds, to be sent to others.
     ///
     /// # Errors
     ///
@@ -410,7 +384,7 @@ impl Replica {
         Ok(self.sheet.scenario().copied()?)
     }
 
-    /// The heads of all that the replica holds, by which it asks another for what it lacks.
+    /// Makes the heads of all that the replica holds, by which it asks another for what it lacks.
     ///
     /// # Errors
     ///
@@ -422,7 +396,7 @@ impl Replica {
         Ok(heads_of(alloc, self.sheet.scenario())?)
     }
 
-    /// What the replica holds beyond the heads of another: its answer to them.
+    /// Makes the answer to the heads of another replica: what this one holds beyond them.
     ///
     /// # Errors
     ///
@@ -436,7 +410,7 @@ impl Replica {
 
     // ---- what it shows
 
-    /// The road at a step.
+    /// Returns the road at a step.
     ///
     /// # Errors
     ///
@@ -446,13 +420,10 @@ impl Replica {
         ensures accepted { IfOk result (λ _. refusals.state_fault self.now.sheet step ≡ None) }
         ensures refused { IfErr result (IsRefusal (refusals.state_fault self.now.sheet step)) }
     {
-        match self.sheet.state(alloc, step) {
-            Ok(road) => Ok(road),
-            Err(fault) => Err(question_fault(fault)),
-        }
+        Ok(self.sheet.state(alloc, step)?)
     }
 
-    /// What a detector counts in the steps from one up to another, that one not among them.
+    /// Returns what a detector counts in the steps from one up to another, that one not among them.
     ///
     /// # Errors
     ///
@@ -468,15 +439,15 @@ impl Replica {
         ensures totals { IfOk result (λ totals. totals ≡ total_of self.now.sheet detector from to) }
         ensures accepted { IfOk result (λ _. refusals.totals_fault self.now.sheet detector from to ≡ None) }
         ensures refused { IfErr result (IsRefusal (refusals.totals_fault self.now.sheet detector from to)) }
+        // The counts of whole intervals are kept.
+        ensures kept { refusals.totals_fault self.now.sheet detector from to ≡ None →
+            AreWholeIntervals self.now.sheet from to → IsOk result }
     {
-        match self.sheet.totals(alloc, detector, from, to) {
-            Ok(totals) => Ok(totals),
-            Err(fault) => Err(question_fault(fault)),
-        }
+        Ok(self.sheet.totals(alloc, detector, from, to)?)
     }
 
-    /// The rows of a space-time diagram: those of the steps from one to another, both of them, each with the blocks of
-    /// its step.
+    /// Returns the rows of a space-time diagram: those of the steps from one to another, both of them, each with the
+    /// blocks of its step.
     ///
     /// # Errors
     ///
@@ -487,28 +458,19 @@ impl Replica {
         ensures accepted { IfOk result (λ _. refusals.rows_fault self.now.sheet from to ≡ None) }
         ensures refused { IfErr result (IsRefusal (refusals.rows_fault self.now.sheet from to)) }
     {
-        if from > to || to - from >= MOST_ROWS {
-            return Err(ReplicaFault::Range);
-        }
-        if self.sheet.horizon() < to {
-            return Err(ReplicaFault::NotSimulated);
-        }
-        self.known();
-        let road = self.state(alloc, from)?;
-        let first = State { step: from, road };
-        let (rows, _) = rows_between(alloc, self.sheet.plan(), self.sheet.scenario(), first, to)?;
-        Ok(rows)
+        let mut cache = QueryCache::of(alloc, self.sheet.plan());
+        cache.rows(alloc, &self.sheet, from, to)
     }
 }
 
-// A sheet, to be shared.
+// Moves a sheet to where it is shared.
 fn shared(alloc: Global, sheet: Sheet) -> Result<Arc<Sheet>, OutOfMemory>
     ensures { IfOk result (λ shared. arc_value shared ≡ sheet) }
 {
     Ok(Arc::new(alloc, sheet)?)
 }
 
-// The cause for which an import is refused: that of its first faulty edit.
+// Returns the cause for which an import is refused: that of its first faulty edit.
 fn import_fault(plan: &Plan, edits: &[Edit]) -> Option<ReplicaFault>
     ensures { result ≡ refusals.import_fault plan.now edits.now }
 {
@@ -520,8 +482,8 @@ fn import_fault(plan: &Plan, edits: &[Edit]) -> Option<ReplicaFault>
     None
 }
 
-/// The first named cause for which the gathering of a crowd is refused: that of its first faulty edit, in the order of
-/// the shares, else `Horizon` where the step is too late.
+/// Returns the first named cause for which the gathering of a crowd is refused: that of its first faulty edit, in the
+/// order of the shares, else `Horizon` where the step is too late.
 pub fn shares_fault(plan: &Plan, shares: &[Vec<Edit>], to: u32) -> Option<ReplicaFault>
     ensures { result ≡ crowds.shares_fault plan.now (crowds.shares_of shares.now) to }
 {
@@ -536,7 +498,7 @@ pub fn shares_fault(plan: &Plan, shares: &[Vec<Edit>], to: u32) -> Option<Replic
     None
 }
 
-// The cause for which one imported edit is refused.
+// Returns the cause for which one imported edit is refused.
 fn imported_fault(plan: &Plan, edit: &Edit) -> Option<ReplicaFault>
     ensures { result ≡ refusals.imported_edit_fault plan.now edit.now }
 {

@@ -1,7 +1,8 @@
--- A sheet that takes edits and goes on, and how many steps that costs.
-use Rattle.std.specs.Prelude.{◌≡◌, ◌≤◌, ◌+◌, ◌-◌, ◌^◌, ℕ, zero, suc, min, nat_lt, if◌then◌else◌}
+-- A sheet that takes edits and is simulated on, and how many steps that costs.
+use Rattle.std.specs.Prelude.{◌≡◌, ◌≤◌, ◌+◌, ◌-◌, ◌^◌, ℕ, zero, suc, min, nat_lt, if◌then◌else◌, MatchResult}
 use Rattle.std.specs.declared.option.Option.{Option}
 use Rattle.std.specs.declared.option.Option.TheVariants.{None, Some}
+use Rattle.std.specs.declared.result.Result.{Result}
 use Rattle.road_scenario.specs.Edits.{Edits}
 use Rattle.road_scenario.specs.Touched.{first_touched_step}
 use Rattle.road_scenario.specs.Winners.{join}
@@ -44,3 +45,7 @@ pub record TicksAtMost (most meter later : ℕ) : Type 0 where
 abbrev pub gone_after_fault : GrownFault → ℕ → ℕ
 gone_after_fault WorkersGone n = min (n + 1) (2 ^ 64 - 1)
 gone_after_fault OutOfMemory n = n
+
+-- it counts the refusals for `WorkersGone`, and nothing else
+abbrev pub CountsGone : {A : Type 0} → Result A GrownFault → ℕ → ℕ → Type 0
+CountsGone result gone later = MatchResult result (λ _. later ≡ gone) (λ fault. later ≡ gone_after_fault fault gone)

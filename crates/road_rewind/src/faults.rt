@@ -8,13 +8,13 @@ use road_workers::CrewFault;
 use std::alloc::AllocError;
 use thiserror::Error;
 
-/// Why a sheet has not grown: the causes for which `grown` is refused.
+/// Why `grown` is refused.
 #[derive(Clone, Copy, Debug, PartialEq, Eq, Error)]
 pub enum GrownFault {
     /// A worker's thread could not be started, or has gone.
     #[error("a worker could not be started or has gone")]
     WorkersGone,
-    /// There was no memory.
+    /// An allocation failed.
     #[error("no memory")]
     OutOfMemory,
 }
@@ -27,7 +27,6 @@ impl From<AllocError> for GrownFault {
     }
 }
 
-// The refusal of a growth, where a crew refuses.
 pub(crate) fn growth_fault(fault: CrewFault) -> GrownFault
     ensures { result ≡ growth_fault fault }
 {

@@ -1,8 +1,8 @@
-//! A grown sheet, and the first step that its new edits touched.
+//! What `grown` gives.
 
 use road_sheet::Sheet;
 
-/// What `grown` gives: the sheet that has grown, and what that touched.
+/// A sheet that has grown, and what that touched.
 #[derive(Drop)]
 pub struct Grown {
     /// The sheet of the joined scenario.

@@ -1,12 +1,12 @@
-//! How a sheet grows by edits and steps: it keeps what no edit touches, and simulates the rest.
+//! Rewinding: a sheet grows by edits and steps, keeps what no edit touches, and simulates the rest.
 
-ghost use Rattle.std.specs.Prelude.{◌≡◌, ◌≤◌, ◌<◌, ◌-◌, max, IfOk, OnOk, OnErr, MatchResult};
+ghost use Rattle.std.specs.Prelude.{◌≡◌, ◌≤◌, ◌<◌, ◌-◌, max, IfOk, OnOk, OnErr};
 ghost use Rattle.road_plan.specs.declared.limits.TheConstants.{GREATEST_HORIZON};
 ghost use Rattle.road_scenario.specs.Faults.{AreInRange};
 ghost use Rattle.road_scenario.specs.Winners.{join};
 ghost use Rattle.road_sheet.specs.Drafts.{draft_start};
 ghost use Rattle.road_sheet.specs.Sheets.{IsAtMost, sheet_after_step};
-ghost use Rattle.road_rewind.specs.Growth.{grown_sheet, touched_step, kept_step, most_steps, meter_after, TicksAtMost, gone_after_fault};
+ghost use Rattle.road_rewind.specs.Growth.{grown_sheet, touched_step, kept_step, most_steps, meter_after, CountsGone, TicksAtMost};
 
 use crate::faults::{GrownFault, growth_fault};
 use crate::outcome::Grown;
@@ -17,13 +17,13 @@ use road_sheet::{Draft, Sheet};
 use road_workers::Crew;
 use std::alloc::Global;
 
-/// The sheet with a scenario joined in, simulated at least up to the step `to`: that of the joined scenario, at the
-/// greater of the old horizon and `to`. The old sheet stays as it is, and the new one shares with it each interval that
-/// is right in both.
+/// Joins a scenario into a sheet and simulates at least up to the step `to`: the new sheet is that of the joined scenario,
+/// at the greater of the old horizon and `to`. The old sheet stays as it is, and the new one shares with it each whole
+/// interval that is right in both.
 ///
 /// The scenario must fit the sheet's plan, and `to` must be at most 1,048,576. The meter counts each step that is
-/// computed: exactly those after the old horizon where no step below it is touched, and else those from the touched step
-/// on and at most 63 more.
+/// computed: exactly those after the old horizon where no step below it is touched, and else those from the checkpoint
+/// at or before the touched step, at most 63 more than from that step on.
 ///
 /// # Errors
 ///
@@ -54,10 +54,8 @@ pub fn grown<C: Crew>(
     ensures few_steps { TicksAtMost
         (most_steps sheet.now.horizon (max sheet.now.horizon to) (touched_step sheet.now scenario.now))
         meter.old meter.new }
-    ensures gone { MatchResult result (λ _. C.times_gone crew.new ≡ C.times_gone crew.old)
-        (λ fault. C.times_gone crew.new ≡ gone_after_fault fault (C.times_gone crew.old)) }
+    ensures gone { CountsGone result (C.times_gone crew.old) (C.times_gone crew.new) }
 {
-    sheet.known();
     winners_agree();
     let (mut draft, touched) = begun(alloc, sheet, scenario)?;
     simulate(alloc, &mut draft, sheet.horizon().max(to), crew, meter)?;
@@ -67,7 +65,7 @@ pub fn grown<C: Crew>(
     })
 }
 
-// The draft of the joined scenario, which begins where its run is no longer that of the sheet, and the touched step.
+// Begins the draft of the joined scenario, and finds the touched step.
 fn begun(
     alloc: Global,
     sheet: &Sheet,
@@ -81,7 +79,6 @@ fn begun(
     }) }
     ensures touched { IfOk result (λ begun. begun.1 ≡ touched_step sheet.now scenario.now) }
 {
-    sheet.known();
     winners_agree();
     let joined = sheet.scenario().joined(scenario)?;
     let touched = sheet.scenario().touched_by(scenario, &joined);
@@ -90,7 +87,7 @@ fn begun(
     Ok((draft, touched))
 }
 
-// Up to which step a run stays right.
+// Finds up to which step a run stays right.
 fn kept_step(horizon: u32, touched: Option<u32>) -> u32
     ensures { result ≡ kept_step horizon touched }
 {
@@ -113,8 +110,7 @@ fn simulate<C: Crew>(
     ensures simulated { OnOk result (draft.new ≡ record draft.old { horizon = to }) }
     ensures steps { OnOk result (meter.new ≡ meter_after meter.old (to - draft.old.horizon)) }
     ensures few { TicksAtMost (to - draft.old.horizon) meter.old meter.new }
-    ensures gone { MatchResult result (λ _. C.times_gone crew.new ≡ C.times_gone crew.old)
-        (λ fault. C.times_gone crew.new ≡ gone_after_fault fault (C.times_gone crew.old)) }
+    ensures gone { CountsGone result (C.times_gone crew.old) (C.times_gone crew.new) }
 {
     for step in draft.horizon()..to {
         one_step(alloc, draft, crew)?;
@@ -123,13 +119,12 @@ fn simulate<C: Crew>(
     Ok(())
 }
 
-// One step more.
+// Adds one more step.
 fn one_step<C: Crew>(alloc: Global, draft: &mut Draft, crew: &mut C) -> Result<(), GrownFault>
     requires within_limit { draft.old.horizon < GREATEST_HORIZON }
     ensures grown { OnOk result (draft.new ≡ sheet_after_step draft.old) }
     ensures unchanged { OnErr result (draft.new ≡ draft.old) }
-    ensures gone { MatchResult result (λ _. C.times_gone crew.new ≡ C.times_gone crew.old)
-        (λ fault. C.times_gone crew.new ≡ gone_after_fault fault (C.times_gone crew.old)) }
+    ensures gone { CountsGone result (C.times_gone crew.old) (C.times_gone crew.new) }
 {
     let input = draft.input(alloc)?;
     match crew.speeds(alloc, &input) {

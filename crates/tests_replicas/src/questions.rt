@@ -1,9 +1,10 @@
-//! Cars, counts and diagrams.
+//! Cars, counts and diagrams, and the cache of queries.
 
 use crate::replicas::{BLOCK, Write, replica_after};
 use road_cells::Car;
 use road_plan::Object;
-use road_replica::{Replica, ReplicaFault};
+use road_replica::{QueryCache, Replica, ReplicaFault};
+use road_sheet::Sheet;
 use std::alloc::Global;
 use std::test::Fail;
 
@@ -149,5 +150,25 @@ fn a_diagram_has_at_most_1024_rows(rt: HostRuntime) -> Result<(), Fail> {
     let writes = [Write::Edit(BLOCK, 4, 1), Write::Advance(1_024)];
     let replica = replica_after(rt.alloc(), 0, &writes)?;
     assert!(&rt; has_diagrams(rt.alloc(), &replica)?);
+    Ok(())
+}
+
+// Whether a cache answers one query after another as worked, where the cell 8 is blocked from step 4 on.
+fn answers_from_cache(alloc: Global, sheet: &Sheet) -> Result<bool, ReplicaFault> {
+    let mut cache = QueryCache::of(alloc, sheet.plan());
+    let is_row = cache.row(alloc, sheet, 4)?.as_str() == "0..2...2#...";
+    let has_cars = cache.state(alloc, sheet, 5)?.cars().len() == 3;
+    let totals = cache.totals(alloc, sheet, 0, 0, 3)?;
+    let is_counted = (totals.cars, totals.speeds) == (1, 2);
+    cache.restart(alloc);
+    let rows = cache.rows(alloc, sheet, 4, 6)?;
+    Ok(is_row && has_cars && is_counted && are_rows(&rows, BLOCKED))
+}
+
+#[test]
+fn a_cache_answers_one_query_after_another(rt: HostRuntime) -> Result<(), Fail> {
+    let writes = [Write::Edit(BLOCK, 4, 1), Write::Advance(6)];
+    let replica = replica_after(rt.alloc(), 0, &writes)?;
+    assert!(&rt; answers_from_cache(rt.alloc(), replica.sheet())?);
     Ok(())
 }

@@ -1,4 +1,4 @@
--- One step more is one tick more.
+-- One more step is one more tick.
 use Rattle.std.proofs.Common.{◌∙◌, ap, arith}
 use Rattle.road_sheet.specs.Sheets.{Sheet, sheet_after_step}
 use Rattle.road_rewind.proofs.StepCounts.{tick_more}

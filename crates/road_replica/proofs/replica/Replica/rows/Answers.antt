@@ -1,15 +1,9 @@
--- Rows between steps that are simulated, at most as many as fit.
-use Rattle.std.proofs.Common.{rules}
+-- A new cache is one of each run of its plan.
+use Rattle.std.proofs.Common.{◌≡◌, rules}
+use Rattle.std.specs.Arc.{arc_value}
 use Rattle.road_replica.proofs.replica.Replica.rows.Goals as goal
 
-pub returns-then-horizon-to-clause-refused : goal.returns-then-horizon-to-clause-refused
-returns-then-horizon-to-clause-refused c = search rules
-
-pub returns-in_err-road-clause-refused : goal.returns-in_err-road-clause-refused
-returns-in_err-road-clause-refused c = search rules
-
-pub returns-in_err-rows-clause-refused : goal.returns-in_err-rows-clause-refused
-returns-in_err-rows-clause-refused c = search rules
-
-pub returns-clause-accepted : goal.returns-clause-accepted
-returns-clause-accepted c = search rules
+pub rows-requires : goal.rows-requires
+rows-requires c =
+    let same : c.deref-2.result.now.plan ≡ arc_value c.plan.result.now = search rules in
+    c.of-cache.ensures c.deref-2.result.now same
