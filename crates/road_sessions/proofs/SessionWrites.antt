@@ -1,9 +1,14 @@
 -- What a session's write or look leaves of it.
-use Rattle.std.proofs.Common.{◌≡◌, ◌∙◌, ℕ, ◌+◌, ◌<◌, List, [], ◌∷◌, ◌++◌, length, length-append, slice_get, Some, refl, sym, ap, subst, arith}
+use Rattle.std.proofs.Common.{◌≡◌, ◌∙◌, ℕ, ◌+◌, ◌<◌, List, [], ◌∷◌, ◌++◌, length, length-append, slice_get, Option, None, Some, inr, refl, sym, ap, subst, arith}
 use Rattle.std.proofs.lemmas.Option.{slice_get_within}
+use Rattle.std.specs.Prelude.{IsErrAnd, MatchResult, Result}
 use Rattle.std.specs.List.{AllByRecursion}
+use Rattle.std.specs.declared.result.Result.TheVariants.{Err, Ok}
 use mathlib.Core.List.{IsPrefix}
+use Rattle.road_rewind.specs.Growth.{TicksAtMost}
 use Rattle.road_replica.specs.Replicas.{Replica}
+use Rattle.road_replica.specs.declared.faults.ReplicaFault.{ReplicaFault}
+use Rattle.road_replica.specs.declared.faults.ReplicaFault.TheVariants as causes
 use Rattle.road_replica.specs.declared.reply.Reply.{Reply}
 use Rattle.road_sessions.specs.declared.entry.Entry.{Entry}
 use Rattle.road_sessions.specs.declared.reader_view.View.{View}
@@ -12,10 +17,24 @@ use Rattle.road_sessions.specs.Journals.{AreWritesOf, IsLegal, AreAtRisingPlaces
 use Rattle.road_sessions.specs.Looks.{HasEntered}
 use Rattle.road_sessions.specs.Private.Stores.{EntersAfterWrite, EntersToLook, last_write_from}
 use Rattle.road_sessions.specs.Sessions.{AreNewSessions, IsAcceptedWrite, IsSession, Session, new_view, session_of}
-use Rattle.road_sessions.specs.Writes.{IsAccepted, reply_to, wish_command}
+use Rattle.road_sessions.specs.Writes.{IsAccepted, IsRefused, IsWriteRefusal, most_steps_of_wish, reply_to, wish_command, write_fault}
+use Rattle.road_sessions.specs.declared.faults.WriteFault.{WriteFault}
+use Rattle.road_sessions.specs.declared.faults.WriteFault.TheVariants.{Replica as OfReplica}
 use Rattle.road_sessions.proofs.Prefixes.{each_of_both, got_last, in_longer_journal}
 
 -- ---- a write
+
+-- a refusal, for out of memory, of a write against which no named cause stands
+pub refused_late : {A : Type 0} (limit : ℕ) (wish : Wish) (r : Replica) (journal : List Entry) (result : Result A WriteFault) (fault : ReplicaFault) (meter counted : ℕ)
+    → write_fault limit wish r journal ≡ None → IsErrAnd result (λ given. given ≡ OfReplica fault) → fault ≡ causes.OutOfMemory → TicksAtMost (most_steps_of_wish wish (replay r journal)) meter counted
+    → MatchResult result (λ _. IsAccepted limit wish r journal meter counted) (λ given. IsRefused limit wish r journal given meter counted)
+refused_late limit wish r journal (Ok x) fault meter counted none same is few = absurd same
+refused_late limit wish r journal (Err given) fault meter counted none same is few =
+    let out : given ≡ OfReplica causes.OutOfMemory = same ∙ ap (λ (f : ReplicaFault). OfReplica f) is in record {
+      refused = subst (λ (cause : Option WriteFault). IsWriteRefusal cause given) (sym none) (inr out);
+      named = λ some. absurd (some none);
+      few_steps = few;
+    }
 
 last_of_more : (place : ℕ) (history : List Entry) (e : Entry) → last_write_from place (history ++ e ∷ []) ≡ (place + length history, e) ∷ []
 last_of_more place [] e = ap (λ (n : ℕ). (n, e) ∷ []) (omega arith)

@@ -11,4 +11,4 @@ loop-number-preserved g c =
     let s : Session = c.new.result in
     let fresh = new_sessions_with before c.loop-number.number s kept.1 kept.0 c.new.ensures in
     let count : length (before ++ s ∷ []) ≡ c.loop-number.number + 1 = omega (arith, kept.0, length-append before (s ∷ [])) in
-    rw c.in-Ok-push.ensures.items (count, fresh, omega arith, omega arith)
+    rw c.in-Ok.ensures.items (count, fresh, omega arith, omega arith)
