@@ -60,7 +60,7 @@ pub fn crowd<W: Threads + Wait, G: Gate + Sync>(
     left::<Brand, _, W, G>(rt, alloc, prepared, plan, shares, to, gate)
 }
 
-// What is left of a store that was just prepared, once its sessions have worked.
+// Returns what is left of a store that was just prepared, once its sessions have worked.
 fn left<J: Naming + Send + Sync, R: Wait + Drop + Send, W: Threads + Wait, G: Gate + Sync>(
     rt: &W,
     alloc: Global,
@@ -93,7 +93,7 @@ fn left<J: Naming + Send + Sync, R: Wait + Drop + Send, W: Threads + Wait, G: Ga
     }
 }
 
-// What a closed store shows at its horizon.
+// Returns what a closed store shows at its horizon.
 fn shown(alloc: Global, closed: &Closed, to: u32) -> Result<Crowd, CrewFault>
     requires simulated { (arc_value closed.now.sheet).horizon ≡ to }
     requires few { length closed.now.journal.items ≤ MOST_CROWD_WRITES }
@@ -103,7 +103,6 @@ fn shown(alloc: Global, closed: &Closed, to: u32) -> Result<Crowd, CrewFault>
         ≡ row_at (arc_value closed.now.sheet).plan (arc_value closed.now.sheet).edits to) }
 {
     let sheet = &closed.sheet;
-    sheet.known();
     let Ok(road) = sheet.state(alloc, to) else {
         return Err(CrewFault::OutOfMemory);
     };

@@ -15,8 +15,8 @@ use road_workers::Alone;
 use std::alloc::Global;
 use std::sync::Wait;
 
-// A session that has written nothing takes the edits of its share one after another, each as a scenario of one edit, and
-// then simulates up to the step.
+// Does the work of a session that has written nothing: it takes the edits of its share one after another, each as a
+// scenario of one edit, and then simulates up to the step.
 pub(crate) fn work<J: Naming, R: Wait + Drop, W: Wait>(
     rt: &W,
     alloc: Global,
@@ -37,7 +37,7 @@ pub(crate) fn work<J: Naming, R: Wait + Drop, W: Wait>(
     advance(rt, shared, session, to, &mut meter)
 }
 
-// A session takes one edit.
+// Takes one edit.
 fn take<J: Naming, R: Wait + Drop, W: Wait>(
     rt: &W,
     alloc: Global,
@@ -58,14 +58,14 @@ fn take<J: Naming, R: Wait + Drop, W: Wait>(
     }
 }
 
-// The scenario of one edit.
+// Makes the scenario of one edit.
 fn single(alloc: Global, edit: &Edit) -> Result<Scenario, OutOfMemory>
     ensures { IfOk result (λ scenario. scenario ≡ single_edit edit.now) }
 {
     Ok(Scenario::empty(alloc).with_edit(edit)?)
 }
 
-// A session simulates up to a step.
+// Simulates up to a step.
 fn advance<J: Naming, R: Wait + Drop, W: Wait>(
     rt: &W,
     shared: &Shared<J, R>,

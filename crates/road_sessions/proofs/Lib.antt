@@ -1,4 +1,4 @@
--- Lemmas of histories, of the book and the store that keep them, of what sessions write, of the closing, and of what a
+-- Lemmas of histories, of the logbook and the store that keep them, of what sessions write, of the closing, and of what a
 -- journal comes to.
 pub mod Prefixes
 pub mod AppendedEntries

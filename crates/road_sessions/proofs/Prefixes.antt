@@ -1,36 +1,45 @@
 -- Prefixes of one list, and what stands in it.
-use Rattle.std.proofs.Common.{◌≡◌, ◌∙◌, ℕ, zero, suc, ◌≤◌, List, [], ◌∷◌, ◌++◌, length, length-append, slice_get, Some, append_assoc, refl, sym, ap, subst, arith}
+use Rattle.std.proofs.Common.{◌≡◌, ◌∙◌, ◌≤◌, ◌<◌, ⊎_elim, Bool, true, false, leb, ℕ, zero, suc, List, [], ◌∷◌, ◌++◌, length, length-append, slice_get, Some, append_assoc, refl, sym, ap, subst, arith}
+use Rattle.std.proofs.lemmas.Bool.Decides.{leb_tells}
 use Rattle.std.proofs.lemmas.List.{append-nil}
+use Rattle.std.specs.Prelude.{MatchBool}
 use Rattle.std.specs.List.{AllByRecursion}
 use mathlib.Core.List.{IsPrefix}
 use Rattle.road_sessions.specs.Journals.{Write, AreInJournal}
 use Rattle.road_sessions.specs.declared.entry.Entry.{Entry}
 
-pub begins_itself : {A : Type 0} (xs : List A) → IsPrefix xs xs
-begins_itself xs = ([], append-nil xs)
+pub prefix_of_itself : {A : Type 0} (xs : List A) → IsPrefix xs xs
+prefix_of_itself xs = ([], append-nil xs)
 
-pub begins_longer : {A : Type 0} (xs ys zs : List A) → IsPrefix xs ys → IsPrefix ys zs → IsPrefix xs zs
-begins_longer xs ys zs p q =
+pub prefix_of_longer : {A : Type 0} (xs ys zs : List A) → IsPrefix xs ys → IsPrefix ys zs → IsPrefix xs zs
+prefix_of_longer xs ys zs p q =
     let there : (xs ++ p.0) ++ q.0 ≡ zs = ap (λ (w : List _). w ++ q.0) p.1 ∙ q.1 in
     (p.0 ++ q.0, sym (append_assoc xs p.0 q.0) ∙ there)
 
--- of two beginnings of one list the one that is no longer begins the other
-pub begins_other : {A : Type 0} (xs ys all : List A) → length xs ≤ length ys → IsPrefix xs all → IsPrefix ys all → IsPrefix xs ys
-begins_other [] ys all short p q = (ys, refl)
-begins_other (x ∷ xs) [] all short p q = absurd (omega arith)
-begins_other (x ∷ xs) (y ∷ ys) [] short p q = absurd (cc (p.1))
-begins_other (x ∷ xs) (y ∷ ys) (z ∷ all) short p q =
-    let tails = begins_other xs ys all (omega arith) (p.0, cc (p.1)) (q.0, cc (q.1)) in
+-- of two prefixes of one list the one that is no longer is a prefix of the other
+pub prefix_of_other : {A : Type 0} (xs ys all : List A) → length xs ≤ length ys → IsPrefix xs all → IsPrefix ys all → IsPrefix xs ys
+prefix_of_other [] ys all short p q = (ys, refl)
+prefix_of_other (x ∷ xs) [] all short p q = absurd (omega arith)
+prefix_of_other (x ∷ xs) (y ∷ ys) [] short p q = absurd (cc (p.1))
+prefix_of_other (x ∷ xs) (y ∷ ys) (z ∷ all) short p q =
+    let tails = prefix_of_other xs ys all (omega arith) (p.0, cc (p.1)) (q.0, cc (q.1)) in
     let first : x ≡ y = cc (p.1, q.1) in
     (tails.0, cc (first, tails.1))
+
+-- of two prefixes of one list, whose lengths are compared, the one that is no longer is a prefix of the other
+pub prefix_as_compared : {A : Type 0} (xs ys all : List A) (m n : ℕ) → m ≡ length xs → n ≡ length ys → IsPrefix xs all → IsPrefix ys all → MatchBool (leb m n) (IsPrefix xs ys) (IsPrefix ys xs)
+prefix_as_compared xs ys all m n is has p q = ⊎_elim
+    (λ (short : (leb m n ≡ true) × (m ≤ n)). subst (λ (b : Bool). MatchBool b (IsPrefix xs ys) (IsPrefix ys xs)) (sym short.0) (let le = short.1 in prefix_of_other xs ys all (omega arith) p q))
+    (λ (long : (leb m n ≡ false) × (n < m)). subst (λ (b : Bool). MatchBool b (IsPrefix xs ys) (IsPrefix ys xs)) (sym long.0) (let lt = long.1 in prefix_of_other ys xs all (omega arith) q p))
+    (leb_tells m n)
 
 no_more : {A : Type 0} (xs rest : List A) → length (xs ++ rest) ≤ length xs → rest ≡ []
 no_more xs [] short = refl
 no_more xs (r ∷ rest) short = absurd (omega (arith, length-append xs (r ∷ rest)))
 
--- a beginning that is as long as the whole is the whole
-pub begins_whole : {A : Type 0} (xs all : List A) → length all ≤ length xs → IsPrefix xs all → xs ≡ all
-begins_whole xs all short p =
+-- a prefix that is as long as the whole is the whole
+pub whole_prefix : {A : Type 0} (xs all : List A) → length all ≤ length xs → IsPrefix xs all → xs ≡ all
+whole_prefix xs all short p =
     let none = no_more xs p.0 (subst (λ (w : List _). length w ≤ length xs) (sym p.1) short) in
     sym (append-nil xs) ∙ ap (λ (w : List _). xs ++ w) (sym none) ∙ p.1
 
@@ -47,7 +56,7 @@ pub each_of_both : {A : Type 0} (P : A → Type 0) (xs ys : List A) → AllByRec
 each_of_both P [] ys first second = second
 each_of_both P (x ∷ xs) ys first second = (first.0, each_of_both P xs ys first.1 second)
 
--- what stands in a beginning stands in the whole
+-- what stands in a prefix stands in the whole
 pub in_longer_journal : (writes : List Write) (xs all : List Entry) → IsPrefix xs all → AreInJournal writes xs → AreInJournal writes all
 in_longer_journal [] xs all p stand = tt
 in_longer_journal (w ∷ ws) xs all p stand =

@@ -1,9 +1,14 @@
 -- What a session's write or look leaves of it.
-use Rattle.std.proofs.Common.{◌≡◌, ◌∙◌, ℕ, ◌+◌, ◌<◌, List, [], ◌∷◌, ◌++◌, length, length-append, slice_get, Some, refl, sym, ap, subst, arith}
+use Rattle.std.proofs.Common.{◌≡◌, ◌∙◌, ℕ, ◌+◌, ◌<◌, List, [], ◌∷◌, ◌++◌, length, length-append, slice_get, Option, None, Some, inr, refl, sym, ap, subst, arith}
 use Rattle.std.proofs.lemmas.Option.{slice_get_within}
+use Rattle.std.specs.Prelude.{IsErrAnd, MatchResult, Result}
 use Rattle.std.specs.List.{AllByRecursion}
+use Rattle.std.specs.declared.result.Result.TheVariants.{Err, Ok}
 use mathlib.Core.List.{IsPrefix}
+use Rattle.road_rewind.specs.Growth.{TicksAtMost}
 use Rattle.road_replica.specs.Replicas.{Replica}
+use Rattle.road_replica.specs.declared.faults.ReplicaFault.{ReplicaFault}
+use Rattle.road_replica.specs.declared.faults.ReplicaFault.TheVariants as causes
 use Rattle.road_replica.specs.declared.reply.Reply.{Reply}
 use Rattle.road_sessions.specs.declared.entry.Entry.{Entry}
 use Rattle.road_sessions.specs.declared.reader_view.View.{View}
@@ -11,11 +16,25 @@ use Rattle.road_sessions.specs.declared.wish.Wish.{Wish}
 use Rattle.road_sessions.specs.Journals.{AreWritesOf, IsLegal, AreAtRisingPlaces, AreInJournal, Write, entry, replay}
 use Rattle.road_sessions.specs.Looks.{HasEntered}
 use Rattle.road_sessions.specs.Private.Stores.{EntersAfterWrite, EntersToLook, last_write_from}
-use Rattle.road_sessions.specs.Sessions.{AreNewSessions, IsSession, IsWrite, Session, new_view, session_of}
-use Rattle.road_sessions.specs.Writes.{reply_to, wish_command}
+use Rattle.road_sessions.specs.Sessions.{AreNewSessions, IsAcceptedWrite, IsSession, Session, new_view, session_of}
+use Rattle.road_sessions.specs.Writes.{IsAccepted, IsRefused, IsWriteRefusal, most_steps_of_wish, reply_to, wish_command, write_fault}
+use Rattle.road_sessions.specs.declared.faults.WriteFault.{WriteFault}
+use Rattle.road_sessions.specs.declared.faults.WriteFault.TheVariants.{Replica as OfReplica}
 use Rattle.road_sessions.proofs.Prefixes.{each_of_both, got_last, in_longer_journal}
 
 -- ---- a write
+
+-- a refusal, for out of memory, of a write against which no named cause stands
+pub refused_late : {A : Type 0} (limit : ℕ) (wish : Wish) (r : Replica) (journal : List Entry) (result : Result A WriteFault) (fault : ReplicaFault) (meter counted : ℕ)
+    → write_fault limit wish r journal ≡ None → IsErrAnd result (λ given. given ≡ OfReplica fault) → fault ≡ causes.OutOfMemory → TicksAtMost (most_steps_of_wish wish (replay r journal)) meter counted
+    → MatchResult result (λ _. IsAccepted limit wish r journal meter counted) (λ given. IsRefused limit wish r journal given meter counted)
+refused_late limit wish r journal (Ok x) fault meter counted none same is few = absurd same
+refused_late limit wish r journal (Err given) fault meter counted none same is few =
+    let out : given ≡ OfReplica causes.OutOfMemory = same ∙ ap (λ (f : ReplicaFault). OfReplica f) is in record {
+      refused = subst (λ (cause : Option WriteFault). IsWriteRefusal cause given) (sym none) (inr out);
+      named = λ some. absurd (some none);
+      few_steps = few;
+    }
 
 last_of_more : (place : ℕ) (history : List Entry) (e : Entry) → last_write_from place (history ++ e ∷ []) ≡ (place + length history, e) ∷ []
 last_of_more place [] e = ap (λ (n : ℕ). (n, e) ∷ []) (omega arith)
@@ -29,10 +48,10 @@ own_more own front after e place is at =
     let last = ap (λ (l : List Entry). last_write_from 0 l) is ∙ last_of_more 0 front e ∙ ap (λ (n : ℕ). (n, e) ∷ []) here in
     ap (λ (w : List Write). own ++ w) last
 
-pub is_write : (r : Replica) (session : ℕ) (wish : Wish) (seen front after : List Entry) (v w : View) (place : ℕ) (reply : Reply) → IsPrefix seen front
-    → after ≡ front ++ entry session (wish_command wish (replay r front)) ∷ [] → IsLegal r after → place ≡ length front → reply ≡ reply_to wish (replay r front) → EntersAfterWrite v after w
-    → IsWrite r wish (session_of session seen v) place reply (session_of session after w)
-is_write r session wish seen front after v w place reply before is legal at answer enters = record {
+pub is_write : (limit : ℕ) (r : Replica) (session : ℕ) (wish : Wish) (seen front after : List Entry) (v w : View) (place : ℕ) (reply : Reply) (meter counted : ℕ) → IsPrefix seen front
+    → after ≡ front ++ entry session (wish_command wish (replay r front)) ∷ [] → IsLegal r after → place ≡ length front → reply ≡ reply_to wish (replay r front) → EntersAfterWrite v after w → IsAccepted limit wish r front meter counted
+    → IsAcceptedWrite limit r wish (session_of session seen v) place reply (session_of session after w) meter counted
+is_write limit r session wish seen front after v w place reply meter counted before is legal at answer enters accepted = record {
   front = front;
   before = before;
   seen = is;
@@ -44,6 +63,7 @@ is_write r session wish seen front after v w place reply before is legal at answ
   own = ap (λ (u : View). u.own) enters.1 ∙ own_more v.own front after (entry session (wish_command wish (replay r front))) place is at;
   number = refl;
   entered = ap (λ (u : View). u.entered) enters.1;
+  accepted = accepted;
 }
 
 all_before : (writes : List Write) (journal : List Entry) → AreInJournal writes journal → AllByRecursion (λ (w : Write). w.0 < length journal) writes
@@ -56,8 +76,8 @@ at_rising_places_with (w ∷ ws) place e rise low =
     (each_of_both (λ (v : Write). w.0 < v.0) ws ((place, e) ∷ []) rise.0 (low.0, tt), at_rising_places_with ws place e rise.1 low.1)
 
 -- after an accepted write a session meets what every session meets
-pub session_after_write : (r : Replica) (wish : Wish) (s t : Session) (place : ℕ) (reply : Reply) → IsWrite r wish s place reply t → IsSession r s → IsSession r t
-session_after_write r wish s t place reply w is =
+pub session_after_write : (limit : ℕ) (r : Replica) (wish : Wish) (s t : Session) (place : ℕ) (reply : Reply) (meter counted : ℕ) → IsAcceptedWrite limit r wish s place reply t meter counted → IsSession r s → IsSession r t
+session_after_write limit r wish s t place reply meter counted w is =
     let e = entry s.number (wish_command wish (replay r w.front)) in
     let stood : AreInJournal s.view.own w.front = in_longer_journal s.view.own s.seen w.front w.before is.in_journal in
     let stands : AreInJournal s.view.own t.seen = in_longer_journal s.view.own w.front t.seen (e ∷ [], sym w.seen) stood in
@@ -72,8 +92,8 @@ session_after_write r wish s t place reply w is =
       in_journal = subst (λ (o : List Write). AreInJournal o t.seen) (sym w.own) all;
     }
 
-pub one_more_write : (r : Replica) (wish : Wish) (s t : Session) (place : ℕ) (reply : Reply) → IsWrite r wish s place reply t → length t.view.own ≡ length s.view.own + 1
-one_more_write r wish s t place reply w =
+pub one_more_write : (limit : ℕ) (r : Replica) (wish : Wish) (s t : Session) (place : ℕ) (reply : Reply) (meter counted : ℕ) → IsAcceptedWrite limit r wish s place reply t meter counted → length t.view.own ≡ length s.view.own + 1
+one_more_write limit r wish s t place reply meter counted w =
     ap (λ (o : List Write). length o) w.own ∙ (let n = length-append s.view.own ((place, entry s.number (wish_command wish (replay r w.front))) ∷ []) in omega arith)
 
 -- ---- a look, and what was told

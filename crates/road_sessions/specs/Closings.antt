@@ -23,7 +23,7 @@ write_count [] = 0
 write_count (s ∷ ss) = length s.view.own + write_count ss
 
 -- a journal has the writes of a session: its entries of the session's number are those, each once, at their places and
--- in order, and what the session has seen begins it
+-- in order, and what the session has seen is a prefix of it
 abbrev pub HasWritesOf : List Entry → Session → Type 0
 HasWritesOf journal s = (writes_of s.number journal ≡ s.view.own) × IsPrefix s.seen journal
 

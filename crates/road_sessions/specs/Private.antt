@@ -1,4 +1,4 @@
--- What the book and the store keep, how a write is made, and what is known of the sessions at a closing, of which no
+-- What the logbook and the store keep, how a write is made, and what is known of the sessions at a closing, of which no
 -- public contract speaks.
 pub mod MadeWrites
 pub mod Books

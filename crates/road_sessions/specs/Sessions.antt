@@ -1,7 +1,6 @@
 -- Sessions, as contracts see them.
 use Rattle.std.specs.Prelude.{◌≡◌, ◌⊎◌, ◌+◌, ℕ, List, [], ◌∷◌, ◌++◌, length}
 use mathlib.Core.List.{IsPrefix}
-use Rattle.road_rewind.specs.Growth.{TicksAtMost}
 use Rattle.road_replica.specs.Replicas.{Replica}
 use Rattle.road_replica.specs.declared.faults.ReplicaFault.TheVariants as causes
 use Rattle.road_replica.specs.declared.reply.Reply.{Reply}
@@ -11,7 +10,7 @@ use Rattle.road_sessions.specs.declared.faults.WriteFault.TheVariants.{Replica a
 use Rattle.road_sessions.specs.declared.reader_view.View.{View}
 use Rattle.road_sessions.specs.declared.wish.Wish.{Wish}
 use Rattle.road_sessions.specs.Journals.{IsLegal, Write, AreInJournal, AreWritesOf, AreAtRisingPlaces, entry, replay}
-use Rattle.road_sessions.specs.Writes.{IsWriteRefusal, most_steps_of_wish, reply_to, wish_command, write_fault}
+use Rattle.road_sessions.specs.Writes.{IsAccepted, IsRefused, reply_to, wish_command}
 
 -- what the store knows of a reader: the history that was published when it last entered, the writes of its session, and
 -- how often it has entered to look
@@ -46,8 +45,10 @@ AreNewSessions n [] = Unit {0}
 AreNewSessions n (s ∷ ss) = (s ≡ session_of n [] new_view) × AreNewSessions (n + 1) ss
 
 -- an accepted write: the session has seen a legal history that goes on from all that it had seen and heard of and ends
--- with the write, at its place; that history was published, and the write is one more of its own
-pub record IsWrite (r : Replica) (wish : Wish) (s : Session) (place : ℕ) (reply : Reply) (t : Session) : Type 0 where
+-- with the write, at its place; that history was published, and the write is one more of its own. No named cause stood
+-- where the write stands, and the meter counts just the steps of the wish
+pub record IsAcceptedWrite (limit : ℕ) (r : Replica) (wish : Wish) (s : Session) (place : ℕ) (reply : Reply) (t : Session)
+    (meter after : ℕ) : Type 0 where
   pub front : List Entry
   pub before : IsPrefix s.seen front
   pub seen : t.seen ≡ front ++ entry s.number (wish_command wish (replay r front)) ∷ []
@@ -59,21 +60,20 @@ pub record IsWrite (r : Replica) (wish : Wish) (s : Session) (place : ℕ) (repl
   pub own : t.view.own ≡ s.view.own ++ (place, entry s.number (wish_command wish (replay r front))) ∷ []
   pub number : t.number ≡ s.number
   pub entered : t.view.entered ≡ s.view.entered
+  pub accepted : IsAccepted limit wish r front meter after
 
--- a refused write costs few steps: as many at most as at a legal history that goes on from what the session has seen
-pub record CostsFewSteps (r : Replica) (wish : Wish) (seen : List Entry) (meter later : ℕ) : Type 0 where
+-- a write is refused behind a legal history that goes on from what the session has seen
+pub record IsRefusedThere (limit : ℕ) (r : Replica) (wish : Wish) (seen : List Entry) (fault : WriteFault)
+    (meter after : ℕ) : Type 0 where
   pub front : List Entry
   pub before : IsPrefix seen front
   pub legal : IsLegal r front
-  pub few : TicksAtMost (most_steps_of_wish wish (replay r front)) meter later
+  pub refused : IsRefused limit wish r front fault meter after
 
--- the cause of a refused write stands at a legal history that goes on from what the session has seen
-pub record HasCause (limit : ℕ) (r : Replica) (wish : Wish) (seen : List Entry) (fault : WriteFault) : Type 0 where
-  pub front : List Entry
-  pub before : IsPrefix seen front
-  pub legal : IsLegal r front
-  pub cause : IsWriteRefusal (write_fault limit wish r front) fault
-
--- a session's write is refused for such a cause, or else for out of memory
-abbrev pub IsRefusedWrite : ℕ → Replica → Wish → List Entry → WriteFault → Type 0
-IsRefusedWrite limit r wish seen fault = HasCause limit r wish seen fault ⊎ (fault ≡ OfReplica causes.OutOfMemory)
+-- a refused write: it leaves the session as it was. It is refused for what stands behind such a history, or at once, for
+-- out of memory
+pub record IsRefusedWrite (limit : ℕ) (r : Replica) (wish : Wish) (s : Session) (fault : WriteFault) (t : Session)
+    (meter after : ℕ) : Type 0 where
+  pub unchanged : t ≡ s
+  pub refused : IsRefusedThere limit r wish s.seen fault meter after
+      ⊎ ((fault ≡ OfReplica causes.OutOfMemory) × (after ≡ meter))

@@ -1,12 +1,13 @@
 -- What a session wishes of the replica, the reply, how many steps it may cost, and for which cause it is refused.
-use Rattle.std.specs.Prelude.{◌≡◌, ◌⊎◌, ℕ, ◌-◌, max, nat_le, List, length, take, ⊤, if◌then◌else◌}
+use Rattle.std.specs.Prelude.{◌≡◌, ◌≢◌, ◌⊎◌, ℕ, max, nat_le, List, length, MatchResult, Result, if◌then◌else◌}
 use Rattle.std.specs.Option.{option_map}
 use Rattle.std.specs.declared.option.Option.{Option}
 use Rattle.std.specs.declared.option.Option.TheVariants.{None, Some}
 use Rattle.road_scenario.specs.declared.edit.Value.TheVariants.{Put, Withdrawn}
-use Rattle.road_rewind.specs.Growth.{meter_after, touched_step}
-use Rattle.road_replica.specs.Replicas.{Replica, edit_made, most_steps_taking, single_edit}
+use Rattle.road_rewind.specs.Growth.{TicksAtMost, meter_after, touched_step}
+use Rattle.road_replica.specs.Replicas.{Replica, edit_made, single_edit}
 use Rattle.road_replica.specs.Refusals as refusals
+use Rattle.road_replica.specs.Writes.{most_steps_of_command, steps_of_command}
 use Rattle.road_replica.specs.declared.faults.ReplicaFault.{ReplicaFault}
 use Rattle.road_replica.specs.declared.faults.ReplicaFault.TheVariants as causes
 use Rattle.road_replica.specs.declared.reply.Reply.{Reply}
@@ -18,7 +19,7 @@ use Rattle.road_sessions.specs.declared.wish.Wish.{Wish}
 use Rattle.road_sessions.specs.declared.wish.Wish.TheVariants.{Take, Advance, Edit, Withdraw}
 use Rattle.road_sessions.specs.declared.faults.WriteFault.{WriteFault}
 use Rattle.road_sessions.specs.declared.faults.WriteFault.TheVariants.{JournalFull, Replica as OfReplica}
-use Rattle.road_sessions.specs.Journals.{replay}
+use Rattle.road_sessions.specs.Journals.{entry_command, replay}
 
 -- the command that a wish comes to at a replica: an edit that the replica makes is journalled as the taking of it
 abbrev pub wish_command : Wish → Replica → SheetCommand
@@ -34,26 +35,14 @@ reply_to (Advance to) r = Horizon (max r.sheet.horizon to)
 reply_to (Edit object step value) r = Stamped (edit_made r object step (Put value)).stamp
 reply_to (Withdraw object step) r = Stamped (edit_made r object step Withdrawn).stamp
 
--- the most steps that are computed for a wish: those that its edits touch and 63 more, or those that an advance adds
+-- how many steps are computed for a wish where it is accepted
+abbrev pub steps_of_wish : Wish → Replica → ℕ
+steps_of_wish wish r = steps_of_command (entry_command (wish_command wish r)) r.sheet
+
+-- the most steps that are computed for a wish, also where it is refused: those that its edits touch and 63 more, or
+-- those that an advance adds
 abbrev pub most_steps_of_wish : Wish → Replica → ℕ
-most_steps_of_wish (Take edits) r = most_steps_taking r.sheet edits.now
-most_steps_of_wish (Advance to) r = max r.sheet.horizon to - r.sheet.horizon
-most_steps_of_wish (Edit object step value) r =
-    most_steps_taking r.sheet (single_edit (edit_made r object step (Put value)))
-most_steps_of_wish (Withdraw object step) r =
-    most_steps_taking r.sheet (single_edit (edit_made r object step Withdrawn))
-
--- an accepted advance counts just the steps that it adds
-abbrev pub CountsNewSteps : Wish → Replica → ℕ → ℕ → Type 0
-CountsNewSteps (Take edits) r meter later = ⊤
-CountsNewSteps (Advance to) r meter later = later ≡ meter_after meter (most_steps_of_wish (Advance to) r)
-CountsNewSteps (Edit object step value) r meter later = ⊤
-CountsNewSteps (Withdraw object step) r meter later = ⊤
-
--- the most steps that are computed for the write at a place of a journal: those at the replica that the entries before
--- it leave
-abbrev pub most_steps_of_write : Wish → Replica → ℕ → List Entry → ℕ
-most_steps_of_write wish r place journal = most_steps_of_wish wish (replay r (take place journal))
+most_steps_of_wish wish r = most_steps_of_command (entry_command (wish_command wish r)) r.sheet
 
 -- the named cause for which the replica refuses a wish
 abbrev pub wish_fault : Wish → Replica → Option ReplicaFault
@@ -73,7 +62,23 @@ abbrev pub IsWriteRefusal : Option WriteFault → WriteFault → Type 0
 IsWriteRefusal (Some cause) fault = fault ≡ cause
 IsWriteRefusal None fault = (fault ≡ OfReplica causes.WorkersGone) ⊎ (fault ≡ OfReplica causes.OutOfMemory)
 
+-- an accepted write behind a journal: no named cause stands, and the meter counts just the steps of the wish
+pub record IsAccepted (limit : ℕ) (wish : Wish) (r : Replica) (journal : List Entry) (meter later : ℕ) : Type 0 where
+  pub accepted : write_fault limit wish r journal ≡ None
+  pub steps : later ≡ meter_after meter (steps_of_wish wish (replay r journal))
+
+-- a refused one: it leaves the meter as it was where a named cause stands, and else costs few steps
+pub record IsRefused (limit : ℕ) (wish : Wish) (r : Replica) (journal : List Entry) (fault : WriteFault)
+    (meter later : ℕ) : Type 0 where
+  pub refused : IsWriteRefusal (write_fault limit wish r journal) fault
+  pub named : write_fault limit wish r journal ≢ None → later ≡ meter
+  pub few_steps : TicksAtMost (most_steps_of_wish wish (replay r journal)) meter later
+
 -- how often a crew has answered `WorkersGone`, after such a refusal
 abbrev pub gone_after_fault : WriteFault → ℕ → ℕ
 gone_after_fault JournalFull n = n
 gone_after_fault (OfReplica fault) n = refusals.gone_after_fault fault n
+
+-- a crew has answered `WorkersGone` once more where a write is refused so, and else as often as before
+abbrev pub CountsGone : {A : Type 0} → Result A WriteFault → ℕ → ℕ → Type 0
+CountsGone result gone later = MatchResult result (λ _. later ≡ gone) (λ fault. later ≡ gone_after_fault fault gone)

@@ -44,7 +44,7 @@ where
 
 /// Closes a store whose sessions are all given, in any order. The journal is just what they wrote: it has as many
 /// entries as they made writes, those of each session's number are that session's, each once, at their places and in
-/// order, and what each session has seen begins it. The sheet is that of the journal replayed.
+/// order, and what each session has seen is a prefix of it. The sheet is that of the journal replayed.
 ///
 /// # Errors
 ///
@@ -66,7 +66,7 @@ pub fn close<J: Naming, R: Wait + Drop>(
     if sessions.len() != held.sessions as usize || !are_apart(sessions.as_slice()) {
         return Err(refusal(CloseCause::Missing, held, sessions));
     }
-    // What a session has seen was published, and begins the journal. No contract says so, and the refusal stands here.
+    // What a session has seen was published, and is a prefix of the journal. No contract says so, and the refusal stands here.
     if !are_sessions_of(sessions.as_slice(), &held.history) {
         return Err(refusal(CloseCause::OutOfMemory, held, sessions));
     }
@@ -77,7 +77,7 @@ pub fn close<J: Naming, R: Wait + Drop>(
     Ok(Closed { sheet, journal })
 }
 
-// All is handed back.
+// Hands all back.
 fn refusal<J: Naming, R: Wait + Drop>(
     cause: CloseCause,
     held: Held<J, R>,
@@ -95,7 +95,7 @@ fn refusal<J: Naming, R: Wait + Drop>(
     }
 }
 
-// Whether none of these sessions has a number.
+// Says whether none of these sessions has a number.
 fn none_has<J: Naming>(sessions: &[Session<J>], number: u32) -> bool
     ensures { MatchBool result (AllByRecursion (λ t. number ≢ t.number) sessions.now)
         (¬ AllByRecursion (λ t. number ≢ t.number) sessions.now) }
@@ -106,7 +106,7 @@ fn none_has<J: Naming>(sessions: &[Session<J>], number: u32) -> bool
     }
 }
 
-// Whether no two of them have one number.
+// Says whether no two of them have one number.
 fn are_apart<J: Naming>(sessions: &[Session<J>]) -> bool
     ensures { MatchBool result (AreApart sessions.now) (¬ AreApart sessions.now) }
 {
@@ -116,7 +116,7 @@ fn are_apart<J: Naming>(sessions: &[Session<J>]) -> bool
     }
 }
 
-// Whether what each of them has seen begins a history, where their writes stand then.
+// Says whether what each of them has seen is a prefix of a history, where their writes stand then.
 fn are_sessions_of<J: Naming>(sessions: &[Session<J>], history: &Prefix<J>) -> bool
     ensures { IsTrue result → AllByRecursion (IsSessionOf history.now) sessions.now }
 {
@@ -126,7 +126,7 @@ fn are_sessions_of<J: Naming>(sessions: &[Session<J>], history: &Prefix<J>) -> b
     }
 }
 
-// Their shares of the ledger, beside this one.
+// Merges their shares of the ledger into this one.
 #[tactic(auto, using(crate::proofs::ClosedSessions::write_count_one_more))]
 fn shares<J: Naming>(mut sessions: Vec<Session<J>>, mut all: Share<J>) -> Share<J>
     ensures { (result.parts ≡ all.parts + length sessions.items)

@@ -1,6 +1,6 @@
 //! What lies under the lock.
 ghost use Rattle.std.specs.Prelude.{◌≡◌, ◌+◌, ◌<◌, ◌≤◌, ◌++◌, ◌∷◌, [], IfErr, IfOk, MatchResult, None, OnErr, OnOk};
-ghost use Rattle.std.specs.Prelude.{length, take};
+ghost use Rattle.std.specs.Prelude.{length};
 ghost use Rattle.std.specs.Arc.{arc_value};
 ghost use Rattle.left_right.specs.Sides.{view};
 ghost use Rattle.road_rewind.specs.Growth.{TicksAtMost};
@@ -10,10 +10,11 @@ ghost use Rattle.road_replica.specs.Replicas.{replica_after};
 ghost use Rattle.road_replica.specs.declared.faults.ReplicaFault.TheVariants as replica_faults;
 ghost use Rattle.road_sessions.specs.declared.entry.TheConstants.{MOST_WRITES};
 ghost use Rattle.road_sessions.specs.Journals.{entry_command, entry, replay};
-ghost use Rattle.road_sessions.specs.Sessions.{AreNewSessions, CostsFewSteps, IsRefusedWrite, IsWrite, session_of};
-ghost use Rattle.road_sessions.specs.Writes.{CountsNewSteps, IsWriteRefusal, gone_after_fault, most_steps_of_wish};
-ghost use Rattle.road_sessions.specs.Private.MadeWrites.{IsMade};
-ghost use Rattle.road_sessions.specs.Writes.{most_steps_of_write, reply_to, wish_command, wish_fault, write_fault};
+ghost use Rattle.road_sessions.specs.Private.MadeWrites.{IsDone};
+ghost use Rattle.road_sessions.specs.Sessions.{AreNewSessions, IsAcceptedWrite, IsRefusedWrite, new_view, session_of};
+ghost use Rattle.road_sessions.specs.Writes.{CountsGone, IsAccepted, IsRefused, most_steps_of_wish, reply_to};
+ghost use Rattle.road_sessions.specs.Writes.{wish_command, wish_fault};
+ghost use Rattle.road_sessions.specs.declared.faults.OpenFault.TheVariants as openings;
 
 use crate::entry::Entry;
 use crate::faults::{OpenFault, WriteFault};
@@ -57,7 +58,7 @@ where
     pub limit: u64,
     /// How many sessions were opened.
     pub sessions: u32,
-    /// The ledger's book of accepted writes, which counts them.
+    /// The ledger's book, which counts the accepted writes.
     pub accepted: Book<J>,
     /// A share of no session.
     pub spare: Share<J>,
@@ -90,8 +91,8 @@ impl<J: Naming, R: Wait + Drop> Drop for Held<J, R> {
     }
 }
 
-// What is published of the replica that an entry more leaves. The entry stands at the end of the journal then; where
-// that is refused, the journal is as it was.
+// Appends an entry to the journal. The answer is what is published of the replica that it leaves; where that is refused,
+// the journal is as it was.
 fn append_entry<J: Naming>(
     replica: &Replica,
     history: &Prefix<J>,
@@ -124,7 +125,7 @@ fn append_entry<J: Naming>(
 }
 
 impl<J: Naming, R: Wait + Drop> Held<J, R> {
-    // With an empty journal; the opening sheet is published.
+    // Makes it with an empty journal; the opening sheet is published.
     pub(crate) fn new(
         rt: R,
         alloc: Global,
@@ -163,7 +164,8 @@ impl<J: Naming, R: Wait + Drop> Held<J, R> {
         }
     }
 
-    // The writer's queue gets its memory, so that no write has to wait for it. What it is given is published already.
+    // Reserves the memory of the writer's queue, so that no write has to wait for it. What it is given is published
+    // already.
     pub(crate) fn reserve_queue(&mut self, published: Published<J>) -> Result<(), OutOfMemory>
         ensures journal { self.new.journal ≡ self.old.journal }
         ensures limit { self.new.limit ≡ self.old.limit }
@@ -174,14 +176,15 @@ impl<J: Naming, R: Wait + Drop> Held<J, R> {
         }
     }
 
-    /// The write of a session, whose share of the ledger has a part. Where it is accepted, its command stands at the end
-    /// of the journal, readers see its sheet, and the share is one more. The answer is its place in the journal, and the
-    /// reply. The meter counts at most the steps that its edits touch and 63 more, or those that an advance adds.
+    /// Does the write of a session, whose share of the ledger has a part. Where it is accepted, its command stands at the
+    /// end of the journal, readers see its sheet, and the share is one more. The answer is its place in the journal, and
+    /// the reply. The meter counts just the steps that are computed.
     ///
     /// # Errors
     ///
     /// `JournalFull` where the journal has no room, else the replica's: its named causes in their order, then
-    /// `WorkersGone` where the crew answers so, or `OutOfMemory` where an allocation failed. All is as it was then.
+    /// `WorkersGone` where the crew answers so, or `OutOfMemory` where an allocation failed. All is as it was then, and
+    /// where the cause is named the meter too.
     pub fn write<C: Crew>(
         &mut self,
         session: u32,
@@ -195,22 +198,16 @@ impl<J: Naming, R: Wait + Drop> Held<J, R> {
             ++ entry session (wish_command wish.now (replay J.replica self.old.journal.items)) ∷ []) }
         ensures reply { IfOk result (λ wrote. (wrote.0 ≡ length self.old.journal.items)
             × (wrote.1 ≡ reply_to wish.now (replay J.replica self.old.journal.items))) }
-        ensures accepted { IfOk result
-            (λ _. write_fault self.old.limit wish.now J.replica self.old.journal.items ≡ None) }
-        ensures refused { IfErr result
-            (IsWriteRefusal (write_fault self.old.limit wish.now J.replica self.old.journal.items)) }
-        ensures few_steps { TicksAtMost (most_steps_of_wish wish.now (replay J.replica self.old.journal.items))
-            meter.old meter.new }
-        ensures new_steps { IfOk result
-            (λ _. CountsNewSteps wish.now (replay J.replica self.old.journal.items) meter.old meter.new) }
+        ensures write { MatchResult result
+            (λ _. IsAccepted self.old.limit wish.now J.replica self.old.journal.items meter.old meter.new)
+            (λ fault. IsRefused self.old.limit wish.now J.replica self.old.journal.items fault meter.old meter.new) }
         ensures unchanged { OnErr result ((self.new.journal.items ≡ self.old.journal.items)
             × (self.new.replica ≡ self.old.replica)
             × (self.new.writer.desk.shown.value ≡ self.old.writer.desk.shown.value)) }
         ensures limit { self.new.limit ≡ self.old.limit }
         ensures share { (mine.new.parts ≡ mine.old.parts) × MatchResult result
             (λ _. mine.new.amount ≡ mine.old.amount + 1) (λ _. mine.new.amount ≡ mine.old.amount) }
-        ensures gone { MatchResult result (λ _. C.times_gone crew.new ≡ C.times_gone crew.old)
-            (λ fault. C.times_gone crew.new ≡ gone_after_fault fault (C.times_gone crew.old)) }
+        ensures gone { CountsGone result (C.times_gone crew.old) (C.times_gone crew.new) }
     {
         if self.journal.len() as u64 >= self.limit {
             return Err(WriteFault::JournalFull);
@@ -224,7 +221,7 @@ impl<J: Naming, R: Wait + Drop> Held<J, R> {
         Ok((place, reply))
     }
 
-    // The write on a copy of the replica, and its entry of the journal.
+    // Performs a wish on a copy of the replica. The answer is the copy, the entry of the journal, and the reply.
     fn next<C: Crew>(
         &self,
         session: u32,
@@ -233,13 +230,13 @@ impl<J: Naming, R: Wait + Drop> Held<J, R> {
         meter: &mut Meter,
     ) -> Result<(Replica, Entry, Reply), ReplicaFault>
         requires { wish_fault wish.now self.now.replica ≡ None }
-        ensures made { IfOk result (λ next. IsMade wish.now self.now.replica next.1.command next.2 next.0) }
-        ensures session { IfOk result (λ next. next.1.session ≡ session) }
+        ensures entry { IfOk result (λ next. next.1 ≡ entry session (wish_command wish.now self.now.replica)) }
+        ensures reply { IfOk result (λ next. next.2 ≡ reply_to wish.now self.now.replica) }
+        ensures done { IfOk result
+            (λ next. IsDone next.1.command self.now.replica next.0 meter.old meter.new) }
         ensures refused { IfErr result (refusals.IsWriteRefusal None) }
         ensures few_steps { TicksAtMost (most_steps_of_wish wish.now self.now.replica) meter.old meter.new }
-        ensures new_steps { IfOk result (λ _. CountsNewSteps wish.now self.now.replica meter.old meter.new) }
-        ensures gone { MatchResult result (λ _. C.times_gone crew.new ≡ C.times_gone crew.old)
-            (λ fault. C.times_gone crew.new ≡ refusals.gone_after_fault fault (C.times_gone crew.old)) }
+        ensures gone { refusals.CountsGone result (C.times_gone crew.old) (C.times_gone crew.new) }
     {
         let mut replica = self.replica.copied()?;
         let (command, reply) = perform(self.alloc, &mut replica, wish, crew, meter)?;
@@ -282,7 +279,7 @@ impl<J: Naming, R: Wait + Drop> Held<J, R> {
         Ok(())
     }
 
-    // The write of a session, of which `seen` is what it has seen and `reader` its reader of the store. Where it is
+    // Does the write of a session, of which `seen` is what it has seen and `reader` its reader of the store. Where it is
     // accepted, the session has seen the history that it ends, and has found it in the store.
     pub(crate) fn serve<C: Crew>(
         &mut self,
@@ -295,37 +292,37 @@ impl<J: Naming, R: Wait + Drop> Held<J, R> {
         mine: &mut Share<J>,
     ) -> Result<(u64, Reply), WriteFault>
         requires { 0 < mine.old.parts }
-        ensures wrote { MatchResult result
-            (λ wrote. IsWrite J.replica wish.now (session_of session seen.old (view reader.old.place)) wrote.0 wrote.1
-            (session_of session seen.new (view reader.new.place)))
-            (λ _. (seen.new ≡ seen.old) × (view reader.new.place ≡ view reader.old.place)) }
-        ensures accepted { IfOk result
-            (λ wrote. write_fault J.limit wish.now J.replica (take wrote.0 seen.new) ≡ None) }
-        ensures refused { IfErr result (IsRefusedWrite J.limit J.replica wish.now seen.old) }
-        ensures few_steps { MatchResult result
-            (λ wrote. TicksAtMost (most_steps_of_write wish.now J.replica wrote.0 seen.new) meter.old meter.new)
-            (λ _. CostsFewSteps J.replica wish.now seen.old meter.old meter.new) }
-        ensures new_steps { IfOk result (λ wrote. CountsNewSteps wish.now (replay J.replica (take wrote.0 seen.new))
-            meter.old meter.new) }
+        ensures write { MatchResult result
+            (λ wrote. IsAcceptedWrite J.limit J.replica wish.now (session_of session seen.old (view reader.old.place))
+            wrote.0 wrote.1 (session_of session seen.new (view reader.new.place)) meter.old meter.new)
+            (λ fault. IsRefusedWrite J.limit J.replica wish.now (session_of session seen.old (view reader.old.place))
+            fault (session_of session seen.new (view reader.new.place)) meter.old meter.new) }
         ensures share { (mine.new.parts ≡ mine.old.parts) × MatchResult result
             (λ _. mine.new.amount ≡ mine.old.amount + 1) (λ _. mine.new.amount ≡ mine.old.amount) }
-        ensures gone { MatchResult result (λ _. C.times_gone crew.new ≡ C.times_gone crew.old)
-            (λ fault. C.times_gone crew.new ≡ gone_after_fault fault (C.times_gone crew.old)) }
+        ensures gone { CountsGone result (C.times_gone crew.old) (C.times_gone crew.new) }
     {
-        seen.known();
-        self.history.known();
         // Whatever a session has seen was published. No contract says so, and the refusal stands here.
         if !seen.is_prefix_of(&self.history) {
             return Err(WriteFault::Replica(ReplicaFault::OutOfMemory));
         }
         let (place, reply) = self.write(session, wish, crew, meter, mine)?;
-        self.history.known();
         *seen = self.history.again();
         enter_after_write_here(&self.rt, reader, seen);
         Ok((place, reply))
     }
 
-    // The sessions of a store that was just opened, numbered from 0.
+    // Admits one more reader to the store, which has entered it never yet.
+    fn reader(&self) -> Result<StoreReader<J>, OpenFault>
+        ensures new { IfOk result (λ reader. view reader.place ≡ new_view) }
+        ensures refused { IfErr result (λ fault. fault ≡ openings.NoPlace) }
+    {
+        match self.writer.factory().reader() {
+            Ok(reader) => Ok(reader),
+            Err(_refused) => Err(OpenFault::NoPlace),
+        }
+    }
+
+    // Makes the sessions of a store that was just opened, numbered from 0.
     pub(crate) fn new_sessions(&self, mut whole: Share<J>) -> Result<Vec<Session<J>>, OpenFault>
         requires empty { self.now.journal.items ≡ [] }
         requires whole { (whole.parts ≡ self.now.sessions) × (whole.amount ≡ 0) }
@@ -334,9 +331,7 @@ impl<J: Naming, R: Wait + Drop> Held<J, R> {
     {
         let mut sessions = Vec::new(self.alloc);
         for number in 0..self.sessions {
-            let Ok(reader) = self.writer.factory().reader() else {
-                return Err(OpenFault::NoPlace);
-            };
+            let reader = self.reader()?;
             let seen = self.history.again();
             let share = whole.split_off(1, 0);
             let Ok(()) = sessions.push(Session::new(number, seen, reader, share)) else {
@@ -346,7 +341,7 @@ impl<J: Naming, R: Wait + Drop> Held<J, R> {
         Ok(sessions)
     }
 
-    // The sessions of a store that was just opened, once the writer's queue has its memory.
+    // Makes the sessions of a store that was just opened, once the writer's queue has its memory.
     pub(crate) fn opening_sessions(
         &mut self,
         published: Published<J>,
@@ -363,7 +358,7 @@ impl<J: Naming, R: Wait + Drop> Held<J, R> {
         self.new_sessions(whole)
     }
 
-    // The sheet and the journal, without the store.
+    // Returns the sheet and the journal, and ends the store.
     pub(crate) fn into_sheet_and_journal(self) -> (Arc<Sheet>, Vec<Entry>)
         ensures journal { result.1 ≡ self.journal }
         ensures sheet { arc_value result.0 ≡ (replay J.replica result.1.items).sheet }

@@ -1,5 +1,5 @@
 //! The one history of a store. It stands in the proofs alone: the program keeps how long it is, and values that have
-//! seen a beginning of it.
+//! seen a prefix of it.
 ghost use Rattle.std.specs.Prelude.{◌≡◌, ◌<◌, ◌≤◌, ◌^◌, ◌++◌, ◌∷◌, [], length, IsTrue, MatchBool};
 ghost use mathlib.Core.List.{IsPrefix};
 ghost use Rattle.road_sheet.specs.Commands.{IsAllowed};
@@ -11,7 +11,7 @@ use crate::naming::Naming;
 use logbook::{Gain, Offer, Plain, Play, Rule, Seen, Start, Word};
 use std::marker::{Model, PhantomData};
 
-/// The rule of a book: its word is the length of its history.
+/// The rule of a history's logbook: its word is the length of the history.
 pub struct LengthRule;
 
 impl Rule<Entry, u64> for LengthRule {
@@ -32,7 +32,7 @@ impl Rule<Entry, u64> for LengthRule {
     ghost moves = { λ ask before after answer. Unit {0} };
 }
 
-/// Who writes into a book gets nothing for it.
+/// Who writes into the logbook gets nothing for it.
 pub struct NoGain;
 
 impl Gain<Entry, u64> for NoGain {
@@ -58,7 +58,7 @@ impl Plain<Entry, Entry, u64> for Append {
     ghost state = { λ entry. None };
 }
 
-/// An empty book, of no store yet.
+/// An empty history, of no store yet.
 #[derive(Drop)]
 pub struct EmptyHistory {
     word: Word<Entry, u64, LengthRule>,
@@ -68,14 +68,14 @@ pub struct EmptyHistory {
 }
 
 impl EmptyHistory {
-    // A book of its own.
+    // Opens a logbook for it.
     pub(crate) fn new() -> EmptyHistory {
         let (seen, mut pen, _unused) = Seen::open(Start::alone(), 0, 0);
         let word = Word::tracked(0, &mut pen);
         EmptyHistory { word, seen }
     }
 
-    // The book of a store: its length, and a value that has seen none of its history.
+    // Makes it the history of a store: its length, and the prefix without entries.
     pub(crate) fn of_store<J: Naming>(self) -> (Length<J>, Prefix<J>)
         requires { self.seen.book ≡ J.book }
         ensures { result.1 ≡ [] }
@@ -85,12 +85,12 @@ impl EmptyHistory {
             word,
             of: PhantomData,
         };
-        let beginning = Prefix {
+        let prefix = Prefix {
             count: 0,
             seen,
             of: PhantomData,
         };
-        (length_word, beginning)
+        (length_word, prefix)
     }
 }
 
@@ -102,8 +102,8 @@ pub struct Length<J: Naming> {
     ghost word_is: { word ≡ length_word J.book },
 }
 
-/// A beginning of a store's history that was seen, legal as all of it. Contracts see it as its entries; it keeps how
-/// many they are.
+/// A prefix of a store's history that was seen, legal as all of it. Contracts see it as its entries; it keeps how many
+/// they are.
 #[derive(Drop)]
 pub struct Prefix<J: Naming> {
     count: u64,
@@ -128,23 +128,10 @@ impl<J: Naming> Model for Prefix<J> {
 }
 
 impl<J: Naming> Prefix<J> {
-    // How many entries it has.
-    pub(crate) fn count(&self) -> u64
-        ensures { result ≡ length self.now }
-    {
-        self.count
-    }
-
-    // That it is legal. It is a fact for proofs: the call does nothing.
-    pub(crate) fn known(&self)
-        ensures { IsLegal J.replica self.now }
-    {
-        let _ = &self.seen;
-    }
-
-    // Another value that has seen as much.
+    // Returns another value that has seen as much.
     pub(crate) fn again(&self) -> Prefix<J>
-        ensures { result ≡ self.now }
+        ensures same { result ≡ self.now }
+        ensures legal { IsLegal J.replica self.now }
     {
         Prefix {
             count: self.count,
@@ -153,28 +140,26 @@ impl<J: Naming> Prefix<J> {
         }
     }
 
-    // Whether it is no longer than the other. The shorter one begins the longer.
+    // Says whether it is no longer than the other. The shorter one is a prefix of the longer.
     pub(crate) fn is_prefix_of(&self, other: &Prefix<J>) -> bool
-        ensures begins { MatchBool result (IsPrefix self.now other.now) (IsPrefix other.now self.now) }
+        ensures prefix { MatchBool result (IsPrefix self.now other.now) (IsPrefix other.now self.now) }
         ensures length { MatchBool result (length self.now ≤ length other.now) (length other.now < length self.now) }
+        ensures legal { IsLegal J.replica self.now }
+        ensures other_legal { IsLegal J.replica other.now }
     {
         let mut both = self.seen.again();
         both.learn(&other.seen);
-        if self.count <= other.count {
-            true
-        } else {
-            false
-        }
+        self.count <= other.count
     }
 
-    // Whether the two have seen as much, and so the same.
+    // Says whether the two have seen as much, and so the same.
     pub(crate) fn is_same(&self, other: &Prefix<J>) -> bool
         ensures { IsTrue result → self.now ≡ other.now }
     {
         self.is_prefix_of(other) && other.is_prefix_of(self)
     }
 
-    // Writes an entry behind all that it has seen, and says so; it does not where the history is longer.
+    // Writes an entry behind all that it has seen, and says whether it did: it does not where the history is longer.
     pub(crate) fn append(&mut self, length_word: &Length<J>, entry: &Entry) -> bool
         requires room { length self.old < 2 ^ 62 }
         requires allowed { IsAllowed J.replica.sheet.plan (entry_command entry.now.command) }

@@ -3,14 +3,14 @@ use std::marker::Brand;
 use std::sync::ledger::Ledger;
 
 /// Names a store in the types of its sessions and receipts, so that those of another store don't fit it. A program
-/// passes [`Brand`], and each call of it that does so names a store of its own, with the book, the replica and the
+/// passes [`Brand`], and each call of it that does so names a store of its own, with the logbook, the replica and the
 /// limit of what it prepared.
 pub trait Naming: Ledger {
     ghost use Rattle.std.specs.Prelude.{ℕ};
     ghost use Rattle.logbook.specs.Pages.{Book};
     ghost use Rattle.road_replica.specs.Replicas.{Replica};
 
-    /// The book of the store's one history.
+    /// The logbook of the store's one history.
     ghost book: { Book };
 
     /// The replica that was opened.

@@ -1,13 +1,16 @@
-//! What a wish comes to at a replica.
-ghost use Rattle.std.specs.Prelude.{◌≡◌, IfErr, IfOk, MatchResult, None};
+//! Wishes, performed at a replica.
+ghost use Rattle.std.specs.Prelude.{◌≡◌, max, IfErr, IfOk, None};
 ghost use Rattle.road_plan.specs.Plan.{Plan};
 ghost use Rattle.road_scenario.specs.Faults.{AreInRange, fault_of_edit};
+ghost use Rattle.road_sheet.specs.Commands as sheet_commands;
+ghost use Rattle.road_rewind.specs.Growth.{TicksAtMost, touched_step};
 ghost use Rattle.road_replica.specs.Refusals as refusals;
-ghost use Rattle.road_replica.specs.Replicas.{single_edit};
-ghost use Rattle.road_rewind.specs.Growth.{TicksAtMost};
-ghost use Rattle.road_sessions.specs.Writes.{CountsNewSteps, most_steps_of_wish, wish_fault};
-ghost use Rattle.road_sessions.specs.Private.MadeWrites.{IsMade};
-ghost use Rattle.road_sessions.specs.declared.wish.Wish.TheVariants as wishes;
+ghost use Rattle.road_replica.specs.Replicas.{edit_made, single_edit};
+ghost use Rattle.road_replica.specs.Writes.{most_steps_of_command};
+ghost use Rattle.road_replica.specs.declared.reply.Reply.TheVariants as replies;
+ghost use Rattle.road_sessions.specs.Private.MadeWrites.{IsDone};
+ghost use Rattle.road_sessions.specs.Writes.{most_steps_of_wish, reply_to, wish_command, wish_fault};
+ghost use Rattle.road_sessions.specs.declared.entry.SheetCommand.TheVariants as commands;
 
 use crate::entry::SheetCommand;
 use crate::wish::Wish;
@@ -19,7 +22,8 @@ use road_scenario::{Edit, Scenario, Value};
 use road_workers::Crew;
 use std::alloc::Global;
 
-// The named cause for which a replica refuses a wish; none where it does not, but for lost workers or out of memory.
+// Returns the named cause for which a replica refuses a wish; none where it does not, but for lost workers or out of
+// memory.
 pub(crate) fn wish_fault(replica: &Replica, wish: &Wish<'_>) -> Option<ReplicaFault>
     ensures { result ≡ wish_fault wish.now replica.now }
 {
@@ -32,7 +36,7 @@ pub(crate) fn wish_fault(replica: &Replica, wish: &Wish<'_>) -> Option<ReplicaFa
     }
 }
 
-// A replica does what is wished. The answer is the command that it comes to, and the reply.
+// Does what is wished, where no named cause stands. The answer is the command that it comes to, and the reply.
 pub(crate) fn perform<C: Crew>(
     alloc: Global,
     replica: &mut Replica,
@@ -40,127 +44,105 @@ pub(crate) fn perform<C: Crew>(
     crew: &mut C,
     meter: &mut Meter,
 ) -> Result<(SheetCommand, Reply), ReplicaFault>
-    ensures made { IfOk result (λ made. IsMade wish.now replica.old made.0 made.1 replica.new) }
-    ensures accepted { IfOk result (λ _. wish_fault wish.now replica.old ≡ None) }
-    ensures refused { IfErr result (refusals.IsWriteRefusal (wish_fault wish.now replica.old)) }
+    requires { wish_fault wish.now replica.old ≡ None }
+    ensures command { IfOk result (λ made. made.0 ≡ wish_command wish.now replica.old) }
+    ensures reply { IfOk result (λ made. made.1 ≡ reply_to wish.now replica.old) }
+    ensures done { IfOk result (λ made. IsDone made.0 replica.old replica.new meter.old meter.new) }
+    ensures refused { IfErr result (refusals.IsWriteRefusal None) }
     ensures few_steps { TicksAtMost (most_steps_of_wish wish.now replica.old) meter.old meter.new }
-    ensures new_steps { IfOk result (λ _. CountsNewSteps wish.now replica.old meter.old meter.new) }
-    ensures gone { MatchResult result (λ _. C.times_gone crew.new ≡ C.times_gone crew.old)
-        (λ fault. C.times_gone crew.new ≡ refusals.gone_after_fault fault (C.times_gone crew.old)) }
+    ensures gone { refusals.CountsGone result (C.times_gone crew.old) (C.times_gone crew.new) }
 {
     match *wish {
-        Wish::Take(edits) => taken(alloc, replica, edits, crew, meter),
-        Wish::Advance(to) => advanced(alloc, replica, to, crew, meter),
-        Wish::Edit(object, step, value) => put(alloc, replica, object, step, value, crew, meter),
-        Wish::Withdraw(object, step) => withdrawn(alloc, replica, object, step, crew, meter),
+        Wish::Take(edits) => take(alloc, replica, edits, crew, meter),
+        Wish::Advance(to) => advance(alloc, replica, to, crew, meter),
+        Wish::Edit(object, step, value) => {
+            put(alloc, replica, object, step, Value::Put(value), crew, meter)
+        }
+        Wish::Withdraw(object, step) => {
+            put(alloc, replica, object, step, Value::Withdrawn, crew, meter)
+        }
     }
 }
 
-// A replica takes edits.
-fn taken<C: Crew>(
+// Takes edits.
+fn take<C: Crew>(
     alloc: Global,
     replica: &mut Replica,
     edits: &Scenario,
     crew: &mut C,
     meter: &mut Meter,
 ) -> Result<(SheetCommand, Reply), ReplicaFault>
-    ensures made { IfOk result (λ made. IsMade (wishes.Take edits.entry) replica.old made.0 made.1 replica.new) }
-    ensures accepted { IfOk result (λ _. wish_fault (wishes.Take edits.entry) replica.old ≡ None) }
-    ensures refused { IfErr result (refusals.IsWriteRefusal (wish_fault (wishes.Take edits.entry) replica.old)) }
-    ensures few_steps { TicksAtMost (most_steps_of_wish (wishes.Take edits.entry) replica.old) meter.old meter.new }
-    ensures gone { MatchResult result (λ _. C.times_gone crew.new ≡ C.times_gone crew.old)
-        (λ fault. C.times_gone crew.new ≡ refusals.gone_after_fault fault (C.times_gone crew.old)) }
+    requires { refusals.take_fault replica.old.sheet.plan edits.now ≡ None }
+    ensures command { IfOk result (λ made. made.0 ≡ commands.Take edits.now) }
+    ensures reply { IfOk result (λ made. made.1 ≡ replies.Touched (touched_step replica.old.sheet edits.now)) }
+    ensures done { IfOk result (λ made. IsDone made.0 replica.old replica.new meter.old meter.new) }
+    ensures refused { IfErr result (refusals.IsWriteRefusal None) }
+    ensures few_steps { TicksAtMost (most_steps_of_command (sheet_commands.Take edits.now) replica.old.sheet)
+        meter.old meter.new }
+    ensures gone { refusals.CountsGone result (C.times_gone crew.old) (C.times_gone crew.new) }
 {
     let asked = replica.take_fault(edits);
-    let touched = replica.take(alloc, edits, crew, meter)?;
     prove!(asked.is_none());
     let copy = edits.copied()?;
+    let touched = replica.take(alloc, edits, crew, meter)?;
     Ok((SheetCommand::Take(copy), Reply::Touched(touched)))
 }
 
-// A replica simulates up to a step.
-fn advanced<C: Crew>(
+// Simulates up to a step.
+fn advance<C: Crew>(
     alloc: Global,
     replica: &mut Replica,
     to: u32,
     crew: &mut C,
     meter: &mut Meter,
 ) -> Result<(SheetCommand, Reply), ReplicaFault>
-    ensures made { IfOk result (λ made. IsMade (wishes.Advance to) replica.old made.0 made.1 replica.new) }
-    ensures accepted { IfOk result (λ _. wish_fault (wishes.Advance to) replica.old ≡ None) }
-    ensures refused { IfErr result (refusals.IsWriteRefusal (wish_fault (wishes.Advance to) replica.old)) }
-    ensures few_steps { TicksAtMost (most_steps_of_wish (wishes.Advance to) replica.old) meter.old meter.new }
-    ensures new_steps { IfOk result (λ _. CountsNewSteps (wishes.Advance to) replica.old meter.old meter.new) }
-    ensures gone { MatchResult result (λ _. C.times_gone crew.new ≡ C.times_gone crew.old)
-        (λ fault. C.times_gone crew.new ≡ refusals.gone_after_fault fault (C.times_gone crew.old)) }
+    requires { refusals.advance_fault to ≡ None }
+    ensures command { IfOk result (λ made. made.0 ≡ commands.Advance to) }
+    ensures reply { IfOk result (λ made. made.1 ≡ replies.Horizon (max replica.old.sheet.horizon to)) }
+    ensures done { IfOk result (λ made. IsDone made.0 replica.old replica.new meter.old meter.new) }
+    ensures refused { IfErr result (refusals.IsWriteRefusal None) }
+    ensures few_steps { TicksAtMost (most_steps_of_command (sheet_commands.Advance to) replica.old.sheet)
+        meter.old meter.new }
+    ensures gone { refusals.CountsGone result (C.times_gone crew.old) (C.times_gone crew.new) }
 {
     let horizon = replica.advance(alloc, to, crew, meter)?;
     Ok((SheetCommand::Advance(to), Reply::Horizon(horizon)))
 }
 
-// A replica puts a number.
+// Makes an edit.
 fn put<C: Crew>(
     alloc: Global,
     replica: &mut Replica,
     object: Object,
     step: u32,
-    value: u32,
+    value: Value,
     crew: &mut C,
     meter: &mut Meter,
 ) -> Result<(SheetCommand, Reply), ReplicaFault>
-    ensures made { IfOk result (λ made. IsMade (wishes.Edit object step value) replica.old made.0 made.1 replica.new) }
-    ensures accepted { IfOk result (λ _. wish_fault (wishes.Edit object step value) replica.old ≡ None) }
-    ensures refused { IfErr result (refusals.IsWriteRefusal (wish_fault (wishes.Edit object step value) replica.old)) }
-    ensures few_steps { TicksAtMost (most_steps_of_wish (wishes.Edit object step value) replica.old)
+    requires { refusals.edit_fault replica.old object step value ≡ None }
+    ensures command { IfOk result
+        (λ made. made.0 ≡ commands.Take (single_edit (edit_made replica.old object step value))) }
+    ensures reply { IfOk result
+        (λ made. made.1 ≡ replies.Stamped (edit_made replica.old object step value).stamp) }
+    ensures done { IfOk result (λ made. IsDone made.0 replica.old replica.new meter.old meter.new) }
+    ensures refused { IfErr result (refusals.IsWriteRefusal None) }
+    ensures few_steps { TicksAtMost (most_steps_of_command
+        (sheet_commands.Take (single_edit (edit_made replica.old object step value))) replica.old.sheet)
         meter.old meter.new }
-    ensures gone { MatchResult result (λ _. C.times_gone crew.new ≡ C.times_gone crew.old)
-        (λ fault. C.times_gone crew.new ≡ refusals.gone_after_fault fault (C.times_gone crew.old)) }
+    ensures gone { refusals.CountsGone result (C.times_gone crew.old) (C.times_gone crew.new) }
 {
-    let stamp = replica.edit(alloc, object, step, value, crew, meter)?;
-    let value = Value::Put(value);
-    let single = single(
-        alloc,
-        &Edit {
-            object,
-            step,
-            stamp,
-            value,
-        },
-    )?;
+    let stamp = replica.put(alloc, object, step, value, crew, meter)?;
+    let edit = Edit {
+        object,
+        step,
+        stamp,
+        value,
+    };
+    let single = single(alloc, &edit)?;
     Ok((SheetCommand::Take(single), Reply::Stamped(stamp)))
 }
 
-// A replica withdraws what is put.
-fn withdrawn<C: Crew>(
-    alloc: Global,
-    replica: &mut Replica,
-    object: Object,
-    step: u32,
-    crew: &mut C,
-    meter: &mut Meter,
-) -> Result<(SheetCommand, Reply), ReplicaFault>
-    ensures made { IfOk result (λ made. IsMade (wishes.Withdraw object step) replica.old made.0 made.1 replica.new) }
-    ensures accepted { IfOk result (λ _. wish_fault (wishes.Withdraw object step) replica.old ≡ None) }
-    ensures refused { IfErr result (refusals.IsWriteRefusal (wish_fault (wishes.Withdraw object step) replica.old)) }
-    ensures few_steps { TicksAtMost (most_steps_of_wish (wishes.Withdraw object step) replica.old) meter.old meter.new }
-    ensures gone { MatchResult result (λ _. C.times_gone crew.new ≡ C.times_gone crew.old)
-        (λ fault. C.times_gone crew.new ≡ refusals.gone_after_fault fault (C.times_gone crew.old)) }
-{
-    let stamp = replica.withdraw(alloc, object, step, crew, meter)?;
-    let value = Value::Withdrawn;
-    let single = single(
-        alloc,
-        &Edit {
-            object,
-            step,
-            stamp,
-            value,
-        },
-    )?;
-    Ok((SheetCommand::Take(single), Reply::Stamped(stamp)))
-}
-
-// The scenario of one edit.
+// Makes the scenario of one edit.
 fn single(alloc: Global, edit: &Edit) -> Result<Scenario, OutOfMemory>
     ensures single { IfOk result (λ single. single ≡ single_edit edit.now) }
     ensures fits { (plan : Plan) → fault_of_edit plan edit.now ≡ None → IfOk result (λ single. AreInRange plan single) }

@@ -65,12 +65,11 @@ pub(crate) fn look<J: Naming>(
     let Some((history, sheet)) = enter_here(reader) else {
         return Err(LookFault::NotEntered);
     };
-    // What is published goes on from all that the session has seen, since both begin the one history of the store, and
+    // What is published goes on from all that the session has seen, since both are prefixes of the one history of the store, and
     // whatever a session has seen was published before. No contract says the latter, so the refusal stands here.
     if !seen.is_prefix_of(&history) {
         return Err(LookFault::Sheet(SheetFault::OutOfMemory));
     }
-    history.known();
     *seen = history;
     match sheet {
         Some(sheet) => Ok(sheet),

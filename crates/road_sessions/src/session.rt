@@ -1,16 +1,13 @@
 //! Sessions: their writes under the lock, and their looks without it.
-ghost use Rattle.std.specs.Prelude.{◌≡◌, ◌⊎◌, [], IfErr, IfOk, IsTrue, MatchResult, None, length, take};
+ghost use Rattle.std.specs.Prelude.{◌≡◌, ◌⊎◌, [], IsTrue, MatchResult, None, length};
 ghost use Rattle.std.specs.Arc.{arc_value};
 ghost use mathlib.Core.List.{IsPrefix};
 ghost use Rattle.left_right.specs.Sides.{view as view_at};
-ghost use Rattle.road_rewind.specs.Growth.{TicksAtMost, meter_after};
 ghost use Rattle.road_sheet.specs.Sheets.{state_fault, state_of, total_of, totals_fault};
 ghost use Rattle.road_sessions.specs.Private.ClosingSessions.{IsSessionOf};
-ghost use Rattle.road_sessions.specs.Journals.{replay};
 ghost use Rattle.road_sessions.specs.Looks.{HasLooked, IsLookRefusal, IsQuestionRefusal, sheet_seen};
-ghost use Rattle.road_sessions.specs.Sessions.{CostsFewSteps, IsRefusedWrite, IsSession, IsWrite, new_view};
-ghost use Rattle.road_sessions.specs.Sessions.{session_of};
-ghost use Rattle.road_sessions.specs.Writes.{CountsNewSteps, gone_after_fault, most_steps_of_write, write_fault};
+ghost use Rattle.road_sessions.specs.Sessions.{IsAcceptedWrite, IsRefusedWrite, IsSession, new_view, session_of};
+ghost use Rattle.road_sessions.specs.Writes.{CountsGone};
 ghost use Rattle.road_sessions.specs.declared.wish.Wish.TheVariants as wishes;
 
 use crate::faults::{LookFault, WriteFault};
@@ -91,7 +88,7 @@ impl<J: Naming> Model for Session<J> {
 }
 
 impl<J: Naming> Session<J> {
-    // A session that has seen and written nothing.
+    // Makes a session that has seen and written nothing.
     pub(crate) fn new(
         number: u32,
         seen: Prefix<J>,
@@ -110,7 +107,7 @@ impl<J: Naming> Session<J> {
         }
     }
 
-    /// Its number, from 0.
+    /// Returns its number, from 0.
     pub fn number(&self) -> u32
         ensures { result ≡ self.now.number }
     {
@@ -119,13 +116,14 @@ impl<J: Naming> Session<J> {
 
     // ---- writes, under the lock
 
-    /// The replica takes edits. The reply is the touched step. The meter counts at most the steps that the edits touch
-    /// where their write stands, and 63 more.
+    /// Takes edits. The reply is the touched step. The meter counts just the steps that are computed: where the write
+    /// stands, those from the checkpoint up to the horizon.
     ///
     /// # Errors
     ///
     /// `JournalFull` where the journal holds as many writes as the store was prepared for, then the replica's: those of
-    /// `Replica::take`. The session has seen and written no more then.
+    /// `Replica::take`. The session has seen and written no more then. The meter is as before where the cause is named;
+    /// where workers have gone or an allocation failed, it counts at most the steps that the edits touch, and 63 more.
     pub fn take<R: Wait + Drop, W: Wait, C: Crew>(
         &mut self,
         rt: &W,
@@ -134,26 +132,16 @@ impl<J: Naming> Session<J> {
         crew: &mut C,
         meter: &mut Meter,
     ) -> Result<Wrote<J>, WriteFault>
-        ensures wrote { MatchResult result
-            (λ wrote. IsWrite J.replica (wishes.Take scenario.entry) self.old wrote.place wrote.reply self.new
-            × (wrote.receipt ≡ self.new.seen))
-            (λ _. self.new ≡ self.old) }
-        ensures accepted { IfOk result (λ wrote. write_fault J.limit (wishes.Take scenario.entry) J.replica
-            (take wrote.place self.new.seen) ≡ None) }
-        ensures refused { IfErr result
-            (IsRefusedWrite J.limit J.replica (wishes.Take scenario.entry) self.old.seen) }
-        ensures few_steps { MatchResult result
-            (λ wrote. TicksAtMost (most_steps_of_write (wishes.Take scenario.entry) J.replica
-            wrote.place self.new.seen) meter.old meter.new)
-            (λ _. CostsFewSteps J.replica (wishes.Take scenario.entry) self.old.seen meter.old meter.new) }
-        ensures gone { MatchResult result (λ _. C.times_gone crew.new ≡ C.times_gone crew.old)
-            (λ fault. C.times_gone crew.new ≡ gone_after_fault fault (C.times_gone crew.old)) }
+        ensures write { MatchResult result
+            (λ wrote. IsAcceptedWrite J.limit J.replica (wishes.Take scenario.entry) self.old wrote.place wrote.reply self.new
+            meter.old meter.new × (wrote.receipt ≡ self.new.seen))
+            (λ fault. IsRefusedWrite J.limit J.replica (wishes.Take scenario.entry) self.old fault self.new meter.old meter.new) }
+        ensures gone { CountsGone result (C.times_gone crew.old) (C.times_gone crew.new) }
     {
         self.write(rt, shared, &Wish::Take(scenario), crew, meter)
     }
 
-    /// The replica simulates up to a step. The reply is its horizon. The meter counts just the steps that are added
-    /// where it is accepted, and no more where it is refused.
+    /// Simulates the replica up to a step. The reply is its horizon. The meter counts just the steps that are added.
     ///
     /// # Errors
     ///
@@ -167,29 +155,17 @@ impl<J: Naming> Session<J> {
         crew: &mut C,
         meter: &mut Meter,
     ) -> Result<Wrote<J>, WriteFault>
-        ensures wrote { MatchResult result
-            (λ wrote. IsWrite J.replica (wishes.Advance to) self.old wrote.place wrote.reply self.new
-            × (wrote.receipt ≡ self.new.seen))
-            (λ _. self.new ≡ self.old) }
-        ensures accepted { IfOk result (λ wrote. write_fault J.limit (wishes.Advance to) J.replica
-            (take wrote.place self.new.seen) ≡ None) }
-        ensures refused { IfErr result
-            (IsRefusedWrite J.limit J.replica (wishes.Advance to) self.old.seen) }
-        ensures few_steps { MatchResult result
-            (λ wrote. TicksAtMost (most_steps_of_write (wishes.Advance to) J.replica
-            wrote.place self.new.seen) meter.old meter.new)
-            (λ _. CostsFewSteps J.replica (wishes.Advance to) self.old.seen meter.old meter.new) }
-        // An accepted one computes just the steps that it adds.
-        ensures new_steps { IfOk result (λ wrote. meter.new
-            ≡ meter_after meter.old (most_steps_of_write (wishes.Advance to) J.replica wrote.place self.new.seen)) }
-        ensures gone { MatchResult result (λ _. C.times_gone crew.new ≡ C.times_gone crew.old)
-            (λ fault. C.times_gone crew.new ≡ gone_after_fault fault (C.times_gone crew.old)) }
+        ensures write { MatchResult result
+            (λ wrote. IsAcceptedWrite J.limit J.replica (wishes.Advance to) self.old wrote.place wrote.reply self.new
+            meter.old meter.new × (wrote.receipt ≡ self.new.seen))
+            (λ fault. IsRefusedWrite J.limit J.replica (wishes.Advance to) self.old fault self.new meter.old meter.new) }
+        ensures gone { CountsGone result (C.times_gone crew.old) (C.times_gone crew.new) }
     {
         self.write(rt, shared, &Wish::Advance(to), crew, meter)
     }
 
-    /// The replica puts a number for an object from a step on, in the object's units. The reply is the edit's stamp.
-    /// The meter counts as for [`Session::take`].
+    /// Puts a number for an object from a step on, in the object's units. The reply is the edit's stamp. The meter counts
+    /// as for [`Session::take`].
     ///
     /// # Errors
     ///
@@ -205,26 +181,17 @@ impl<J: Naming> Session<J> {
         crew: &mut C,
         meter: &mut Meter,
     ) -> Result<Wrote<J>, WriteFault>
-        ensures wrote { MatchResult result
-            (λ wrote. IsWrite J.replica (wishes.Edit object step value) self.old wrote.place wrote.reply self.new
-            × (wrote.receipt ≡ self.new.seen))
-            (λ _. self.new ≡ self.old) }
-        ensures accepted { IfOk result (λ wrote. write_fault J.limit (wishes.Edit object step value) J.replica
-            (take wrote.place self.new.seen) ≡ None) }
-        ensures refused { IfErr result
-            (IsRefusedWrite J.limit J.replica (wishes.Edit object step value) self.old.seen) }
-        ensures few_steps { MatchResult result
-            (λ wrote. TicksAtMost (most_steps_of_write (wishes.Edit object step value) J.replica
-            wrote.place self.new.seen) meter.old meter.new)
-            (λ _. CostsFewSteps J.replica (wishes.Edit object step value) self.old.seen meter.old meter.new) }
-        ensures gone { MatchResult result (λ _. C.times_gone crew.new ≡ C.times_gone crew.old)
-            (λ fault. C.times_gone crew.new ≡ gone_after_fault fault (C.times_gone crew.old)) }
+        ensures write { MatchResult result
+            (λ wrote. IsAcceptedWrite J.limit J.replica (wishes.Edit object step value) self.old wrote.place wrote.reply self.new
+            meter.old meter.new × (wrote.receipt ≡ self.new.seen))
+            (λ fault. IsRefusedWrite J.limit J.replica (wishes.Edit object step value) self.old fault self.new meter.old meter.new) }
+        ensures gone { CountsGone result (C.times_gone crew.old) (C.times_gone crew.new) }
     {
         self.write(rt, shared, &Wish::Edit(object, step, value), crew, meter)
     }
 
-    /// The replica withdraws what is put for an object at a step. The reply is the withdrawal's stamp. The meter counts
-    /// as for [`Session::take`].
+    /// Withdraws what is put for an object at a step. The reply is the withdrawal's stamp. The meter counts as for
+    /// [`Session::take`].
     ///
     /// # Errors
     ///
@@ -239,25 +206,16 @@ impl<J: Naming> Session<J> {
         crew: &mut C,
         meter: &mut Meter,
     ) -> Result<Wrote<J>, WriteFault>
-        ensures wrote { MatchResult result
-            (λ wrote. IsWrite J.replica (wishes.Withdraw object step) self.old wrote.place wrote.reply self.new
-            × (wrote.receipt ≡ self.new.seen))
-            (λ _. self.new ≡ self.old) }
-        ensures accepted { IfOk result (λ wrote. write_fault J.limit (wishes.Withdraw object step) J.replica
-            (take wrote.place self.new.seen) ≡ None) }
-        ensures refused { IfErr result
-            (IsRefusedWrite J.limit J.replica (wishes.Withdraw object step) self.old.seen) }
-        ensures few_steps { MatchResult result
-            (λ wrote. TicksAtMost (most_steps_of_write (wishes.Withdraw object step) J.replica
-            wrote.place self.new.seen) meter.old meter.new)
-            (λ _. CostsFewSteps J.replica (wishes.Withdraw object step) self.old.seen meter.old meter.new) }
-        ensures gone { MatchResult result (λ _. C.times_gone crew.new ≡ C.times_gone crew.old)
-            (λ fault. C.times_gone crew.new ≡ gone_after_fault fault (C.times_gone crew.old)) }
+        ensures write { MatchResult result
+            (λ wrote. IsAcceptedWrite J.limit J.replica (wishes.Withdraw object step) self.old wrote.place wrote.reply self.new
+            meter.old meter.new × (wrote.receipt ≡ self.new.seen))
+            (λ fault. IsRefusedWrite J.limit J.replica (wishes.Withdraw object step) self.old fault self.new meter.old meter.new) }
+        ensures gone { CountsGone result (C.times_gone crew.old) (C.times_gone crew.new) }
     {
         self.write(rt, shared, &Wish::Withdraw(object, step), crew, meter)
     }
 
-    // Whatever it wishes.
+    // Writes whatever is wished.
     fn write<R: Wait + Drop, W: Wait, C: Crew>(
         &mut self,
         rt: &W,
@@ -266,21 +224,11 @@ impl<J: Naming> Session<J> {
         crew: &mut C,
         meter: &mut Meter,
     ) -> Result<Wrote<J>, WriteFault>
-        ensures wrote { MatchResult result
-            (λ wrote. IsWrite J.replica wish.now self.old wrote.place wrote.reply self.new
-            × (wrote.receipt ≡ self.new.seen))
-            (λ _. self.new ≡ self.old) }
-        ensures accepted { IfOk result
-            (λ wrote. write_fault J.limit wish.now J.replica (take wrote.place self.new.seen) ≡ None) }
-        ensures refused { IfErr result (IsRefusedWrite J.limit J.replica wish.now self.old.seen) }
-        ensures few_steps { MatchResult result
-            (λ wrote. TicksAtMost (most_steps_of_write wish.now J.replica wrote.place self.new.seen)
-            meter.old meter.new)
-            (λ _. CostsFewSteps J.replica wish.now self.old.seen meter.old meter.new) }
-        ensures new_steps { IfOk result
-            (λ wrote. CountsNewSteps wish.now (replay J.replica (take wrote.place self.new.seen)) meter.old meter.new) }
-        ensures gone { MatchResult result (λ _. C.times_gone crew.new ≡ C.times_gone crew.old)
-            (λ fault. C.times_gone crew.new ≡ gone_after_fault fault (C.times_gone crew.old)) }
+        ensures write { MatchResult result
+            (λ wrote. IsAcceptedWrite J.limit J.replica wish.now self.old wrote.place wrote.reply self.new
+            meter.old meter.new × (wrote.receipt ≡ self.new.seen))
+            (λ fault. IsRefusedWrite J.limit J.replica wish.now self.old fault self.new meter.old meter.new) }
+        ensures gone { CountsGone result (C.times_gone crew.old) (C.times_gone crew.new) }
     {
         let number = self.number;
         let (place, reply) = shared.held.lock(rt).serve(
@@ -304,7 +252,7 @@ impl<J: Naming> Session<J> {
 
     // ---- looks, without a lock
 
-    /// The sheet that is published. Its history goes on from all that the session has seen and heard of, and its own
+    /// Returns the sheet that is published. Its history goes on from all that the session has seen and heard of, and its own
     /// writes stand there. It never waits, and grows nothing.
     ///
     /// # Errors
@@ -319,7 +267,7 @@ impl<J: Naming> Session<J> {
         reading::look(self.number, &mut self.seen, &mut self.reader)
     }
 
-    /// The road at a step, by a look.
+    /// Returns the road at a step, by a look.
     ///
     /// # Errors
     ///
@@ -342,7 +290,7 @@ impl<J: Naming> Session<J> {
         }
     }
 
-    /// What a detector counts in the steps from one up to another, that one not among them, by a look.
+    /// Returns what a detector counts in the steps from one up to another, that one not among them, by a look.
     ///
     /// # Errors
     ///
@@ -369,7 +317,7 @@ impl<J: Naming> Session<J> {
         }
     }
 
-    /// The session is told of a history: from now on it has seen that, or what it had seen where that is longer.
+    /// Tells the session of a history: from now on it has seen that, or what it had seen where that is longer.
     pub fn hear(&mut self, receipt: Receipt<J>)
         ensures longer { (self.new.seen ≡ self.old.seen) ⊎ (self.new.seen ≡ receipt) }
         ensures before { IsPrefix self.old.seen self.new.seen }
@@ -377,21 +325,20 @@ impl<J: Naming> Session<J> {
         ensures same { (self.new.number ≡ self.old.number) × (self.new.view ≡ self.old.view) }
     {
         if self.seen.is_prefix_of(&receipt.history) {
-            receipt.history.known();
             self.seen = receipt.history.again();
         }
     }
 
     // ---- closing
 
-    // Whether all that it has seen begins this history, where its writes stand then.
+    // Says whether all that it has seen is a prefix of this history, where its writes stand then.
     pub(crate) fn is_session_of(&self, history: &Prefix<J>) -> bool
         ensures { IsTrue result → IsSessionOf history.now self.now }
     {
         self.seen.is_prefix_of(history)
     }
 
-    // Its share of the ledger, which counts its writes.
+    // Returns its share of the ledger, which counts its writes.
     pub(crate) fn into_share(self) -> Share<J>
         ensures { (result.parts ≡ 1) × (result.amount ≡ length self.view.own) }
     {

@@ -41,7 +41,7 @@ impl<J: Naming, R: Wait + Drop> Of<J> for Shared<J, R> {}
 pub struct Prepared<R: Wait + Drop> {
     rt: R,
     alloc: Global,
-    /// The book of its history, which is empty.
+    /// Its history, which is empty.
     pub book: EmptyHistory,
     /// The replica.
     pub replica: Replica,
@@ -113,7 +113,7 @@ pub fn open<J: Naming, R: Wait + Drop>(
     Ok((shared, sessions))
 }
 
-/// What [`open`] puts under the lock, and the sessions, of what was prepared for the name `J`, picked as for [`open`].
+/// Makes what [`open`] puts under the lock, and the sessions, of what was prepared for the name `J`, picked as for [`open`].
 ///
 /// # Errors
 ///
@@ -159,7 +159,8 @@ pub fn opened<J: Naming, R: Wait + Drop>(
     Ok((held, sessions))
 }
 
-// A store with room for so many readers, which shows a sheet and the history that leaves it; and the two once more.
+// Opens a store with room for so many readers, which shows a sheet and the history that leaves it; and returns the two
+// once more.
 fn store_of<J: Naming>(
     alloc: Global,
     sheet: &Arc<Sheet>,
@@ -179,7 +180,7 @@ fn store_of<J: Naming>(
     Ok((writer, published))
 }
 
-// A store with room for so many readers, which shows one of these; both are the same.
+// Opens a store with room for so many readers, which shows one of these; both are the same.
 fn new_store<J: Naming>(
     alloc: Global,
     first: Published<J>,

@@ -44,7 +44,7 @@ impl<J: Naming> Model for Published<J> {
 }
 
 impl<J: Naming> Published<J> {
-    // A sheet, and the history that leaves it.
+    // Makes it of a sheet and the history that leaves it.
     pub(crate) fn new(sheet: Arc<Sheet>, history: Prefix<J>) -> Published<J>
         requires { arc_value sheet ≡ (replay J.replica history).sheet }
         ensures { result ≡ history }
@@ -52,21 +52,21 @@ impl<J: Naming> Published<J> {
         Published { sheet, history }
     }
 
-    // Its sheet.
+    // Returns its sheet.
     pub(crate) fn sheet(&self) -> &Arc<Sheet>
         ensures { arc_value result.now ≡ (replay J.replica self.now).sheet }
     {
         &self.sheet
     }
 
-    // Its history.
+    // Returns its history.
     pub(crate) fn history(&self) -> &Prefix<J>
         ensures { result.now ≡ self.now }
     {
         &self.history
     }
 
-    // The same once more. It is refused where the sheet can have no owner more.
+    // Makes the same once more. It is refused where the sheet can have no owner more.
     pub(crate) fn again(&self) -> Result<Published<J>, OutOfMemory>
         ensures { IfOk result (λ same. same ≡ self.now) }
     {
@@ -105,7 +105,7 @@ impl<J: Naming> Absorb<Published<J>> for Published<J> {
     }
 }
 
-/// The rule of the store: what a reader has found begins what is published.
+/// The rule of the store: what a reader has found is a prefix of what is published.
 pub struct FoundFirst;
 
 impl<J: Naming> Protocol<Published<J>, View> for FoundFirst {

@@ -1,5 +1,5 @@
 -- What a replica answers to a write, and the world that it leaves, are what the event says; so for messages.
-use Rattle.std.proofs.Common.{◌≡◌, ◌≢◌, ◌≤◌, ◌<◌, ◌∙◌, ℕ, max, List, length, Option, Some, None, refl, ap, arith, sym, subst}
+use Rattle.std.proofs.Common.{◌≡◌, ◌≤◌, ◌<◌, ◌∙◌, ℕ, List, length, Option, Some, None, refl, ap, arith, sym, subst}
 use Rattle.std.specs.Prelude.{IsErrAnd, IsNone, Result, slice_set, unwrap_or}
 use Rattle.std.specs.List.{slice_get, slice_index_or}
 use Rattle.std.specs.Option.{option_map}
@@ -9,7 +9,6 @@ use Rattle.std.proofs.lemmas.List.{set-get_or}
 use Rattle.lattice_core.specs.Sets.{from_list}
 use Rattle.lattice_core.proofs.SetElements.{contains-from_list}
 use Rattle.road_plan.specs.Plan.{Plan}
-use Rattle.road_plan.specs.declared.limits.TheConstants.{GREATEST_HORIZON}
 use Rattle.road_plan.specs.declared.object.Object.{Object}
 use Rattle.road_scenario.specs.Edits.{Edits}
 use Rattle.road_scenario.specs.Faults.{fault_in, fault_of_edit}
@@ -30,7 +29,6 @@ use Rattle.road_replica.specs.Refusals.{advance_fault, arrived_edit_fault, edit_
 use Rattle.road_replica.specs.Replicas.{Replica, edit_made, replica_after, single_edit}
 use Rattle.road_replica.specs.Writes.{IsAccepted, IsRefused, most_steps_of_command, steps_of_command}
 use Rattle.road_replica.specs.declared.faults.ReplicaFault.{ReplicaFault}
-use Rattle.road_replica.specs.declared.faults.ReplicaFault.TheVariants.{Horizon}
 use Rattle.road_replica.specs.declared.reply.Reply.{Reply}
 use Rattle.road_replica.specs.declared.reply.Reply.TheVariants as replies
 use Rattle.road_replica.proofs.GrownSheets.{grown_by_edits, grown_is_sheet}

@@ -9,13 +9,11 @@ use Rattle.std.proofs.lemmas.Option.{slice_get_read, slice_get_within, get_or_fr
 use Rattle.lattice_core.specs.Sets.{contains, items, union}
 use Rattle.road_plan.specs.Plan.{Plan}
 use Rattle.road_plan.specs.declared.limits.TheConstants.{MOST_REPLICAS}
-use Rattle.road_plan.specs.declared.object.Object.{Object}
 use Rattle.road_scenario.specs.Edits.{Edits}
 use Rattle.road_scenario.specs.Faults.{IsInRange, fault_in}
 use Rattle.road_scenario.specs.Touched.{first_touched_step, first_touched_step_in}
 use Rattle.road_scenario.specs.Winners.{winners, AreWinners}
 use Rattle.road_scenario.specs.Instances.EditOrder.{winners_laws}
-use Rattle.road_scenario.specs.declared.edit.Value.{Value}
 use Rattle.road_scenario.proofs.NoEdits.{winners-empty}
 use Rattle.road_scenario.proofs.EditRanges.{in_range-empty, in_range-faultless}
 use Rattle.road_delta.specs.Deltas.{heads, beyond}
@@ -23,12 +21,12 @@ use Rattle.road_delta.specs.declared.heads.Head.{Head}
 use Rattle.road_delta.proofs.DeltaEdits.{from_set, winners-beyond}
 use Rattle.road_sheet.specs.Commands.{SheetCommand, Advance, Take, sheet_after}
 use Rattle.road_sheet.specs.Sheets.{Sheet, IsSheet, opening_sheet}
-use Rattle.road_rewind.specs.Growth.{TicksAtMost, meter_after, touched_step}
+use Rattle.road_rewind.specs.Growth.{touched_step}
 use Rattle.road_replica.specs.Refusals.{arrived_edit_fault, take_fault}
-use Rattle.road_replica.specs.Replicas.{Replica, edit_made, most_steps_taking, replica_after, single_edit}
+use Rattle.road_replica.specs.Replicas.{Replica, replica_after}
 use Rattle.road_world.specs.Answers.{edits_wanted_fault, replica_with_sheet, sheet_at}
 use Rattle.road_world.specs.Events.{World, WorldReplica, opening_replica, replica_at, carried_edits, replica_of_winners, message_of_winners, world_of_winners}
-use Rattle.road_world.specs.Events.{world_with_advance, world_with_edits, world_with_local_edit, world_with_message}
+use Rattle.road_world.specs.Events.{world_with_advance, world_with_edits, world_with_message}
 use Rattle.road_world.specs.Private.Worlds.{world_replica, IsReplicaOf, AreSendable, IsSendable, IsWorldKept}
 use Rattle.road_world.specs.declared.faults.WorldFault.{WorldFault}
 use Rattle.road_world.specs.declared.message.Message.{Message}

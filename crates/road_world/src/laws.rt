@@ -21,7 +21,7 @@ pub fn headline_holds()
     // Each message of such a world holds what its event put into it, of edits the winners.
     ensures messages { (plan : Plan) (count : ℕ) (events : List Event) (replies : List (Result Reply WorldFault)) →
         (world_of_winners (world_of_events plan count events replies)).messages
-            ≡ map message_of_winners (world_of_events plan count events replies).messages }
+        ≡ map message_of_winners (world_of_events plan count events replies).messages }
     // An accepted event computes no more steps than a refused one may.
     ensures steps { (world : World) (event : Event) → steps_of_event world event ≤ most_steps_of_event world event }
     // Where each event has its answer, no stamp is issued twice, and none is that of an import.

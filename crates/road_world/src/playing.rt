@@ -58,7 +58,7 @@ pub fn play<C: Crew>(
     ensures steps { IfOk result (λ played. TicksAtMost
         (most_wasted_steps_of_events (opening_world (arc_value plan) replicas) events.now played.replies.items)
         (meter_after meter.old
-            (steps_of_events (opening_world (arc_value plan) replicas) events.now played.replies.items))
+        (steps_of_events (opening_world (arc_value plan) replicas) events.now played.replies.items))
         meter.new) }
     ensures no_steps { OnErr result (meter.new ≡ meter.old) }
     ensures gone { IfOk result (λ played.

@@ -22,7 +22,6 @@ const WANT: LookFault = LookFault::Sheet(SheetFault::OutOfMemory);
 // The row of a sheet at a step.
 fn row(alloc: Global, sheet: &Sheet, step: u32) -> Result<String, SheetFault> {
     let road = sheet.state(alloc, step)?;
-    sheet.known();
     let state = State { step, road };
     Ok(row_of(alloc, sheet.plan(), sheet.scenario(), &state)?)
 }

@@ -35,7 +35,7 @@ fn opens<R: Wait + Drop + Copy>(rt: R, alloc: Global, script: &Script) -> Option
     }
 }
 
-// The same, tried again where there was no memory to open it.
+// Opens it again where there was no memory.
 fn runs<R: Wait + Drop + Copy>(rt: R, alloc: Global, script: &Script) -> bool {
     match opens(rt, alloc, script) {
         Some(well) => well,

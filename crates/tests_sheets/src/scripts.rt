@@ -118,7 +118,14 @@ fn states_agree(alloc: Global, sheet: &Sheet, steps: &[u32]) -> Result<bool, Fai
     for place in steps {
         let step = (*place).min(sheet.horizon());
         let mut fresh = WordCache::of(alloc, sheet.plan());
-        last = state_at(alloc, sheet.plan(), sheet.scenario(), &last, step, &mut fresh)?;
+        last = state_at(
+            alloc,
+            sheet.plan(),
+            sheet.scenario(),
+            &last,
+            step,
+            &mut fresh,
+        )?;
         if sheet.state_with(alloc, step, &mut words)?.cars() != last.road.cars() {
             return Ok(false);
         }

@@ -65,7 +65,6 @@ fn news<J: Naming, W: Wait>(rt: &W, letter: &Letter<J>) -> Option<News<J>> {
 // The row of a sheet at a step.
 fn row(alloc: Global, sheet: &Sheet, step: u32) -> Result<String, SheetFault> {
     let road = sheet.state(alloc, step)?;
-    sheet.known();
     let state = State { step, road };
     Ok(row_of(alloc, sheet.plan(), sheet.scenario(), &state)?)
 }

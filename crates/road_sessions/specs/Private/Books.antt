@@ -1,13 +1,13 @@
--- The book of a history that stands in the proofs alone, of which the program keeps the length.
+-- The logbook of a history: the history stands in the proofs alone, and the program keeps its length.
 use Rattle.std.specs.Prelude.{◌≡◌, ℕ, true, List, [], ◌∷◌, ◌++◌, length}
 use Rattle.logbook.specs.Pages.{Cell, Step, View, Book, Named}
 use Rattle.road_sessions.specs.declared.entry.Entry.{Entry}
 
--- of a book's two words the first is the length of its history, the second is not used
+-- of a logbook's two words the first is the length of its history, the second is not used
 abbrev pub HasLength : List Cell → List Entry → Type 0
 HasLength words history = words ≡ (length history, true) ∷ (0, true) ∷ []
 
--- the first word of a book
+-- the first word of a logbook
 abbrev pub length_word : Book → Named
 length_word book = record { tracked = true; key = 0; book = book }
 

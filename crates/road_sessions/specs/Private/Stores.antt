@@ -8,7 +8,7 @@ use Rattle.road_sessions.specs.declared.reader_view.View.{View}
 use Rattle.road_sessions.specs.Journals.{Write}
 use Rattle.road_sessions.specs.Sessions.{view_of}
 
--- what each reader found when it last entered begins the published history
+-- what each reader found when it last entered is a prefix of the published history
 abbrev pub FoundBegins : List Entry → List View → Type 0
 FoundBegins published views = (reader : ℕ) (v : View) → get_elem? views reader ≡ some v → IsPrefix v.found published
 

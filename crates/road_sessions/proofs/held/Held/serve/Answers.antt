@@ -1,19 +1,21 @@
--- What a session has seen begins the journal, so its accepted write is one of a legal history.
-use Rattle.std.proofs.Common.{◌≡◌, ◌∙◌, List, subst, sym}
+-- What a session has seen is a prefix of the journal, so its accepted write is one of a legal history.
+use Rattle.std.proofs.Common.{◌≡◌, ◌∙◌, ℕ, List, subst, sym}
 use mathlib.Core.List.{IsPrefix}
 use Rattle.left_right.specs.Sides.{view}
 use Rattle.road_sessions.specs.Journals.{IsLegal}
+use Rattle.road_sessions.specs.Writes.{IsAccepted}
 use Rattle.road_sessions.specs.declared.entry.Entry.{Entry}
 use Rattle.road_sessions.proofs.SessionWrites.{is_write}
 use Rattle.road_sessions.proofs.held.Held.serve.Goals as goal
 
-pub returns-clause-wrote : goal.returns-clause-wrote
-returns-clause-wrote g c =
+pub returns-clause-write : goal.returns-clause-write
+returns-clause-write g c =
     let r = g.J.Naming.replica in
     let seen : List Entry = c.args.seen.now in
     let journal : List Entry = c.args.self.now.journal.items in
-    let before : IsPrefix seen journal = subst (λ (l : List Entry). IsPrefix seen l) c.args.self.now.journalled c.if-not-is_prefix_of.ensures.begins in
-    let after : c.again.result ≡ c.write.new.self.journal.items = c.again.ensures ∙ c.write.new.self.journalled in
-    let legal : IsLegal r c.again.result = subst (λ (l : List Entry). IsLegal r l) (sym c.again.ensures) c.known-3.ensures in
-    is_write r c.args.session c.args.wish.now seen journal c.again.result (view c.args.reader.now.place) (view c.enter_after_write_here.new.reader.place) c.in_ok-place.place c.in_ok-place.reply
+    let before : IsPrefix seen journal = subst (λ (l : List Entry). IsPrefix seen l) c.args.self.now.journalled c.if-not-is_prefix_of.ensures.prefix in
+    let after : c.again.result ≡ c.write.new.self.journal.items = c.again.ensures.same ∙ c.write.new.self.journalled in
+    let legal : IsLegal r c.again.result = subst (λ (l : List Entry). IsLegal r l) (sym c.again.ensures.same) c.again.ensures.legal in
+    is_write g.J.Naming.limit r c.args.session c.args.wish.now seen journal c.again.result (view c.args.reader.now.place) (view c.enter_after_write_here.new.reader.place) c.in_ok-place.place c.in_ok-place.reply c.args.meter.now c.write.new.meter
     before (after ∙ c.in_ok-place.ensures.journal) legal c.in_ok-place.ensures.reply.0 c.in_ok-place.ensures.reply.1 c.enter_after_write_here.ensures
+    (subst (λ (n : ℕ). IsAccepted n c.args.wish.now r journal c.args.meter.now c.write.new.meter) c.args.self.now.room c.in_ok-place.ensures.write)

@@ -1,5 +1,5 @@
 -- What is written is what the session wishes.
 use Rattle.road_sessions.proofs.session.Session.advance.Goals as goal
 
-pub returns-clause-wrote : goal.returns-clause-wrote
-returns-clause-wrote g c = c.write.ensures.wrote
+pub returns-clause-write : goal.returns-clause-write
+returns-clause-write g c = c.write.ensures.write

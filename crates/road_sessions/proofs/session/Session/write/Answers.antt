@@ -10,9 +10,9 @@ invariant_of-self-2 g c =
     let r = g.J.Naming.replica in
     let s : Session = session_of c.self.inside.number c.self.inside.seen (view_at c.self.inside.reader.place) in
     let t : Session = session_of c.self.inside.number c.serve.new.seen (view_at c.serve.new.reader.place) in
-    let wrote = c.in_ok-place.ensures.wrote in
+    let wrote = c.in_ok-place.ensures.write in
     let wish = c.args.wish.now in (
-      session_after_write r wish s t c.in_ok-place.place c.in_ok-place.reply wrote c.self.invariant.0,
+      session_after_write g.J.Naming.limit r wish s t c.in_ok-place.place c.in_ok-place.reply c.args.meter.now c.serve.new.meter wrote c.self.invariant.0,
       c.serve.ensures.share.0 ∙ c.self.invariant.1,
-      (let more = one_more_write r wish s t c.in_ok-place.place c.in_ok-place.reply wrote in let counted = c.in_ok-place.ensures.share.1 in let before = c.self.invariant.2 in omega arith),
+      (let more = one_more_write g.J.Naming.limit r wish s t c.in_ok-place.place c.in_ok-place.reply c.args.meter.now c.serve.new.meter wrote in let counted = c.in_ok-place.ensures.share.1 in let before = c.self.invariant.2 in omega arith),
     )

@@ -1,5 +1,5 @@
 -- Imported edits reach the world's replica, or are refused as the world's definition says.
-use Rattle.std.proofs.Common.{◌≡◌, ◌∙◌, List, Some, ap, sym}
+use Rattle.std.proofs.Common.{◌∙◌, List, Some, ap, sym}
 use Rattle.std.specs.Arc.{arc_value}
 use Rattle.std.specs.Option.{option_map}
 use Rattle.lattice_core.specs.Sets.{from_list}
@@ -55,6 +55,6 @@ returns-clause-applied g c =
     let of = ap (λ (l : List Edit). Some (Take (from_list l))) (sym c.deref.ensures.value) in
     let at = ap (λ (l : List Edit). option_map faults.Replica (import_fault k.plan l)) (sym c.deref.ensures.value) ∙ ap (λ (p : Plan). option_map faults.Replica (import_fault p es)) (sym same_plan) in
     let answered = ap replies.Touched (c.in_ok-touched.ensures.touched ∙ same_touched plan xs ms c.self.invariant k c.self.view_is c.args.at x (from_list es) c.index_mut-replica.ensures.value below)
-        ∙ ap (λ (l : List Edit). touched_reply k c.args.at (from_list l)) c.deref.ensures.value in
+    ∙ ap (λ (l : List Edit). touched_reply k c.args.at (from_list l)) c.deref.ensures.value in
     accepted_applied plan xs ms c.self.invariant k c.self.view_is (events.Import c.args.at c.args.edits.now) (Take (from_list es)) (import_fault x.sheet.plan es) x c.import.new.self _ _ c.index_mut-replica.ensures.value below c.requires
     _ of at answered c.in_ok-touched.ensures.write

@@ -3,7 +3,6 @@ use Rattle.std.proofs.Common.{◌≡◌, ◌∙◌, List, None, Some, ap, sym}
 use Rattle.std.specs.Arc.{arc_value}
 use Rattle.std.specs.List.{slice_get}
 use Rattle.std.specs.Option.{option_map}
-use Rattle.road_plan.specs.Plan.{Plan}
 use Rattle.road_replica.specs.Refusals.{take_fault}
 use Rattle.road_replica.specs.declared.reply.Reply.TheVariants as replies
 use Rattle.road_scenario.specs.Edits.{Edits}
@@ -63,6 +62,6 @@ returns-clause-applied g c =
     let of = ap (λ (s : Edits). Some (Take s)) (sym same) in
     let at = ap (λ (w : World). edits_wanted_fault (slice_get w.messages m)) (sym c.self.view_is) ∙ wanted ∙ sym (ap (option_map faults.Replica) c.in_ok-touched.ensures.write.accepted) in
     let answered = ap replies.Touched (c.in_ok-touched.ensures.touched ∙ same_touched plan xs ms c.self.invariant k c.self.view_is c.args.at x edits c.index_mut-replica.ensures.value below)
-        ∙ ap (λ (s : Edits). touched_reply k c.args.at s) same in
+    ∙ ap (λ (s : Edits). touched_reply k c.args.at s) same in
     accepted_applied plan xs ms c.self.invariant k c.self.view_is (events.Take c.args.at m) (Take edits) (take_fault x.sheet.plan edits) x c.take.new.self _ _ c.index_mut-replica.ensures.value below c.requires
     _ of at answered c.in_ok-touched.ensures.write
