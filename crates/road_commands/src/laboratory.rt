@@ -503,6 +503,7 @@ impl Laboratory {
         ensures asks { IfSome result (λ number. heads_wanted_fault (slice_get self.now.world.messages number) ≡ None) }
         ensures missing { IfNone result ((number : ℕ) → number_of self.now.message_names name.now ≡ Some number →
             heads_wanted_fault (slice_get self.now.world.messages number) ≡ Some NoMessage) }
+        ensures winners { laboratory_of_winners self.now ≡ self.now }
     {
         let number = self.message_of(name)?;
         match self.world.message(number) {
