@@ -1,4 +1,4 @@
--- Lemmas of a laboratory: its winners suffice, its plan stays, kept runs hold, its names have numbers, its outcomes are
+-- Lemmas of a laboratory: its winners suffice, its plan stays, caches hold, its names have numbers, its outcomes are
 -- its world's, and each cause against a crowd has an answer.
 pub mod WinnersSuffice
 pub mod PlanStays

@@ -1,5 +1,5 @@
 -- What the outcomes of commands are, by what the world does.
-use Rattle.std.proofs.Common.{◌≡◌, ◌⊎◌, ◌<◌, ℕ, List, length, Option, Some, None, refl, ap, sym, subst, ◌∙◌, inl, inr}
+use Rattle.std.proofs.Common.{◌≡◌, ◌⊎◌, ◌<◌, ℕ, List, length, false, Option, Some, None, refl, ap, sym, subst, ◌∙◌, inl, inr}
 use Rattle.std.specs.Global.{Vec}
 use Rattle.std.specs.Option.{option_and_then, option_map}
 use Rattle.lattice_core.specs.Sets.{from_list}
@@ -8,14 +8,15 @@ use Rattle.road_replica.specs.Refusals.{import_fault}
 use Rattle.road_replica.specs.declared.faults.ReplicaFault.{ReplicaFault}
 use Rattle.road_replica.specs.declared.faults.ReplicaFault.TheVariants.{OutOfMemory, WorkersGone}
 use Rattle.road_world.proofs.EventAnswers.{fault_there}
-use Rattle.road_world.specs.Answers.{IsRefusal, IsUnnamedRefusal, fault_at_replica, fault_of_event, replica_number}
-use Rattle.road_world.specs.Events.{world_with_edits}
+use Rattle.road_world.specs.Answers.{IsRefusal, IsUnnamedRefusal, fault_at_replica, fault_of_event, replica_number, reply_to_event}
+use Rattle.road_world.specs.Events.{World, world_with_edits}
 use Rattle.road_world.specs.declared.event.Event.{Event}
 use Rattle.road_world.specs.declared.event.Event.TheVariants as events
 use Rattle.road_world.specs.declared.faults.WorldFault.{WorldFault}
 use Rattle.road_world.specs.declared.faults.WorldFault.TheVariants as world_faults
 use Rattle.road_format.specs.Replies.{Answer, Refused}
 use Rattle.road_format.specs.declared.refusal.Refusal.{Refusal}
+use Rattle.road_commands.specs.Private.Changes.{makes_message, names_message}
 use Rattle.road_commands.specs.Laboratory.{Laboratory, change_outcome, import_outcome, outcome_unless, replica_refusal, touched_answer, world_refusal}
 
 -- ---- refusals
@@ -47,6 +48,39 @@ unanswered (events.Heads r) fault refusal is said = unanswered_memory fault refu
 unanswered (events.Beyond r m) fault refusal is said = unanswered_memory fault refusal is said
 unanswered (events.Take r m) fault refusal is said = unanswered_want fault refusal is said
 unanswered (events.Advance r to) fault refusal is said = unanswered_want fault refusal is said
+
+-- none of these is answered
+unnamed_want : (fault : WorldFault) → (fault ≡ world_faults.Replica WorkersGone) ⊎ (fault ≡ world_faults.Replica OutOfMemory) → world_refusal fault ≡ None
+unnamed_want fault is = elim is as (λ _. world_refusal fault ≡ None) [
+  | inl gone ↦ ap world_refusal gone
+  | inr memory ↦ ap world_refusal memory
+]
+
+unnamed : (e : Event) (fault : WorldFault) → IsUnnamedRefusal e fault → world_refusal fault ≡ None
+unnamed (events.Edit r o step n) fault is = unnamed_want fault is
+unnamed (events.Withdraw r o step) fault is = unnamed_want fault is
+unnamed (events.Import r es) fault is = unnamed_want fault is
+unnamed (events.Send r) fault is = ap world_refusal is
+unnamed (events.Heads r) fault is = ap world_refusal is
+unnamed (events.Beyond r m) fault is = ap world_refusal is
+unnamed (events.Take r m) fault is = unnamed_want fault is
+unnamed (events.Advance r to) fault is = unnamed_want fault is
+
+-- an event that no named cause refuses fails for want of workers or memory, if at all
+pub accepted_unnamed : (w : World) (e : Event) (fault : WorldFault) → replica_number e < length w.replicas → fault_at_replica w e ≡ None → IsRefusal e (fault_of_event w e) fault → world_refusal fault ≡ None
+accepted_unnamed w e fault below accepted is =
+    unnamed e fault (subst (λ (cause : Option WorldFault). IsRefusal e cause fault) (fault_there w e below ∙ accepted) is)
+
+-- an event that makes no message is replied to by no number of one
+pub change_named : (w : World) (e : Event) → makes_message e ≡ false → names_message (reply_to_event w e) ≡ false
+change_named w (events.Edit r o step n) h = refl
+change_named w (events.Withdraw r o step) h = refl
+change_named w (events.Import r es) h = refl
+change_named w (events.Send r) h = cc
+change_named w (events.Heads r) h = cc
+change_named w (events.Beyond r m) h = cc
+change_named w (events.Take r m) h = refl
+change_named w (events.Advance r to) h = refl
 
 -- a refusal that has an answer is for a named cause
 named : (e : Event) (cause : Option WorldFault) (fault : WorldFault) (refusal : Refusal) → IsRefusal e cause fault → world_refusal fault ≡ Some refusal → option_and_then world_refusal cause ≡ Some refusal

@@ -1,14 +1,13 @@
--- What is kept of the runs of a laboratory's replicas, and what an event makes of it.
-use Rattle.std.proofs.Common.{◌≡◌, ◌≢◌, ◌<◌, ℕ, zero, suc, List, [], ◌∷◌, length, Some, true, refl, ap, sym, subst, ◌∙◌, arith}
+-- The caches of a laboratory's queries, and what an event makes of them.
+use Rattle.std.proofs.Common.{◌≡◌, ◌≢◌, ◌<◌, ◌≤◌, ℕ, zero, suc, List, [], ◌∷◌, length, Some, true, refl, ap, sym, subst, ◌∙◌, arith}
 use Rattle.std.specs.Prelude.{slice_set}
 use Rattle.std.specs.List.{All, slice_get, slice_index_or}
 use Rattle.std.proofs.lemmas.List.{get_or-set_other, length-map, length-replicate, length-set}
 use Rattle.std.proofs.lemmas.List.Elements.{All-head, All-tail}
 use Rattle.std.proofs.lemmas.Option.{slice_get_read}
 use Rattle.road_plan.specs.Plan.{Plan}
-use Rattle.road_scenario.specs.Edits.{Edits}
+use Rattle.road_plan.specs.declared.limits.TheConstants.{MOST_REPLICAS}
 use Rattle.road_scenario.specs.Winners.{winners}
-use Rattle.road_sheet.specs.Shown.{run_at}
 use Rattle.road_sheet.specs.Sheets.{Sheet}
 use Rattle.road_world.proofs.EventLists.{plan-after_events, replicas-after_event}
 use Rattle.road_world.proofs.WinnersSuffice.{opening_world-of_winners, replica-of_winners, world-again}
@@ -16,10 +15,11 @@ use Rattle.road_world.specs.Answers.{replica_number, sheet_at}
 use Rattle.road_world.specs.Events.{World, WorldReplica, opening_replica, opening_world, replica_at, replica_of_winners, world_after_event, world_of_winners}
 use Rattle.road_world.specs.declared.event.Event.{Event}
 use Rattle.road_world.specs.declared.event.Event.TheVariants.{Edit, Withdraw, Import, Send, Heads, Beyond, Take, Advance}
-use Rattle.road_commands.specs.Private.Caching.{IsKept, IsCacheOf}
+use Rattle.road_replica.specs.QueryCaches.{CachedState, IsCacheOf}
+use Rattle.road_replica.proofs.SameRuns as cache_runs
+use Rattle.road_commands.specs.Private.Caching.{IsCached}
 use Rattle.road_commands.specs.Laboratory.{Laboratory}
 use Rattle.road_commands.specs.Private.Changes.{keeps_edits}
-use Rattle.road_commands.specs.declared.query_cache.QueryCache.{QueryCache}
 
 -- ---- lists of which one element is set
 
@@ -85,15 +85,11 @@ won_edits v w q won same =
     ap (λ (x : WorldReplica). x.edits) (replica-of_winners v q) ∙ ap winners same
     ∙ sym (ap (λ (x : WorldReplica). x.edits) (replica-of_winners w q)) ∙ ap (λ (u : World). (replica_at u q).edits) won
 
--- ---- what is kept of one run
+-- ---- one cache
 
 -- of the run of one plan and edits, it is so of the run of the same
-same_run : (v w : World) (q : ℕ) (kept : QueryCache) → v.plan ≡ w.plan → SameEdits v w q → IsCacheOf (sheet_at w q) kept → IsCacheOf (sheet_at v q) kept
-same_run v w q kept plan same is = record {
-  run = is.run ∙ ap (λ (p : Plan). run_at p (replica_at w q).edits kept.state.step) (sym plan)
-      ∙ ap (λ (es : Edits). run_at v.plan es kept.state.step) (sym same);
-  words = is.words ∙ ap (λ (p : Plan). p.words) (sym plan);
-}
+same_run : (v w : World) (q : ℕ) (kept : CachedState) → v.plan ≡ w.plan → SameEdits v w q → IsCacheOf (sheet_at w q) kept → IsCacheOf (sheet_at v q) kept
+same_run v w q kept plan same is = cache_runs.same_run (sheet_at w q) (sheet_at v q) kept (sym plan) (sym same) is
 
 -- an event keeps the plan
 plan_kept : (e : Event) (w : World) → (world_after_event e w).plan ≡ w.plan
@@ -103,60 +99,64 @@ plan_kept e w = plan-after_events (e ∷ []) w
 as_many : (e : Event) (w : World) → length (world_of_winners (world_after_event e w)).replicas ≡ length w.replicas
 as_many e w = length-map (world_after_event e w).replicas replica_of_winners ∙ replicas-after_event e w
 
--- ---- what is kept of all
+-- ---- all caches
 
--- what is kept of a replica's run, as it is read
-pub kept_read : (names : List (List ℕ)) (w : World) (runs : List QueryCache) (r : ℕ) (run : QueryCache) (sheet : Sheet) → IsKept names w runs → r < length runs → run ≡ slice_index_or runs r run → sheet ≡ sheet_at w r → IsCacheOf sheet run
-kept_read names w runs r run sheet kept below is same =
-    subst (λ (s : Sheet). IsCacheOf s run) (sym same) (kept.kept r run (slice_get_read runs (length runs) r run refl below is))
+-- the cache of a replica, as it is read
+pub cached_read : (names : List (List ℕ)) (w : World) (runs : List CachedState) (r : ℕ) (run : CachedState) (sheet : Sheet) → IsCached names w runs → r < length runs → run ≡ slice_index_or runs r run → sheet ≡ sheet_at w r → IsCacheOf sheet run
+cached_read names w runs r run sheet kept below is same =
+    subst (λ (s : Sheet). IsCacheOf s run) (sym same) (kept.cached r run (slice_get_read runs (length runs) r run refl below is))
 
 -- after an event that keeps edits
-pub kept_on : (names : List (List ℕ)) (w v : World) (runs : List QueryCache) (e : Event) → IsKept names w runs → v ≡ world_of_winners (world_after_event e w) → keeps_edits e ≡ true → IsKept names v runs
-kept_on names w v runs e kept is keeps =
-    let after : IsKept names (world_of_winners (world_after_event e w)) runs = record {
+pub cached_on : (names : List (List ℕ)) (w v : World) (runs : List CachedState) (e : Event) → IsCached names w runs → v ≡ world_of_winners (world_after_event e w) → keeps_edits e ≡ true → IsCached names v runs
+cached_on names w v runs e kept is keeps =
+    let after : IsCached names (world_of_winners (world_after_event e w)) runs = record {
+      few = kept.few;
       replicas = as_many e w ∙ kept.replicas;
       winners = world-again (world_after_event e w);
       each = kept.each;
-      kept = λ q run at. same_run (world_of_winners (world_after_event e w)) w q run (plan_kept e w)
-          (won_edits (world_after_event e w) w q kept.winners (edits_kept e w q keeps)) (kept.kept q run at);
+      cached = λ q run at. same_run (world_of_winners (world_after_event e w)) w q run (plan_kept e w)
+          (won_edits (world_after_event e w) w q kept.winners (edits_kept e w q keeps)) (kept.cached q run at);
     } in
-    subst (λ (u : World). IsKept names u runs) (sym is) after
+    subst (λ (u : World). IsCached names u runs) (sym is) after
 
--- after any event, where what is kept of its replica's run becomes something of every run of the plan
-pub kept_but_one : (names : List (List ℕ)) (w v : World) (runs : List QueryCache) (e : Event) (r : ℕ) (old new : QueryCache) → IsKept names w runs → v ≡ world_of_winners (world_after_event e w) → r ≡ replica_number e
-    → r < length runs → old ≡ slice_index_or runs r old → ((before after : Sheet) → before.plan ≡ after.plan → IsCacheOf before old → IsCacheOf after new) → IsKept names v (slice_set runs r new)
-kept_but_one names w v runs e r old new kept is here below was restarts =
+-- after any event, where the cache of its replica becomes one of every run of the plan
+pub cached_but_one : (names : List (List ℕ)) (w v : World) (runs : List CachedState) (e : Event) (r : ℕ) (old new : CachedState) → IsCached names w runs → v ≡ world_of_winners (world_after_event e w) → r ≡ replica_number e
+    → r < length runs → old ≡ slice_index_or runs r old → ((before after : Sheet) → before.plan ≡ after.plan → IsCacheOf before old → IsCacheOf after new) → IsCached names v (slice_set runs r new)
+cached_but_one names w v runs e r old new kept is here below was restarts =
     let u : World = world_of_winners (world_after_event e w) in
-    let at_first : IsCacheOf (sheet_at w r) old = kept_read names w runs r old (sheet_at w r) kept below was refl in
-    let after : IsKept names u (slice_set runs r new) = record {
+    let at_first : IsCacheOf (sheet_at w r) old = cached_read names w runs r old (sheet_at w r) kept below was refl in
+    let after : IsCached names u (slice_set runs r new) = record {
+      few = kept.few;
       replicas = as_many e w ∙ kept.replicas;
       winners = world-again (world_after_event e w);
       each = length-set runs r new ∙ kept.each;
-      kept = set_each (λ q run. IsCacheOf (sheet_at u q) run) runs r new (restarts (sheet_at w r) (sheet_at u r) (sym (plan_kept e w)) at_first)
-          (λ q run other at. same_run u w q run (plan_kept e w) (won_edits (world_after_event e w) w q kept.winners (others_kept e w q (λ h. other (h ∙ sym here)))) (kept.kept q run at));
+      cached = set_each (λ q run. IsCacheOf (sheet_at u q) run) runs r new (restarts (sheet_at w r) (sheet_at u r) (sym (plan_kept e w)) at_first)
+          (λ q run other at. same_run u w q run (plan_kept e w) (won_edits (world_after_event e w) w q kept.winners (others_kept e w q (λ h. other (h ∙ sym here)))) (kept.cached q run at));
     } in
-    subst (λ (x : World). IsKept names x (slice_set runs r new)) (sym is) after
+    subst (λ (x : World). IsCached names x (slice_set runs r new)) (sym is) after
 
--- after a question, from which something of the run is kept
-pub kept_shown : (names : List (List ℕ)) (w : World) (runs : List QueryCache) (r : ℕ) (new : QueryCache) (sheet : Sheet) → IsKept names w runs → sheet ≡ sheet_at w r → IsCacheOf sheet new → IsKept names w (slice_set runs r new)
-kept_shown names w runs r new sheet kept same is = record {
+-- after a query, of which the cache is another one of the run
+pub cached_shown : (names : List (List ℕ)) (w : World) (runs : List CachedState) (r : ℕ) (new : CachedState) (sheet : Sheet) → IsCached names w runs → sheet ≡ sheet_at w r → IsCacheOf sheet new → IsCached names w (slice_set runs r new)
+cached_shown names w runs r new sheet kept same is = record {
+  few = kept.few;
   replicas = kept.replicas;
   winners = kept.winners;
   each = length-set runs r new ∙ kept.each;
-  kept = set_each (λ q run. IsCacheOf (sheet_at w q) run) runs r new (subst (λ (s : Sheet). IsCacheOf s new) same is) (λ q run other at. kept.kept q run at);
+  cached = set_each (λ q run. IsCacheOf (sheet_at w q) run) runs r new (subst (λ (s : Sheet). IsCacheOf s new) same is) (λ q run other at. kept.cached q run at);
 }
 
 -- before any command
-pub kept_opening : (names : List (List ℕ)) (plan : Plan) (w : World) (runs : List QueryCache) (count : ℕ) → w ≡ opening_world plan count → count ≡ length names → length runs ≡ count
-    → ((sheet : Sheet) → sheet.plan ≡ plan → All (IsCacheOf sheet) runs) → IsKept names w runs
-kept_opening names plan w runs count is named each opening =
-    let first : IsKept names (opening_world plan count) runs = record {
+pub cached_opening : (names : List (List ℕ)) (plan : Plan) (w : World) (runs : List CachedState) (count : ℕ) → w ≡ opening_world plan count → count ≡ length names → length runs ≡ count
+    → length names ≤ MOST_REPLICAS → ((sheet : Sheet) → sheet.plan ≡ plan → All (IsCacheOf sheet) runs) → IsCached names w runs
+cached_opening names plan w runs count is named each few opening =
+    let first : IsCached names (opening_world plan count) runs = record {
+      few = few;
       replicas = length-replicate count opening_replica ∙ named;
       winners = opening_world-of_winners plan count;
       each = each ∙ named;
-      kept = λ q run at. all_at (IsCacheOf (sheet_at (opening_world plan count) q)) runs q run (opening (sheet_at (opening_world plan count) q) refl) at;
+      cached = λ q run at. all_at (IsCacheOf (sheet_at (opening_world plan count) q)) runs q run (opening (sheet_at (opening_world plan count) q) refl) at;
     } in
-    subst (λ (u : World). IsKept names u runs) (sym is) first
+    subst (λ (u : World). IsCached names u runs) (sym is) first
 
 -- ---- what the laboratory's view says
 
@@ -164,8 +164,8 @@ kept_opening names plan w runs count is named each opening =
 abbrev pub laboratory_with : List (List ℕ) → List (List ℕ) → World → Laboratory
 laboratory_with names messages w = record { replica_names = names; message_names = messages; world = w }
 
-module _ (names messages : List (List ℕ)) (w : World) (runs : List QueryCache) (lab : Laboratory) (view_is : laboratory_with names messages w ≡ lab) (kept : IsKept names w runs) where
-  -- a number below how many names there are is that of what is kept of a run
+module _ (names messages : List (List ℕ)) (w : World) (runs : List CachedState) (lab : Laboratory) (view_is : laboratory_with names messages w ≡ lab) (kept : IsCached names w runs) where
+  -- a number below how many names there are is that of a cache
   pub run_below : (r : ℕ) → r < length lab.replica_names → r < length runs
   run_below r below =
       let same : length names ≡ length lab.replica_names = ap (λ (l : Laboratory). length l.replica_names) view_is in omega (arith, same, kept.each, below)

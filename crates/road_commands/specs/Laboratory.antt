@@ -23,11 +23,12 @@ use Rattle.road_detector.specs.declared.counts.Totals.{Totals}
 use Rattle.road_sheet.specs.Sheets.{Sheet, sheet_row, rows_of, state_of, total_of}
 use Rattle.road_sheet.specs.Shown.{row_at}
 use Rattle.road_replica.specs.Crowds.{crowd_winners, crowd_writes, shares_fault}
-use Rattle.road_replica.specs.Refusals.{gone_after_fault, import_fault, rows_fault, state_fault, totals_fault}
+use Rattle.road_replica.specs.Refusals.{import_fault, rows_fault, state_fault, totals_fault}
 use Rattle.road_replica.specs.Replicas.{local_edit}
 use Rattle.road_replica.specs.declared.crowds.TheConstants.{MOST_CROWD_WRITES}
 use Rattle.road_replica.specs.declared.faults.ReplicaFault.{ReplicaFault}
 use Rattle.road_replica.specs.declared.faults.ReplicaFault.TheVariants as replica_faults
+use Rattle.road_workers.specs.Crews.{gone_after}
 use Rattle.road_workers.specs.declared.faults.CrewFault.{CrewFault}
 use Rattle.road_workers.specs.declared.faults.CrewFault.TheVariants as crew_faults
 use Rattle.road_world.specs.Answers.{fault_at_replica, sheet_at}
@@ -44,8 +45,6 @@ use Rattle.road_format.specs.Replies as replies
 use Rattle.road_format.specs.Replies.{Answer, Counted, Delta, Horizon, Refused, Sent, Stamped, Touched}
 use Rattle.road_format.specs.declared.refusal.Refusal.{Refusal}
 use Rattle.road_format.specs.declared.refusal.Refusal.TheVariants as refusals
-use Rattle.road_commands.specs.declared.faults.LaboratoryFault.{LaboratoryFault}
-use Rattle.road_commands.specs.declared.faults.LaboratoryFault.TheVariants as faults
 
 -- the names of the replicas, in the order of their numbers; those of the messages, in the order in which they were
 -- made; and their world
@@ -316,25 +315,14 @@ answer_to lab command = (outcome lab command).answer
 abbrev pub laboratory_after : Laboratory → Command → Laboratory
 laboratory_after lab command = (outcome lab command).after
 
--- how often a crew has answered `WorkersGone`, after an answer of the laboratory
-abbrev pub gone_after : {A : Type 0} → Result A LaboratoryFault → ℕ → ℕ
-gone_after (Ok answer) n = n
-gone_after (Err faults.WorkersGone) n = gone_after_fault replica_faults.WorkersGone n
-gone_after (Err faults.OutOfMemory) n = n
-
 -- whether a command is a crowd that nothing refuses, so that sessions on threads of their own are asked
 abbrev pub is_gathered : Plan → Command → Bool
 is_gathered plan command =
     option_map_or (λ crowd. is_none (crowd_refusal plan crowd.0 crowd.1)) (crowd_of command) false
 
 -- how often a crew has answered `WorkersGone`, after an answer to a command; sessions that are asked ask no crew
-abbrev pub gone_after_command : {A : Type 0} → Result A LaboratoryFault → Bool → ℕ → ℕ
+abbrev pub gone_after_command : {A : Type 0} → Result A CrewFault → Bool → ℕ → ℕ
 gone_after_command (Ok answer) gathered n = n
-gone_after_command (Err faults.OutOfMemory) gathered n = n
-gone_after_command (Err faults.WorkersGone) true n = n
-gone_after_command (Err faults.WorkersGone) false n = gone_after_fault replica_faults.WorkersGone n
-
--- the fault of the laboratory where the sessions of a crowd leave nothing
-abbrev pub gathering_fault : CrewFault → LaboratoryFault
-gathering_fault crew_faults.WorkersGone = faults.WorkersGone
-gathering_fault crew_faults.OutOfMemory = faults.OutOfMemory
+gone_after_command (Err crew_faults.OutOfMemory) gathered n = n
+gone_after_command (Err crew_faults.WorkersGone) true n = n
+gone_after_command (Err crew_faults.WorkersGone) false n = gone_after {A = Answer} (Err crew_faults.WorkersGone) n

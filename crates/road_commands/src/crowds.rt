@@ -15,7 +15,7 @@ use road_plan::limits::MOST_SESSIONS;
 use road_replica::{MOST_CROWD_WRITES, shares_fault, write_count};
 use road_scenario::Edit;
 
-// The shares and the step of a command that is a crowd.
+// Returns the shares and the step of a command that is a crowd.
 pub(crate) fn crowd_of(command: &Command) -> Option<(&[Vec<Edit>], u32)>
     ensures { option_map (λ crowd. (shares_view crowd.0.now, crowd.1)) result
         ≡ laboratory.crowd_of (command_view command.now) }
@@ -26,7 +26,7 @@ pub(crate) fn crowd_of(command: &Command) -> Option<(&[Vec<Edit>], u32)>
     }
 }
 
-// Why a crowd is refused, if so. Where it is not, it may be gathered.
+// Returns why a crowd is refused, if so. Where it is not, it may be gathered.
 pub(crate) fn crowd_refusal(plan: &Plan, shares: &[Vec<Edit>], to: u32) -> Option<Refusal>
     ensures refusal { result ≡ laboratory.crowd_refusal plan.now (shares_view shares.now) to }
     ensures some { IfNone result (0 < length shares.now) }
@@ -41,7 +41,7 @@ pub(crate) fn crowd_refusal(plan: &Plan, shares: &[Vec<Edit>], to: u32) -> Optio
     replica_refusal(fault)
 }
 
-// Whether shares are gathered.
+// Returns whether shares are gathered.
 fn are_gathered(shares: &[Vec<Edit>]) -> bool
     ensures gathered { result ≡ laboratory.are_gathered (shares_view shares.now) }
     ensures some { IsTrue result → 0 < length shares.now }

@@ -1,6 +1,6 @@
 //! A world with names, and its answers to commands.
 
-ghost use Rattle.std.specs.Prelude.{◌≡◌, ◌<◌, ◌≤◌, ◌++◌, ◌∷◌, [], IfNone, IfOk, IfSome, None, OnErr, OnOk, Some, is_none, length, ℕ};
+ghost use Rattle.std.specs.Prelude.{◌≡◌, ◌<◌, ◌≤◌, ◌++◌, ◌∷◌, [], IfNone, IfOk, IfSome, None, OnErr, OnOk, Some, false, is_none, length, ℕ};
 ghost use Rattle.std.specs.Arc.{arc_value};
 ghost use Rattle.std.specs.List.{All, IsDistinct, slice_get};
 ghost use Rattle.std.specs.Str.{bytes_eq};
@@ -8,57 +8,56 @@ ghost use Rattle.lattice_core.specs.Sets.{items};
 ghost use Rattle.road_plan.specs.declared.limits.TheConstants.{MOST_REPLICAS};
 ghost use Rattle.road_delta.specs.Deltas as deltas;
 ghost use Rattle.road_sheet.specs.Sheets.{Sheet};
+ghost use Rattle.road_replica.specs.QueryCaches.{IsCacheOf};
+ghost use Rattle.road_workers.specs.Crews.{gone_after};
 ghost use Rattle.road_world.specs.Answers.{IsAnswer, fault_at_replica, gone_after_answer, heads_wanted_fault};
 ghost use Rattle.road_world.specs.Answers.{replica_number, reply_to_event, sheet_at};
 ghost use Rattle.road_world.specs.Events.{asked_heads, world_after_event};
 ghost use Rattle.road_world.specs.declared.faults.WorldFault.TheVariants.{NoMessage};
 ghost use Rattle.road_format.specs.Replies as replies;
 ghost use Rattle.road_format.specs.Views.{answer_view, command_view, plan_line_view, shares_view, texts};
-ghost use Rattle.road_commands.specs.Private.Caching.{IsCacheOf};
-ghost use Rattle.road_commands.specs.Laboratory.{answer_to, beyond_outcome, change_outcome, edits_held, gone_after};
+ghost use Rattle.road_commands.specs.Laboratory.{answer_to, beyond_outcome, change_outcome, edits_held};
 ghost use Rattle.road_commands.specs.Laboratory.{heads_outcome, import_outcome, laboratory_after};
 ghost use Rattle.road_commands.specs.Laboratory.{laboratory_of_winners, number_of, opening_laboratory, outcome_at};
 ghost use Rattle.road_commands.specs.Laboratory.{outcome_by_name};
 ghost use Rattle.road_commands.specs.Laboratory.{send_outcome, take_outcome};
 ghost use Rattle.road_commands.specs.Laboratory.{crowd_outcome, gone_after_command, is_gathered};
 ghost use Rattle.road_commands.specs.Laboratory as laboratory;
-ghost use Rattle.road_commands.specs.Private.Changes.{reply_answer};
+ghost use Rattle.road_commands.specs.Private.Changes.{makes_message, reply_answer};
 ghost use Rattle.road_commands.specs.Private.Questions.{answer_to_question};
 
 use crate::crowds::{crowd_of, crowd_refusal};
-use crate::faults::LaboratoryFault;
 use crate::names::Names;
-use crate::queries::answer;
-use crate::query_cache::QueryCache;
+use crate::queries::ask_sheet;
 use crate::question::Question;
-use crate::translation::{answer_of, fault_by, keeps_edits, name_of, refusal_of};
+use crate::translation::{answer_of, fault_by, keeps_edits, name_of, refusal_of, replica_refusal};
 use road_delta::{Head, beyond, heads_of};
 use road_ends::Meter;
 use road_format::{Answer, Command, PlanLine, Refusal};
 use road_plan::{OutOfMemory, Plan};
-use road_replica::{Crowd, Crowds, Reply};
+use road_replica::{Crowd, Crowds, QueryCache, Reply};
 use road_scenario::Edit;
-use road_workers::Crew;
+use road_workers::{Crew, CrewFault};
 use road_world::{Event, Message, World, WorldFault};
 use std::alloc::Global;
 use std::marker::Model;
 use std::sync::Arc;
 
-/// A world whose replicas and messages have names. Of each replica the last state that was computed for a question is
-/// kept too, until the replica's edits change, and the words that were drawn for it: some 140 bytes for each of its cars.
+/// A world whose replicas and messages have names, and a cache of the queries of each replica: some 140 bytes for each of
+/// its cars.
 #[derive(Drop)]
 pub struct Laboratory {
     replicas: Names,
     messages: Names,
     world: World,
-    runs: Vec<QueryCache>,
+    caches: Vec<QueryCache>,
     meter: Meter,
 }
 
 impl Model for Laboratory {
     ghost use Rattle.std.specs.Coded.{codes};
     ghost use Rattle.road_scenario.specs.Instances.EditOrder.{edits_code};
-    ghost use Rattle.road_commands.specs.Private.Caching.{IsKept};
+    ghost use Rattle.road_commands.specs.Private.Caching.{IsCached};
     ghost use Rattle.road_commands.specs.Laboratory.{Laboratory};
 
     ghost Value = { Laboratory };
@@ -71,11 +70,11 @@ impl Model for Laboratory {
       world = lab.world;
     } };
 
-    ghost invariant = { λ lab. IsKept lab.replicas lab.world lab.runs.items };
+    ghost invariant = { λ lab. IsCached lab.replicas lab.world lab.caches.items };
 }
 
 impl Laboratory {
-    /// The laboratory of a plan line, before any command. No step is simulated. The line has at most 64 names, all
+    /// Opens the laboratory of a plan line, before any command. No step is simulated. The line has at most 64 names, all
     /// different, as every line that `read_plan` accepts.
     ///
     /// # Errors
@@ -89,32 +88,32 @@ impl Laboratory {
         let replicas = Names::of(alloc, line.names)?;
         let count = replicas.len();
         let plan = Arc::new(alloc, line.plan)?;
-        let runs = opening_runs(alloc, &plan, count)?;
+        let caches = opening_caches(alloc, &plan, count)?;
         let world = World::open(alloc, plan, count as u32)?;
         Ok(Laboratory {
             replicas,
             messages: Names::none(alloc),
             world,
-            runs,
+            caches,
             meter: Meter::new(),
         })
     }
 
-    /// What a command is answered. A write computes anew, by the crew that it is given, every simulated step that it
-    /// touches before it answers. A crowd that nothing refuses is gathered by `crowds`. A refused command changes nothing,
-    /// and a crowd neither.
+    /// Answers a command. A write computes anew, by the crew that it is given, every simulated step that it touches before
+    /// it answers. A crowd that nothing refuses is gathered by `crowds`. A refused command changes nothing, and a crowd
+    /// neither.
     ///
     /// # Errors
     ///
-    /// `WorkersGone` where the crew answers so, or, at a crowd that nothing refuses, `crowds` does; `OutOfMemory` where a
-    /// growth was refused, or `crowds` says so. The laboratory is then as it was before.
+    /// `WorkersGone` where the crew answers so, or, at a crowd that nothing refuses, `crowds` does; `OutOfMemory` where an
+    /// allocation failed, or `crowds` says so. The laboratory is then as it was before.
     pub fn answer<C: Crew, K: Crowds>(
         &mut self,
         alloc: Global,
         command: &Command,
         crew: &mut C,
         crowds: &K,
-    ) -> Result<Answer, LaboratoryFault>
+    ) -> Result<Answer, CrewFault>
         ensures answer { IfOk result (λ answer. answer_view answer ≡ answer_to self.old (command_view command.now)) }
         ensures after { OnOk result (self.new
             ≡ laboratory_of_winners (laboratory_after self.old (command_view command.now))) }
@@ -122,23 +121,23 @@ impl Laboratory {
         ensures gone { C.times_gone crew.new ≡ gone_after_command result
             (is_gathered self.old.world.plan (command_view command.now)) (C.times_gone crew.old) }
     {
-        self.known();
         if let Some((shares, to)) = crowd_of(command) {
             return self.gather(alloc, shares, to, crowds);
         }
         self.answer_by_name(alloc, command, crew)
     }
 
-    // What a crowd is answered.
+    // Answers a crowd.
     fn gather<K: Crowds>(
         &self,
         alloc: Global,
         shares: &[Vec<Edit>],
         to: u32,
         crowds: &K,
-    ) -> Result<Answer, LaboratoryFault>
+    ) -> Result<Answer, CrewFault>
         ensures answer { IfOk result (λ answer. answer_view answer
             ≡ (crowd_outcome self.now (shares_view shares.now) to).answer) }
+        ensures winners { laboratory_of_winners self.now ≡ self.now }
         ensures no_crew { (n : ℕ) → gone_after_command result
             (is_none (laboratory.crowd_refusal self.now.world.plan (shares_view shares.now) to)) n ≡ n }
     {
@@ -158,13 +157,13 @@ impl Laboratory {
         })
     }
 
-    // What a command is answered that is no crowd: its replica is asked for first.
+    // Answers a command that is no crowd: its replica is asked for first.
     fn answer_by_name<C: Crew>(
         &mut self,
         alloc: Global,
         command: &Command,
         crew: &mut C,
-    ) -> Result<Answer, LaboratoryFault>
+    ) -> Result<Answer, CrewFault>
         requires { laboratory.crowd_of (command_view command.now) ≡ None }
         ensures answer { IfOk result (λ answer. answer_view answer
             ≡ (outcome_by_name self.old (command_view command.now)).answer) }
@@ -173,40 +172,30 @@ impl Laboratory {
         ensures unchanged { OnErr result (self.new ≡ self.old) }
         ensures gone { C.times_gone crew.new ≡ gone_after result (C.times_gone crew.old) }
     {
-        self.known();
         let Some(at) = self.replica_of(name_of(command)) else {
             return Ok(Answer::Refused(Refusal::NoReplica));
         };
         self.answer_at(alloc, at, command, crew)
     }
 
-    // That each name has a replica, and that replicas and messages have winners alone. It is a fact for proofs: the call
-    // does nothing.
-    fn known(&self)
-        ensures winners { laboratory_of_winners self.now ≡ self.now }
-        ensures replicas { length self.now.world.replicas ≡ length self.now.replica_names }
-    {
-        let _ = &self.world;
-    }
-
-    // The number of a replica's name.
+    // Returns the number of a replica's name.
     fn replica_of(&self, name: &str) -> Option<u32>
         ensures number { result ≡ number_of self.now.replica_names name.now }
         ensures within { IfSome result (λ at. at < length self.now.replica_names) }
+        ensures winners { laboratory_of_winners self.now ≡ self.now }
     {
-        self.world.known();
         let number = self.replicas.number_of(name)?;
         Some(number as u32)
     }
 
-    // What a command to a replica is answered.
+    // Answers a command to a replica.
     fn answer_at<C: Crew>(
         &mut self,
         alloc: Global,
         at: u32,
         command: &Command,
         crew: &mut C,
-    ) -> Result<Answer, LaboratoryFault>
+    ) -> Result<Answer, CrewFault>
         requires there { at < length self.old.replica_names }
         requires no_crowd { laboratory.crowd_of (command_view command.now) ≡ None }
         ensures answer { IfOk result (λ answer. answer_view answer
@@ -216,7 +205,6 @@ impl Laboratory {
         ensures unchanged { OnErr result (self.new ≡ self.old) }
         ensures gone { C.times_gone crew.new ≡ gone_after result (C.times_gone crew.old) }
     {
-        self.known();
         match command {
             Command::Edit {
                 object,
@@ -279,31 +267,39 @@ impl Laboratory {
         }
     }
 
-    // What a replica is asked is answered by its sheet. No crew is needed.
-    fn ask(&mut self, alloc: Global, at: u32, question: Question) -> Result<Answer, LaboratoryFault>
+    // Asks a replica's sheet. No crew is needed.
+    fn ask(&mut self, alloc: Global, at: u32, question: Question) -> Result<Answer, CrewFault>
         requires { at < length self.old.replica_names }
         ensures answer { IfOk result (λ answer. answer_view answer
             ≡ answer_to_question (sheet_at self.old.world at) question) }
         ensures unchanged { self.new ≡ self.old }
+        ensures winners { laboratory_of_winners self.old ≡ self.old }
         ensures no_crew { (n : ℕ) → gone_after result n ≡ n }
     {
         let Some(replica) = self.world.replica(at) else {
-            return Ok(Answer::Refused(Refusal::NoReplica));
+            unreachable!()
         };
-        let kept = &mut self.runs[at as usize];
-        Ok(answer(alloc, replica.sheet(), kept, question)?)
+        let cache = &mut self.caches[at as usize];
+        match ask_sheet(alloc, replica.sheet(), cache, question) {
+            Ok(answer) => Ok(answer),
+            Err(fault) => match replica_refusal(fault) {
+                Some(refusal) => Ok(Answer::Refused(refusal)),
+                None => Err(CrewFault::OutOfMemory),
+            },
+        }
     }
 
     // ---- changes
 
-    // An event takes place that makes no message.
+    // Applies an event that makes no message.
     fn change<C: Crew>(
         &mut self,
         alloc: Global,
         event: &Event,
         crew: &mut C,
-    ) -> Result<Answer, LaboratoryFault>
-        requires { replica_number event.now < length self.old.replica_names }
+    ) -> Result<Answer, CrewFault>
+        requires there { replica_number event.now < length self.old.replica_names }
+        requires no_message { makes_message event.now ≡ false }
         ensures answer { IfOk result (λ answer. answer_view answer
             ≡ (change_outcome self.old event.now (reply_answer (reply_to_event self.old.world event.now))).answer) }
         ensures after { (given : replies.Answer) → OnOk result (self.new
@@ -311,7 +307,6 @@ impl Laboratory {
         ensures unchanged { OnErr result (self.new ≡ self.old) }
         ensures gone { C.times_gone crew.new ≡ gone_after result (C.times_gone crew.old) }
     {
-        self.known();
         match self.apply(alloc, event, crew) {
             Ok(reply) => Ok(answer_of(reply)),
             Err(fault) => match refusal_of(fault) {
@@ -321,14 +316,14 @@ impl Laboratory {
         }
     }
 
-    // Edits reach a replica from outside.
+    // Has a replica take edits from outside.
     fn import<C: Crew>(
         &mut self,
         alloc: Global,
         at: u32,
         edits: &Vec<Edit>,
         crew: &mut C,
-    ) -> Result<Answer, LaboratoryFault>
+    ) -> Result<Answer, CrewFault>
         requires { at < length self.old.replica_names }
         ensures answer { IfOk result (λ answer. answer_view answer
             ≡ (import_outcome self.old at edits.now.items).answer) }
@@ -341,48 +336,52 @@ impl Laboratory {
         self.change(alloc, &Event::Import { at, edits }, crew)
     }
 
-    // A message reaches a replica.
+    // Returns the number of a message's name.
+    fn message_of(&self, name: &str) -> Option<u64>
+        ensures number { result ≡ number_of self.now.message_names name.now }
+        ensures winners { laboratory_of_winners self.now ≡ self.now }
+    {
+        let number = self.messages.number_of(name)?;
+        Some(number as u64)
+    }
+
+    // Has a replica take a message.
     fn take<C: Crew>(
         &mut self,
         alloc: Global,
         at: u32,
         name: &str,
         crew: &mut C,
-    ) -> Result<Answer, LaboratoryFault>
+    ) -> Result<Answer, CrewFault>
         requires { at < length self.old.replica_names }
         ensures answer { IfOk result (λ answer. answer_view answer ≡ (take_outcome self.old at name.now).answer) }
         ensures after { OnOk result (self.new ≡ laboratory_of_winners (take_outcome self.old at name.now).after) }
         ensures unchanged { OnErr result (self.new ≡ self.old) }
         ensures gone { C.times_gone crew.new ≡ gone_after result (C.times_gone crew.old) }
     {
-        self.known();
-        match self.messages.number_of(name) {
-            Some(number) => {
-                let message = number as u64;
-                self.change(alloc, &Event::Take { at, message }, crew)
-            }
+        match self.message_of(name) {
+            Some(message) => self.change(alloc, &Event::Take { at, message }, crew),
             None => Ok(Answer::Refused(Refusal::NoMessage)),
         }
     }
 
     // ---- messages
 
-    // A replica sends all that it holds.
+    // Makes a message of all that a replica holds.
     fn send<C: Crew>(
         &mut self,
         alloc: Global,
         at: u32,
         name: &str,
         crew: &mut C,
-    ) -> Result<Answer, LaboratoryFault>
+    ) -> Result<Answer, CrewFault>
         requires { at < length self.old.replica_names }
         ensures answer { IfOk result (λ answer. answer_view answer ≡ (send_outcome self.old at name.now).answer) }
         ensures after { OnOk result (self.new ≡ laboratory_of_winners (send_outcome self.old at name.now).after) }
         ensures unchanged { OnErr result (self.new ≡ self.old) }
         ensures gone { C.times_gone crew.new ≡ gone_after result (C.times_gone crew.old) }
     {
-        self.known();
-        if self.messages.number_of(name).is_some() {
+        if self.message_of(name).is_some() {
             return Ok(Answer::Refused(Refusal::NameTaken));
         }
         let message = String::from_str(alloc, name)?;
@@ -391,22 +390,21 @@ impl Laboratory {
         Ok(Answer::Sent { message, size })
     }
 
-    // A replica sends the heads of all that it holds.
+    // Makes a message of the heads of all that a replica holds.
     fn heads<C: Crew>(
         &mut self,
         alloc: Global,
         at: u32,
         name: &str,
         crew: &mut C,
-    ) -> Result<Answer, LaboratoryFault>
+    ) -> Result<Answer, CrewFault>
         requires { at < length self.old.replica_names }
         ensures answer { IfOk result (λ answer. answer_view answer ≡ (heads_outcome self.old at name.now).answer) }
         ensures after { OnOk result (self.new ≡ laboratory_of_winners (heads_outcome self.old at name.now).after) }
         ensures unchanged { OnErr result (self.new ≡ self.old) }
         ensures gone { C.times_gone crew.new ≡ gone_after result (C.times_gone crew.old) }
     {
-        self.known();
-        if self.messages.number_of(name).is_some() {
+        if self.message_of(name).is_some() {
             return Ok(Answer::Refused(Refusal::NameTaken));
         }
         let message = String::from_str(alloc, name)?;
@@ -415,7 +413,7 @@ impl Laboratory {
         Ok(Answer::Heads { message, heads })
     }
 
-    // A replica sends what it holds beyond the heads of a message.
+    // Makes a message of what a replica holds beyond the heads of another.
     fn beyond<C: Crew>(
         &mut self,
         alloc: Global,
@@ -423,7 +421,7 @@ impl Laboratory {
         asked: &str,
         name: &str,
         crew: &mut C,
-    ) -> Result<Answer, LaboratoryFault>
+    ) -> Result<Answer, CrewFault>
         requires { at < length self.old.replica_names }
         ensures answer { IfOk result (λ answer. answer_view answer
             ≡ (beyond_outcome self.old at asked.now name.now).answer) }
@@ -432,11 +430,10 @@ impl Laboratory {
         ensures unchanged { OnErr result (self.new ≡ self.old) }
         ensures gone { C.times_gone crew.new ≡ gone_after result (C.times_gone crew.old) }
     {
-        self.known();
         let Some(number) = self.number_of_heads(asked) else {
             return Ok(Answer::Refused(Refusal::NoMessage));
         };
-        if self.messages.number_of(name).is_some() {
+        if self.message_of(name).is_some() {
             return Ok(Answer::Refused(Refusal::NameTaken));
         }
         let message = String::from_str(alloc, name)?;
@@ -449,14 +446,14 @@ impl Laboratory {
         Ok(Answer::Delta { message, edits })
     }
 
-    // A message is made by an event, and gets a name. Neither the world nor the names may refuse it.
+    // Makes a message by an event, and names it. Neither the world nor the names may refuse it.
     fn make<C: Crew>(
         &mut self,
         alloc: Global,
         event: &Event,
         name: &str,
         crew: &mut C,
-    ) -> Result<(), LaboratoryFault>
+    ) -> Result<(), CrewFault>
         requires there { replica_number event.now < length self.old.replica_names }
         requires accepted { fault_at_replica self.old.world event.now ≡ None }
         requires free { number_of self.old.message_names name.now ≡ None }
@@ -478,49 +475,43 @@ impl Laboratory {
         }
     }
 
-    // The edits that a replica holds.
+    // Lists the edits that a replica holds.
     fn edits_held(&self, alloc: Global, at: u32) -> Result<Vec<Edit>, OutOfMemory>
         requires { at < length self.now.replica_names }
         ensures { IfOk result (λ edits. edits.items ≡ items (edits_held self.now.world at)) }
     {
         match self.world.replica(at) {
-            Some(replica) => {
-                replica.known();
-                replica.scenario().edits(alloc)
-            }
-            None => Ok(Vec::new(alloc)),
+            Some(replica) => replica.scenario().edits(alloc),
+            None => unreachable!(),
         }
     }
 
-    // The heads of the edits that a replica holds.
+    // Lists the heads of the edits that a replica holds.
     fn heads_held(&self, alloc: Global, at: u32) -> Result<Vec<Head>, OutOfMemory>
         requires { at < length self.now.replica_names }
         ensures { IfOk result (λ heads. heads.items ≡ deltas.heads (edits_held self.now.world at)) }
     {
         match self.world.replica(at) {
-            Some(replica) => {
-                replica.known();
-                heads_of(alloc, replica.scenario())?.list().to_vec(alloc)
-            }
-            None => Ok(Vec::new(alloc)),
+            Some(replica) => heads_of(alloc, replica.scenario())?.list().to_vec(alloc),
+            None => unreachable!(),
         }
     }
 
-    // The number of a message that asks with heads.
+    // Returns the number of a message that asks with heads.
     fn number_of_heads(&self, name: &str) -> Option<u64>
         ensures there { IfSome result (λ number. number_of self.now.message_names name.now ≡ Some number) }
         ensures asks { IfSome result (λ number. heads_wanted_fault (slice_get self.now.world.messages number) ≡ None) }
         ensures missing { IfNone result ((number : ℕ) → number_of self.now.message_names name.now ≡ Some number →
             heads_wanted_fault (slice_get self.now.world.messages number) ≡ Some NoMessage) }
     {
-        let number = self.messages.number_of(name)? as u64;
+        let number = self.message_of(name)?;
         match self.world.message(number) {
             Some(Message::Asked(_)) => Some(number),
             _ => None,
         }
     }
 
-    // The edits that a replica holds beyond the heads of a message.
+    // Lists the edits that a replica holds beyond the heads of a message.
     fn edits_beyond(&self, alloc: Global, at: u32, message: u64) -> Result<Vec<Edit>, OutOfMemory>
         requires there { at < length self.now.replica_names }
         requires asks { heads_wanted_fault (slice_get self.now.world.messages message) ≡ None }
@@ -529,14 +520,13 @@ impl Laboratory {
     {
         match (self.world.replica(at), self.world.message(message)) {
             (Some(replica), Some(Message::Asked(heads))) => {
-                replica.known();
                 beyond(alloc, replica.scenario(), heads)?.edits(alloc)
             }
-            _ => Ok(Vec::new(alloc)),
+            _ => unreachable!(),
         }
     }
 
-    // An event takes place in the world. Where it may change its replica's edits, the last state of that one goes.
+    // Applies an event to the world. Where it may change its replica's edits, the cache of that one begins anew.
     fn apply<C: Crew>(
         &mut self,
         alloc: Global,
@@ -544,6 +534,8 @@ impl Laboratory {
         crew: &mut C,
     ) -> Result<Reply, WorldFault>
         requires { replica_number event.now < length self.old.replica_names }
+        ensures winners { laboratory_of_winners self.old ≡ self.old }
+        ensures replicas { length self.old.world.replicas ≡ length self.old.replica_names }
         ensures answer { IsAnswer self.old.world event.now result }
         ensures after { OnOk result (self.new
             ≡ laboratory_of_winners (record self.old { world = world_after_event event.now self.old.world })) }
@@ -552,25 +544,25 @@ impl Laboratory {
     {
         let reply = self.world.apply(alloc, event, crew, &mut self.meter)?;
         if !keeps_edits(event) {
-            self.runs[event.replica() as usize].restart(alloc);
+            self.caches[event.replica() as usize].restart(alloc);
         }
         Ok(reply)
     }
 }
 
-// What is kept of the runs of replicas before any command.
-fn opening_runs(
+// Makes the caches of replicas before any command.
+fn opening_caches(
     alloc: Global,
     plan: &Arc<Plan>,
     count: usize,
 ) -> Result<Vec<QueryCache>, OutOfMemory>
-    ensures each { IfOk result (λ runs. length runs.items ≡ count) }
-    ensures kept { IfOk result (λ runs. (sheet : Sheet) → sheet.plan ≡ arc_value plan.now →
-        All (IsCacheOf sheet) runs.items) }
+    ensures each { IfOk result (λ caches. length caches.items ≡ count) }
+    ensures cached { IfOk result (λ caches. (sheet : Sheet) → sheet.plan ≡ arc_value plan.now →
+        All (IsCacheOf sheet) caches.items) }
 {
-    let mut runs = Vec::with_capacity(alloc, count)?;
+    let mut caches = Vec::with_capacity(alloc, count)?;
     for made in 0..count {
-        runs.push(QueryCache::opening(alloc, plan))?;
+        caches.push(QueryCache::of(alloc, plan))?;
     }
-    Ok(runs)
+    Ok(caches)
 }

@@ -14,16 +14,13 @@
 #![tactic(auto)]
 
 mod crowds;
-mod faults;
 mod laboratory;
 pub mod laws;
 mod names;
 mod queries;
-mod query_cache;
 mod question;
 mod translation;
 
-pub use faults::LaboratoryFault;
 pub use laboratory::Laboratory;
 /// Out of memory: an allocation failed.
 pub use std::alloc::AllocError as OutOfMemory;

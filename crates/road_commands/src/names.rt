@@ -1,42 +1,48 @@
 //! Names and their numbers.
 
-ghost use Rattle.std.specs.Prelude.{◌≡◌, ◌++◌, ◌∷◌, [], ◌<◌, IfOk, IfSome, None, OnErr, OnOk, length, string_bytes, take};
+ghost use Rattle.std.specs.Prelude.{◌≡◌, ◌++◌, ◌∷◌, [], ◌<◌, ◌+◌, IfOk, IfSome, None, OnErr, OnOk, length, string_bytes, take};
 ghost use Rattle.std.specs.List.{IsDistinct};
 ghost use Rattle.std.specs.Str.{bytes_eq};
 ghost use Rattle.road_format.specs.Views.{texts};
 ghost use Rattle.road_commands.specs.Laboratory.{number_of};
 
-use indexmap::IndexSet;
 use road_plan::OutOfMemory;
 use std::alloc::Global;
+use std::collections::BTreeMap;
 use std::marker::Model;
 
-/// Names, no two alike, numbered from 0 in their order. Contracts see the list of their texts.
+/// Names, no two alike, numbered from 0 in their order. Contracts see the list of their texts. A name is found by
+/// comparisons, as many as the logarithm of how many there are: no choice of names makes them more.
 #[derive(Drop)]
 pub struct Names {
-    set: IndexSet<String>,
+    list: Vec<String>,
+    numbers: BTreeMap<String, usize>,
 }
 
 impl Model for Names {
     ghost use Rattle.std.specs.Prelude.{List, ℕ};
     ghost use Rattle.road_format.specs.Views.{texts};
+    ghost use Rattle.road_commands.specs.Private.Numbering.{IsNumbering};
 
     ghost Value = { List (List ℕ) };
 
-    ghost view = { λ names. texts names.set.keys };
+    ghost view = { λ names. texts names.list.items };
+
+    ghost invariant = { λ names. IsNumbering (texts names.list.items) names.numbers };
 }
 
 impl Names {
-    /// No names. It takes no memory.
+    /// Returns no names. It takes no memory.
     pub fn none(alloc: Global) -> Names
         ensures { result ≡ [] }
     {
         Names {
-            set: IndexSet::new(alloc),
+            list: Vec::new(alloc),
+            numbers: BTreeMap::new(alloc),
         }
     }
 
-    /// These names, no two of which are alike.
+    /// Numbers these names, no two of which are alike.
     ///
     /// # Errors
     ///
@@ -45,29 +51,32 @@ impl Names {
         requires { IsDistinct bytes_eq (texts names.items) }
         ensures { IfOk result (λ made. made ≡ texts names.items) }
     {
-        let mut set = IndexSet::new(alloc);
+        let mut numbered = Names::none(alloc);
         for name in names {
-            set.insert(name)?;
+            numbered.put(name)?;
         }
-        Ok(Names { set })
+        Ok(numbered)
     }
 
-    /// How many names there are.
+    /// Returns how many names there are.
     pub fn len(&self) -> usize
         ensures { result ≡ length self.now }
     {
-        self.set.len()
+        self.list.len()
     }
 
-    /// The number of a name.
+    /// Returns the number of a name.
     pub fn number_of(&self, name: &str) -> Option<usize>
         ensures number { result ≡ number_of self.now name.now }
         ensures within { IfSome result (λ number. number < length self.now) }
     {
-        self.set.get_index_of(name)
+        match self.numbers.get(name) {
+            Some(number) => Some(*number),
+            None => None,
+        }
     }
 
-    /// One name more, the last. It must be new.
+    /// Adds a name, the last. It must be new.
     ///
     /// # Errors
     ///
@@ -77,14 +86,24 @@ impl Names {
         ensures after { OnOk result (self.new ≡ self.old ++ string_bytes name ∷ []) }
         ensures unchanged { OnErr result (self.new ≡ self.old) }
     {
-        self.set.insert(name)?;
-        Ok(())
+        let number = self.len();
+        self.list.push(name.clone()?)?;
+        match self.numbers.insert(name, number) {
+            Ok(_) => Ok(()),
+            Err(_) => {
+                self.list.pop();
+                Err(OutOfMemory)
+            }
+        }
     }
 
-    /// Only the first names stay.
+    /// Takes the last name away: only the first names stay.
     pub fn cut(&mut self, count: usize)
+        requires { length self.old ≡ count + 1 }
         ensures { self.new ≡ take count self.old }
     {
-        self.set.truncate(count);
+        if let Some(name) = self.list.pop() {
+            self.numbers.remove(name.as_str());
+        }
     }
 }

@@ -1,16 +1,16 @@
-//! The replica that a command names, which events keep its edits, and the world's replies and faults as the program's.
+//! Translates the world's replies and faults to the program's, and commands to the replica that they name.
 
-ghost use Rattle.std.specs.Prelude.{◌≡◌};
+ghost use Rattle.std.specs.Prelude.{◌≡◌, None, false};
 ghost use Rattle.road_format.specs.Views.{answer_view, command_view};
 ghost use Rattle.road_commands.specs.Laboratory as laboratory;
 ghost use Rattle.road_commands.specs.Private.Changes as changes;
 
-use crate::faults::LaboratoryFault;
 use road_format::{Answer, Command, Refusal};
 use road_replica::{ReplicaFault, Reply};
+use road_workers::CrewFault;
 use road_world::{Event, WorldFault};
 
-// The name of a command's replica. A crowd names none.
+// Returns the name of a command's replica. A crowd names none.
 pub(crate) fn name_of(command: &Command) -> &str
     ensures { result.now ≡ laboratory.replica_name (command_view command.now) }
 {
@@ -32,7 +32,7 @@ pub(crate) fn name_of(command: &Command) -> &str
     }
 }
 
-// Whether an event leaves the edits of its replica as they were.
+// Returns whether an event leaves the edits of its replica as they were.
 pub(crate) fn keeps_edits(event: &Event) -> bool
     ensures { result ≡ changes.keeps_edits event.now }
 {
@@ -48,19 +48,20 @@ pub(crate) fn keeps_edits(event: &Event) -> bool
     }
 }
 
-// What a change is answered, by the world's reply.
+// Translates the world's reply to a change that makes no message.
 pub(crate) fn answer_of(reply: Reply) -> Answer
+    requires { changes.names_message reply ≡ false }
     ensures { answer_view result ≡ changes.reply_answer reply }
 {
     match reply {
         Reply::Stamped(stamp) => Answer::Stamped(stamp),
         Reply::Touched(step) => Answer::Touched(step),
-        Reply::Message(_) => Answer::Refused(Refusal::NoMessage),
+        Reply::Message(_) => unreachable!(),
         Reply::Horizon(to) => Answer::Horizon(to),
     }
 }
 
-// How a refusal of the world is answered; none where there is no named cause.
+// Translates a refusal of the world; there is none where the cause has no name.
 pub(crate) fn refusal_of(fault: WorldFault) -> Option<Refusal>
     ensures { result ≡ laboratory.world_refusal fault }
 {
@@ -71,7 +72,7 @@ pub(crate) fn refusal_of(fault: WorldFault) -> Option<Refusal>
     }
 }
 
-// How a refusal of a replica is answered.
+// Translates a refusal of a replica; there is none where the cause has no name.
 pub(crate) fn replica_refusal(fault: ReplicaFault) -> Option<Refusal>
     ensures { result ≡ laboratory.replica_refusal fault }
 {
@@ -91,12 +92,14 @@ pub(crate) fn replica_refusal(fault: ReplicaFault) -> Option<Refusal>
     }
 }
 
-// The fault of the laboratory, where the world refuses an event for no named cause.
-pub(crate) fn fault_by(fault: WorldFault) -> LaboratoryFault
+// Returns the crew's fault where the world refuses an event for no named cause.
+pub(crate) fn fault_by(fault: WorldFault) -> CrewFault
+    requires { laboratory.world_refusal fault ≡ None }
     ensures { result ≡ changes.fault_by fault }
 {
     match fault {
-        WorldFault::Replica(ReplicaFault::WorkersGone) => LaboratoryFault::WorkersGone,
-        _ => LaboratoryFault::OutOfMemory,
+        WorldFault::Replica(ReplicaFault::WorkersGone) => CrewFault::WorkersGone,
+        WorldFault::Replica(ReplicaFault::OutOfMemory) => CrewFault::OutOfMemory,
+        _ => unreachable!(),
     }
 }

@@ -103,8 +103,8 @@ scenario_in at d = do
   Some (Scenario at)
 
 -- the command of a name that tells or asks one replica, with these fields
-unfoldable pub local_of_name : List ℕ → List ℕ → Data → Option Command
-local_of_name name at d =
+unfoldable pub replica_command_of_name : List ℕ → List ℕ → Data → Option Command
+replica_command_of_name name at d =
     if bytes_eq name (codes "edit") then edit_command_in at d
     else if bytes_eq name (codes "withdraw") then withdraw_in at d
     else if bytes_eq name (codes "advance") then option_map (Advance at) (only_number (codes "to") d)
@@ -147,7 +147,7 @@ command_at name form at d =
     else if bytes_eq name (codes "heads") then option_map (Heads at) (only_name (codes "name") d)
     else if bytes_eq name (codes "beyond") then beyond_in at d
     else if bytes_eq name (codes "take") then option_map (Take at) (only_name (codes "message") d)
-    else local_of_name name at d
+    else replica_command_of_name name at d
 
 -- ---- shares of edits, each for a session of its own
 

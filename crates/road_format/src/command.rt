@@ -6,7 +6,7 @@ use road_scenario::Edit;
 /// What a line after the first asks for.
 #[derive(Debug, Drop)]
 pub enum Command {
-    /// That a number be put for an object from a step on.
+    /// Puts a number for an object from a step on.
     Edit {
         /// The name of the replica.
         at: String,
@@ -17,7 +17,7 @@ pub enum Command {
         /// The number.
         value: u32,
     },
-    /// That what was put for an object at a step be withdrawn.
+    /// Withdraws what was put for an object at a step.
     Withdraw {
         /// The name of the replica.
         at: String,
@@ -26,28 +26,28 @@ pub enum Command {
         /// The step at which that edit acts.
         step: u32,
     },
-    /// That a replica's horizon be at least a step.
+    /// Raises a replica's horizon to a step, where it is below.
     Advance {
         /// The name of the replica.
         at: String,
         /// The step.
         to: u32,
     },
-    /// The row of cells of a replica's road at a step.
+    /// Asks for the row of cells of a replica's road at a step.
     Cells {
         /// The name of the replica.
         at: String,
         /// The step.
         step: u32,
     },
-    /// The cars of a replica's road at a step.
+    /// Asks for the cars of a replica's road at a step.
     Cars {
         /// The name of the replica.
         at: String,
         /// The step.
         step: u32,
     },
-    /// How many cars a detector of a replica's road counted between two steps, and the sum of their speeds.
+    /// Asks how many cars a detector of a replica's road counted between two steps, and for the sum of their speeds.
     Count {
         /// The name of the replica.
         at: String,
@@ -58,7 +58,7 @@ pub enum Command {
         /// The step before which the count ends.
         to: u32,
     },
-    /// The rows of cells of a replica's road from a step to another, both among them.
+    /// Asks for the rows of cells of a replica's road from a step to another, both among them.
     Diagram {
         /// The name of the replica.
         at: String,
@@ -67,33 +67,33 @@ pub enum Command {
         /// The last step.
         to: u32,
     },
-    /// The edits that a replica holds.
+    /// Asks for the edits that a replica holds.
     Scenario {
         /// The name of the replica.
         at: String,
     },
-    /// That a replica take edits from outside.
+    /// Has a replica take edits from outside.
     Import {
         /// The name of the replica.
         at: String,
         /// The edits, in the order of the line.
         edits: Vec<Edit>,
     },
-    /// That a message be made of the edits that a replica holds.
+    /// Makes a message of the edits that a replica holds.
     Send {
         /// The name of the replica.
         at: String,
         /// The name of the message.
         name: String,
     },
-    /// That a message be made of the heads of the edits that a replica holds.
+    /// Makes a message of the heads of the edits that a replica holds.
     Heads {
         /// The name of the replica.
         at: String,
         /// The name of the message.
         name: String,
     },
-    /// That a message be made of the edits that a replica holds beyond the heads of another message.
+    /// Makes a message of the edits that a replica holds beyond the heads of another message.
     Beyond {
         /// The name of the replica.
         at: String,
@@ -102,14 +102,14 @@ pub enum Command {
         /// The name of the message.
         name: String,
     },
-    /// That a replica take the edits of a message.
+    /// Has a replica take the edits of a message.
     Take {
         /// The name of the replica.
         at: String,
         /// The name of the message.
         message: String,
     },
-    /// That a session for each share take its edits and advance, all on one road that is no replica's.
+    /// Has a session for each share take its edits and advance, all on one road that is no replica's.
     Crowd {
         /// The edits of each share, in the order of the line: 1 to 8 shares.
         shares: Vec<Vec<Edit>>,

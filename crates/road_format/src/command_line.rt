@@ -17,17 +17,17 @@ use crate::fields::{long_number_at, name_at, only_field};
 use crate::form::{LAST_FORM, is_known};
 use crate::message_commands::{beyond_in, heads_in, import_in, send_in, take_in};
 use crate::reading::value_in;
-use crate::replica_commands::local_of_name;
+use crate::replica_commands::replica_command_of_name;
 use road_plan::OutOfMemory;
 use serde_json::Value;
 use std::alloc::Global;
 
-/// The command that a line is: an object of one field, whose name is that of a variant of `Command` in small letters,
-/// and whose value is an object of exactly the variant's fields, in any order; `import` and `crowd` have the number
-/// `form` beside them, and in form 1 no edit of kind `start`. A name is a text of 1 to 64 bytes; a number is whole, of
-/// at most 32 bits, and written without point and exponent; an object is a list of its kind and its index; an edit is a
-/// list of its kind, index, step, count (of at most 64 bits), number (of at most 16) and value, where null is a
-/// withdrawal; shares are 1 to 8 lists of edits, some of them perhaps empty. Of a field that stands twice the last
+/// Reads the command that a line is: an object of one field, whose name is that of a variant of `Command` in small
+/// letters, and whose value is an object of exactly the variant's fields, in any order; `import` and `crowd` have the
+/// number `form` beside them, and in form 1 no edit of kind `start`. A name is a text of 1 to 64 bytes; a number is
+/// whole, of at most 32 bits, and written without point and exponent; an object is a list of its kind and its index; an
+/// edit is a list of its kind, index, step, count (of at most 64 bits), number (of at most 16) and value, where null is
+/// a withdrawal; shares are 1 to 8 lists of edits, some of them perhaps empty. Of a field that stands twice the last
 /// counts.
 ///
 /// # Errors
@@ -49,7 +49,7 @@ pub fn read_command(alloc: Global, line: &[u8]) -> Result<Command, LineFault>
     command_of_value(alloc, &value)
 }
 
-// The command that a value is, if its form is known.
+// Reads the command that a value is, if its form is known.
 fn command_of_value(alloc: Global, value: &Value) -> Result<Command, LineFault>
     ensures { Gives command_view line_refusal result
         (result_or_refusal NotACommand (grammar.command_in (view value.now)) grammar.command_of_form) }
@@ -61,7 +61,7 @@ fn command_of_value(alloc: Global, value: &Value) -> Result<Command, LineFault>
     }
 }
 
-// The form and the command that a value is.
+// Reads the form and the command that a value is.
 #[tactic(auto, unfolding(crate::specs::CommandGrammar::command_in))]
 fn command_in(alloc: Global, value: &Value) -> Result<Option<(u64, Command)>, OutOfMemory>
     ensures command { IfOk result (λ read. option_map formed_view read ≡ grammar.command_in (view value.now)) }
@@ -79,7 +79,7 @@ fn command_in(alloc: Global, value: &Value) -> Result<Option<(u64, Command)>, Ou
     }
 }
 
-// The form of a command of a name: what its `form` says where it has one, and else the last.
+// Reads the form of a command of a name: what its `form` says where it has one, and else the last.
 fn form_of_name(name: &str, fields: &Value) -> Option<u64>
     ensures { result ≡ grammar.form_of_name name.now (view fields.now) }
 {
@@ -89,7 +89,7 @@ fn form_of_name(name: &str, fields: &Value) -> Option<u64>
     }
 }
 
-// The command of a name and a form, with these fields: a crowd, or what stands at a replica.
+// Reads the command of a name and a form, with these fields: a crowd, or what stands at a replica.
 #[tactic(auto, unfolding(crate::specs::CommandGrammar::command_of_name))]
 fn command_of_name(
     alloc: Global,
@@ -109,7 +109,7 @@ fn command_of_name(
     }
 }
 
-// The command of a name and a form at a replica, with these fields.
+// Reads the command of a name and a form at a replica, with these fields.
 #[tactic(auto, unfolding(crate::specs::CommandGrammar::command_at))]
 fn command_at(
     alloc: Global,
@@ -127,6 +127,6 @@ fn command_at(
         "heads" => heads_in(alloc, at, fields),
         "beyond" => beyond_in(alloc, at, fields),
         "take" => take_in(alloc, at, fields),
-        _ => Ok(local_of_name(name, at, fields)),
+        _ => Ok(replica_command_of_name(name, at, fields)),
     }
 }

@@ -18,7 +18,7 @@ impl Listed for Edit {
     }
 }
 
-// The edit that a list of just six items is: kind, index, step, count, number, value.
+// Reads the edit that a list of just six items is: kind, index, step, count, number, value.
 #[tactic(auto, unfolding(crate::specs::EditGrammar::edit_in))]
 fn edit_in(value: &Value) -> Option<Edit>
     ensures { result ≡ grammar.edit_in (view value.now) }
@@ -38,7 +38,7 @@ fn edit_in(value: &Value) -> Option<Edit>
     })
 }
 
-// The stamp whose count and number are the fourth and the fifth item of a list.
+// Reads the stamp whose count and number are the fourth and the fifth item of a list.
 #[tactic(auto, unfolding(crate::specs::EditGrammar::stamp_in))]
 fn stamp_in(value: &Value) -> Option<Stamp>
     ensures { result ≡ grammar.stamp_in (view value.now) }
@@ -48,7 +48,7 @@ fn stamp_in(value: &Value) -> Option<Stamp>
     Some(Stamp { count, number })
 }
 
-// What an edit does, by its value: null for a withdrawal, else the number that it puts.
+// Reads what an edit does, by its value: null for a withdrawal, else the number that it puts.
 fn put_in(value: &Value) -> Option<Put>
     ensures { result ≡ grammar.value_in (view value.now) }
 {

@@ -49,7 +49,7 @@ pub enum PlanLineFault {
 }
 
 impl LineFault {
-    /// The refusal that the reply names; none where memory ran out.
+    /// Returns the refusal that the reply names; none where memory ran out.
     pub fn refusal(self) -> Option<Refusal>
         ensures { result ≡ line_refusal self }
     {
@@ -63,7 +63,7 @@ impl LineFault {
 }
 
 impl PlanLineFault {
-    /// The refusal that the reply names; none where memory ran out.
+    /// Returns the refusal that the reply names; none where memory ran out.
     pub fn refusal(self) -> Option<Refusal>
         ensures { result ≡ plan_line_refusal self }
     {
@@ -77,7 +77,7 @@ impl PlanLineFault {
     }
 }
 
-// The refusal that names this fault of a plan.
+// Returns the refusal that names this fault of a plan.
 fn refusal_of_plan(fault: PlanFault) -> Option<Refusal>
     ensures { result ≡ plan_refusal fault }
 {

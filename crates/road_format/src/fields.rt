@@ -7,7 +7,7 @@ ghost use Rattle.road_format.specs.Fields as fields;
 use crate::names::is_name;
 use serde_json::Value;
 
-// Whether this value is an object of so many fields.
+// Returns whether this value is an object of so many fields.
 pub(crate) fn has_fields(count: usize, value: &Value) -> bool
     ensures { result ≡ fields.has_fields count (view value.now) }
 {
@@ -17,7 +17,7 @@ pub(crate) fn has_fields(count: usize, value: &Value) -> bool
     }
 }
 
-// The name and the value of the only field of an object.
+// Reads the name and the value of the only field of an object.
 pub(crate) fn only_field(value: &Value) -> Option<(&str, &Value)>
     ensures { option_map (λ field. (field.0.now, view field.1.now)) result ≡ fields.only_field (view value.now) }
 {
@@ -29,7 +29,7 @@ pub(crate) fn only_field(value: &Value) -> Option<(&str, &Value)>
     Some((name.as_str(), value))
 }
 
-// Whether this value is a list of so many items.
+// Returns whether this value is a list of so many items.
 pub(crate) fn has_items(count: usize, value: &Value) -> bool
     ensures { result ≡ fields.has_items count (view value.now) }
 {
@@ -39,14 +39,14 @@ pub(crate) fn has_items(count: usize, value: &Value) -> bool
     }
 }
 
-// The whole number of at most 64 bits that this value is.
+// Reads the whole number of at most 64 bits that this value is.
 pub(crate) fn long_number_in(value: &Value) -> Option<u64>
     ensures { result ≡ fields.long_number_in (view value.now) }
 {
     value.as_u64()
 }
 
-// The whole number of at most 16 bits that this value is.
+// Reads the whole number of at most 16 bits that this value is.
 pub(crate) fn short_number_in(value: &Value) -> Option<u16>
     ensures { result ≡ fields.short_number_in (view value.now) }
 {
@@ -56,7 +56,7 @@ pub(crate) fn short_number_in(value: &Value) -> Option<u16>
     }
 }
 
-// The whole number of at most 32 bits that this value is.
+// Reads the whole number of at most 32 bits that this value is.
 pub(crate) fn number_in(value: &Value) -> Option<u32>
     ensures { result ≡ fields.number_in (view value.now) }
 {
@@ -66,7 +66,7 @@ pub(crate) fn number_in(value: &Value) -> Option<u32>
     }
 }
 
-// The whole number of at most 32 bits at this field.
+// Reads the whole number of at most 32 bits at this field.
 pub(crate) fn number_at(field: &str, value: &Value) -> Option<u32>
     ensures { result ≡ fields.number_at field.now (view value.now) }
 {
@@ -76,7 +76,7 @@ pub(crate) fn number_at(field: &str, value: &Value) -> Option<u32>
     }
 }
 
-// The whole number of at most 64 bits at this field.
+// Reads the whole number of at most 64 bits at this field.
 pub(crate) fn long_number_at(field: &str, value: &Value) -> Option<u64>
     ensures { result ≡ fields.long_number_at field.now (view value.now) }
 {
@@ -86,7 +86,7 @@ pub(crate) fn long_number_at(field: &str, value: &Value) -> Option<u64>
     }
 }
 
-// The name at this field: a text of 1 to 64 bytes.
+// Reads the name at this field: a text of 1 to 64 bytes.
 pub(crate) fn name_at<'a>(field: &str, value: &'a Value) -> Option<&'a str>
     ensures { option_map (λ name. name.now) result ≡ fields.name_at field.now (view value.now) }
 {

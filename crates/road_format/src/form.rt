@@ -13,21 +13,21 @@ pub const FIRST_FORM: u64 = 1;
 /// The last form, in which replies are written.
 pub const LAST_FORM: u64 = 2;
 
-// Whether a form is known.
+// Returns whether a form is known.
 pub(crate) fn is_known(form: u64) -> bool
     ensures { result ≡ forms.is_known form }
 {
     FIRST_FORM <= form && form <= LAST_FORM
 }
 
-// Whether edits may stand in a command of a form.
+// Returns whether edits may stand in a command of a form.
 pub(crate) fn are_of_form(form: u64, edits: &[Edit]) -> bool
     ensures { result ≡ forms.are_of_form form edits.now }
 {
     form != FIRST_FORM || have_no_start(edits)
 }
 
-// Whether none of these edits is of kind `start`.
+// Returns whether none of these edits is of kind `start`.
 fn have_no_start(edits: &[Edit]) -> bool
     ensures { result ≡ list_all (λ e. not (is_start e.object)) edits.now }
 {

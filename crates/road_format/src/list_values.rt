@@ -19,12 +19,12 @@ pub(crate) trait Written {
     // The data that is written for it.
     ghost as_data: { Self → Data };
 
-    // The JSON value that is written for it.
+    // Writes its JSON value.
     fn written(&self, alloc: Global) -> Result<Value, OutOfMemory>
         ensures { IfOk result (λ value. view value ≡ as_data self.now) };
 }
 
-// The JSON list of these.
+// Writes the JSON list of these.
 pub(crate) fn list_value<T: Written>(alloc: Global, items: &[T]) -> Result<Value, OutOfMemory>
     ensures { IfOk result (λ value. view value ≡ list_data (map T.as_data items.now)) }
 {
@@ -93,7 +93,7 @@ impl Written for Head {
     }
 }
 
-// The number that an edit puts, or null for a withdrawal.
+// Writes the number that an edit puts, or null for a withdrawal.
 fn put_value(value: Put) -> Value
     ensures { view result ≡ value_data value }
 {

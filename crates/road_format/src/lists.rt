@@ -17,7 +17,7 @@ pub(crate) trait Listed: Drop {
     // What a value is read as.
     ghost read: { Data → Option Self };
 
-    // What an item is read as.
+    // Reads an item.
     fn of_item(item: &Value) -> Option<Self>
         ensures { result ≡ read (view item.now) };
 }
@@ -41,7 +41,7 @@ impl Listed for (u32, u32) {
     }
 }
 
-// The items of the list at this field.
+// Returns the items of the list at this field.
 pub(crate) fn items_at<'a>(field: &str, value: &'a Value) -> Option<&'a [Value]>
     ensures { option_map (λ items. items_view items.now) result ≡ fields.items_at field.now (view value.now) }
 {
@@ -51,7 +51,7 @@ pub(crate) fn items_at<'a>(field: &str, value: &'a Value) -> Option<&'a [Value]>
     }
 }
 
-// The texts of the list of texts at this field.
+// Reads the texts of the list of texts at this field.
 pub(crate) fn texts_at(
     alloc: Global,
     field: &str,
@@ -66,7 +66,7 @@ pub(crate) fn texts_at(
     }
 }
 
-// What the items of the list at this field are read as.
+// Reads each item of the list at this field.
 pub(crate) fn list_at<T: Listed>(
     alloc: Global,
     field: &str,
@@ -81,7 +81,7 @@ pub(crate) fn list_at<T: Listed>(
     }
 }
 
-// The texts of a list of texts.
+// Reads the texts of a list of texts.
 fn texts_in(alloc: Global, items: &[Value]) -> Result<Option<Vec<String>>, OutOfMemory>
     ensures texts { IfOk result (λ found. option_map (λ found. texts found.items) found
         ≡ fields.values_of_items as_str (items_view items.now)) }
@@ -97,7 +97,7 @@ fn texts_in(alloc: Global, items: &[Value]) -> Result<Option<Vec<String>>, OutOf
     Ok(Some(found))
 }
 
-// What the items of a list are read as.
+// Reads each item of a list.
 pub(crate) fn list_in<T: Listed>(
     alloc: Global,
     items: &[Value],
@@ -116,7 +116,7 @@ pub(crate) fn list_in<T: Listed>(
     Ok(Some(found))
 }
 
-// The two items of just two.
+// Returns the items of a list of just two.
 pub(crate) fn two_items(items: &[Value]) -> Option<(&Value, &Value)>
     ensures { option_map (λ both. (view both.0.now, view both.1.now)) result ≡ fields.two_items (items_view items.now) }
 {

@@ -13,14 +13,14 @@ use road_plan::limits::MOST_REPLICAS;
 // The most bytes of a name, in UTF-8; it has one at least.
 pub(crate) const LONGEST_NAME: usize = 64;
 
-// Whether this is a name: a text of 1 to 64 bytes.
+// Returns whether this is a name: a text of 1 to 64 bytes.
 pub(crate) fn is_name(text: &str) -> bool
     ensures { result ≡ fields.is_name text.now }
 {
     0 < text.len() && text.len() <= LONGEST_NAME
 }
 
-// Whether these are 1 to 64 names, no two alike.
+// Returns whether these are 1 to 64 names, no two alike.
 pub(crate) fn are_names(names: &[String]) -> bool
     ensures { result ≡ grammar.are_names (texts names.now) }
 {
@@ -30,7 +30,7 @@ pub(crate) fn are_names(names: &[String]) -> bool
         && are_different(names)
 }
 
-// Whether each of these is a name.
+// Returns whether each of these is a name.
 fn are_all_names(names: &[String]) -> bool
     ensures { result ≡ list_all fields.is_name (texts names.now) }
 {
@@ -42,7 +42,7 @@ fn are_all_names(names: &[String]) -> bool
     true
 }
 
-// Whether no two of these are alike.
+// Returns whether no two of these are alike.
 #[tactic(auto, using(crate::proofs::AcceptedNames::first_and_others))]
 fn are_different(names: &[String]) -> bool
     ensures { result ≡ (distinct_count bytes_eq (texts names.now) == length (texts names.now)) }
@@ -53,7 +53,7 @@ fn are_different(names: &[String]) -> bool
     }
 }
 
-// Whether this text is one of these names.
+// Returns whether this text is one of these names.
 fn is_among(text: &str, names: &[String]) -> bool
     ensures { result ≡ list_any (bytes_eq text.now) (texts names.now) }
 {

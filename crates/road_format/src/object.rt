@@ -9,7 +9,7 @@ use crate::lists::{items_at, two_items};
 use road_plan::Object;
 use serde_json::Value;
 
-// The object at this field: a list of just a kind's name and an index.
+// Returns the object at this field: a list of just a kind's name and an index.
 pub(crate) fn object_at(field: &str, value: &Value) -> Option<Object>
     ensures { result ≡ objects.object_at field.now (view value.now) }
 {
@@ -17,7 +17,7 @@ pub(crate) fn object_at(field: &str, value: &Value) -> Option<Object>
     object_of(kind.as_str()?, number_in(index)?)
 }
 
-// The object of which a list's first two items are a kind's name and an index.
+// Returns the object of which a list's first two items are a kind's name and an index.
 pub(crate) fn object_in_front(value: &Value) -> Option<Object>
     ensures { result ≡ objects.object_in_front (view value.now) }
 {
@@ -26,7 +26,7 @@ pub(crate) fn object_in_front(value: &Value) -> Option<Object>
     object_of(kind, index)
 }
 
-// The name of an object's kind.
+// Returns the name of an object's kind.
 pub(crate) fn kind_of(object: Object) -> &'static str
     ensures { result.now ≡ objects.kind_of object }
 {
@@ -40,7 +40,7 @@ pub(crate) fn kind_of(object: Object) -> &'static str
     }
 }
 
-// The index of an object among those of its kind.
+// Returns the index of an object among those of its kind.
 pub(crate) fn index_of(object: Object) -> u32
     ensures { result ≡ objects.index_of object }
 {
@@ -52,7 +52,7 @@ pub(crate) fn index_of(object: Object) -> u32
     }
 }
 
-// The object of a kind and an index.
+// Returns the object of a kind and an index.
 fn object_of(kind: &str, index: u32) -> Option<Object>
     ensures { result ≡ objects.object_of kind.now index }
 {

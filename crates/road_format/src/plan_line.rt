@@ -38,7 +38,7 @@ struct PlanLineParts {
     parts: PlanParts,
 }
 
-/// The plan line that a line is: an object of exactly eight fields, in any order.
+/// Reads the plan line that a line is: an object of exactly eight fields, in any order.
 ///
 /// | Field | Value |
 /// |---|---|
@@ -58,8 +58,8 @@ struct PlanLineParts {
 ///
 /// `NotJson` where the line is no JSON value, then `NotAPlan` where the value has another shape, then `Names` where
 /// the replicas are not 1 to 64 or their names not all different and of 1 to 64 bytes, then `Plan` with the first
-/// fault of the plan, which is never its `OutOfMemory`. `OutOfMemory` may come in the place of any of them where the line
-/// has a byte. The length of the line is not asked here.
+/// fault of the plan, which is never its `OutOfMemory`. `OutOfMemory` may come in the place of any of them where the
+/// line has a byte. The length of the line is not asked here.
 #[tactic(auto, using(crate::proofs::LineValues::length_of_value), unfolding(crate::specs::PlanGrammar::plan_line_of))]
 pub fn read_plan(alloc: Global, line: &[u8]) -> Result<PlanLine, PlanLineFault>
     // The grammar's plan line, or its refusal; out of memory is none.
@@ -69,7 +69,7 @@ pub fn read_plan(alloc: Global, line: &[u8]) -> Result<PlanLine, PlanLineFault>
     ensures few { IfOk result (λ line. length line.names.items ≤ MOST_REPLICAS) }
     ensures apart { IfOk result (λ line. IsDistinct bytes_eq (texts line.names.items)) }
 
-    // out of memory is said in one way, and a line without a byte grows nothing.
+    // Out of memory is said in one way, and a line without a byte grows nothing.
     ensures memory { IfErr result (λ fault. plan_line_refusal fault ≡ None
         → (fault ≡ plan_line_faults.OutOfMemory) × (0 < length line.now)) }
 {
@@ -82,7 +82,7 @@ pub fn read_plan(alloc: Global, line: &[u8]) -> Result<PlanLine, PlanLineFault>
     }
 }
 
-// The plan line of these parts. It takes no memory.
+// Reads the plan line of these parts. It takes no memory.
 #[tactic(auto, using(crate::proofs::AcceptedNames::names_are_few, crate::proofs::AcceptedNames::names_are_different))]
 fn checked_line(line: PlanLineParts) -> Result<PlanLine, PlanLineFault>
     ensures plan_line { Gives plan_line_view plan_line_refusal result (grammar.checked_line (parts_view line)) }
@@ -102,7 +102,7 @@ fn checked_line(line: PlanLineParts) -> Result<PlanLine, PlanLineFault>
     }
 }
 
-// The parts of a plan line that a value has.
+// Reads the parts of a plan line that a value has.
 #[tactic(auto, unfolding(crate::specs::PlanGrammar::plan_line_in))]
 fn parts_in(alloc: Global, value: &Value) -> Result<Option<PlanLineParts>, OutOfMemory>
     ensures parts { IfOk result (λ line. option_map parts_view line ≡ grammar.plan_line_in (view value.now)) }
@@ -120,7 +120,7 @@ fn parts_in(alloc: Global, value: &Value) -> Result<Option<PlanLineParts>, OutOf
     Ok(Some(PlanLineParts { names, parts }))
 }
 
-// The parts of a plan that stand at the fields of a value.
+// Reads the parts of a plan that stand at the fields of a value.
 #[tactic(auto, unfolding(crate::specs::PlanGrammar::plan_in))]
 fn plan_in(alloc: Global, value: &Value) -> Result<Option<PlanParts>, OutOfMemory>
     ensures parts { IfOk result (λ parts. option_map plan_of parts ≡ grammar.plan_in (view value.now)) }
@@ -152,7 +152,7 @@ fn plan_in(alloc: Global, value: &Value) -> Result<Option<PlanParts>, OutOfMemor
     }))
 }
 
-// The cells of a road, of its deleted zone and of a zone.
+// Reads the cells of a road, of its deleted zone and of a zone.
 #[tactic(auto, unfolding(crate::specs::PlanGrammar::measures_in))]
 fn measures_in(value: &Value) -> Option<(u32, u32, u32)>
     ensures { result ≡ grammar.measures_in (view value.now) }
@@ -163,7 +163,7 @@ fn measures_in(value: &Value) -> Option<(u32, u32, u32)>
     Some((length, exit, width))
 }
 
-// Where the words come from, at this field: a seed, or the text `steady`.
+// Returns where the words come from, at this field: a seed, or the text `steady`.
 fn words_at(field: &str, value: &Value) -> Option<WordKind>
     ensures { result ≡ grammar.words_at field.now (view value.now) }
 {
@@ -173,7 +173,7 @@ fn words_at(field: &str, value: &Value) -> Option<WordKind>
     }
 }
 
-// Where the words come from.
+// Returns where the words come from.
 fn words_in(value: &Value) -> Option<WordKind>
     ensures { result ≡ grammar.words_in (view value.now) }
 {

@@ -8,7 +8,7 @@ use road_plan::OutOfMemory;
 use serde_json::Value;
 use std::alloc::Global;
 
-// The JSON value that a line is. Bytes that are no UTF-8, and a text that is no JSON, are none.
+// Reads the JSON value that a line is. Bytes that are no UTF-8, and a text that is no JSON, are none.
 #[tactic(auto, unfolding(crate::specs::Reading::value_of))]
 pub(crate) fn value_in(alloc: Global, line: &[u8]) -> Result<Option<Value>, OutOfMemory>
     ensures value { IfOk result (λ value. option_map view value ≡ value_of line.now) }

@@ -61,7 +61,7 @@ pub enum Refusal {
 }
 
 impl Refusal {
-    /// What the reply to a refused line says.
+    /// Returns what the reply to a refused line says.
     pub fn text(self) -> &'static str
         ensures { result.now ≡ text_of self }
     {

@@ -10,10 +10,11 @@ use crate::fields::{has_fields, number_at};
 use crate::object::object_at;
 use serde_json::Value;
 
-// The command of a name that tells or asks one replica, with these fields.
-#[tactic(auto, unfolding(crate::specs::CommandGrammar::local_of_name))]
-pub(crate) fn local_of_name(name: &str, at: String, fields: &Value) -> Option<Command>
-    ensures { option_map command_view result ≡ grammar.local_of_name name.now (string_bytes at) (view fields.now) }
+// Reads the command of a name that tells or asks one replica, with these fields.
+#[tactic(auto, unfolding(crate::specs::CommandGrammar::replica_command_of_name))]
+pub(crate) fn replica_command_of_name(name: &str, at: String, fields: &Value) -> Option<Command>
+    ensures { option_map command_view result
+        ≡ grammar.replica_command_of_name name.now (string_bytes at) (view fields.now) }
 {
     match name {
         "edit" => edit_command_in(at, fields),
@@ -28,7 +29,7 @@ pub(crate) fn local_of_name(name: &str, at: String, fields: &Value) -> Option<Co
     }
 }
 
-// The number at this field, of an object that has exactly this field and `at`.
+// Reads the number at this field, of an object that has exactly this field and `at`.
 fn only_number(field: &str, fields: &Value) -> Option<u32>
     ensures { result ≡ grammar.only_number field.now (view fields.now) }
 {
@@ -38,7 +39,7 @@ fn only_number(field: &str, fields: &Value) -> Option<u32>
     number_at(field, fields)
 }
 
-// The `edit` at a replica, of exactly its fields.
+// Reads the `edit` at a replica, of exactly its fields.
 #[tactic(auto, unfolding(crate::specs::CommandGrammar::edit_command_in))]
 fn edit_command_in(at: String, fields: &Value) -> Option<Command>
     ensures { option_map command_view result ≡ grammar.edit_command_in (string_bytes at) (view fields.now) }
@@ -57,7 +58,7 @@ fn edit_command_in(at: String, fields: &Value) -> Option<Command>
     })
 }
 
-// The `withdraw` at a replica, of exactly its fields.
+// Reads the `withdraw` at a replica, of exactly its fields.
 #[tactic(auto, unfolding(crate::specs::CommandGrammar::withdraw_in))]
 fn withdraw_in(at: String, fields: &Value) -> Option<Command>
     ensures { option_map command_view result ≡ grammar.withdraw_in (string_bytes at) (view fields.now) }
@@ -70,7 +71,7 @@ fn withdraw_in(at: String, fields: &Value) -> Option<Command>
     Some(Command::Withdraw { at, object, step })
 }
 
-// The `advance` at a replica, of exactly its fields.
+// Reads the `advance` at a replica, of exactly its fields.
 fn advance_in(at: String, fields: &Value) -> Option<Command>
     ensures { option_map command_view result
         ≡ option_map (grammar.Advance (string_bytes at)) (grammar.only_number (codes "to") (view fields.now)) }
@@ -79,7 +80,7 @@ fn advance_in(at: String, fields: &Value) -> Option<Command>
     Some(Command::Advance { at, to })
 }
 
-// The `cells` at a replica, of exactly its fields.
+// Reads the `cells` at a replica, of exactly its fields.
 fn cells_in(at: String, fields: &Value) -> Option<Command>
     ensures { option_map command_view result
         ≡ option_map (grammar.Cells (string_bytes at)) (grammar.only_number (codes "step") (view fields.now)) }
@@ -88,7 +89,7 @@ fn cells_in(at: String, fields: &Value) -> Option<Command>
     Some(Command::Cells { at, step })
 }
 
-// The `cars` at a replica, of exactly its fields.
+// Reads the `cars` at a replica, of exactly its fields.
 fn cars_in(at: String, fields: &Value) -> Option<Command>
     ensures { option_map command_view result
         ≡ option_map (grammar.Cars (string_bytes at)) (grammar.only_number (codes "step") (view fields.now)) }
@@ -97,14 +98,14 @@ fn cars_in(at: String, fields: &Value) -> Option<Command>
     Some(Command::Cars { at, step })
 }
 
-// The steps at `from` and `to`.
+// Reads the steps at `from` and `to`.
 fn steps_at(fields: &Value) -> Option<(u32, u32)>
     ensures { result ≡ grammar.steps_at (view fields.now) }
 {
     Some((number_at("from", fields)?, number_at("to", fields)?))
 }
 
-// The `count` at a replica, of exactly its fields.
+// Reads the `count` at a replica, of exactly its fields.
 #[tactic(auto, unfolding(crate::specs::CommandGrammar::count_in))]
 fn count_in(at: String, fields: &Value) -> Option<Command>
     ensures { option_map command_view result ≡ grammar.count_in (string_bytes at) (view fields.now) }
@@ -122,7 +123,7 @@ fn count_in(at: String, fields: &Value) -> Option<Command>
     })
 }
 
-// The `diagram` at a replica, of exactly its fields.
+// Reads the `diagram` at a replica, of exactly its fields.
 #[tactic(auto, unfolding(crate::specs::CommandGrammar::diagram_in))]
 fn diagram_in(at: String, fields: &Value) -> Option<Command>
     ensures { option_map command_view result ≡ grammar.diagram_in (string_bytes at) (view fields.now) }
@@ -134,7 +135,7 @@ fn diagram_in(at: String, fields: &Value) -> Option<Command>
     Some(Command::Diagram { at, from, to })
 }
 
-// The `scenario` at a replica, of exactly its field.
+// Reads the `scenario` at a replica, of exactly its field.
 fn scenario_in(at: String, fields: &Value) -> Option<Command>
     ensures { option_map command_view result ≡ grammar.scenario_in (string_bytes at) (view fields.now) }
 {

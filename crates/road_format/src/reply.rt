@@ -27,8 +27,8 @@ use road_scenario::{Edit, Stamp};
 use serde_json::{Map, Value, put};
 use std::alloc::Global;
 
-/// The line that is written for an answer, its newline too: one compact JSON object, whose fields stand in the order of
-/// their bytes.
+/// Writes the line of an answer, its newline too: one compact JSON object, whose fields stand in the order of their
+/// bytes.
 ///
 /// # Errors
 ///
@@ -41,7 +41,7 @@ pub fn reply_line(alloc: Global, answer: &Answer) -> Result<String, OutOfMemory>
     Ok(line)
 }
 
-// The JSON value of an answer.
+// Writes the JSON value of an answer.
 fn answer_value(alloc: Global, answer: &Answer) -> Result<Value, OutOfMemory>
     ensures { IfOk result (λ value. view value ≡ data_of (answer_view answer.now)) }
 {
@@ -67,7 +67,7 @@ fn answer_value(alloc: Global, answer: &Answer) -> Result<Value, OutOfMemory>
     }
 }
 
-// These fields of an object, and one more.
+// Adds a field to those of an object.
 fn with_field(
     alloc: Global,
     mut fields: Map<String, Value>,
@@ -81,7 +81,7 @@ fn with_field(
     Ok(fields)
 }
 
-// These fields of an object, and one more that is a text.
+// Adds a field that is a text to those of an object.
 fn with_text(
     alloc: Global,
     fields: Map<String, Value>,
@@ -95,7 +95,7 @@ fn with_text(
     with_field(alloc, fields, name, text)
 }
 
-// The object of one field.
+// Writes the object of one field.
 fn field_value(alloc: Global, name: &str, value: Value) -> Result<Value, OutOfMemory>
     ensures { IfOk result (λ made. view made ≡ field_data name.now (view value)) }
 {
@@ -103,14 +103,12 @@ fn field_value(alloc: Global, name: &str, value: Value) -> Result<Value, OutOfMe
     Ok(Value::Object(fields))
 }
 
-// That the plan is open, with so many replicas.
 fn open_value(alloc: Global, replicas: u32) -> Result<Value, OutOfMemory>
     ensures { IfOk result (λ value. view value ≡ data_of (replies.Open replicas)) }
 {
     field_value(alloc, "open", Value::from(replicas))
 }
 
-// That a line is refused.
 fn refused_value(alloc: Global, refusal: Refusal) -> Result<Value, OutOfMemory>
     ensures { IfOk result (λ value. view value ≡ data_of (replies.Refused refusal)) }
 {
@@ -118,14 +116,12 @@ fn refused_value(alloc: Global, refusal: Refusal) -> Result<Value, OutOfMemory>
     field_value(alloc, "refused", text)
 }
 
-// A replica's horizon.
 fn horizon_value(alloc: Global, horizon: u32) -> Result<Value, OutOfMemory>
     ensures { IfOk result (λ value. view value ≡ data_of (replies.Horizon horizon)) }
 {
     field_value(alloc, "horizon", Value::from(horizon))
 }
 
-// One row of cells.
 fn cells_value(alloc: Global, row: &str) -> Result<Value, OutOfMemory>
     ensures { IfOk result (λ value. view value ≡ data_of (replies.Cells row.now)) }
 {
@@ -133,7 +129,6 @@ fn cells_value(alloc: Global, row: &str) -> Result<Value, OutOfMemory>
     field_value(alloc, "cells", row)
 }
 
-// The cars of a road.
 fn cars_value(alloc: Global, cars: &[Car]) -> Result<Value, OutOfMemory>
     ensures { IfOk result (λ value. view value ≡ data_of (replies.Cars (map car_view cars.now))) }
 {
@@ -141,7 +136,6 @@ fn cars_value(alloc: Global, cars: &[Car]) -> Result<Value, OutOfMemory>
     field_value(alloc, "cars", cars)
 }
 
-// What a detector counted.
 fn counted_value(alloc: Global, cars: u32, speeds: u32) -> Result<Value, OutOfMemory>
     ensures { IfOk result (λ value. view value ≡ data_of (replies.Counted cars speeds)) }
 {
@@ -150,7 +144,6 @@ fn counted_value(alloc: Global, cars: u32, speeds: u32) -> Result<Value, OutOfMe
     Ok(Value::Object(fields))
 }
 
-// Rows of cells.
 fn rows_value(alloc: Global, rows: &[String]) -> Result<Value, OutOfMemory>
     ensures { IfOk result (λ value. view value ≡ data_of (replies.Rows (texts rows.now))) }
 {
@@ -158,7 +151,6 @@ fn rows_value(alloc: Global, rows: &[String]) -> Result<Value, OutOfMemory>
     field_value(alloc, "rows", rows)
 }
 
-// The stamp of an edit.
 fn stamped_value(alloc: Global, stamp: Stamp) -> Result<Value, OutOfMemory>
     ensures { IfOk result (λ value. view value ≡ data_of (replies.Stamped stamp)) }
 {
@@ -166,7 +158,6 @@ fn stamped_value(alloc: Global, stamp: Stamp) -> Result<Value, OutOfMemory>
     field_value(alloc, "stamp", Value::Array(numbers))
 }
 
-// The edits that a replica holds.
 fn edits_value(alloc: Global, edits: &[Edit]) -> Result<Value, OutOfMemory>
     ensures { IfOk result (λ value. view value ≡ data_of (replies.Edits edits.now)) }
 {
@@ -174,7 +165,7 @@ fn edits_value(alloc: Global, edits: &[Edit]) -> Result<Value, OutOfMemory>
     Ok(Value::Object(fields))
 }
 
-// The fields of edits: the list of them, and its form.
+// Writes the fields of edits: the list of them, and its form.
 fn edits_fields(alloc: Global, edits: &[Edit]) -> Result<Map<String, Value>, OutOfMemory>
     ensures { IfOk result (λ fields. members_view fields.entries
         ≡ member (codes "edits") (list_data (map edit_data edits.now))
@@ -185,14 +176,14 @@ fn edits_fields(alloc: Global, edits: &[Edit]) -> Result<Map<String, Value>, Out
     with_field(alloc, fields, "form", Value::from(LAST_FORM))
 }
 
-// The first step at which a number put is another than before.
+// Writes the first step at which a number put is another than before.
 fn touched_value(alloc: Global, step: Option<u32>) -> Result<Value, OutOfMemory>
     ensures { IfOk result (λ value. view value ≡ data_of (replies.Touched step)) }
 {
     field_value(alloc, "touched", step_value(step))
 }
 
-// A message of all the edits that a replica holds.
+// Writes a message of all the edits that a replica holds.
 fn sent_value(alloc: Global, message: &str, size: u64) -> Result<Value, OutOfMemory>
     ensures { IfOk result (λ value. view value ≡ data_of (replies.Sent message.now size)) }
 {
@@ -201,7 +192,6 @@ fn sent_value(alloc: Global, message: &str, size: u64) -> Result<Value, OutOfMem
     Ok(Value::Object(fields))
 }
 
-// A message of heads.
 fn heads_value(alloc: Global, message: &str, heads: &[Head]) -> Result<Value, OutOfMemory>
     ensures { IfOk result (λ value. view value ≡ data_of (replies.Heads message.now heads.now)) }
 {
@@ -212,7 +202,7 @@ fn heads_value(alloc: Global, message: &str, heads: &[Head]) -> Result<Value, Ou
     Ok(Value::Object(fields))
 }
 
-// A message of the edits that are beyond heads.
+// Writes a message of the edits that are beyond heads.
 fn delta_value(alloc: Global, message: &str, edits: &[Edit]) -> Result<Value, OutOfMemory>
     ensures { IfOk result (λ value. view value ≡ data_of (replies.Delta message.now edits.now)) }
 {
@@ -221,7 +211,6 @@ fn delta_value(alloc: Global, message: &str, edits: &[Edit]) -> Result<Value, Ou
     Ok(Value::Object(fields))
 }
 
-// What the sessions of a crowd left.
 fn crowd_value(alloc: Global, edits: &[Edit], journal: u32, row: &str) -> Result<Value, OutOfMemory>
     ensures { IfOk result (λ value. view value ≡ data_of (replies.Crowd edits.now journal row.now)) }
 {
@@ -231,7 +220,7 @@ fn crowd_value(alloc: Global, edits: &[Edit], journal: u32, row: &str) -> Result
     Ok(Value::Object(fields))
 }
 
-// The JSON value of a step, or null where there is none.
+// Writes the JSON value of a step, or null where there is none.
 fn step_value(step: Option<u32>) -> Value
     ensures { view result ≡ step_data step }
 {

@@ -5,7 +5,7 @@ use road_serve::{Ended, StdSink, StdSource, run};
 use std::process::ExitCode;
 use std::{env, io};
 
-// The words after the program's name.
+// Reads the words after the program's name.
 fn words(rt: &HostRuntime) -> io::Result<Vec<String>> {
     let mut words = Vec::new(rt.alloc());
     for word in env::args(rt)?.skip(1) {

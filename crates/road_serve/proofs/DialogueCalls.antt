@@ -5,10 +5,10 @@ use Rattle.std.proofs.lemmas.List.{take_all}
 use Rattle.std.proofs.Math.Seq.{take-add}
 use Rattle.std.specs.Io.KnownBytes.{Appends}
 use Rattle.road_format.specs.Cut.{newline, pieces_of}
-use Rattle.road_commands.specs.declared.faults.LaboratoryFault.{LaboratoryFault}
-use Rattle.road_commands.specs.declared.faults.LaboratoryFault.TheVariants as laboratory_faults
+use Rattle.road_workers.specs.declared.faults.CrewFault.{CrewFault}
+use Rattle.road_workers.specs.declared.faults.CrewFault.TheVariants as crew_faults
 use Rattle.road_serve.specs.Answers.{answers, has_more_lines}
-use Rattle.road_serve.specs.Faults.{unanswered_fault}
+use Rattle.road_serve.specs.Faults.{crew_fault}
 use Rattle.road_serve.specs.Failures.{RisesByOne}
 use Rattle.road_serve.specs.Dialogue.{Holds, GoesOn, Stands, HasAnswered}
 use Rattle.road_serve.specs.StreamViews.{SinkView, TakesAllBut, TakesFront, Stops}
@@ -37,9 +37,9 @@ stopped_front n a b ended first sink d h =
 pub stops_memory : (n : ℕ) (a b : List ℕ) (ended : Bool) (first sink : SinkView) (d : Dialogue) → HasAnswered n a first sink d → Stops first sink (answers n (a ++ b) ended) faults.OutOfMemory
 stops_memory n a b ended first sink d h = (stopped_front n a b ended first sink d h, h.well)
 
-pub stops_unanswered : (n : ℕ) (a b : List ℕ) (ended : Bool) (first sink : SinkView) (d : Dialogue) (fault : LaboratoryFault) → HasAnswered n a first sink d → Stops first sink (answers n (a ++ b) ended) (unanswered_fault fault)
-stops_unanswered n a b ended first sink d laboratory_faults.WorkersGone h = (stopped_front n a b ended first sink d h, h.well)
-stops_unanswered n a b ended first sink d laboratory_faults.OutOfMemory h = (stopped_front n a b ended first sink d h, h.well)
+pub stops_unanswered : (n : ℕ) (a b : List ℕ) (ended : Bool) (first sink : SinkView) (d : Dialogue) (fault : CrewFault) → HasAnswered n a first sink d → Stops first sink (answers n (a ++ b) ended) (crew_fault fault)
+stops_unanswered n a b ended first sink d crew_faults.WorkersGone h = (stopped_front n a b ended first sink d h, h.well)
+stops_unanswered n a b ended first sink d crew_faults.OutOfMemory h = (stopped_front n a b ended first sink d h, h.well)
 
 pub stops_sooner : (n : ℕ) (a b : List ℕ) (ended : Bool) (first sink : SinkView) (fault : ServeFault) → Stops first sink (answers n a false) fault → Stops first sink (answers n (a ++ b) ended) fault
 stops_sooner n a b ended first sink fault s = let more = answers_more n a b ended in stops_longer first sink _ more.0 _ fault more.1 s

@@ -2,20 +2,20 @@
 use Rattle.std.proofs.Common.{◌≡◌, ℕ, Bool, true, false, Result, Ok, Err, inl, inr, refl, sym, subst, ◌∙◌}
 use Rattle.std.specs.Prelude.{IfErr}
 use Rattle.road_commands.specs.Laboratory.{gone_after_command}
-use Rattle.road_commands.specs.declared.faults.LaboratoryFault.{LaboratoryFault}
-use Rattle.road_commands.specs.declared.faults.LaboratoryFault.TheVariants as laboratory_faults
-use Rattle.road_serve.specs.Faults.{CountsGone, early_fault, gone_after_call, unanswered_fault}
+use Rattle.road_workers.specs.declared.faults.CrewFault.{CrewFault}
+use Rattle.road_workers.specs.declared.faults.CrewFault.TheVariants as crew_faults
+use Rattle.road_serve.specs.Faults.{CountsGone, crew_fault, early_fault, gone_after_call}
 use Rattle.road_serve.specs.declared.faults.EarlyEnd.{EarlyEnd}
 use Rattle.road_serve.specs.declared.faults.EarlyEnd.TheVariants as ends
 use Rattle.road_serve.specs.declared.faults.ServeFault.{ServeFault}
 use Rattle.road_serve.specs.declared.faults.ServeFault.TheVariants as faults
 
 -- a command that is not answered; where it was a crowd, there is one
-pub unanswered_counts : (A : Type 0) (fault : LaboratoryFault) (held crowd : Bool) (before after : ℕ) → (held ≡ true → crowd ≡ true) → after ≡ gone_after_command {A = A} (Err fault) held before
-    → CountsGone (unanswered_fault fault) crowd before after
-unanswered_counts A laboratory_faults.OutOfMemory held crowd before after there counts = counts
-unanswered_counts A laboratory_faults.WorkersGone true crowd before after there counts = inr (counts, there refl)
-unanswered_counts A laboratory_faults.WorkersGone false crowd before after there counts = inl counts
+pub unanswered_counts : (A : Type 0) (fault : CrewFault) (held crowd : Bool) (before after : ℕ) → (held ≡ true → crowd ≡ true) → after ≡ gone_after_command {A = A} (Err fault) held before
+    → CountsGone (crew_fault fault) crowd before after
+unanswered_counts A crew_faults.OutOfMemory held crowd before after there counts = counts
+unanswered_counts A crew_faults.WorkersGone true crowd before after there counts = inr (counts, there refl)
+unanswered_counts A crew_faults.WorkersGone false crowd before after there counts = inl counts
 
 -- a call that asks no crew
 pub counts_none : {A : Type 0} (result : Result A ServeFault) (crowd : Bool) (before after : ℕ) → ((n : ℕ) → gone_after_call result n ≡ n) → after ≡ before → IfErr result (λ fault. CountsGone fault crowd before after)

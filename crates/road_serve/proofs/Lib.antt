@@ -1,5 +1,5 @@
--- Lemmas of lines and replies as bytes come, of crowds among the lines, of the ends of runs and of the program's words,
--- and worked examples.
+-- Lemmas of lines and replies as bytes come, of crowds among the lines, of the ends of runs, of scripts and of the words
+-- after the name, and worked examples.
 pub mod Options
 pub mod ByteParts
 pub mod CutBytes
@@ -14,5 +14,6 @@ pub mod GoneCounts
 pub mod RunEnds
 pub mod CommandLines
 pub mod WorkerCounts
+pub mod ScriptSources
 mod Examples
 mod PlanFaults

@@ -1,7 +1,5 @@
 -- The faults of runs.
 use Rattle.std.specs.Prelude.{◌≡◌, ◌⊎◌, ℕ, ◌+◌, ◌-◌, ◌^◌, min, Bool, true, Result, Ok, Err}
-use Rattle.road_commands.specs.declared.faults.LaboratoryFault.{LaboratoryFault}
-use Rattle.road_commands.specs.declared.faults.LaboratoryFault.TheVariants as laboratory_faults
 use Rattle.road_workers.specs.declared.faults.CrewFault.{CrewFault}
 use Rattle.road_workers.specs.declared.faults.CrewFault.TheVariants as crew_faults
 use Rattle.road_serve.specs.Failures.{RisesByOne}
@@ -15,12 +13,7 @@ abbrev pub early_fault : EarlyEnd → ServeFault
 early_fault ends.BadPlan = faults.BadPlan
 early_fault ends.TooMany = faults.TooMany
 
--- the fault of a run whose laboratory answers a command so
-abbrev pub unanswered_fault : LaboratoryFault → ServeFault
-unanswered_fault laboratory_faults.WorkersGone = faults.WorkersGone
-unanswered_fault laboratory_faults.OutOfMemory = faults.OutOfMemory
-
--- the fault of a run whose crew could not be started
+-- the fault of a run whose crew could not be started, or whose laboratory answers a command so
 abbrev pub crew_fault : CrewFault → ServeFault
 crew_fault crew_faults.WorkersGone = faults.WorkersGone
 crew_fault crew_faults.OutOfMemory = faults.OutOfMemory

@@ -1,7 +1,8 @@
 -- How the program ends: its exit status, and the line on standard error.
-use Rattle.std.specs.Prelude.{◌≡◌, ◌⊎◌, ℕ, List, codes, Option, Some, None, Result, Ok, Err}
+use Rattle.std.specs.Prelude.{◌≡◌, ◌⊎◌, ℕ, List, codes, false, Option, Some, None, Result, Ok, Err}
 use Rattle.std.specs.Option.{option_map}
 use Rattle.road_serve.specs.Serving.{Serving, AnswersInput}
+use Rattle.road_serve.specs.StreamViews.{SourceView}
 use Rattle.road_serve.specs.declared.faults.ServeFault.{ServeFault}
 use Rattle.road_serve.specs.declared.faults.ServeFault.TheVariants as faults
 use Rattle.road_serve.specs.declared.serving.Served.{Served}
@@ -47,3 +48,18 @@ IsRefused ended = HasStatus ended 2 (Some (codes "bad arguments")) ⊎ HasStatus
 pub record EndsAfter (ended : Ended) (run : Serving) : Type 0 where
   pub status : HasStatus ended (status_of run.result) (line_of run.result)
   pub answers : AnswersInput run
+
+-- the source that is made of a file, before its first byte is read
+abbrev pub source_of_file : {F : Type 0} → (F → Option (List ℕ)) → F → SourceView
+source_of_file remaining file = record { remaining = remaining file; at_end = false; failures = 0 }
+
+-- A run of a script read the source made of the file that was opened. Where none was, since that failed or there was no
+-- memory to read the words, nothing was written.
+abbrev pub ReadsScript : {F : Type 0} → (F → Option (List ℕ)) → Option F → Serving → Type 0
+ReadsScript remaining (Some file) run = run.source_before ≡ source_of_file remaining file
+ReadsScript remaining None run =
+    ((run.result ≡ Err faults.Read) ⊎ (run.result ≡ Err faults.OutOfMemory)) × (run.sink_after ≡ run.sink_before)
+
+-- the program ends after this run of a script
+abbrev pub EndsScript : {F : Type 0} → (F → Option (List ℕ)) → Option F → Ended → Serving → Type 0
+EndsScript remaining opened ended run = EndsAfter ended run × ReadsScript remaining opened run

@@ -18,7 +18,7 @@ use std::alloc::{AllocError, Global};
 pub(crate) enum ArgumentFault {
     // They are not accepted.
     Refused,
-    // There was no memory.
+    // An allocation failed.
     OutOfMemory,
 }
 
@@ -41,8 +41,8 @@ pub(crate) struct Arguments<'a> {
     pub workers: Option<u32>,
 }
 
-// What the words after the program's name ask for: `Refused` where they are not accepted, `OutOfMemory` where a growth
-// was refused.
+// Reads what the words after the program's name ask for: `Refused` where they are not accepted, `OutOfMemory` where an
+// allocation failed.
 pub(crate) fn arguments_in<'a>(
     alloc: Global,
     words: &'a [String],
@@ -70,7 +70,7 @@ pub(crate) fn arguments_in<'a>(
     }
 }
 
-// The command line of the program.
+// Makes the command line of the program.
 fn program_command<'a>(alloc: Global) -> Result<Command<'a>, AllocError>
     ensures { IfOk result (λ command. app_of command ≡ command_line) }
 {
@@ -83,7 +83,7 @@ fn program_command<'a>(alloc: Global) -> Result<Command<'a>, AllocError>
     Ok(command)
 }
 
-// What `clap` finds in the words.
+// Returns what `clap` finds in the words.
 fn matches_in<'a>(alloc: Global, words: &'a [String]) -> Result<ArgMatches<'a>, ArgumentFault>
     ensures read { IfOk result (λ found. are_read (texts words.now) ≡ true) }
     ensures found { IfOk result (λ found. rows_of (found_of found) ≡ words_matches (texts words.now)) }
@@ -96,7 +96,7 @@ fn matches_in<'a>(alloc: Global, words: &'a [String]) -> Result<ArgMatches<'a>, 
     }
 }
 
-// The number of workers that a value names.
+// Reads the number of workers that a value names.
 fn count_in(text: &str) -> Option<u32>
     ensures number { result ≡ worker_count text.now }
     ensures few { IfSome result (λ count. (0 < count) × (count ≤ MOST_WORKERS)) }
@@ -108,7 +108,7 @@ fn count_in(text: &str) -> Option<u32>
     Some(count)
 }
 
-// Why `clap` did not read the words.
+// Returns why `clap` did not read the words.
 fn fault_of(error: &Error) -> ArgumentFault
     ensures { result ≡ Refused → kind_of error.now ≢ kinds.OutOfMemory }
 {

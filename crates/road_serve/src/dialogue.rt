@@ -1,6 +1,6 @@
 //! What serves lines: bytes become lines, and lines replies.
 
-ghost use Rattle.std.specs.Prelude.{◌≡◌, ◌≢◌, ◌↔◌, ◌==◌, ◌++◌, ◌∷◌, ◌<◌, ◌≤◌, ℕ, List, [], IfErr, IfOk, OnOk, MatchResult, IsTrue, IsSome, length, vec_len, take, true, false, None, Ok, Some, string_bytes};
+ghost use Rattle.std.specs.Prelude.{◌≡◌, ◌↔◌, ◌==◌, ◌++◌, ◌∷◌, ◌<◌, ◌≤◌, ℕ, List, [], IfErr, IfOk, OnOk, MatchResult, IsTrue, IsSome, length, vec_len, take, true, false, None, Ok, Some, string_bytes};
 ghost use Rattle.std.specs.List.{position};
 ghost use Rattle.road_format.specs.Cut.{newline};
 ghost use Rattle.road_format.specs.CommandGrammar.{command_of};
@@ -8,7 +8,7 @@ ghost use Rattle.std.specs.List.{IsDistinct};
 ghost use Rattle.std.specs.Str.{bytes_eq};
 ghost use Rattle.road_format.specs.PlanGrammar.{plan_line_of};
 ghost use Rattle.road_format.specs.Replies.{Refused, reply};
-ghost use Rattle.road_format.specs.Views.{texts, plan_line_view, command_view, answer_view};
+ghost use Rattle.road_format.specs.Views.{texts, plan_line_view, command_view};
 ghost use Rattle.road_commands.specs.Laboratory.{answer_to, gone_after_command, is_gathered};
 ghost use Rattle.road_commands.specs.Laboratory.{laboratory_after, laboratory_of_winners};
 ghost use Rattle.road_serve.specs.Answers.{reading_unless, opening_answer, line_answer, gathers};
@@ -22,15 +22,15 @@ ghost use Rattle.road_serve.specs.StreamViews.{SinkView, sink_view, Stops};
 use crate::faults::{EarlyEnd, ServeFault};
 use crate::reply_buffer::{flush, put};
 use crate::streams::Sink;
-use road_commands::{Laboratory, LaboratoryFault};
+use road_commands::Laboratory;
 use road_format::{Answer, Command, PlanLine, Refusal, read_command, read_plan, reply_line};
 use road_plan::OutOfMemory;
 use road_plan::limits::LONGEST_LINE;
 use road_replica::Crowds;
-use road_workers::Crew;
+use road_workers::{Crew, CrewFault};
 use std::alloc::Global;
 
-// What a line says as the first one.
+// Reads a line as the first one.
 fn first_line(
     alloc: Global,
     held: &[u8],
@@ -52,7 +52,7 @@ fn first_line(
     }
 }
 
-// What a line says as a later one.
+// Reads a line as a later one.
 fn later_line(
     alloc: Global,
     held: &[u8],
@@ -72,7 +72,7 @@ fn later_line(
     }
 }
 
-// The reply to the plan line, and the laboratory where it is accepted.
+// Returns the reply to the plan line, and the laboratory where it is accepted.
 fn opening(
     alloc: Global,
     held: &[u8],
@@ -92,7 +92,7 @@ fn opening(
     }
 }
 
-// The reply to a plan line that is accepted, and its laboratory.
+// Opens the laboratory of a plan line that is accepted, and returns the reply too.
 fn opened(alloc: Global, line: PlanLine) -> Result<(String, Laboratory), OutOfMemory>
     requires few { vec_len line.names ≤ 64 }
     requires apart { IsDistinct bytes_eq (texts line.names.items) }
@@ -105,14 +105,14 @@ fn opened(alloc: Global, line: PlanLine) -> Result<(String, Laboratory), OutOfMe
     Ok((reply, laboratory))
 }
 
-// The reply to a line that is refused.
+// Returns the reply to a line that is refused.
 fn refusal_reply(alloc: Global, refusal: Refusal) -> Result<String, OutOfMemory>
     ensures { IfOk result (λ text. string_bytes text ≡ reply (Refused refusal)) }
 {
     reply_line(alloc, &Answer::Refused(refusal))
 }
 
-// The reply to a line after the first.
+// Returns the reply to a line after the first.
 fn later_reply<C: Crew, K: Crowds>(
     alloc: Global,
     laboratory: &mut Laboratory,
@@ -120,7 +120,7 @@ fn later_reply<C: Crew, K: Crowds>(
     long: bool,
     crew: &mut C,
     crowds: &K,
-) -> Result<String, LaboratoryFault>
+) -> Result<String, CrewFault>
     ensures text { IfOk result (λ text. string_bytes text
         ≡ reply (line_answer laboratory.old (reading_unless long (command_of held.now)))) }
     ensures after { OnOk result (laboratory.new
@@ -134,14 +134,14 @@ fn later_reply<C: Crew, K: Crowds>(
     }
 }
 
-// The reply to a command.
+// Returns the reply to a command.
 fn command_reply<C: Crew, K: Crowds>(
     alloc: Global,
     laboratory: &mut Laboratory,
     command: &Command,
     crew: &mut C,
     crowds: &K,
-) -> Result<String, LaboratoryFault>
+) -> Result<String, CrewFault>
     ensures text { IfOk result (λ text. string_bytes text
         ≡ reply (answer_to laboratory.old (command_view command.now))) }
     ensures after { OnOk result (laboratory.new
@@ -153,15 +153,15 @@ fn command_reply<C: Crew, K: Crowds>(
     Ok(reply_line(alloc, &answer)?)
 }
 
-// Where the first line of these bytes ends.
+// Returns where the first line of these bytes ends.
 fn line_end(bytes: &[u8]) -> Option<usize>
     ensures { result ≡ position (λ x. x == newline) bytes.now }
 {
     bytes.iter().position(|x| *x == b'\n')
 }
 
-/// A dialogue: each whole line that came is answered, and the bytes of the next one are held. No more of a line is held
-/// than the longest one has, and no more than 64 KiB of replies wait to be written.
+/// Answers each whole line that came, and holds the bytes of the next one: no more of a line than the longest one has.
+/// At most 64 KiB of replies wait to be written.
 #[derive(Drop)]
 pub struct Dialogue {
     /// The laboratory, once the plan line is accepted.
@@ -179,7 +179,7 @@ pub struct Dialogue {
 }
 
 impl Dialogue {
-    /// The dialogue to which nothing has come. So many lines may come after the plan line.
+    /// Returns the dialogue to which nothing has come. So many lines may come after the plan line.
     pub fn new(alloc: Global, lines: u32) -> Dialogue
         ensures none_came { (first : SinkView) → HasAnswered lines [] first first result }
         ensures going { result.over ≡ None }
@@ -195,7 +195,7 @@ impl Dialogue {
         }
     }
 
-    // More bytes of the line that has not ended.
+    // Holds more bytes of the line that has not ended.
     fn hold(&mut self, bytes: &[u8]) -> Result<(), OutOfMemory>
         ensures holds { (line : List ℕ) → Holds self.old.held.items self.old.long line
             → OnOk result (Holds self.new.held.items self.new.long (line ++ bytes.now)) }
@@ -211,27 +211,27 @@ impl Dialogue {
         self.held.extend_from_slice(bytes)
     }
 
-    // Whether no further line may come.
+    // Returns whether no further line may come.
     fn is_spent(&self) -> bool
         ensures { IsTrue result ↔ (IsSome self.now.laboratory × (self.now.left ≡ 0)) }
     {
         self.laboratory.is_some() && self.left == 0
     }
 
-    // Whether nothing of the next line has come.
+    // Returns whether nothing of the next line has come.
     fn is_clear(&self) -> bool
         ensures { IsTrue result ↔ ((self.now.held.items ≡ []) × (self.now.long ≡ false)) }
     {
         self.held.is_empty() && !self.long
     }
 
-    // The line that is held has ended: the reply to it.
+    // Returns the reply to the line that is held, which has ended.
     fn reply<C: Crew, K: Crowds>(
         &mut self,
         alloc: Global,
         crew: &mut C,
         crowds: &K,
-    ) -> Result<String, LaboratoryFault>
+    ) -> Result<String, CrewFault>
         requires { self.old.over ≡ None }
         ensures answered { (lines : ℕ) (bytes : List ℕ) → GoesOn lines bytes self.old
             → has_more_lines lines (bytes ++ newline ∷ []) ≡ false
@@ -366,7 +366,7 @@ impl Dialogue {
         Ok(())
     }
 
-    // The input has ended: answers a last line without a newline, or an input without a line.
+    // Answers a last line without a newline, or an input without a line, where the input has ended.
     fn answer_last<W: Sink, C: Crew, K: Crowds>(
         &mut self,
         alloc: Global,
@@ -397,7 +397,7 @@ impl Dialogue {
         put(&mut self.waiting, writer, reply.as_bytes())
     }
 
-    /// The input has ended: writes the reply to a last line without a newline, or to an input without a line, and
+    /// Writes the reply to a last line without a newline, or to an input without a line, where the input has ended, and
     /// flushes. The dialogue must not be over.
     ///
     /// # Errors

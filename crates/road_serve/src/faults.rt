@@ -1,10 +1,9 @@
 //! How a run ends other than well.
 
 ghost use Rattle.std.specs.Prelude.{◌≡◌};
-ghost use Rattle.road_serve.specs.Faults.{crew_fault, early_fault, unanswered_fault};
+ghost use Rattle.road_serve.specs.Faults.{crew_fault, early_fault};
 ghost use Rattle.road_serve.specs.declared.faults.ServeFault.TheVariants.{OutOfMemory, Read, Write};
 
-use road_commands::LaboratoryFault;
 use road_workers::CrewFault;
 use std::alloc::{AllocError, AllocFailed};
 use thiserror::Error;
@@ -42,7 +41,7 @@ pub enum EarlyEnd {
 }
 
 impl EarlyEnd {
-    /// The fault of a run that ends so.
+    /// Returns the fault of a run that ends so.
     pub fn fault(self) -> ServeFault
         ensures { result ≡ early_fault self }
     {
@@ -76,17 +75,6 @@ impl From<WriteFailed> for ServeFault {
 
     fn from(_failed: WriteFailed) -> ServeFault {
         ServeFault::Write
-    }
-}
-
-impl From<LaboratoryFault> for ServeFault {
-    ghost from_gives = { λ failed fault. fault ≡ unanswered_fault failed };
-
-    fn from(failed: LaboratoryFault) -> ServeFault {
-        match failed {
-            LaboratoryFault::WorkersGone => ServeFault::WorkersGone,
-            LaboratoryFault::OutOfMemory => ServeFault::OutOfMemory,
-        }
     }
 }
 

@@ -20,7 +20,7 @@ pub enum Failing {
 }
 
 impl Failing {
-    // Whether this call fails.
+    // Returns whether this call fails.
     fn fails(self, call: u64) -> bool
         ensures { result ≡ is_failing self call }
     {
@@ -40,7 +40,7 @@ struct Calls {
 }
 
 impl Calls {
-    // Whether the next call fails. It is counted.
+    // Returns whether the next call fails. It is counted.
     fn next_fails(&mut self) -> bool
         ensures fails { result ≡ is_failing self.old.failing self.old.made }
         ensures counted { RisesByOne self.old.made self.new.made }
@@ -66,7 +66,7 @@ pub struct MemorySource<'a> {
 }
 
 impl<'a> MemorySource<'a> {
-    /// The source of these bytes. Its step is above 0.
+    /// Returns the source of these bytes. Its step is above 0.
     pub fn new(bytes: &'a [u8], step: usize, failing: Failing) -> MemorySource<'a>
         requires { 0 < step }
         ensures remaining { ⟦<MemorySource<'a> as Source>⟧.remaining result ≡ Some bytes.now }
@@ -139,7 +139,7 @@ pub struct MemorySink {
 }
 
 impl MemorySink {
-    /// The sink that goes on from these bytes. Its writes and its flushes are counted apart.
+    /// Returns the sink that goes on from these bytes. Its writes and its flushes are counted apart.
     pub fn new(bytes: Vec<u8>, room: usize, writes: Failing, flushes: Failing) -> MemorySink
         ensures contents { ⟦<MemorySink as Sink>⟧.contents result ≡ Some bytes.items }
         ensures failures { ⟦<MemorySink as Sink>⟧.failures result ≡ 0 }
@@ -165,7 +165,7 @@ impl MemorySink {
         }
     }
 
-    /// The bytes that were taken, and those from which the sink went on.
+    /// Returns the bytes that were taken, and those from which the sink went on.
     pub fn bytes(&self) -> &[u8]
         ensures { ⟦<MemorySink as Sink>⟧.contents self.now ≡ Some result.now }
     {

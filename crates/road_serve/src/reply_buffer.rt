@@ -1,6 +1,6 @@
 //! Replies that wait to be written.
 
-ghost use Rattle.std.specs.Prelude.{◌≡◌, ◌++◌, ℕ, [], true, OnOk, OnErr, IfErr, MatchResult};
+ghost use Rattle.std.specs.Prelude.{◌≡◌, ◌++◌, ℕ, [], true, OnOk, OnErr, IfErr};
 ghost use Rattle.std.specs.Io.KnownBytes.{Appends};
 ghost use Rattle.road_serve.specs.Failures.{RisesByOne};
 ghost use Rattle.road_serve.specs.Faults.{gone_after_call};
@@ -28,7 +28,7 @@ fn write_all<W: Sink>(writer: &mut W, bytes: &[u8]) -> Result<(), WriteFailed>
     Ok(())
 }
 
-// Puts a reply behind those that wait. Where it would be too much for them, they are written, and then the reply is.
+// Puts a reply behind those that wait, or, where it would be too much for them, writes them and then the reply.
 // `Write` where the sink failed, `OutOfMemory` where an allocation failed: what was written then begins what waited and
 // the reply.
 pub(crate) fn put<W: Sink>(

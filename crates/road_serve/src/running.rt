@@ -1,14 +1,15 @@
 //! The program without its process.
 
-ghost use Rattle.std.specs.Prelude.{◌≡◌, ◌<◌, ◌≤◌, ℕ, IfOk, IfSome, IsSome, codes, true, false, None, Some, Result};
+ghost use Rattle.std.specs.Prelude.{◌≡◌, ◌<◌, ◌≤◌, ℕ, IfNone, IfOk, IfSome, IsSome, codes, true, false, None, Option, Some, Result};
 ghost use Rattle.road_format.specs.Views.{texts};
 ghost use Rattle.road_plan.specs.declared.limits.TheConstants.{MOST_WORKERS};
 ghost use Rattle.road_serve.specs.Arguments.{are_accepted, script_of, workers_of};
 ghost use Rattle.road_serve.specs.Serving.{program_serving};
-ghost use Rattle.road_serve.specs.Statuses.{status_of, line_of, fault_status, fault_line, EndsAfter, HasStatus, IsRefused};
+ghost use Rattle.road_serve.specs.Statuses.{status_of, line_of, fault_status, fault_line, EndsAfter, EndsScript, HasStatus, IsRefused};
 ghost use Rattle.road_serve.specs.StreamViews.{SourceView, source_view, sink_view};
 ghost use Rattle.road_serve.specs.declared.serving.Served.{Served};
 ghost use Rattle.road_serve.specs.declared.faults.ServeFault.{ServeFault};
+ghost use Rattle.road_serve.specs.declared.faults.ServeFault.TheVariants.{Read};
 
 use crate::arguments::{ArgumentFault, arguments_in};
 use crate::faults::ServeFault;
@@ -34,7 +35,7 @@ pub struct Ended {
 }
 
 impl Ended {
-    /// The end where the words after the program's name are refused.
+    /// Returns the end where the words after the program's name are refused.
     pub fn bad_arguments() -> Ended
         ensures { HasStatus result 2 (Some (codes "bad arguments")) }
     {
@@ -44,7 +45,7 @@ impl Ended {
         }
     }
 
-    /// The end where there is no memory for the words after the program's name.
+    /// Returns the end where there is no memory for the words after the program's name.
     pub fn no_memory() -> Ended
         ensures { HasStatus result 3 (Some (codes "no memory")) }
     {
@@ -69,12 +70,12 @@ pub fn run<
         → (served : Result Served ServeFault) × (gone : ℕ) × (workers_of (texts words.now) ≡ None → gone ≡ 0)
         × EndsAfter result (program_serving (source_view R.Source reader.old) (source_view R.Source reader.new)
         (sink_view W.Sink writer.old) (sink_view W.Sink writer.new) 0 gone served) }
-    // No contract says which bytes a file holds.
+    // No contract says which file a path opens, nor which bytes a file holds.
     ensures script { are_accepted (texts words.now) ≡ true → IsSome (script_of (texts words.now))
         → (reader.new ≡ reader.old)
         × (served : Result Served ServeFault) × (gone : ℕ) × (workers_of (texts words.now) ≡ None → gone ≡ 0)
-        × (before : SourceView) × (after : SourceView)
-        × EndsAfter result (program_serving before after
+        × (before : SourceView) × (after : SourceView) × (opened : Option F.File)
+        × EndsScript F.File.remaining opened result (program_serving before after
         (sink_view W.Sink writer.old) (sink_view W.Sink writer.new) 0 gone served) }
 {
     match arguments_in(rt.alloc(), words) {
@@ -87,7 +88,7 @@ pub fn run<
     }
 }
 
-// Runs the program from the script at a path. One that cannot be opened is as one of which the first read fails.
+// Runs the program from the script at a path.
 fn run_script<F: Files + Threads + Wait + AllocGlobal + Clone + Drop + Send + 'static, W: Sink>(
     rt: &F,
     path: &str,
@@ -96,16 +97,33 @@ fn run_script<F: Files + Threads + Wait + AllocGlobal + Clone + Drop + Send + 's
 ) -> Ended
     requires { IfSome workers (λ count. (0 < count) × (count ≤ MOST_WORKERS)) }
     ensures { (served : Result Served ServeFault) × (gone : ℕ) × (workers ≡ None → gone ≡ 0)
-        × (before : SourceView) × (after : SourceView)
-        × EndsAfter result (program_serving before after
+        × (before : SourceView) × (after : SourceView) × (opened : Option F.File)
+        × EndsScript F.File.remaining opened result (program_serving before after
         (sink_view W.Sink writer.old) (sink_view W.Sink writer.new) 0 gone served) }
 {
-    match fs::open(rt, path) {
-        Ok(file) => {
+    run_opened(rt, fs::open(rt, path).ok(), workers, writer)
+}
+
+// Runs the program from the script that was opened, from its first byte. Where none could be, that is a read that fails.
+fn run_opened<F: Files + Threads + Wait + AllocGlobal + Clone + Drop + Send + 'static, W: Sink>(
+    rt: &F,
+    opened: Option<F::File>,
+    workers: Option<u32>,
+    writer: &mut W,
+) -> Ended
+    requires { IfSome workers (λ count. (0 < count) × (count ≤ MOST_WORKERS)) }
+    ensures script { (served : Result Served ServeFault) × (gone : ℕ) × (workers ≡ None → gone ≡ 0)
+        × (before : SourceView) × (after : SourceView)
+        × EndsScript F.File.remaining opened result (program_serving before after
+        (sink_view W.Sink writer.old) (sink_view W.Sink writer.new) 0 gone served) }
+    ensures unopened { IfNone opened (HasStatus result (fault_status Read) (Some (fault_line Read))) }
+{
+    match opened {
+        Some(file) => {
             let mut reader = StdSource::new(file);
             run_with(rt, workers, &mut reader, writer)
         }
-        Err(_) => after_fault(&ServeFault::Read),
+        None => after_fault(&ServeFault::Read),
     }
 }
 
@@ -138,10 +156,7 @@ fn run_alone<F: Threads + Wait + AllocGlobal, R: Source, W: Sink>(
         (sink_view W.Sink writer.old) (sink_view W.Sink writer.new) 0 0 served) }
 {
     let mut crew = Alone;
-    crew.known();
-    let ended = run_by(rt.alloc(), reader, writer, &mut crew, &OnThreads::new(rt));
-    crew.known();
-    ended
+    run_by(rt.alloc(), reader, writer, &mut crew, &OnThreads::new(rt))
 }
 
 // Runs the program by so many lasting workers, from a reader to a writer. They are ended before it ends.
@@ -173,7 +188,8 @@ fn crew_of<F: Threads + Wait + AllocGlobal + Clone + Drop + Send + 'static>(
 ) -> Result<Pool<F>, CrewFault>
     requires some { 0 < count }
     requires few { count ≤ MOST_WORKERS }
-    ensures { IfOk result (λ crew. ⟦<Pool<F> as Crew>⟧.times_gone crew ≡ 0) }
+    ensures workers { IfOk result (λ crew. crew.workers ≡ count) }
+    ensures gone { IfOk result (λ crew. ⟦<Pool<F> as Crew>⟧.times_gone crew ≡ 0) }
 {
     Pool::start(rt.clone()?, rt.alloc(), count)
 }
@@ -194,7 +210,7 @@ pub fn run_by<R: Source, W: Sink, C: Crew, K: Crowds>(
     after_run(&serve(alloc, reader, writer, crew, crowds))
 }
 
-// How the program ends after a run.
+// Returns how the program ends after a run.
 fn after_run(served: &Result<Served, ServeFault>) -> Ended
     ensures { HasStatus result (status_of served.now) (line_of served.now) }
 {
@@ -207,7 +223,7 @@ fn after_run(served: &Result<Served, ServeFault>) -> Ended
     }
 }
 
-// How the program ends after a run that failed.
+// Returns how the program ends after a run that failed.
 fn after_fault(fault: &ServeFault) -> Ended
     ensures { HasStatus result (fault_status fault.now) (Some (fault_line fault.now)) }
 {

@@ -1,6 +1,6 @@
 //! Reads an input, and writes its replies.
 
-ghost use Rattle.std.specs.Prelude.{◌≡◌, ◌++◌, ℕ, List, [], length, min, take, true, None};
+ghost use Rattle.std.specs.Prelude.{◌≡◌, [], min, None};
 ghost use Rattle.road_serve.specs.Dialogue.{HasAnswered};
 ghost use Rattle.road_serve.specs.Serving.{AnswersInput, program_serving};
 ghost use Rattle.road_serve.specs.StreamViews.{SinkView, source_view, sink_view};
@@ -16,11 +16,20 @@ use std::alloc::Global;
 // How many bytes are read at once, at most.
 const PIECE: usize = 16_384;
 
-/// What a run of `serve` that went well has served: the lines after the plan line.
+/// What a run of `serve` that went well has served.
 #[derive(Debug, Drop)]
 pub struct Served {
     /// How many replies there were after the plan line's.
     pub lines: u32,
+}
+
+// How much of an input is answered.
+#[derive(Clone, Copy, Debug)]
+struct Limits {
+    // How many lines may come after the plan line.
+    lines: u32,
+    // How many bytes may come in all.
+    bytes: u64,
 }
 
 /// Reads an input to its end, and writes the reply to each of its lines. At most 1,000,000 lines after the plan line
@@ -47,7 +56,7 @@ pub fn serve<R: Source, W: Sink, C: Crew, K: Crowds>(
     serve_within(alloc, reader, writer, crew, crowds, MOST_LINES, MOST_BYTES)
 }
 
-/// As `serve`, with at most so many lines after the plan line, and at most so many bytes.
+/// Serves as `serve` does, with at most so many lines after the plan line, and at most so many bytes.
 ///
 /// # Errors
 ///
@@ -73,17 +82,9 @@ pub fn serve_within<R: Source, W: Sink, C: Crew, K: Crowds>(
       result = result;
     }) }
 {
+    let limits = Limits { lines, bytes };
     let mut dialogue = Dialogue::new(alloc, lines);
-    answer_input(
-        alloc,
-        reader,
-        writer,
-        crew,
-        crowds,
-        &mut dialogue,
-        lines,
-        bytes,
-    )
+    answer_input(alloc, reader, writer, crew, crowds, &mut dialogue, limits)
 }
 
 // Reads an input to its end into a dialogue to which nothing has come, and writes the replies.
@@ -97,15 +98,14 @@ fn answer_input<R: Source, W: Sink, C: Crew, K: Crowds>(
     crew: &mut C,
     crowds: &K,
     dialogue: &mut Dialogue,
-    lines: u32,
-    bytes: u64,
+    limits: Limits,
 ) -> Result<Served, ServeFault>
-    requires none_came { (first : SinkView) → HasAnswered lines [] first first dialogue.old }
+    requires none_came { (first : SinkView) → HasAnswered limits.lines [] first first dialogue.old }
     requires going { dialogue.old.over ≡ None }
     requires none_wait { dialogue.old.waiting.items ≡ [] }
     ensures { AnswersInput (record {
-      most_lines = lines;
-      most_bytes = bytes;
+      most_lines = limits.lines;
+      most_bytes = limits.bytes;
       source_before = source_view R.Source reader.old;
       source_after = source_view R.Source reader.new;
       sink_before = sink_view W.Sink writer.old;
@@ -116,7 +116,7 @@ fn answer_input<R: Source, W: Sink, C: Crew, K: Crowds>(
     }) }
 {
     let mut buffer = [0u8; PIECE];
-    let mut room = bytes;
+    let mut room = limits.bytes;
     loop {
         let count = reader.read(&mut buffer)?;
         if count == 0 {
@@ -125,7 +125,7 @@ fn answer_input<R: Source, W: Sink, C: Crew, K: Crowds>(
                 return Err(end.fault());
             }
             return Ok(Served {
-                lines: lines.saturating_sub(dialogue.left),
+                lines: limits.lines.saturating_sub(dialogue.left),
             });
         }
         let within = fitting(room, count);
@@ -140,7 +140,7 @@ fn answer_input<R: Source, W: Sink, C: Crew, K: Crowds>(
     }
 }
 
-// How many of these bytes are within the limit.
+// Returns how many of these bytes are within the limit.
 fn fitting(room: u64, bytes: usize) -> usize
     ensures { result ≡ min room bytes }
 {

@@ -16,7 +16,7 @@ pub struct StdSource<R: io::Read + Drop> {
 }
 
 impl<R: io::Read + Drop> StdSource<R> {
-    /// The source that reads from this reader.
+    /// Returns the source that reads from this reader.
     pub fn new(reader: R) -> StdSource<R>
         ensures remaining { ⟦<StdSource<R> as Source>⟧.remaining result ≡ R.remaining reader }
         ensures going { ⟦<StdSource<R> as Source>⟧.at_end result ≡ false }
@@ -61,7 +61,7 @@ pub struct StdSink<W: io::Write + Drop> {
 }
 
 impl<W: io::Write + Drop> StdSink<W> {
-    /// The sink that writes to this writer.
+    /// Returns the sink that writes to this writer.
     pub fn new(writer: W) -> StdSink<W>
         ensures contents { ⟦<StdSink<W> as Sink>⟧.contents result ≡ W.contents writer }
         ensures unflushed { ⟦<StdSink<W> as Sink>⟧.flushed result ≡ false }

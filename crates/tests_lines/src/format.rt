@@ -18,7 +18,7 @@ use tests_plans::{FREE, Parts, reads};
 const PLAN: &str =
     r#"{"detectors":[5],"exit":1,"inlets":[[0,65536]],"length":12,"replicas":["A","B","C"],"words":7,"zone":12,"zones":[[2,0]]}"#;
 
-// Whether these are the names.
+// Returns whether these are the names.
 fn are_named(names: &[String], wanted: &[&str]) -> bool {
     names.len() == wanted.len()
         && names
@@ -78,7 +78,7 @@ const PLANS: &[(&str, &str, &[&str], Parts)] = &[
     ),
 ];
 
-// Whether these names and parts are read of `PLAN` with something replaced.
+// Returns whether these names and parts are read of `PLAN` with something replaced.
 fn is_plan(
     alloc: Global,
     (old, new, names, parts): &(&str, &str, &[&str], Parts),
@@ -96,7 +96,7 @@ fn reads_plan_lines(rt: HostRuntime) -> Result<(), Fail> {
     Ok(())
 }
 
-// How a plan line is refused. out of memory ends the test.
+// Returns how a plan line is refused. Out of memory ends the test.
 fn plan_fault(alloc: Global, line: &str) -> Result<Option<PlanLineFault>, Fail> {
     match read_plan(alloc, line.as_bytes()) {
         Ok(_) => Ok(None),
@@ -105,13 +105,13 @@ fn plan_fault(alloc: Global, line: &str) -> Result<Option<PlanLineFault>, Fail> 
     }
 }
 
-// How `PLAN` with something replaced is refused.
+// Returns how `PLAN` with something replaced is refused.
 fn replaced_fault(alloc: Global, old: &str, new: &str) -> Result<Option<PlanLineFault>, Fail> {
     let line = PLAN.replacen(alloc, old, new, 1)?;
     plan_fault(alloc, &line)
 }
 
-// How a command is refused.
+// Returns how a command is refused.
 fn command_fault(alloc: Global, line: &[u8]) -> Result<Option<LineFault>, Fail> {
     match read_command(alloc, line) {
         Ok(_) => Ok(None),
@@ -180,7 +180,7 @@ fn names_the_first_fault(rt: HostRuntime) -> Result<(), Fail> {
     Ok(())
 }
 
-// How the plan line of a long road with so many zones before its last is refused.
+// Returns how the plan line of a long road with so many zones before its last is refused.
 fn zones_fault(alloc: Global, count: usize) -> Result<Option<PlanLineFault>, Fail> {
     let zones = "[2,0],".repeat(alloc, count)?;
     let line = format!(in alloc;
@@ -200,7 +200,7 @@ fn bounds_zones(rt: HostRuntime) -> Result<(), Fail> {
     Ok(())
 }
 
-// The names of so many replicas, as a plan line has them.
+// Returns the names of so many replicas, as a plan line has them.
 fn numbered(alloc: Global, count: u32) -> Result<String, OutOfMemory> {
     let mut names = String::from_str(alloc, "\"1\"")?;
     for number in 2..=count {
@@ -209,7 +209,7 @@ fn numbered(alloc: Global, count: u32) -> Result<String, OutOfMemory> {
     Ok(names)
 }
 
-// Whether a plan line with so many replicas is accepted.
+// Returns whether a plan line with so many replicas is accepted.
 fn opens(alloc: Global, count: u32) -> Result<bool, Fail> {
     let names = numbered(alloc, count)?;
     let fault = replaced_fault(alloc, "\"A\",\"B\",\"C\"", &names);
@@ -833,7 +833,7 @@ const CROWDS: &[(&str, &str)] = &[
     ),
 ];
 
-// What is read of a command line, as text. out of memory ends the test.
+// Returns what is read of a command line, as text. Out of memory ends the test.
 fn text_of(alloc: Global, read: &Result<Command, LineFault>) -> Result<String, OutOfMemory> {
     if matches!(read, Err(LineFault::OutOfMemory)) {
         return Err(OutOfMemory);
@@ -841,7 +841,7 @@ fn text_of(alloc: Global, read: &Result<Command, LineFault>) -> Result<String, O
     format!(in alloc; "{read:?}")
 }
 
-// What is read of a command line, as text.
+// Returns what is read of a command line, as text.
 fn read_text(alloc: Global, line: &str) -> Result<String, OutOfMemory> {
     let read = read_command(alloc, line.as_bytes());
     text_of(alloc, &read)
@@ -874,7 +874,7 @@ fn reads_crowds(rt: HostRuntime) -> Result<(), Fail> {
     Ok(())
 }
 
-// A crowd of so many empty shares, and of one that edits.
+// Returns a crowd of so many empty shares, and of one that edits.
 fn long_crowd(alloc: Global, count: usize) -> Result<String, OutOfMemory> {
     let empty = "[],".repeat(alloc, count)?;
     format!(in alloc;
@@ -891,7 +891,7 @@ fn refuses_long_crowds(rt: HostRuntime) -> Result<(), Fail> {
     Ok(())
 }
 
-// An import of so many edits that put 2 and of one that puts 3.
+// Returns an import of so many edits that put 2 and of one that puts 3.
 fn long_import(alloc: Global, count: usize) -> Result<String, OutOfMemory> {
     let most = "[\"limit\",0,0,1,64,2],".repeat(alloc, count)?;
     format!(in alloc;
@@ -899,7 +899,7 @@ fn long_import(alloc: Global, count: usize) -> Result<String, OutOfMemory> {
     )
 }
 
-// That an import has so many edits that put 2 and behind them one that puts 3.
+// Tests that an import has so many edits that put 2 and behind them one that puts 3.
 fn has_edits(rt: &impl Abort, command: &Command, count: usize) {
     let edits = match command {
         Command::Import { edits, .. } => edits.as_slice(),
@@ -928,7 +928,7 @@ fn reads_long_imports(rt: HostRuntime) -> Result<(), Fail> {
 /// Brackets, each in the one before: 100 are read, 200 are not.
 const DEEP: &[(usize, LineFault)] = &[(100, LineFault::NotACommand), (200, LineFault::NotJson)];
 
-// How so many brackets, each in the one before, are refused.
+// Returns how so many brackets, each in the one before, are refused.
 fn brackets_fault(alloc: Global, depth: usize) -> Result<Option<LineFault>, Fail> {
     let mut text = "[".repeat(alloc, depth)?;
     for _ in 0..depth {
@@ -966,7 +966,7 @@ enum Said {
     Crowd(&'static [Edit], u32, &'static str),
 }
 
-// These rows, with memory of their own.
+// Returns these rows, with memory of their own.
 fn rows_of(alloc: Global, rows: &[&str]) -> Result<Vec<String>, OutOfMemory> {
     let mut own = Vec::new(alloc);
     for row in rows {
@@ -975,7 +975,7 @@ fn rows_of(alloc: Global, rows: &[&str]) -> Result<Vec<String>, OutOfMemory> {
     Ok(own)
 }
 
-// That answer, with memory of its own.
+// Returns that answer, with memory of its own.
 fn answer_of(alloc: Global, said: &Said) -> Result<Answer, OutOfMemory> {
     Ok(match *said {
         Said::Open(replicas) => Answer::Open { replicas },
@@ -1008,7 +1008,7 @@ fn answer_of(alloc: Global, said: &Said) -> Result<Answer, OutOfMemory> {
     })
 }
 
-// The line of that answer.
+// Returns the line of that answer.
 fn line_of(alloc: Global, said: &Said) -> Result<String, OutOfMemory> {
     let answer = answer_of(alloc, said)?;
     reply_line(alloc, &answer)
@@ -1242,14 +1242,14 @@ const ANSWERS: &[(Said, &str)] = &[
     ),
 ];
 
-// The import of what is answered to `scenario`, for which all fields but one are there.
+// Returns the import of what is answered to `scenario`, for which all fields but one are there.
 fn import_of(alloc: Global, said: &Said) -> Result<String, OutOfMemory> {
     let reply = line_of(alloc, said)?;
     let opened = reply.replacen(alloc, "{", "{\"import\":{\"at\":\"A\",", 1)?;
     opened.replacen(alloc, "}\n", "}}", 1)
 }
 
-// Whether a command is the import of these edits.
+// Returns whether a command is the import of these edits.
 fn imports(command: &Command, wanted: &[Edit]) -> bool {
     match command {
         Command::Import { edits, .. } => edits.as_slice() == wanted,

@@ -78,7 +78,7 @@ const TEXTS: &[(Fault, &str)] = &[
     (Fault::PlanLine(PlanLineFault::OutOfMemory), "no memory"),
 ];
 
-// The text of an error.
+// Returns the text of an error.
 fn text_of(alloc: Global, fault: Fault) -> Result<String, OutOfMemory> {
     match fault {
         Fault::Plan(fault) => format!(in alloc; "{fault}"),

@@ -20,7 +20,7 @@ const FREE_ROAD: &str =
     r#"{"detectors":[5],"exit":1,"inlets":[[0,65536]],"length":12,"replicas":["A","B","C"],"words":7,"zone":12,"zones":[[2,0]]}
 "#;
 
-// A sink with room for 1,000 bytes, so that none of its writes wants memory.
+// Returns a sink with room for 1,000 bytes, so that none of its writes wants memory.
 fn sink(alloc: Global) -> Result<MemorySink, OutOfMemory> {
     let bytes = Vec::with_capacity(alloc, 1000)?;
     Ok(MemorySink::new(bytes, 1000, Failing::Never, Failing::Never))
@@ -41,7 +41,7 @@ impl Crowds for Unmanned {
     }
 }
 
-// How a run ended. out of memory ends the test in its place.
+// Returns how a run ended. Out of memory ends the test in its place.
 fn end_of(ended: Result<Served, ServeFault>) -> Result<Result<Served, ServeFault>, OutOfMemory> {
     match ended {
         Err(ServeFault::OutOfMemory) => Err(OutOfMemory),
@@ -331,9 +331,10 @@ impl io::Write for Holding {
     }
 }
 
-// A writer whose first write fails. It counts its writes.
+// A writer whose first write fails, or takes no byte. It counts its writes.
 #[derive(Drop)]
 struct Refusing {
+    is_empty: bool,
     writes: u32,
 }
 
@@ -341,10 +342,13 @@ impl io::Write for Refusing {
     fn write(&mut self, bytes: &[u8]) -> io::Result<usize> {
         let write = self.writes;
         self.writes = write.saturating_add(1);
-        if write == 0 {
-            return Err(io::Error::from(io::ErrorKind::BrokenPipe));
+        if write > 0 {
+            return Ok(bytes.len());
         }
-        Ok(bytes.len())
+        if self.is_empty {
+            return Ok(0);
+        }
+        Err(io::Error::from(io::ErrorKind::BrokenPipe))
     }
 
     fn flush(&mut self) -> io::Result<()> {
@@ -399,15 +403,20 @@ fn writers_of_std(rt: HostRuntime) -> Result<(), Fail> {
     Ok(())
 }
 
-// A write that fails is not tried again, though the next one would succeed.
+// A write that fails, or takes no byte, is not tried again, though the next one would succeed.
 #[test]
 fn a_failed_write_of_std(rt: HostRuntime) -> Result<(), Fail> {
-    let mut refusing = Refusing { writes: 0 };
-    let mut writer = StdSink::new(&mut refusing);
-    let mut reader = MemorySource::new(FREE_ROAD.as_bytes(), usize::MAX, ALL);
-    let result = end_of(serve(rt.alloc(), &mut reader, &mut writer, &mut Alone, &Unmanned))?;
-    drop(writer);
-    assert!(rt; matches!(result, Err(ServeFault::Write)) && refusing.writes == 1);
+    for is_empty in [false, true] {
+        let mut refusing = Refusing {
+            is_empty,
+            writes: 0,
+        };
+        let mut writer = StdSink::new(&mut refusing);
+        let mut reader = MemorySource::new(FREE_ROAD.as_bytes(), usize::MAX, ALL);
+        let result = end_of(serve(rt.alloc(), &mut reader, &mut writer, &mut Alone, &Unmanned))?;
+        drop(writer);
+        assert!(rt; matches!(result, Err(ServeFault::Write)) && refusing.writes == 1);
+    }
     Ok(())
 }
 

@@ -1,5 +1,5 @@
--- out of memory for the words ends the program before it has read or written anything.
-use Rattle.std.proofs.Common.{Err, refl}
+-- Out of memory for the words ends the program before it has read or written anything.
+use Rattle.std.proofs.Common.{Err, None, inr, refl}
 use Rattle.road_plan.specs.declared.limits.TheConstants.{MOST_LINES, MOST_BYTES}
 use Rattle.road_serve.specs.StreamViews.{source_view, sink_view}
 use Rattle.road_serve.specs.declared.faults.ServeFault.TheVariants.{OutOfMemory}
@@ -19,5 +19,8 @@ returns-in-Err-OutOfMemory-clause-script g c accepted some =
       λ alone. refl,
       source,
       source,
+      None,
       record { status = c.no_memory.ensures; answers = not_begun MOST_LINES MOST_BYTES source (sink_view g.W.Sink c.args.writer.now) },
+      inr refl,
+      refl,
     )

@@ -7,13 +7,13 @@ use Rattle.road_serve.proofs.GoneCounts.{counts_same}
 use Rattle.road_serve.proofs.serving.answer_input.Goals as goal
 
 pub loop-count-init : goal.loop-count-init
-loop-count-init g c = (at_first c.args.lines c.args.bytes _ _ _ (c.requires.none_came _) c.requires.going c.requires.none_wait, refl)
+loop-count-init g c = (at_first c.args.limits.lines c.args.limits.bytes _ _ _ (c.requires.none_came _) c.requires.going c.requires.none_wait, refl)
 
 pub returns-in_err-count : goal.returns-in_err-count
 returns-in_err-count g c =
     let p = err_from_is_err_and c.from_residual.result c.from_residual.ensures.1 in
     let l = c.loop-count in
-    rw (p.1, p.2) (unread c.args.lines c.args.bytes l.room _ (source_view g.R.Source l.reader) (source_view g.R.Source c.read.new.self) _ _ _ _ l.dialogue l.invariant.0 c.in_err-count.ensures.bytes c.in_err-count.ensures.failed l.invariant.1)
+    rw (p.1, p.2) (unread c.args.limits.lines c.args.limits.bytes l.room _ (source_view g.R.Source l.reader) (source_view g.R.Source c.read.new.self) _ _ _ _ l.dialogue l.invariant.0 c.in_err-count.ensures.bytes c.in_err-count.ensures.failed l.invariant.1)
 
 pub returns-in_err-finish : goal.returns-in_err-finish
 returns-in_err-finish g c =
@@ -24,8 +24,8 @@ returns-in_err-finish g c =
     let s2 = source_view g.R.Source c.read.new.self in
     let more : ReadMore s1 s2 c.in_ok-count.count c.read.new.piece = record { bytes = e.bytes.0; fits = e.within; ended = e.ended; well = e.well } in
     rw (p.1, p.2)
-    (stopped_at_end c.args.lines c.args.bytes l.room c.in_ok-count.count _ s1 s2 _ _ _ _ _ l.dialogue c.read.new.piece _ l.invariant.0 more c.if-count-eq0.true (c.in_err-finish.ensures.answered c.args.lines l.invariant.0.input _ l.invariant.0.answered)
-    (counts_same _ _ _ _ _ _ refl l.invariant.1 (c.in_err-finish.ensures.lost c.args.lines l.invariant.0.input _ l.invariant.0.answered)))
+    (stopped_at_end c.args.limits.lines c.args.limits.bytes l.room c.in_ok-count.count _ s1 s2 _ _ _ _ _ l.dialogue c.read.new.piece _ l.invariant.0 more c.if-count-eq0.true (c.in_err-finish.ensures.answered c.args.limits.lines l.invariant.0.input _ l.invariant.0.answered)
+    (counts_same _ _ _ _ _ _ refl l.invariant.1 (c.in_err-finish.ensures.lost c.args.limits.lines l.invariant.0.input _ l.invariant.0.answered)))
 
 pub returns-in_err-take : goal.returns-in_err-take
 returns-in_err-take g c =
@@ -36,9 +36,9 @@ returns-in_err-take g c =
     let s2 = source_view g.R.Source c.read.new.self in
     let more : ReadMore s1 s2 c.in_ok-count.count c.read.new.piece = record { bytes = e.bytes.0; fits = e.within; ended = e.ended; well = e.well } in
     rw (p.1, p.2)
-    (stopped c.args.lines c.args.bytes l.room c.in_ok-count.count c.fitting-within.result _ s1 s2 _ _ _ _ _ l.dialogue c.read.new.piece _ l.invariant.0 more c.if-count-eq0.false c.fitting-within.ensures
-    (c.in_err-take.ensures.answered c.args.lines l.invariant.0.input _ l.invariant.0.answered)
-    (counts_same _ _ _ _ _ _ refl l.invariant.1 (c.in_err-take.ensures.lost c.args.lines l.invariant.0.input _ l.invariant.0.answered)))
+    (stopped c.args.limits.lines c.args.limits.bytes l.room c.in_ok-count.count c.fitting-within.result _ s1 s2 _ _ _ _ _ l.dialogue c.read.new.piece _ l.invariant.0 more c.if-count-eq0.false c.fitting-within.ensures
+    (c.in_err-take.ensures.answered c.args.limits.lines l.invariant.0.input _ l.invariant.0.answered)
+    (counts_same _ _ _ _ _ _ refl l.invariant.1 (c.in_err-take.ensures.lost c.args.limits.lines l.invariant.0.input _ l.invariant.0.answered)))
 
 pub returns-in-Some-over : goal.returns-in-Some-over
 returns-in-Some-over g c =
@@ -49,8 +49,8 @@ returns-in-Some-over g c =
     let k2 = sink_view g.W.Sink c.take.new.writer in
     let more : ReadMore s1 s2 c.in_ok-count.count c.read.new.piece = record { bytes = e.bytes.0; fits = e.within; ended = e.ended; well = e.well } in
     rw (c.fault-in-Some-over.ensures)
-    (over c.args.lines c.args.bytes l.room c.in_ok-count.count c.fitting-within.result _ s1 s2 _ _ k2 _ _ l.dialogue c.take.new.self c.read.new.piece c.in-Some-over.end l.invariant.0 more c.if-count-eq0.false c.fitting-within.ensures
-    (c.in_ok-take.ensures.answered c.args.lines l.invariant.0.input _ l.invariant.0.answered) c.in_ok-take.ensures.none_wait c.in_ok-take.ensures.flushed c.in-Some-over.is (c.in_ok-take.ensures.kept ∙ l.invariant.1))
+    (over c.args.limits.lines c.args.limits.bytes l.room c.in_ok-count.count c.fitting-within.result _ s1 s2 _ _ k2 _ _ l.dialogue c.take.new.self c.read.new.piece c.in-Some-over.end l.invariant.0 more c.if-count-eq0.false c.fitting-within.ensures
+    (c.in_ok-take.ensures.answered c.args.limits.lines l.invariant.0.input _ l.invariant.0.answered) c.in_ok-take.ensures.none_wait c.in_ok-take.ensures.flushed c.in-Some-over.is (c.in_ok-take.ensures.kept ∙ l.invariant.1))
 
 pub returns-then-within-count : goal.returns-then-within-count
 returns-then-within-count g c =
@@ -60,8 +60,8 @@ returns-then-within-count g c =
     let s2 = source_view g.R.Source c.read.new.self in
     let k2 = sink_view g.W.Sink c.take.new.writer in
     let more : ReadMore s1 s2 c.in_ok-count.count c.read.new.piece = record { bytes = e.bytes.0; fits = e.within; ended = e.ended; well = e.well } in
-    past c.args.lines c.args.bytes l.room c.in_ok-count.count c.fitting-within.result _ s1 s2 _ _ k2 _ _ l.dialogue c.take.new.self c.read.new.piece l.invariant.0 more c.if-count-eq0.false c.fitting-within.ensures c.if-within-count.true
-    (c.in_ok-take.ensures.answered c.args.lines l.invariant.0.input _ l.invariant.0.answered) c.in_ok-take.ensures.none_wait c.in_ok-take.ensures.flushed c.in_default-over.is (c.in_ok-take.ensures.kept ∙ l.invariant.1)
+    past c.args.limits.lines c.args.limits.bytes l.room c.in_ok-count.count c.fitting-within.result _ s1 s2 _ _ k2 _ _ l.dialogue c.take.new.self c.read.new.piece l.invariant.0 more c.if-count-eq0.false c.fitting-within.ensures c.if-within-count.true
+    (c.in_ok-take.ensures.answered c.args.limits.lines l.invariant.0.input _ l.invariant.0.answered) c.in_ok-take.ensures.none_wait c.in_ok-take.ensures.flushed c.in_default-over.is (c.in_ok-take.ensures.kept ∙ l.invariant.1)
 
 pub loop-count-preserved : goal.loop-count-preserved
 loop-count-preserved g c =
@@ -71,8 +71,8 @@ loop-count-preserved g c =
     let s2 = source_view g.R.Source c.read.new.self in
     let k2 = sink_view g.W.Sink c.take.new.writer in
     let more : ReadMore s1 s2 c.in_ok-count.count c.read.new.piece = record { bytes = e.bytes.0; fits = e.within; ended = e.ended; well = e.well } in (
-      read_on c.args.lines c.args.bytes l.room _ c.in_ok-count.count c.fitting-within.result _ s1 s2 _ _ k2 l.dialogue c.take.new.self c.read.new.piece l.invariant.0 more c.fitting-within.ensures c.if-within-count.false refl
-          (c.in_ok-take.ensures.answered c.args.lines l.invariant.0.input _ l.invariant.0.answered) c.in_default-over.is c.in_ok-take.ensures.none_wait,
+      read_on c.args.limits.lines c.args.limits.bytes l.room _ c.in_ok-count.count c.fitting-within.result _ s1 s2 _ _ k2 l.dialogue c.take.new.self c.read.new.piece l.invariant.0 more c.fitting-within.ensures c.if-within-count.false refl
+          (c.in_ok-take.ensures.answered c.args.limits.lines l.invariant.0.input _ l.invariant.0.answered) c.in_default-over.is c.in_ok-take.ensures.none_wait,
       c.in_ok-take.ensures.kept ∙ l.invariant.1,
     )
 
@@ -86,8 +86,8 @@ returns-in-Some g c =
     let k2 = sink_view g.W.Sink c.finish.new.writer in
     let more : ReadMore s1 s2 c.in_ok-count.count c.read.new.piece = record { bytes = e.bytes.0; fits = e.within; ended = e.ended; well = e.well } in
     rw (c.fault.ensures)
-    (refused_at_end c.args.lines c.args.bytes l.room c.in_ok-count.count _ s1 s2 _ _ k2 _ _ l.dialogue c.finish.new.self c.read.new.piece c.in-Some.end l.invariant.0 more c.if-count-eq0.true
-    (c.in_ok-finish.ensures.answered c.args.lines l.invariant.0.input _ l.invariant.0.answered) c.in_ok-finish.ensures.none_wait c.in_ok-finish.ensures.flushed c.in-Some.is (c.in_ok-finish.ensures.kept ∙ l.invariant.1))
+    (refused_at_end c.args.limits.lines c.args.limits.bytes l.room c.in_ok-count.count _ s1 s2 _ _ k2 _ _ l.dialogue c.finish.new.self c.read.new.piece c.in-Some.end l.invariant.0 more c.if-count-eq0.true
+    (c.in_ok-finish.ensures.answered c.args.limits.lines l.invariant.0.input _ l.invariant.0.answered) c.in_ok-finish.ensures.none_wait c.in_ok-finish.ensures.flushed c.in-Some.is (c.in_ok-finish.ensures.kept ∙ l.invariant.1))
 
 -- it was accepted
 pub returns-then-count-eq0 : goal.returns-then-count-eq0
@@ -99,5 +99,5 @@ returns-then-count-eq0 g c =
     let k2 = sink_view g.W.Sink c.finish.new.writer in
     let more : ReadMore s1 s2 c.in_ok-count.count c.read.new.piece = record { bytes = e.bytes.0; fits = e.within; ended = e.ended; well = e.well } in
     let some : 0 < length c.read.new.piece = omega arith in
-    ended_well c.args.lines c.args.bytes l.room c.in_ok-count.count _ s1 s2 _ _ k2 _ _ l.dialogue c.finish.new.self c.read.new.piece _ l.invariant.0 more c.if-count-eq0.true (e.bytes.1 c.if-count-eq0.true some)
-    (c.in_ok-finish.ensures.answered c.args.lines l.invariant.0.input _ l.invariant.0.answered) c.in_ok-finish.ensures.none_wait c.in_ok-finish.ensures.flushed c.in_default.is c.saturating_sub.ensures (c.in_ok-finish.ensures.kept ∙ l.invariant.1)
+    ended_well c.args.limits.lines c.args.limits.bytes l.room c.in_ok-count.count _ s1 s2 _ _ k2 _ _ l.dialogue c.finish.new.self c.read.new.piece _ l.invariant.0 more c.if-count-eq0.true (e.bytes.1 c.if-count-eq0.true some)
+    (c.in_ok-finish.ensures.answered c.args.limits.lines l.invariant.0.input _ l.invariant.0.answered) c.in_ok-finish.ensures.none_wait c.in_ok-finish.ensures.flushed c.in_default.is c.saturating_sub.ensures (c.in_ok-finish.ensures.kept ∙ l.invariant.1)

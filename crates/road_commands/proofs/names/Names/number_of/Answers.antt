@@ -1,11 +1,13 @@
--- A name's place in the set is its place among the texts.
-use Rattle.std.proofs.Common.{◌∙◌, sym, ap, string_bytes}
-use Rattle.std.specs.List.{position}
+-- A number in the map is a place in the list.
+use Rattle.std.proofs.Common.{◌≡◌, ◌∙◌, ℕ, List, [], Some, ap, sym}
 use Rattle.std.specs.Str.{bytes_eq}
-use Rattle.road_commands.proofs.NameNumbers.{position-map}
+use Rattle.std.proofs.lemmas.List.Quantifiers.{position-Some}
+use Rattle.road_commands.specs.Laboratory.{number_of}
 use Rattle.road_commands.proofs.names.Names.number_of.Goals as goal
 
-pub returns-clause-number : goal.returns-clause-number
-returns-clause-number c =
-    c.get_index_of.ensures.index ∙ sym (position-map (bytes_eq c.args.name.now) string_bytes c.self.inside.set.keys)
-    ∙ ap (position (bytes_eq c.args.name.now)) c.self.view_is
+pub returns-in-Some-clause-within : goal.returns-in-Some-clause-within
+returns-in-Some-clause-within c =
+    let name = c.args.name.now in
+    let placed : number_of c.args.self.now name ≡ Some c.in-Some.number.now =
+        ap (λ (names : List (List ℕ)). number_of names name) (sym c.self.view_is) ∙ sym (c.self.invariant.found name) ∙ sym c.in-Some.ensures.value in
+    (position-Some (bytes_eq name) c.args.self.now c.in-Some.number.now [] placed).0

@@ -1,7 +1,8 @@
--- What the loop keeps that puts names into the set.
+-- What the loop keeps that numbers names.
 use Rattle.std.proofs.Common.{◌≡◌, ◌++◌}
+use Rattle.road_format.specs.Views.{texts}
 use Rattle.road_commands.proofs.names.Names.of.Given as goal
 
--- the names in the set, and then those to come, are all
+-- the names that are numbered, and then those to come, are all
 abbrev pub invariant-loop-name : goal.invariant-loop-name
-invariant-loop-name l = l.set.keys ++ l.name-iterator.rest.items ≡ l.fn.names.items
+invariant-loop-name l = l.numbered ++ texts l.name-iterator.rest.items ≡ texts l.fn.names.items

@@ -1,0 +1,25 @@
+-- A script is read from its first byte. One that was not opened is as a source of which the first read fails.
+use Rattle.std.proofs.Common.{Err, inl, refl}
+use Rattle.road_plan.specs.declared.limits.TheConstants.{MOST_LINES, MOST_BYTES}
+use Rattle.road_serve.specs.StreamViews.{sink_view}
+use Rattle.road_serve.specs.declared.faults.ServeFault.TheVariants.{Read}
+use Rattle.road_serve.proofs.RunEnds.{unopened, unopened_source}
+use Rattle.road_serve.proofs.ScriptSources.{source_is}
+use Rattle.road_serve.proofs.running.run_opened.Goals as goal
+
+pub returns-in-Some-clause-script : goal.returns-in-Some-clause-script
+returns-in-Some-clause-script g c =
+    let ran = c.run_with.ensures in
+    (ran.0, ran.1.0, ran.1.1.0, _, _, ran.1.1.1, source_is _ _ c.new-reader.ensures.remaining c.new-reader.ensures.going c.new-reader.ensures.failures)
+
+pub returns-in-None-clause-script : goal.returns-in-None-clause-script
+returns-in-None-clause-script g c = (
+  Err Read,
+  0,
+  λ alone. refl,
+  unopened_source 0,
+  unopened_source 1,
+  record { status = c.after_fault.ensures; answers = unopened MOST_LINES MOST_BYTES (sink_view g.W.Sink c.args.writer.now) },
+  inl refl,
+  refl,
+)
