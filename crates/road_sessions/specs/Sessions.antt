@@ -47,8 +47,8 @@ AreNewSessions n (s ∷ ss) = (s ≡ session_of n [] new_view) × AreNewSessions
 -- an accepted write: the session has seen a legal history that goes on from all that it had seen and heard of and ends
 -- with the write, at its place; that history was published, and the write is one more of its own. No named cause
 -- stood where the write stands, and the meter counts just the steps of the wish
-pub record IsAcceptedWrite (limit : ℕ) (r : Replica) (wish : Wish) (s : Session) (place : ℕ) (reply : Reply) (t : Session)
-    (meter after : ℕ) : Type 0 where
+pub record IsAcceptedWrite (limit : ℕ) (r : Replica) (wish : Wish) (s : Session) (place : ℕ) (reply : Reply)
+    (t : Session) (meter after : ℕ) : Type 0 where
   pub front : List Entry
   pub before : IsPrefix s.seen front
   pub seen : t.seen ≡ front ++ entry s.number (wish_command wish (replay r front)) ∷ []
