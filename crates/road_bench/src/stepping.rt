@@ -139,7 +139,6 @@ fn words_of_entries(plan: &Plan, road: &Road) -> u64 {
 // The words drawn for the cars of a step: one for each that wants to drive and whose slowing chance leaves that open. The
 // plan's own settings block no cell.
 fn words_of_cars(input: &StepInput) -> u64 {
-    input.known();
     let mut words = 0u64;
     for place in 0..input.road().cars().len() {
         let cell = input.road().cars()[place].cell;

@@ -13,7 +13,8 @@ use serde_json::Value;
 // Reads the command of a name that tells or asks one replica, with these fields.
 #[tactic(auto, unfolding(crate::specs::CommandGrammar::replica_command_of_name))]
 pub(crate) fn replica_command_of_name(name: &str, at: String, fields: &Value) -> Option<Command>
-    ensures { option_map command_view result ≡ grammar.replica_command_of_name name.now (string_bytes at) (view fields.now) }
+    ensures { option_map command_view result
+        ≡ grammar.replica_command_of_name name.now (string_bytes at) (view fields.now) }
 {
     match name {
         "edit" => edit_command_in(at, fields),

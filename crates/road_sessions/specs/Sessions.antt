@@ -45,10 +45,10 @@ AreNewSessions n [] = Unit {0}
 AreNewSessions n (s ∷ ss) = (s ≡ session_of n [] new_view) × AreNewSessions (n + 1) ss
 
 -- an accepted write: the session has seen a legal history that goes on from all that it had seen and heard of and ends
--- with the write, at its place; that history was published, and the write is one more of its own. No named cause stood
--- where the write stands, and the meter counts just the steps of the wish
-pub record IsAcceptedWrite (limit : ℕ) (r : Replica) (wish : Wish) (s : Session) (place : ℕ) (reply : Reply) (t : Session)
-    (meter after : ℕ) : Type 0 where
+-- with the write, at its place; that history was published, and the write is one more of its own. No named cause
+-- stood where the write stands, and the meter counts just the steps of the wish
+pub record IsAcceptedWrite (limit : ℕ) (r : Replica) (wish : Wish) (s : Session) (place : ℕ) (reply : Reply)
+    (t : Session) (meter after : ℕ) : Type 0 where
   pub front : List Entry
   pub before : IsPrefix s.seen front
   pub seen : t.seen ≡ front ++ entry s.number (wish_command wish (replay r front)) ∷ []
@@ -70,8 +70,8 @@ pub record IsRefusedThere (limit : ℕ) (r : Replica) (wish : Wish) (seen : List
   pub legal : IsLegal r front
   pub refused : IsRefused limit wish r front fault meter after
 
--- a refused write: it leaves the session as it was. It is refused for what stands behind such a history, or at once, for
--- out of memory
+-- a refused write: it leaves the session as it was. It is refused for what stands behind such a history, or at once,
+-- for out of memory
 pub record IsRefusedWrite (limit : ℕ) (r : Replica) (wish : Wish) (s : Session) (fault : WriteFault) (t : Session)
     (meter after : ℕ) : Type 0 where
   pub unchanged : t ≡ s

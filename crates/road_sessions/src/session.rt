@@ -133,9 +133,10 @@ impl<J: Naming> Session<J> {
         meter: &mut Meter,
     ) -> Result<Wrote<J>, WriteFault>
         ensures write { MatchResult result
-            (λ wrote. IsAcceptedWrite J.limit J.replica (wishes.Take scenario.entry) self.old wrote.place wrote.reply self.new
-            meter.old meter.new × (wrote.receipt ≡ self.new.seen))
-            (λ fault. IsRefusedWrite J.limit J.replica (wishes.Take scenario.entry) self.old fault self.new meter.old meter.new) }
+            (λ wrote. IsAcceptedWrite J.limit J.replica (wishes.Take scenario.entry) self.old wrote.place
+            wrote.reply self.new meter.old meter.new × (wrote.receipt ≡ self.new.seen))
+            (λ fault. IsRefusedWrite J.limit J.replica (wishes.Take scenario.entry) self.old fault self.new
+            meter.old meter.new) }
         ensures gone { CountsGone result (C.times_gone crew.old) (C.times_gone crew.new) }
     {
         self.write(rt, shared, &Wish::Take(scenario), crew, meter)
@@ -156,9 +157,10 @@ impl<J: Naming> Session<J> {
         meter: &mut Meter,
     ) -> Result<Wrote<J>, WriteFault>
         ensures write { MatchResult result
-            (λ wrote. IsAcceptedWrite J.limit J.replica (wishes.Advance to) self.old wrote.place wrote.reply self.new
-            meter.old meter.new × (wrote.receipt ≡ self.new.seen))
-            (λ fault. IsRefusedWrite J.limit J.replica (wishes.Advance to) self.old fault self.new meter.old meter.new) }
+            (λ wrote. IsAcceptedWrite J.limit J.replica (wishes.Advance to) self.old wrote.place
+            wrote.reply self.new meter.old meter.new × (wrote.receipt ≡ self.new.seen))
+            (λ fault. IsRefusedWrite J.limit J.replica (wishes.Advance to) self.old fault self.new
+            meter.old meter.new) }
         ensures gone { CountsGone result (C.times_gone crew.old) (C.times_gone crew.new) }
     {
         self.write(rt, shared, &Wish::Advance(to), crew, meter)
@@ -182,9 +184,10 @@ impl<J: Naming> Session<J> {
         meter: &mut Meter,
     ) -> Result<Wrote<J>, WriteFault>
         ensures write { MatchResult result
-            (λ wrote. IsAcceptedWrite J.limit J.replica (wishes.Edit object step value) self.old wrote.place wrote.reply self.new
-            meter.old meter.new × (wrote.receipt ≡ self.new.seen))
-            (λ fault. IsRefusedWrite J.limit J.replica (wishes.Edit object step value) self.old fault self.new meter.old meter.new) }
+            (λ wrote. IsAcceptedWrite J.limit J.replica (wishes.Edit object step value) self.old wrote.place
+            wrote.reply self.new meter.old meter.new × (wrote.receipt ≡ self.new.seen))
+            (λ fault. IsRefusedWrite J.limit J.replica (wishes.Edit object step value) self.old fault self.new
+            meter.old meter.new) }
         ensures gone { CountsGone result (C.times_gone crew.old) (C.times_gone crew.new) }
     {
         self.write(rt, shared, &Wish::Edit(object, step, value), crew, meter)
@@ -207,9 +210,10 @@ impl<J: Naming> Session<J> {
         meter: &mut Meter,
     ) -> Result<Wrote<J>, WriteFault>
         ensures write { MatchResult result
-            (λ wrote. IsAcceptedWrite J.limit J.replica (wishes.Withdraw object step) self.old wrote.place wrote.reply self.new
-            meter.old meter.new × (wrote.receipt ≡ self.new.seen))
-            (λ fault. IsRefusedWrite J.limit J.replica (wishes.Withdraw object step) self.old fault self.new meter.old meter.new) }
+            (λ wrote. IsAcceptedWrite J.limit J.replica (wishes.Withdraw object step) self.old wrote.place
+            wrote.reply self.new meter.old meter.new × (wrote.receipt ≡ self.new.seen))
+            (λ fault. IsRefusedWrite J.limit J.replica (wishes.Withdraw object step) self.old fault self.new
+            meter.old meter.new) }
         ensures gone { CountsGone result (C.times_gone crew.old) (C.times_gone crew.new) }
     {
         self.write(rt, shared, &Wish::Withdraw(object, step), crew, meter)
@@ -225,8 +229,8 @@ impl<J: Naming> Session<J> {
         meter: &mut Meter,
     ) -> Result<Wrote<J>, WriteFault>
         ensures write { MatchResult result
-            (λ wrote. IsAcceptedWrite J.limit J.replica wish.now self.old wrote.place wrote.reply self.new
-            meter.old meter.new × (wrote.receipt ≡ self.new.seen))
+            (λ wrote. IsAcceptedWrite J.limit J.replica wish.now self.old wrote.place
+            wrote.reply self.new meter.old meter.new × (wrote.receipt ≡ self.new.seen))
             (λ fault. IsRefusedWrite J.limit J.replica wish.now self.old fault self.new meter.old meter.new) }
         ensures gone { CountsGone result (C.times_gone crew.old) (C.times_gone crew.new) }
     {

@@ -10,7 +10,8 @@ use Rattle.road_world.specs.declared.event.Event.{Event}
 use Rattle.road_world.specs.declared.faults.WorldFault.{WorldFault}
 
 -- an event is applied to a world, and a meter counts the steps that are computed
-pub record IsApplied (event : Event) (result : Result Reply WorldFault) (old new : World) (meter later : ℕ) : Type 0 where
+pub record IsApplied (event : Event) (result : Result Reply WorldFault) (old new : World)
+    (meter later : ℕ) : Type 0 where
   -- the event has its answer
   pub answer : IsAnswer old event result
   -- accepted, it does what its definition says, of edits the winners

@@ -42,7 +42,8 @@ steps_of_event w event = unwrap_or
 -- the most steps that are computed for an event, also where it is refused
 abbrev pub most_steps_of_event : World → Event → ℕ
 most_steps_of_event w event = unwrap_or
-    (option_map (λ command. most_steps_of_command command (sheet_at w (replica_number event))) (command_of_event w event)) 0
+    (option_map (λ command. most_steps_of_command command (sheet_at w (replica_number event)))
+    (command_of_event w event)) 0
 
 -- ---- one event and its answer
 
@@ -64,7 +65,8 @@ most_wasted_steps w event (Err fault) = steps_unless (fault_of_event w event) (m
 -- ---- lists of events, each in the world after those before it
 
 -- the sum of what some events with these answers count, each in the world after those before it
-abbrev pub sum_of_answers : (World → Event → Result Reply WorldFault → ℕ) → World → List Event → List (Result Reply WorldFault) → ℕ
+abbrev pub sum_of_answers : (World → Event → Result Reply WorldFault → ℕ)
+    → World → List Event → List (Result Reply WorldFault) → ℕ
 sum_of_answers count w [] replies = 0
 sum_of_answers count w (event ∷ events) [] = 0
 sum_of_answers count w (event ∷ events) (reply ∷ replies) =

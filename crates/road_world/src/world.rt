@@ -192,7 +192,8 @@ impl World {
         ensures accepted { IfOk result (λ _.
             query_fault self.now replica (totals_fault (sheet_at self.now replica) detector from to) ≡ None) }
         ensures refused { IfErr result
-            (IsQueryRefusal (query_fault self.now replica (totals_fault (sheet_at self.now replica) detector from to))) }
+            (IsQueryRefusal (query_fault self.now replica
+            (totals_fault (sheet_at self.now replica) detector from to))) }
     {
         let Some(shown) = self.replica(replica) else {
             return Err(WorldFault::NoReplica);

@@ -4,8 +4,6 @@
 #[cfg(test)]
 mod acts;
 #[cfg(test)]
-mod counted;
-#[cfg(test)]
 mod journals;
 #[cfg(test)]
 mod questions;

@@ -10,6 +10,8 @@ mod lists;
 #[cfg(test)]
 mod merges;
 #[cfg(test)]
+mod meters;
+#[cfg(test)]
 mod refusals;
 #[cfg(test)]
 mod texts;

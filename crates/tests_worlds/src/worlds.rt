@@ -76,11 +76,8 @@ pub(crate) fn shows(
     number: u32,
     rows: &[(u32, &str)],
 ) -> Result<(), Fail> {
-    let Some(replica) = world.replica(number) else {
-        panic!(rt; "no replica {number}");
-    };
     for (step, text) in rows {
-        let shown = replica.rows(alloc, *step, *step)?;
+        let shown = world.rows(alloc, number, *step, *step)?;
         assert!(rt; shown.first().map(|row| row.as_str()) == Some(*text));
     }
     Ok(())

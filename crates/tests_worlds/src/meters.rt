@@ -1,0 +1,96 @@
+//! How many steps a meter counts for events, and what a world shows of its replicas by their numbers.
+
+use crate::worlds::{Answer, B1, BLOCK, answers};
+use road_ends::Meter;
+use road_plan::Object;
+use road_replica::{ReplicaFault, Reply};
+use road_workers::Alone;
+use road_world::{Event, Played, World, WorldFault, play};
+use std::alloc::Global;
+use std::sync::Arc;
+use std::test::Fail;
+use tests_plans::{FREE, plan_of};
+
+const EVENTS: [Event; 8] = [
+    Event::Advance { at: 0, to: 6 },
+    Event::Advance { at: 7, to: 1 },
+    Event::Edit {
+        at: 0,
+        object: Object::Limit(1),
+        step: 2,
+        value: 1,
+    },
+    Event::Advance {
+        at: 1,
+        to: 1_048_577,
+    },
+    Event::Edit {
+        at: 1,
+        object: BLOCK,
+        step: 4,
+        value: 1,
+    },
+    Event::Send { at: 1 },
+    Event::Take { at: 0, message: 0 },
+    Event::Take { at: 0, message: 0 },
+];
+
+const ANSWERED: [Answer; 8] = [
+    Ok(Reply::Horizon(6)),
+    Err(WorldFault::NoReplica),
+    Err(WorldFault::Replica(ReplicaFault::NoObject)),
+    Err(WorldFault::Replica(ReplicaFault::Horizon)),
+    Ok(Reply::Stamped(B1)),
+    Ok(Reply::Message(0)),
+    Ok(Reply::Touched(Some(4))),
+    Ok(Reply::Touched(None)),
+];
+
+// The world of two replicas after the events.
+fn played(alloc: Global, meter: &mut Meter) -> Result<Played, Fail> {
+    let plan = Arc::new(alloc, plan_of(alloc, &FREE)?)?;
+    Ok(play(alloc, plan, 2, &EVENTS, &mut Alone, meter)?)
+}
+
+#[test]
+fn refused_events_and_messages_compute_nothing(rt: HostRuntime) -> Result<(), Fail> {
+    let mut meter = Meter::new();
+    let played = played(rt.alloc(), &mut meter)?;
+    answers(&rt, &played, &ANSWERED);
+    // Six steps of the first advance, and as many again once the block comes.
+    assert_eq!(&rt; meter.ticks(), 12);
+    Ok(())
+}
+
+#[test]
+fn replicas_are_shown_by_their_numbers(rt: HostRuntime) -> Result<(), Fail> {
+    let alloc = rt.alloc();
+    let plan = Arc::new(alloc, plan_of(alloc, &FREE)?)?;
+    let mut world = World::open(alloc, plan, 2)?;
+    assert_eq!(&rt; world.replica_count(), 2);
+    let event = Event::Advance { at: 1, to: 6 };
+    let reply = world.apply(alloc, &event, &mut Alone, &mut Meter::new());
+    assert!(&rt; reply == Ok(Reply::Horizon(6)));
+    let road = world.state(alloc, 1, 6)?;
+    assert!(&rt; road.car_at(0).is_some());
+    assert!(&rt; road.car_at(1).is_none());
+    // Cars come to cell 5 at steps 3 and 5, each by two cells.
+    let counted = world.totals(alloc, 1, 0, 0, 6)?;
+    assert_eq!(&rt; counted.cars, 2);
+    assert_eq!(&rt; counted.speeds, 4);
+    let late = world.state(alloc, 0, 6);
+    assert!(&rt; late.err() == Some(WorldFault::Replica(ReplicaFault::NotSimulated)));
+    let missing = world.totals(alloc, 2, 0, 0, 6);
+    assert!(&rt; missing.err() == Some(WorldFault::NoReplica));
+    Ok(())
+}
+
+#[test]
+fn a_world_of_none_has_no_replica(rt: HostRuntime) -> Result<(), Fail> {
+    let alloc = rt.alloc();
+    let plan = Arc::new(alloc, plan_of(alloc, &FREE)?)?;
+    let world = World::open(alloc, plan, 0)?;
+    assert_eq!(&rt; world.replica_count(), 0);
+    assert!(&rt; world.replica(0).is_none());
+    Ok(())
+}
