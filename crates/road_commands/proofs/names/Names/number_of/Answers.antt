@@ -9,5 +9,5 @@ pub returns-in-Some-clause-within : goal.returns-in-Some-clause-within
 returns-in-Some-clause-within c =
     let name = c.args.name.now in
     let placed : number_of c.args.self.now name ≡ Some c.in-Some.number.now =
-        ap (λ (names : List (List ℕ)). number_of names name) (sym c.self.view_is) ∙ sym (c.self.invariant.found name) ∙ sym c.in-Some.ensures.value in
+    ap (λ (names : List (List ℕ)). number_of names name) (sym c.self.view_is) ∙ sym (c.self.invariant.found name) ∙ sym c.in-Some.ensures.value in
     (position-Some (bytes_eq name) c.args.self.now c.in-Some.number.now [] placed).0

@@ -13,7 +13,7 @@ invariant_of-self-in-Ok c =
     let free : number_of (texts c.self.inside.list.items) name ≡ None = ap (λ (names : List (List ℕ)). number_of names name) c.self.view_is ∙ c.requires in
     let count : c.len-number.result ≡ length (texts c.self.inside.list.items) = c.len-number.ensures ∙ sym (ap (λ (names : List (List ℕ)). length names) c.self.view_is) in
     let grown : texts c.push.new.self.items ≡ texts c.self.inside.list.items ++ name ∷ [] =
-        ap texts c.in_ok-push.ensures.items ∙ map-append string_bytes c.self.inside.list.items (c.in_ok-clone.field-0 ∷ [])
-        ∙ ap (λ (text : List ℕ). texts c.self.inside.list.items ++ text ∷ []) c.in_ok-clone.ensures.cases in
+    ap texts c.in_ok-push.ensures.items ∙ map-append string_bytes c.self.inside.list.items (c.in_ok-clone.field-0 ∷ [])
+    ∙ ap (λ (text : List ℕ). texts c.self.inside.list.items ++ text ∷ []) c.in_ok-clone.ensures.cases in
     put_numbered (texts c.self.inside.list.items) (texts c.push.new.self.items) name c.len-number.result c.self.inside.numbers c.insert.new.self c.self.invariant free count grown
     (λ key. btree_map_updates_text name c.self.inside.numbers c.insert.new.self (Some c.len-number.result) c.in-Ok.ensures.updates key)
