@@ -3,7 +3,7 @@ use Rattle.std.proofs.Common.{◌≡◌, ◌∙◌, ℕ, List, Bool, false, Opti
 use Rattle.road_serve.specs.StreamViews.{SourceView}
 
 -- a source by its parts
-source_with : Option (List ℕ) → Bool → ℕ → SourceView
+abbrev source_with : Option (List ℕ) → Bool → ℕ → SourceView
 source_with remaining at_end failures = record { remaining = remaining; at_end = at_end; failures = failures }
 
 -- a source of which nothing was read is what it has left

@@ -20,7 +20,5 @@ returns-in-Err-OutOfMemory-clause-script g c accepted some =
       source,
       source,
       None,
-      record { status = c.no_memory.ensures; answers = not_begun MOST_LINES MOST_BYTES source (sink_view g.W.Sink c.args.writer.now) },
-      inr refl,
-      refl,
+      (record { status = c.no_memory.ensures; answers = not_begun MOST_LINES MOST_BYTES source (sink_view g.W.Sink c.args.writer.now) }, (inr refl, refl)),
     )

@@ -10,16 +10,15 @@ use Rattle.road_serve.proofs.running.run_opened.Goals as goal
 pub returns-in-Some-clause-script : goal.returns-in-Some-clause-script
 returns-in-Some-clause-script g c =
     let ran = c.run_with.ensures in
-    (ran.0, ran.1.0, ran.1.1.0, _, _, ran.1.1.1, source_is _ _ c.new-reader.ensures.remaining c.new-reader.ensures.going c.new-reader.ensures.failures)
+    rw (c.in-Some.is)
+    (ran.0, ran.1, ran.2, _, _, (ran.3, source_is _ _ c.new-reader.ensures.remaining c.new-reader.ensures.going c.new-reader.ensures.failures))
 
 pub returns-in-None-clause-script : goal.returns-in-None-clause-script
-returns-in-None-clause-script g c = (
+returns-in-None-clause-script g c = rw (c.in-None.is) (
   Err Read,
   0,
   λ alone. refl,
   unopened_source 0,
   unopened_source 1,
-  record { status = c.after_fault.ensures; answers = unopened MOST_LINES MOST_BYTES (sink_view g.W.Sink c.args.writer.now) },
-  inl refl,
-  refl,
+  (record { status = c.after_fault.ensures; answers = unopened MOST_LINES MOST_BYTES (sink_view g.W.Sink c.args.writer.now) }, (inl refl, refl)),
 )
