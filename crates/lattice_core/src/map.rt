@@ -4,7 +4,8 @@ ghost use Rattle.std.specs.Prelude.{◌≡◌, ◌↔◌, [], IfOk, IfSome, IsOk
 ghost use Rattle.std.specs.Option.{option_copied};
 ghost use Rattle.std.specs.FinMap.Entries.{find, is_sorted};
 ghost use Rattle.std.specs.Map.{keys_of};
-ghost use Rattle.lattice_core.specs.Map.{IsHeld, IsProperMap, join_option, map_with, map_join, entries_up_to, entries_after};
+ghost use Rattle.lattice_core.specs.Map.{IsHeld, IsProperMap, join_option, map_with, map_join, entries_up_to};
+ghost use Rattle.lattice_core.specs.Map.{entries_after};
 ghost use Rattle.lattice_core.specs.Private.EntryLists.{IsAtMostOption, put_joined};
 
 use crate::OutOfMemory;

@@ -1,7 +1,8 @@
 //! Laws of every step of a plan, from any road whose cars are on it, and of every run, for every course of settings.
 //! The functions do nothing when they run: each law is its function's contract.
 
-ghost use Rattle.road_ends.specs.Laws.{HoldsInEachStep, KeepBelowGreatestSpeed, NeverCollide, ArriveAlone, KeepOrder, StopAtBlocks};
+ghost use Rattle.road_ends.specs.Laws.{HoldsInEachStep, KeepBelowGreatestSpeed, NeverCollide, ArriveAlone, KeepOrder};
+ghost use Rattle.road_ends.specs.Laws.{StopAtBlocks};
 ghost use Rattle.road_ends.specs.Laws.{HaveOwnNumbers, HaveShortNumbers, StayOnRoad, DependOnEarlierSettings};
 
 use road_plan::Plan;

@@ -9,7 +9,7 @@ use Rattle.lattice_core.specs.Sets.{empty, from_list, items, union}
 use Rattle.lattice_core.proofs.SetElements.{items-empty}
 use Rattle.road_plan.specs.Plan.{Plan}
 use Rattle.road_plan.specs.declared.limits.TheConstants.{GREATEST_HORIZON}
-use Rattle.road_scenario.proofs.EditRanges.{in_range-empty, in_range-join}
+use Rattle.road_scenario.proofs.EditRanges.{in_range-join}
 use Rattle.road_scenario.specs.Edits.{Edits, edit_cmp, edit_place}
 use Rattle.road_scenario.specs.Faults.{AreInRange}
 use Rattle.road_scenario.specs.Touched.{has_other_number, put_number_at, first_touched_step}
@@ -20,7 +20,7 @@ use Rattle.road_scenario.specs.declared.edit.Edit.{Edit}
 use Rattle.road_scenario.proofs.JoinedRegisters.{winners-single}
 use Rattle.road_scenario.proofs.NoEdits.{winners-empty}
 use Rattle.road_sheet.specs.Commands.{Advance, Take, sheet_after}
-use Rattle.road_sheet.specs.Sheets.{Sheet, IsSheet, opening_sheet}
+use Rattle.road_sheet.specs.Sheets.{Sheet, IsSheet}
 use Rattle.road_rewind.specs.Growth.{grown_sheet, most_steps, touched_step, TicksAtMost}
 use Rattle.road_replica.specs.Replicas.{most_steps_taking, single_edit}
 
@@ -54,14 +54,6 @@ grown_is_sheet s edits to is fits within = record {
   winners = winners_laws.of_tops (union s.edits edits);
   in_range = in_range-join s.plan s.edits edits is.in_range fits;
   within_limit = let old = is.within_limit in omega (arith, within, old);
-}
-
--- and the opening one is one
-pub opening_is_sheet : (plan : Plan) → IsSheet (opening_sheet plan)
-opening_is_sheet plan = record {
-  winners = winners-empty;
-  in_range = in_range-empty plan;
-  within_limit = omega arith;
 }
 
 -- all edits of a list, joined to winners, do as their winners do

@@ -26,15 +26,6 @@ pub few_steps_of : (command : SheetCommand) (s : Sheet) (meter later : ℕ) → 
 few_steps_of (Take edits) s meter later is = record { ticks = steps_of_command (Take edits) s; few = few_steps s.horizon s.horizon (touched_step s edits); counted = is }
 few_steps_of (Advance to) s meter later is = record { ticks = steps_of_command (Advance to) s; few = omega arith; counted = is }
 
--- a refusal before anything is computed
-pub refused_at_once : (command : SheetCommand) (cause : Option ReplicaFault) (fault : ReplicaFault) (r : Replica) (meter : ℕ) → IsWriteRefusal cause fault → IsRefused command cause fault r r meter meter
-refused_at_once command cause fault r meter is = record {
-  refused = is;
-  unchanged = refl;
-  named = λ some. refl;
-  few_steps = record { ticks = 0; few = omega arith; counted = refl };
-}
-
 -- a refusal that is handed on
 pub handed_on : {A : Type 0} (command : SheetCommand) (cause : Option ReplicaFault) (result : Result A ReplicaFault) (fault : ReplicaFault) (r new : Replica) (meter later : ℕ)
     → IsErrAnd result (λ given. given ≡ fault) → IsRefused command cause fault r new meter later → IsWrite command cause result r new meter later

@@ -6,7 +6,8 @@ ghost use Rattle.road_scenario.specs.Faults.{AreInRange};
 ghost use Rattle.road_scenario.specs.Winners.{join};
 ghost use Rattle.road_sheet.specs.Drafts.{draft_start};
 ghost use Rattle.road_sheet.specs.Sheets.{IsAtMost, sheet_after_step};
-ghost use Rattle.road_rewind.specs.Growth.{grown_sheet, touched_step, kept_step, most_steps, meter_after, CountsGone, TicksAtMost};
+ghost use Rattle.road_rewind.specs.Growth.{grown_sheet, touched_step, kept_step, most_steps, meter_after, CountsGone};
+ghost use Rattle.road_rewind.specs.Growth.{TicksAtMost};
 
 use crate::faults::{GrownFault, growth_fault};
 use crate::outcome::Grown;

@@ -1,7 +1,8 @@
 //! Rules 1 to 3, on the speed of one car.
 
 ghost use Rattle.std.specs.Prelude.{◌≡◌, ◌-◌, ◌<◌, ◌≤◌};
-ghost use Rattle.road_rules.specs.Speeds.{wanted_speed, speed_after_acceleration, speed_after_braking, comes_about, slowed_speed};
+ghost use Rattle.road_rules.specs.Speeds.{wanted_speed, speed_after_acceleration, speed_after_braking, comes_about};
+ghost use Rattle.road_rules.specs.Speeds.{slowed_speed};
 
 /// Applies rules 1 and 2 as one: the speed grows by one, but neither above the limit nor above the free cells in front,
 /// so it is the least of `speed + 1`, `limit` and `gap`. A car above a lowered limit drops to it at once.

@@ -5,7 +5,8 @@ ghost use Rattle.clap.specs.Words.{app_of, found_of, kind_of, rows_of};
 ghost use Rattle.clap.specs.declared.error.kind.ErrorKind.TheVariants as kinds;
 ghost use Rattle.road_format.specs.Views.{texts};
 ghost use Rattle.road_plan.specs.declared.limits.TheConstants.{MOST_WORKERS};
-ghost use Rattle.road_serve.specs.Arguments.{are_accepted, are_read, command_line, script_of, words_matches, worker_count, workers_of};
+ghost use Rattle.road_serve.specs.Arguments.{are_accepted, are_read, command_line, script_of, words_matches};
+ghost use Rattle.road_serve.specs.Arguments.{worker_count, workers_of};
 ghost use Rattle.road_serve.specs.declared.arguments.ArgumentFault.TheVariants.{Refused};
 
 use clap::error::ErrorKind;

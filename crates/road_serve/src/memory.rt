@@ -1,6 +1,7 @@
 //! A source and a sink over memory, which know their bytes and can be made to fail.
 
-ghost use Rattle.std.specs.Prelude.{◌≡◌, ◌≤◌, ◌<◌, ◌-◌, ◌==◌, Some, drop, false, is_err, is_ok, length, min, IfOk, OnOk, OnErr, MatchResult};
+ghost use Rattle.std.specs.Prelude.{◌≡◌, ◌≤◌, ◌<◌, ◌-◌, ◌==◌, Some, drop, false, is_err, is_ok, length, min, IfOk};
+ghost use Rattle.std.specs.Prelude.{OnOk, OnErr, MatchResult};
 ghost use Rattle.std.specs.Io.KnownBytes.{Keeps, ReadConsumes, WriteAppends};
 ghost use Rattle.road_serve.specs.Failures.{RisesByOne};
 ghost use Rattle.road_serve.specs.MemoryStreams.{is_failing};

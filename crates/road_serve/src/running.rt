@@ -1,11 +1,13 @@
 //! The program without its process.
 
-ghost use Rattle.std.specs.Prelude.{◌≡◌, ◌<◌, ◌≤◌, ℕ, IfNone, IfOk, IfSome, IsSome, codes, true, false, None, Option, Some, Result};
+ghost use Rattle.std.specs.Prelude.{◌≡◌, ◌<◌, ◌≤◌, ℕ, IfNone, IfOk, IfSome, IsSome, codes, true, false, None, Option};
+ghost use Rattle.std.specs.Prelude.{Some, Result};
 ghost use Rattle.road_format.specs.Views.{texts};
 ghost use Rattle.road_plan.specs.declared.limits.TheConstants.{MOST_WORKERS};
 ghost use Rattle.road_serve.specs.Arguments.{are_accepted, script_of, workers_of};
 ghost use Rattle.road_serve.specs.Serving.{program_serving};
-ghost use Rattle.road_serve.specs.Statuses.{status_of, line_of, fault_status, fault_line, EndsAfter, EndsScript, HasStatus, IsRefused};
+ghost use Rattle.road_serve.specs.Statuses.{status_of, line_of, fault_status, fault_line, EndsAfter, EndsScript};
+ghost use Rattle.road_serve.specs.Statuses.{HasStatus, IsRefused};
 ghost use Rattle.road_serve.specs.StreamViews.{SourceView, source_view, sink_view};
 ghost use Rattle.road_serve.specs.declared.serving.Served.{Served};
 ghost use Rattle.road_serve.specs.declared.faults.ServeFault.{ServeFault};

@@ -1,6 +1,7 @@
 //! Shelves: a few intervals, each shared.
 
-ghost use Rattle.std.specs.Prelude.{◌≡◌, ◌<◌, ◌≤◌, ◌++◌, ◌∷◌, [], IfOk, OnErr, OnOk, Some, length, map, slice_get, take};
+ghost use Rattle.std.specs.Prelude.{◌≡◌, ◌<◌, ◌≤◌, ◌++◌, ◌∷◌, [], IfOk, OnErr, OnOk, Some, length, map, slice_get};
+ghost use Rattle.std.specs.Prelude.{take};
 ghost use Rattle.std.specs.Arc.{arc_value};
 
 use crate::OutOfMemory;
