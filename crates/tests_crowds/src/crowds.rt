@@ -17,7 +17,7 @@ use std::test::Fail;
 use std::thread::Threads;
 use tests_plans::{FREE, plan_of};
 
-/// An edit at a step, with a stamp of this count and number.
+/// Makes an edit at a step, with a stamp of this count and number.
 pub(crate) fn edit(object: Object, step: u32, count: u64, number: u16, value: Value) -> Edit {
     Edit {
         object,
@@ -35,12 +35,12 @@ pub(crate) fn block_and_withdrawal(alloc: Global) -> Result<Vec<Vec<Edit>>, Fail
     Ok(vec![in alloc; block, withdrawal]?)
 }
 
-/// The plan of the free road.
+/// Returns the plan of the free road.
 pub(crate) fn free_road(alloc: Global) -> Result<Arc<Plan>, Fail> {
     Ok(Arc::new(alloc, plan_of(alloc, &FREE)?)?)
 }
 
-/// Whether these shares may be gathered to a step.
+/// Tells whether these shares may be gathered to a step.
 pub(crate) fn may_gather(plan: &Plan, shares: &[Vec<Edit>], to: u32) -> bool
     ensures some { IsTrue result → 0 < length shares.now }
     ensures few { IsTrue result → length shares.now ≤ MOST_SESSIONS }
@@ -56,7 +56,7 @@ pub(crate) fn may_gather(plan: &Plan, shares: &[Vec<Edit>], to: u32) -> bool
     shares_fault(plan, shares, to).is_none()
 }
 
-/// What a crowd of these shares leaves of the free road.
+/// Returns what a crowd of these shares leaves of the free road.
 pub(crate) fn left<R: Threads + Wait, G: Gate + Sync>(
     rt: &R,
     alloc: Global,
@@ -71,7 +71,7 @@ pub(crate) fn left<R: Threads + Wait, G: Gate + Sync>(
     Ok(crowd(rt, alloc, &plan, shares, to, gate)?)
 }
 
-/// Whether a crowd left these edits, so many writes and this row.
+/// Tells whether a crowd left these edits, so many writes and this row.
 pub(crate) fn is_left(left: &Crowd, edits: &[Edit], journal: u32, row: &str) -> bool {
     left.edits.as_slice() == edits && left.journal == journal && left.row.as_str() == row
 }

@@ -22,7 +22,7 @@ struct Meeting<R> {
 }
 
 impl<R: Clock> Meeting<R> {
-    // A gate at which nobody has arrived.
+    // Makes a gate at which nobody has arrived.
     fn new(rt: R, turns: u32) -> Meeting<R> {
         Meeting {
             rt,
@@ -33,12 +33,12 @@ impl<R: Clock> Meeting<R> {
         }
     }
 
-    // Whether both have arrived.
+    // Tells whether both have arrived.
     fn have_met(&self) -> bool {
         self.has_first.load(Ordering::SeqCst) && self.has_second.load(Ordering::SeqCst)
     }
 
-    // Whether both have arrived, and none waited for the other in vain.
+    // Tells whether both have arrived, and none waited for the other in vain.
     fn went_well(&self) -> bool {
         self.have_met() && self.in_vain.load(Ordering::SeqCst) == 0
     }

@@ -13,14 +13,14 @@ const EDITS: u32 = 40;
 /// How often the shares are gathered.
 const TIMES: u32 = 100;
 
-// The limit of the only zone that is put at a step.
+// Returns the limit of the only zone that is put at a step.
 fn limit(step: u32) -> Edit {
     let count = u64::from(step).saturating_add(1);
     let number = (64 + step % 4) as u16;
     edit(Object::Limit(0), step, count, number, Value::Put(step % 3))
 }
 
-// The limits of all steps, from one step on and round.
+// Returns the limits of all steps, from one step on and round.
 fn limits_from(alloc: Global, first: u32) -> Result<Vec<Edit>, Fail> {
     let mut edits = Vec::new(alloc);
     for turn in 0..EDITS {

@@ -11,7 +11,7 @@ use std::alloc::Global;
 use std::sync::Arc;
 use std::test::Fail;
 
-// Whether one of two crowds at most finds no memory, and each other one leaves the withdrawal.
+// Tells whether one of two crowds at most finds no memory, and each other one leaves the withdrawal.
 fn go_on<K: Crowds>(
     crowds: &K,
     alloc: Global,

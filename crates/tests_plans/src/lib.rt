@@ -113,7 +113,7 @@ pub fn plan_of(alloc: Global, parts: &Parts) -> Result<Plan, PlanFault> {
     }
 }
 
-/// Whether a plan reads as these parts.
+/// Tells whether a plan reads as these parts.
 pub fn reads(plan: &Plan, parts: &Parts) -> bool {
     (plan.length(), plan.exit(), plan.width()) == parts.road
         && plan.zones() == parts.zones
@@ -122,7 +122,7 @@ pub fn reads(plan: &Plan, parts: &Parts) -> bool {
         && plan.words() == parts.words
 }
 
-/// A car.
+/// Makes a car.
 pub fn car(number: u64, cell: u32, speed: u8) -> Car
     ensures { result ≡ record { number = number; cell = cell; speed = speed } }
 {

@@ -46,7 +46,7 @@ const WRITES: &[Write] = &[
     Write::Advance(12),
 ];
 
-// Whether a replica is left as it was by a write whose crew fails after some calls.
+// Tells whether a replica is left as it was by a write whose crew fails after some calls.
 fn is_left(alloc: Global, replica: &mut Replica, write: Write, calls: u64) -> Result<bool, Fail> {
     let mut crew = Failing {
         calls_left: calls,
@@ -62,7 +62,7 @@ fn is_left(alloc: Global, replica: &mut Replica, write: Write, calls: u64) -> Re
     )
 }
 
-// Whether a replica of the free road with the lower limit is.
+// Tells whether a replica of the free road with the lower limit is.
 fn leaves_it(alloc: Global, write: Write, calls: u64) -> Result<bool, Fail> {
     let mut replica = replica_after(alloc, 0, BEFORE)?;
     is_left(alloc, &mut replica, write, calls)
@@ -133,7 +133,7 @@ const LAST_STAGE: Shown = Shown {
     totals: Totals { cars: 2, speeds: 4 },
 };
 
-// Whether a replica holds and shows just this.
+// Tells whether a replica holds and shows just this.
 fn is_at(alloc: Global, replica: &Replica, stage: &Shown) -> Result<bool, Fail> {
     let horizon = replica.sheet().horizon();
     let rows = replica.rows(alloc, 0, horizon)?;
@@ -146,8 +146,8 @@ fn is_at(alloc: Global, replica: &Replica, stage: &Shown) -> Result<bool, Fail> 
     )
 }
 
-// Whether a write is answered so, where the crew may fail once before it: the replica is then as it was, and the same
-// write is answered as if the crew had not failed.
+// Tells whether a write is answered so, where the crew may fail once before it: the replica is then as it was, and the
+// same write is answered as if the crew had not failed.
 fn is_answered(
     alloc: Global,
     replica: &mut Replica,
@@ -168,7 +168,7 @@ fn is_answered(
     Ok(answer == Ok(wanted))
 }
 
-// Whether the run of a replica is answered as ever by a crew that fails once.
+// Tells whether the run of a replica is answered as ever by a crew that fails once.
 fn is_run_by(alloc: Global, replica: &mut Replica, crew: &mut Failing) -> Result<bool, Fail> {
     for (step, stage) in RUN.iter().zip(STAGES) {
         if !is_answered(alloc, replica, crew, *step, stage)? {
@@ -178,7 +178,7 @@ fn is_run_by(alloc: Global, replica: &mut Replica, crew: &mut Failing) -> Result
     Ok(crew.gone == 1 && is_at(alloc, replica, &LAST_STAGE)?)
 }
 
-// Whether that of a new replica is, by a crew that fails after some calls.
+// Tells whether that of a new replica is, by a crew that fails after some calls.
 fn is_run(alloc: Global, calls: u64) -> Result<bool, Fail> {
     let mut replica = opened(alloc, 0)?;
     let mut crew = Failing {

@@ -418,7 +418,7 @@ const EXAMPLES: &[Example] = &[
     NEXT_COUNT,
 ];
 
-// Whether a replica answers the writes of an example so.
+// Tells whether a replica answers the writes of an example so.
 fn answers(alloc: Global, replica: &mut Replica, example: &Example) -> bool {
     for (write, answer) in example.writes {
         let is = written(alloc, replica, *write, &mut Alone, &mut Meter::new());
@@ -429,7 +429,7 @@ fn answers(alloc: Global, replica: &mut Replica, example: &Example) -> bool {
     true
 }
 
-// Whether a replica shows the rows of an example.
+// Tells whether a replica shows the rows of an example.
 fn shows_rows(alloc: Global, replica: &Replica, example: &Example) -> Result<bool, ReplicaFault> {
     for (step, row) in example.rows {
         if !shows(alloc, replica, *step, row)? {
@@ -439,7 +439,7 @@ fn shows_rows(alloc: Global, replica: &Replica, example: &Example) -> Result<boo
     Ok(true)
 }
 
-// Whether a replica goes as an example says.
+// Tells whether a replica goes as an example says.
 fn goes(alloc: Global, replica: &mut Replica, example: &Example) -> Result<bool, Fail> {
     Ok(
         answers(alloc, replica, example)
@@ -448,7 +448,7 @@ fn goes(alloc: Global, replica: &mut Replica, example: &Example) -> Result<bool,
     )
 }
 
-// Whether a new replica does.
+// Tells whether a new replica does.
 fn opened_goes(alloc: Global, example: &Example) -> Result<bool, Fail> {
     let mut replica = opened_on(alloc, &example.parts, example.number)?;
     goes(alloc, &mut replica, example)

@@ -57,18 +57,18 @@ const JOINED: &[Entry] = &[
     (BLOCK, 4, (2, 0), Value::Put(1)),
 ];
 
-// Whether a replica asks by these heads.
+// Tells whether a replica asks by these heads.
 fn asks(alloc: Global, replica: &Replica, heads: &[Head]) -> Result<bool, ReplicaFault> {
     Ok(replica.heads(alloc)?.list() == heads)
 }
 
-// What one replica answers to the heads of another.
+// Returns what one replica answers to the heads of another.
 fn answer(alloc: Global, asked: &Replica, asking: &Replica) -> Result<Scenario, ReplicaFault> {
     let heads = asking.heads(alloc)?;
     asked.beyond(alloc, &heads)
 }
 
-// Whether a replica that takes a scenario again and again is touched so, and then holds these edits.
+// Tells whether a replica that takes a scenario again and again is touched so, and then holds these edits.
 fn takes(
     alloc: Global,
     replica: &mut Replica,
@@ -84,7 +84,7 @@ fn takes(
     holds(alloc, replica, held)
 }
 
-// Whether a replica asks as it should, and takes what the other one sends it.
+// Tells whether a replica asks as it should, and takes what the other one sends it.
 fn is_answered(alloc: Global, asked: &Replica, mut asking: Replica) -> Result<bool, Fail> {
     let sent = answer(alloc, asked, &asking)?;
     Ok(asks(alloc, &asking, ASKED)? && takes(alloc, &mut asking, &sent, &[Some(5), None], JOINED)?)
@@ -98,7 +98,7 @@ fn a_replica_is_sent_what_it_lacks(rt: HostRuntime) -> Result<(), Fail> {
     Ok(())
 }
 
-// Whether a new replica takes the whole message of another.
+// Tells whether a new replica takes the whole message of another.
 fn is_told(alloc: Global, message: &Scenario) -> Result<bool, Fail> {
     let mut replica = opened(alloc, 2)?;
     Ok(takes(alloc, &mut replica, message, &[Some(4)], SENT)?)

@@ -56,7 +56,7 @@ const DIAGRAMS: &[(u32, u32, Result<usize, ReplicaFault>)] = &[
 /// The rows from 4 to 6 with the cell 8 blocked from step 4 on.
 const BLOCKED: &[&str] = &["0..2...2#...", ".1...2.0#...", "0..2..10#..."];
 
-// Whether a replica has these cars at a step.
+// Tells whether a replica has these cars at a step.
 fn has_cars(
     alloc: Global,
     replica: &Replica,
@@ -66,7 +66,7 @@ fn has_cars(
     Ok(replica.state(alloc, step)?.cars() == cars)
 }
 
-// Whether a replica counts as a table says.
+// Tells whether a replica counts as a table says.
 fn counts(alloc: Global, replica: &Replica) -> bool {
     for &((detector, from, to), counted) in COUNTS {
         let totals = replica.totals(alloc, detector, from, to);
@@ -77,12 +77,12 @@ fn counts(alloc: Global, replica: &Replica) -> bool {
     true
 }
 
-// A replica of the free road at step 6.
+// Makes a replica of the free road at step 6.
 fn at_six(alloc: Global) -> Result<Replica, Fail> {
     replica_after(alloc, 0, &[Write::Advance(6)])
 }
 
-// Whether it shows the worked cars, and none of a step that was not simulated.
+// Tells whether it shows the worked cars, and none of a step that was not simulated.
 fn has_worked_cars(alloc: Global, replica: &Replica) -> Result<bool, ReplicaFault> {
     Ok(
         has_cars(alloc, replica, 6, CARS)?
@@ -125,7 +125,7 @@ fn counts_the_worked_cars(rt: HostRuntime) -> Result<(), Fail> {
     Ok(())
 }
 
-// Whether the rows of a diagram are these.
+// Tells whether the rows of a diagram are these.
 fn are_rows(rows: &[String], texts: &[&str]) -> bool {
     for (row, text) in rows.iter().zip(texts.iter()) {
         if row.as_str() != *text {
@@ -135,7 +135,7 @@ fn are_rows(rows: &[String], texts: &[&str]) -> bool {
     rows.len() == texts.len()
 }
 
-// Whether the rows of a replica are refused as a table says, and those that are given are the worked ones.
+// Tells whether the rows of a replica are refused as a table says, and those that are given are the worked ones.
 fn has_diagrams(alloc: Global, replica: &Replica) -> Result<bool, ReplicaFault> {
     for &(from, to, rows) in DIAGRAMS {
         if replica.rows(alloc, from, to).map(|rows| rows.len()) != rows {
@@ -153,7 +153,7 @@ fn a_diagram_has_at_most_1024_rows(rt: HostRuntime) -> Result<(), Fail> {
     Ok(())
 }
 
-// Whether a cache answers one query after another as worked, where the cell 8 is blocked from step 4 on.
+// Tells whether a cache answers one query after another as worked, where the cell 8 is blocked from step 4 on.
 fn answers_from_cache(alloc: Global, sheet: &Sheet) -> Result<bool, ReplicaFault> {
     let mut cache = QueryCache::of(alloc, sheet.plan());
     let is_row = cache.row(alloc, sheet, 4)?.as_str() == "0..2...2#...";

@@ -29,18 +29,18 @@ pub(crate) enum Write {
     Advance(u32),
 }
 
-/// A replica of a road before any write.
+/// Makes a replica of a road before any write.
 pub(crate) fn opened_on(alloc: Global, parts: &Parts, number: u8) -> Result<Replica, Fail> {
     let plan = Arc::new(alloc, plan_of(alloc, parts)?)?;
     Ok(Replica::open(alloc, plan, (number % 64) as u32)?)
 }
 
-/// A replica of the free road before any write.
+/// Makes a replica of the free road before any write.
 pub(crate) fn opened(alloc: Global, number: u8) -> Result<Replica, Fail> {
     opened_on(alloc, &FREE, number)
 }
 
-/// The edits of a table.
+/// Returns the edits of a table.
 pub(crate) fn edits_of(alloc: Global, entries: &[Entry]) -> Result<Vec<Edit>, OutOfMemory> {
     let mut edits = Vec::new(alloc);
     for (object, step, (count, number), value) in entries {
@@ -58,7 +58,7 @@ pub(crate) fn edits_of(alloc: Global, entries: &[Entry]) -> Result<Vec<Edit>, Ou
     Ok(edits)
 }
 
-// What an import is answered.
+// Returns what an import is answered.
 fn imported<C: Crew>(
     alloc: Global,
     replica: &mut Replica,
@@ -70,7 +70,7 @@ fn imported<C: Crew>(
     Ok(Reply::Touched(replica.import(alloc, &edits, crew, meter)?))
 }
 
-// What a replica is answered that takes edits.
+// Returns what a replica is answered that takes edits.
 fn taken<C: Crew>(
     alloc: Global,
     replica: &mut Replica,
@@ -82,7 +82,7 @@ fn taken<C: Crew>(
     Ok(Reply::Touched(replica.take(alloc, &scenario, crew, meter)?))
 }
 
-/// What a write is answered.
+/// Returns what a write is answered.
 pub(crate) fn written<C: Crew>(
     alloc: Global,
     replica: &mut Replica,
@@ -103,7 +103,7 @@ pub(crate) fn written<C: Crew>(
     }
 }
 
-/// A replica of the free road after some writes that it accepts, with a crew of one.
+/// Makes a replica of the free road after some writes that it accepts, with a crew of one.
 pub(crate) fn replica_after(alloc: Global, number: u8, writes: &[Write]) -> Result<Replica, Fail> {
     let mut replica = opened(alloc, number)?;
     for write in writes {
@@ -112,7 +112,7 @@ pub(crate) fn replica_after(alloc: Global, number: u8, writes: &[Write]) -> Resu
     Ok(replica)
 }
 
-/// Whether a replica holds just these edits, by object and step.
+/// Tells whether a replica holds just these edits, by object and step.
 pub(crate) fn holds(
     alloc: Global,
     replica: &Replica,
@@ -122,7 +122,7 @@ pub(crate) fn holds(
     Ok(held.as_slice() == edits_of(alloc, entries)?.as_slice())
 }
 
-/// Whether a replica shows just this row at a step.
+/// Tells whether a replica shows just this row at a step.
 pub(crate) fn shows(
     alloc: Global,
     replica: &Replica,

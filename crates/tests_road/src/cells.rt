@@ -121,7 +121,7 @@ const TO_CAR: &[(&[u32], u8)] = &[
     (&[9], 3),
 ];
 
-// Whether blocked cells rise.
+// Tells whether blocked cells rise.
 fn rises(blocks: &[u32]) -> bool
     ensures { IsTrue result → IsNonDecreasing blocks.now }
 {

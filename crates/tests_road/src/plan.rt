@@ -501,7 +501,7 @@ const FITTING: &[(Numbers, bool)] = &[
     ((&[2, 1], &[10, 20], &[30], &[3, 4], 2, &[10, 20]), true),
 ];
 
-// Whether settings have these numbers, and all detectors are on.
+// Tells whether settings have these numbers, and all detectors are on.
 fn have(
     settings: &Settings,
     (limits, chances, inflows, blocks, watched, starts): &Numbers,
@@ -529,7 +529,7 @@ fn settings_of(
     })
 }
 
-// The settings of each row fit as it says.
+// Checks that the settings of each row fit as it says.
 fn settings_fit(rt: &impl Abort, alloc: Global, plan: &Plan) -> Result<(), Fail> {
     for (row, (numbers, fits)) in FITTING.iter().enumerate() {
         let settings = settings_of(alloc, numbers)?;
@@ -564,7 +564,7 @@ const OBJECTS: &[(Object, Option<u32>, u32)] = &[
     (Object::Start(1), None, 65_536),
 ];
 
-// The own number of an object, where it is in the plan and has one.
+// Returns the own number of an object, where it is in the plan and has one.
 fn own_number(plan: &Plan, object: Object) -> Option<u32> {
     if object.in_plan(plan) && !object.is_start() {
         Some(object.default(plan))
@@ -573,7 +573,7 @@ fn own_number(plan: &Plan, object: Object) -> Option<u32> {
     }
 }
 
-// Whether an object allows the numbers 0 and `greatest`, and not the next one.
+// Tells whether an object allows the numbers 0 and `greatest`, and not the next one.
 fn allows_up_to(object: Object, greatest: u32) -> bool {
     object.allows(0) && object.allows(greatest) && !object.allows(greatest.saturating_add(1))
 }

@@ -8,7 +8,7 @@ use road_words::{ChaChaWords, PlanWords, SteadyWords, Words};
 use std::test::Fail;
 use tests_plans::{FREE, Parts, plan_of};
 
-/// The word that any source of words gives.
+/// Returns the word that any source of words gives.
 fn word_of<W: Words>(words: &W, stream: u64, place: u64) -> u32 {
     words.word(stream, place)
 }
@@ -51,8 +51,8 @@ fn seeded_words_are_those_of_another_program(rt: HostRuntime) {
     }
 }
 
-/// The upper 16 bits that a batch, drawn from some places before a place on, has of the word at that place; none where the
-/// batch cannot begin so.
+/// Returns the upper 16 bits that a batch, drawn from some places before a place on, has of the word at that place;
+/// none where the batch cannot begin so.
 fn high16_of(words: &PlanWords, stream: u64, place: u64, before: u8) -> Option<u16> {
     let first = u32::try_from(place.checked_sub(u64::from(before))?).ok()?;
     words.batch(stream, first).get(usize::from(before)).copied()

@@ -185,18 +185,18 @@ const EXCHANGES: &[Exchange] = &[
     },
 ];
 
-// What one replica sends another that tells its heads.
+// Returns what one replica sends another that tells its heads.
 fn sent(alloc: Global, asking: &Scenario, asked: &Scenario) -> Result<Scenario, OutOfMemory> {
     let heads = heads_of(alloc, asking)?;
     beyond(alloc, asked, &heads)
 }
 
-// Whether a replica tells these heads.
+// Tells whether a replica tells these heads.
 fn tells(alloc: Global, asking: &Scenario, heads: &[Head]) -> Result<bool, OutOfMemory> {
     Ok(heads_of(alloc, asking)?.list() == heads)
 }
 
-// What one holds that has taken what the other holds.
+// Returns what one holds that has taken what the other holds.
 fn joined_edits(
     alloc: Global,
     ours: &Scenario,
@@ -205,7 +205,7 @@ fn joined_edits(
     ours.joined(theirs)?.edits(alloc)
 }
 
-// Whether what is sent makes of the edits of one replica what all that the other holds would.
+// Tells whether what is sent makes of the edits of one replica what all that the other holds would.
 fn is_enough(
     alloc: Global,
     asking: &Scenario,
@@ -217,7 +217,7 @@ fn is_enough(
     Ok(by_sent == by_all)
 }
 
-// Whether one replica sends another these edits, which fit the plan, and no more are wanted.
+// Tells whether one replica sends another these edits, which fit the plan, and no more are wanted.
 fn sends(
     alloc: Global,
     plan: &Plan,
@@ -230,7 +230,7 @@ fn sends(
     Ok(is_sent && is_enough(alloc, asking, asked, &sent)?)
 }
 
-// Whether an exchange goes as it should.
+// Tells whether an exchange goes as it should.
 fn goes(alloc: Global, plan: &Plan, exchange: &Exchange) -> Result<bool, OutOfMemory> {
     let asking = Scenario::of_edits(alloc, exchange.asking)?;
     let asked = Scenario::of_edits(alloc, exchange.asked)?;
@@ -252,7 +252,7 @@ fn replicas_exchange_edits(rt: HostRuntime) -> Result<(), Fail> {
 /// The limits that are put, one at each step.
 const LIMITS: u32 = 2_900;
 
-// The limit that is put at a step, with this count.
+// Returns the limit that is put at a step, with this count.
 fn limit_at(step: u32, count: u64) -> Edit {
     Edit {
         object: LIMIT,
@@ -262,7 +262,7 @@ fn limit_at(step: u32, count: u64) -> Edit {
     }
 }
 
-// A limit put at each step, the last step first: at even steps with one count and at odd steps with another.
+// Makes a limit put at each step, the last step first: at even steps with one count and at odd steps with another.
 fn limits(alloc: Global, even: u64, odd: u64) -> Result<Vec<Edit>, OutOfMemory> {
     let mut edits = Vec::new(alloc);
     for step in (0..LIMITS).rev() {
@@ -272,14 +272,14 @@ fn limits(alloc: Global, even: u64, odd: u64) -> Result<Vec<Edit>, OutOfMemory> 
     Ok(edits)
 }
 
-// What one replica sends another that tells its heads, as edits.
+// Returns what one replica sends another that tells its heads, as edits.
 fn edits_sent(alloc: Global, asking: &[Edit], asked: &[Edit]) -> Result<Vec<Edit>, OutOfMemory> {
     let asking = Scenario::of_edits(alloc, asking)?;
     let asked = Scenario::of_edits(alloc, asked)?;
     sent(alloc, &asking, &asked)?.edits(alloc)
 }
 
-// How many heads a replica of these edits tells.
+// Counts how many heads a replica of these edits tells.
 fn head_count(alloc: Global, edits: &[Edit]) -> Result<usize, OutOfMemory> {
     let scenario = Scenario::of_edits(alloc, edits)?;
     let heads = heads_of(alloc, &scenario)?;

@@ -34,7 +34,7 @@ const REGISTERS: &[(Register, Register, Register)] = &[
     (TWO, Greatest::Nothing, TWO),
 ];
 
-// Whether two values join to a third one.
+// Tells whether two values join to a third one.
 fn joins_to<L: Lattice>(first: &L, second: &L, both: &L) -> Result<bool, OutOfMemory> {
     let joined = first.joined(second)?.copied()?;
     Ok(joined.at_most(both) && both.at_most(&joined) && first.at_most(both) && !both.is_bottom())
@@ -63,7 +63,7 @@ const MERGES: &[(&[Entry], &[Entry], &[Entry])] = &[
     (&[(4, Greatest::Nothing)], &[(8, TWO)], &[(8, TWO)]),
 ];
 
-// The map of these puts, in this order.
+// Returns the map of these puts, in this order.
 fn map_of(alloc: Global, puts: &[Entry]) -> Result<LatMap<u32, Register>, OutOfMemory> {
     let mut map = LatMap::empty(alloc);
     for (step, register) in puts {
@@ -72,7 +72,7 @@ fn map_of(alloc: Global, puts: &[Entry]) -> Result<LatMap<u32, Register>, OutOfM
     Ok(map)
 }
 
-// The entries of a map that are found by their keys too.
+// Returns the entries of a map that are found by their keys too.
 fn found(alloc: Global, map: &LatMap<u32, Register>) -> Result<Vec<Entry>, OutOfMemory> {
     let mut all = Vec::new(alloc);
     for (step, register) in map.iter() {
@@ -83,7 +83,7 @@ fn found(alloc: Global, map: &LatMap<u32, Register>) -> Result<Vec<Entry>, OutOf
     Ok(all)
 }
 
-// Whether a map has these entries and no other, by rising keys, each found by its key too.
+// Tells whether a map has these entries and no other, by rising keys, each found by its key too.
 fn holds(
     alloc: Global,
     map: &LatMap<u32, Register>,
@@ -93,7 +93,7 @@ fn holds(
     Ok(all.as_slice() == entries && map.keys().count() == entries.len())
 }
 
-// What two maps of these puts join to.
+// Returns what two maps of these puts join to.
 fn joined_map(
     alloc: Global,
     ours: &[Entry],
@@ -103,7 +103,7 @@ fn joined_map(
     map_of(alloc, ours)?.joined(&map)
 }
 
-// Whether two maps of these puts join to one that holds these entries.
+// Tells whether two maps of these puts join to one that holds these entries.
 fn map_joins_to(
     alloc: Global,
     ours: &[Entry],
@@ -125,7 +125,7 @@ fn maps_join_key_by_key(rt: HostRuntime) -> Result<(), Fail> {
     Ok(())
 }
 
-// A replica that holds these puts, advanced to a horizon.
+// Makes a replica that holds these puts, advanced to a horizon.
 fn replica(alloc: Global, puts: &[Entry], horizon: Greatest<u32>) -> Result<Replica, OutOfMemory> {
     Ok(Both {
         first: map_of(alloc, puts)?,
@@ -133,7 +133,7 @@ fn replica(alloc: Global, puts: &[Entry], horizon: Greatest<u32>) -> Result<Repl
     })
 }
 
-// Whether two replicas merge to one of these entries that is advanced to 6.
+// Tells whether two replicas merge to one of these entries that is advanced to 6.
 fn both_merge_to(
     alloc: Global,
     first: &Replica,
@@ -144,7 +144,7 @@ fn both_merge_to(
     joins_to(first, second, &both)
 }
 
-// Whether a replica and one of these puts that is advanced to nothing do.
+// Tells whether a replica and one of these puts that is advanced to nothing do.
 fn joined_merge_to(
     alloc: Global,
     first: &Replica,
@@ -155,7 +155,7 @@ fn joined_merge_to(
     both_merge_to(alloc, first, &second, entries)
 }
 
-// Whether two replicas that are advanced to 6 and to nothing merge to one of these entries that is advanced to 6.
+// Tells whether two replicas that are advanced to 6 and to nothing merge to one of these entries that is advanced to 6.
 fn merge_to(
     alloc: Global,
     ours: &[Entry],
@@ -166,7 +166,7 @@ fn merge_to(
     joined_merge_to(alloc, &first, theirs, entries)
 }
 
-// Whether a replica that holds nothing and is advanced to nothing is the least.
+// Tells whether a replica that holds nothing and is advanced to nothing is the least.
 fn nothing_is_least(alloc: Global) -> Result<bool, OutOfMemory> {
     let nothing = replica(alloc, &[], Greatest::Nothing)?;
     Ok(nothing.is_bottom())

@@ -18,7 +18,7 @@ const BLOCK: Object = Object::Block(8);
 
 const START: Object = Object::Start(0);
 
-/// The scenario that these edits make, in this order.
+/// Returns the scenario that these edits make, in this order.
 fn scenario(alloc: Global, edits: &[Edit]) -> Result<Scenario, OutOfMemory> {
     let mut scenario = Scenario::empty(alloc);
     for edit in edits {
@@ -325,13 +325,13 @@ const MERGES: &[Merge] = &[
     },
 ];
 
-// Whether a copy of a scenario lists just these edits, in this order.
+// Tells whether a copy of a scenario lists just these edits, in this order.
 fn lists(alloc: Global, scenario: &Scenario, edits: &[Edit]) -> Result<bool, OutOfMemory> {
     let listed = scenario.copied()?.edits(alloc)?;
     Ok(listed.as_slice() == edits)
 }
 
-// Whether a replica was left so by the edits that came.
+// Tells whether a replica was left so by the edits that came.
 fn is_left(
     alloc: Global,
     merge: &Merge,
@@ -346,7 +346,7 @@ fn is_left(
     )
 }
 
-// Whether a replica is left as a row says by a scenario that comes.
+// Tells whether a replica is left as a row says by a scenario that comes.
 fn joins(
     alloc: Global,
     merge: &Merge,
@@ -357,13 +357,13 @@ fn joins(
     is_left(alloc, merge, before, &after)
 }
 
-// Whether it is by the edits of the row.
+// Tells whether it is by the edits of the row.
 fn comes_to(alloc: Global, merge: &Merge, before: &Scenario) -> Result<bool, OutOfMemory> {
     let come = scenario(alloc, merge.come)?;
     joins(alloc, merge, before, &come)
 }
 
-// Whether the edits of a row come to a replica as they should.
+// Tells whether the edits of a row come to a replica as they should.
 fn comes(alloc: Global, merge: &Merge) -> Result<bool, OutOfMemory> {
     let before = scenario(alloc, merge.held)?;
     comes_to(alloc, merge, &before)
@@ -394,7 +394,7 @@ const LISTS: &[(&[Edit], &[Edit])] = &[
     ),
 ];
 
-// Whether a list makes a scenario that lists these edits.
+// Tells whether a list makes a scenario that lists these edits.
 fn makes(alloc: Global, edits: &[Edit], listed: &[Edit]) -> Result<bool, OutOfMemory> {
     let made = Scenario::of_edits(alloc, edits)?;
     lists(alloc, &made, listed)
@@ -454,13 +454,13 @@ const LIMITS: &[(&[Edit], [u32; 4])] = &[
     ),
 ];
 
-// The limit of the first zone at a step.
+// Returns the limit of the first zone at a step.
 fn limit_at(rt: &impl Abort, scenario: &Scenario, plan: &Plan, step: u32) -> u32 {
     assert!(rt; LIMIT.in_plan(plan));
     scenario.setting(plan, LIMIT, step)
 }
 
-// The limits of the first zone at the steps of the table.
+// Returns the limits of the first zone at the steps of the table.
 fn limits_after(
     rt: &impl Abort,
     alloc: Global,
@@ -476,7 +476,7 @@ fn limits_after(
     ])
 }
 
-// The limits of each row are as it says.
+// Checks that the limits of each row are as it says.
 fn limits_act(rt: &impl Abort, alloc: Global, plan: &Plan) -> Result<(), Fail> {
     for (row, (edits, limits)) in LIMITS.iter().enumerate() {
         let made = limits_after(rt, alloc, plan, edits)?;
@@ -530,7 +530,7 @@ const STARTS: &[(&[Edit], [u32; 4])] = &[
     ),
 ];
 
-// The slowing chance of the first zone's standing cars at a step.
+// Returns the slowing chance of the first zone's standing cars at a step.
 fn start_at(rt: &impl Abort, scenario: &Scenario, plan: &Plan, step: u32) -> u32 {
     assert!(rt; START.in_plan(plan));
     scenario.setting(plan, START, step)
@@ -552,7 +552,7 @@ fn starts_after(
     ])
 }
 
-// The chances of each row are as it says.
+// Checks that the chances of each row are as it says.
 fn starts_act(rt: &impl Abort, alloc: Global, plan: &Plan) -> Result<(), Fail> {
     for (row, (edits, starts)) in STARTS.iter().enumerate() {
         let made = starts_after(rt, alloc, plan, edits)?;
@@ -710,7 +710,7 @@ const SETTINGS: &[(u32, Numbers)] = &[
     ),
 ];
 
-// Whether settings have these numbers.
+// Tells whether settings have these numbers.
 fn have(settings: &Settings, numbers: &Numbers) -> bool {
     settings.limits() == numbers.limits
         && settings.chances() == numbers.chances
@@ -720,7 +720,7 @@ fn have(settings: &Settings, numbers: &Numbers) -> bool {
         && settings.starts() == numbers.starts
 }
 
-// Whether a scenario acts so at a step.
+// Tells whether a scenario acts so at a step.
 fn acts(
     alloc: Global,
     plan: &Plan,
@@ -1061,7 +1061,7 @@ fn faults_are_named_in_order(rt: HostRuntime) -> Result<(), Fail> {
     Ok(())
 }
 
-// The fault of the first faulty edit of a scenario.
+// Returns the fault of the first faulty edit of a scenario.
 fn first_fault(
     alloc: Global,
     plan: &Plan,
@@ -1071,7 +1071,7 @@ fn first_fault(
     Ok(made.fits(plan))
 }
 
-// The first fault of each row is as it says.
+// Checks that the first fault of each row is as it says.
 fn first_faults_are_named(rt: &impl Abort, alloc: Global, plan: &Plan) -> Result<(), Fail> {
     for (row, (edits, fault)) in FIRST_FAULTS.iter().enumerate() {
         assert!(rt; first_fault(alloc, plan, edits)? == *fault, "row {row}");

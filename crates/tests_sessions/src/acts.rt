@@ -52,7 +52,7 @@ struct Memory<J: Naming> {
     kept: Option<Arc<Sheet>>,
 }
 
-// Whether a session is shown what a table says.
+// Tells whether a session is shown what a table says.
 fn is_shown<J: Naming, R: Wait + Drop>(
     alloc: Global,
     shared: &Shared<J, R>,
@@ -68,7 +68,7 @@ fn is_shown<J: Naming, R: Wait + Drop>(
     }
 }
 
-// Whether a kept sheet shows a run.
+// Tells whether a kept sheet shows a run.
 fn kept_shows(alloc: Global, kept: &Option<Arc<Sheet>>, run: Run) -> bool {
     match kept {
         Some(sheet) => shows_run(alloc, sheet, run),
@@ -76,7 +76,7 @@ fn kept_shows(alloc: Global, kept: &Option<Arc<Sheet>>, run: Run) -> bool {
     }
 }
 
-// A session is told of the last write.
+// Tells whether a session is told of the last write.
 fn hears<J: Naming>(session: &mut Session<J>, told: Option<Receipt<J>>) -> bool {
     match told {
         Some(receipt) => {
@@ -87,7 +87,7 @@ fn hears<J: Naming>(session: &mut Session<J>, told: Option<Receipt<J>>) -> bool 
     }
 }
 
-// Whether a session that acts is answered so.
+// Tells whether a session that acts is answered so.
 fn acts<J: Naming, R: Wait + Drop, W: Wait>(
     rt: &W,
     alloc: Global,
@@ -112,7 +112,7 @@ fn acts<J: Naming, R: Wait + Drop, W: Wait>(
     }
 }
 
-// Whether the session of a number that acts is answered so.
+// Tells whether the session of a number that acts is answered so.
 fn one_acts<J: Naming, R: Wait + Drop, W: Wait>(
     rt: &W,
     alloc: Global,
@@ -127,7 +127,7 @@ fn one_acts<J: Naming, R: Wait + Drop, W: Wait>(
     }
 }
 
-// Whether all sessions that act are answered so.
+// Tells whether all sessions that act are answered so.
 fn all_act<J: Naming, R: Wait + Drop, W: Wait>(
     rt: &W,
     alloc: Global,
@@ -146,7 +146,7 @@ fn all_act<J: Naming, R: Wait + Drop, W: Wait>(
     well
 }
 
-// Whether what is left has this journal and these rows.
+// Tells whether what is left has this journal and these rows.
 fn is_left(alloc: Global, closed: &Option<Closed>, script: &Script) -> bool {
     match closed {
         Some(closed) => {
@@ -157,7 +157,7 @@ fn is_left(alloc: Global, closed: &Option<Closed>, script: &Script) -> bool {
     }
 }
 
-/// Whether a store that was just prepared goes as its script says; nothing where it could not be opened.
+/// Tells whether a store that was just prepared goes as its script says; nothing where it could not be opened.
 pub(crate) fn goes<J: Naming, R: Wait + Drop, W: Wait>(
     rt: &W,
     alloc: Global,

@@ -14,7 +14,7 @@ pub(crate) enum Line {
     Advanced(u32, u32),
 }
 
-// Whether a scenario has just these edits.
+// Tells whether a scenario has just these edits.
 fn has_edits(alloc: Global, scenario: &Scenario, edits: &[Edit]) -> bool {
     match scenario.edits(alloc) {
         Ok(held) => held.as_slice() == edits,
@@ -22,7 +22,7 @@ fn has_edits(alloc: Global, scenario: &Scenario, edits: &[Edit]) -> bool {
     }
 }
 
-// Whether an entry of a journal is this. Its edits are listed again where there was no memory.
+// Tells whether an entry of a journal is this. Its edits are listed again where there was no memory.
 fn is_line(alloc: Global, entry: &Entry, line: Line) -> bool {
     match (line, &entry.command) {
         (Line::Took(session, edits), SheetCommand::Take(taken)) => {
@@ -36,7 +36,7 @@ fn is_line(alloc: Global, entry: &Entry, line: Line) -> bool {
     }
 }
 
-/// Whether a journal has just these entries.
+/// Tells whether a journal has just these entries.
 pub(crate) fn is_journal(alloc: Global, journal: &[Entry], lines: &[Line]) -> bool {
     let mut well = journal.len() == lines.len();
     for (entry, line) in journal.iter().zip(lines.iter()) {
@@ -58,7 +58,7 @@ pub(crate) enum Closing {
     WithoutFirst,
 }
 
-// What is left of a store whose sessions are all given.
+// Returns what is left of a store whose sessions are all given.
 fn left<J: Naming, R: Wait + Drop>(
     shared: Shared<J, R>,
     sessions: Vec<Session<J>>,
@@ -69,7 +69,7 @@ fn left<J: Naming, R: Wait + Drop>(
     }
 }
 
-// What is left, where all sessions are given once one was missing.
+// Returns what is left, where all sessions are given once one was missing.
 fn left_late<J: Naming, R: Wait + Drop>(
     fault: CloseFault<J, R>,
     late: Session<J>,
@@ -85,7 +85,7 @@ fn left_late<J: Naming, R: Wait + Drop>(
     left(shared, sessions)
 }
 
-/// What is left of a store that is closed so.
+/// Returns what is left of a store that is closed so.
 pub(crate) fn closed<J: Naming, R: Wait + Drop>(
     shared: Shared<J, R>,
     mut sessions: Vec<Session<J>>,

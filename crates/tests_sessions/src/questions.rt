@@ -19,14 +19,14 @@ pub(crate) type Cars = (u32, Result<&'static [Car], LookFault>);
 /// out of memory in a question.
 const WANT: LookFault = LookFault::Sheet(SheetFault::OutOfMemory);
 
-// The row of a sheet at a step.
+// Returns the row of a sheet at a step.
 fn row(alloc: Global, sheet: &Sheet, step: u32) -> Result<String, SheetFault> {
     let road = sheet.state(alloc, step)?;
     let state = State { step, road };
     Ok(row_of(alloc, sheet.plan(), sheet.scenario(), &state)?)
 }
 
-// The same, asked for again where there was no memory.
+// Returns the same, asked for again where there was no memory.
 fn row_again(alloc: Global, sheet: &Sheet, step: u32) -> Result<String, SheetFault> {
     match row(alloc, sheet, step) {
         Err(SheetFault::OutOfMemory) => row(alloc, sheet, step),
@@ -66,7 +66,7 @@ const SLOW_ROWS: &[&str] = &[
     "0.1.1.1.1.1.",
 ];
 
-// The row of this number, where the last two go on by turns.
+// Returns the row of this number, where the last two go on by turns.
 fn by_turns<'a>(rows: &[&'a str], number: usize) -> &'a str {
     let behind = number.saturating_sub(rows.len());
     let last = rows.len().saturating_sub(2);
@@ -81,7 +81,7 @@ fn by_turns<'a>(rows: &[&'a str], number: usize) -> &'a str {
     }
 }
 
-// The row of a run at a step.
+// Returns the row of a run at a step.
 fn row_of_run(run: Run, step: u32) -> &'static str {
     if step <= run.slow_from {
         by_turns(FREE_ROWS, step as usize)
@@ -90,7 +90,7 @@ fn row_of_run(run: Run, step: u32) -> &'static str {
     }
 }
 
-/// Whether a sheet shows all rows of a run.
+/// Tells whether a sheet shows all rows of a run.
 pub(crate) fn shows_run(alloc: Global, sheet: &Sheet, run: Run) -> bool {
     for step in 0..=run.to {
         if !shows(alloc, sheet, &[(step, row_of_run(run, step))]) {
@@ -100,7 +100,7 @@ pub(crate) fn shows_run(alloc: Global, sheet: &Sheet, run: Run) -> bool {
     sheet.horizon() == run.to
 }
 
-/// Whether a sheet shows these rows.
+/// Tells whether a sheet shows these rows.
 pub(crate) fn shows(alloc: Global, sheet: &Sheet, rows: &[Row]) -> bool {
     for (step, wanted) in rows {
         let agrees = match row_again(alloc, sheet, *step) {
@@ -114,7 +114,7 @@ pub(crate) fn shows(alloc: Global, sheet: &Sheet, rows: &[Row]) -> bool {
     true
 }
 
-/// Whether a session that looks is shown this horizon and these rows.
+/// Tells whether a session that looks is shown this horizon and these rows.
 pub(crate) fn looks<J: Naming, R: Wait + Drop>(
     alloc: Global,
     shared: &Shared<J, R>,
@@ -128,7 +128,7 @@ pub(crate) fn looks<J: Naming, R: Wait + Drop>(
     }
 }
 
-/// Whether a session that looks is shown a run.
+/// Tells whether a session that looks is shown a run.
 pub(crate) fn looks_run<J: Naming, R: Wait + Drop>(
     alloc: Global,
     shared: &Shared<J, R>,
@@ -141,7 +141,7 @@ pub(crate) fn looks_run<J: Naming, R: Wait + Drop>(
     }
 }
 
-// Whether a session that asks for the cars of a step is shown these.
+// Tells whether a session that asks for the cars of a step is shown these.
 fn has_cars<J: Naming, R: Wait + Drop>(
     alloc: Global,
     shared: &Shared<J, R>,
@@ -153,7 +153,7 @@ fn has_cars<J: Naming, R: Wait + Drop>(
     Ok(road.cars() == wanted)
 }
 
-// Whether a session that asks for cars is answered so.
+// Tells whether a session that asks for cars is answered so.
 fn shows_cars<J: Naming, R: Wait + Drop>(
     alloc: Global,
     shared: &Shared<J, R>,
@@ -171,7 +171,7 @@ fn shows_cars<J: Naming, R: Wait + Drop>(
     answer == told
 }
 
-// What a session is answered that asks for a count.
+// Returns what a session is answered that asks for a count.
 fn counted<J: Naming, R: Wait + Drop>(
     alloc: Global,
     shared: &Shared<J, R>,
@@ -183,7 +183,7 @@ fn counted<J: Naming, R: Wait + Drop>(
     Ok((totals.cars, totals.speeds))
 }
 
-// Whether a session that asks for a count is answered so.
+// Tells whether a session that asks for a count is answered so.
 fn shows_count<J: Naming, R: Wait + Drop>(
     alloc: Global,
     shared: &Shared<J, R>,
@@ -198,7 +198,7 @@ fn shows_count<J: Naming, R: Wait + Drop>(
     answer == wanted
 }
 
-/// Whether a session that asks for the cars of some steps is answered so.
+/// Tells whether a session that asks for the cars of some steps is answered so.
 pub(crate) fn shows_all_cars<J: Naming, R: Wait + Drop>(
     alloc: Global,
     shared: &Shared<J, R>,
@@ -213,7 +213,7 @@ pub(crate) fn shows_all_cars<J: Naming, R: Wait + Drop>(
     true
 }
 
-/// Whether a session that asks for some counts is answered so.
+/// Tells whether a session that asks for some counts is answered so.
 pub(crate) fn shows_counts<J: Naming, R: Wait + Drop>(
     alloc: Global,
     shared: &Shared<J, R>,

@@ -8,7 +8,7 @@ use std::marker::Brand;
 use std::sync::{Arc, Wait};
 use tests_plans::{FREE, plan_of};
 
-/// A replica of the free road, of this number, for so many sessions and writes.
+/// Makes a replica of the free road, of this number, for so many sessions and writes.
 pub(crate) fn opened_for<R: Wait + Drop>(
     rt: R,
     alloc: Global,
@@ -27,7 +27,7 @@ pub(crate) fn opened_for<R: Wait + Drop>(
     prepare(rt, alloc, plan, number % 64, sessions, limit)
 }
 
-// Whether a store goes as its script says; nothing where it could not be opened.
+// Tells whether a store goes as its script says; nothing where it could not be opened.
 fn opens<R: Wait + Drop + Copy>(rt: R, alloc: Global, script: &Script) -> Option<bool> {
     match opened_for(rt, alloc, script.number, script.sessions, script.limit) {
         Ok(prepared) => goes::<Brand, R, R>(&rt, alloc, prepared, script),

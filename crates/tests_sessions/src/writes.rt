@@ -28,7 +28,7 @@ pub(crate) type Answer = Result<(u64, Reply), WriteFault>;
 /// out of memory in a write.
 const WANT: WriteFault = WriteFault::Replica(ReplicaFault::OutOfMemory);
 
-// A session takes edits.
+// Lets a session take edits.
 fn took<J: Naming, R: Wait + Drop, W: Wait>(
     rt: &W,
     alloc: Global,
@@ -42,7 +42,7 @@ fn took<J: Naming, R: Wait + Drop, W: Wait>(
     }
 }
 
-// A session writes.
+// Lets a session write.
 fn wrote<J: Naming, R: Wait + Drop, W: Wait>(
     rt: &W,
     alloc: Global,
@@ -63,7 +63,7 @@ fn wrote<J: Naming, R: Wait + Drop, W: Wait>(
     }
 }
 
-// The horizon that a session is shown, and the greatest count among its edits.
+// Returns the horizon that a session is shown, and the greatest count among its edits.
 fn shown<J: Naming, R: Wait + Drop>(
     shared: &Shared<J, R>,
     session: &mut Session<J>,
@@ -74,7 +74,7 @@ fn shown<J: Naming, R: Wait + Drop>(
     }
 }
 
-/// A session writes. Where there is no memory, and it is shown what it was shown before, it writes again.
+/// Lets a session write. Where there is no memory, and it is shown what it was shown before, it writes again.
 pub(crate) fn written<J: Naming, R: Wait + Drop, W: Wait>(
     rt: &W,
     alloc: Global,
@@ -89,7 +89,7 @@ pub(crate) fn written<J: Naming, R: Wait + Drop, W: Wait>(
     }
 }
 
-/// What a write was answered, and its receipt.
+/// Returns what a write was answered, and its receipt.
 pub(crate) fn parts<J: Naming>(
     wrote: Result<Wrote<J>, WriteFault>,
 ) -> (Answer, Option<Receipt<J>>) {

@@ -263,7 +263,7 @@ const EXAMPLES: &[Example] = &[
     },
 ];
 
-// The sheet that a growth leaves, where it touches that step, and the meter and the crew count those steps.
+// Returns the sheet that a growth leaves, where it touches that step, and the meter and the crew count those steps.
 fn grown_by(alloc: Global, sheet: &Sheet, growth: &Growth) -> Result<Sheet, Fail> {
     let Trial {
         sheet,
@@ -278,7 +278,7 @@ fn grown_by(alloc: Global, sheet: &Sheet, growth: &Growth) -> Result<Sheet, Fail
     }
 }
 
-// The sheet of the free road that has grown so.
+// Returns the sheet of the free road that has grown so.
 fn grown_so(alloc: Global, growths: &[Growth]) -> Result<Sheet, Fail> {
     let mut sheet = opening(alloc, &FREE)?;
     for growth in growths {
@@ -287,14 +287,14 @@ fn grown_so(alloc: Global, growths: &[Growth]) -> Result<Sheet, Fail> {
     Ok(sheet)
 }
 
-// The row of a sheet at a step.
+// Returns the row of a sheet at a step.
 fn row(alloc: Global, sheet: &Sheet, step: u32) -> Result<String, SheetFault> {
     let road = sheet.state(alloc, step)?;
     let state = State { step, road };
     Ok(row_of(alloc, sheet.plan(), sheet.scenario(), &state)?)
 }
 
-/// Whether a sheet shows these rows.
+/// Tells whether a sheet shows these rows.
 pub(crate) fn shows(alloc: Global, sheet: &Sheet, rows: &[Row]) -> bool {
     for (step, wanted) in rows {
         let agrees = match (row(alloc, sheet, *step), wanted) {
@@ -309,7 +309,7 @@ pub(crate) fn shows(alloc: Global, sheet: &Sheet, rows: &[Row]) -> bool {
     true
 }
 
-// Whether the detectors of a sheet count so.
+// Tells whether the detectors of a sheet count so.
 fn counts(alloc: Global, sheet: &Sheet, counts: &[Count]) -> bool {
     for ((detector, from, to), wanted) in counts {
         let totals = sheet.totals(alloc, *detector, *from, *to);
@@ -320,7 +320,7 @@ fn counts(alloc: Global, sheet: &Sheet, counts: &[Count]) -> bool {
     true
 }
 
-// Whether a sheet shows what an example says.
+// Tells whether a sheet shows what an example says.
 fn sheet_agrees(alloc: Global, sheet: &Sheet, example: &Example) -> Result<bool, Fail> {
     let road = sheet.state(alloc, sheet.horizon())?;
     Ok(
@@ -330,7 +330,7 @@ fn sheet_agrees(alloc: Global, sheet: &Sheet, example: &Example) -> Result<bool,
     )
 }
 
-// Whether a sheet grows and shows what an example says.
+// Tells whether a sheet grows and shows what an example says.
 fn example_agrees(alloc: Global, example: &Example) -> Result<bool, Fail> {
     let sheet = grown_so(alloc, example.growths)?;
     sheet_agrees(alloc, &sheet, example)

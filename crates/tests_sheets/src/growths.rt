@@ -30,7 +30,7 @@ const BEFORE: &[Row] = &[
     (68, Ok("0..2...2....")),
 ];
 
-// Whether a late edit was taken or found no memory.
+// Tells whether a late edit was taken or found no memory.
 fn grows(alloc: Global, sheet: &Sheet, scenario: &Scenario) -> Result<bool, Fail> {
     if scenario.fits(sheet.plan()).is_some() {
         return Err(Fail::new("no such edit"));
@@ -41,21 +41,21 @@ fn grows(alloc: Global, sheet: &Sheet, scenario: &Scenario) -> Result<bool, Fail
     }
 }
 
-// Whether a sheet shows the free road after a late edit, whether that was taken or found no memory. A row that finds none
-// is asked for again.
+// Tells whether a sheet shows the free road after a late edit, whether that was taken or found no memory. A row that
+// finds none is asked for again.
 fn stays(alloc: Global, sheet: &Sheet) -> Result<bool, Fail> {
     let scenario = Scenario::empty(alloc).with_edit(&CLOSED)?;
     let well = grows(alloc, sheet, &scenario)?;
     Ok(well && (shows(alloc, sheet, BEFORE) || shows(alloc, sheet, BEFORE)))
 }
 
-// Whether the sheet that another one grows into stays as it was.
+// Tells whether the sheet that another one grows into stays as it was.
 fn grown_stays(alloc: Global, sheet: &Sheet) -> Result<bool, Fail> {
     let run = grow(alloc, sheet, &[], 68)?;
     stays(alloc, &run.sheet)
 }
 
-// Whether that of the free road does.
+// Tells whether that of the free road does.
 fn free_road_stays(alloc: Global) -> Result<bool, Fail> {
     let sheet = opening(alloc, &FREE)?;
     grown_stays(alloc, &sheet)

@@ -88,7 +88,7 @@ impl Dice {
         self.steps.get(place).copied().unwrap_or(0)
     }
 
-    // An edit of any object of the plan, one in seven a withdrawal.
+    // Makes an edit of any object of the plan, one in seven a withdrawal.
     fn edit(&mut self, count: u64) -> Edit {
         let (object, number) = match self.below(6) {
             0 => (Object::Limit(self.below(2)), self.below(10)),
@@ -110,8 +110,8 @@ impl Dice {
     }
 }
 
-// Whether a sheet shows the states that the run from step zero has at some steps, which goes on from each to the next; the
-// sheet by words that are kept.
+// Tells whether a sheet shows the states that the run from step zero has at some steps, which goes on from each to the
+// next; the sheet by words that are kept.
 fn states_agree(alloc: Global, sheet: &Sheet, steps: &[u32]) -> Result<bool, Fail> {
     let mut words = WordCache::of(alloc, sheet.plan());
     let mut last = State::opening(alloc);
@@ -133,7 +133,7 @@ fn states_agree(alloc: Global, sheet: &Sheet, steps: &[u32]) -> Result<bool, Fai
     Ok(true)
 }
 
-// What a detector counts in some steps of the run from step zero.
+// Returns what a detector counts in some steps of the run from step zero.
 fn totals_of_run(
     alloc: Global,
     sheet: &Sheet,
@@ -152,7 +152,7 @@ fn totals_of_run(
     Ok(totals)
 }
 
-// Whether what a detector counts in some steps is what it counts in them in the run from step zero.
+// Tells whether what a detector counts in some steps is what it counts in them in the run from step zero.
 fn totals_agree(
     alloc: Global,
     sheet: &Sheet,
@@ -164,7 +164,8 @@ fn totals_agree(
     Ok(sheet.totals(alloc, detector, from, to)? == counted)
 }
 
-// Whether a sheet agrees with the run from step zero: its states, and what a detector counts from a random step to another.
+// Tells whether a sheet agrees with the run from step zero: its states, and what a detector counts from a random step
+// to another.
 fn sheet_agrees(alloc: Global, sheet: &Sheet, dice: &mut Dice) -> Result<bool, Fail> {
     if !states_agree(alloc, sheet, dice.steps)? {
         return Ok(false);
@@ -174,7 +175,7 @@ fn sheet_agrees(alloc: Global, sheet: &Sheet, dice: &mut Dice) -> Result<bool, F
     totals_agree(alloc, sheet, dice.below(2), from, to)
 }
 
-// A sheet with none, one or two more edits, simulated up to a random step.
+// Makes a sheet with none, one or two more edits, simulated up to a random step.
 fn grown_at_random(
     alloc: Global,
     sheet: &Sheet,
@@ -186,13 +187,13 @@ fn grown_at_random(
     Ok(grow(alloc, sheet, some, dice.step())?.sheet)
 }
 
-// A sheet grows at random. Whether it agrees with the run from step zero then.
+// Lets a sheet grow at random. Tells whether it agrees with the run from step zero then.
 fn goes_on(alloc: Global, sheet: &mut Sheet, dice: &mut Dice, count: u64) -> Result<bool, Fail> {
     *sheet = grown_at_random(alloc, sheet, dice, count)?;
     sheet_agrees(alloc, sheet, dice)
 }
 
-// Whether it agrees each time.
+// Tells whether it agrees each time.
 fn all_agree(alloc: Global, sheet: &mut Sheet, mut dice: Dice) -> Result<bool, Fail> {
     for count in 1..6 {
         if !goes_on(alloc, sheet, &mut dice, count)? {
@@ -202,7 +203,7 @@ fn all_agree(alloc: Global, sheet: &mut Sheet, mut dice: Dice) -> Result<bool, F
     Ok(true)
 }
 
-// The words of a script.
+// Returns the words of a script.
 fn words_of(seed: u64) -> WordKind {
     match seed % 2 {
         0 => WordKind::Steady,
@@ -210,7 +211,7 @@ fn words_of(seed: u64) -> WordKind {
     }
 }
 
-// Whether all sheets of a script agree with the run from step zero.
+// Tells whether all sheets of a script agree with the run from step zero.
 fn script_agrees(alloc: Global, seed: u64) -> Result<bool, Fail> {
     let words = words_of(seed);
     let mut sheet = opening(alloc, &Parts { words, ..MIXED })?;
@@ -226,14 +227,14 @@ fn short_scripts_agree_with_runs_from_zero(rt: HostRuntime) -> Result<(), Fail> 
     Ok(())
 }
 
-// The sheet of the closed road that is opened at the first of the last steps, and simulated up to it.
+// Returns the sheet of the closed road that is opened at the first of the last steps, and simulated up to it.
 fn opened_late(alloc: Global, seed: u64) -> Result<Sheet, Fail> {
     let words = words_of(seed);
     let sheet = opening(alloc, &Parts { words, ..CLOSED })?;
     Ok(grow(alloc, &sheet, OPENED, 1_048_384)?.sheet)
 }
 
-// Whether all sheets of a script about the last steps agree with the run from step zero.
+// Tells whether all sheets of a script about the last steps agree with the run from step zero.
 fn late_script_agrees(alloc: Global, seed: u64) -> Result<bool, Fail> {
     let mut sheet = opened_late(alloc, seed)?;
     let dice = Dice {

@@ -38,13 +38,13 @@ pub(crate) struct Trial {
     pub(crate) calls: u64,
 }
 
-/// The opening sheet of a plan.
+/// Returns the opening sheet of a plan.
 pub(crate) fn opening(alloc: Global, parts: &Parts) -> Result<Sheet, Fail> {
     let plan = plan_of(alloc, parts)?;
     Ok(Sheet::opening(alloc, Arc::new(alloc, plan)?)?)
 }
 
-// The scenario of some edits.
+// Returns the scenario of some edits.
 fn scenario_of(alloc: Global, edits: &[Edit]) -> Result<Scenario, OutOfMemory> {
     let mut scenario = Scenario::empty(alloc);
     for edit in edits {
@@ -53,7 +53,7 @@ fn scenario_of(alloc: Global, edits: &[Edit]) -> Result<Scenario, OutOfMemory> {
     Ok(scenario)
 }
 
-/// The sheet with some edits, simulated up to a step.
+/// Returns the sheet with some edits, simulated up to a step.
 pub(crate) fn grow(alloc: Global, sheet: &Sheet, edits: &[Edit], to: u32) -> Result<Trial, Fail> {
     let scenario = scenario_of(alloc, edits)?;
     if to > 1_048_576 || scenario.fits(sheet.plan()).is_some() {

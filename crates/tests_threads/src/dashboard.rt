@@ -23,7 +23,7 @@ type News<J> = Result<Receipt<J>, WriteFault>;
 /// Where the news lie until they are taken.
 type Letter<J> = Mutex<Option<News<J>>>;
 
-// The engineer simulates up to step 6 and blocks the cell 8 from step 4 on.
+// Lets the engineer simulate up to step 6, and block the cell 8 from step 4 on.
 fn writes<J: Naming, R: Wait + Drop, W: Wait>(
     rt: &W,
     shared: &Shared<J, R>,
@@ -50,7 +50,7 @@ fn works<J: Naming, R: Wait + Drop, W: Wait>(
 /// the dashboards, and they would ask for ever.
 const TURNS: u32 = 1_000_000;
 
-// The news, once they lie there; nothing where they do not come.
+// Returns the news, once they lie there; nothing where they do not come.
 fn news<J: Naming, W: Wait>(rt: &W, letter: &Letter<J>) -> Option<News<J>> {
     for _ in 0..TURNS {
         let taken = letter.lock(rt).take();
@@ -62,19 +62,19 @@ fn news<J: Naming, W: Wait>(rt: &W, letter: &Letter<J>) -> Option<News<J>> {
     None
 }
 
-// The row of a sheet at a step.
+// Returns the row of a sheet at a step.
 fn row(alloc: Global, sheet: &Sheet, step: u32) -> Result<String, SheetFault> {
     let road = sheet.state(alloc, step)?;
     let state = State { step, road };
     Ok(row_of(alloc, sheet.plan(), sheet.scenario(), &state)?)
 }
 
-// Whether a sheet shows the row of step 6 with the block.
+// Tells whether a sheet shows the row of step 6 with the block.
 fn is_blocked_road(alloc: Global, sheet: &Sheet) -> Result<bool, SheetFault> {
     Ok(row(alloc, sheet, 6)?.as_str() == "0..2..10#...")
 }
 
-// The first dashboard waits for the news. From then on it is shown no less. It leaves the row of step 6.
+// Lets the first dashboard wait for the news. From then on it is shown no less. It leaves the row of step 6.
 fn is_told<J: Naming, R: Wait + Drop, W: Wait>(
     rt: &W,
     alloc: Global,
@@ -90,7 +90,7 @@ fn is_told<J: Naming, R: Wait + Drop, W: Wait>(
     Ok(is_blocked_road(alloc, &sheet)?)
 }
 
-// The second one is told nothing. It may be shown less, but never less than before.
+// Lets the second one look, which is told nothing. It may be shown less, but never less than before.
 fn watches<J: Naming, R: Wait + Drop>(
     shared: &Shared<J, R>,
     session: &mut Session<J>,
@@ -105,7 +105,8 @@ fn watches<J: Naming, R: Wait + Drop>(
     Ok(rises)
 }
 
-// The engineer and the dashboards at work, each on a thread of its own. Whether the dashboards saw what they should.
+// Puts the engineer and the dashboards to work, each on a thread of its own. Tells whether the dashboards saw what they
+// should.
 fn all_work<J: Naming + Send + Sync, R: Wait + Drop + Send, W: Threads + Wait + Sync>(
     rt: &W,
     alloc: Global,
@@ -129,7 +130,7 @@ fn all_work<J: Naming + Send + Sync, R: Wait + Drop + Send, W: Threads + Wait + 
     Ok(is_shown? && rises?)
 }
 
-// The same for the three sessions of a store.
+// Does the same for the three sessions of a store.
 fn three_work<J: Naming + Send + Sync, R: Wait + Drop + Send, W: Threads + Wait + Sync>(
     rt: &W,
     alloc: Global,
@@ -148,7 +149,7 @@ fn three_work<J: Naming + Send + Sync, R: Wait + Drop + Send, W: Threads + Wait 
     }
 }
 
-// What is left of a store whose sessions are all given.
+// Returns what is left of a store whose sessions are all given.
 fn left<J: Naming, R: Wait + Drop>(
     shared: Shared<J, R>,
     sessions: Vec<Session<J>>,
@@ -159,7 +160,7 @@ fn left<J: Naming, R: Wait + Drop>(
     }
 }
 
-// A store is opened, worked with and closed. What is left, where the dashboards saw what they should.
+// Opens, works with and closes a store. Returns what is left, where the dashboards saw what they should.
 fn day<J: Naming + Send + Sync, R: Wait + Drop + Send, W: Threads + Wait + Sync>(
     rt: &W,
     alloc: Global,

@@ -20,7 +20,7 @@ type Answer = Result<(u64, Reply), WriteFault>;
 /// How often a thread asks whether the other one has come so far.
 const TURNS: u32 = 1_000_000;
 
-// Whether a flag is set, before a thread has asked so often.
+// Tells whether a flag is set, before a thread has asked so often.
 fn comes(flag: &AtomicBool) -> bool {
     for _ in 0..TURNS {
         if flag.load(Ordering::SeqCst) {
@@ -57,7 +57,7 @@ impl Crew for Waiting<'_> {
     }
 }
 
-// A session advances to 9, by a crew that waits.
+// Lets a session advance to 9, by a crew that waits.
 fn advances<J: Naming, R: Wait + Drop, W: Wait>(
     rt: &W,
     shared: &Shared<J, R>,
@@ -75,7 +75,7 @@ fn advances<J: Naming, R: Wait + Drop, W: Wait>(
     Ok((wrote.place, wrote.reply))
 }
 
-// The horizon that a session is shown once the crew was called.
+// Returns the horizon that a session is shown once the crew was called.
 fn finds<J: Naming, R: Wait + Drop>(
     shared: &Shared<J, R>,
     session: &mut Session<J>,
@@ -90,7 +90,7 @@ fn finds<J: Naming, R: Wait + Drop>(
     Some(sheet.horizon())
 }
 
-// What one session is answered and the other is shown meanwhile.
+// Returns what one session is answered and the other is shown meanwhile.
 fn both<J: Naming + Send + Sync, R: Wait + Drop + Send, W: Threads + Wait + Sync>(
     rt: &W,
     shared: &Shared<J, R>,
@@ -106,7 +106,7 @@ fn both<J: Naming + Send + Sync, R: Wait + Drop + Send, W: Threads + Wait + Sync
     )
 }
 
-// A session advances to 6, as the first entry of the journal.
+// Lets a session advance to 6, as the first entry of the journal.
 fn begins<J: Naming, R: Wait + Drop, W: Wait>(
     rt: &W,
     shared: &Shared<J, R>,
@@ -119,7 +119,7 @@ fn begins<J: Naming, R: Wait + Drop, W: Wait>(
     Ok(())
 }
 
-// The first session begins; then what it is answered, and what the second is shown meanwhile.
+// Lets the first session begin. Returns what it is answered, and what the second is shown meanwhile.
 fn one_after_another<J: Naming + Send + Sync, R: Wait + Drop + Send, W: Threads + Wait + Sync>(
     rt: &W,
     shared: &Shared<J, R>,
@@ -135,7 +135,7 @@ fn one_after_another<J: Naming + Send + Sync, R: Wait + Drop + Send, W: Threads 
     Ok(both(rt, shared, writer, reader))
 }
 
-// Whether a session that was told nothing finds the write that is done, while another one holds the lock.
+// Tells whether a session that was told nothing finds the write that is done, while another one holds the lock.
 fn looks_meanwhile<J: Naming + Send + Sync, R: Wait + Drop + Send, W: Threads + Wait + Sync>(
     rt: &W,
     prepared: Prepared<R>,

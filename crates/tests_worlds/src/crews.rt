@@ -49,7 +49,7 @@ const ANSWERED: [Answer; 4] = [
     Ok(Reply::Horizon(6)),
 ];
 
-// The world of two replicas after the events, by a crew that fails once.
+// Returns the world of two replicas after the events, by a crew that fails once.
 fn played(alloc: Global, crew: &mut Failing) -> Result<Played, Fail> {
     let plan = Arc::new(alloc, plan_of(alloc, &FREE)?)?;
     Ok(play(alloc, plan, 2, &EVENTS, crew, &mut Meter::new())?)

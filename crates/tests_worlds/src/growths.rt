@@ -52,7 +52,7 @@ const EXCHANGED: [Answer; 9] = [
     Ok(Reply::Touched(Some(4))),
 ];
 
-// What a world answers the events where one of them does not happen: that one is given out of memory.
+// Returns what a world answers the events where one of them does not happen: that one is given out of memory.
 fn replies_of(alloc: Global, world: &mut World, left_out: usize) -> Result<Vec<Answer>, Fail> {
     let mut replies = Vec::new(alloc);
     for (place, event) in EXCHANGE.iter().enumerate() {
@@ -66,14 +66,14 @@ fn replies_of(alloc: Global, world: &mut World, left_out: usize) -> Result<Vec<A
     Ok(replies)
 }
 
-// What a new world does.
+// Returns what a new world does.
 fn replies_without(alloc: Global, left_out: usize) -> Result<Vec<Answer>, Fail> {
     let plan = Arc::new(alloc, plan_of(alloc, &FREE)?)?;
     let mut world = World::open(alloc, plan, 3)?;
     replies_of(alloc, &mut world, left_out)
 }
 
-// That the others are answered as if an event that found no memory had not been.
+// Checks that the others are answered as if an event that found no memory had not been.
 fn others_are_answered(rt: &impl Abort, alloc: Global, played: &Played) -> Result<(), Fail> {
     match played.replies.iter().position(|reply| *reply == WANT) {
         None => answers(rt, played, &EXCHANGED),

@@ -351,7 +351,7 @@ const HEADS: &[Head] = &[
     },
 ];
 
-// That a message of a world asks with these heads.
+// Checks that a message of a world asks with these heads.
 fn asks(rt: &impl Abort, world: &World, number: u64, heads: &[Head]) {
     let Some(Message::Asked(asked)) = world.message(number) else {
         panic!(rt; "no heads");

@@ -58,7 +58,7 @@ fn apart(alloc: Global) -> Result<Vec<Event>, Fail> {
     Ok(events)
 }
 
-// A replica takes messages in an order.
+// Lets a replica take messages in an order.
 fn take(events: &mut Vec<Event>, at: u32, order: &[u64]) -> Result<(), Fail> {
     for message in order {
         let message = *message;
@@ -67,7 +67,7 @@ fn take(events: &mut Vec<Event>, at: u32, order: &[u64]) -> Result<(), Fail> {
     Ok(())
 }
 
-// The events of three replicas that take the messages in these orders.
+// Returns the events of three replicas that take the messages in these orders.
 fn exchanged(alloc: Global, first: usize) -> Result<Vec<Event>, Fail> {
     let mut events = apart(alloc)?;
     for at in 0..3 {
@@ -77,7 +77,7 @@ fn exchanged(alloc: Global, first: usize) -> Result<Vec<Event>, Fail> {
     Ok(events)
 }
 
-// That all replicas of a world hold the same edits and show the same rows.
+// Checks that all replicas of a world hold the same edits and show the same rows.
 fn agree(rt: &impl Abort, alloc: Global, world: &World) -> Result<(), Fail> {
     for number in 0..3 {
         holds(rt, alloc, world, number, AGREED)?;

@@ -46,7 +46,7 @@ const ANSWERED: [Answer; 8] = [
     Ok(Reply::Touched(None)),
 ];
 
-// The world of two replicas after the events.
+// Returns the world of two replicas after the events.
 fn played(alloc: Global, meter: &mut Meter) -> Result<Played, Fail> {
     let plan = Arc::new(alloc, plan_of(alloc, &FREE)?)?;
     Ok(play(alloc, plan, 2, &EVENTS, &mut Alone, meter)?)

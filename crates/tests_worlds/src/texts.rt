@@ -58,7 +58,7 @@ const TEXTS: &[(WorldFault, &str)] = &[
     (WorldFault::Replica(ReplicaFault::OutOfMemory), "no memory"),
 ];
 
-// The text of a world's error.
+// Returns the text of a world's error.
 fn text_of(alloc: Global, fault: WorldFault) -> Result<String, OutOfMemory> {
     format!(in alloc; "{fault}")
 }

@@ -57,18 +57,18 @@ pub(crate) const C1: Stamp = Stamp {
     number: 2,
 };
 
-/// The world of three replicas of the free road after some events.
+/// Returns the world of three replicas of the free road after some events.
 pub(crate) fn played(alloc: Global, events: &[Event]) -> Result<Played, Fail> {
     let plan = Arc::new(alloc, plan_of(alloc, &FREE)?)?;
     Ok(play(alloc, plan, 3, events, &mut Alone, &mut Meter::new())?)
 }
 
-/// That some events are answered so.
+/// Checks that some events are answered so.
 pub(crate) fn answers(rt: &impl Abort, played: &Played, expected: &[Answer]) {
     assert!(rt; played.replies.as_slice() == expected);
 }
 
-/// That a replica of a world shows these rows at these steps.
+/// Checks that a replica of a world shows these rows at these steps.
 pub(crate) fn shows(
     rt: &impl Abort,
     alloc: Global,
@@ -83,7 +83,7 @@ pub(crate) fn shows(
     Ok(())
 }
 
-/// That the edits that won at a replica of a world are these.
+/// Checks that the edits that won at a replica of a world are these.
 pub(crate) fn holds(
     rt: &impl Abort,
     alloc: Global,
@@ -101,7 +101,7 @@ pub(crate) fn holds(
 /// Steps, and the rows that a replica shows there.
 pub(crate) type Rows<'a> = &'a [(u32, &'a str)];
 
-/// That replicas of a world show these rows.
+/// Checks that replicas of a world show these rows.
 pub(crate) fn all_show(
     rt: &impl Abort,
     alloc: Global,
@@ -114,7 +114,7 @@ pub(crate) fn all_show(
     Ok(())
 }
 
-/// That the edits that won at replicas of a world are these.
+/// Checks that the edits that won at replicas of a world are these.
 pub(crate) fn all_hold(
     rt: &impl Abort,
     alloc: Global,

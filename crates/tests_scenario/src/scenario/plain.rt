@@ -15,7 +15,7 @@ const OBJECTS: &[Object] = &[LIMIT, SLOW, BLOCK, START];
 /// The greatest step that is looked at.
 const LAST: u32 = 6;
 
-// Whether another edit of the same object and step exceeds an edit in stamp and value.
+// Tells whether another edit of the same object and step exceeds an edit in stamp and value.
 fn exceeds(edit: &Edit, other: &Edit) -> bool {
     edit.object == other.object
         && edit.step == other.step
@@ -33,7 +33,7 @@ fn number(value: Value) -> Option<u32> {
     }
 }
 
-// The number that the winner of an object and step puts, if there is one.
+// Returns the number that the winner of an object and step puts, if there is one.
 fn put_at(edits: &[Edit], object: Object, step: u32) -> Option<u32> {
     for edit in edits {
         if edit.object == object && edit.step == step && is_winner(edits, edit) {
@@ -43,7 +43,7 @@ fn put_at(edits: &[Edit], object: Object, step: u32) -> Option<u32> {
     None
 }
 
-// The number put at the latest step up to this one at which one is put.
+// Returns the number put at the latest step up to this one at which one is put.
 fn put_up_to(edits: &[Edit], object: Object, step: u32) -> Option<u32> {
     for earlier in (0..=step).rev() {
         if let Some(number) = put_at(edits, object, earlier) {
@@ -53,7 +53,7 @@ fn put_up_to(edits: &[Edit], object: Object, step: u32) -> Option<u32> {
     None
 }
 
-// That number, else the default; of standing cars the slowing chance of the zone.
+// Returns that number, else the default; of standing cars the slowing chance of the zone.
 fn setting(plan: &Plan, edits: &[Edit], object: Object, step: u32) -> u32 {
     let own = match object {
         Object::Start(zone) => Object::Slow(zone),
@@ -70,7 +70,7 @@ fn setting(plan: &Plan, edits: &[Edit], object: Object, step: u32) -> u32 {
     }
 }
 
-// The least step of an object and step whose numbers put differ.
+// Returns the least step of an object and step whose numbers put differ.
 fn touched(edits: &[Edit], others: &[Edit]) -> Option<u32> {
     for step in 0..=LAST {
         for object in OBJECTS {
@@ -96,7 +96,7 @@ fn compare(rt: &impl Abort, plan: &Plan, row: usize, edits: &[Edit], made: &Scen
     }
 }
 
-// The settings of the edits of a row, as they are once they came, and which step they touch.
+// Returns the settings of the edits of a row, as they are once they came, and which step they touch.
 fn looks_at(
     rt: &impl Abort,
     alloc: Global,
@@ -110,7 +110,7 @@ fn looks_at(
     Ok(())
 }
 
-// The edits of a row come to those that were held.
+// Checks that the edits of a row come to those that were held.
 fn comes(
     rt: &impl Abort,
     alloc: Global,
