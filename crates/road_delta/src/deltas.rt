@@ -1,6 +1,7 @@
 //! The edits of a scenario that are beyond heads, so new to whoever sent these.
 
-ghost use Rattle.std.specs.Prelude.{◌≡◌, IfOk};
+ghost use Rattle.std.specs.Prelude.{◌≡◌, IfOk, IsOk};
+ghost use Rattle.lattice_core.specs.Sets.{empty};
 ghost use Rattle.road_plan.specs.Plan.{Plan};
 ghost use Rattle.road_scenario.specs.Faults.{AreInRange};
 ghost use Rattle.road_delta.specs.Deltas.{AreRisingHeads, beyond, is_beyond};
@@ -16,10 +17,11 @@ use std::alloc::Global;
 ///
 /// # Errors
 ///
-/// `OutOfMemory` where an allocation failed.
+/// `OutOfMemory` where an allocation failed; of a scenario without edits nothing grows.
 pub fn beyond(alloc: Global, scenario: &Scenario, heads: &Heads) -> Result<Scenario, OutOfMemory>
     ensures delta { IfOk result (λ delta. delta ≡ beyond scenario.now heads.now) }
     ensures fits { (plan : Plan) → AreInRange plan scenario.now → IfOk result (λ delta. AreInRange plan delta) }
+    ensures grows_nothing { scenario.now ≡ empty → IsOk result }
 {
     let mut edits = scenario.edits(alloc)?;
     edits.retain(|edit| is_beyond(heads.list(), edit));

@@ -1,6 +1,7 @@
 //! The heads of a scenario: of each edit that it holds the object, the step and the stamp.
 
-ghost use Rattle.std.specs.Prelude.{◌≡◌, IfOk};
+ghost use Rattle.std.specs.Prelude.{◌≡◌, [], map, IfOk, IsOk};
+ghost use Rattle.lattice_core.specs.Sets.{empty};
 ghost use Rattle.road_delta.specs.Deltas.{AreRisingHeads, head_of, heads};
 
 use road_plan::{Object, OutOfMemory};
@@ -51,16 +52,26 @@ impl Heads {
 ///
 /// # Errors
 ///
-/// `OutOfMemory` where an allocation failed.
+/// `OutOfMemory` where an allocation failed; without edits nothing grows.
 pub fn heads_of(alloc: Global, scenario: &Scenario) -> Result<Heads, OutOfMemory>
-    ensures { IfOk result (λ made. made ≡ heads scenario.now) }
+    ensures heads { IfOk result (λ made. made ≡ heads scenario.now) }
+    ensures grows_nothing { scenario.now ≡ empty → IsOk result }
 {
     let edits = scenario.edits(alloc)?;
+    let list = heads_in(alloc, &edits)?;
+    Ok(Heads { list })
+}
+
+// Lists the heads of edits, in their order.
+fn heads_in(alloc: Global, edits: &[Edit]) -> Result<Vec<Head>, OutOfMemory>
+    ensures heads { IfOk result (λ list. list.items ≡ map head_of edits.now) }
+    ensures grows_nothing { edits.now ≡ [] → IsOk result }
+{
     let mut list = Vec::with_capacity(alloc, edits.len())?;
-    for edit in &edits {
+    for edit in edits {
         list.push(head_of(*edit))?;
     }
-    Ok(Heads { list })
+    Ok(list)
 }
 
 fn head_of(edit: Edit) -> Head

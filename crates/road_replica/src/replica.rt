@@ -4,7 +4,7 @@ ghost use Rattle.std.specs.Prelude.{◌≡◌, ◌<◌, ◌≤◌, ◌-◌, max,
 ghost use Rattle.std.specs.Prelude.{None, OnErr, OnOk, map, string_bytes, true};
 ghost use Rattle.std.specs.Arc.{arc_value};
 ghost use Rattle.std.specs.declared.cmp.Ordering.TheVariants.{Less};
-ghost use Rattle.lattice_core.specs.Sets.{contains, from_list};
+ghost use Rattle.lattice_core.specs.Sets.{contains, empty, from_list};
 ghost use Rattle.road_plan.specs.declared.limits.TheConstants.{GREATEST_HORIZON, MOST_REPLICAS};
 ghost use Rattle.road_scenario.specs.declared.edit.Edit as edit;
 ghost use Rattle.road_scenario.specs.declared.edit.Value.TheVariants.{Put, Withdrawn};
@@ -376,9 +376,10 @@ impl Replica {
     ///
     /// # Errors
     ///
-    /// `OutOfMemory` where an allocation failed.
+    /// `OutOfMemory` where an allocation failed; without edits nothing grows.
     pub fn message(&self) -> Result<Scenario, ReplicaFault>
         ensures message { IfOk result (λ message. message ≡ self.now.sheet.edits) }
+        ensures grows_nothing { self.now.sheet.edits ≡ empty → IsOk result }
         ensures refused { IfErr result (IsRefusal None) }
     {
         Ok(self.sheet.scenario().copied()?)
@@ -388,9 +389,10 @@ impl Replica {
     ///
     /// # Errors
     ///
-    /// `OutOfMemory` where an allocation failed.
+    /// `OutOfMemory` where an allocation failed; without edits nothing grows.
     pub fn heads(&self, alloc: Global) -> Result<Heads, ReplicaFault>
         ensures heads { IfOk result (λ heads. heads ≡ deltas.heads self.now.sheet.edits) }
+        ensures grows_nothing { self.now.sheet.edits ≡ empty → IsOk result }
         ensures refused { IfErr result (IsRefusal None) }
     {
         Ok(heads_of(alloc, self.sheet.scenario())?)
@@ -400,9 +402,10 @@ impl Replica {
     ///
     /// # Errors
     ///
-    /// `OutOfMemory` where an allocation failed.
+    /// `OutOfMemory` where an allocation failed; without edits nothing grows.
     pub fn beyond(&self, alloc: Global, heads: &Heads) -> Result<Scenario, ReplicaFault>
         ensures delta { IfOk result (λ delta. delta ≡ deltas.beyond self.now.sheet.edits heads.now) }
+        ensures grows_nothing { self.now.sheet.edits ≡ empty → IsOk result }
         ensures refused { IfErr result (IsRefusal None) }
     {
         Ok(beyond(alloc, self.sheet.scenario(), heads)?)

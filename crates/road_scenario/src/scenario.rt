@@ -130,9 +130,10 @@ impl Scenario {
     ///
     /// # Errors
     ///
-    /// `OutOfMemory` where an allocation failed.
+    /// `OutOfMemory` where an allocation failed; without edits nothing grows.
     pub fn copied(&self) -> Result<Self, OutOfMemory>
-        ensures { IfOk result (λ copy. copy ≡ self.now) }
+        ensures copy { IfOk result (λ copy. copy ≡ self.now) }
+        ensures grows_nothing { self.now ≡ sets.empty → IsOk result }
     {
         Ok(Scenario {
             registers: self.registers.copied()?,
