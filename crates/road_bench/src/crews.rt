@@ -69,7 +69,7 @@ fn time_threads<R: Threads + Wait + Clock + Print>(
     time(rt, alloc, plan, steps, "scoped", workers, &mut crew)
 }
 
-// By lasting workers; their start and end are not timed.
+// By lasting workers, who are asked at each step behind a gate; their start and end are not timed.
 fn time_pool<R: Threads + Wait + Clock + Print + Clone + Drop + Send + 'static>(
     rt: &R,
     alloc: Global,
@@ -80,7 +80,8 @@ fn time_pool<R: Threads + Wait + Clock + Print + Clone + Drop + Send + 'static>(
     requires some { 0 < workers }
     requires few { workers ≤ 16 }
 {
-    let mut crew = Pool::start(rt.clone()?, alloc, workers)?;
+    let gate = Arc::new(alloc, NoGate)?;
+    let mut crew = Pool::start_gated(rt.clone()?, alloc, workers, gate)?;
     let timed = time(rt, alloc, plan, steps, "pool", workers, &mut crew);
     crew.finish();
     timed

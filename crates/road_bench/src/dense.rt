@@ -74,7 +74,8 @@ fn gives_by_pool<R: Threads + Wait + Clone + Drop + Send + 'static>(
     requires some { 0 < workers }
     requires few { workers ≤ 16 }
 {
-    let mut crew = Pool::start(rt.clone()?, alloc, workers)?;
+    let gate = Arc::new(alloc, NoGate)?;
+    let mut crew = Pool::start_gated(rt.clone()?, alloc, workers, gate)?;
     let is_good = gives(alloc, plan, &mut crew);
     crew.finish();
     is_good

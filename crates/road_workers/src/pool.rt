@@ -14,13 +14,14 @@ mod job;
 mod spin;
 mod working;
 
+use crate::alone::Alone;
 use crate::crew::{Crew, gone_after};
 use crate::faults::CrewFault;
 use crate::gate::{Gate, NoGate};
 use crate::piece::{Piece, PieceAnswer, cars_in, list_for};
 use crate::pool::gathering::{is_taken, places_for, put_together};
 use crate::pool::job::{Done, Job};
-use crate::pool::spin::{looks_for, spin_for_message};
+use crate::pool::spin::Lookout;
 use crate::pool::working::work;
 use crossbeam_channel::{Receiver, SendError, Sender, bounded};
 use road_ends::{OutOfMemory, StepInput};
@@ -30,6 +31,11 @@ use std::sync::{Arc, Wait};
 use std::thread;
 use std::thread::{JoinHandle, Threads};
 
+// The fewest cars of a step for each worker of a pool without a gate of its own; a step with fewer is the caller's. By
+// `bench/time-crews` it takes 13 microseconds to hand a dense step to a worker that does not sleep, and the caller
+// computes the speeds of its 6,450 cars in 3: so a worker is asked for half of the longest road at the least.
+const LEAST_CARS: usize = 4_000;
+
 // A worker: the end of its channel of jobs, which has room for one, and its thread.
 #[derive(Drop)]
 struct Worker {
@@ -37,16 +43,20 @@ struct Worker {
     thread: JoinHandle<()>,
 }
 
-/// The crew whose workers are threads that live as long as the crew. Each call waits for them. Where a worker has gone,
-/// every later call answers `WorkersGone`. Contracts see it as how many workers it has, and its count of these answers.
+/// The crew whose workers are threads that live as long as the crew. A call waits for them where it asks them: always
+/// behind a gate, else where each has cars enough to be worth it; the caller computes other steps by itself. After the
+/// first answer `WorkersGone` every call answers so. Contracts see it as how many workers it has, and its count of these
+/// answers.
 #[derive(Drop)]
 pub struct Pool<R> {
     rt: R,
     workers: Vec<Worker>,
     // It has room for a result of each worker.
     results: Receiver<Done>,
-    // How often a thread of the crew looks for a message before it sleeps.
-    looks: u32,
+    // The fewest cars of a step for which workers are asked.
+    least_cars: usize,
+    // How the caller looks for a result before it sleeps.
+    lookout: Lookout,
     // How often it has answered `WorkersGone`. After the first time no worker is asked.
     gone: u64,
 }
@@ -75,7 +85,8 @@ impl<R: Threads + Wait + Clone + Drop + Send + 'static> Pool<R> {
         ensures workers { IfOk result (λ pool. pool.workers ≡ workers) }
         ensures gone { IfOk result (λ pool. ⟦<Pool<R> as Crew>⟧.times_gone pool ≡ 0) }
     {
-        Pool::start_gated(rt, alloc, workers, no_gate(alloc)?)
+        let least_cars = least_cars_for(workers);
+        Pool::started(rt, alloc, workers, least_cars, no_gate(alloc)?)
     }
 
     /// Starts a crew of 1 to 16 workers, as [`Pool::start`], each of which passes the gate before it computes a piece.
@@ -94,10 +105,26 @@ impl<R: Threads + Wait + Clone + Drop + Send + 'static> Pool<R> {
         ensures workers { IfOk result (λ pool. pool.workers ≡ workers) }
         ensures gone { IfOk result (λ pool. ⟦<Pool<R> as Crew>⟧.times_gone pool ≡ 0) }
     {
+        Pool::started(rt, alloc, workers, 0, gate)
+    }
+
+    // Starts a crew of so many workers, which are asked where a step has so many cars.
+    fn started<G: Gate + Drop + Send + Sync + 'static>(
+        rt: R,
+        alloc: Global,
+        workers: u32,
+        least_cars: usize,
+        gate: Arc<G>,
+    ) -> Result<Pool<R>, CrewFault>
+        requires some { 0 < workers }
+        requires few { workers ≤ MOST_WORKERS }
+        ensures workers { IfOk result (λ pool. pool.workers ≡ workers) }
+        ensures gone { IfOk result (λ pool. ⟦<Pool<R> as Crew>⟧.times_gone pool ≡ 0) }
+    {
         let mut started = Vec::with_capacity(alloc, workers as usize)?;
         let (done, results) = bounded(alloc, workers as usize)?;
-        let looks = looks_for(&rt, workers);
-        let fault = start_workers(&rt, alloc, workers, looks, &gate, &done, &mut started);
+        let lookout = Lookout::of(&rt, workers);
+        let fault = start_workers(&rt, alloc, workers, lookout, &gate, &done, &mut started);
         drop(done);
         if started.len() < workers as usize {
             finish_workers(&rt, started);
@@ -107,20 +134,15 @@ impl<R: Threads + Wait + Clone + Drop + Send + 'static> Pool<R> {
             rt,
             workers: started,
             results,
-            looks,
+            least_cars,
+            lookout,
             gone: 0,
         })
     }
 
     /// Ends the workers and waits until they have ended.
     pub fn finish(self) {
-        let Pool {
-            rt,
-            workers,
-            results: _,
-            looks: _,
-            gone: _,
-        } = self;
+        let Pool { rt, workers, .. } = self;
         finish_workers(&rt, workers);
     }
 }
@@ -137,6 +159,8 @@ impl<R: Wait> Crew for Pool<R> {
     {
         let answer = if self.gone > 0 {
             Err(CrewFault::WorkersGone)
+        } else if cars_in(input) < self.least_cars {
+            Alone.speeds(alloc, input)
         } else {
             speeds_by(
                 &self.rt,
@@ -144,12 +168,23 @@ impl<R: Wait> Crew for Pool<R> {
                 input,
                 self.workers.as_slice(),
                 &self.results,
-                self.looks,
+                &mut self.lookout,
             )
         };
         self.gone = gone_after(&answer, self.gone);
         answer
     }
+}
+
+// Returns the fewest cars of a step for which so many workers without a gate are asked. One alone never is, for the
+// caller would wait as long as it computes.
+fn least_cars_for(workers: u32) -> usize
+    requires few { workers ≤ MOST_WORKERS }
+{
+    if workers == 1 {
+        return usize::MAX;
+    }
+    workers as usize * LEAST_CARS
 }
 
 // Makes the gate that does nothing, for all workers.
@@ -165,7 +200,7 @@ fn start_workers<
     rt: &R,
     alloc: Global,
     workers: u32,
-    looks: u32,
+    lookout: Lookout,
     gate: &Arc<G>,
     results: &Sender<Done>,
     started: &mut Vec<Worker>,
@@ -174,7 +209,7 @@ fn start_workers<
     ensures { vec_len started.new ≤ workers }
 {
     for worker in 0..workers {
-        match start_worker(rt, alloc, worker, looks, gate, results) {
+        match start_worker(rt, alloc, worker, lookout, gate, results) {
             Ok(new) => {
                 if started.push(new).is_err() {
                     return CrewFault::OutOfMemory;
@@ -186,7 +221,7 @@ fn start_workers<
     CrewFault::WorkersGone
 }
 
-// Starts a worker, which looks so often for a job before it sleeps.
+// Starts a worker, which looks for a job before it sleeps.
 fn start_worker<
     R: Threads + Wait + Clone + Drop + Send + 'static,
     G: Gate + Drop + Send + Sync + 'static,
@@ -194,7 +229,7 @@ fn start_worker<
     rt: &R,
     alloc: Global,
     worker: u32,
-    looks: u32,
+    lookout: Lookout,
     gate: &Arc<G>,
     results: &Sender<Done>,
 ) -> Result<Worker, CrewFault> {
@@ -204,7 +239,7 @@ fn start_worker<
     let their_rt = rt.clone()?;
     let started = thread::spawn(
         rt,
-        move || work(&their_rt, alloc, worker, looks, &*gate, &theirs, &results),
+        move || work(&their_rt, alloc, worker, lookout, &*gate, &theirs, &results),
     );
     match started {
         Ok(thread) => Ok(Worker { jobs, thread }),
@@ -228,7 +263,7 @@ fn speeds_by<R: Wait>(
     input: &Arc<StepInput>,
     workers: &[Worker],
     results: &Receiver<Done>,
-    looks: u32,
+    lookout: &mut Lookout,
 ) -> Result<Vec<u8>, CrewFault>
     requires some { 0 < length workers.now }
     requires few { length workers.now ≤ MOST_WORKERS }
@@ -240,7 +275,7 @@ fn speeds_by<R: Wait>(
     let mut places = places_for(alloc, count, input)?;
     let (jobs, sent) = send_jobs(rt, input, workers, cars);
     for _ in 0..jobs {
-        take_result(rt, results, looks, &mut places, input, cars)?;
+        take_result(rt, results, lookout, &mut places, input, cars)?;
     }
     sent?;
     put_together(whole, places, input)
@@ -288,7 +323,7 @@ fn send_job<R: Wait>(
 fn take_result<R: Wait>(
     rt: &R,
     results: &Receiver<Done>,
-    looks: u32,
+    lookout: &mut Lookout,
     places: &mut Vec<Option<PieceAnswer>>,
     input: &StepInput,
     cars: usize,
@@ -301,7 +336,7 @@ fn take_result<R: Wait>(
     ensures gathered { AreGathered input.now places.new.items }
 {
     for _ in rt.forever() {
-        spin_for_message(results, looks);
+        lookout.spin_for_message(results);
         let Ok(done) = results.recv(rt) else {
             return Err(CrewFault::WorkersGone);
         };

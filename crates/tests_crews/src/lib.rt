@@ -14,4 +14,6 @@ mod rows;
 #[cfg(test)]
 mod sameness;
 #[cfg(test)]
+mod sizes;
+#[cfg(test)]
 mod workers;

@@ -51,7 +51,7 @@ fn threads_made_for_a_call_go_on(rt: HostRuntime) -> Result<(), Fail> {
 #[test]
 fn lasting_workers_go_on(rt: HostRuntime) -> Result<(), Fail> {
     let alloc = rt.alloc();
-    let mut crew = Pool::start(rt.clone()?, alloc, 3)?;
+    let mut crew = Pool::start_gated(rt.clone()?, alloc, 3, Arc::new(alloc, NoGate)?)?;
     let goes_on = goes_on(alloc, &mut crew);
     crew.finish();
     assert!(rt; goes_on?);

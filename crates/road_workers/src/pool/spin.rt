@@ -6,24 +6,58 @@ use std::thread::{Threads, available_parallelism};
 
 // How often a thread looks for a message before it sleeps. A look takes some 20 ns. What the caller does between two
 // jobs, which is most of a step, has to fit in: on a road of 8,192 cells it takes 40 to 90 microseconds.
-const LOOKS: u32 = 20_000;
+const LOOKS: u32 = 5_000;
 
-// Returns how often each thread of a crew of so many workers looks for a message before it sleeps: not at all where the
-// workers and their caller have no processor each, for a spinning thread would keep another one from its work.
-pub(crate) fn looks_for<R: Threads>(rt: &R, workers: u32) -> u32 {
-    match available_parallelism(rt) {
-        Ok(processors) if processors.get() > workers as usize => LOOKS,
-        _ => 0,
-    }
+// In how many waits at most a thread sleeps at once after it has looked in vain.
+const MOST_PAUSE: u32 = 63;
+
+// How a thread of a crew looks for messages before it sleeps. Where it has looked in vain it sleeps at once in the next
+// wait, and where it has done so again in the next 3, and so on, until a message comes while it looks. So it sleeps
+// beside busy processes, where messages come late.
+#[derive(Clone, Copy)]
+pub(crate) struct Lookout {
+    // How often it looks in a wait.
+    looks: u32,
+    // In how many waits it was to sleep at once after it had last looked in vain; in none where a message came since.
+    pause: u32,
+    // In how many of them it still is.
+    left: u32,
 }
 
-// Spins until a message is there, for so many looks at most. To be woken may take a sleeping thread as long as the
-// speeds of a road of 8,192 cells take. It does not yield the processor.
-pub(crate) fn spin_for_message<T: Drop>(messages: &Receiver<T>, looks: u32) {
-    for _ in 0..looks {
-        if !messages.is_empty() {
+impl Lookout {
+    // Returns how each thread of a crew of so many workers looks: not at all where the workers and their caller have no
+    // processor each, for a spinning thread would keep another one from its work.
+    pub fn of<R: Threads>(rt: &R, workers: u32) -> Lookout {
+        let looks = match available_parallelism(rt) {
+            Ok(processors) if processors.get() > workers as usize => LOOKS,
+            _ => 0,
+        };
+        Lookout {
+            looks,
+            pause: 0,
+            left: 0,
+        }
+    }
+
+    // Spins until a message is there, or it has looked in vain. To be woken may take a sleeping thread as long as the
+    // speeds of a road of 8,192 cells take. It does not yield the processor.
+    pub fn spin_for_message<T: Drop>(&mut self, messages: &Receiver<T>) {
+        if self.left > 0 {
+            self.left -= 1;
             return;
         }
-        spin_loop();
+        for _ in 0..self.looks {
+            if !messages.is_empty() {
+                self.pause = 0;
+                return;
+            }
+            spin_loop();
+        }
+        self.pause = self
+            .pause
+            .saturating_mul(2)
+            .saturating_add(1)
+            .min(MOST_PAUSE);
+        self.left = self.pause;
     }
 }

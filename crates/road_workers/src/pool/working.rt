@@ -2,24 +2,25 @@
 
 use crate::gate::Gate;
 use crate::pool::job::{Done, Job};
-use crate::pool::spin::spin_for_message;
+use crate::pool::spin::Lookout;
 use crossbeam_channel::{Receiver, SendError, Sender};
 use std::alloc::Global;
 use std::sync::{Arc, Wait};
 
-// Does a worker's jobs until its channel of jobs is closed, or nobody takes results. It looks so often for a job before
-// it sleeps.
+// Does a worker's jobs until its channel of jobs is closed, or nobody takes results. It looks for a job
+// before it sleeps.
 pub(crate) fn work<R: Wait, G: Gate>(
     rt: &R,
     alloc: Global,
     worker: u32,
-    looks: u32,
+    lookout: Lookout,
     gate: &G,
     jobs: &Receiver<Job>,
     results: &Sender<Done>,
 ) {
+    let mut lookout = lookout;
     for _ in rt.forever() {
-        spin_for_message(jobs, looks);
+        lookout.spin_for_message(jobs);
         let Ok(job) = jobs.recv(rt) else {
             return;
         };

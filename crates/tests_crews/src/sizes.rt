@@ -1,0 +1,84 @@
+//! Lasting workers without a gate, on roads with few cars, which the caller computes, and with many, which they do.
+
+ghost use Rattle.std.specs.Prelude.{◌<◌, ◌≤◌};
+
+use crate::rows::{input_of, shared_plan};
+use road_cells::{Car, Road};
+use road_ends::{OutOfMemory, StepInput};
+use road_workers::{Alone, Crew, Pool};
+use std::alloc::Global;
+use std::process::Abort;
+use std::sync::{Arc, Wait};
+use std::test::Fail;
+use std::thread::Threads;
+use tests_plans::{FREE, Parts};
+
+/// The longest road, where nobody enters and no car is slowed.
+const LONG: Parts = Parts {
+    road: (8_192, 1, 8_192),
+    inlets: &[(0, 0)],
+    detectors: &[],
+    ..FREE
+};
+
+// Makes a road whose first cells are taken by standing cars, but for each 64th.
+fn queue(alloc: Global, cells: u32) -> Result<Road, OutOfMemory> {
+    let mut cars = Vec::new(alloc);
+    for cell in 0..cells {
+        if cell % 64 != 63 {
+            cars.push(Car {
+                number: u64::from(cell),
+                cell,
+                speed: 0,
+            })?;
+        }
+    }
+    Ok(Road::of(cars))
+}
+
+/// How many cells are taken so, with 63, 7,938 and 8,064 cars: of two workers only on the last road each has enough.
+const CELLS: &[u32] = &[64, 8_064, 8_192];
+
+// Makes the input of a step of such a queue.
+fn input_of_queue(alloc: Global, cells: u32) -> Result<Arc<StepInput>, Fail> {
+    let plan = shared_plan(alloc, &LONG)?;
+    input_of(alloc, &plan, None, 0, &queue(alloc, cells)?)
+}
+
+// Answers whether a crew gives the speeds of the crew of one.
+fn gives_as_one<C: Crew>(alloc: Global, crew: &mut C, cells: u32) -> Result<bool, Fail> {
+    let input = input_of_queue(alloc, cells)?;
+    let wanted = Alone.speeds(alloc, &input)?;
+    let speeds = crew.speeds(alloc, &input)?;
+    Ok(speeds.as_slice() == wanted.as_slice())
+}
+
+// Answers whether it does on all these roads, and on them in reverse.
+fn gives_on_all<C: Crew>(rt: &impl Abort, alloc: Global, crew: &mut C) -> Result<(), Fail> {
+    for cells in CELLS.iter().chain(CELLS.iter().rev()) {
+        assert!(rt; gives_as_one(alloc, crew, *cells)?, "{cells} cells");
+    }
+    Ok(())
+}
+
+// Compares them by so many lasting workers.
+fn pool_gives<R: Threads + Wait + Abort + Clone + Drop + Send + 'static>(
+    rt: &R,
+    alloc: Global,
+    workers: u32,
+) -> Result<(), Fail>
+    requires some { 0 < workers }
+    requires few { workers ≤ 16 }
+{
+    let mut crew = Pool::start(rt.clone()?, alloc, workers)?;
+    let given = gives_on_all(rt, alloc, &mut crew);
+    crew.finish();
+    given
+}
+
+#[test]
+fn lasting_workers_give_the_same_on_few_cars_and_on_many(rt: HostRuntime) -> Result<(), Fail> {
+    pool_gives(&rt, rt.alloc(), 1)?;
+    pool_gives(&rt, rt.alloc(), 2)?;
+    pool_gives(&rt, rt.alloc(), 16)
+}
