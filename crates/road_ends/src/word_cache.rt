@@ -1,9 +1,9 @@
 //! The cache of a run's words, drawn for 64 steps at once.
 
-ghost use Rattle.std.specs.Prelude.{◌≡◌, ℕ, [], ◌-◌, ◌<◌, ◌≤◌, ◌/◌, ◌%◌, length, slice_index, IsTrue, IfOk, IfSome};
+ghost use Rattle.std.specs.Prelude.{◌≡◌, ℕ, [], ◌-◌, ◌<◌, ◌≤◌, ◌+◌, ◌/◌, ◌%◌, length, slice_index, IsTrue, IfOk, IfSome};
 ghost use Rattle.road_words.specs.Words.{word};
 ghost use Rattle.road_ends.specs.Entries.{inlet_stream};
-ghost use Rattle.road_ends.specs.Private.StepColumns.{AreHigh16s, IsHigh16, IsHeldUp};
+ghost use Rattle.road_ends.specs.Private.StepColumns.{AreHigh16s, IsHigh16, IsHeldUp, IsListed};
 
 use crate::OutOfMemory;
 use crate::columns::Columns;
@@ -20,6 +20,9 @@ use std::sync::Arc;
 // The stream of the first inlet's words; the others follow it.
 const FIRST_INLET_STREAM: u64 = 1 << 63;
 
+// A road is dense where there is a car to fewer cells than these: then those that can move are listed first.
+const CELLS_OF_A_CAR: usize = 4;
+
 /// Caches the words of a plan's cars and inlets, drawn for 64 steps at once: for each car that can move, and for each
 /// inlet that is open, the upper 16 bits of its words. Contracts see where the words come from: they are those of the
 /// plan whatever is cached.
@@ -31,6 +34,8 @@ pub struct WordCache {
     batches: WordBatches,
     // For each car of the last step, in order, the slot of its batch.
     slots: Vec<u32>,
+    // For the places of the cars that can move, on a dense road.
+    free: Vec<usize>,
     inlets: [u32; MOST_INLETS],
     // The memory of roads that are no longer needed: of the last one, and of the one before it.
     spare: Vec<Car>,
@@ -55,6 +60,7 @@ impl WordCache {
         WordCache {
             batches: WordBatches::of(alloc, plan.words()),
             slots: Vec::new(alloc),
+            free: Vec::new(alloc),
             inlets: [NO_BATCH; MOST_INLETS],
             spare: Vec::new(alloc),
             older_spare: Vec::new(alloc),
@@ -151,7 +157,18 @@ impl WordCache {
     {
         let cars = road.cars();
         self.slots.resize(cars.len(), NO_BATCH)?;
-        write_high16s(&mut self.batches, &mut self.slots, cars, step, column)
+        if !is_dense(cars) {
+            return write_high16s(&mut self.batches, &mut self.slots, cars, step, column);
+        }
+        self.free.resize(cars.len(), 0)?;
+        write_high16s_of_free(
+            &mut self.batches,
+            &mut self.slots,
+            &mut self.free,
+            cars,
+            step,
+            column,
+        )
     }
 }
 
@@ -184,6 +201,94 @@ fn write_high16s(
         }
     }
     Ok(())
+}
+
+// Writes the same on a dense road: lists the cars that can move first, and looks at no other again, whose numbers stay
+// what they are.
+#[inline(always)]
+fn write_high16s_of_free(
+    batches: &mut WordBatches,
+    slots: &mut [u32],
+    free: &mut [usize],
+    cars: &[Car],
+    step: u32,
+    column: &mut Vec<u16>,
+) -> Result<(), OutOfMemory>
+    requires slots { length slots.old ≡ length cars.now }
+    requires free { length free.old ≡ length cars.now }
+    ensures high16s { IfOk result (λ _. (k : ℕ) → k < length column.new.items →
+        IsHigh16 batches.old.kind step cars.now k (slice_index column.new.items k)) }
+    ensures kind { batches.new.kind ≡ batches.old.kind }
+{
+    batches.start_batch(step);
+    column.resize(cars.len(), 0)?;
+    let count = list_free(cars, free);
+    for next in 0..count {
+        let place = free[next];
+        let (high16, slot) = high16_by_slot(batches, slots[place], cars[place].number, step)?;
+        slots[place] = slot;
+        column[place] = high16;
+    }
+    Ok(())
+}
+
+// Returns the upper 16 bits of a stream's word at a step, and the slot of its batch: that one, or that of a batch which
+// is drawn.
+#[inline(always)]
+fn high16_by_slot(
+    batches: &mut WordBatches,
+    slot: u32,
+    stream: u64,
+    step: u32,
+) -> Result<(u16, u32), OutOfMemory>
+    requires { batches.old.first ≡ step - step % BATCH_STEPS }
+    ensures high16 { IfOk result (λ found. found.0 ≡ word batches.old.kind stream step / 65536) }
+    ensures first { batches.new.first ≡ step - step % BATCH_STEPS }
+    ensures kind { batches.new.kind ≡ batches.old.kind }
+{
+    match batches.cached_now(slot, stream, step) {
+        Some(high16) => Ok((high16, slot)),
+        None => {
+            let drawn = batches.draw(stream, step)?;
+            Ok((drawn.high16, drawn.slot))
+        }
+    }
+}
+
+// Answers whether there are many cars for the cells up to the last one.
+fn is_dense(cars: &[Car]) -> bool {
+    match cars.last() {
+        Some(last) => (last.cell as usize) / CELLS_OF_A_CAR < cars.len(),
+        None => false,
+    }
+}
+
+// Lists the places of the cars that are not held up, and counts them. It goes from car to car without a branch, since
+// on a dense road nothing tells before which of them are.
+fn list_free(cars: &[Car], places: &mut [usize]) -> usize
+    requires { length places.old ≡ length cars.now }
+    ensures long { length places.new ≡ length cars.now }
+    ensures count { result ≤ length cars.now }
+    ensures within { (i : ℕ) → i < result → slice_index places.new i < length cars.now }
+    ensures all { (k : ℕ) → k < length cars.now → ¬ (IsHeldUp cars.now k) → IsListed result places.new k }
+{
+    let Some(last) = cars.len().checked_sub(1) else {
+        return 0;
+    };
+    let mut count = 0;
+    for place in 0..last {
+        places[count] = place;
+        count += usize::from(!is_right_before(cars[place], cars[place + 1]));
+    }
+    places[count] = last;
+    count + 1
+}
+
+// Answers whether a car stands right before the next one.
+fn is_right_before(car: Car, next: Car) -> bool
+    ensures { IsTrue result → next.cell ≡ car.cell + 1 }
+{
+    u64::from(car.cell) + 1 == u64::from(next.cell)
 }
 
 // Writes the upper 16 bits of the words of cars at a step, from a place on, as far as their batches are drawn. Returns
@@ -243,7 +348,7 @@ fn is_held_up(cars: &[Car], place: usize) -> bool
     ensures { IsTrue result → IsHeldUp cars.now place }
 {
     match cars.get(place + 1) {
-        Some(next) => u64::from(cars[place].cell) + 1 == u64::from(next.cell),
+        Some(next) => is_right_before(cars[place], *next),
         None => false,
     }
 }

@@ -12,6 +12,12 @@ use Rattle.road_ends.specs.Speed.{nth_car}
 abbrev pub IsHeldUp : List Car → ℕ → Type 0
 IsHeldUp cars k = (k + 1 < length cars) × (cell_at cars (k + 1) ≡ cell_at cars k + 1)
 
+-- the place k is among the first n of a list of places
+pub record IsListed (n : ℕ) (places : List ℕ) (k : ℕ) : Type 0 where
+  pub index : ℕ
+  pub listed : index < n
+  pub place : slice_index places index ≡ k
+
 -- the upper 16 bits of the k-th car's word at step t; of a car that cannot move they may be any number
 abbrev pub IsHigh16 : WordKind → ℕ → List Car → ℕ → ℕ → Type 0
 IsHigh16 kind t cars k high16 = ¬ (IsHeldUp cars k) → high16 ≡ word kind (nth_car cars k).number t / 65536
