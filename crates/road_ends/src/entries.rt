@@ -1,12 +1,12 @@
 //! The cars that enter the road at its inlets in a step.
 
-ghost use Rattle.std.specs.Prelude.{◌≡◌, ℕ, ◌≤◌, ◌<◌, length, nat_eq, None, IfOk};
-ghost use Rattle.std.specs.List.{position};
+ghost use Rattle.std.specs.Prelude.{◌≡◌, ℕ, ◌-◌, ◌≤◌, ◌<◌, ◌++◌, length, map, nat_eq, None, IfOk, OnOk};
+ghost use Rattle.std.specs.List.{position, range_with_len};
 ghost use Rattle.std.specs.Option.{option_map, option_or};
 ghost use Rattle.road_plan.specs.Plan.{IsWithinLimits};
 ghost use Rattle.road_plan.specs.Settings.{Fits};
 ghost use Rattle.road_cells.specs.Array.{vehicle_at};
-ghost use Rattle.road_cells.specs.Cars.{car_of};
+ghost use Rattle.road_cells.specs.Cars.{car_of, cars_from};
 ghost use Rattle.road_ends.specs.Entries.{entry_at, road_with_entries};
 
 use crate::OutOfMemory;
@@ -42,7 +42,7 @@ pub(crate) fn entered(
     let mut cell = 0;
     while cell < plan.length() {
         let inlet = next_inlet(plan.inlets(), cell, plan.length());
-        cars.extend_from_slice(road.between(cell, inlet))?;
+        copy_between(road, cell, inlet, &mut cars)?;
         if inlet < plan.length() {
             match standing_or_entering(plan, settings, step, road, inlet, cars.len(), words)? {
                 Some(car) => cars.push(car)?,
@@ -52,6 +52,18 @@ pub(crate) fn entered(
         cell = inlet + 1;
     }
     Ok(Road::of(cars))
+}
+
+// Copies the cars of a road at the cells from one up to another. Where that is no cell, none are looked for.
+fn copy_between(road: &Road, from: u32, to: u32, cars: &mut Vec<Car>) -> Result<(), OutOfMemory>
+    requires { from ≤ to }
+    ensures { OnOk result (cars.new.items
+        ≡ cars.old.items ++ cars_from from (map (vehicle_at road.now) (range_with_len from (to - from)))) }
+{
+    if from == to {
+        return Ok(());
+    }
+    cars.extend_from_slice(road.between(from, to))
 }
 
 // Finds the first cell of an inlet from a cell on, or `end` where none is before it.

@@ -1,6 +1,6 @@
 //! The input of a step, and the speeds of its cars.
 
-ghost use Rattle.std.specs.Prelude.{◌≡◌, ◌≤◌, length, IfOk, IfSome};
+ghost use Rattle.std.specs.Prelude.{◌≡◌, ◌≤◌, length, IfOk, IfSome, IsTrue, IsFalse, OnErr, OnOk};
 ghost use Rattle.std.specs.Arc.{arc_value};
 ghost use Rattle.std.specs.Box.{box_value};
 ghost use Rattle.road_plan.specs.Plan.{IsWithinLimits};
@@ -22,9 +22,11 @@ use road_cells::Road;
 use road_plan::{Plan, Settings};
 use std::alloc::Global;
 use std::marker::Model;
+use std::mem;
 use std::sync::Arc;
 
-/// The input of a step: all that is needed to compute it, for one worker or for many. It never changes.
+/// The input of a step: all that is needed to compute it, for one worker or for many. It never changes while it has
+/// several owners.
 #[derive(Drop)]
 pub struct StepInput {
     plan: Arc<Plan>,
@@ -62,7 +64,8 @@ impl StepInput {
     pub fn step(&self) -> u32
         ensures { result ≡ self.now.step }
     {
-        self.step
+        let StepInput { step, .. } = self;
+        *step
     }
 
     /// Returns the road with the cars that have entered in this step, before they move.
@@ -78,6 +81,28 @@ impl StepInput {
     pub(crate) fn into_parts(self) -> (Road, Option<Box<Columns>>) {
         let StepInput { road, columns, .. } = self;
         (road, columns)
+    }
+
+    // Makes of this input that of another step of its plan by its settings.
+    fn turn_to(
+        &mut self,
+        alloc: Global,
+        step: u32,
+        road: &Road,
+        words: &mut WordCache,
+    ) -> Result<(), OutOfMemory>
+        requires { words.old ≡ self.old.plan.words }
+        ensures input { OnOk result (self.new ≡ input_of self.old.plan self.old.settings step road.now) }
+        ensures kept { OnErr result (self.new ≡ self.old) }
+        ensures unchanged { words.new ≡ words.old }
+    {
+        words.reuse_columns(mem::replace(&mut self.columns, None));
+        let road = entered(alloc, &self.plan, &self.settings, step, road, words)?;
+        let columns = columns_of(alloc, &self.settings, step, &road, words)?;
+        words.reuse(mem::replace(&mut self.road, road));
+        self.columns = columns;
+        self.step = step;
+        Ok(())
     }
 
     /// Returns the plan.
@@ -101,16 +126,27 @@ impl StepInput {
     /// # Errors
     ///
     /// `OutOfMemory` where the allocation of their list failed.
-    #[tactic(auto, using(crate::proofs::CachedColumns::no_high16s, crate::proofs::CachedColumns::no_columns))]
     pub fn speeds(&self, alloc: Global) -> Result<Vec<u8>, OutOfMemory>
+        ensures { IfOk result (λ new. new.items ≡ input_speeds self.now) }
+    {
+        self.speeds_in(alloc, Vec::new(alloc))
+    }
+
+    /// Computes them as [`StepInput::speeds`], in the memory of a list that is no longer needed, where it has room.
+    ///
+    /// # Errors
+    ///
+    /// `OutOfMemory` where the allocation of a longer list failed.
+    #[tactic(auto, using(crate::proofs::CachedColumns::no_high16s, crate::proofs::CachedColumns::no_columns))]
+    pub fn speeds_in(&self, alloc: Global, list: Vec<u8>) -> Result<Vec<u8>, OutOfMemory>
         ensures { IfOk result (λ new. new.items ≡ input_speeds self.now) }
     {
         let (plan, settings, road) = (&self.plan, &self.settings, &self.road);
         match &self.columns {
-            Some(columns) => speeds(alloc, plan, settings, self.step, road, columns),
+            Some(columns) => speeds(plan, settings, self.step, road, columns, list),
             None => {
                 let none = Columns::empty(alloc);
-                speeds(alloc, plan, settings, self.step, road, &none)
+                speeds(plan, settings, self.step, road, &none, list)
             }
         }
     }
@@ -179,6 +215,37 @@ pub fn enter_with(
         columns,
     };
     Ok(Arc::new(alloc, input)?)
+}
+
+/// Makes of an input that of another step of its plan by its settings, from the road before that step, where the input
+/// has no other owner, and answers whether it did: the plan and the settings keep their owners, and memory is used again.
+/// The words must be the plan's.
+///
+/// # Errors
+///
+/// `OutOfMemory` where an allocation failed, of the road or of its words. The input is then as it was, and the words are
+/// the plan's as before.
+pub fn enter_again(
+    alloc: Global,
+    input: &mut Arc<StepInput>,
+    step: u32,
+    road: &Road,
+    words: &mut WordCache,
+) -> Result<bool, OutOfMemory>
+    requires words { words.old ≡ (arc_value input.old).plan.words }
+    ensures input { IfOk result (λ alone. IsTrue alone → arc_value input.new
+        ≡ input_of (arc_value input.old).plan (arc_value input.old).settings step road.now) }
+    ensures shared { IfOk result (λ alone. IsFalse alone → arc_value input.new ≡ arc_value input.old) }
+    ensures kept { OnErr result (arc_value input.new ≡ arc_value input.old) }
+    ensures unchanged { words.new ≡ words.old }
+{
+    match Arc::get_mut(input) {
+        Some(own) => {
+            own.turn_to(alloc, step, road, words)?;
+            Ok(true)
+        }
+        None => Ok(false),
+    }
 }
 
 // Makes the columns of a road's cars at a step; none where no chance leaves a slowing to the cars' words.

@@ -30,7 +30,7 @@ mod word_batches;
 mod word_cache;
 
 pub use alone::{Stepped, step_alone, step_with};
-pub use input::{StepInput, enter, enter_with};
+pub use input::{StepInput, enter, enter_again, enter_with};
 pub use letters::{BLOCKED, EMPTY, STANDING};
 pub use meter::Meter;
 pub use word_cache::WordCache;

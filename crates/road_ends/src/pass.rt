@@ -23,7 +23,6 @@ use road_cells::{Car, GREATEST_SPEED, Road, reached_blocks_below};
 use road_plan::{Plan, Settings};
 use road_rules::wanted;
 use road_words::{PlanWords, Words};
-use std::alloc::Global;
 
 // A cell past all roads, in place of that of a car or a block that is not there.
 const NOWHERE: u32 = u32::MAX;
@@ -55,14 +54,14 @@ struct Zone {
     chances: Chances,
 }
 
-// Computes the new speeds of all cars, in the order of the cars, in one allocation.
+// Computes the new speeds of all cars, in the order of the cars, in the memory of a list or in one allocation.
 pub(crate) fn speeds(
-    alloc: Global,
     plan: &Plan,
     settings: &Settings,
     step: u32,
     road: &Road,
     columns: &Columns,
+    list: Vec<u8>,
 ) -> Result<Vec<u8>, OutOfMemory>
     requires fits { Fits plan.now settings.now }
     requires on_road { length road.now ≤ plan.now.cells }
@@ -71,16 +70,16 @@ pub(crate) fn speeds(
     ensures { IfOk result (λ new. new.items ≡ speeds plan.now settings.now step road.now) }
 {
     let count = road.cars().len();
-    Ok(speeds_between(alloc, plan, settings, step, road, columns, 0, count)?)
+    Ok(speeds_between(plan, settings, step, road, columns, 0, count, list)?)
 }
 
 // Computes the new speeds of the cars at the places from `first` to before `end`, in the order of the cars. It is one
-// pass over these cars from their far end, in one allocation, and from stretch to stretch: the first car of each finds
-// its zone and the next blocked cell, and the cars behind it in the stretch share them, so that nothing is looked up
-// for them. A word is drawn only where its upper 16 bits are not given and it can change a speed.
+// pass over these cars from their far end, in the memory of a list or in one allocation, and from stretch to stretch:
+// the first car of each finds its zone and the next blocked cell, and the cars behind it in the stretch share them, so
+// that nothing is looked up for them. A word is drawn only where its upper 16 bits are not given and it can change a
+// speed.
 #[inline(never)]
 pub(crate) fn speeds_between(
-    alloc: Global,
     plan: &Plan,
     settings: &Settings,
     step: u32,
@@ -88,6 +87,7 @@ pub(crate) fn speeds_between(
     columns: &Columns,
     first: usize,
     end: usize,
+    list: Vec<u8>,
 ) -> Result<Vec<u8>, OutOfMemory>
     requires fits { Fits plan.now settings.now }
     requires on_road { length road.now ≤ plan.now.cells }
@@ -104,7 +104,8 @@ pub(crate) fn speeds_between(
     let starts = settings.starts();
     let chances = settings.chances();
     let blocks = settings.blocks();
-    let mut new = vec![in alloc; 0; end - first]?;
+    let mut new = list;
+    new.resize(end - first, 0)?;
     let mut cursor = far_end(blocks, cell_at(cars, end));
     let mut place = end;
     while place > first {

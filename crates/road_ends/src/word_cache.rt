@@ -82,10 +82,17 @@ impl WordCache {
     {
         if let Ok(input) = Arc::try_unwrap(input) {
             let (road, columns) = input.into_parts();
-            if columns.is_some() {
-                self.columns = columns;
-            }
+            self.reuse_columns(columns);
             self.reuse(road);
+        }
+    }
+
+    // Keeps the memory of a step's columns, where there are some. It takes no memory.
+    pub(crate) fn reuse_columns(&mut self, columns: Option<Box<Columns>>)
+        ensures { self.new ≡ self.old }
+    {
+        if columns.is_some() {
+            self.columns = columns;
         }
     }
 

@@ -17,6 +17,7 @@ use road_scenario::laws::winners_agree;
 use road_sheet::{Draft, Sheet};
 use road_workers::Crew;
 use std::alloc::Global;
+use std::mem;
 
 /// Joins a scenario into a sheet and simulates at least up to the step `to`: the new sheet is that of the joined scenario,
 /// at the greater of the old horizon and `to`. The old sheet stays as it is, and the new one shares with it each whole
@@ -113,25 +114,32 @@ fn simulate<C: Crew>(
     ensures few { TicksAtMost (to - draft.old.horizon) meter.old meter.new }
     ensures gone { CountsGone result (C.times_gone crew.old) (C.times_gone crew.new) }
 {
+    let mut speeds = Vec::new(alloc);
     for step in draft.horizon()..to {
-        one_step(alloc, draft, crew)?;
+        one_step(alloc, draft, crew, &mut speeds)?;
         meter.tick();
     }
     Ok(())
 }
 
-// Adds one more step.
-fn one_step<C: Crew>(alloc: Global, draft: &mut Draft, crew: &mut C) -> Result<(), GrownFault>
+// Adds one more step. The list of its speeds takes the place of the last step's.
+fn one_step<C: Crew>(
+    alloc: Global,
+    draft: &mut Draft,
+    crew: &mut C,
+    speeds: &mut Vec<u8>,
+) -> Result<(), GrownFault>
     requires within_limit { draft.old.horizon < GREATEST_HORIZON }
     ensures grown { OnOk result (draft.new ≡ sheet_after_step draft.old) }
     ensures unchanged { OnErr result (draft.new ≡ draft.old) }
     ensures gone { CountsGone result (C.times_gone crew.old) (C.times_gone crew.new) }
 {
     let input = draft.input(alloc)?;
-    match crew.speeds(alloc, &input) {
-        Ok(speeds) => {
-            draft.push(alloc, &input, &speeds)?;
-            draft.reuse(input);
+    let list = mem::replace(speeds, Vec::new(alloc));
+    match crew.speeds_in(alloc, &input, list) {
+        Ok(new) => {
+            draft.advance(alloc, input, &new)?;
+            *speeds = new;
             Ok(())
         }
         Err(fault) => Err(growth_fault(fault)),

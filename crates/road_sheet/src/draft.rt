@@ -12,6 +12,7 @@ use road_ends::{StepInput, WordCache};
 use road_plan::OutOfMemory;
 use std::alloc::Global;
 use std::marker::Model;
+use std::mem;
 use std::sync::Arc;
 
 /// A sheet that is being made, step by step: contracts see the sheet that it is so far.
@@ -20,10 +21,13 @@ pub struct Draft {
     pub(crate) sheet: Sheet,
     pub(crate) settings: SettingsCache,
     pub(crate) words: WordCache,
+    // The input of the last step, to be made that of the next one.
+    pub(crate) last: Option<Arc<StepInput>>,
 }
 
 impl Model for Draft {
-    ghost use Rattle.std.specs.Prelude.{◌≡◌};
+    ghost use Rattle.std.specs.Prelude.{◌≡◌, IfSome};
+    ghost use Rattle.std.specs.Arc.{arc_value};
     ghost use Rattle.std.specs.Coded.{codes};
     ghost use Rattle.road_scenario.specs.Instances.EditOrder.{edits_code};
     ghost use Rattle.road_sheet.specs.Sheets.{Sheet};
@@ -34,9 +38,10 @@ impl Model for Draft {
 
     ghost view = { λ d. d.sheet };
 
-    ghost use Rattle.road_sheet.specs.Private.SettingsCache.{AreCached};
+    ghost use Rattle.road_sheet.specs.Private.SettingsCache.{AreCached, IsInputOf};
 
-    ghost invariant = { λ d. AreCached d.sheet.plan d.sheet.edits d.settings × (d.words ≡ d.sheet.plan.words) };
+    ghost invariant = { λ d. AreCached d.sheet.plan d.sheet.edits d.settings × (d.words ≡ d.sheet.plan.words)
+        × IfSome d.last (λ input. IsInputOf d.sheet.plan d.sheet.edits (arc_value input)) };
 }
 
 impl Draft {
@@ -56,8 +61,9 @@ impl Draft {
         ensures input { IfOk result (λ input. arc_value input ≡ next_input self.old) }
         ensures unchanged { self.new ≡ self.old }
     {
+        let last = mem::replace(&mut self.last, None);
         self.sheet
-            .next_input(alloc, &mut self.settings, &mut self.words)
+            .next_input(alloc, last, &mut self.settings, &mut self.words)
     }
 
     /// Adds one more step, from its input and the new speeds of its cars. The input must be that of the next step, the
@@ -79,6 +85,29 @@ impl Draft {
         ensures unchanged { OnErr result (self.new ≡ self.old) }
     {
         self.sheet.grow(alloc, input, speeds, &mut self.words)
+    }
+
+    /// Adds one more step, as [`Draft::push`], and keeps its input, to make the next one of it where nobody else has it.
+    /// The input, the speeds and the horizon must be as there.
+    ///
+    /// # Errors
+    ///
+    /// `OutOfMemory` where an allocation failed. The draft is then as it was.
+    pub fn advance(
+        &mut self,
+        alloc: Global,
+        input: Arc<StepInput>,
+        speeds: &[u8],
+    ) -> Result<(), OutOfMemory>
+        requires input { arc_value input ≡ next_input self.old }
+        requires speeds { speeds.now ≡ input_speeds (arc_value input) }
+        requires within_limit { self.old.horizon < GREATEST_HORIZON }
+        ensures grown { OnOk result (self.new ≡ sheet_after_step self.old) }
+        ensures unchanged { OnErr result (self.new ≡ self.old) }
+    {
+        self.push(alloc, &input, speeds)?;
+        self.last = Some(input);
+        Ok(())
     }
 
     /// Keeps the memory of a step's input for the next ones, where nobody else needs it.

@@ -1,6 +1,6 @@
 //! The cache of the settings that a run uses from a step to the next.
 
-ghost use Rattle.std.specs.Prelude.{◌≡◌, ◌<◌, ◌≤◌, ℕ, IfOk, IfSome};
+ghost use Rattle.std.specs.Prelude.{◌≡◌, ◌<◌, ◌≤◌, ℕ, IfOk, IfSome, IsTrue};
 ghost use Rattle.std.specs.Arc.{arc_value};
 ghost use Rattle.road_plan.specs.Plan.{Plan};
 ghost use Rattle.road_plan.specs.Settings.{Fits};
@@ -27,10 +27,17 @@ impl InForce {
         ensures { IfOk result (λ found. IfSome found (λ settings. (arc_value settings ≡ arc_value self.now.settings)
             × (self.now.from ≤ step) × (step < self.now.until))) }
     {
-        if step < self.from || self.until <= step {
+        if !self.is_at(step) {
             return Ok(None);
         }
         Ok(Some(Arc::try_clone(&self.settings)?))
+    }
+
+    // Answers whether they are in force at a step.
+    fn is_at(&self, step: u32) -> bool
+        ensures { IsTrue result → (self.now.from ≤ step) × (step < self.now.until) }
+    {
+        self.from <= step && step < self.until
     }
 }
 
@@ -68,6 +75,17 @@ impl SettingsCache {
             return Ok(settings);
         }
         self.renewed(alloc, plan, scenario, step)
+    }
+
+    // Answers whether the cached settings are in force at two steps.
+    pub(crate) fn are_at(&self, step: u32, other: u32) -> bool
+        ensures { (plan : Plan) (edits : Edits) → AreCached plan edits self.now → IsTrue result
+            → settings_of plan edits step ≡ settings_of plan edits other }
+    {
+        match &self.last {
+            Some(kept) => kept.is_at(step) && kept.is_at(other),
+            None => false,
+        }
     }
 
     fn cached(&self, step: u32) -> Result<Option<Arc<Settings>>, OutOfMemory>

@@ -1,6 +1,6 @@
 //! Sheets: the intervals of a run up to its horizon, and what is read from them.
 
-ghost use Rattle.std.specs.Prelude.{◌≡◌, ◌≢◌, ◌<◌, ◌≤◌, ◌+◌, ◌*◌, ◌/◌, ◌%◌, IfOk, IfErr, IsOk, OnErr, OnOk, None};
+ghost use Rattle.std.specs.Prelude.{◌≡◌, ◌≢◌, ◌<◌, ◌≤◌, ◌+◌, ◌*◌, ◌/◌, ◌%◌, IfOk, IfErr, IfSome, IsOk, OnErr, OnOk, None};
 ghost use Rattle.std.specs.Prelude.{length, min, replicate, take};
 ghost use Rattle.std.specs.Arc.{arc_value};
 ghost use Rattle.road_plan.specs.declared.limits.TheConstants.{GREATEST_HORIZON};
@@ -28,7 +28,7 @@ use road_cells::Road;
 use road_detector::Totals;
 use road_detector::laws::{cars_pass_one_by_one, totals_are_bounded};
 use road_ends::laws::{cars_stay_on_road, runs_depend_on_earlier_settings};
-use road_ends::{StepInput, WordCache, enter_with, finish_with};
+use road_ends::{StepInput, WordCache, enter_again, enter_with, finish_with};
 use road_plan::{OutOfMemory, Plan};
 use road_scenario::Scenario;
 use road_scenario::laws::settings_stay_before_touched;
@@ -76,7 +76,7 @@ impl Model for Sheet {
 }
 
 impl Sheet {
-    ghost use Rattle.road_sheet.specs.Private.SettingsCache.{AreCached};
+    ghost use Rattle.road_sheet.specs.Private.SettingsCache.{AreCached, IsInputOf};
 
     /// Makes the sheet without edits, of which no step is simulated.
     ///
@@ -372,6 +372,7 @@ impl Sheet {
             sheet,
             settings: SettingsCache::none(),
             words,
+            last: None,
         })
     }
 
@@ -444,13 +445,15 @@ impl Sheet {
         })
     }
 
-    // Makes the input of the next step.
+    // Makes the input of the next step: of the last one, where it can be, and else a new one.
     pub(crate) fn next_input(
         &self,
         alloc: Global,
+        last: Option<Arc<StepInput>>,
         settings: &mut SettingsCache,
         words: &mut WordCache,
     ) -> Result<Arc<StepInput>, OutOfMemory>
+        requires last { IfSome last (λ input. IsInputOf self.now.plan self.now.edits (arc_value input)) }
         requires cached { AreCached self.now.plan self.now.edits settings.old }
         requires words { words.old ≡ self.now.plan.words }
         ensures input { IfOk result (λ input. arc_value input ≡ next_input self.now) }
@@ -458,6 +461,14 @@ impl Sheet {
         ensures unchanged { words.new ≡ words.old }
     {
         let step = self.horizon();
+        if let Some(mut input) = last {
+            if settings.are_at(input.step(), step)
+                && enter_again(alloc, &mut input, step, &self.at_horizon, words)?
+            {
+                return Ok(input);
+            }
+            words.reuse_input(input);
+        }
         let settings = settings.at(alloc, &self.plan, &self.known.first, step)?;
         enter_with(alloc, &self.plan, settings, step, &self.at_horizon, words)
     }

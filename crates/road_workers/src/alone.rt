@@ -28,4 +28,18 @@ impl Crew for Alone {
     {
         Ok(input.speeds(alloc)?)
     }
+
+    fn speeds_in(
+        &mut self,
+        alloc: Global,
+        input: &Arc<StepInput>,
+        list: Vec<u8>,
+    ) -> Result<Vec<u8>, CrewFault>
+        ensures speeds { IfOk result (λ new. new.items ≡ input_speeds (arc_value input.now)) }
+        ensures gone { ⟦<Alone as Crew>⟧.times_gone self.new
+            ≡ gone_after result (⟦<Alone as Crew>⟧.times_gone self.old) }
+        ensures memory_at_most { result ≢ Err WorkersGone }
+    {
+        Ok(input.speeds_in(alloc, list)?)
+    }
 }

@@ -24,6 +24,23 @@ pub trait Crew {
     fn speeds(&mut self, alloc: Global, input: &Arc<StepInput>) -> Result<Vec<u8>, CrewFault>
         ensures speeds { IfOk result (λ new. new.items ≡ input_speeds (arc_value input.now)) }
         ensures gone { times_gone self.new ≡ gone_after result (times_gone self.old) };
+
+    /// Computes them as [`Crew::speeds`]. A crew may write them into the memory of this list, which is no longer needed.
+    ///
+    /// # Errors
+    ///
+    /// Those of [`Crew::speeds`].
+    fn speeds_in(
+        &mut self,
+        alloc: Global,
+        input: &Arc<StepInput>,
+        _list: Vec<u8>,
+    ) -> Result<Vec<u8>, CrewFault>
+        ensures speeds { IfOk result (λ new. new.items ≡ input_speeds (arc_value input.now)) }
+        ensures gone { times_gone self.new ≡ gone_after result (times_gone self.old) }
+    {
+        self.speeds(alloc, input)
+    }
 }
 
 // Counts an answer `WorkersGone` after the others.

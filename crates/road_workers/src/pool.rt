@@ -157,10 +157,25 @@ impl<R: Wait> Crew for Pool<R> {
         ensures stays_gone { 0 < ⟦<Pool<R> as Crew>⟧.times_gone self.old → result ≡ Err WorkersGone }
         ensures workers { self.new.workers ≡ self.old.workers }
     {
+        self.speeds_in(alloc, input, Vec::new(alloc))
+    }
+
+    fn speeds_in(
+        &mut self,
+        alloc: Global,
+        input: &Arc<StepInput>,
+        list: Vec<u8>,
+    ) -> Result<Vec<u8>, CrewFault>
+        ensures speeds { IfOk result (λ new. new.items ≡ input_speeds (arc_value input.now)) }
+        ensures gone { ⟦<Pool<R> as Crew>⟧.times_gone self.new
+            ≡ gone_after result (⟦<Pool<R> as Crew>⟧.times_gone self.old) }
+        ensures stays_gone { 0 < ⟦<Pool<R> as Crew>⟧.times_gone self.old → result ≡ Err WorkersGone }
+        ensures workers { self.new.workers ≡ self.old.workers }
+    {
         let answer = if self.gone > 0 {
             Err(CrewFault::WorkersGone)
         } else if cars_in(input) < self.least_cars {
-            Alone.speeds(alloc, input)
+            Alone.speeds_in(alloc, input, list)
         } else {
             speeds_by(
                 &self.rt,

@@ -4,7 +4,7 @@ ghost use Rattle.road_cells.specs.Cars.{AreRising};
 
 use crate::rows::{input_of, settings_of, shared_plan};
 use road_cells::{Car, Road};
-use road_ends::{StepInput, WordCache, enter_with};
+use road_ends::{StepInput, WordCache, enter_again, enter_with};
 use road_plan::Plan;
 use std::alloc::Global;
 use std::sync::Arc;
@@ -156,5 +156,48 @@ fn inputs_differ_by_the_chance_of_standing_cars(rt: HostRuntime) -> Result<(), F
     assert!(rt; all_are(rt.alloc(), Some(32_767), 3, BOTH, false)?);
     assert!(rt; all_are(rt.alloc(), Some(0), 3, BOTH, false)?);
     assert!(rt; all_are(rt.alloc(), Some(65_536), 3, BOTH, false)?);
+    Ok(())
+}
+
+// Makes the input of step 3 of a run with these cars, and of it that of step 4 with these later ones, if it can be. Answers
+// whether it was, and of which of the two it is now.
+fn entered_again(
+    alloc: Global,
+    cars: &[Car],
+    later: &[Car],
+    is_shared: bool,
+) -> Result<(bool, bool, bool), Fail>
+    requires cars { AreRising cars.now }
+    requires later { AreRising later.now }
+{
+    let plan = shared_plan(alloc, &CLOSED)?;
+    let settings = settings_of(alloc, &plan, None)?;
+    if !settings.fits(&plan) {
+        return Err(Fail::new("settings that do not fit the plan"));
+    }
+    let settings = Arc::new(alloc, settings)?;
+    let mut words = WordCache::of(alloc, &plan);
+    let road = Road::of(cars.to_vec(alloc)?);
+    let mut input = enter_with(alloc, &plan, settings, 3, &road, &mut words)?;
+    let owner = if is_shared {
+        Some(Arc::try_clone(&input)?)
+    } else {
+        None
+    };
+    let road = Road::of(later.to_vec(alloc)?);
+    let is_done = enter_again(alloc, &mut input, 4, &road, &mut words)?;
+    let before = input_with(alloc, None, 3, cars, true)?;
+    let after = input_with(alloc, None, 4, later, true)?;
+    drop(owner);
+    Ok((is_done, input.same(&before), input.same(&after)))
+}
+
+#[test]
+fn an_input_is_made_that_of_the_next_step_where_nobody_else_has_it(
+    rt: HostRuntime,
+) -> Result<(), Fail> {
+    assert!(rt; entered_again(rt.alloc(), BOTH, ALONE, false)? == (true, false, true));
+    assert!(rt; entered_again(rt.alloc(), ALONE, BOTH, false)? == (true, false, true));
+    assert!(rt; entered_again(rt.alloc(), BOTH, ALONE, true)? == (false, true, false));
     Ok(())
 }

@@ -30,13 +30,14 @@ impl StepInput {
         ensures { IfOk result (λ new. new.items ≡ input_speeds_between self.now first end) }
     {
         let (plan, settings, road) = (&self.plan, &self.settings, &self.road);
+        let list = Vec::new(alloc);
         match &self.columns {
             Some(columns) => {
-                speeds_between(alloc, plan, settings, self.step, road, columns, first, end)
+                speeds_between(plan, settings, self.step, road, columns, first, end, list)
             }
             None => {
                 let none = Columns::empty(alloc);
-                speeds_between(alloc, plan, settings, self.step, road, &none, first, end)
+                speeds_between(plan, settings, self.step, road, &none, first, end, list)
             }
         }
     }

@@ -28,11 +28,11 @@ loop-cell-preserved c =
     let f = λ (c' : ℕ). option_or (vehicle_at c.args.road.now c') (entry_at c.args.plan.now c.args.settings.now c.args.step c') in
     let n = c.args.plan.now.cells in
     let inlet = c.next_inlet-inlet.result in
-    let cars = c.extend_from_slice.new.self.items in
+    let cars = c.copy_between.new.cars.items in
     let within : inlet ≤ n = let low = c.next_inlet-inlet.ensures.within in let end = c.length-in-loop-cell.ensures.cells in omega arith in
     let copied = cars_up_to f (vehicle_at a) n c.loop-cell.cell inlet c.loop-cell.cars.items cars _ c.next_inlet-inlet.ensures.from within
     (λ cell low high. nobody_enters c.args.plan.now c.args.settings.now c.args.step a cell (subst (λ inlets. position (λ x. nat_eq cell x.0) inlets ≡ None) c.inlets-in-loop-cell.ensures.inlets (c.next_inlet-inlet.ensures.first cell low high)))
-    (c.in_ok-extend_from_slice.ensures.items ∙ ap (λ found. c.loop-cell.cars.items ++ found) c.between.ensures)
+    c.in_ok-copy_between.ensures
     c.loop-cell.invariant.cars in
     record {
       cars = elim c.if-inlet-length.branch [
