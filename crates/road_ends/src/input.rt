@@ -218,13 +218,13 @@ pub fn enter_with(
 }
 
 /// Makes of an input that of another step of its plan by its settings, from the road before that step, where the input
-/// has no other owner, and answers whether it did: the plan and the settings keep their owners, and memory is used again.
-/// The words must be the plan's.
+/// has no other owner, and answers whether it did: the plan and the settings keep their owners, and memory is used
+/// again. The words must be the plan's.
 ///
 /// # Errors
 ///
-/// `OutOfMemory` where an allocation failed, of the road or of its words. The input is then as it was, and the words are
-/// the plan's as before.
+/// `OutOfMemory` where an allocation failed, of the road or of its words. The input is then as it was, and the words
+/// are the plan's as before.
 pub fn enter_again(
     alloc: Global,
     input: &mut Arc<StepInput>,

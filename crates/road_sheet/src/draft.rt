@@ -87,8 +87,8 @@ impl Draft {
         self.sheet.grow(alloc, input, speeds, &mut self.words)
     }
 
-    /// Adds one more step, as [`Draft::push`], and keeps its input, to make the next one of it where nobody else has it.
-    /// The input, the speeds and the horizon must be as there.
+    /// Adds one more step, as [`Draft::push`], and keeps its input, to make the next one of it where nobody else has
+    /// it. The input, the speeds and the horizon must be as there.
     ///
     /// # Errors
     ///

@@ -25,7 +25,8 @@ pub trait Crew {
         ensures speeds { IfOk result (λ new. new.items ≡ input_speeds (arc_value input.now)) }
         ensures gone { times_gone self.new ≡ gone_after result (times_gone self.old) };
 
-    /// Computes them as [`Crew::speeds`]. A crew may write them into the memory of this list, which is no longer needed.
+    /// Computes them as [`Crew::speeds`]. A crew may write them into the memory of this list, which is no longer
+    /// needed.
     ///
     /// # Errors
     ///

@@ -159,8 +159,8 @@ fn inputs_differ_by_the_chance_of_standing_cars(rt: HostRuntime) -> Result<(), F
     Ok(())
 }
 
-// Makes the input of step 3 of a run with these cars, and of it that of step 4 with these later ones, if it can be. Answers
-// whether it was, and of which of the two it is now.
+// Makes the input of step 3 of a run with these cars, and of it that of step 4 with these later ones, if it can be.
+// Answers whether it was, and of which of the two it is now.
 fn entered_again(
     alloc: Global,
     cars: &[Car],
