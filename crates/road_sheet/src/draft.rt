@@ -110,13 +110,6 @@ impl Draft {
         Ok(())
     }
 
-    /// Keeps the memory of a step's input for the next ones, where nobody else needs it.
-    pub fn reuse(&mut self, input: Arc<StepInput>)
-        ensures { self.new ≡ self.old }
-    {
-        self.words.reuse_input(input);
-    }
-
     /// Returns the sheet.
     pub fn sheet(self) -> Sheet
         ensures { result ≡ self }
