@@ -130,7 +130,7 @@ fn later_reply<C: Crew, K: Crowds>(
         (gathers laboratory.old.world.plan (reading_unless long (command_of held.now))) (C.times_gone crew.old) }
 {
     match later_line(alloc, held, long)? {
-        Ok(command) => command_reply(alloc, laboratory, &command, crew, crowds),
+        Ok(command) => command_reply(alloc, laboratory, command, crew, crowds),
         Err(refusal) => Ok(refusal_reply(alloc, refusal)?),
     }
 }
@@ -139,16 +139,16 @@ fn later_reply<C: Crew, K: Crowds>(
 fn command_reply<C: Crew, K: Crowds>(
     alloc: Global,
     laboratory: &mut Laboratory,
-    command: &Command,
+    command: Command,
     crew: &mut C,
     crowds: &K,
 ) -> Result<String, CrewFault>
     ensures text { IfOk result (λ text. string_bytes text
-        ≡ reply (answer_to laboratory.old (command_view command.now))) }
+        ≡ reply (answer_to laboratory.old (command_view command))) }
     ensures after { OnOk result (laboratory.new
-        ≡ laboratory_of_winners (laboratory_after laboratory.old (command_view command.now))) }
+        ≡ laboratory_of_winners (laboratory_after laboratory.old (command_view command))) }
     ensures gone { C.times_gone crew.new ≡ gone_after_command result
-        (is_gathered laboratory.old.world.plan (command_view command.now)) (C.times_gone crew.old) }
+        (is_gathered laboratory.old.world.plan (command_view command)) (C.times_gone crew.old) }
 {
     let answer = laboratory.answer(alloc, command, crew, crowds)?;
     Ok(reply_line(alloc, &answer)?)
