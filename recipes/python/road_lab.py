@@ -213,7 +213,7 @@ class RoadLab:
         """The replica takes a message; gives the first step that its edits touch."""
         return self.command("take", at, message=message)["touched"]
 
-    # Questions
+    # Queries
 
     def advance(self, at: str, to: int, piece: int = 10_000, progress: TextIO = sys.stderr) -> int:
         """Simulates up to a step, piece by piece, with a bar where `progress` is a terminal."""

@@ -291,7 +291,7 @@ class Laboratory:
         row, = [row_of(road, numbers) for step, road, numbers, _ in run(self.plan, edits, to, to) if step == to]
         return {"edits": winners(edits), "form": 2, "journal": len(edits) + len(shares), "row": row}
 
-    # Questions
+    # Queries
 
     def answer_scenario(self, replica):
         return {"edits": winners(replica.edits), "form": 2}

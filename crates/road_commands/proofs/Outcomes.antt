@@ -1,5 +1,5 @@
 -- What the outcomes of commands are, by what the world does.
-use Rattle.std.proofs.Common.{◌≡◌, ◌⊎◌, ◌<◌, ℕ, List, length, false, Option, Some, None, refl, ap, sym, subst, ◌∙◌, inl, inr}
+use Rattle.std.proofs.Common.{◌≡◌, ◌⊎◌, ◌<◌, ℕ, length, false, Option, Some, None, refl, ap, sym, subst, ◌∙◌, inl, inr}
 use Rattle.std.specs.Global.{Vec}
 use Rattle.std.specs.Option.{option_and_then, option_map}
 use Rattle.lattice_core.specs.Sets.{from_list}
@@ -21,41 +21,14 @@ use Rattle.road_commands.specs.Laboratory.{Laboratory, change_outcome, import_ou
 
 -- ---- refusals
 
--- out of memory has no answer,
-unanswered_memory : (fault : WorldFault) (refusal : Refusal) → fault ≡ world_faults.Replica OutOfMemory → world_refusal fault ≡ Some refusal → ⊥
-unanswered_memory fault refusal is said = none (ap world_refusal (sym is) ∙ said)
-  where
-    none : None ≡ Some refusal → ⊥
-    none e = cc
-
--- nor has want of workers
-unanswered_want : (fault : WorldFault) (refusal : Refusal) → (fault ≡ world_faults.Replica WorkersGone) ⊎ (fault ≡ world_faults.Replica OutOfMemory) → world_refusal fault ≡ Some refusal → ⊥
-unanswered_want fault refusal is said = elim is as (λ _. ⊥) [
-  | inl gone ↦ none (ap world_refusal (sym gone) ∙ said)
-  | inr memory ↦ unanswered_memory fault refusal memory said
-]
-  where
-    none : None ≡ Some refusal → ⊥
-    none e = cc
-
--- so a refusal for no named cause has none
-unanswered : (e : Event) (fault : WorldFault) (refusal : Refusal) → IsUnnamedRefusal e fault → world_refusal fault ≡ Some refusal → ⊥
-unanswered (events.Edit r o step n) fault refusal is said = unanswered_want fault refusal is said
-unanswered (events.Withdraw r o step) fault refusal is said = unanswered_want fault refusal is said
-unanswered (events.Import r es) fault refusal is said = unanswered_want fault refusal is said
-unanswered (events.Send r) fault refusal is said = unanswered_memory fault refusal is said
-unanswered (events.Heads r) fault refusal is said = unanswered_memory fault refusal is said
-unanswered (events.Beyond r m) fault refusal is said = unanswered_memory fault refusal is said
-unanswered (events.Take r m) fault refusal is said = unanswered_want fault refusal is said
-unanswered (events.Advance r to) fault refusal is said = unanswered_want fault refusal is said
-
--- none of these is answered
+-- out of memory and lost workers have no answer,
 unnamed_want : (fault : WorldFault) → (fault ≡ world_faults.Replica WorkersGone) ⊎ (fault ≡ world_faults.Replica OutOfMemory) → world_refusal fault ≡ None
 unnamed_want fault is = elim is as (λ _. world_refusal fault ≡ None) [
   | inl gone ↦ ap world_refusal gone
   | inr memory ↦ ap world_refusal memory
 ]
 
+-- so a refusal for no named cause has none
 unnamed : (e : Event) (fault : WorldFault) → IsUnnamedRefusal e fault → world_refusal fault ≡ None
 unnamed (events.Edit r o step n) fault is = unnamed_want fault is
 unnamed (events.Withdraw r o step) fault is = unnamed_want fault is
@@ -85,7 +58,7 @@ change_named w (events.Advance r to) h = refl
 -- a refusal that has an answer is for a named cause
 named : (e : Event) (cause : Option WorldFault) (fault : WorldFault) (refusal : Refusal) → IsRefusal e cause fault → world_refusal fault ≡ Some refusal → option_and_then world_refusal cause ≡ Some refusal
 named e (Some cause) fault refusal is said = ap world_refusal (sym is) ∙ said
-named e None fault refusal is said = absurd (unanswered e fault refusal is said)
+named e None fault refusal is said = let unsaid = unnamed e fault is in cc
 
 -- an event that the world refuses for a named cause is answered so
 pub refused_answer : (lab : Laboratory) (e : Event) (answer : Answer) (fault : WorldFault) (refusal : Refusal) → replica_number e < length lab.world.replicas → IsRefusal e (fault_of_event lab.world e) fault
@@ -102,10 +75,9 @@ as_world None = refl
 as_world (Some cause) = refl
 
 -- an import is the event of these edits
-pub import_is : (lab : Laboratory) (r : ℕ) (vec : Vec Edit) (es : List Edit) → vec.items ≡ es → change_outcome lab (events.Import r vec) (touched_answer lab.world r (from_list vec.items)) ≡ import_outcome lab r es
-import_is lab r vec es same =
+pub import_is : (lab : Laboratory) (r : ℕ) (edits : Vec Edit) → change_outcome lab (events.Import r edits) (touched_answer lab.world r (from_list edits.items)) ≡ import_outcome lab r edits.items
+import_is lab r edits =
     ap (λ (refusal : Option Refusal). outcome_unless lab refusal (record {
-      answer = touched_answer lab.world r (from_list vec.items);
-      after = record lab { world = world_with_edits r (from_list vec.items) lab.world };
-    })) (as_world (import_fault lab.world.plan vec.items))
-    ∙ ap (import_outcome lab r) same
+      answer = touched_answer lab.world r (from_list edits.items);
+      after = record lab { world = world_with_edits r (from_list edits.items) lab.world };
+    })) (as_world (import_fault lab.world.plan edits.items))

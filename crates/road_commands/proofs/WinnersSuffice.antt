@@ -31,7 +31,7 @@ use Rattle.road_format.specs.Replies as replies
 use Rattle.road_format.specs.Replies.{Answer, Delta, Sent}
 use Rattle.road_format.specs.declared.refusal.Refusal.{Refusal}
 use Rattle.road_format.specs.declared.refusal.Refusal.TheVariants as refusals
-use Rattle.road_commands.specs.Laboratory.{Laboratory, Outcome, answer_to, cars_answer, cars_of_state, cells_answer, change_outcome, count_answer, crowd_of, crowd_outcome, diagram_answer, edits_held, import_outcome, laboratory_after, laboratory_of_winners, name_refusal, number_of, outcome, outcome_at, outcome_by_name, replica_name, scenario_answer, totals_answer, message_outcome, question_outcome, question_answer, outcome_unless, outcome_by_number, world_refusal}
+use Rattle.road_commands.specs.Laboratory.{Laboratory, Outcome, answer_to, cars_answer, cars_of_state, cells_answer, change_outcome, count_answer, crowd_of, crowd_outcome, diagram_answer, edits_held, import_outcome, laboratory_after, laboratory_of_winners, name_refusal, number_of, outcome, outcome_at, outcome_by_name, replica_name, scenario_answer, totals_answer, message_outcome, query_outcome, query_answer, outcome_unless, outcome_by_number, world_refusal}
 
 -- ---- outcomes, as far as winners go
 
@@ -57,8 +57,8 @@ alike a b names messages v w e f =
     ap (λ (x : Answer). outcome_with x names messages (world_of_winners v)) e
     ∙ ap (outcome_with b names messages) f
 
--- so are questions with the same answer
-shown_alike : (lab : Laboratory) (a b : Answer) → a ≡ b → Alike (question_outcome (laboratory_of_winners lab) a) (question_outcome lab b)
+-- so are queries with the same answer
+shown_alike : (lab : Laboratory) (a b : Answer) → a ≡ b → Alike (query_outcome (laboratory_of_winners lab) a) (query_outcome lab b)
 shown_alike lab a b e = alike a b lab.replica_names lab.message_names _ _ e (world-again lab.world)
 
 -- and outcomes under the same refusal
@@ -111,7 +111,7 @@ imported_alike lab r es =
     (ap reply_answer (touched_reply-of_winners lab.world r (from_list es) (from_list es) one))
     (edits-of_winners lab.world r (from_list es) (from_list es) one))
 
--- ---- questions
+-- ---- queries
 
 -- a sheet of the winners alone
 abbrev sheet_of_winners : Sheet → Sheet
@@ -128,27 +128,27 @@ same_course s = ap (λ (es : Edits). λ (step : ℕ). settings_in s.plan (items 
 
 cells_alike : (s : Sheet) (step : ℕ) → cells_answer (sheet_of_winners s) step ≡ cells_answer s step
 unfolding row_at
-cells_alike s step = ap (λ (c : Course). question_answer (state_fault s step) (replies.Cells (row s.plan c step))) (same_course s)
+cells_alike s step = ap (λ (c : Course). query_answer (state_fault s step) (replies.Cells (row s.plan c step))) (same_course s)
 
 cars_alike : (s : Sheet) (step : ℕ) → cars_answer (sheet_of_winners s) step ≡ cars_answer s step
 cars_alike s step =
-    ap (λ (c : Course). question_answer (state_fault s step) (replies.Cars (cars_of_state (run s.plan c step)))) (same_course s)
+    ap (λ (c : Course). query_answer (state_fault s step) (replies.Cars (cars_of_state (run s.plan c step)))) (same_course s)
 
 count_alike : (s : Sheet) (detector from to : ℕ) → count_answer (sheet_of_winners s) detector from to ≡ count_answer s detector from to
 count_alike s detector from to =
-    ap (λ (c : Course). question_answer (totals_fault s detector from to) (totals_answer (total s.plan c detector from to))) (same_course s)
+    ap (λ (c : Course). query_answer (totals_fault s detector from to) (totals_answer (total s.plan c detector from to))) (same_course s)
 
 diagram_alike : (s : Sheet) (from to : ℕ) → diagram_answer (sheet_of_winners s) from to ≡ diagram_answer s from to
 unfolding row_at
 diagram_alike s from to =
-    ap (λ (c : Course). question_answer (rows_fault s from to) (replies.Rows (map (λ step. row s.plan c step) (range_with_len from (suc to - from))))) (same_course s)
+    ap (λ (c : Course). query_answer (rows_fault s from to) (replies.Rows (map (λ step. row s.plan c step) (range_with_len from (suc to - from))))) (same_course s)
 
 scenario_alike : (s : Sheet) → scenario_answer (sheet_of_winners s) ≡ scenario_answer s
 scenario_alike s = ap (λ (es : Edits). replies.Edits (items es)) (winners_again s.edits)
 
 -- what is read of a replica's sheet, where the winners suffice for it
 read_alike : (lab : Laboratory) (r : ℕ) (read : Sheet → Answer) → ((s : Sheet) → read (sheet_of_winners s) ≡ read s)
-    → Alike (question_outcome (laboratory_of_winners lab) (read (sheet_at (laboratory_of_winners lab).world r))) (question_outcome lab (read (sheet_at lab.world r)))
+    → Alike (query_outcome (laboratory_of_winners lab) (read (sheet_at (laboratory_of_winners lab).world r))) (query_outcome lab (read (sheet_at lab.world r)))
 read_alike lab r read same = shown_alike lab _ _ (ap read (sheet_is lab.world r) ∙ same (sheet_at lab.world r))
 
 -- ---- crowds

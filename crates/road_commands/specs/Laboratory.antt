@@ -183,7 +183,7 @@ take_outcome lab r name =
     change_outcome lab (events.Take r message)
     (touched_answer lab.world r (carried_edits (slice_get lab.world.messages message))))
 
--- ---- questions: they change nothing
+-- ---- queries: they change nothing
 
 -- refused where there is a refusal, and else the answer
 abbrev pub answer_unless : Option Refusal → Answer → Answer
@@ -191,12 +191,12 @@ answer_unless (Some refusal) answer = Refused refusal
 answer_unless None answer = answer
 
 -- refused where there is a cause, and else the answer
-abbrev pub question_answer : Option ReplicaFault → Answer → Answer
-question_answer fault answer = answer_unless (option_and_then replica_refusal fault) answer
+abbrev pub query_answer : Option ReplicaFault → Answer → Answer
+query_answer fault answer = answer_unless (option_and_then replica_refusal fault) answer
 
 -- the row of a step
 abbrev pub cells_answer : Sheet → ℕ → Answer
-cells_answer sheet step = question_answer (state_fault sheet step) (replies.Cells (sheet_row sheet step))
+cells_answer sheet step = query_answer (state_fault sheet step) (replies.Cells (sheet_row sheet step))
 
 -- the cars of a road: number, cell, speed, in rising cells
 abbrev pub cars_of_state : Array → List (ℕ × ℕ × ℕ)
@@ -204,7 +204,7 @@ cars_of_state road = map (λ car. (car.number, car.cell, car.speed)) (cars_of ro
 
 -- the cars of a step
 abbrev pub cars_answer : Sheet → ℕ → Answer
-cars_answer sheet step = question_answer (state_fault sheet step) (replies.Cars (cars_of_state (state_of sheet step)))
+cars_answer sheet step = query_answer (state_fault sheet step) (replies.Cars (cars_of_state (state_of sheet step)))
 
 -- cars and the sum of their speeds, as an answer
 abbrev pub totals_answer : Totals → Answer
@@ -213,19 +213,19 @@ totals_answer totals = Counted totals.cars totals.speeds
 -- what a detector counts in the steps from one up to another
 abbrev pub count_answer : Sheet → ℕ → ℕ → ℕ → Answer
 count_answer sheet detector from to =
-    question_answer (totals_fault sheet detector from to) (totals_answer (total_of sheet detector from to))
+    query_answer (totals_fault sheet detector from to) (totals_answer (total_of sheet detector from to))
 
 -- the rows of the steps from one to another, both of them
 abbrev pub diagram_answer : Sheet → ℕ → ℕ → Answer
-diagram_answer sheet from to = question_answer (rows_fault sheet from to) (replies.Rows (rows_of sheet from to))
+diagram_answer sheet from to = query_answer (rows_fault sheet from to) (replies.Rows (rows_of sheet from to))
 
 -- the winners, by object and step
 abbrev pub scenario_answer : Sheet → Answer
 scenario_answer sheet = replies.Edits (items (winners sheet.edits))
 
--- a question is answered
-abbrev pub question_outcome : Laboratory → Answer → Outcome
-question_outcome lab answer = record { answer = answer; after = lab }
+-- a query is answered
+abbrev pub query_outcome : Laboratory → Answer → Outcome
+query_outcome lab answer = record { answer = answer; after = lab }
 
 -- ---- crowds: they are asked of no replica, and change nothing
 
@@ -248,7 +248,7 @@ crowd_answer plan shares to =
 -- what a crowd comes to
 abbrev pub crowd_outcome : Laboratory → List (List edit.Edit) → ℕ → Outcome
 crowd_outcome lab shares to =
-    question_outcome lab
+    query_outcome lab
     (answer_unless (crowd_refusal lab.world.plan shares to) (crowd_answer lab.world.plan shares to))
 
 -- ---- commands
@@ -283,12 +283,12 @@ outcome_at lab r (commands.Beyond at asked name) = beyond_outcome lab r asked na
 outcome_at lab r (commands.Take at message) = take_outcome lab r message
 outcome_at lab r (commands.Advance at to) =
     change_outcome lab (events.Advance r to) (Horizon (max (replica_at lab.world r).horizon to))
-outcome_at lab r (commands.Cells at step) = question_outcome lab (cells_answer (sheet_at lab.world r) step)
-outcome_at lab r (commands.Cars at step) = question_outcome lab (cars_answer (sheet_at lab.world r) step)
+outcome_at lab r (commands.Cells at step) = query_outcome lab (cells_answer (sheet_at lab.world r) step)
+outcome_at lab r (commands.Cars at step) = query_outcome lab (cars_answer (sheet_at lab.world r) step)
 outcome_at lab r (commands.Count at detector from to) =
-    question_outcome lab (count_answer (sheet_at lab.world r) detector from to)
-outcome_at lab r (commands.Diagram at from to) = question_outcome lab (diagram_answer (sheet_at lab.world r) from to)
-outcome_at lab r (commands.Scenario at) = question_outcome lab (scenario_answer (sheet_at lab.world r))
+    query_outcome lab (count_answer (sheet_at lab.world r) detector from to)
+outcome_at lab r (commands.Diagram at from to) = query_outcome lab (diagram_answer (sheet_at lab.world r) from to)
+outcome_at lab r (commands.Scenario at) = query_outcome lab (scenario_answer (sheet_at lab.world r))
 outcome_at lab r (commands.Crowd shares to) = crowd_outcome lab shares to
 
 -- what a command comes to where its replica is asked for first

@@ -1,7 +1,7 @@
 //! A world with names, and its answers to commands.
 
 ghost use Rattle.std.specs.Prelude.{◌≡◌, ◌<◌, ◌≤◌, ◌++◌, ◌∷◌, [], IfNone, IfOk, IfSome, None, OnErr, OnOk, Some, false};
-ghost use Rattle.std.specs.Prelude.{is_none, length, ℕ};
+ghost use Rattle.std.specs.Prelude.{is_none, length, string_bytes, ℕ};
 ghost use Rattle.std.specs.Arc.{arc_value};
 ghost use Rattle.std.specs.List.{All, IsDistinct, slice_get};
 ghost use Rattle.std.specs.Str.{bytes_eq};
@@ -15,22 +15,19 @@ ghost use Rattle.road_world.specs.Answers.{IsAnswer, fault_at_replica, gone_afte
 ghost use Rattle.road_world.specs.Answers.{replica_number, reply_to_event, sheet_at};
 ghost use Rattle.road_world.specs.Events.{asked_heads, world_after_event};
 ghost use Rattle.road_world.specs.declared.faults.WorldFault.TheVariants.{NoMessage};
-ghost use Rattle.road_format.specs.Replies as replies;
 ghost use Rattle.road_format.specs.Views.{answer_view, command_view, plan_line_view, shares_view, texts};
-ghost use Rattle.road_commands.specs.Laboratory.{answer_to, beyond_outcome, change_outcome, edits_held};
-ghost use Rattle.road_commands.specs.Laboratory.{heads_outcome, import_outcome, laboratory_after};
+ghost use Rattle.road_commands.specs.Laboratory.{answer_to, beyond_outcome, change_outcome, crowd_outcome, edits_held};
+ghost use Rattle.road_commands.specs.Laboratory.{gone_after_command, heads_outcome, is_gathered, laboratory_after};
 ghost use Rattle.road_commands.specs.Laboratory.{laboratory_of_winners, number_of, opening_laboratory, outcome_at};
-ghost use Rattle.road_commands.specs.Laboratory.{outcome_by_name};
-ghost use Rattle.road_commands.specs.Laboratory.{send_outcome, take_outcome};
-ghost use Rattle.road_commands.specs.Laboratory.{crowd_outcome, gone_after_command, is_gathered};
+ghost use Rattle.road_commands.specs.Laboratory.{outcome_by_name, query_outcome, send_outcome, take_outcome};
 ghost use Rattle.road_commands.specs.Laboratory as laboratory;
 ghost use Rattle.road_commands.specs.Private.Changes.{makes_message, reply_answer};
-ghost use Rattle.road_commands.specs.Private.Questions.{answer_to_question};
+ghost use Rattle.road_commands.specs.Private.Outcomes.{IsOutcome};
+ghost use Rattle.road_commands.specs.Private.Queries.{answer_to_query};
 
 use crate::crowds::{crowd_of, crowd_refusal};
 use crate::names::Names;
-use crate::queries::ask_sheet;
-use crate::question::Question;
+use crate::queries::{Query, ask_sheet};
 use crate::translation::{answer_of, fault_by, keeps_edits, name_of, refusal_of, replica_refusal};
 use road_delta::{Head, beyond, heads_of};
 use road_ends::Meter;
@@ -44,8 +41,8 @@ use std::alloc::Global;
 use std::marker::Model;
 use std::sync::Arc;
 
-/// A world whose replicas and messages have names, and a cache of the queries of each replica: some 140 bytes for each of
-/// its cars.
+/// Names the replicas and the messages of a world, and caches the queries of each replica: some 140 bytes for each of its
+/// cars.
 #[derive(Drop)]
 pub struct Laboratory {
     replicas: Names,
@@ -111,18 +108,18 @@ impl Laboratory {
     pub fn answer<C: Crew, K: Crowds>(
         &mut self,
         alloc: Global,
-        command: &Command,
+        command: Command,
         crew: &mut C,
         crowds: &K,
     ) -> Result<Answer, CrewFault>
-        ensures answer { IfOk result (λ answer. answer_view answer ≡ answer_to self.old (command_view command.now)) }
+        ensures answer { IfOk result (λ answer. answer_view answer ≡ answer_to self.old (command_view command)) }
         ensures after { OnOk result (self.new
-            ≡ laboratory_of_winners (laboratory_after self.old (command_view command.now))) }
+            ≡ laboratory_of_winners (laboratory_after self.old (command_view command))) }
         ensures unchanged { OnErr result (self.new ≡ self.old) }
         ensures gone { C.times_gone crew.new ≡ gone_after_command result
-            (is_gathered self.old.world.plan (command_view command.now)) (C.times_gone crew.old) }
+            (is_gathered self.old.world.plan (command_view command)) (C.times_gone crew.old) }
     {
-        if let Some((shares, to)) = crowd_of(command) {
+        if let Some((shares, to)) = crowd_of(&command) {
             return self.gather(alloc, shares, to, crowds);
         }
         self.answer_by_name(alloc, command, crew)
@@ -162,18 +159,14 @@ impl Laboratory {
     fn answer_by_name<C: Crew>(
         &mut self,
         alloc: Global,
-        command: &Command,
+        command: Command,
         crew: &mut C,
     ) -> Result<Answer, CrewFault>
-        requires { laboratory.crowd_of (command_view command.now) ≡ None }
-        ensures answer { IfOk result (λ answer. answer_view answer
-            ≡ (outcome_by_name self.old (command_view command.now)).answer) }
-        ensures after { OnOk result (self.new
-            ≡ laboratory_of_winners (outcome_by_name self.old (command_view command.now)).after) }
-        ensures unchanged { OnErr result (self.new ≡ self.old) }
-        ensures gone { C.times_gone crew.new ≡ gone_after result (C.times_gone crew.old) }
+        requires { laboratory.crowd_of (command_view command) ≡ None }
+        ensures { IsOutcome (outcome_by_name self.old (command_view command)) result self.old self.new
+            (C.times_gone crew.old) (C.times_gone crew.new) }
     {
-        let Some(at) = self.replica_of(name_of(command)) else {
+        let Some(at) = self.replica_of(name_of(&command)) else {
             return Ok(Answer::Refused(Refusal::NoReplica));
         };
         self.answer_at(alloc, at, command, crew)
@@ -194,17 +187,13 @@ impl Laboratory {
         &mut self,
         alloc: Global,
         at: u32,
-        command: &Command,
+        command: Command,
         crew: &mut C,
     ) -> Result<Answer, CrewFault>
         requires there { at < length self.old.replica_names }
-        requires no_crowd { laboratory.crowd_of (command_view command.now) ≡ None }
-        ensures answer { IfOk result (λ answer. answer_view answer
-            ≡ (outcome_at self.old at (command_view command.now)).answer) }
-        ensures after { OnOk result (self.new
-            ≡ laboratory_of_winners (outcome_at self.old at (command_view command.now)).after) }
-        ensures unchanged { OnErr result (self.new ≡ self.old) }
-        ensures gone { C.times_gone crew.new ≡ gone_after result (C.times_gone crew.old) }
+        requires no_crowd { laboratory.crowd_of (command_view command) ≡ None }
+        ensures { IsOutcome (outcome_at self.old at (command_view command)) result self.old self.new
+            (C.times_gone crew.old) (C.times_gone crew.new) }
     {
         match command {
             Command::Edit {
@@ -215,73 +204,48 @@ impl Laboratory {
             } => {
                 let event = Event::Edit {
                     at,
-                    object: *object,
-                    step: *step,
-                    value: *value,
+                    object,
+                    step,
+                    value,
                 };
                 self.change(alloc, &event, crew)
             }
             Command::Withdraw { object, step, .. } => {
-                let event = Event::Withdraw {
-                    at,
-                    object: *object,
-                    step: *step,
-                };
+                let event = Event::Withdraw { at, object, step };
                 self.change(alloc, &event, crew)
             }
-            Command::Import { edits, .. } => self.import(alloc, at, edits, crew),
+            Command::Import { edits, .. } => self.change(alloc, &Event::Import { at, edits }, crew),
             Command::Send { name, .. } => self.send(alloc, at, name, crew),
             Command::Heads { name, .. } => self.heads(alloc, at, name, crew),
-            Command::Beyond { heads, name, .. } => self.beyond(alloc, at, heads, name, crew),
-            Command::Take { message, .. } => self.take(alloc, at, message, crew),
-            Command::Advance { to, .. } => self.change(
-                alloc,
-                &Event::Advance { at, to: *to },
-                crew,
-            ),
-            Command::Cells { step, .. } => self.ask(alloc, at, Question::Cells { step: *step }),
-            Command::Cars { step, .. } => self.ask(alloc, at, Question::Cars { step: *step }),
+            Command::Beyond { heads, name, .. } => self.beyond(alloc, at, &heads, name, crew),
+            Command::Take { message, .. } => self.take(alloc, at, &message, crew),
+            Command::Advance { to, .. } => self.change(alloc, &Event::Advance { at, to }, crew),
+            Command::Cells { step, .. } => self.ask(alloc, at, Query::Cells { step }),
+            Command::Cars { step, .. } => self.ask(alloc, at, Query::Cars { step }),
             Command::Count {
                 detector,
                 from,
                 to,
                 ..
-            } => self.ask(
-                alloc,
-                at,
-                Question::Count {
-                    detector: *detector,
-                    from: *from,
-                    to: *to,
-                },
-            ),
-            Command::Diagram { from, to, .. } => self.ask(
-                alloc,
-                at,
-                Question::Diagram {
-                    from: *from,
-                    to: *to,
-                },
-            ),
-            Command::Scenario { .. } => self.ask(alloc, at, Question::Scenario),
+            } => self.ask(alloc, at, Query::Count { detector, from, to }),
+            Command::Diagram { from, to, .. } => self.ask(alloc, at, Query::Diagram { from, to }),
+            Command::Scenario { .. } => self.ask(alloc, at, Query::Scenario),
             Command::Crowd { .. } => unreachable!(),
         }
     }
 
     // Asks a replica's sheet. No crew is needed.
-    fn ask(&mut self, alloc: Global, at: u32, question: Question) -> Result<Answer, CrewFault>
+    fn ask(&mut self, alloc: Global, at: u32, query: Query) -> Result<Answer, CrewFault>
         requires { at < length self.old.replica_names }
-        ensures answer { IfOk result (λ answer. answer_view answer
-            ≡ answer_to_question (sheet_at self.old.world at) question) }
-        ensures unchanged { self.new ≡ self.old }
-        ensures winners { laboratory_of_winners self.old ≡ self.old }
-        ensures no_crew { (n : ℕ) → gone_after result n ≡ n }
+        ensures { (gone : ℕ) → IsOutcome
+            (query_outcome self.old (answer_to_query (sheet_at self.old.world at) query))
+            result self.old self.new gone gone }
     {
         let Some(replica) = self.world.replica(at) else {
             unreachable!()
         };
         let cache = &mut self.caches[at as usize];
-        match ask_sheet(alloc, replica.sheet(), cache, question) {
+        match ask_sheet(alloc, replica.sheet(), cache, query) {
             Ok(answer) => Ok(answer),
             Err(fault) => match replica_refusal(fault) {
                 Some(refusal) => Ok(Answer::Refused(refusal)),
@@ -301,12 +265,8 @@ impl Laboratory {
     ) -> Result<Answer, CrewFault>
         requires there { replica_number event.now < length self.old.replica_names }
         requires no_message { makes_message event.now ≡ false }
-        ensures answer { IfOk result (λ answer. answer_view answer
-            ≡ (change_outcome self.old event.now (reply_answer (reply_to_event self.old.world event.now))).answer) }
-        ensures after { (given : replies.Answer) → OnOk result (self.new
-            ≡ laboratory_of_winners (change_outcome self.old event.now given).after) }
-        ensures unchanged { OnErr result (self.new ≡ self.old) }
-        ensures gone { C.times_gone crew.new ≡ gone_after result (C.times_gone crew.old) }
+        ensures { IsOutcome (change_outcome self.old event.now (reply_answer (reply_to_event self.old.world event.now)))
+            result self.old self.new (C.times_gone crew.old) (C.times_gone crew.new) }
     {
         match self.apply(alloc, event, crew) {
             Ok(reply) => Ok(answer_of(reply)),
@@ -315,26 +275,6 @@ impl Laboratory {
                 None => Err(fault_by(fault)),
             },
         }
-    }
-
-    // Has a replica take edits from outside.
-    fn import<C: Crew>(
-        &mut self,
-        alloc: Global,
-        at: u32,
-        edits: &Vec<Edit>,
-        crew: &mut C,
-    ) -> Result<Answer, CrewFault>
-        requires { at < length self.old.replica_names }
-        ensures answer { IfOk result (λ answer. answer_view answer
-            ≡ (import_outcome self.old at edits.now.items).answer) }
-        ensures after { OnOk result (self.new
-            ≡ laboratory_of_winners (import_outcome self.old at edits.now.items).after) }
-        ensures unchanged { OnErr result (self.new ≡ self.old) }
-        ensures gone { C.times_gone crew.new ≡ gone_after result (C.times_gone crew.old) }
-    {
-        let edits = edits.to_vec(alloc)?;
-        self.change(alloc, &Event::Import { at, edits }, crew)
     }
 
     // Returns the number of a message's name.
@@ -355,10 +295,8 @@ impl Laboratory {
         crew: &mut C,
     ) -> Result<Answer, CrewFault>
         requires { at < length self.old.replica_names }
-        ensures answer { IfOk result (λ answer. answer_view answer ≡ (take_outcome self.old at name.now).answer) }
-        ensures after { OnOk result (self.new ≡ laboratory_of_winners (take_outcome self.old at name.now).after) }
-        ensures unchanged { OnErr result (self.new ≡ self.old) }
-        ensures gone { C.times_gone crew.new ≡ gone_after result (C.times_gone crew.old) }
+        ensures { IsOutcome (take_outcome self.old at name.now) result self.old self.new
+            (C.times_gone crew.old) (C.times_gone crew.new) }
     {
         match self.message_of(name) {
             Some(message) => self.change(alloc, &Event::Take { at, message }, crew),
@@ -373,22 +311,22 @@ impl Laboratory {
         &mut self,
         alloc: Global,
         at: u32,
-        name: &str,
+        name: String,
         crew: &mut C,
     ) -> Result<Answer, CrewFault>
         requires { at < length self.old.replica_names }
-        ensures answer { IfOk result (λ answer. answer_view answer ≡ (send_outcome self.old at name.now).answer) }
-        ensures after { OnOk result (self.new ≡ laboratory_of_winners (send_outcome self.old at name.now).after) }
-        ensures unchanged { OnErr result (self.new ≡ self.old) }
-        ensures gone { C.times_gone crew.new ≡ gone_after result (C.times_gone crew.old) }
+        ensures { IsOutcome (send_outcome self.old at (string_bytes name)) result self.old self.new
+            (C.times_gone crew.old) (C.times_gone crew.new) }
     {
-        if self.message_of(name).is_some() {
+        if self.message_of(&name).is_some() {
             return Ok(Answer::Refused(Refusal::NameTaken));
         }
-        let message = String::from_str(alloc, name)?;
         let size = self.edits_held(alloc, at)?.len() as u64;
-        self.make(alloc, &Event::Send { at }, name, crew)?;
-        Ok(Answer::Sent { message, size })
+        self.make(alloc, &Event::Send { at }, &name, crew)?;
+        Ok(Answer::Sent {
+            message: name,
+            size,
+        })
     }
 
     // Makes a message of the heads of all that a replica holds.
@@ -396,22 +334,22 @@ impl Laboratory {
         &mut self,
         alloc: Global,
         at: u32,
-        name: &str,
+        name: String,
         crew: &mut C,
     ) -> Result<Answer, CrewFault>
         requires { at < length self.old.replica_names }
-        ensures answer { IfOk result (λ answer. answer_view answer ≡ (heads_outcome self.old at name.now).answer) }
-        ensures after { OnOk result (self.new ≡ laboratory_of_winners (heads_outcome self.old at name.now).after) }
-        ensures unchanged { OnErr result (self.new ≡ self.old) }
-        ensures gone { C.times_gone crew.new ≡ gone_after result (C.times_gone crew.old) }
+        ensures { IsOutcome (heads_outcome self.old at (string_bytes name)) result self.old self.new
+            (C.times_gone crew.old) (C.times_gone crew.new) }
     {
-        if self.message_of(name).is_some() {
+        if self.message_of(&name).is_some() {
             return Ok(Answer::Refused(Refusal::NameTaken));
         }
-        let message = String::from_str(alloc, name)?;
         let heads = self.heads_held(alloc, at)?;
-        self.make(alloc, &Event::Heads { at }, name, crew)?;
-        Ok(Answer::Heads { message, heads })
+        self.make(alloc, &Event::Heads { at }, &name, crew)?;
+        Ok(Answer::Heads {
+            message: name,
+            heads,
+        })
     }
 
     // Makes a message of what a replica holds beyond the heads of another.
@@ -420,31 +358,29 @@ impl Laboratory {
         alloc: Global,
         at: u32,
         asked: &str,
-        name: &str,
+        name: String,
         crew: &mut C,
     ) -> Result<Answer, CrewFault>
         requires { at < length self.old.replica_names }
-        ensures answer { IfOk result (λ answer. answer_view answer
-            ≡ (beyond_outcome self.old at asked.now name.now).answer) }
-        ensures after { OnOk result (self.new
-            ≡ laboratory_of_winners (beyond_outcome self.old at asked.now name.now).after) }
-        ensures unchanged { OnErr result (self.new ≡ self.old) }
-        ensures gone { C.times_gone crew.new ≡ gone_after result (C.times_gone crew.old) }
+        ensures { IsOutcome (beyond_outcome self.old at asked.now (string_bytes name)) result self.old self.new
+            (C.times_gone crew.old) (C.times_gone crew.new) }
     {
         let Some(number) = self.number_of_heads(asked) else {
             return Ok(Answer::Refused(Refusal::NoMessage));
         };
-        if self.message_of(name).is_some() {
+        if self.message_of(&name).is_some() {
             return Ok(Answer::Refused(Refusal::NameTaken));
         }
-        let message = String::from_str(alloc, name)?;
         let edits = self.edits_beyond(alloc, at, number)?;
         let event = Event::Beyond {
             at,
             message: number,
         };
-        self.make(alloc, &event, name, crew)?;
-        Ok(Answer::Delta { message, edits })
+        self.make(alloc, &event, &name, crew)?;
+        Ok(Answer::Delta {
+            message: name,
+            edits,
+        })
     }
 
     // Makes a message by an event, and names it. Neither the world nor the names may refuse it.

@@ -7,7 +7,7 @@
 //! let (mut crew, crowds) = (Alone, OnThreads::new(&rt));
 //! for line in lines {
 //!     let command = read_command(alloc, line)?;
-//!     let answer = laboratory.answer(alloc, &command, &mut crew, &crowds)?;
+//!     let answer = laboratory.answer(alloc, command, &mut crew, &crowds)?;
 //!     write_all(reply_line(alloc, &answer)?.as_str())?;
 //! }
 //! ```
@@ -18,7 +18,6 @@ mod laboratory;
 pub mod laws;
 mod names;
 mod queries;
-mod question;
 mod translation;
 
 pub use laboratory::Laboratory;

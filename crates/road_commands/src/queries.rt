@@ -1,41 +1,55 @@
-//! What a replica's sheet says to a question.
+//! Queries, and what a replica's sheet answers.
 
 ghost use Rattle.std.specs.Prelude.{◌≡◌, IfErr, IfOk, None};
 ghost use Rattle.road_replica.specs.QueryCaches.{IsCacheOf};
 ghost use Rattle.road_replica.specs.Refusals.{IsRefusal};
 ghost use Rattle.road_format.specs.Views.{answer_view};
-ghost use Rattle.road_commands.specs.Private.Questions.{question_fault, sheet_answer};
+ghost use Rattle.road_commands.specs.Private.Queries.{query_fault, sheet_answer};
 
-use crate::question::Question;
 use road_format::Answer;
 use road_replica::{QueryCache, ReplicaFault};
 use road_sheet::Sheet;
 use std::alloc::Global;
+
+/// What a replica is asked. It depends on the replica's sheet alone.
+#[derive(Clone, Copy)]
+pub enum Query {
+    /// The row of a step.
+    Cells { step: u32 },
+    /// The cars of a step.
+    Cars { step: u32 },
+    /// What a detector counts in the steps from one up to another.
+    Count { detector: u32, from: u32, to: u32 },
+    /// The rows of the steps from one to another.
+    Diagram { from: u32, to: u32 },
+    /// The edits held.
+    Scenario,
+}
 
 // Asks a replica's sheet by its cache.
 pub(crate) fn ask_sheet(
     alloc: Global,
     sheet: &Sheet,
     cache: &mut QueryCache,
-    question: Question,
+    query: Query,
 ) -> Result<Answer, ReplicaFault>
     requires { IsCacheOf sheet.now cache.old }
-    ensures answer { IfOk result (λ answer. answer_view answer ≡ sheet_answer sheet.now question) }
-    ensures accepted { IfOk result (λ _. question_fault sheet.now question ≡ None) }
-    ensures refused { IfErr result (IsRefusal (question_fault sheet.now question)) }
+    ensures answer { IfOk result (λ answer. answer_view answer ≡ sheet_answer sheet.now query) }
+    ensures accepted { IfOk result (λ _. query_fault sheet.now query ≡ None) }
+    ensures refused { IfErr result (IsRefusal (query_fault sheet.now query)) }
     ensures cached { IsCacheOf sheet.now cache.new }
 {
-    match question {
-        Question::Cells { step } => Ok(Answer::Cells(cache.row(alloc, sheet, step)?)),
-        Question::Cars { step } => Ok(Answer::Cars(cache.state(alloc, sheet, step)?.into_cars())),
-        Question::Count { detector, from, to } => {
+    match query {
+        Query::Cells { step } => Ok(Answer::Cells(cache.row(alloc, sheet, step)?)),
+        Query::Cars { step } => Ok(Answer::Cars(cache.state(alloc, sheet, step)?.into_cars())),
+        Query::Count { detector, from, to } => {
             let totals = cache.totals(alloc, sheet, detector, from, to)?;
             Ok(Answer::Counted {
                 cars: totals.cars,
                 speeds: totals.speeds,
             })
         }
-        Question::Diagram { from, to } => Ok(Answer::Rows(cache.rows(alloc, sheet, from, to)?)),
-        Question::Scenario => Ok(Answer::Edits(sheet.scenario().edits(alloc)?)),
+        Query::Diagram { from, to } => Ok(Answer::Rows(cache.rows(alloc, sheet, from, to)?)),
+        Query::Scenario => Ok(Answer::Edits(sheet.scenario().edits(alloc)?)),
     }
 }

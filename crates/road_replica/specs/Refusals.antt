@@ -42,11 +42,11 @@ made_edit_fault edits.ValueOutOfRange = ValueOutOfRange
 made_edit_fault edits.Count = CountsSpent
 
 -- the refusal of a query, where the sheet refuses it
-abbrev pub question_fault : SheetFault → ReplicaFault
-question_fault sheet_faults.NoDetector = NoDetector
-question_fault sheet_faults.Range = Range
-question_fault sheet_faults.NotSimulated = NotSimulated
-question_fault sheet_faults.OutOfMemory = OutOfMemory
+abbrev pub query_fault : SheetFault → ReplicaFault
+query_fault sheet_faults.NoDetector = NoDetector
+query_fault sheet_faults.Range = Range
+query_fault sheet_faults.NotSimulated = NotSimulated
+query_fault sheet_faults.OutOfMemory = OutOfMemory
 
 -- the refusal of a write, where the sheet does not grow
 abbrev pub growth_fault : GrownFault → ReplicaFault
@@ -79,11 +79,11 @@ advance_fault to = if nat_lt GREATEST_HORIZON to then Some Horizon else None
 
 -- the cause for which a query for a state is refused
 abbrev pub state_fault : Sheet → ℕ → Option ReplicaFault
-state_fault s step = option_map question_fault (sheets.state_fault s step)
+state_fault s step = option_map query_fault (sheets.state_fault s step)
 
 -- the first named cause for which a query for totals is refused
 abbrev pub totals_fault : Sheet → ℕ → ℕ → ℕ → Option ReplicaFault
-totals_fault s detector from to = option_map question_fault (sheets.totals_fault s detector from to)
+totals_fault s detector from to = option_map query_fault (sheets.totals_fault s detector from to)
 
 -- whether the rows from one step to another are none, or more than one diagram has
 abbrev pub is_out_of_range : ℕ → ℕ → Bool

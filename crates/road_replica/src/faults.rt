@@ -64,7 +64,7 @@ impl From<AllocError> for ReplicaFault {
 }
 
 impl From<SheetFault> for ReplicaFault {
-    ghost from_gives = { λ fault made. made ≡ refusals.question_fault fault };
+    ghost from_gives = { λ fault made. made ≡ refusals.query_fault fault };
 
     fn from(fault: SheetFault) -> ReplicaFault {
         match fault {

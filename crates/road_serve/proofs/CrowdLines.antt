@@ -1,5 +1,6 @@
 -- Crowds among the lines: one that is held becomes one of the lines, and stays one as more bytes come.
 use Rattle.std.proofs.Common.{◌≡◌, ◌<◌, ◌≤◌, ◌+◌, ℕ, suc, List, [], ◌∷◌, ◌++◌, ◌||◌, length, take, drop, Bool, true, false, Option, Some, None, Result, Ok, Err, refl, ap, sym, ◌∙◌, append-nil}
+use Rattle.std.specs.Prelude.{MatchResult}
 use Rattle.std.specs.List.{list_any}
 use Rattle.std.proofs.lemmas.List.{take_all}
 use Rattle.std.proofs.lemmas.List.Folds.{list_any-append}
@@ -12,13 +13,16 @@ use Rattle.road_format.proofs.CutLines.{lines_go_on}
 use Rattle.road_commands.specs.Laboratory.{Laboratory, opening_laboratory}
 use Rattle.road_commands.proofs.PlanStays.{plan-after}
 use Rattle.road_serve.specs.Answers.{command_reading, gathers, gathers_by, has_crowd, has_more_lines, laboratory_after_line, lines_gather, plan_reading, reading_unless}
-use Rattle.road_serve.specs.Dialogue.{GoesOn, Holds, IsAfterLines, laboratory_after_lines}
+use Rattle.road_serve.specs.Dialogue.{GoesOn, HasAnswered, HasFinished, Holds, IsAfterLines, IsStopped, laboratory_after_lines}
 use Rattle.road_serve.specs.Private.KeptLaboratory.{gathers_at, holds_crowd}
+use Rattle.road_serve.specs.StreamViews.{SinkView}
 use Rattle.road_serve.specs.declared.dialogue.Dialogue.{Dialogue}
+use Rattle.road_serve.specs.declared.faults.ServeFault.{ServeFault}
 use Rattle.road_serve.proofs.AnswersGrow.{take_front, whole_few}
 use Rattle.road_serve.proofs.CutBytes.{EndsAt, cut-newline}
-use Rattle.road_serve.proofs.DialogueCalls.{both_parts, line_taken}
-use Rattle.road_serve.proofs.DialogueEnds.{ended_line, newline_lines}
+use Rattle.road_serve.proofs.DialogueCalls.{both_parts, line_taken, stops_same}
+use Rattle.road_serve.proofs.DialogueEnds.{answers_ended, ended_line, line_finished, newline_lines}
+use Rattle.road_serve.proofs.GoneCounts.{counts_same}
 use Rattle.road_serve.proofs.LineReplies.{held_reading}
 
 -- ---- as more lines come
@@ -61,11 +65,21 @@ same_lines n [] r = refl
 same_lines n (l ∷ ls) r = refl
 
 -- a last piece is a line, as if a newline stood behind it
-pub crowd_ended : (n : ℕ) (a : List ℕ) → 0 < length (pieces_of a).1 → has_crowd n a true ≡ has_crowd n (a ++ newline ∷ []) false
+crowd_ended : (n : ℕ) (a : List ℕ) → 0 < length (pieces_of a).1 → has_crowd n a true ≡ has_crowd n (a ++ newline ∷ []) false
 unfolding has_crowd
 crowd_ended n a some =
     ap (λ (ls : List (List ℕ)). lines_gather true (take (suc n) ls)) (ended_line a some) ∙ same_lines n (pieces_of a).0 (pieces_of a).1
     ∙ ap (λ (ls : List (List ℕ)). lines_gather false (take (suc n) ls)) (sym (newline_lines a))
+
+-- a last line that is answered or where a call fails, at the end of the input
+pub line_ends : (n : ℕ) (a : List ℕ) (first sink : SinkView) (d : Dialogue) (r : Result (Unit {0}) ServeFault) (gone later : ℕ) → has_more_lines n a ≡ false → 0 < length (pieces_of a).1
+    → MatchResult r (λ _. HasAnswered n (a ++ newline ∷ []) first sink d) (λ fault. IsStopped n (a ++ newline ∷ []) false first sink fault gone later)
+    → MatchResult r (λ _. HasFinished n a first sink d) (λ fault. IsStopped n a true first sink fault gone later)
+line_ends n a first sink d (Ok done) gone later few some h = line_finished n a first sink d few some h
+line_ends n a first sink d (Err fault) gone later few some s = record {
+  stops = stops_same first sink _ _ fault (sym (answers_ended n a some)) s.stops;
+  counts = counts_same fault _ _ _ _ _ (sym (crowd_ended n a some)) refl s.counts;
+}
 
 -- ---- the plan stays
 

@@ -7,10 +7,10 @@ use Rattle.std.specs.Io.KnownBytes.{Appends}
 use Rattle.road_format.specs.Cut.{newline, pieces_of}
 use Rattle.road_workers.specs.declared.faults.CrewFault.{CrewFault}
 use Rattle.road_workers.specs.declared.faults.CrewFault.TheVariants as crew_faults
-use Rattle.road_serve.specs.Answers.{answers, has_more_lines}
-use Rattle.road_serve.specs.Faults.{crew_fault}
+use Rattle.road_serve.specs.Answers.{answers, has_crowd, has_more_lines}
+use Rattle.road_serve.specs.Faults.{CountsGone, crew_fault}
 use Rattle.road_serve.specs.Failures.{RisesByOne}
-use Rattle.road_serve.specs.Dialogue.{Holds, GoesOn, Stands, HasAnswered}
+use Rattle.road_serve.specs.Dialogue.{Holds, GoesOn, Stands, HasAnswered, IsStopped}
 use Rattle.road_serve.specs.StreamViews.{SinkView, TakesAllBut, TakesFront, Stops}
 use Rattle.road_serve.specs.declared.dialogue.Dialogue.{Dialogue}
 use Rattle.road_serve.specs.declared.faults.EarlyEnd.{EarlyEnd}
@@ -63,18 +63,20 @@ Put sink sink' text rest r =
     OnOk r (TakesAllBut sink sink' text rest) × OnOk r (sink'.failures ≡ sink.failures) × IfErr r (λ fault. Stops sink sink' text fault)
 
 -- the dialogue after the line, d', has another text waiting than before its reply was put, d
-pub answer_ends : (n : ℕ) (a b text all : List ℕ) (first sink sink' : SinkView) (d0 d d' : Dialogue) (r : Result (Unit {0}) ServeFault) → HasAnswered n a first sink d0 → answers n (a ++ b) false ≡ answers n a false ++ text → Stands n (a ++ b) d d.over
+pub answer_ends : (n : ℕ) (a b text all : List ℕ) (first sink sink' : SinkView) (d0 d d' : Dialogue) (r : Result (Unit {0}) ServeFault) (count later : ℕ) → HasAnswered n a first sink d0 → answers n (a ++ b) false ≡ answers n a false ++ text → Stands n (a ++ b) d d.over
     → all ≡ d0.waiting.items ++ text → Put sink sink' all d'.waiting.items r → d'.laboratory ≡ d.laboratory → d'.left ≡ d.left → d'.held ≡ d.held → d'.long ≡ d.long → d'.over ≡ d.over
-    → MatchResult r (λ _. HasAnswered n (a ++ b) first sink' d') (λ fault. Stops first sink' (answers n (a ++ b) false) fault)
-answer_ends n a b text all first sink sink' d0 d d' (Ok done) h says stands e put lab left held long over =
+    → IfErr r (λ fault. CountsGone fault (has_crowd n (a ++ b) false) count later) → MatchResult r (λ _. HasAnswered n (a ++ b) first sink' d') (λ fault. IsStopped n (a ++ b) false first sink' fault count later)
+answer_ends n a b text all first sink sink' d0 d d' (Ok done) count later h says stands e put lab left held long over counts =
     let Family : Option EarlyEnd → Type 0 = λ o. Stands n (a ++ b) d' o in
     record {
       answered = takes_same first sink' _ _ _ _ (sym says) refl (takes_more first sink sink' (answers n a false) d0.waiting.items text d'.waiting.items h.answered (takes_same sink sink' all _ _ _ e refl put.0));
       well = put.1 ∙ h.well;
       stands = subst Family (sym over) (stands_same n (a ++ b) d d' d.over lab left held long stands);
     }
-answer_ends n a b text all first sink sink' d0 d d' (Err fault) h says stands e put lab left held long over =
-    stops_same first sink' _ _ fault (sym says) (stops_after first sink sink' (answers n a false) d0.waiting.items text fault h.answered h.well (stops_same sink sink' all _ fault e put.2))
+answer_ends n a b text all first sink sink' d0 d d' (Err fault) count later h says stands e put lab left held long over counts = record {
+  stops = stops_same first sink' _ _ fault (sym says) (stops_after first sink sink' (answers n a false) d0.waiting.items text fault h.answered h.well (stops_same sink sink' all _ fault e put.2));
+  counts = counts;
+}
 
 -- ---- the bytes of a line are held
 

@@ -1,13 +1,14 @@
 -- What holds of a dialogue at the end of the input.
 use Rattle.std.proofs.Common.{◌≡◌, ◌<◌, ℕ, suc, List, [], ◌∷◌, ◌++◌, length, take, Bool, true, false, IsSome, Option, Some, None, Result, Ok, Err, refl, ap, sym, subst, ◌∙◌, append-nil, length-append, arith}
-use Rattle.std.specs.Prelude.{MatchResult}
+use Rattle.std.specs.Prelude.{IfErr, MatchResult}
 use Rattle.std.specs.Io.KnownBytes.{Appends}
 use Rattle.road_format.specs.Cut.{newline, Pieces, pieces_of, last_line, lines_of}
 use Rattle.road_format.specs.Replies.{Refused, reply}
 use Rattle.road_format.specs.declared.refusal.Refusal.TheVariants as refusals
 use Rattle.road_commands.specs.Laboratory.{Laboratory}
-use Rattle.road_serve.specs.Answers.{first_reading, line_replies, answers, is_refusal, is_plan_refused, has_more_lines}
-use Rattle.road_serve.specs.Dialogue.{IsAfterLines, Holds, Whole, TooLong, GoesOn, Stands, StandsAtEnd, HasAnswered, HasFinished}
+use Rattle.road_serve.specs.Answers.{first_reading, line_replies, answers, has_crowd, is_refusal, is_plan_refused, has_more_lines}
+use Rattle.road_serve.specs.Dialogue.{IsAfterLines, Holds, Whole, TooLong, GoesOn, Stands, StandsAtEnd, HasAnswered, HasFinished, IsStopped}
+use Rattle.road_serve.specs.Faults.{CountsGone}
 use Rattle.road_serve.specs.StreamViews.{SinkView, Stops}
 use Rattle.road_serve.specs.declared.dialogue.Dialogue.{Dialogue}
 use Rattle.road_serve.specs.declared.faults.EarlyEnd.{EarlyEnd}
@@ -47,7 +48,7 @@ replies_ended : (n : ℕ) (ls : List (List ℕ)) (r : List ℕ) → line_replies
 replies_ended n [] r = refl
 replies_ended n (l ∷ ls) r = refl
 
-answers_ended : (n : ℕ) (a : List ℕ) → 0 < length (pieces_of a).1 → answers n a true ≡ answers n (a ++ newline ∷ []) false
+pub answers_ended : (n : ℕ) (a : List ℕ) → 0 < length (pieces_of a).1 → answers n a true ≡ answers n (a ++ newline ∷ []) false
 unfolding answers
 answers_ended n a some =
     ap (λ (ls : List (List ℕ)). line_replies true (take (suc n) ls)) (ended_line a some) ∙ replies_ended n (pieces_of a).0 (pieces_of a).1
@@ -95,15 +96,12 @@ stands_line n a d (Some ends.TooMany) few some many = let no = last_few n a few 
 pub rest_of : (n : ℕ) (a : List ℕ) (d : Dialogue) → GoesOn n a d → (d.held.items ≡ [] → d.long ≡ false → ⊥) → 0 < length (pieces_of a).1
 rest_of n a d on some = has_rest d.held.items d.long (pieces_of a).1 on.holds some
 
-pub line_ends : (n : ℕ) (a : List ℕ) (first sink : SinkView) (d : Dialogue) (r : Result (Unit {0}) ServeFault) → has_more_lines n a ≡ false → 0 < length (pieces_of a).1
-    → MatchResult r (λ _. HasAnswered n (a ++ newline ∷ []) first sink d) (λ fault. Stops first sink (answers n (a ++ newline ∷ []) false) fault)
-    → MatchResult r (λ _. HasFinished n a first sink d) (λ fault. Stops first sink (answers n a true) fault)
-line_ends n a first sink d (Ok done) few some h = record {
+pub line_finished : (n : ℕ) (a : List ℕ) (first sink : SinkView) (d : Dialogue) → has_more_lines n a ≡ false → 0 < length (pieces_of a).1 → HasAnswered n (a ++ newline ∷ []) first sink d → HasFinished n a first sink d
+line_finished n a first sink d few some h = record {
   answered = takes_same first sink _ _ _ _ (sym (answers_ended n a some)) refl h.answered;
   well = h.well;
   stands = stands_line n a d d.over few some h.stands;
 }
-line_ends n a first sink d (Err fault) few some s = stops_same first sink _ _ fault (sym (answers_ended n a some)) s
 
 -- ---- nothing stands behind the last newline
 
@@ -173,10 +171,10 @@ no_plan_facts n a d on held short kept =
     let none = none_at_all a clear whole in
     (answers_none n a none whole, refused_none a none)
 
-pub no_plan_ends : (n : ℕ) (a text all : List ℕ) (first sink sink' : SinkView) (d d' : Dialogue) (r : Result (Unit {0}) ServeFault) → HasAnswered n a first sink d → d.over ≡ None → d.held.items ≡ [] → d.long ≡ false → d.laboratory ≡ None
+pub no_plan_ends : (n : ℕ) (a text all : List ℕ) (first sink sink' : SinkView) (d d' : Dialogue) (r : Result (Unit {0}) ServeFault) (count later : ℕ) → HasAnswered n a first sink d → d.over ≡ None → d.held.items ≡ [] → d.long ≡ false → d.laboratory ≡ None
     → text ≡ reply (Refused refusals.NoPlan) → all ≡ d.waiting.items ++ text → Put sink sink' all d'.waiting.items r → d'.over ≡ Some ends.BadPlan → d'.laboratory ≡ d.laboratory → d'.left ≡ d.left
-    → MatchResult r (λ _. HasFinished n a first sink' d') (λ fault. Stops first sink' (answers n a true) fault)
-no_plan_ends n a text all first sink sink' d d' (Ok done) h none held short kept says e put over lab left =
+    → IfErr r (λ fault. CountsGone fault (has_crowd n a true) count later) → MatchResult r (λ _. HasFinished n a first sink' d') (λ fault. IsStopped n a true first sink' fault count later)
+no_plan_ends n a text all first sink sink' d d' (Ok done) count later h none held short kept says e put over lab left counts =
     let f = no_plan_facts n a d (goes_on n a first sink d h none) held short kept in
     let Family : Option EarlyEnd → Type 0 = λ o. StandsAtEnd n a d' o in
     record {
@@ -185,10 +183,13 @@ no_plan_ends n a text all first sink sink' d d' (Ok done) h none held short kept
       well = put.1 ∙ h.well;
       stands = subst Family (sym over) (f.1, lab ∙ kept, left ∙ all_left n (pieces_of a).0 d.laboratory d.left (goes_on n a first sink d h none).after kept);
     }
-no_plan_ends n a text all first sink sink' d d' (Err fault) h none held short kept says e put over lab left =
+no_plan_ends n a text all first sink sink' d d' (Err fault) count later h none held short kept says e put over lab left counts =
     let f = no_plan_facts n a d (goes_on n a first sink d h none) held short kept in
-    stops_same first sink' _ _ fault (ap (λ (t : List ℕ). answers n a false ++ t) says ∙ sym f.0)
-    (stops_after first sink sink' (answers n a false) d.waiting.items text fault h.answered h.well (stops_same sink sink' all _ fault e put.2))
+    record {
+      stops = stops_same first sink' _ _ fault (ap (λ (t : List ℕ). answers n a false ++ t) says ∙ sym f.0)
+          (stops_after first sink sink' (answers n a false) d.waiting.items text fault h.answered h.well (stops_same sink sink' all _ fault e put.2));
+      counts = counts;
+    }
 
 -- ---- what waits is flushed
 

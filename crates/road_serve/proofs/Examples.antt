@@ -36,9 +36,9 @@ most_bytes = refl
 unfoldable free_road : List ℕ
 free_road = codes "{\"detectors\":[5],\"exit\":1,\"inlets\":[[0,65536]],\"length\":12,\"replicas\":[\"A\",\"B\",\"C\"],\"words\":\"steady\",\"zone\":12,\"zones\":[[2,0]]}\n"
 
--- questions, refusals of each kind, and a last piece without a newline
-unfoldable questions : List ℕ
-questions = codes "{\"cells\":{\"at\":\"A\",\"step\":0}}\n{\"cells\":{\"at\":\"A\",\"step\":1}}\n\n{\"advance\":{\"at\":\"A\",\"to\":6}}\n{\"advance\":{\"at\":\"A\",\"to\":3}}\n{\"cells\":{\"step\":6,\"at\":\"A\"}}\n{\"cells\":{\"at\":\"B\",\"step\":6}}\n{\"advance\":{\"at\":\"D\",\"to\":1}}\n{\"advance\":{\"at\":\"A\",\"to\":1048577}}\n{\"advance\":{\"at\":\"A\",\"to\":1,\"form\":1}}\n{\"cells\":{\"at\":\"A\",\"step\":2}}"
+-- queries, refusals of each kind, and a last piece without a newline
+unfoldable queries : List ℕ
+queries = codes "{\"cells\":{\"at\":\"A\",\"step\":0}}\n{\"cells\":{\"at\":\"A\",\"step\":1}}\n\n{\"advance\":{\"at\":\"A\",\"to\":6}}\n{\"advance\":{\"at\":\"A\",\"to\":3}}\n{\"cells\":{\"step\":6,\"at\":\"A\"}}\n{\"cells\":{\"at\":\"B\",\"step\":6}}\n{\"advance\":{\"at\":\"D\",\"to\":1}}\n{\"advance\":{\"at\":\"A\",\"to\":1048577}}\n{\"advance\":{\"at\":\"A\",\"to\":1,\"form\":1}}\n{\"cells\":{\"at\":\"A\",\"step\":2}}"
 
 abbrev free_plan : Plan
 free_plan = record { cells = 12; exit = 1; width = 12; zones = (2, 0) ∷ []; inlets = (0, 65536) ∷ []; detectors = 5 ∷ []; words = Steady }
@@ -67,16 +67,16 @@ with_rows first six two =
     ++ (reply (CellsReply six) ++ (reply (Refused refusals.NotSimulated) ++ (reply (Refused refusals.NoReplica) ++ (reply (Refused refusals.Horizon)
     ++ (reply (Refused refusals.NotACommand) ++ (reply (CellsReply two) ++ [])))))))))))
 
-as_rows : answers_within 1000000 (2 ^ 32) (free_road ++ questions) true ≡ with_rows (row_at free_plan empty 0) (row_at free_plan empty 6) (row_at free_plan empty 2)
-unfolding road_format_on_literals later_replies answers answers_within free_road questions
+as_rows : answers_within 1000000 (2 ^ 32) (free_road ++ queries) true ≡ with_rows (row_at free_plan empty 0) (row_at free_plan empty 6) (row_at free_plan empty 2)
+unfolding road_format_on_literals later_replies answers answers_within free_road queries
 as_rows = refl
 
 as_text : with_rows (codes "............") (codes "0..2...2....") (codes "0..2........") ≡ codes "{\"open\":3}\n{\"cells\":\"............\"}\n{\"refused\":\"NotSimulated\"}\n{\"refused\":\"not json\"}\n{\"horizon\":6}\n{\"horizon\":6}\n{\"cells\":\"0..2...2....\"}\n{\"refused\":\"NotSimulated\"}\n{\"refused\":\"NoReplica\"}\n{\"refused\":\"Horizon\"}\n{\"refused\":\"not a command\"}\n{\"cells\":\"0..2........\"}\n"
 unfolding road_format_on_literals
 as_text = refl
 
-answers_to_questions : answers_within 1000000 (2 ^ 32) (free_road ++ questions) true ≡ codes "{\"open\":3}\n{\"cells\":\"............\"}\n{\"refused\":\"NotSimulated\"}\n{\"refused\":\"not json\"}\n{\"horizon\":6}\n{\"horizon\":6}\n{\"cells\":\"0..2...2....\"}\n{\"refused\":\"NotSimulated\"}\n{\"refused\":\"NoReplica\"}\n{\"refused\":\"Horizon\"}\n{\"refused\":\"not a command\"}\n{\"cells\":\"0..2........\"}\n"
-answers_to_questions =
+answers_to_queries : answers_within 1000000 (2 ^ 32) (free_road ++ queries) true ≡ codes "{\"open\":3}\n{\"cells\":\"............\"}\n{\"refused\":\"NotSimulated\"}\n{\"refused\":\"not json\"}\n{\"horizon\":6}\n{\"horizon\":6}\n{\"cells\":\"0..2...2....\"}\n{\"refused\":\"NotSimulated\"}\n{\"refused\":\"NoReplica\"}\n{\"refused\":\"Horizon\"}\n{\"refused\":\"not a command\"}\n{\"cells\":\"0..2........\"}\n"
+answers_to_queries =
     as_rows ∙ ap (λ (r : List ℕ). with_rows r (row_at free_plan empty 6) (row_at free_plan empty 2)) (unedited free_plan 0 ∙ at_zero)
     ∙ ap (λ (r : List ℕ). with_rows (codes "............") r (row_at free_plan empty 2)) (unedited free_plan 6 ∙ at_six)
     ∙ ap (λ (r : List ℕ). with_rows (codes "............") (codes "0..2...2....") r) (unedited free_plan 2 ∙ at_two) ∙ as_text
@@ -100,15 +100,15 @@ unfolding road_format_on_literals later_replies answers answers_within
 a_refused_plan = refl
 
 -- no line past the limit of lines is answered
-one_line_as_row : answers_within 1 1000 (free_road ++ questions) true ≡ reply (Open 3) ++ (reply (CellsReply (row_at free_plan empty 0)) ++ [])
-unfolding road_format_on_literals later_replies answers answers_within free_road questions
+one_line_as_row : answers_within 1 1000 (free_road ++ queries) true ≡ reply (Open 3) ++ (reply (CellsReply (row_at free_plan empty 0)) ++ [])
+unfolding road_format_on_literals later_replies answers answers_within free_road queries
 one_line_as_row = refl
 
 one_line_as_text : reply (Open 3) ++ (reply (CellsReply (codes "............")) ++ []) ≡ codes "{\"open\":3}\n{\"cells\":\"............\"}\n"
 unfolding road_format_on_literals
 one_line_as_text = refl
 
-one_line_only : answers_within 1 1000 (free_road ++ questions) true ≡ codes "{\"open\":3}\n{\"cells\":\"............\"}\n"
+one_line_only : answers_within 1 1000 (free_road ++ queries) true ≡ codes "{\"open\":3}\n{\"cells\":\"............\"}\n"
 one_line_only = one_line_as_row ∙ ap (λ (r : List ℕ). reply (Open 3) ++ (reply (CellsReply r) ++ [])) (unedited free_plan 0 ∙ at_zero) ∙ one_line_as_text
 
 -- each refusal of a plan line ends all

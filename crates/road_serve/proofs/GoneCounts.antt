@@ -50,8 +50,3 @@ counts_same fault crowd crowd' before before' after e f counts =
     let Crowds : Bool → Type 0 = λ x. CountsGone fault x before after in
     let Befores : ℕ → Type 0 = λ x. CountsGone fault crowd' x after in
     subst Befores f (subst Crowds e counts)
-
-pub ends_same : {A : Type 0} (result : Result A ServeFault) (crowd crowd' : Bool) (before after : ℕ) → crowd ≡ crowd' → IfErr result (λ fault. CountsGone fault crowd before after) → IfErr result (λ fault. CountsGone fault crowd' before after)
-ends_same result crowd crowd' before after e counts =
-    let Crowds : Bool → Type 0 = λ x. IfErr result (λ fault. CountsGone fault x before after) in
-    subst Crowds e counts

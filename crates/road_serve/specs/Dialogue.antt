@@ -6,11 +6,13 @@ use Rattle.road_format.specs.Cut.{pieces_of, lines_of}
 use Rattle.road_format.specs.PlanGrammar.{PlanLine}
 use Rattle.road_commands.specs.Laboratory.{Laboratory, laboratory_of_winners, opening_laboratory}
 use Rattle.road_serve.specs.Answers.{plan_reading, command_reading, laboratory_after_line, answers}
-use Rattle.road_serve.specs.Answers.{is_plan_refused, has_more_lines}
-use Rattle.road_serve.specs.StreamViews.{SinkView, TakesAllBut}
+use Rattle.road_serve.specs.Answers.{has_crowd, is_plan_refused, has_more_lines}
+use Rattle.road_serve.specs.Faults.{CountsGone}
+use Rattle.road_serve.specs.StreamViews.{SinkView, Stops, TakesAllBut}
 use Rattle.road_serve.specs.declared.dialogue.Dialogue.{Dialogue}
 use Rattle.road_serve.specs.declared.faults.EarlyEnd.{EarlyEnd}
 use Rattle.road_serve.specs.declared.faults.EarlyEnd.TheVariants as ends
+use Rattle.road_serve.specs.declared.faults.ServeFault.{ServeFault}
 
 -- ---- whole lines
 
@@ -80,3 +82,12 @@ pub record HasFinished (lines : ℕ) (bytes : List ℕ) (first sink : SinkView) 
   pub answered : TakesAllBut first sink (answers lines bytes true) d.waiting.items
   pub well : sink.failures ≡ first.failures
   pub stands : StandsAtEnd lines bytes d d.over
+
+-- ---- a call that fails
+
+-- A call ended with this fault that would have answered these bytes: a front of the answers is in the sink, and the
+-- crew has gone so often.
+pub record IsStopped (lines : ℕ) (bytes : List ℕ) (ended : Bool) (first sink : SinkView) (fault : ServeFault)
+    (gone later : ℕ) : Type 0 where
+  pub stops : Stops first sink (answers lines bytes ended) fault
+  pub counts : CountsGone fault (has_crowd lines bytes ended) gone later

@@ -14,7 +14,7 @@ use clap::{Arg, ArgMatches, Command, Error};
 use road_plan::limits::MOST_WORKERS;
 use std::alloc::{AllocError, Global};
 
-// Why words are not read.
+// Says why words are not read.
 #[derive(Clone, Copy, Debug, PartialEq, Eq)]
 pub(crate) enum ArgumentFault {
     // They are not accepted.
@@ -33,7 +33,7 @@ impl From<AllocError> for ArgumentFault {
     }
 }
 
-// What the words ask for.
+// Says what the words ask for.
 #[derive(Clone, Copy, Debug, PartialEq, Eq)]
 pub(crate) struct Arguments<'a> {
     // The path of the script. Without one, standard input is read.

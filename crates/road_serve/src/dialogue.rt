@@ -1,6 +1,6 @@
 //! What serves lines: bytes become lines, and lines replies.
 
-ghost use Rattle.std.specs.Prelude.{◌≡◌, ◌↔◌, ◌==◌, ◌++◌, ◌∷◌, ◌<◌, ◌≤◌, ℕ, List, [], IfErr, IfOk, OnOk, MatchResult};
+ghost use Rattle.std.specs.Prelude.{◌≡◌, ◌↔◌, ◌==◌, ◌++◌, ◌∷◌, ◌<◌, ◌≤◌, ℕ, List, [], IfOk, OnOk, MatchResult};
 ghost use Rattle.std.specs.Prelude.{IsTrue, IsSome, length, vec_len, take, true, false, None, Ok, Some, string_bytes};
 ghost use Rattle.std.specs.List.{position};
 ghost use Rattle.road_format.specs.Cut.{newline};
@@ -13,12 +13,11 @@ ghost use Rattle.road_format.specs.Views.{texts, plan_line_view, command_view};
 ghost use Rattle.road_commands.specs.Laboratory.{answer_to, gone_after_command, is_gathered};
 ghost use Rattle.road_commands.specs.Laboratory.{laboratory_after, laboratory_of_winners};
 ghost use Rattle.road_serve.specs.Answers.{reading_unless, opening_answer, line_answer, gathers};
-ghost use Rattle.road_serve.specs.Answers.{answers, has_crowd, has_more_lines};
-ghost use Rattle.road_serve.specs.Dialogue.{Holds, GoesOn, Stands, HasAnswered, HasFinished};
+ghost use Rattle.road_serve.specs.Answers.{answers, has_more_lines};
+ghost use Rattle.road_serve.specs.Dialogue.{Holds, GoesOn, Stands, HasAnswered, HasFinished, IsStopped};
 ghost use Rattle.road_serve.specs.Private.KeptLaboratory.{holds_crowd, kept_after_line, opened_laboratory};
-ghost use Rattle.road_serve.specs.Faults.{CountsGone};
 ghost use Rattle.road_serve.specs.Private.Readings.{IsRead};
-ghost use Rattle.road_serve.specs.StreamViews.{SinkView, sink_view, Stops};
+ghost use Rattle.road_serve.specs.StreamViews.{SinkView, sink_view};
 
 use crate::faults::{EarlyEnd, ServeFault};
 use crate::reply_buffer::{flush, put};
@@ -130,7 +129,7 @@ fn later_reply<C: Crew, K: Crowds>(
         (gathers laboratory.old.world.plan (reading_unless long (command_of held.now))) (C.times_gone crew.old) }
 {
     match later_line(alloc, held, long)? {
-        Ok(command) => command_reply(alloc, laboratory, &command, crew, crowds),
+        Ok(command) => command_reply(alloc, laboratory, command, crew, crowds),
         Err(refusal) => Ok(refusal_reply(alloc, refusal)?),
     }
 }
@@ -139,16 +138,16 @@ fn later_reply<C: Crew, K: Crowds>(
 fn command_reply<C: Crew, K: Crowds>(
     alloc: Global,
     laboratory: &mut Laboratory,
-    command: &Command,
+    command: Command,
     crew: &mut C,
     crowds: &K,
 ) -> Result<String, CrewFault>
     ensures text { IfOk result (λ text. string_bytes text
-        ≡ reply (answer_to laboratory.old (command_view command.now))) }
+        ≡ reply (answer_to laboratory.old (command_view command))) }
     ensures after { OnOk result (laboratory.new
-        ≡ laboratory_of_winners (laboratory_after laboratory.old (command_view command.now))) }
+        ≡ laboratory_of_winners (laboratory_after laboratory.old (command_view command))) }
     ensures gone { C.times_gone crew.new ≡ gone_after_command result
-        (is_gathered laboratory.old.world.plan (command_view command.now)) (C.times_gone crew.old) }
+        (is_gathered laboratory.old.world.plan (command_view command)) (C.times_gone crew.old) }
 {
     let answer = laboratory.answer(alloc, command, crew, crowds)?;
     Ok(reply_line(alloc, &answer)?)
@@ -276,13 +275,9 @@ impl Dialogue {
             → has_more_lines lines (bytes ++ newline ∷ []) ≡ false
             → MatchResult result
             (λ _. HasAnswered lines (bytes ++ newline ∷ []) first (sink_view W.Sink writer.new) self.new)
-            (λ fault. Stops first (sink_view W.Sink writer.new) (answers lines (bytes ++ newline ∷ []) false) fault) }
-        ensures kept { OnOk result (C.times_gone crew.new ≡ C.times_gone crew.old) }
-        ensures lost { (lines : ℕ) (bytes : List ℕ) (first : SinkView)
-            → HasAnswered lines bytes first (sink_view W.Sink writer.old) self.old
-            → has_more_lines lines (bytes ++ newline ∷ []) ≡ false
-            → IfErr result (λ fault. CountsGone fault (has_crowd lines (bytes ++ newline ∷ []) false)
+            (λ fault. IsStopped lines (bytes ++ newline ∷ []) false first (sink_view W.Sink writer.new) fault
             (C.times_gone crew.old) (C.times_gone crew.new)) }
+        ensures kept { OnOk result (C.times_gone crew.new ≡ C.times_gone crew.old) }
     {
         let reply = self.reply(alloc, crew, crowds)?;
         put(&mut self.waiting, writer, reply.as_bytes())
@@ -303,12 +298,9 @@ impl Dialogue {
             → HasAnswered lines before first (sink_view W.Sink writer.old) self.old
             → MatchResult result
             (λ n. HasAnswered lines (before ++ take n bytes.now) first (sink_view W.Sink writer.new) self.new)
-            (λ fault. Stops first (sink_view W.Sink writer.new) (answers lines (before ++ bytes.now) false) fault) }
-        ensures kept { OnOk result (C.times_gone crew.new ≡ C.times_gone crew.old) }
-        ensures lost { (lines : ℕ) (before : List ℕ) (first : SinkView)
-            → HasAnswered lines before first (sink_view W.Sink writer.old) self.old
-            → IfErr result (λ fault. CountsGone fault (has_crowd lines (before ++ bytes.now) false)
+            (λ fault. IsStopped lines (before ++ bytes.now) false first (sink_view W.Sink writer.new) fault
             (C.times_gone crew.old) (C.times_gone crew.new)) }
+        ensures kept { OnOk result (C.times_gone crew.new ≡ C.times_gone crew.old) }
     {
         if self.over.is_some() {
             return Ok(bytes.len());
@@ -350,14 +342,11 @@ impl Dialogue {
             → HasAnswered lines before first (sink_view W.Sink writer.old) self.old
             → MatchResult result
             (λ _. HasAnswered lines (before ++ bytes.now) first (sink_view W.Sink writer.new) self.new)
-            (λ fault. Stops first (sink_view W.Sink writer.new) (answers lines (before ++ bytes.now) false) fault) }
+            (λ fault. IsStopped lines (before ++ bytes.now) false first (sink_view W.Sink writer.new) fault
+            (C.times_gone crew.old) (C.times_gone crew.new)) }
         ensures none_wait { OnOk result (self.new.waiting.items ≡ []) }
         ensures flushed { OnOk result (W.flushed writer.new ≡ true) }
         ensures kept { OnOk result (C.times_gone crew.new ≡ C.times_gone crew.old) }
-        ensures lost { (lines : ℕ) (before : List ℕ) (first : SinkView)
-            → HasAnswered lines before first (sink_view W.Sink writer.old) self.old
-            → IfErr result (λ fault. CountsGone fault (has_crowd lines (before ++ bytes.now) false)
-            (C.times_gone crew.old) (C.times_gone crew.new)) }
     {
         let mut done = 0;
         while done < bytes.len() {
@@ -380,12 +369,9 @@ impl Dialogue {
             → HasAnswered lines bytes first (sink_view W.Sink writer.old) self.old
             → MatchResult result
             (λ _. HasFinished lines bytes first (sink_view W.Sink writer.new) self.new)
-            (λ fault. Stops first (sink_view W.Sink writer.new) (answers lines bytes true) fault) }
-        ensures kept { OnOk result (C.times_gone crew.new ≡ C.times_gone crew.old) }
-        ensures lost { (lines : ℕ) (bytes : List ℕ) (first : SinkView)
-            → HasAnswered lines bytes first (sink_view W.Sink writer.old) self.old
-            → IfErr result (λ fault. CountsGone fault (has_crowd lines bytes true)
+            (λ fault. IsStopped lines bytes true first (sink_view W.Sink writer.new) fault
             (C.times_gone crew.old) (C.times_gone crew.new)) }
+        ensures kept { OnOk result (C.times_gone crew.new ≡ C.times_gone crew.old) }
     {
         if !self.is_clear() {
             return self.answer(alloc, writer, crew, crowds);
@@ -416,14 +402,11 @@ impl Dialogue {
             → HasAnswered lines bytes first (sink_view W.Sink writer.old) self.old
             → MatchResult result
             (λ _. HasFinished lines bytes first (sink_view W.Sink writer.new) self.new)
-            (λ fault. Stops first (sink_view W.Sink writer.new) (answers lines bytes true) fault) }
+            (λ fault. IsStopped lines bytes true first (sink_view W.Sink writer.new) fault
+            (C.times_gone crew.old) (C.times_gone crew.new)) }
         ensures none_wait { OnOk result (self.new.waiting.items ≡ []) }
         ensures flushed { OnOk result (W.flushed writer.new ≡ true) }
         ensures kept { OnOk result (C.times_gone crew.new ≡ C.times_gone crew.old) }
-        ensures lost { (lines : ℕ) (bytes : List ℕ) (first : SinkView)
-            → HasAnswered lines bytes first (sink_view W.Sink writer.old) self.old
-            → IfErr result (λ fault. CountsGone fault (has_crowd lines bytes true)
-            (C.times_gone crew.old) (C.times_gone crew.new)) }
     {
         self.answer_last(alloc, writer, crew, crowds)?;
         flush(&mut self.waiting, writer)?;

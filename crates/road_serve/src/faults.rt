@@ -8,13 +8,13 @@ use road_workers::CrewFault;
 use std::alloc::{AllocError, AllocFailed};
 use thiserror::Error;
 
-/// Why a run ended before all of its input was answered.
+/// Says why a run ended before all of its input was answered.
 #[derive(Debug, Drop, Error)]
 pub enum ServeFault {
     /// The plan line was refused, or there was none. The refusal was written.
     #[error("bad plan")]
     BadPlan,
-    /// There was no memory.
+    /// An allocation failed.
     #[error("no memory")]
     OutOfMemory,
     /// A write or a flush failed.
@@ -31,7 +31,7 @@ pub enum ServeFault {
     WorkersGone,
 }
 
-/// How a run is over before the end of its input.
+/// Says how a run is over before the end of its input.
 #[derive(Clone, Copy, Debug, PartialEq, Eq)]
 pub enum EarlyEnd {
     /// The plan line was refused, or there was none.
@@ -52,12 +52,12 @@ impl EarlyEnd {
     }
 }
 
-/// A source could not be read.
+/// Says that a source could not be read.
 #[derive(Debug, Drop, Error)]
 #[error("the read failed")]
 pub struct ReadFailed;
 
-/// A sink took nothing of a piece, or could not be flushed.
+/// Says that a sink took nothing of a piece, or could not be flushed.
 #[derive(Debug, Drop, Error)]
 #[error("the write failed")]
 pub struct WriteFailed;

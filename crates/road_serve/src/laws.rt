@@ -4,8 +4,8 @@ ghost use Rattle.road_serve.specs.Laws.{AnswersGoOn};
 
 use road_format::laws::lines_go_on;
 
-/// The answers to what was read begin the answers to whatever goes on from it: a reply that was written stays right,
-/// whatever comes next.
+/// States that the answers to what was read begin the answers to whatever goes on from it: a reply that was written
+/// stays right, whatever comes next.
 pub fn answers_go_on()
     ensures { AnswersGoOn }
 {

@@ -9,7 +9,7 @@ ghost use Rattle.road_serve.specs.MemoryStreams.{is_failing};
 use crate::faults::{ReadFailed, WriteFailed};
 use crate::streams::{Sink, Source};
 
-/// Which calls fail. They are counted from 0.
+/// Says which calls fail, counted from 0.
 #[derive(Clone, Copy, Debug)]
 pub enum Failing {
     /// None.
@@ -33,7 +33,7 @@ impl Failing {
     }
 }
 
-// Calls of one kind: how many there were, and which fail.
+// Counts the calls of one kind, and says which fail.
 #[derive(Drop)]
 struct Calls {
     made: u64,
@@ -104,7 +104,7 @@ impl<'a> Source for MemorySource<'a> {
         ensures well { OnOk result (self.new.failures ≡ self.old.failures) }
         ensures not_ended { OnErr result (⟦<MemorySource<'a> as Source>⟧.at_end self.new ≡ false) }
         ensures failed { OnErr result (RisesByOne self.old.failures self.new.failures) }
-        // It fails where the call is one of those that fail, and else gives as many bytes as it may.
+        // Fails where the call is one of those that fail, and else gives as many bytes as it may.
         ensures fails { is_err result ≡ is_failing self.old.reads.failing self.old.reads.made }
         ensures count { IfOk result (λ n. n
             ≡ min (min (length self.old.bytes.now - self.old.place) self.old.step) (length piece.old)) }
@@ -190,7 +190,7 @@ impl Sink for MemorySink {
         ensures unflushed { ⟦<MemorySink as Sink>⟧.flushed self.new ≡ false }
         ensures well { OnOk result (self.new.failures ≡ self.old.failures) }
         ensures failed { OnErr result (RisesByOne self.old.failures self.new.failures) }
-        // It takes as many bytes as there is room for, where the call is none of those that fail.
+        // Takes as many bytes as there is room for, where the call is none of those that fail.
         ensures fails { OnOk result (is_failing self.old.writes.failing self.old.writes.made ≡ false) }
         ensures count { IfOk result (λ n. n ≡ min (length piece.now) self.old.room) }
         ensures room { MatchResult result
@@ -217,7 +217,7 @@ impl Sink for MemorySink {
         ensures flushed { ⟦<MemorySink as Sink>⟧.flushed self.new ≡ is_ok result }
         ensures well { OnOk result (self.new.failures ≡ self.old.failures) }
         ensures failed { OnErr result (RisesByOne self.old.failures self.new.failures) }
-        // It fails where the call is one of those that fail, and only there.
+        // Fails where the call is one of those that fail, and only there.
         ensures fails { is_err result ≡ is_failing self.old.flushes.failing self.old.flushes.made }
         ensures call { RisesByOne self.old.flushes.made self.new.flushes.made }
         ensures same_calls { self.new.flushes.failing ≡ self.old.flushes.failing }

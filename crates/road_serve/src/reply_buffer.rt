@@ -9,7 +9,7 @@ ghost use Rattle.road_serve.specs.StreamViews.{sink_view, TakesAllBut, TakesFron
 use crate::faults::{ServeFault, WriteFailed};
 use crate::streams::Sink;
 
-// How many bytes of replies wait at most.
+// Bounds how many bytes of replies wait.
 const MOST_WAITING: usize = 65_536;
 
 // Writes all these bytes.

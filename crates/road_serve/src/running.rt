@@ -27,7 +27,7 @@ use std::rt::Files;
 use std::sync::Wait;
 use std::thread::Threads;
 
-/// How the program has ended: what its process tells whoever started it.
+/// Says how the program has ended, as its process tells whoever started it.
 #[derive(Clone, Copy, Debug)]
 pub struct Ended {
     /// The exit status.

@@ -13,17 +13,17 @@ use road_replica::Crowds;
 use road_workers::Crew;
 use std::alloc::Global;
 
-// How many bytes are read at once, at most.
+// Bounds how many bytes are read at once.
 const PIECE: usize = 16_384;
 
-/// What a run of `serve` that went well has served.
+/// Says what a run of `serve` that went well has served.
 #[derive(Debug, Drop)]
 pub struct Served {
     /// How many replies there were after the plan line's.
     pub lines: u32,
 }
 
-// How much of an input is answered.
+// Bounds how much of an input is answered.
 #[derive(Clone, Copy, Debug)]
 struct Limits {
     // How many lines may come after the plan line.

@@ -6,7 +6,7 @@ use crate::faults::{ReadFailed, WriteFailed};
 use crate::streams::{Sink, Source};
 use std::io;
 
-/// A reader of std as a source. It keeps no bytes: what is left of it is what the reader has left, where the reader
+/// Reads from a reader of std. It keeps no bytes: what is left of it is what the reader has left, where the reader
 /// knows that.
 #[derive(Drop)]
 pub struct StdSource<R: io::Read + Drop> {
@@ -52,7 +52,7 @@ impl<R: io::Read + Drop> Source for StdSource<R> {
     }
 }
 
-/// A writer of std as a sink. Its contents are what the writer holds, where the writer knows that.
+/// Writes to a writer of std. Its contents are what the writer holds, where the writer knows that.
 #[derive(Drop)]
 pub struct StdSink<W: io::Write + Drop> {
     writer: W,

@@ -7,7 +7,7 @@ ghost use Rattle.road_serve.specs.Failures.{RisesByOne};
 
 use crate::faults::{ReadFailed, WriteFailed};
 
-/// Where bytes come from. Contracts see the bytes that are left, where that is known.
+/// Gives bytes. Contracts see those that are left, where that is known.
 pub trait Source {
     /// The bytes that reads will give from here on, where that is known.
     ghost remaining: { Self → Option (List ℕ) };
@@ -35,7 +35,7 @@ pub trait Source {
         ensures failed { OnErr result (RisesByOne (failures self.old) (failures self.new)) };
 }
 
-/// Where bytes go. Contracts see its contents, where they are known.
+/// Takes bytes. Contracts see its contents, where they are known.
 pub trait Sink {
     /// The bytes that it holds, where that is known.
     ghost contents: { Self → Option (List ℕ) };

@@ -38,12 +38,12 @@ IsLookRefusal r NotEntered s t = t ≡ s
 IsLookRefusal r (OfSheet sheets.OutOfMemory) s t = HasEntered r s t × ((t.seen ≡ t.view.found) ⊎ (t.seen ≡ s.seen))
 IsLookRefusal r (OfSheet fault) s t = ⊥
 
--- a question that the sheet seen refuses for a named cause, or for out of memory where there is none
+-- a query that the sheet seen refuses for a named cause, or for out of memory where there is none
 abbrev pub IsSheetRefusal : Option SheetFault → LookFault → Type 0
 IsSheetRefusal (Some cause) fault = fault ≡ OfSheet cause
 IsSheetRefusal None fault = fault ≡ OfSheet sheets.OutOfMemory
 
--- a refused question: its look was refused; or the session looked, and the sheet seen refuses it
-abbrev pub IsQuestionRefusal : (Sheet → Option SheetFault) → Replica → LookFault → Session → Session → Type 0
-IsQuestionRefusal cause_at r fault s t =
+-- a refused query: its look was refused; or the session looked, and the sheet seen refuses it
+abbrev pub IsQueryRefusal : (Sheet → Option SheetFault) → Replica → LookFault → Session → Session → Type 0
+IsQueryRefusal cause_at r fault s t =
     IsLookRefusal r fault s t ⊎ (HasLooked r s t × IsSheetRefusal (cause_at (sheet_seen r t)) fault)

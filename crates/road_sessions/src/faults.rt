@@ -46,13 +46,13 @@ impl From<ReplicaFault> for WriteFault {
     }
 }
 
-/// Why a look, or a question that looks first, is not answered.
+/// Why a look, or a query that looks first, is not answered.
 #[derive(Clone, Copy, Debug, PartialEq, Eq, Error)]
 pub enum LookFault {
     /// The store did not let the session in. The session is as it was.
     #[error("the store was not entered")]
     NotEntered,
-    /// The sheet refuses the question, or can have no owner more.
+    /// The sheet refuses the query, or can have no owner more.
     #[error("{0}")]
     Sheet(SheetFault),
 }

@@ -5,7 +5,7 @@ ghost use mathlib.Core.List.{IsPrefix};
 ghost use Rattle.left_right.specs.Sides.{view as view_at};
 ghost use Rattle.road_sheet.specs.Sheets.{state_fault, state_of, total_of, totals_fault};
 ghost use Rattle.road_sessions.specs.Private.ClosingSessions.{IsSessionOf};
-ghost use Rattle.road_sessions.specs.Looks.{HasLooked, IsLookRefusal, IsQuestionRefusal, sheet_seen};
+ghost use Rattle.road_sessions.specs.Looks.{HasLooked, IsLookRefusal, IsQueryRefusal, sheet_seen};
 ghost use Rattle.road_sessions.specs.Sessions.{IsAcceptedWrite, IsRefusedWrite, IsSession, new_view, session_of};
 ghost use Rattle.road_sessions.specs.Writes.{CountsGone};
 ghost use Rattle.road_sessions.specs.declared.wish.Wish.TheVariants as wishes;
@@ -285,7 +285,7 @@ impl<J: Naming> Session<J> {
         ensures { MatchResult result
             (λ road. HasLooked J.replica self.old self.new × (road ≡ state_of (sheet_seen J.replica self.new) step)
             × (state_fault (sheet_seen J.replica self.new) step ≡ None))
-            (λ fault. IsQuestionRefusal (λ sheet. state_fault sheet step) J.replica fault self.old self.new) }
+            (λ fault. IsQueryRefusal (λ sheet. state_fault sheet step) J.replica fault self.old self.new) }
     {
         let sheet = self.look(shared)?;
         match sheet.state(alloc, step) {
@@ -311,7 +311,7 @@ impl<J: Naming> Session<J> {
             (λ totals. HasLooked J.replica self.old self.new
             × (totals ≡ total_of (sheet_seen J.replica self.new) detector from to)
             × (totals_fault (sheet_seen J.replica self.new) detector from to ≡ None))
-            (λ fault. IsQuestionRefusal (λ sheet. totals_fault sheet detector from to) J.replica fault
+            (λ fault. IsQueryRefusal (λ sheet. totals_fault sheet detector from to) J.replica fault
             self.old self.new) }
     {
         let sheet = self.look(shared)?;

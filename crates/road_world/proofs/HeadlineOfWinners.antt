@@ -1,4 +1,4 @@
--- The headline: a world that holds the winners of what events have made shows their runs, and refuses no question about
+-- The headline: a world that holds the winners of what events have made shows their runs, and refuses no query about
 -- a step that it has simulated.
 use Rattle.std.proofs.Common.{◌≡◌, ◌≤◌, ◌<◌, ℕ, List, length, Bool, false, Some, None, refl, ap, sym, ◌∙◌, arith}
 use Rattle.std.specs.Prelude.{Result, nat_lt, not, if◌then◌else◌}
@@ -9,7 +9,7 @@ use Rattle.road_scenario.specs.Edits.{Edits}
 use Rattle.road_scenario.specs.Winners.{winners}
 use Rattle.road_sheet.specs.Sheets.{Sheet, state_of, rows_of, total_of}
 use Rattle.road_sheet.specs.Shown.{run_at, rows_at, total_at}
-use Rattle.road_replica.specs.Refusals.{state_fault, rows_fault, totals_fault, is_out_of_range, question_fault}
+use Rattle.road_replica.specs.Refusals.{state_fault, rows_fault, totals_fault, is_out_of_range, query_fault}
 use Rattle.road_replica.specs.declared.faults.ReplicaFault.{ReplicaFault}
 use Rattle.road_replica.specs.declared.faults.ReplicaFault.TheVariants.{Range, NotSimulated}
 use Rattle.road_replica.specs.declared.reply.Reply.{Reply}
@@ -23,7 +23,7 @@ use Rattle.road_world.specs.declared.faults.WorldFault.{WorldFault}
 use Rattle.road_world.proofs.EventLists.{plan-of_events, replicas-of_winners}
 use Rattle.road_world.proofs.WinnersSuffice.{replica-of_winners}
 
--- ---- questions that are not refused
+-- ---- queries that are not refused
 
 -- a step up to the horizon is not above it
 not_above : (step horizon : ℕ) → step ≤ horizon → nat_lt horizon step ≡ false
@@ -35,7 +35,7 @@ within n m below = grind (arith, nat_tests)
 
 -- where each test fails, no cause is named: of three,
 none_of_three : (a b c : Bool) (x y z : SheetFault) → a ≡ false → b ≡ false → c ≡ false
-    → option_map question_fault (if a then Some x else (if b then Some y else (if c then Some z else None))) ≡ None
+    → option_map query_fault (if a then Some x else (if b then Some y else (if c then Some z else None))) ≡ None
 none_of_three a b c x y z p q r = rw p (rw q (rw r refl))
 
 -- of two,
@@ -43,7 +43,7 @@ none_of_two : (a b : Bool) (x y : ReplicaFault) → a ≡ false → b ≡ false 
 none_of_two a b x y p q = rw p (rw q refl)
 
 -- of one
-none_of_one : (a : Bool) (x : SheetFault) → a ≡ false → option_map question_fault (if a then Some x else None) ≡ None
+none_of_one : (a : Bool) (x : SheetFault) → a ≡ false → option_map query_fault (if a then Some x else None) ≡ None
 none_of_one a x p = rw p refl
 
 -- a state of a simulated step is not refused,

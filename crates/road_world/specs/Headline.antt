@@ -22,7 +22,7 @@ use Rattle.road_world.specs.Events.{World, WorldReplica, replica_after_events}
 use Rattle.road_world.specs.declared.event.Event.{Event}
 use Rattle.road_world.specs.declared.faults.WorldFault.{WorldFault}
 
--- a question is refused for no named cause, and what is shown is right
+-- a query is refused for no named cause, and what is shown is right
 pub record IsRight {A : Type 0} (fault : Option ReplicaFault) (shown right : A) : Type 0 where
   pub answered : fault ≡ None
   pub same : shown ≡ right

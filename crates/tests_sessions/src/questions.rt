@@ -16,7 +16,7 @@ pub(crate) type Count = ((u32, u32, u32), Result<(u32, u32), LookFault>);
 /// A step, and the cars that are there.
 pub(crate) type Cars = (u32, Result<&'static [Car], LookFault>);
 
-/// out of memory in a question.
+/// Out of memory in a query.
 const WANT: LookFault = LookFault::Sheet(SheetFault::OutOfMemory);
 
 // Returns the row of a sheet at a step.

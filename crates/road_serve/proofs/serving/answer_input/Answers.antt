@@ -23,9 +23,10 @@ returns-in_err-finish g c =
     let s1 = source_view g.R.Source l.reader in
     let s2 = source_view g.R.Source c.read.new.self in
     let more : ReadMore s1 s2 c.in_ok-count.count c.read.new.piece = record { bytes = e.bytes.0; fits = e.within; ended = e.ended; well = e.well } in
+    let at_end = c.in_err-finish.ensures.answered c.args.limits.lines l.invariant.0.input _ l.invariant.0.answered in
     rw (p.1, p.2)
-    (stopped_at_end c.args.limits.lines c.args.limits.bytes l.room c.in_ok-count.count _ s1 s2 _ _ _ _ _ l.dialogue c.read.new.piece _ l.invariant.0 more c.if-count-eq0.true (c.in_err-finish.ensures.answered c.args.limits.lines l.invariant.0.input _ l.invariant.0.answered)
-    (counts_same _ _ _ _ _ _ refl l.invariant.1 (c.in_err-finish.ensures.lost c.args.limits.lines l.invariant.0.input _ l.invariant.0.answered)))
+    (stopped_at_end c.args.limits.lines c.args.limits.bytes l.room c.in_ok-count.count _ s1 s2 _ _ _ _ _ l.dialogue c.read.new.piece _ l.invariant.0 more c.if-count-eq0.true at_end.stops
+    (counts_same _ _ _ _ _ _ refl l.invariant.1 at_end.counts))
 
 pub returns-in_err-take : goal.returns-in_err-take
 returns-in_err-take g c =
@@ -35,10 +36,11 @@ returns-in_err-take g c =
     let s1 = source_view g.R.Source l.reader in
     let s2 = source_view g.R.Source c.read.new.self in
     let more : ReadMore s1 s2 c.in_ok-count.count c.read.new.piece = record { bytes = e.bytes.0; fits = e.within; ended = e.ended; well = e.well } in
+    let piece = c.in_err-take.ensures.answered c.args.limits.lines l.invariant.0.input _ l.invariant.0.answered in
     rw (p.1, p.2)
     (stopped c.args.limits.lines c.args.limits.bytes l.room c.in_ok-count.count c.fitting-within.result _ s1 s2 _ _ _ _ _ l.dialogue c.read.new.piece _ l.invariant.0 more c.if-count-eq0.false c.fitting-within.ensures
-    (c.in_err-take.ensures.answered c.args.limits.lines l.invariant.0.input _ l.invariant.0.answered)
-    (counts_same _ _ _ _ _ _ refl l.invariant.1 (c.in_err-take.ensures.lost c.args.limits.lines l.invariant.0.input _ l.invariant.0.answered)))
+    piece.stops
+    (counts_same _ _ _ _ _ _ refl l.invariant.1 piece.counts))
 
 pub returns-in-Some-over : goal.returns-in-Some-over
 returns-in-Some-over g c =

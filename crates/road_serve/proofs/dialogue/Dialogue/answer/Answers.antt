@@ -14,22 +14,18 @@ use Rattle.road_serve.proofs.dialogue.Dialogue.answer.Goals as goal
 pub returns-in_err-reply-clause-answered : goal.returns-in_err-reply-clause-answered
 returns-in_err-reply-clause-answered g c lines bytes first h few =
     let p = err_from_is_err_and c.from_residual.result c.from_residual.ensures.1 in
-    rw (p.1, p.2) (stops_unanswered lines bytes _ _ first _ c.args.self.now _ h)
+    let on = goes_on lines bytes first (sink_view g.W.Sink c.args.writer.now) c.args.self.now h c.requires in
+    rw (p.1, p.2) (record {
+      stops = stops_unanswered lines bytes _ _ first _ c.args.self.now _ h;
+      counts = unanswered_counts (String Global) _ _ _ _ _ (crowd_held lines bytes c.args.self.now on few) c.in_err-reply.ensures.gone;
+    })
 
 pub returns-clause-answered : goal.returns-clause-answered
 returns-clause-answered g c lines bytes first h few =
     let sink = sink_view g.W.Sink c.args.writer.now in
     let step = c.in_ok-reply.ensures.answered lines bytes (goes_on lines bytes first sink c.args.self.now h c.requires) few in
     answer_ends lines bytes (newline ∷ []) (string_bytes c.in_ok-reply.reply) (c.reply.new.self.waiting.items ++ c.as_bytes.result.now) first sink (sink_view g.W.Sink c.put.new.writer) c.args.self.now c.reply.new.self
-    (record c.reply.new.self { waiting = c.put.new.waiting }) c.put.result h step.0 step.1
+    (record c.reply.new.self { waiting = c.put.new.waiting }) c.put.result _ _ h step.0 step.1
     (ap (λ w. w.items ++ c.as_bytes.result.now) c.in_ok-reply.ensures.waiting ∙ ap (λ (t : List ℕ). c.args.self.now.waiting.items ++ t) c.as_bytes.ensures.value)
     (c.put.ensures.ok, c.put.ensures.well, c.put.ensures.err) refl refl refl refl refl
-
-pub returns-in_err-reply-clause-lost : goal.returns-in_err-reply-clause-lost
-returns-in_err-reply-clause-lost g c lines bytes first h few =
-    let p = err_from_is_err_and c.from_residual.result c.from_residual.ensures.1 in
-    let on = goes_on lines bytes first (sink_view g.W.Sink c.args.writer.now) c.args.self.now h c.requires in
-    rw (p.1, p.2) (unanswered_counts (String Global) _ _ _ _ _ (crowd_held lines bytes c.args.self.now on few) c.in_err-reply.ensures.gone)
-
-pub returns-clause-lost : goal.returns-clause-lost
-returns-clause-lost g c lines bytes first h few = counts_none c.put.result _ _ _ c.put.ensures.no_crew c.in_ok-reply.ensures.gone
+    (counts_none c.put.result _ _ _ c.put.ensures.no_crew c.in_ok-reply.ensures.gone)

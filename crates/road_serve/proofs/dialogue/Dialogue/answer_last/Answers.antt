@@ -1,20 +1,20 @@
 -- The end of the input: a last line without a newline, no line at all, or nothing left to answer.
-use Rattle.std.proofs.Common.{◌≡◌, ◌++◌, ℕ, List, true, false, Some, IsSome, is_some, refl, ap, sym, string_bytes}
+use Rattle.std.proofs.Common.{◌≡◌, ◌++◌, ℕ, List, true, false, Some, IsSome, is_some, refl, ap, string_bytes}
 use Rattle.std.proofs.lemmas.Result.{err_from_is_err_and}
 use Rattle.road_serve.specs.StreamViews.{sink_view}
 use Rattle.road_serve.specs.declared.faults.EarlyEnd.TheVariants.{BadPlan}
 use Rattle.road_serve.proofs.Options.{not_some}
 use Rattle.road_serve.proofs.DialogueSteps.{goes_on}
-use Rattle.road_serve.proofs.DialogueEnds.{memory_at_end, rest_of, last_few, line_ends, clear_ends, no_plan_ends}
-use Rattle.road_serve.proofs.CrowdLines.{crowd_ended}
-use Rattle.road_serve.proofs.GoneCounts.{counts_none, ends_same}
+use Rattle.road_serve.proofs.DialogueEnds.{memory_at_end, rest_of, last_few, clear_ends, no_plan_ends}
+use Rattle.road_serve.proofs.CrowdLines.{line_ends}
+use Rattle.road_serve.proofs.GoneCounts.{counts_none}
 use Rattle.road_serve.proofs.dialogue.Dialogue.answer_last.Goals as goal
 
 pub returns-then-not-is_clear-clause-answered : goal.returns-then-not-is_clear-clause-answered
 returns-then-not-is_clear-clause-answered g c lines bytes first h =
     let on = goes_on lines bytes first _ c.args.self.now h c.requires in
     let some = rest_of lines bytes c.args.self.now on (λ e s. let clear : c.is_clear.result ≡ true = c.is_clear.ensures.1 (e, s) in cc) in
-    line_ends lines bytes first (sink_view g.W.Sink c.answer.new.writer) c.answer.new.self c.answer.result on.few some (c.answer.ensures.answered lines bytes first h (last_few lines bytes on.few some))
+    line_ends lines bytes first (sink_view g.W.Sink c.answer.new.writer) c.answer.new.self c.answer.result _ _ on.few some (c.answer.ensures.answered lines bytes first h (last_few lines bytes on.few some))
 
 pub returns-then-is_some-clause-answered : goal.returns-then-is_some-clause-answered
 returns-then-is_some-clause-answered g c lines bytes first h =
@@ -26,7 +26,7 @@ returns-then-is_some-clause-answered g c lines bytes first h =
 pub returns-in_err-reply-clause-answered : goal.returns-in_err-reply-clause-answered
 returns-in_err-reply-clause-answered g c lines bytes first h =
     let p = err_from_is_err_and c.from_residual.result c.from_residual.ensures.1 in
-    rw (p.1, p.2) (memory_at_end lines bytes first _ c.args.self.now h)
+    rw (p.1, p.2) (record { stops = memory_at_end lines bytes first _ c.args.self.now h; counts = refl })
 
 pub returns-clause-answered : goal.returns-clause-answered
 returns-clause-answered g c lines bytes first h =
@@ -34,19 +34,6 @@ returns-clause-answered g c lines bytes first h =
     let clear = c.is_clear.ensures.0 is in
     let isnt : is_some c.args.self.now.laboratory ≡ false = cc in
     no_plan_ends lines bytes (string_bytes c.in_ok-reply.reply) (c.args.self.now.waiting.items ++ c.as_bytes.result.now) first (sink_view g.W.Sink c.args.writer.now) (sink_view g.W.Sink c.put.new.writer)
-    c.args.self.now (record c.args.self.now { waiting = c.put.new.waiting; over = Some BadPlan }) c.put.result h c.requires clear.0 clear.1 (not_some c.args.self.now.laboratory isnt)
+    c.args.self.now (record c.args.self.now { waiting = c.put.new.waiting; over = Some BadPlan }) c.put.result _ _ h c.requires clear.0 clear.1 (not_some c.args.self.now.laboratory isnt)
     c.in_ok-reply.ensures (ap (λ (t : List ℕ). c.args.self.now.waiting.items ++ t) c.as_bytes.ensures.value) (c.put.ensures.ok, c.put.ensures.well, c.put.ensures.err) refl refl refl
-
-pub returns-then-not-is_clear-clause-lost : goal.returns-then-not-is_clear-clause-lost
-returns-then-not-is_clear-clause-lost g c lines bytes first h =
-    let on = goes_on lines bytes first _ c.args.self.now h c.requires in
-    let some = rest_of lines bytes c.args.self.now on (λ e s. let clear : c.is_clear.result ≡ true = c.is_clear.ensures.1 (e, s) in cc) in
-    ends_same c.answer.result _ _ _ _ (sym (crowd_ended lines bytes some)) (c.answer.ensures.lost lines bytes first h (last_few lines bytes on.few some))
-
-pub returns-in_err-reply-clause-lost : goal.returns-in_err-reply-clause-lost
-returns-in_err-reply-clause-lost g c lines bytes first h =
-    let p = err_from_is_err_and c.from_residual.result c.from_residual.ensures.1 in
-    rw (p.1, p.2) refl
-
-pub returns-clause-lost : goal.returns-clause-lost
-returns-clause-lost g c lines bytes first h = counts_none c.put.result _ _ _ c.put.ensures.no_crew refl
+    (counts_none c.put.result _ _ _ c.put.ensures.no_crew refl)

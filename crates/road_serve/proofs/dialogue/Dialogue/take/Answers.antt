@@ -26,11 +26,14 @@ pub returns-in_err-done-clause-answered : goal.returns-in_err-done-clause-answer
 returns-in_err-done-clause-answered g c lines before first h =
     let done = c.loop-done.done in
     let b = c.args.bytes.now in
-    let rest = from_place done b in
     let i = c.loop-done.invariant in
     let p = err_from_is_err_and c.from_residual.result c.from_residual.ensures.1 in
     let x = c.in_err-done.ensures.answered lines (before ++ take done b) first (i.1 lines before first h) in
-    rw (p.1, p.2) (stops_same first _ _ _ _ (ap (λ (y : List ℕ). answers lines y false) (ap (λ (z : List ℕ). (before ++ take done b) ++ z) rest ∙ both_parts before b done)) x)
+    let whole = ap (λ (z : List ℕ). (before ++ take done b) ++ z) (from_place done b) ∙ both_parts before b done in
+    rw (p.1, p.2) (record {
+      stops = stops_same first _ _ _ _ (ap (λ (y : List ℕ). answers lines y false) whole) x.stops;
+      counts = counts_same _ _ _ _ _ _ (ap (λ (y : List ℕ). has_crowd lines y false) whole) i.2 x.counts;
+    })
 
 pub returns-in_err-flush-clause-answered : goal.returns-in_err-flush-clause-answered
 returns-in_err-flush-clause-answered g c lines before first h =
@@ -40,7 +43,7 @@ returns-in_err-flush-clause-answered g c lines before first h =
     let whole : take done b ≡ b = take_all done b (omega (arith, i.0, c.loop-done-test.false)) in
     let p = err_from_is_err_and c.from_residual-in_err-flush.result c.from_residual-in_err-flush.ensures.1 in
     let all = answered_same lines _ (before ++ b) first _ c.loop-done.self (ap (λ (x : List ℕ). before ++ x) whole) (i.1 lines before first h) in
-    rw (p.1, p.2) (flush_stops first _ _ _ c.loop-done.self.waiting.items all.answered all.well c.in_err-flush.ensures.front c.in_err-flush.ensures.failed)
+    rw (p.1, p.2) (record { stops = flush_stops first _ _ _ c.loop-done.self.waiting.items all.answered all.well c.in_err-flush.ensures.front c.in_err-flush.ensures.failed; counts = i.2 })
 
 pub returns-clause-answered : goal.returns-clause-answered
 returns-clause-answered g c lines before first h =
@@ -51,18 +54,3 @@ returns-clause-answered g c lines before first h =
     let all = answered_same lines _ (before ++ b) first _ c.loop-done.self (ap (λ (x : List ℕ). before ++ x) whole) (i.1 lines before first h) in
     flushed lines (before ++ b) first (sink_view g.W.Sink c.loop-done.writer) (sink_view g.W.Sink c.flush.new.writer) c.loop-done.self (record c.loop-done.self { waiting = c.flush.new.waiting })
     all c.in_ok-flush.ensures.all c.in_ok-flush.ensures.well c.in_ok-flush.ensures.none_wait refl refl refl refl refl
-
-pub returns-in_err-done-clause-lost : goal.returns-in_err-done-clause-lost
-returns-in_err-done-clause-lost g c lines before first h =
-    let done = c.loop-done.done in
-    let b = c.args.bytes.now in
-    let i = c.loop-done.invariant in
-    let p = err_from_is_err_and c.from_residual.result c.from_residual.ensures.1 in
-    let x = c.in_err-done.ensures.lost lines (before ++ take done b) first (i.1 lines before first h) in
-    let whole = ap (λ (z : List ℕ). (before ++ take done b) ++ z) (from_place done b) ∙ both_parts before b done in
-    rw (p.1, p.2) (counts_same _ _ _ _ _ _ (ap (λ (y : List ℕ). has_crowd lines y false) whole) i.2 x)
-
-pub returns-in_err-flush-clause-lost : goal.returns-in_err-flush-clause-lost
-returns-in_err-flush-clause-lost g c lines before first h =
-    let p = err_from_is_err_and c.from_residual-in_err-flush.result c.from_residual-in_err-flush.ensures.1 in
-    rw (p.1, p.2) c.loop-done.invariant.2

@@ -25,12 +25,12 @@ returns-then-is_spent-clause-answered g c lines before first h =
 pub returns-in_err-hold-in-Some-clause-answered : goal.returns-in_err-hold-in-Some-clause-answered
 returns-in_err-hold-in-Some-clause-answered g c lines before first h =
     let p = err_from_is_err_and c.from_residual.result c.from_residual.ensures.1 in
-    rw (p.1, p.2) (stops_memory lines before c.args.bytes.now _ first _ c.args.self.now h)
+    rw (p.1, p.2) (record { stops = stops_memory lines before c.args.bytes.now _ first _ c.args.self.now h; counts = refl })
 
 pub returns-in_err-hold-in-None-clause-answered : goal.returns-in_err-hold-in-None-clause-answered
 returns-in_err-hold-in-None-clause-answered g c lines before first h =
     let p = err_from_is_err_and c.from_residual-in_err-hold-in-None.result c.from_residual-in_err-hold-in-None.ensures.1 in
-    rw (p.1, p.2) (stops_memory lines before c.args.bytes.now _ first _ c.args.self.now h)
+    rw (p.1, p.2) (record { stops = stops_memory lines before c.args.bytes.now _ first _ c.args.self.now h; counts = refl })
 
 pub returns-in_ok-answer-in-Some-clause-answered : goal.returns-in_ok-answer-in-Some-clause-answered
 returns-in_ok-answer-in-Some-clause-answered g c lines before first h =
@@ -57,7 +57,11 @@ returns-in_err-answer-in-Some-clause-answered g c lines before first h =
     c.in_ok-hold-in-Some.ensures.laboratory c.in_ok-hold-in-Some.ensures.left c.in_ok-hold-in-Some.ensures.waiting c.in_ok-hold-in-Some.ensures.over c.in_ok-hold-in-Some.ensures.holds in
     let few = few_line lines before piece first sink c.args.self.now h none open_ ends.line in
     let p = err_from_is_err_and c.from_residual-in_err-answer-in-Some.result c.from_residual-in_err-answer-in-Some.ensures.1 in
-    rw (p.1, p.2) (stops_line lines before c.args.bytes.now c.in-Some.end first _ _ ends (c.in_err-answer-in-Some.ensures.answered lines (before ++ piece) first held few))
+    let line = c.in_err-answer-in-Some.ensures.answered lines (before ++ piece) first held few in
+    rw (p.1, p.2) (record {
+      stops = stops_line lines before c.args.bytes.now c.in-Some.end first _ _ ends line.stops;
+      counts = counts_more _ _ _ _ _ (crowd_line lines before c.args.bytes.now c.in-Some.end ends) line.counts;
+    })
 
 pub returns-in_ok-hold-in-None-clause-answered : goal.returns-in_ok-hold-in-None-clause-answered
 returns-in_ok-hold-in-None-clause-answered g c lines before first h =
@@ -67,27 +71,3 @@ returns-in_ok-hold-in-None-clause-answered g c lines before first h =
     answered_same lines _ _ first _ c.hold-in-None.new.self (all_taken before c.args.bytes.now)
     (held_line lines before c.args.bytes.now first _ c.args.self.now c.hold-in-None.new.self h (not_some c.args.self.now.over isnt) open_ (no_newline c.args.bytes.now (sym c.in-None.ensures))
     e.laboratory e.left e.waiting e.over e.holds)
-
-pub returns-in_err-hold-in-Some-clause-lost : goal.returns-in_err-hold-in-Some-clause-lost
-returns-in_err-hold-in-Some-clause-lost g c lines before first h =
-    let p = err_from_is_err_and c.from_residual.result c.from_residual.ensures.1 in
-    rw (p.1, p.2) refl
-
-pub returns-in_err-hold-in-None-clause-lost : goal.returns-in_err-hold-in-None-clause-lost
-returns-in_err-hold-in-None-clause-lost g c lines before first h =
-    let p = err_from_is_err_and c.from_residual-in_err-hold-in-None.result c.from_residual-in_err-hold-in-None.ensures.1 in
-    rw (p.1, p.2) refl
-
-pub returns-in_err-answer-in-Some-clause-lost : goal.returns-in_err-answer-in-Some-clause-lost
-returns-in_err-answer-in-Some-clause-lost g c lines before first h =
-    let isnt : is_some c.args.self.now.over ≡ false = cc in
-    let none = not_some c.args.self.now.over isnt in
-    let sink = sink_view g.W.Sink c.args.writer.now in
-    let ends = newline_found c.args.bytes.now c.in-Some.end (sym c.in-Some.ensures) in
-    let piece = take c.in-Some.end c.args.bytes.now in
-    let open_ : IsSome c.args.self.now.laboratory → c.args.self.now.left ≡ 0 → ⊥ = λ k l. let spent : c.is_spent.result ≡ true = c.is_spent.ensures.1 (k, l) in cc in
-    let held = held_line lines before piece first sink c.args.self.now c.hold.new.self h none open_ ends.line
-    c.in_ok-hold-in-Some.ensures.laboratory c.in_ok-hold-in-Some.ensures.left c.in_ok-hold-in-Some.ensures.waiting c.in_ok-hold-in-Some.ensures.over c.in_ok-hold-in-Some.ensures.holds in
-    let few = few_line lines before piece first sink c.args.self.now h none open_ ends.line in
-    let p = err_from_is_err_and c.from_residual-in_err-answer-in-Some.result c.from_residual-in_err-answer-in-Some.ensures.1 in
-    rw (p.1, p.2) (counts_more _ _ _ _ _ (crowd_line lines before c.args.bytes.now c.in-Some.end ends) (c.in_err-answer-in-Some.ensures.lost lines (before ++ piece) first held few))
