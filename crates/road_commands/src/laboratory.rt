@@ -321,7 +321,7 @@ impl Laboratory {
         if self.message_of(&name).is_some() {
             return Ok(Answer::Refused(Refusal::NameTaken));
         }
-        let size = self.edits_held(alloc, at)?.len() as u64;
+        let size = self.edit_count(at) as u64;
         self.make(alloc, &Event::Send { at }, &name, crew)?;
         Ok(Answer::Sent {
             message: name,
@@ -412,13 +412,13 @@ impl Laboratory {
         }
     }
 
-    // Lists the edits that a replica holds.
-    fn edits_held(&self, alloc: Global, at: u32) -> Result<Vec<Edit>, OutOfMemory>
+    // Counts the edits that a replica holds.
+    fn edit_count(&self, at: u32) -> usize
         requires { at < length self.now.replica_names }
-        ensures { IfOk result (λ edits. edits.items ≡ items (edits_held self.now.world at)) }
+        ensures { result ≡ length (items (edits_held self.now.world at)) }
     {
         match self.world.replica(at) {
-            Some(replica) => replica.scenario().edits(alloc),
+            Some(replica) => replica.scenario().len(),
             None => unreachable!(),
         }
     }

@@ -1,6 +1,6 @@
 -- In whatever order the sessions of a crowd wrote, their journal takes the edits of all shares, advances to their step,
 -- and has as many entries as they make writes.
-use Rattle.std.proofs.Common.{◌≡◌, ◌∙◌, ℕ, ◌+◌, ◌<◌, ◌≤◌, max, Bool, true, false, List, [], ◌∷◌, length, map, refl, sym, ap, arith, length-append, inl, inr}
+use Rattle.std.proofs.Common.{◌≡◌, ◌∙◌, ℕ, ◌+◌, ◌<◌, ◌≤◌, max, Bool, false, List, [], ◌∷◌, length, map, refl, sym, ap, arith, length-append, inl, inr}
 use Rattle.std.specs.Prelude.{nat_lt, ◌||◌, Vec}
 use Rattle.std.specs.List.{list_any}
 use Rattle.std.specs.Ordering.{eq_by_cmp}

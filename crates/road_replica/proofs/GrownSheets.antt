@@ -7,7 +7,6 @@ use Rattle.std.proofs.lemmas.Cmp.{nat_eq_equiv}
 use Rattle.lattice_core.specs.Map.{is_empty}
 use Rattle.lattice_core.specs.Sets.{empty, from_list, items, union}
 use Rattle.lattice_core.proofs.SetElements.{items-empty}
-use Rattle.road_plan.specs.Plan.{Plan}
 use Rattle.road_plan.specs.declared.limits.TheConstants.{GREATEST_HORIZON}
 use Rattle.road_scenario.proofs.EditRanges.{in_range-join}
 use Rattle.road_scenario.specs.Edits.{Edits, edit_cmp, edit_place}
@@ -51,6 +50,7 @@ grown_by_steps s to is = ap (λ (edits : Edits). let t : Sheet = record { plan =
 -- a sheet stays one when it grows
 pub grown_is_sheet : (s : Sheet) (edits : Edits) (to : ℕ) → IsSheet s → AreInRange s.plan edits → to ≤ GREATEST_HORIZON → IsSheet (grown_sheet s edits to)
 grown_is_sheet s edits to is fits within = record {
+  plan_within = is.plan_within;
   winners = winners_laws.of_tops (union s.edits edits);
   in_range = in_range-join s.plan s.edits edits is.in_range fits;
   within_limit = let old = is.within_limit in omega (arith, within, old);

@@ -5,6 +5,7 @@ ghost use Rattle.std.specs.Prelude.{None, OnErr, OnOk, map, string_bytes, true};
 ghost use Rattle.std.specs.Arc.{arc_value};
 ghost use Rattle.std.specs.declared.cmp.Ordering.TheVariants.{Less};
 ghost use Rattle.lattice_core.specs.Sets.{contains, empty, from_list};
+ghost use Rattle.road_plan.specs.Plan.{IsWithinLimits};
 ghost use Rattle.road_plan.specs.declared.limits.TheConstants.{GREATEST_HORIZON, MOST_REPLICAS};
 ghost use Rattle.road_scenario.specs.declared.edit.Edit as edit;
 ghost use Rattle.road_scenario.specs.declared.edit.Value.TheVariants.{Put, Withdrawn};
@@ -71,8 +72,9 @@ impl Replica {
     /// `OutOfMemory` where an allocation failed.
     pub fn open(alloc: Global, plan: Arc<Plan>, number: u32) -> Result<Replica, OutOfMemory>
         requires { number < MOST_REPLICAS }
-        ensures { IfOk result (λ replica. replica
+        ensures replica { IfOk result (λ replica. replica
             ≡ record { number = number; sheet = opening_sheet (arc_value plan) }) }
+        ensures within { IsWithinLimits (arc_value plan) }
     {
         let sheet = shared(alloc, Sheet::opening(alloc, plan)?)?;
         Ok(Replica { number, sheet })

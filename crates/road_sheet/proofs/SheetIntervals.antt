@@ -3,7 +3,7 @@ use Rattle.std.proofs.Common.{◌≡◌, ◌≢◌, ◌≤◌, ◌<◌, ◌+◌,
 use Rattle.std.proofs.lemmas.List.{get_or-replicate, length-replicate, length-take-le, length_push}
 use Rattle.std.proofs.lemmas.Option.{slice_get_within}
 use Rattle.std.specs.List.{slice_get, slice_index_or}
-use Rattle.road_plan.specs.Plan.{Plan}
+use Rattle.road_plan.specs.Plan.{Plan, IsWithinLimits}
 use Rattle.road_plan.specs.declared.limits.TheConstants.{GREATEST_HORIZON}
 use Rattle.road_cells.specs.Array.{Array}
 use Rattle.road_ends.specs.Input.{StepInput, input_speeds}
@@ -70,7 +70,7 @@ get_take (suc n) (y ∷ xs) x (suc k) h = let r = get_take n xs x k h in (r.0, o
 -- ---- one more step
 
 later : (s : Sheet) → IsSheet s → s.horizon < GREATEST_HORIZON → IsSheet (sheet_after_step s)
-later s is early = record { winners = is.winners; in_range = is.in_range; within_limit = omega (arith, early) }
+later s is early = record { plan_within = is.plan_within; winners = is.winners; in_range = is.in_range; within_limit = omega (arith, early) }
 
 cut_start : (n h : ℕ) → 64 * n ≤ h → h < 64 * n + 64 → 64 * (h / 64) ≡ 64 * n
 cut_start n h begun going = omega arith
@@ -186,7 +186,7 @@ with_edits s t h = record { plan = s.plan; edits = t; horizon = h }
 went_on : (s : Sheet) (t : Edits) (intervals shared : List Interval) (open_interval new : Interval) (at_horizon road : Array) → IsRunOf s intervals open_interval at_horizon → AreWinners t → AreInRange s.plan t → GiveSameRun s.plan s.edits t s.horizon
     → shared ≡ intervals → new.start ≡ open_interval.start → new.totals.items ≡ open_interval.totals.items → road ≡ at_horizon → IsRunOf (with_edits s t s.horizon) shared new road
 went_on s t intervals shared open_interval new at_horizon road is won fits same all start totals at = rw all (record {
-  sheet = record { winners = won; in_range = fits; within_limit = is.sheet.within_limit };
+  sheet = record { plan_within = is.sheet.plan_within; winners = won; in_range = fits; within_limit = is.sheet.within_limit };
   begun = is.begun;
   not_ended = is.not_ended;
   each = λ k b g. let l = slice_get_within intervals k b g in let n = is.begun in moved s.plan s.edits t s.horizon (64 * k) (64 * k + 64) b same (omega arith) (omega (arith, l, n)) (is.each k b g);
@@ -202,7 +202,7 @@ went_back s t m intervals shared open_interval new at_horizon road is won fits b
     let many : length (take m intervals) ≡ m = length-take-le m intervals (omega (arith, n, below)) in
     let here : road ≡ run_at s.plan t (64 * m) = at ∙ same.state (64 * m) (omega arith) in
     rw some (record {
-      sheet = record { winners = won; in_range = fits; within_limit = omega (arith, below, e) };
+      sheet = record { plan_within = is.sheet.plan_within; winners = won; in_range = fits; within_limit = omega (arith, below, e) };
       begun = omega (arith, many);
       not_ended = omega (arith, many);
       each = λ k b g. let r = get_take m intervals b k g in let q = r.1 in moved s.plan s.edits t (64 * m) (64 * k) (64 * k + 64) b same (omega arith) (omega (arith, q)) (is.each k b r.0);
@@ -233,10 +233,10 @@ stays_below s now t p h m intervals shared open_interval new at_horizon road is 
 
 -- ---- the opening sheet
 
-pub opened : (p : Plan) (e : Edits) (intervals : List Interval) (open_interval : Interval) (at_horizon : Array) → AreWinners e → AreInRange p e → intervals ≡ [] → open_interval.start ≡ [] → open_interval.totals.items ≡ replicate (length p.detectors) no_totals → at_horizon ≡ []
+pub opened : (p : Plan) (e : Edits) (intervals : List Interval) (open_interval : Interval) (at_horizon : Array) → IsWithinLimits p → AreWinners e → AreInRange p e → intervals ≡ [] → open_interval.start ≡ [] → open_interval.totals.items ≡ replicate (length p.detectors) no_totals → at_horizon ≡ []
     → IsRunOf (record { plan = p; edits = e; horizon = 0 }) intervals open_interval at_horizon
-opened p e intervals open_interval at_horizon win fit none bare zeros road = rw none (record {
-  sheet = record { winners = win; in_range = fit; within_limit = omega arith };
+opened p e intervals open_interval at_horizon plan win fit none bare zeros road = rw none (record {
+  sheet = record { plan_within = plan; winners = win; in_range = fit; within_limit = omega arith };
   begun = omega arith;
   not_ended = omega arith;
   each = λ k b g. absurd (cc);

@@ -5,7 +5,7 @@ use Rattle.std.specs.declared.option.Option.TheVariants.{None, Some}
 use Rattle.lattice_core.specs.declared.greatest.Greatest.{Greatest}
 use Rattle.lattice_core.specs.declared.greatest.Greatest.TheVariants.{Nothing, Of}
 use Rattle.lattice_core.specs.Sets.{empty}
-use Rattle.road_plan.specs.Plan.{Plan}
+use Rattle.road_plan.specs.Plan.{Plan, IsWithinLimits}
 use Rattle.road_plan.specs.declared.limits.TheConstants.{GREATEST_HORIZON}
 use Rattle.road_cells.specs.Array.{Array}
 use Rattle.road_ends.specs.Input.{StepInput, input_of}
@@ -25,8 +25,10 @@ pub record Sheet : Type 0 where
   pub edits : Edits
   pub horizon : ℕ
 
--- what every sheet meets: no edit exceeds another, all are in the plan and its ranges, the horizon is within the limit
+-- what every sheet meets: no edit exceeds another, all are in the plan and its ranges, and plan and horizon are within
+-- the limits
 pub record IsSheet (s : Sheet) : Type 0 where
+  pub plan_within : IsWithinLimits s.plan
   pub winners : AreWinners s.edits
   pub in_range : AreInRange s.plan s.edits
   pub within_limit : s.horizon ≤ GREATEST_HORIZON

@@ -3,6 +3,7 @@
 ghost use Rattle.std.specs.Prelude.{◌≡◌, ◌≢◌, ◌<◌, ◌≤◌, ◌+◌, ◌*◌, ◌/◌, ◌%◌, IfOk, IfErr, IfSome, IsOk, OnErr, OnOk};
 ghost use Rattle.std.specs.Prelude.{None, length, min, replicate, take};
 ghost use Rattle.std.specs.Arc.{arc_value};
+ghost use Rattle.road_plan.specs.Plan.{IsWithinLimits};
 ghost use Rattle.road_plan.specs.declared.limits.TheConstants.{GREATEST_HORIZON};
 ghost use Rattle.road_detector.specs.Passes.{no_totals};
 ghost use Rattle.road_ends.specs.Input.{input_speeds};
@@ -84,7 +85,8 @@ impl Sheet {
     ///
     /// `OutOfMemory` where an allocation failed.
     pub fn opening(alloc: Global, plan: Arc<Plan>) -> Result<Sheet, OutOfMemory>
-        ensures { IfOk result (λ sheet. sheet ≡ opening_sheet (arc_value plan)) }
+        ensures sheet { IfOk result (λ sheet. sheet ≡ opening_sheet (arc_value plan)) }
+        ensures within { IsWithinLimits (arc_value plan) }
     {
         let open_interval = Interval::begin(
             alloc,

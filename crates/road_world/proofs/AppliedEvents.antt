@@ -54,6 +54,7 @@ use Rattle.road_world.proofs.KeptWorlds.{advanced, is_replica, none_is_no_item, 
 sheet_kept : (command : SheetCommand) (s : Sheet) → IsSheet s → IsAllowed s.plan command → IsSheet (sheet_after command s)
 sheet_kept (commands.Take edits) s is fits = subst IsSheet (grown_by_edits s edits) (grown_is_sheet s edits 0 is fits (omega arith))
 sheet_kept (commands.Advance to) s is within = record {
+  plan_within = is.plan_within;
   winners = is.winners;
   in_range = is.in_range;
   within_limit = let old = is.within_limit in omega (arith, within, old);

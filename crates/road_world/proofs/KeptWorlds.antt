@@ -7,7 +7,7 @@ use Rattle.std.proofs.lemmas.List.{get_or-map, get_or_default, map-set, map-appe
 use Rattle.std.proofs.lemmas.List.Elements.{All-nil}
 use Rattle.std.proofs.lemmas.Option.{slice_get_read, slice_get_within, get_or_from_slice_get}
 use Rattle.lattice_core.specs.Sets.{contains, items, union}
-use Rattle.road_plan.specs.Plan.{Plan}
+use Rattle.road_plan.specs.Plan.{Plan, IsWithinLimits}
 use Rattle.road_plan.specs.declared.limits.TheConstants.{MOST_REPLICAS}
 use Rattle.road_scenario.specs.Edits.{Edits}
 use Rattle.road_scenario.specs.Faults.{IsInRange, fault_in}
@@ -258,12 +258,12 @@ module _ (plan : Plan) (xs : List Replica) (ms : List Message) (kept : IsWorldKe
 -- ---- before any event
 
 -- a replica before any event, by its place
-pub opening_of : (plan : Plan) (number : ℕ) (x : Replica) → x ≡ record { number = number; sheet = opening_sheet plan } → IsReplicaOf plan number x
-opening_of plan number x is =
+pub opening_of : (plan : Plan) (number : ℕ) (x : Replica) → IsWithinLimits plan → x ≡ record { number = number; sheet = opening_sheet plan } → IsReplicaOf plan number x
+opening_of plan number x within is =
     let opened : IsReplicaOf plan number (record { number = number; sheet = opening_sheet plan }) = record {
       number_is = refl;
       plan_is = refl;
-      sheet = record { winners = winners-empty; in_range = in_range-empty plan; within_limit = omega arith };
+      sheet = record { plan_within = within; winners = winners-empty; in_range = in_range-empty plan; within_limit = omega arith };
     } in
     subst (IsReplicaOf plan number) (sym is) opened
 
@@ -275,11 +275,11 @@ pub record AreOpened (plan : Plan) (count : ℕ) (xs : List Replica) : Type 0 wh
 length_opened : (plan : Plan) (count : ℕ) (xs : List Replica) → AreOpened plan count xs → length xs ≡ count
 length_opened plan count xs are = sym (length-map xs world_replica) ∙ ap (λ (ys : List WorldReplica). length ys) are.seen ∙ length-replicate count opening_replica
 
-pub one_more_opened : (plan : Plan) (count : ℕ) (xs : List Replica) (x : Replica) → AreOpened plan count xs → x ≡ record { number = count; sheet = opening_sheet plan } → AreOpened plan (count + 1) (xs ++ x ∷ [])
-one_more_opened plan count xs x are is = record {
+pub one_more_opened : (plan : Plan) (count : ℕ) (xs : List Replica) (x : Replica) → AreOpened plan count xs → IsWithinLimits plan → x ≡ record { number = count; sheet = opening_sheet plan } → AreOpened plan (count + 1) (xs ++ x ∷ [])
+one_more_opened plan count xs x are within is = record {
   seen = map-append world_replica xs (x ∷ []) ∙ ap (λ (ys : List WorldReplica). ys ++ world_replica x ∷ []) are.seen ∙ ap (λ (y : Replica). replicate count opening_replica ++ world_replica y ∷ []) is
       ∙ replicate_more count opening_replica;
-  each = add_each (IsReplicaOf plan) xs x are.each (subst (λ n. IsReplicaOf plan n x) (sym (length_opened plan count xs are)) (opening_of plan count x is));
+  each = add_each (IsReplicaOf plan) xs x are.each (subst (λ n. IsReplicaOf plan n x) (sym (length_opened plan count xs are)) (opening_of plan count x within is));
 }
 
 pub opened_kept : (plan : Plan) (count : ℕ) (xs : List Replica) → AreOpened plan count xs → count ≤ MOST_REPLICAS → IsWorldKept plan xs []

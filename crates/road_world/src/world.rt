@@ -4,6 +4,7 @@ ghost use Rattle.std.specs.Prelude.{◌≡◌, ◌<◌, ◌≤◌, ◌↔◌, �
 ghost use Rattle.std.specs.Prelude.{MatchOption, None, Some, map, string_bytes};
 ghost use Rattle.std.specs.Arc.{arc_value};
 ghost use Rattle.std.specs.List.{slice_get};
+ghost use Rattle.road_plan.specs.Plan.{IsWithinLimits};
 ghost use Rattle.road_plan.specs.declared.limits.TheConstants.{MOST_REPLICAS};
 ghost use Rattle.road_scenario.specs.Faults.{AreInRange};
 ghost use Rattle.road_scenario.specs.Winners.{AreWinners, winners};
@@ -374,8 +375,9 @@ impl World {
 // Opens a replica of a world.
 fn opening_replica(alloc: Global, plan: &Arc<Plan>, number: u32) -> Result<Replica, OutOfMemory>
     requires { number < MOST_REPLICAS }
-    ensures { IfOk result (λ replica. replica
+    ensures replica { IfOk result (λ replica. replica
         ≡ record { number = number; sheet = opening_sheet (arc_value plan.now) }) }
+    ensures within { IfOk result (λ _. IsWithinLimits (arc_value plan.now)) }
 {
     Replica::open(alloc, Arc::try_clone(plan)?, number)
 }

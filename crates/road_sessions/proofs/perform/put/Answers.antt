@@ -1,8 +1,8 @@
 -- The scenario that is journalled is that of the edit which the replica made.
-use Rattle.std.proofs.Common.{◌≡◌, ◌∙◌, Option, Some, None, ap, refl, subst, sym}
+use Rattle.std.proofs.Common.{◌≡◌, ◌∙◌, Option, Some, None, ap, refl, sym}
 use Rattle.std.specs.Option.{option_map}
 use Rattle.road_scenario.specs.Edits.{Edits}
-use Rattle.road_scenario.specs.Faults.{AreInRange, fault_of_edit}
+use Rattle.road_scenario.specs.Faults.{fault_of_edit}
 use Rattle.road_scenario.specs.declared.edit.Edit.{Edit}
 use Rattle.road_sheet.specs.Commands.{Take}
 use Rattle.road_rewind.specs.Growth.{meter_after}

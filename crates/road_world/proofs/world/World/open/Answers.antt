@@ -20,4 +20,4 @@ loop-number-preserved c =
     let plan = arc_value c.args.plan in
     let n = c.loop-number.number in
     let x = c.in_ok-opening_replica.field-0 in
-    subst (λ (xs : List Replica). AreOpened plan (n + 1) xs) (sym {A = List Replica} c.in_ok-push.ensures.items) (one_more_opened plan n c.loop-number.opened.items x c.loop-number.invariant c.in_ok-opening_replica.ensures)
+    subst (λ (xs : List Replica). AreOpened plan (n + 1) xs) (sym {A = List Replica} c.in_ok-push.ensures.items) (one_more_opened plan n c.loop-number.opened.items x c.loop-number.invariant c.in_ok-opening_replica.ensures.within c.in_ok-opening_replica.ensures.replica)
