@@ -1,6 +1,7 @@
 //! Sheets: what they are asked, their drafts, and their growth.
 
-ghost use Rattle.std.specs.Prelude.{◌≡◌, ◌≤◌, ◌<◌};
+ghost use Rattle.std.specs.Prelude.{◌<◌};
+ghost use Rattle.road_plan.specs.declared.limits.TheConstants.{GREATEST_HORIZON};
 
 use crate::roads::{
     A1, BLOCKED, LIMIT, OPENING, Shown, TO_SIX, WITH_BLOCK, are_same, free_plan, shows,
@@ -272,19 +273,26 @@ fn drafted(alloc: Global, sheet: &Sheet, scenario: &Scenario, keep: u32) -> Resu
 }
 
 // Adds one more step to a draft.
-fn add_step(alloc: Global, draft: &mut Draft) -> Option<()> {
-    let input = draft.input(alloc).ok()?;
-    let speeds = input.speeds(alloc).ok()?;
-    if draft.horizon() >= 1_048_576 {
+fn with_step(alloc: Global, mut draft: Draft) -> Option<Draft>
+    requires { draft.horizon < GREATEST_HORIZON }
+{
+    let Ok(input) = draft.input(alloc) else {
         return None;
-    }
-    draft.push(alloc, &input, &speeds).ok()
+    };
+    let Ok(speeds) = input.speeds(alloc) else {
+        return None;
+    };
+    draft.push(alloc, &input, &speeds).ok()?;
+    Some(draft)
 }
 
 // Simulates a draft up to a step.
 fn finished(alloc: Global, mut draft: Draft, to: u32) -> Option<Sheet> {
     for _ in draft.horizon()..to {
-        add_step(alloc, &mut draft)?;
+        if draft.horizon() >= 1_048_576 {
+            return None;
+        }
+        draft = with_step(alloc, draft)?;
     }
     Some(draft.sheet())
 }
@@ -364,22 +372,47 @@ pub(crate) fn tried_input(alloc: Global, until: Until, steps: u32) -> Option<Ver
     judged_step(alloc, draft, steps, !first)
 }
 
-/// Tries to add one more step after some steps.
-pub(crate) fn tried_push(alloc: Global, until: Until, steps: u32) -> Option<Verdict> {
-    let mut draft = draft_at(alloc, steps)?;
-    let input = draft.input(alloc).ok()?;
-    let speeds = input.speeds(alloc).ok()?;
-    if until == Until::Prepared || draft.horizon() >= 1_048_576 {
-        return Some(Verdict::Left);
-    }
-    let first = draft.push(alloc, &input, &speeds).is_ok();
+// Judges a draft to which one more step was added after some steps, or refused: it is then added again.
+fn judged_push(
+    alloc: Global,
+    until: Until,
+    draft: Draft,
+    steps: u32,
+    is_pushed: bool,
+) -> Option<Verdict> {
     if until == Until::Called {
         return Some(Verdict::Left);
     }
-    if !first && (draft.horizon() != steps || draft.push(alloc, &input, &speeds).is_err()) {
-        return Some(Verdict::Wrong("it was refused again"));
+    if draft.horizon() != steps.saturating_add(u32::from(is_pushed)) {
+        return Some(Verdict::Wrong("the draft has another horizon"));
     }
-    judged_step(alloc, draft, steps, !first)
+    judged_step(alloc, draft, steps, !is_pushed)
+}
+
+// Adds one more step to a draft after some steps.
+fn pushed(alloc: Global, until: Until, mut draft: Draft, steps: u32) -> Option<Verdict>
+    requires { draft.horizon < GREATEST_HORIZON }
+{
+    let Ok(input) = draft.input(alloc) else {
+        return None;
+    };
+    let Ok(speeds) = input.speeds(alloc) else {
+        return None;
+    };
+    if until == Until::Prepared {
+        return Some(Verdict::Left);
+    }
+    let is_pushed = draft.push(alloc, &input, &speeds).is_ok();
+    judged_push(alloc, until, draft, steps, is_pushed)
+}
+
+/// Tries to add one more step after some steps.
+pub(crate) fn tried_push(alloc: Global, until: Until, steps: u32) -> Option<Verdict> {
+    let draft = draft_at(alloc, steps)?;
+    if draft.horizon() >= 1_048_576 {
+        return None;
+    }
+    pushed(alloc, until, draft, steps)
 }
 
 // ---- the cases

@@ -2,6 +2,7 @@
 //! each read, the sink at each call.
 
 use crate::runs::{Leaving, Unmanned, end_of};
+use road_plan::OutOfMemory;
 use road_serve::{
     Failing, MemorySink, MemorySource, ServeFault, StdSink, StdSource, run_by, serve,
 };
@@ -108,23 +109,21 @@ fn a_crew_is_asked_no_more(rt: HostRuntime) -> Result<(), Fail> {
     Ok(())
 }
 
-// Takes so many bytes at a call, but at the one of this number: that fails, or takes none. The calls behind it would
-// succeed; all are counted.
+// Takes a byte at a call, but at the one of this number: that fails, or takes none. The calls behind it would succeed; all
+// are counted.
 #[derive(Drop)]
 struct Faltering {
     taken: Vec<u8>,
-    most: usize,
     calls: u64,
     fails_at: u64,
     takes_none: bool,
 }
 
 impl Faltering {
-    // Takes the front of a piece, where there is memory for it.
+    // Takes the first byte of a piece, where there is memory for it.
     fn take(&mut self, bytes: &[u8]) -> io::Result<usize> {
-        let count = bytes.len().min(self.most);
-        match bytes.get(..count) {
-            Some(front) if self.taken.extend_from_slice(front).is_ok() => Ok(count),
+        match bytes.first() {
+            Some(byte) if self.taken.push(*byte).is_ok() => Ok(1),
             _ => Err(io::Error::from(io::ErrorKind::OutOfMemory)),
         }
     }
@@ -153,7 +152,6 @@ impl io::Write for Faltering {
 fn falters(rt: &impl Abort, alloc: Global, fails_at: u64, takes_none: bool) -> Result<(), Fail> {
     let mut faltering = Faltering {
         taken: Vec::with_capacity(alloc, 1000)?,
-        most: 1,
         calls: 0,
         fails_at,
         takes_none,
@@ -191,27 +189,39 @@ fn a_writer_takes_none_at_each_byte(rt: HostRuntime) -> Result<(), Fail> {
     Ok(())
 }
 
-// Runs it over a writer that takes so many bytes at a time, and never fails.
-fn goes_on(rt: &impl Abort, alloc: Global, most: usize) -> Result<(), Fail> {
-    let mut short = Faltering {
-        taken: Vec::with_capacity(alloc, 1000)?,
-        most,
-        calls: 0,
-        fails_at: u64::MAX,
-        takes_none: false,
-    };
-    let mut writer = StdSink::new(&mut short);
+// Returns a sink over memory that takes so many bytes at a call.
+fn short_sink(alloc: Global, step: usize, failing: Failing) -> Result<MemorySink, OutOfMemory> {
+    let taken = Vec::with_capacity(alloc, 1000)?;
+    let sink = MemorySink::new(taken, 1000, failing, Failing::Never);
+    Ok(sink.by_steps(step))
+}
+
+// A sink that takes short goes on with the rest.
+#[test]
+fn a_sink_takes_short(rt: HostRuntime) -> Result<(), Fail> {
+    for step in [1, 2, 3, 7, 100] {
+        let mut writer = short_sink(rt.alloc(), step, Failing::Never)?;
+        let mut reader = MemorySource::new(STORED.as_bytes(), usize::MAX, Failing::Never);
+        let result = end_of(serve(rt.alloc(), &mut reader, &mut writer, &mut Alone, &Unmanned))?;
+        assert!(rt; result.is_ok() && writer.bytes() == ANSWERS.as_bytes());
+    }
+    Ok(())
+}
+
+// Runs the stored run over a sink that takes a byte at a call and fails at one.
+fn sink_fails(rt: &impl Abort, alloc: Global, fails_at: u64) -> Result<(), Fail> {
+    let mut writer = short_sink(alloc, 1, Failing::Once(fails_at))?;
     let mut reader = MemorySource::new(STORED.as_bytes(), usize::MAX, Failing::Never);
     let result = end_of(serve(alloc, &mut reader, &mut writer, &mut Alone, &Unmanned))?;
-    drop(writer);
-    assert!(rt; result.is_ok() && short.taken.as_slice() == ANSWERS.as_bytes());
+    let front = ANSWERS.as_bytes().get(..fails_at as usize);
+    assert!(rt; matches!(result, Err(ServeFault::Write)) && front == Some(writer.bytes()));
     Ok(())
 }
 
 #[test]
-fn a_writer_takes_short(rt: HostRuntime) -> Result<(), Fail> {
-    for most in [1, 2, 3, 7, 100] {
-        goes_on(&rt, rt.alloc(), most)?;
+fn a_sink_fails_at_each_byte(rt: HostRuntime) -> Result<(), Fail> {
+    for fails_at in 0..ANSWERS.len() as u64 {
+        sink_fails(&rt, rt.alloc(), fails_at)?;
     }
     Ok(())
 }
