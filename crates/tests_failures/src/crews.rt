@@ -118,18 +118,19 @@ fn tried_pool<R: Threads + Wait + Clone + Drop + Send + 'static>(
     Some(verdict)
 }
 
-// Judges workers that were started: they give the speeds.
+// Judges workers that were started: they give the speeds. None where an allocation failed in that.
 fn judged_start<R: Threads + Wait + Clone + Drop + Send + 'static>(
     alloc: Global,
     mut pool: Pool<R>,
     input: &Arc<StepInput>,
     verdict: Verdict,
-) -> Verdict {
+) -> Option<Verdict> {
     let given = gives(alloc, &mut pool, input, false);
     pool.finish();
     match given {
-        Ok(is_right) => accepted(is_right, verdict),
-        Err(_) => Verdict::Wrong("the workers do not answer"),
+        Ok(is_right) => Some(accepted(is_right, verdict)),
+        Err(Refusal::Memory) => None,
+        Err(Refusal::Other) => Some(Verdict::Wrong("the workers do not answer")),
     }
 }
 
@@ -150,9 +151,9 @@ fn tried_start<R: Threads + Wait + Clone + Drop + Send + 'static>(
             pool.finish();
             Some(Verdict::Left)
         }
-        Ok(pool) => Some(judged_start(alloc, pool, &input, Verdict::Right)),
+        Ok(pool) => judged_start(alloc, pool, &input, Verdict::Right),
         Err(_) => match started(rt, alloc, is_gated)? {
-            Ok(pool) => Some(judged_start(alloc, pool, &input, Verdict::Again)),
+            Ok(pool) => judged_start(alloc, pool, &input, Verdict::Again),
             Err(_) => Some(Verdict::Wrong("it was refused again")),
         },
     }
