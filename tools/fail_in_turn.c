@@ -1,6 +1,7 @@
 /* Preloaded before a program: counts its calls to the outside, and makes one of them fail, once. It is asked by the environment:
      FAIL_KIND    which calls are meant: memory, thread, open, read or write
      FAIL_CALL    the number of the call that fails, from 1 on; 0 for none
+     FAIL_LASTING 1 where all later ones fail too
      FAIL_WAY     the number of the error by which it fails; 0 for a write that takes no byte
      FAIL_PIECE   the most bytes that each such read gives or write takes; 0 for as many as asked
      FAIL_SCRIPT  the path of a script: its reads are counted as those of standard input, and its opening
@@ -34,7 +35,7 @@ extern void *__libc_malloc(size_t), *__libc_calloc(size_t, size_t), *__libc_real
 static const char *const names[KINDS] = {"memory", "thread", "open", "read", "write"};
 static struct counts *counts;
 static int chosen = KINDS, way, script = -1;
-static long number, piece;
+static long number, piece, lasting;
 static const char *script_path;
 static int (*real_create)(pthread_t *, const pthread_attr_t *, void *(*)(void *), void *);
 static __thread int starting;
@@ -48,7 +49,7 @@ __attribute__((constructor)) static void begin(void) {
     const char *kind = getenv("FAIL_KIND"), *path = getenv("FAIL_COUNTS");
     for (int i = 0; kind && i < KINDS; i++)
         if (!strcmp(kind, names[i])) chosen = i;
-    number = number_in("FAIL_CALL"), way = number_in("FAIL_WAY"), piece = number_in("FAIL_PIECE");
+    number = number_in("FAIL_CALL"), way = number_in("FAIL_WAY"), piece = number_in("FAIL_PIECE"), lasting = number_in("FAIL_LASTING");
     script_path = getenv("FAIL_SCRIPT");
     real_create = (int (*)(pthread_t *, const pthread_attr_t *, void *(*)(void *), void *))dlsym(RTLD_NEXT, "pthread_create");
     int file = path ? (int)syscall(SYS_openat, AT_FDCWD, path, O_RDWR | O_CLOEXEC) : -1;
@@ -62,7 +63,7 @@ __attribute__((constructor)) static void begin(void) {
 static int fails(enum kind kind) {
     if (!counts) return 0;
     long now = __atomic_add_fetch(&counts->calls[kind], 1, __ATOMIC_SEQ_CST);
-    if ((int)kind != chosen || now != number) return 0;
+    if ((int)kind != chosen || number == 0 || now < number || (now > number && !lasting)) return 0;
     __atomic_add_fetch(&counts->failed, 1, __ATOMIC_SEQ_CST);
     counts->starting = starting;
     errno = way;

@@ -128,11 +128,13 @@ impl<'a> Source for MemorySource<'a> {
     }
 }
 
-/// Keeps what it takes, at most `room` bytes in all: a write past them fails.
+/// Keeps what it takes, at most `room` bytes in all: a write past them fails. It takes at most `step` of them at a call,
+/// and the rest with the next ones.
 #[derive(Drop)]
 pub struct MemorySink {
     bytes: Vec<u8>,
     room: usize,
+    step: usize,
     writes: Calls,
     flushes: Calls,
     flushed: bool,
@@ -140,12 +142,14 @@ pub struct MemorySink {
 }
 
 impl MemorySink {
-    /// Returns the sink that goes on from these bytes. Its writes and its flushes are counted apart.
+    /// Returns the sink that goes on from these bytes, and takes as many at a call as there is room for. Its writes and
+    /// its flushes are counted apart.
     pub fn new(bytes: Vec<u8>, room: usize, writes: Failing, flushes: Failing) -> MemorySink
         ensures contents { ⟦<MemorySink as Sink>⟧.contents result ≡ Some bytes.items }
         ensures failures { ⟦<MemorySink as Sink>⟧.failures result ≡ 0 }
         ensures unflushed { ⟦<MemorySink as Sink>⟧.flushed result ≡ false }
         ensures room { result.room ≡ room }
+        ensures step { result.step ≡ usize.MAX }
         ensures writes { result.writes.failing ≡ writes }
         ensures flushes { result.flushes.failing ≡ flushes }
         ensures none_made { (result.writes.made ≡ 0) × (result.flushes.made ≡ 0) }
@@ -153,6 +157,7 @@ impl MemorySink {
         MemorySink {
             bytes,
             room,
+            step: usize::MAX,
             writes: Calls {
                 made: 0,
                 failing: writes,
@@ -164,6 +169,13 @@ impl MemorySink {
             flushed: false,
             failures: 0,
         }
+    }
+
+    /// Returns the sink that takes at most so many bytes at a call. Where these are none, each write fails.
+    pub fn by_steps(self, step: usize) -> MemorySink
+        ensures { result ≡ record self { step = step } }
+    {
+        MemorySink { step, ..self }
     }
 
     /// Returns the bytes that were taken, and those from which the sink went on.
@@ -190,17 +202,18 @@ impl Sink for MemorySink {
         ensures unflushed { ⟦<MemorySink as Sink>⟧.flushed self.new ≡ false }
         ensures well { OnOk result (self.new.failures ≡ self.old.failures) }
         ensures failed { OnErr result (RisesByOne self.old.failures self.new.failures) }
-        // Takes as many bytes as there is room for, where the call is none of those that fail.
+        // Takes as many bytes as it may at a call and has room for, where the call is none of those that fail.
         ensures fails { OnOk result (is_failing self.old.writes.failing self.old.writes.made ≡ false) }
-        ensures count { IfOk result (λ n. n ≡ min (length piece.now) self.old.room) }
+        ensures count { IfOk result (λ n. n ≡ min (min (length piece.now) self.old.room) self.old.step) }
         ensures room { MatchResult result
             (λ n. self.new.room ≡ self.old.room - n) (λ _. self.new.room ≡ self.old.room) }
         ensures call { RisesByOne self.old.writes.made self.new.writes.made }
         ensures same_calls { self.new.writes.failing ≡ self.old.writes.failing }
         ensures same_flushes { self.new.flushes ≡ self.old.flushes }
+        ensures same_step { self.new.step ≡ self.old.step }
     {
         self.flushed = false;
-        let count = piece.len().min(self.room);
+        let count = piece.len().min(self.room).min(self.step);
         if self.writes.next_fails()
             || count == 0
             || self.bytes.extend_from_slice(&piece[..count]).is_err()

@@ -4,6 +4,8 @@
 #[cfg(test)]
 mod alone;
 #[cfg(test)]
+mod ended;
+#[cfg(test)]
 mod gates;
 #[cfg(test)]
 mod meetings;

@@ -26,8 +26,8 @@ fn sink(alloc: Global) -> Result<MemorySink, OutOfMemory> {
     Ok(MemorySink::new(bytes, 1000, Failing::Never, Failing::Never))
 }
 
-// Gathers no crowd: the thread of its first session cannot be started.
-struct Unmanned;
+/// Gathers no crowd: the thread of its first session cannot be started.
+pub(crate) struct Unmanned;
 
 impl Crowds for Unmanned {
     fn gathered(
@@ -41,8 +41,10 @@ impl Crowds for Unmanned {
     }
 }
 
-// Returns how a run ended. Out of memory ends the test in its place.
-fn end_of(ended: Result<Served, ServeFault>) -> Result<Result<Served, ServeFault>, OutOfMemory> {
+/// Returns how a run ended. Out of memory ends the test in its place.
+pub(crate) fn end_of(
+    ended: Result<Served, ServeFault>,
+) -> Result<Result<Served, ServeFault>, OutOfMemory> {
     match ended {
         Err(ServeFault::OutOfMemory) => Err(OutOfMemory),
         end => Ok(end),
@@ -203,11 +205,11 @@ fn a_refused_plan_is_the_end(rt: HostRuntime) -> Result<(), Fail> {
     Ok(())
 }
 
-// Answers `WorkersGone` once, after some calls, and computes all other speeds by itself.
+/// Answers `WorkersGone` once, after some calls, and computes all other speeds by itself.
 #[derive(Clone, Copy, Debug)]
-struct Leaving {
-    calls_left: u64,
-    gone: u64,
+pub(crate) struct Leaving {
+    pub(crate) calls_left: u64,
+    pub(crate) gone: u64,
 }
 
 impl Crew for Leaving {

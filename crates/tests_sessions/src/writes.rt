@@ -5,7 +5,7 @@ use road_plan::Object;
 use road_replica::{ReplicaFault, Reply};
 use road_scenario::{Edit, Scenario};
 use road_sessions::{Naming, Receipt, Session, Shared, WriteFault, Wrote};
-use road_workers::Alone;
+use road_workers::{Alone, Crew};
 use std::alloc::Global;
 use std::sync::Wait;
 
@@ -25,24 +25,48 @@ pub(crate) enum Write {
 /// What a write is answered: its place in the journal and the reply.
 pub(crate) type Answer = Result<(u64, Reply), WriteFault>;
 
-/// out of memory in a write.
-const WANT: WriteFault = WriteFault::Replica(ReplicaFault::OutOfMemory);
+/// Out of memory in a write.
+pub(crate) const WANT: WriteFault = WriteFault::Replica(ReplicaFault::OutOfMemory);
 
-// Lets a session take edits.
-fn took<J: Naming, R: Wait + Drop, W: Wait>(
+// Takes edits by a session.
+fn took<J: Naming, R: Wait + Drop, W: Wait, C: Crew>(
     rt: &W,
     alloc: Global,
     shared: &Shared<J, R>,
     session: &mut Session<J>,
     edits: &[Edit],
+    crew: &mut C,
+    meter: &mut Meter,
 ) -> Result<Wrote<J>, WriteFault> {
     match Scenario::of_edits(alloc, edits) {
-        Ok(edits) => session.take(rt, shared, &edits, &mut Alone, &mut Meter::new()),
+        Ok(edits) => session.take(rt, shared, &edits, crew, meter),
         Err(_) => Err(WANT),
     }
 }
 
-// Lets a session write.
+/// Writes by a session, a crew and a meter.
+pub(crate) fn wrote_by<J: Naming, R: Wait + Drop, W: Wait, C: Crew>(
+    rt: &W,
+    alloc: Global,
+    shared: &Shared<J, R>,
+    session: &mut Session<J>,
+    write: &Write,
+    crew: &mut C,
+    meter: &mut Meter,
+) -> Result<Wrote<J>, WriteFault> {
+    match write {
+        Write::Edit(object, step, value) => {
+            session.edit(rt, shared, *object, *step, *value, crew, meter)
+        }
+        Write::Withdraw(object, step) => {
+            session.withdraw(rt, shared, *object, *step, crew, meter)
+        }
+        Write::Advance(to) => session.advance(rt, shared, *to, crew, meter),
+        Write::Take(edits) => took(rt, alloc, shared, session, edits, crew, meter),
+    }
+}
+
+// Writes by a session alone.
 fn wrote<J: Naming, R: Wait + Drop, W: Wait>(
     rt: &W,
     alloc: Global,
@@ -50,17 +74,15 @@ fn wrote<J: Naming, R: Wait + Drop, W: Wait>(
     session: &mut Session<J>,
     write: &Write,
 ) -> Result<Wrote<J>, WriteFault> {
-    let mut meter = Meter::new();
-    match write {
-        Write::Edit(object, step, value) => {
-            session.edit(rt, shared, *object, *step, *value, &mut Alone, &mut meter)
-        }
-        Write::Withdraw(object, step) => {
-            session.withdraw(rt, shared, *object, *step, &mut Alone, &mut meter)
-        }
-        Write::Advance(to) => session.advance(rt, shared, *to, &mut Alone, &mut meter),
-        Write::Take(edits) => took(rt, alloc, shared, session, edits),
-    }
+    wrote_by(
+        rt,
+        alloc,
+        shared,
+        session,
+        write,
+        &mut Alone,
+        &mut Meter::new(),
+    )
 }
 
 // Returns the horizon that a session is shown, and the greatest count among its edits.
