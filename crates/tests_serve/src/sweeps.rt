@@ -1,6 +1,8 @@
 //! The stored run, of which a part fails in turn: the crew at each of its calls, the writer at each byte, the reader at
 //! each read, the sink at each call.
 
+ghost use Rattle.std.specs.Prelude.{◌≤◌, length, IfOk};
+
 use crate::runs::{Leaving, Unmanned, end_of};
 use road_plan::OutOfMemory;
 use road_serve::{
@@ -121,7 +123,9 @@ struct Faltering {
 
 impl Faltering {
     // Takes the first byte of a piece, where there is memory for it.
-    fn take(&mut self, bytes: &[u8]) -> io::Result<usize> {
+    fn take(&mut self, bytes: &[u8]) -> io::Result<usize>
+        ensures { IfOk result (λ n. n ≤ length bytes.now) }
+    {
         match bytes.first() {
             Some(byte) if self.taken.push(*byte).is_ok() => Ok(1),
             _ => Err(io::Error::from(io::ErrorKind::OutOfMemory)),
