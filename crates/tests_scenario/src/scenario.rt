@@ -1097,3 +1097,23 @@ fn scenarios_are_a_lattice(rt: HostRuntime) -> Result<(), Fail> {
     assert!(rt; both.at_most(&made) && made.at_most(&both) && !both.is_bottom());
     Ok(())
 }
+
+// Makes an edit of the first zone's limit.
+fn limit_at(step: u32, count: u64, value: Value) -> Edit {
+    Edit {
+        object: Object::Limit(0),
+        step,
+        stamp: Stamp { count, number: 0 },
+        value,
+    }
+}
+
+#[test]
+fn edits_are_ordered_by_step_then_stamp_then_value(rt: HostRuntime) -> Result<(), Fail> {
+    let later = limit_at(5, 1, Value::Put(1));
+    assert!(rt; later > limit_at(3, 2, Value::Put(1)));
+    assert!(rt; later < limit_at(5, 2, Value::Withdrawn));
+    assert!(rt; later > limit_at(5, 1, Value::Withdrawn));
+    assert!(rt; later < limit_at(5, 1, Value::Put(2)));
+    Ok(())
+}
