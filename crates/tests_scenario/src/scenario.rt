@@ -1099,7 +1099,7 @@ fn scenarios_are_a_lattice(rt: HostRuntime) -> Result<(), Fail> {
 }
 
 // Makes an edit of the first zone's limit.
-fn limit_at(step: u32, count: u64, value: Value) -> Edit {
+fn limit_edit(step: u32, count: u64, value: Value) -> Edit {
     Edit {
         object: Object::Limit(0),
         step,
@@ -1110,10 +1110,10 @@ fn limit_at(step: u32, count: u64, value: Value) -> Edit {
 
 #[test]
 fn edits_are_ordered_by_step_then_stamp_then_value(rt: HostRuntime) -> Result<(), Fail> {
-    let later = limit_at(5, 1, Value::Put(1));
-    assert!(rt; later > limit_at(3, 2, Value::Put(1)));
-    assert!(rt; later < limit_at(5, 2, Value::Withdrawn));
-    assert!(rt; later > limit_at(5, 1, Value::Withdrawn));
-    assert!(rt; later < limit_at(5, 1, Value::Put(2)));
+    let later = limit_edit(5, 1, Value::Put(1));
+    assert!(rt; later > limit_edit(3, 2, Value::Put(1)));
+    assert!(rt; later < limit_edit(5, 2, Value::Withdrawn));
+    assert!(rt; later > limit_edit(5, 1, Value::Withdrawn));
+    assert!(rt; later < limit_edit(5, 1, Value::Put(2)));
     Ok(())
 }
