@@ -102,7 +102,8 @@ impl WordBatches {
         }
         self.batches.truncate(self.streams.len());
         let slot = self.streams.len() as u32;
-        let high16s = PlanWords::of_kind(self.kind).batch(stream, self.first);
+        let first = step - step % BATCH_STEPS;
+        let high16s = PlanWords::of_kind(self.kind).batch(stream, first);
         self.batches.push(high16s)?;
         self.streams.push(stream)?;
         Ok(Drawn {

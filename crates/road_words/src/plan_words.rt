@@ -39,6 +39,7 @@ impl PlanWords {
 
     /// Draws the upper 16 bits of the words of a stream at the places from `first` on, which one generator gives at
     /// once. It takes no memory.
+    #[inline(always)]
     pub fn batch(&self, stream: u64, first: u32) -> [u16; BATCH_WORDS]
         ensures { (i : ℕ) → i < BATCH_WORDS →
             slice_index result i ≡ ⟦<PlanWords as Words>⟧.word_of self.now stream (first + i) / 65536 }

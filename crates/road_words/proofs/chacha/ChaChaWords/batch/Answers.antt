@@ -1,28 +1,20 @@
--- One word more is drawn, and the generator moves to the next place.
-use Rattle.std.proofs.Common.{◌≡◌, ◌<◌, ◌+◌, ◌/◌, ◌%◌, ◌^◌, ◌∙◌, ℕ, ap, arith, length, rules}
-use Rattle.std.proofs.lemmas.List.{length-set}
-use Rattle.rand_chacha.specs.ChaCha.{ChaCha, word_at}
-use Rattle.road_words.specs.Words.{chacha_word}
-use Rattle.road_words.proofs.BatchesOfWords.{batch_more}
+-- Block by block, from the first word on.
+use Rattle.std.proofs.Common.{◌≡◌, ◌∙◌, ◌+◌, ◌%◌, ◌^◌, ap, arith, refl, replicate}
+use Rattle.rand_chacha.specs.ChaCha.{ChaCha, key_of}
+use Rattle.road_words.specs.Private.DrawnBatches.{AreDrawn}
 use Rattle.road_words.proofs.chacha.ChaChaWords.batch.Goals as goal
 
-pub loop-place-init : goal.loop-place-init
-loop-place-init c = search rules
-
-pub loop-place-preserved : goal.loop-place-preserved
-loop-place-preserved c =
-    let g = c.loop-place.generator in
-    let now = c.loop-place.invariant in
-    let place = c.loop-place.place in
-    let inside : place < length c.loop-place.high16s = let long = now.long in let test = c.loop-place-test.true in omega arith in
-    let later = ap (λ (x : ℕ × ChaCha). x.1) c.next_word.ensures in
-    let low : (g.word_pos + 1) % 2 ^ 68 ≡ c.args.first + (place + 1) = let at = now.place in let test = c.loop-place-test.true in omega (arith, c.ranges.first.fits) in
-    let drawn = ap (λ (x : ℕ × ChaCha). x.0) c.next_word.ensures in
-    record {
-      key = ap (λ (x : ChaCha). x.key) later ∙ now.key;
-      stream = ap (λ (x : ChaCha). x.stream) later ∙ now.stream;
-      place = ap (λ (x : ChaCha). x.word_pos) later ∙ low;
-      long = length-set c.loop-place.high16s place (c.next_word.result / 65536) ∙ now.long;
-      drawn = batch_more (λ i. chacha_word c.args.self.now.key c.args.stream (c.args.first + i) / 65536) c.loop-place.high16s place (c.next_word.result / 65536) inside
-          (ap (λ n. n / 65536) (drawn ∙ (λ i. word_at 4 (now.key i) (now.stream i) (now.place i)))) now.drawn;
-    }
+pub returns : goal.returns
+returns c =
+    let first = c.args.first in
+    let begun : ChaCha = record { key = key_of c.args.self.now.key; stream = c.args.stream; word_pos = first } in
+    let place : c.from.result % 2 ^ 68 ≡ first + 0 = let f = c.from.ensures in omega (arith, c.ranges.first.fits) in
+    let in_stream = c.set_stream.ensures ∙ ap (λ (g : ChaCha). record g { stream = c.args.stream }) c.from_seed-generator.ensures in
+    let none : AreDrawn begun c.set_word_pos.new.self (replicate 64 0) 0 = record {
+      before_end = c.ranges.first.fits;
+      at_next = c.set_word_pos.ensures ∙ (λ i. record (in_stream i) { word_pos = place i });
+      long = refl;
+      drawn = λ i below. omega arith;
+    } in
+    let all = c.draw_block-4.ensures begun (c.draw_block-3.ensures begun (c.draw_block-2.ensures begun (c.draw_block.ensures begun none))) in
+    all.drawn
