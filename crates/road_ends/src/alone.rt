@@ -7,10 +7,9 @@ ghost use Rattle.road_ends.specs.Input.{input_of, input_speeds};
 ghost use Rattle.road_ends.specs.Run.{road_after_step};
 
 use crate::OutOfMemory;
-use crate::input::{StepInput, enter, enter_with};
+use crate::input::{StepInput, enter};
 use crate::meter::Meter;
-use crate::step::{finish, finish_with};
-use crate::word_cache::WordCache;
+use crate::step::finish;
 use road_cells::Road;
 use road_plan::{Plan, Settings};
 use std::alloc::Global;
@@ -54,41 +53,6 @@ pub fn step_alone(
     let speeds = input.speeds(alloc)?;
     let road = finish(alloc, &input, &speeds)?;
     meter.tick();
-    Ok(Stepped {
-        input,
-        speeds,
-        road,
-    })
-}
-
-/// Computes one step of the road, as [`step_alone`], of a run whose words are drawn for 64 steps at once. The settings
-/// must fit the plan, and the words must be the plan's. No meter counts it.
-///
-/// # Errors
-///
-/// `OutOfMemory` where an allocation failed: those of [`enter_with`], of the speeds, of the new road. The words are the
-/// plan's as before.
-pub fn step_with(
-    alloc: Global,
-    plan: &Arc<Plan>,
-    settings: Arc<Settings>,
-    step: u32,
-    road: &Road,
-    words: &mut WordCache,
-) -> Result<Stepped, OutOfMemory>
-    requires fits { Fits (arc_value plan.now) (arc_value settings) }
-    requires words { words.old ≡ (arc_value plan.now).words }
-    ensures input { IfOk result (λ done. arc_value done.input
-        ≡ input_of (arc_value plan.now) (arc_value settings) step road.now) }
-    ensures speeds { IfOk result (λ done. done.speeds.items
-        ≡ input_speeds (input_of (arc_value plan.now) (arc_value settings) step road.now)) }
-    ensures road { IfOk result (λ done. done.road
-        ≡ road_after_step (arc_value plan.now) (arc_value settings) step road.now) }
-    ensures unchanged { words.new ≡ words.old }
-{
-    let input = enter_with(alloc, plan, settings, step, road, words)?;
-    let speeds = input.speeds(alloc)?;
-    let road = finish_with(alloc, &input, &speeds, words)?;
     Ok(Stepped {
         input,
         speeds,

@@ -29,7 +29,7 @@ mod step;
 mod word_batches;
 mod word_cache;
 
-pub use alone::{Stepped, step_alone, step_with};
+pub use alone::{Stepped, step_alone};
 pub use input::{StepInput, enter, enter_again, enter_with};
 pub use letters::{BLOCKED, EMPTY, STANDING};
 pub use meter::Meter;

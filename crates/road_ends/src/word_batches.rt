@@ -65,6 +65,23 @@ impl WordBatches {
         }
     }
 
+    // Lets all batches go, and keeps their memory.
+    pub(crate) fn clear(&mut self)
+        ensures { self.new.kind ≡ self.old.kind }
+    {
+        self.streams.clear();
+    }
+
+    // Makes room for so many batches in all, those that are there among them.
+    pub(crate) fn reserve(&mut self, count: usize) -> Result<(), OutOfMemory>
+        ensures { self.new.kind ≡ self.old.kind }
+    {
+        self.batches.truncate(self.streams.len());
+        let missing = count.saturating_sub(self.streams.len());
+        self.streams.reserve(missing)?;
+        self.batches.reserve(missing)
+    }
+
     // Returns the upper 16 bits of a stream's word at a step, where the batch at the slot is the stream's.
     #[inline(always)]
     pub(crate) fn cached(&mut self, slot: u32, stream: u64, step: u32) -> Option<u16>

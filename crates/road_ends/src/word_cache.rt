@@ -68,6 +68,13 @@ impl WordCache {
         }
     }
 
+    /// Lets go what is drawn, before steps that do not follow the last one, and keeps the memory. It takes none.
+    pub fn restart(&mut self)
+        ensures { self.new ≡ self.old }
+    {
+        self.batches.clear();
+    }
+
     /// Keeps the memory of a road that is no longer needed, for that of a step to come. It takes no memory.
     pub fn reuse(&mut self, road: Road)
         ensures { self.new ≡ self.old }
@@ -165,6 +172,7 @@ impl WordCache {
         let cars = road.cars();
         self.slots.resize(cars.len(), NO_BATCH)?;
         if !is_dense(cars) {
+            self.batches.reserve(cars.len())?;
             return write_high16s(&mut self.batches, &mut self.slots, cars, step, column);
         }
         self.free.resize(cars.len(), 0)?;

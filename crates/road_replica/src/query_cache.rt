@@ -20,9 +20,9 @@ use std::alloc::Global;
 use std::marker::Model;
 use std::sync::Arc;
 
-// The most steps that are counted one after another, and not by the intervals of the sheet: to begin and to end with an
-// interval takes two intervals' steps at most, and the state after it one.
-const MOST_COUNTED_STEPS: u32 = 3 * INTERVAL_STEPS;
+// The most steps that are counted one after another, and not by the intervals of the sheet, which takes as many on the
+// average.
+const MOST_COUNTED_STEPS: u32 = INTERVAL_STEPS;
 
 /// The last state that a query computed, and the words drawn for the steps round it: some 140 bytes for each car that
 /// could move in them, and for each inlet.
@@ -120,9 +120,8 @@ impl QueryCache {
         ensures cached { IsCacheOf sheet.now self.new }
     {
         if !are_counted(sheet, detector, from, to) {
-            let totals = sheet.totals(alloc, detector, from, to)?;
-            self.state = self.near(alloc, sheet, to)?;
-            return Ok(totals);
+            self.words.restart();
+            return Ok(sheet.totals_with(alloc, detector, from, to, &mut self.words)?);
         }
         let first = self.near(alloc, sheet, from)?;
         let (plan, scenario) = (sheet.plan(), sheet.scenario());
@@ -181,7 +180,7 @@ impl QueryCache {
             let (plan, scenario) = (sheet.plan(), sheet.scenario());
             return Ok(state_at(alloc, plan, scenario, last, step, &mut self.words)?);
         }
-        self.words = WordCache::of(alloc, sheet.plan());
+        self.words.restart();
         let road = sheet.state_with(alloc, step, &mut self.words)?;
         Ok(State { step, road })
     }

@@ -4,10 +4,11 @@ use Rattle.std.proofs.Math.Numerals.{add-one}
 use Rattle.road_plan.specs.Plan.{Plan}
 use Rattle.road_plan.specs.Settings.{Settings}
 use Rattle.road_cells.specs.Array.{Array}
-use Rattle.road_ends.specs.Input.{input_of}
+use Rattle.road_ends.specs.Input.{StepInput, input_of}
 use Rattle.road_ends.specs.Run.{road_after_step}
 use Rattle.road_scenario.specs.Edits.{Edits}
 use Rattle.road_scenario.specs.Settings.{settings_of}
+use Rattle.road_sheet.specs.Private.RunCache.{IsInputOf}
 use Rattle.road_sheet.specs.Sheets.{Sheet, state_of, next_input}
 use Rattle.road_sheet.specs.Shown.{run_at}
 
@@ -22,3 +23,10 @@ pub next_is : (s : Sheet) (plan : Plan) (settings : Settings) (step : ℕ) (last
 next_is s plan settings step last p u h l =
     ap (λ (x : Plan). input_of x settings step last) p ∙ ap (λ (x : Settings). input_of s.plan x step last) u
     ∙ ap (λ (x : ℕ). input_of s.plan (settings_of s.plan s.edits s.horizon) x last) h ∙ ap (λ (x : Array). input_of s.plan (settings_of s.plan s.edits s.horizon) s.horizon x) l
+
+-- the input of a step is one of the run
+pub input_of_run : (p : Plan) (edits : Edits) (t : ℕ) (road : Array) (input : StepInput) → input ≡ input_of p (settings_of p edits t) t road → IsInputOf p edits input
+input_of_run p edits t road input is = record {
+  plan = ap (λ (x : StepInput). x.plan) is;
+  settings = ap (λ (x : StepInput). x.settings) is ∙ ap (settings_of p edits) (sym (ap (λ (x : StepInput). x.step) is));
+}

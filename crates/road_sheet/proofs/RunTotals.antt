@@ -125,3 +125,15 @@ total_same p f g d h a b e r l = within (leq a b)
 -- what is counted in the next step
 pub passed_next : (s : Sheet) (input : StepInput) (speeds : List ℕ) (d : ℕ) → input ≡ next_input s → speeds ≡ input_speeds input → passes_at input speeds d ≡ passes s.plan (settings_of s.plan s.edits) d s.horizon
 passed_next s input speeds d is are = ap (λ (vs : List ℕ). passes_at input vs d) are ∙ ap (λ (x : StepInput). passes_at x (input_speeds x) d) is
+
+-- what is left of totals where those of the first steps are taken from them
+pub total_less : (p : Plan) (course : Course) (d a m b : ℕ) (all first : Totals) → a ≤ m → m ≤ b → all ≡ total p course d a b → first ≡ total p course d a m
+    → (first.cars ≤ all.cars) × (first.speeds ≤ all.speeds) × ((let rest : Totals = record { cars = all.cars - first.cars; speeds = all.speeds - first.speeds } in rest) ≡ total p course d m b)
+total_less p course d a m b all first before after is are =
+    let parts = ap (λ (x : Totals). plus x (total p course d m b)) are ∙ total_parted p course d a m b before after ∙ sym is in
+    let cars : first.cars + (total p course d m b).cars ≡ all.cars = ap (λ (x : Totals). x.cars) parts in
+    let speeds : first.speeds + (total p course d m b).speeds ≡ all.speeds = ap (λ (x : Totals). x.speeds) parts in (
+      omega (arith, cars),
+      omega (arith, speeds),
+      totals_same _ _ (omega (arith, cars)) (omega (arith, speeds)),
+    )

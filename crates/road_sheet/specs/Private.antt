@@ -2,5 +2,6 @@
 -- names it.
 pub mod Intervals
 pub mod SettingsCache
+pub mod RunCache
 pub mod Checkpoints
 pub mod Shelves

@@ -6,28 +6,24 @@ ghost use Rattle.road_plan.specs.declared.limits.TheConstants.{GREATEST_HORIZON}
 ghost use Rattle.road_ends.specs.Input.{input_speeds};
 ghost use Rattle.road_sheet.specs.Sheets.{next_input, sheet_after_step};
 
-use crate::settings_cache::SettingsCache;
+use crate::run_cache::RunCache;
 use crate::sheet::Sheet;
 use road_ends::{StepInput, WordCache};
 use road_plan::OutOfMemory;
 use std::alloc::Global;
 use std::marker::Model;
-use std::mem;
 use std::sync::Arc;
 
 /// A sheet that is being made, step by step: contracts see the sheet that it is so far.
 #[derive(Drop)]
 pub struct Draft {
     pub(crate) sheet: Sheet,
-    pub(crate) settings: SettingsCache,
+    pub(crate) cache: RunCache,
     pub(crate) words: WordCache,
-    // The input of the last step, to be made that of the next one.
-    pub(crate) last: Option<Arc<StepInput>>,
 }
 
 impl Model for Draft {
-    ghost use Rattle.std.specs.Prelude.{◌≡◌, IfSome};
-    ghost use Rattle.std.specs.Arc.{arc_value};
+    ghost use Rattle.std.specs.Prelude.{◌≡◌};
     ghost use Rattle.std.specs.Coded.{codes};
     ghost use Rattle.road_scenario.specs.Instances.EditOrder.{edits_code};
     ghost use Rattle.road_sheet.specs.Sheets.{Sheet};
@@ -38,10 +34,9 @@ impl Model for Draft {
 
     ghost view = { λ d. d.sheet };
 
-    ghost use Rattle.road_sheet.specs.Private.SettingsCache.{AreCached, IsInputOf};
+    ghost use Rattle.road_sheet.specs.Private.RunCache.{IsCacheOf};
 
-    ghost invariant = { λ d. AreCached d.sheet.plan d.sheet.edits d.settings × (d.words ≡ d.sheet.plan.words)
-        × IfSome d.last (λ input. IsInputOf d.sheet.plan d.sheet.edits (arc_value input)) };
+    ghost invariant = { λ d. IsCacheOf d.sheet.plan d.sheet.edits d.cache × (d.words ≡ d.sheet.plan.words) };
 }
 
 impl Draft {
@@ -61,9 +56,8 @@ impl Draft {
         ensures input { IfOk result (λ input. arc_value input ≡ next_input self.old) }
         ensures unchanged { self.new ≡ self.old }
     {
-        let last = mem::replace(&mut self.last, None);
         self.sheet
-            .next_input(alloc, last, &mut self.settings, &mut self.words)
+            .next_input(alloc, &mut self.cache, &mut self.words)
     }
 
     /// Adds one more step, from its input and the new speeds of its cars. The input must be that of the next step, the
@@ -106,7 +100,7 @@ impl Draft {
         ensures unchanged { OnErr result (self.new ≡ self.old) }
     {
         self.push(alloc, &input, speeds)?;
-        self.last = Some(input);
+        self.cache.keep_input(input);
         Ok(())
     }
 

@@ -18,6 +18,7 @@ mod checkpoint;
 mod draft;
 mod faults;
 mod interval;
+mod run_cache;
 mod settings_cache;
 mod shared_intervals;
 mod sheet;

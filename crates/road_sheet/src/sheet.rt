@@ -19,7 +19,7 @@ use crate::checkpoint::Checkpoint;
 use crate::draft::Draft;
 use crate::faults::SheetFault;
 use crate::interval::{INTERVAL_STEPS, Interval};
-use crate::settings_cache::SettingsCache;
+use crate::run_cache::RunCache;
 use crate::shared_intervals::SharedIntervals;
 use crate::simulation::{State, run_on, totals_between};
 use lattice_core::both::Both;
@@ -29,7 +29,7 @@ use road_cells::Road;
 use road_detector::Totals;
 use road_detector::laws::{cars_pass_one_by_one, totals_are_bounded};
 use road_ends::laws::{cars_stay_on_road, runs_depend_on_earlier_settings};
-use road_ends::{StepInput, WordCache, enter_again, enter_with, finish_with};
+use road_ends::{StepInput, WordCache, finish_with};
 use road_plan::{OutOfMemory, Plan};
 use road_scenario::Scenario;
 use road_scenario::laws::settings_stay_before_touched;
@@ -77,7 +77,7 @@ impl Model for Sheet {
 }
 
 impl Sheet {
-    ghost use Rattle.road_sheet.specs.Private.SettingsCache.{AreCached, IsInputOf};
+    ghost use Rattle.road_sheet.specs.Private.RunCache.{IsCacheOf};
 
     /// Makes the sheet without edits, of which no step is simulated.
     ///
@@ -171,7 +171,8 @@ impl Sheet {
     }
 
     /// Returns what a detector counts in the steps from one up to another, that one not among them. It computes the
-    /// steps of the intervals that `from` and `to` cut; the counts of whole ones are kept, and allocate nothing.
+    /// steps up to `from` and up to `to` in the intervals that these cut; the counts of whole ones are kept, and
+    /// allocate nothing.
     ///
     /// # Errors
     ///
@@ -190,6 +191,31 @@ impl Sheet {
         ensures kept { totals_fault self.now detector from to ≡ None → AreWholeIntervals self.now from to
             → IsOk result }
     {
+        let mut words = WordCache::of(alloc, &self.plan);
+        self.totals_with(alloc, detector, from, to, &mut words)
+    }
+
+    /// Returns what a detector counts, as [`Sheet::totals`], by the caller's cache of words, which must be the plan's.
+    ///
+    /// # Errors
+    ///
+    /// As there. The cache stays one of the plan's words.
+    pub fn totals_with(
+        &self,
+        alloc: Global,
+        detector: u32,
+        from: u32,
+        to: u32,
+        words: &mut WordCache,
+    ) -> Result<Totals, SheetFault>
+        requires words { words.old ≡ self.now.plan.words }
+        ensures totals { IfOk result (λ totals. totals ≡ total_of self.now detector from to) }
+        ensures accepted { IfOk result (λ _. totals_fault self.now detector from to ≡ None) }
+        ensures refused { IfErr result (λ fault. IsRefusalBy (totals_fault self.now detector from to) fault) }
+        ensures kept { totals_fault self.now detector from to ≡ None → AreWholeIntervals self.now from to
+            → IsOk result }
+        ensures unchanged { words.new ≡ words.old }
+    {
         if detector as usize >= self.plan.detectors().len() {
             return Err(SheetFault::NoDetector);
         }
@@ -199,7 +225,7 @@ impl Sheet {
         if self.horizon() < to {
             return Err(SheetFault::NotSimulated);
         }
-        Ok(self.totals_between(alloc, detector, from, to)?)
+        Ok(self.totals_between(alloc, detector, from, to, words)?)
     }
 
     // Returns the road at a step.
@@ -265,12 +291,15 @@ impl Sheet {
         detector: u32,
         from: u32,
         to: u32,
+        words: &mut WordCache,
     ) -> Result<Totals, OutOfMemory>
         requires in_plan { detector < length self.now.plan.detectors }
         requires order { from ≤ to }
         requires simulated { to ≤ self.now.horizon }
+        requires words { words.old ≡ self.now.plan.words }
         ensures totals { IfOk result (λ totals. totals ≡ total_of self.now detector from to) }
         ensures kept { AreWholeIntervals self.now from to → IsOk result }
+        ensures unchanged { words.new ≡ words.old }
     {
         totals_are_bounded(&self.plan);
         let mut totals = Totals { cars: 0, speeds: 0 };
@@ -278,13 +307,14 @@ impl Sheet {
             let first = interval * INTERVAL_STEPS;
             let begin = first.max(from);
             let end = (first + INTERVAL_STEPS).min(to);
-            let counted = self.totals_in(alloc, detector, interval, begin, end)?;
+            let counted = self.totals_in(alloc, detector, interval, begin, end, words)?;
             totals = totals.plus(counted);
         }
         Ok(totals)
     }
 
-    // Counts some steps of an interval; the counts of all that are simulated are kept.
+    // Counts some steps of an interval. The counts of all that are simulated are kept; those of its last ones are these
+    // less the counts of the steps before.
     fn totals_in(
         &self,
         alloc: Global,
@@ -292,33 +322,57 @@ impl Sheet {
         interval: u32,
         from: u32,
         to: u32,
+        words: &mut WordCache,
     ) -> Result<Totals, OutOfMemory>
         requires in_plan { detector < length self.now.plan.detectors }
         requires begun { INTERVAL_STEPS * interval ≤ from }
         requires order { from ≤ to }
         requires ended { to ≤ INTERVAL_STEPS * interval + INTERVAL_STEPS }
         requires simulated { to ≤ self.now.horizon }
+        requires words { words.old ≡ self.now.plan.words }
         ensures totals { IfOk result (λ totals. totals ≡ total_of self.now detector from to) }
         ensures kept { from ≡ INTERVAL_STEPS * interval
             → to ≡ min (INTERVAL_STEPS * interval + INTERVAL_STEPS) self.now.horizon → IsOk result }
+        ensures unchanged { words.new ≡ words.old }
     {
         let horizon = self.horizon();
         let first = interval * INTERVAL_STEPS;
         let end = (first + INTERVAL_STEPS).min(horizon);
-        if from == first && to == end {
-            return Ok(self.interval(interval as usize).totals[detector as usize]);
+        if to < end {
+            return self.counted(alloc, detector, interval, from, to, words);
         }
-        let mut words = WordCache::of(alloc, &self.plan);
-        let state = self.state_in(alloc, interval, from, &mut words)?;
-        let (totals, _) = totals_between(
-            alloc,
-            &self.plan,
-            &self.known.first,
-            state,
-            detector,
-            to,
-            &mut words,
-        )?;
+        let whole = self.interval(interval as usize).totals[detector as usize];
+        if from == first {
+            return Ok(whole);
+        }
+        let before = self.counted(alloc, detector, interval, first, from, words)?;
+        Ok(Totals {
+            cars: whole.cars - before.cars,
+            speeds: whole.speeds - before.speeds,
+        })
+    }
+
+    // Counts some steps of an interval, step by step.
+    fn counted(
+        &self,
+        alloc: Global,
+        detector: u32,
+        interval: u32,
+        from: u32,
+        to: u32,
+        words: &mut WordCache,
+    ) -> Result<Totals, OutOfMemory>
+        requires in_plan { detector < length self.now.plan.detectors }
+        requires begun { INTERVAL_STEPS * interval ≤ from }
+        requires order { from ≤ to }
+        requires simulated { to ≤ self.now.horizon }
+        requires words { words.old ≡ self.now.plan.words }
+        ensures totals { IfOk result (λ totals. totals ≡ total_of self.now detector from to) }
+        ensures unchanged { words.new ≡ words.old }
+    {
+        let state = self.state_in(alloc, interval, from, words)?;
+        let (plan, scenario) = (&self.plan, &self.known.first);
+        let (totals, _) = totals_between(alloc, plan, scenario, state, detector, to, words)?;
         Ok(totals)
     }
 
@@ -372,9 +426,8 @@ impl Sheet {
         let words = WordCache::of(alloc, &self.plan);
         Ok(Draft {
             sheet,
-            settings: SettingsCache::none(),
+            cache: RunCache::empty(alloc),
             words,
-            last: None,
         })
     }
 
@@ -447,32 +500,22 @@ impl Sheet {
         })
     }
 
-    // Makes the input of the next step: of the last one, where it can be, and else a new one.
+    // Makes the input of the next step.
     pub(crate) fn next_input(
         &self,
         alloc: Global,
-        last: Option<Arc<StepInput>>,
-        settings: &mut SettingsCache,
+        cache: &mut RunCache,
         words: &mut WordCache,
     ) -> Result<Arc<StepInput>, OutOfMemory>
-        requires last { IfSome last (λ input. IsInputOf self.now.plan self.now.edits (arc_value input)) }
-        requires cached { AreCached self.now.plan self.now.edits settings.old }
+        requires cached { IsCacheOf self.now.plan self.now.edits cache.old }
         requires words { words.old ≡ self.now.plan.words }
         ensures input { IfOk result (λ input. arc_value input ≡ next_input self.now) }
-        ensures cached { AreCached self.now.plan self.now.edits settings.new }
+        ensures cached { IsCacheOf self.now.plan self.now.edits cache.new }
         ensures unchanged { words.new ≡ words.old }
     {
+        let (plan, scenario) = (&self.plan, &self.known.first);
         let step = self.horizon();
-        if let Some(mut input) = last {
-            if settings.are_at(input.step(), step)
-                && enter_again(alloc, &mut input, step, &self.at_horizon, words)?
-            {
-                return Ok(input);
-            }
-            words.reuse_input(input);
-        }
-        let settings = settings.at(alloc, &self.plan, &self.known.first, step)?;
-        enter_with(alloc, &self.plan, settings, step, &self.at_horizon, words)
+        cache.enter(alloc, plan, scenario, step, &self.at_horizon, words)
     }
 
     // Adds one more step. What can fail for memory is done before the sheet is changed.

@@ -6,16 +6,14 @@ ghost use Rattle.std.specs.Prelude.{◌≡◌, IfOk, OnOk, ◌≤◌, ◌<◌, �
 ghost use Rattle.std.specs.Arc.{arc_value};
 ghost use Rattle.road_plan.specs.declared.limits.TheConstants.{GREATEST_HORIZON};
 ghost use Rattle.road_scenario.specs.Faults.{AreInRange};
-ghost use Rattle.road_scenario.specs.Settings.{settings_of};
-ghost use Rattle.road_ends.specs.Input.{input_of, input_speeds};
-ghost use Rattle.road_sheet.specs.Private.SettingsCache.{AreCached};
+ghost use Rattle.road_sheet.specs.Private.RunCache.{IsCacheOf};
 ghost use Rattle.road_sheet.specs.Shown.{run_at, row_at, rows_at, total_at};
 
-use crate::settings_cache::SettingsCache;
+use crate::run_cache::RunCache;
 use road_cells::Road;
 use road_detector::laws::{cars_have_digits, cars_pass_one_by_one, totals_are_bounded};
 use road_detector::{Totals, passes, row_text};
-use road_ends::{Stepped, WordCache, step_with};
+use road_ends::WordCache;
 use road_plan::{OutOfMemory, Plan};
 use road_scenario::Scenario;
 use std::alloc::Global;
@@ -105,44 +103,13 @@ pub(crate) fn run_on(
 {
     let from = first.step;
     let mut road = first.road;
-    let mut settings = SettingsCache::none();
+    let mut cache = RunCache::empty(alloc);
     for now in from..step {
-        let stepped = next(alloc, plan, scenario, now, &road, &mut settings, words)?;
-        let Stepped {
-            input,
-            road: later,
-            ..
-        } = stepped;
-        words.reuse_input(input);
+        let stepped = cache.step(alloc, plan, scenario, now, &road, words)?;
+        let later = cache.keep(stepped);
         words.reuse(mem::replace(&mut road, later));
     }
     Ok(State { step, road })
-}
-
-// Computes the step that turns the road of a step into that of the next.
-fn next(
-    alloc: Global,
-    plan: &Arc<Plan>,
-    scenario: &Scenario,
-    step: u32,
-    road: &Road,
-    settings: &mut SettingsCache,
-    words: &mut WordCache,
-) -> Result<Stepped, OutOfMemory>
-    requires fits { AreInRange (arc_value plan.now) scenario.now }
-    requires run { road.now ≡ run_at (arc_value plan.now) scenario.now step }
-    requires cached { AreCached (arc_value plan.now) scenario.now settings.old }
-    requires words { words.old ≡ (arc_value plan.now).words }
-    ensures input { IfOk result (λ done. arc_value done.input
-        ≡ input_of (arc_value plan.now) (settings_of (arc_value plan.now) scenario.now step) step road.now) }
-    ensures speeds { IfOk result (λ done. done.speeds.items ≡ input_speeds (arc_value done.input)) }
-    ensures road { IfOk result (λ done. done.road ≡ run_at (arc_value plan.now) scenario.now (step + 1)) }
-    ensures cached { AreCached (arc_value plan.now) scenario.now settings.new }
-    ensures unchanged { words.new ≡ words.old }
-{
-    let settings = settings.at(alloc, plan, scenario, step)?;
-    let stepped = step_with(alloc, plan, settings, step, road, words)?;
-    Ok(stepped)
 }
 
 /// Writes the row of a state, with the blocks of its step.
@@ -199,11 +166,11 @@ pub fn rows_between(
 {
     let from = first.step;
     let mut state = first;
-    let mut settings = SettingsCache::none();
+    let mut cache = RunCache::empty(alloc);
     let mut rows = Vec::new(alloc);
     rows.push(row_of(alloc, plan, scenario, &state)?)?;
     for step in from..to {
-        let row = next_row(alloc, plan, scenario, &mut state, &mut settings, words)?;
+        let row = next_row(alloc, plan, scenario, &mut state, &mut cache, words)?;
         rows.push(row)?;
     }
     Ok((rows, state))
@@ -215,27 +182,26 @@ fn next_row(
     plan: &Arc<Plan>,
     scenario: &Scenario,
     state: &mut State,
-    settings: &mut SettingsCache,
+    cache: &mut RunCache,
     words: &mut WordCache,
 ) -> Result<String, OutOfMemory>
     requires fits { AreInRange (arc_value plan.now) scenario.now }
     requires horizon { state.old.step < GREATEST_HORIZON }
     requires run { state.old.road ≡ run_at (arc_value plan.now) scenario.now state.old.step }
-    requires cached { AreCached (arc_value plan.now) scenario.now settings.old }
+    requires cached { IsCacheOf (arc_value plan.now) scenario.now cache.old }
     requires words { words.old ≡ (arc_value plan.now).words }
     ensures row { IfOk result (λ row. string_bytes row
         ≡ row_at (arc_value plan.now) scenario.now (state.old.step + 1)) }
     ensures step { OnOk result (state.new.step ≡ state.old.step + 1) }
     ensures road { OnOk result (state.new.road ≡ run_at (arc_value plan.now) scenario.now (state.old.step + 1)) }
-    ensures cached { AreCached (arc_value plan.now) scenario.now settings.new }
+    ensures cached { IsCacheOf (arc_value plan.now) scenario.now cache.new }
     ensures unchanged { words.new ≡ words.old }
 {
     let step = state.step;
-    let stepped = next(alloc, plan, scenario, step, &state.road, settings, words)?;
-    *state = State {
-        step: step + 1,
-        road: stepped.road,
-    };
+    let stepped = cache.step(alloc, plan, scenario, step, &state.road, words)?;
+    let road = cache.keep(stepped);
+    words.reuse(mem::replace(&mut state.road, road));
+    state.step = step + 1;
     row_of(alloc, plan, scenario, state)
 }
 
@@ -271,14 +237,15 @@ pub fn totals_between(
     let from = first.step;
     let mut road = first.road;
     let mut totals = Totals { cars: 0, speeds: 0 };
-    let mut settings = SettingsCache::none();
+    let mut cache = RunCache::empty(alloc);
     cars_pass_one_by_one(plan);
     totals_are_bounded(plan);
     for step in from..to {
-        let stepped = next(alloc, plan, scenario, step, &road, &mut settings, words)?;
+        let stepped = cache.step(alloc, plan, scenario, step, &road, words)?;
         let passed = passes(&stepped.input, &stepped.speeds, detector);
         totals = totals.plus(passed);
-        road = stepped.road;
+        let later = cache.keep(stepped);
+        words.reuse(mem::replace(&mut road, later));
     }
     Ok((totals, State { step: to, road }))
 }

@@ -5,7 +5,6 @@ use Rattle.std.specs.Arc.{arc_value}
 use Rattle.road_plan.specs.Plan.{Plan}
 use Rattle.road_plan.specs.Settings.{Settings, Fits}
 use Rattle.road_scenario.specs.Edits.{Edits}
-use Rattle.road_ends.specs.Input.{StepInput}
 use Rattle.road_scenario.specs.Settings.{settings_of}
 use Rattle.road_sheet.specs.declared.settings_cache.InForce.{InForce}
 use Rattle.road_sheet.specs.declared.settings_cache.SettingsCache.{SettingsCache}
@@ -19,8 +18,3 @@ pub record AreInForce (plan : Plan) (edits : Edits) (settings : Settings) (from 
 pub record AreCached (plan : Plan) (edits : Edits) (cache : SettingsCache) : Type 0 where
   pub last : (kept : InForce) → cache.last ≡ Some kept
       → AreInForce plan edits (arc_value kept.settings) kept.from kept.until
-
--- an input is of this plan, and its settings are those of its step
-pub record IsInputOf (p : Plan) (edits : Edits) (input : StepInput) : Type 0 where
-  pub plan : input.plan ≡ p
-  pub settings : input.settings ≡ settings_of p edits input.step

@@ -3,6 +3,7 @@ use Rattle.std.proofs.Common.{◌∙◌, subst, arith}
 use Rattle.std.specs.Arc.{arc_value}
 use Rattle.road_scenario.specs.Settings.{settings_of}
 use Rattle.road_detector.specs.Laws.{PassOneByOne, BoundTotals}
+use Rattle.road_sheet.proofs.RunStates.{input_of_run}
 use Rattle.road_sheet.proofs.RunTotals.{passed_is, cars_fit, speeds_fit, counted_more}
 use Rattle.road_sheet.proofs.simulation.totals_between.Goals as goal
 
@@ -36,8 +37,8 @@ loop-step-preserved c =
     let edits = c.args.scenario.now in
     let passed = passed_is p edits c.args.detector c.loop-step.step c.loop-step.road (arc_value c.in_ok-stepped.stepped.input) _ c.in_ok-stepped.stepped.speeds.items _ c.passes-passed.result
     c.in_ok-stepped.ensures.input c.loop-step.invariant.0 c.in_ok-stepped.ensures.speeds c.deref-in-loop-step.ensures c.deref-in-loop-step-2.ensures.value c.passes-passed.ensures in (
-      c.in_ok-stepped.ensures.road,
+      c.replace.ensures.after ∙ c.keep-later.ensures.road ∙ c.in_ok-stepped.ensures.road,
       c.plus-totals.ensures ∙ counted_more p (settings_of p edits) c.args.detector c.args.first.step c.loop-step.step c.loop-step.totals c.passes-passed.result c.loop-step.auto.step c.loop-step.invariant.1 passed,
-      c.in_ok-stepped.ensures.cached,
-      c.in_ok-stepped.ensures.unchanged ∙ c.loop-step.invariant.3,
+      c.keep-later.ensures.cached p edits c.in_ok-stepped.ensures.cached (input_of_run p edits c.loop-step.step c.loop-step.road (arc_value c.in_ok-stepped.stepped.input) c.in_ok-stepped.ensures.input),
+      c.reuse.ensures ∙ c.in_ok-stepped.ensures.unchanged ∙ c.loop-step.invariant.3,
     )

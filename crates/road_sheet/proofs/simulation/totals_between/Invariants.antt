@@ -3,7 +3,7 @@ use Rattle.std.proofs.Common.{◌≡◌}
 use Rattle.std.specs.Arc.{arc_value}
 use Rattle.road_scenario.specs.Settings.{settings_of}
 use Rattle.road_detector.specs.Passes.{total}
-use Rattle.road_sheet.specs.Private.SettingsCache.{AreCached}
+use Rattle.road_sheet.specs.Private.RunCache.{IsCacheOf}
 use Rattle.road_sheet.specs.Shown.{run_at}
 use Rattle.road_sheet.proofs.simulation.totals_between.Given as goal
 
@@ -12,5 +12,5 @@ abbrev pub invariant-loop-step : goal.invariant-loop-step
 invariant-loop-step l =
     (l.road ≡ run_at (arc_value l.plan) l.scenario l.step)
     × (l.totals ≡ total (arc_value l.plan) (settings_of (arc_value l.plan) l.scenario) l.detector l.from l.step)
-    × AreCached (arc_value l.plan) l.scenario l.settings
+    × IsCacheOf (arc_value l.plan) l.scenario l.cache
     × (l.words ≡ l.fn.words)
