@@ -39,11 +39,6 @@ unnamed (events.Beyond r m) fault is = ap world_refusal is
 unnamed (events.Take r m) fault is = unnamed_want fault is
 unnamed (events.Advance r to) fault is = unnamed_want fault is
 
--- an event that no named cause refuses fails for want of workers or memory, if at all
-pub accepted_unnamed : (w : World) (e : Event) (fault : WorldFault) → replica_number e < length w.replicas → fault_at_replica w e ≡ None → IsRefusal e (fault_of_event w e) fault → world_refusal fault ≡ None
-accepted_unnamed w e fault below accepted is =
-    unnamed e fault (subst (λ (cause : Option WorldFault). IsRefusal e cause fault) (fault_there w e below ∙ accepted) is)
-
 -- an event that makes no message is replied to by no number of one
 pub change_named : (w : World) (e : Event) → makes_message e ≡ false → names_message (reply_to_event w e) ≡ false
 change_named w (events.Edit r o step n) h = refl

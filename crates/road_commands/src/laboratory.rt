@@ -1,22 +1,20 @@
 //! A world with names, and its answers to commands.
 
-ghost use Rattle.std.specs.Prelude.{◌≡◌, ◌<◌, ◌≤◌, ◌++◌, ◌∷◌, [], IfNone, IfOk, IfSome, None, OnErr, OnOk, Some, false};
+ghost use Rattle.std.specs.Prelude.{◌≡◌, ◌<◌, ◌≤◌, ◌++◌, ◌∷◌, [], IfOk, IfSome, None, OnErr, OnOk, false};
 ghost use Rattle.std.specs.Prelude.{is_none, length, string_bytes, ℕ};
 ghost use Rattle.std.specs.Arc.{arc_value};
-ghost use Rattle.std.specs.List.{All, IsDistinct, slice_get};
+ghost use Rattle.std.specs.List.{All, IsDistinct};
 ghost use Rattle.std.specs.Str.{bytes_eq};
-ghost use Rattle.lattice_core.specs.Sets.{items};
 ghost use Rattle.road_plan.specs.declared.limits.TheConstants.{MOST_REPLICAS};
-ghost use Rattle.road_delta.specs.Deltas as deltas;
+ghost use Rattle.road_scenario.specs.Faults.{AreInRange, FitsSomePlan};
+ghost use Rattle.road_scenario.specs.Winners.{AreWinners};
 ghost use Rattle.road_sheet.specs.Sheets.{Sheet};
 ghost use Rattle.road_replica.specs.QueryCaches.{IsCacheOf};
-ghost use Rattle.road_workers.specs.Crews.{gone_after};
-ghost use Rattle.road_world.specs.Answers.{IsAnswer, fault_at_replica, gone_after_answer, heads_wanted_fault};
-ghost use Rattle.road_world.specs.Answers.{replica_number, reply_to_event, sheet_at};
-ghost use Rattle.road_world.specs.Events.{asked_heads, world_after_event};
-ghost use Rattle.road_world.specs.declared.faults.WorldFault.TheVariants.{NoMessage};
+ghost use Rattle.road_world.specs.Answers.{IsAnswer, gone_after_answer, replica_number, reply_to_event, sheet_at};
+ghost use Rattle.road_world.specs.Events.{replica_at, world_after_event, world_with_message};
+ghost use Rattle.road_world.specs.Messages.{IsSendable};
 ghost use Rattle.road_format.specs.Views.{answer_view, command_view, plan_line_view, shares_view, texts};
-ghost use Rattle.road_commands.specs.Laboratory.{answer_to, beyond_outcome, change_outcome, crowd_outcome, edits_held};
+ghost use Rattle.road_commands.specs.Laboratory.{answer_to, beyond_outcome, change_outcome, crowd_outcome};
 ghost use Rattle.road_commands.specs.Laboratory.{gone_after_command, heads_outcome, is_gathered, laboratory_after};
 ghost use Rattle.road_commands.specs.Laboratory.{laboratory_of_winners, number_of, opening_laboratory, outcome_at};
 ghost use Rattle.road_commands.specs.Laboratory.{outcome_by_name, query_outcome, send_outcome, take_outcome};
@@ -29,12 +27,12 @@ use crate::crowds::{crowd_of, crowd_refusal};
 use crate::names::Names;
 use crate::queries::{Query, ask_sheet};
 use crate::translation::{answer_of, fault_by, keeps_edits, name_of, refusal_of, replica_refusal};
-use road_delta::{Head, beyond, heads_of};
+use road_delta::{beyond, heads_of};
 use road_ends::Meter;
 use road_format::{Answer, Command, PlanLine, Refusal};
 use road_plan::{OutOfMemory, Plan};
 use road_replica::{Crowd, Crowds, QueryCache, Reply};
-use road_scenario::Edit;
+use road_scenario::{Edit, Scenario};
 use road_workers::{Crew, CrewFault};
 use road_world::{Event, Message, World, WorldFault};
 use std::alloc::Global;
@@ -215,9 +213,9 @@ impl Laboratory {
                 self.change(alloc, &event, crew)
             }
             Command::Import { edits, .. } => self.change(alloc, &Event::Import { at, edits }, crew),
-            Command::Send { name, .. } => self.send(alloc, at, name, crew),
-            Command::Heads { name, .. } => self.heads(alloc, at, name, crew),
-            Command::Beyond { heads, name, .. } => self.beyond(alloc, at, &heads, name, crew),
+            Command::Send { name, .. } => self.send(alloc, at, name),
+            Command::Heads { name, .. } => self.heads(alloc, at, name),
+            Command::Beyond { heads, name, .. } => self.beyond(alloc, at, &heads, name),
             Command::Take { message, .. } => self.take(alloc, at, &message, crew),
             Command::Advance { to, .. } => self.change(alloc, &Event::Advance { at, to }, crew),
             Command::Cells { step, .. } => self.ask(alloc, at, Query::Cells { step }),
@@ -307,22 +305,18 @@ impl Laboratory {
     // ---- messages
 
     // Makes a message of all that a replica holds.
-    fn send<C: Crew>(
-        &mut self,
-        alloc: Global,
-        at: u32,
-        name: String,
-        crew: &mut C,
-    ) -> Result<Answer, CrewFault>
+    fn send(&mut self, alloc: Global, at: u32, name: String) -> Result<Answer, CrewFault>
         requires { at < length self.old.replica_names }
-        ensures { IsOutcome (send_outcome self.old at (string_bytes name)) result self.old self.new
-            (C.times_gone crew.old) (C.times_gone crew.new) }
+        ensures { (gone : ℕ) → IsOutcome (send_outcome self.old at (string_bytes name))
+            result self.old self.new gone gone }
     {
         if self.message_of(&name).is_some() {
             return Ok(Answer::Refused(Refusal::NameTaken));
         }
-        let size = self.edit_count(at) as u64;
-        self.make(alloc, &Event::Send { at }, &name, crew)?;
+        let held = self.scenario(at);
+        let size = held.len() as u64;
+        let edits = held.copied()?;
+        self.post(alloc, Message::Whole(edits), &name)?;
         Ok(Answer::Sent {
             message: name,
             size,
@@ -330,22 +324,17 @@ impl Laboratory {
     }
 
     // Makes a message of the heads of all that a replica holds.
-    fn heads<C: Crew>(
-        &mut self,
-        alloc: Global,
-        at: u32,
-        name: String,
-        crew: &mut C,
-    ) -> Result<Answer, CrewFault>
+    fn heads(&mut self, alloc: Global, at: u32, name: String) -> Result<Answer, CrewFault>
         requires { at < length self.old.replica_names }
-        ensures { IsOutcome (heads_outcome self.old at (string_bytes name)) result self.old self.new
-            (C.times_gone crew.old) (C.times_gone crew.new) }
+        ensures { (gone : ℕ) → IsOutcome (heads_outcome self.old at (string_bytes name))
+            result self.old self.new gone gone }
     {
         if self.message_of(&name).is_some() {
             return Ok(Answer::Refused(Refusal::NameTaken));
         }
-        let heads = self.heads_held(alloc, at)?;
-        self.make(alloc, &Event::Heads { at }, &name, crew)?;
+        let asked = heads_of(alloc, self.scenario(at))?;
+        let heads = asked.list().to_vec(alloc)?;
+        self.post(alloc, Message::Asked(asked), &name)?;
         Ok(Answer::Heads {
             message: name,
             heads,
@@ -353,114 +342,67 @@ impl Laboratory {
     }
 
     // Makes a message of what a replica holds beyond the heads of another.
-    fn beyond<C: Crew>(
+    fn beyond(
         &mut self,
         alloc: Global,
         at: u32,
         asked: &str,
         name: String,
-        crew: &mut C,
     ) -> Result<Answer, CrewFault>
         requires { at < length self.old.replica_names }
-        ensures { IsOutcome (beyond_outcome self.old at asked.now (string_bytes name)) result self.old self.new
-            (C.times_gone crew.old) (C.times_gone crew.new) }
+        ensures { (gone : ℕ) → IsOutcome (beyond_outcome self.old at asked.now (string_bytes name))
+            result self.old self.new gone gone }
     {
-        let Some(number) = self.number_of_heads(asked) else {
+        let Some(number) = self.message_of(asked) else {
+            return Ok(Answer::Refused(Refusal::NoMessage));
+        };
+        let Some(Message::Asked(heads)) = self.world.message(number) else {
             return Ok(Answer::Refused(Refusal::NoMessage));
         };
         if self.message_of(&name).is_some() {
             return Ok(Answer::Refused(Refusal::NameTaken));
         }
-        let edits = self.edits_beyond(alloc, at, number)?;
-        let event = Event::Beyond {
-            at,
-            message: number,
-        };
-        self.make(alloc, &event, &name, crew)?;
+        let delta = beyond(alloc, self.scenario(at), heads)?;
+        let edits = delta.edits(alloc)?;
+        self.post(alloc, Message::Answer(delta), &name)?;
         Ok(Answer::Delta {
             message: name,
             edits,
         })
     }
 
-    // Makes a message by an event, and names it. Neither the world nor the names may refuse it.
-    fn make<C: Crew>(
-        &mut self,
-        alloc: Global,
-        event: &Event,
-        name: &str,
-        crew: &mut C,
-    ) -> Result<(), CrewFault>
-        requires there { replica_number event.now < length self.old.replica_names }
-        requires accepted { fault_at_replica self.old.world event.now ≡ None }
+    // Returns the scenario of a replica.
+    fn scenario(&self, at: u32) -> &Scenario
+        requires { at < length self.now.replica_names }
+        ensures edits { result.now ≡ (replica_at self.now.world at).edits }
+        ensures winners { AreWinners result.now }
+        ensures in_range { AreInRange self.now.world.plan result.now }
+        ensures fits { FitsSomePlan result.now }
+    {
+        match self.world.replica(at) {
+            Some(replica) => replica.scenario(),
+            None => unreachable!(),
+        }
+    }
+
+    // Posts a message, and names it. No message may have the name.
+    fn post(&mut self, alloc: Global, message: Message, name: &str) -> Result<(), OutOfMemory>
+        requires sendable { IsSendable self.old.world.plan message }
         requires free { number_of self.old.message_names name.now ≡ None }
         ensures after { OnOk result (self.new ≡ laboratory_of_winners (record self.old {
           message_names = self.old.message_names ++ name.now ∷ [];
-          world = world_after_event event.now self.old.world;
+          world = world_with_message message self.old.world;
         })) }
         ensures unchanged { OnErr result (self.new ≡ self.old) }
-        ensures gone { C.times_gone crew.new ≡ gone_after result (C.times_gone crew.old) }
     {
         let count = self.messages.len();
         self.messages.put(String::from_str(alloc, name)?)?;
-        match self.apply(alloc, event, crew) {
+        match self.world.post(message) {
             Ok(_) => Ok(()),
             Err(fault) => {
                 self.messages.cut(count);
-                Err(fault_by(fault))
+                Err(fault)
             }
-        }
-    }
-
-    // Counts the edits that a replica holds.
-    fn edit_count(&self, at: u32) -> usize
-        requires { at < length self.now.replica_names }
-        ensures { result ≡ length (items (edits_held self.now.world at)) }
-    {
-        match self.world.replica(at) {
-            Some(replica) => replica.scenario().len(),
-            None => unreachable!(),
-        }
-    }
-
-    // Lists the heads of the edits that a replica holds.
-    fn heads_held(&self, alloc: Global, at: u32) -> Result<Vec<Head>, OutOfMemory>
-        requires { at < length self.now.replica_names }
-        ensures { IfOk result (λ heads. heads.items ≡ deltas.heads (edits_held self.now.world at)) }
-    {
-        match self.world.replica(at) {
-            Some(replica) => heads_of(alloc, replica.scenario())?.list().to_vec(alloc),
-            None => unreachable!(),
-        }
-    }
-
-    // Returns the number of a message that asks with heads.
-    fn number_of_heads(&self, name: &str) -> Option<u64>
-        ensures there { IfSome result (λ number. number_of self.now.message_names name.now ≡ Some number) }
-        ensures asks { IfSome result (λ number. heads_wanted_fault (slice_get self.now.world.messages number) ≡ None) }
-        ensures missing { IfNone result ((number : ℕ) → number_of self.now.message_names name.now ≡ Some number →
-            heads_wanted_fault (slice_get self.now.world.messages number) ≡ Some NoMessage) }
-        ensures winners { laboratory_of_winners self.now ≡ self.now }
-    {
-        let number = self.message_of(name)?;
-        match self.world.message(number) {
-            Some(Message::Asked(_)) => Some(number),
-            _ => None,
-        }
-    }
-
-    // Lists the edits that a replica holds beyond the heads of a message.
-    fn edits_beyond(&self, alloc: Global, at: u32, message: u64) -> Result<Vec<Edit>, OutOfMemory>
-        requires there { at < length self.now.replica_names }
-        requires asks { heads_wanted_fault (slice_get self.now.world.messages message) ≡ None }
-        ensures { IfOk result (λ edits. edits.items ≡ items (deltas.beyond (edits_held self.now.world at)
-            (asked_heads (slice_get self.now.world.messages message)))) }
-    {
-        match (self.world.replica(at), self.world.message(message)) {
-            (Some(replica), Some(Message::Asked(heads))) => {
-                beyond(alloc, replica.scenario(), heads)?.edits(alloc)
-            }
-            _ => unreachable!(),
         }
     }
 

@@ -4,7 +4,7 @@ use Rattle.std.specs.Prelude.{slice_set, replicate, IfSome, MatchOption}
 use Rattle.std.specs.Option.{option_map}
 use Rattle.std.specs.List.{All, slice_index_or, slice_get}
 use Rattle.std.proofs.lemmas.List.{get_or-map, get_or_default, map-set, map-append, length-set, length-map, length-replicate, replicate_more}
-use Rattle.std.proofs.lemmas.List.Elements.{All-nil}
+use Rattle.std.proofs.lemmas.List.Elements.{All-nil, All-push}
 use Rattle.std.proofs.lemmas.Option.{slice_get_read, slice_get_within, get_or_from_slice_get}
 use Rattle.lattice_core.specs.Sets.{contains, items, union}
 use Rattle.road_plan.specs.Plan.{Plan, IsWithinLimits}
@@ -27,7 +27,8 @@ use Rattle.road_replica.specs.Replicas.{Replica, replica_after}
 use Rattle.road_world.specs.Answers.{edits_wanted_fault, replica_with_sheet, sheet_at}
 use Rattle.road_world.specs.Events.{World, WorldReplica, opening_replica, replica_at, carried_edits, replica_of_winners, message_of_winners, world_of_winners}
 use Rattle.road_world.specs.Events.{world_with_advance, world_with_edits, world_with_message}
-use Rattle.road_world.specs.Private.Worlds.{world_replica, IsReplicaOf, AreSendable, IsSendable, IsWorldKept}
+use Rattle.road_world.specs.Messages.{AreSendable, IsSendable}
+use Rattle.road_world.specs.Private.Worlds.{world_replica, IsReplicaOf, IsWorldKept}
 use Rattle.road_world.specs.declared.faults.WorldFault.{WorldFault}
 use Rattle.road_world.specs.declared.message.Message.{Message}
 use Rattle.road_world.specs.declared.message.Message.TheVariants.{Whole, Answer, Asked}
@@ -254,6 +255,12 @@ module _ (plan : Plan) (xs : List Replica) (ms : List Message) (kept : IsWorldKe
           winners = ap winners all ∙ winners-beyond x.sheet.edits hs of.sheet.winners ∙ sym all;
           in_range = λ e i. subst (λ (p : Plan). IsInRange p e) (of.plan_is ∙ plan_same) (of.sheet.in_range e (from_set x.sheet.edits hs e (ap (λ (s : Edits). contains s e) (sym all) ∙ i)));
         }
+
+-- with a message more
+pub posted_wins : (plan : Plan) (xs : List Replica) (ms now : List Message) (m : Message) → IsWorldKept plan xs ms → IsSendable plan m → now ≡ ms ++ m ∷ [] → world_of_winners (viewed plan xs now) ≡ viewed plan xs now
+posted_wins plan xs ms now m kept is posted =
+    let all : IsWorldKept plan xs (ms ++ m ∷ []) = record { few = kept.few; each = kept.each; sendable = All-push (IsSendable plan) ms m kept.sendable is } in
+    subst (λ (ns : List Message). world_of_winners (viewed plan xs ns) ≡ viewed plan xs ns) (sym posted) (world_wins plan xs (ms ++ m ∷ []) all (viewed plan xs (ms ++ m ∷ [])) refl)
 
 -- ---- before any event
 

@@ -18,8 +18,8 @@ ghost use Rattle.road_world.specs.Applied.{IsApplied};
 ghost use Rattle.road_world.specs.Events as worlds;
 ghost use Rattle.road_world.specs.Events.{asked_heads, carried_edits, opening_world, replica_at};
 ghost use Rattle.road_world.specs.Events.{world_of_winners, world_with_message};
+ghost use Rattle.road_world.specs.Messages.{IsSendable};
 ghost use Rattle.road_world.specs.Private.LocalEvents.{local_event};
-ghost use Rattle.road_world.specs.Private.Worlds.{IsSendable};
 ghost use Rattle.road_world.specs.declared.event.Event.TheVariants as events;
 ghost use Rattle.road_world.specs.declared.faults.WorldFault.TheVariants.{NoMessage};
 
@@ -124,6 +124,24 @@ impl World {
         ensures fits { AreInRange self.now.plan (carried_edits (slice_get self.now.messages number)) }
     {
         self.messages.get(number as usize)
+    }
+
+    /// Appends a message that is made already: by a replica of this world, or elsewhere. It must carry heads, or edits
+    /// that fit the plan. Returns its number.
+    ///
+    /// # Errors
+    ///
+    /// `OutOfMemory` where an allocation failed. The world is then as it was.
+    pub fn post(&mut self, message: Message) -> Result<u64, OutOfMemory>
+        requires { IsSendable self.old.plan message }
+        ensures number { IfOk result (λ number. number ≡ length self.old.messages) }
+        ensures after { OnOk result (self.new ≡ world_with_message message self.old) }
+        ensures winners { OnOk result (world_of_winners self.new ≡ self.new) }
+        ensures unchanged { OnErr result (self.new ≡ self.old) }
+    {
+        let number = self.messages.len() as u64;
+        self.messages.push(message)?;
+        Ok(number)
     }
 
     // ---- what its replicas show
@@ -333,7 +351,7 @@ impl World {
         ensures no_crew { (n : ℕ) → gone_after_answer result n ≡ n }
     {
         let scenario = self.replicas[at as usize].message()?;
-        Ok(self.post(Message::Whole(scenario))?)
+        Ok(Reply::Message(self.post(Message::Whole(scenario))?))
     }
 
     // Sends a replica's heads.
@@ -343,7 +361,7 @@ impl World {
         ensures no_crew { (n : ℕ) → gone_after_answer result n ≡ n }
     {
         let heads = self.replicas[at as usize].heads(alloc)?;
-        Ok(self.post(Message::Asked(heads))?)
+        Ok(Reply::Message(self.post(Message::Asked(heads))?))
     }
 
     // Answers heads by what a replica holds beyond them.
@@ -356,19 +374,7 @@ impl World {
             return Err(WorldFault::NoMessage);
         };
         let delta = self.replicas[at as usize].beyond(alloc, heads)?;
-        Ok(self.post(Message::Answer(delta))?)
-    }
-
-    // Appends a message, and answers its number.
-    fn post(&mut self, message: Message) -> Result<Reply, OutOfMemory>
-        requires { IsSendable self.old.plan message }
-        ensures number { IfOk result (λ reply. reply ≡ replies.Message (length self.old.messages)) }
-        ensures after { OnOk result (self.new ≡ world_with_message message self.old) }
-        ensures unchanged { OnErr result (self.new ≡ self.old) }
-    {
-        let number = self.messages.len() as u64;
-        self.messages.push(message)?;
-        Ok(Reply::Message(number))
+        Ok(Reply::Message(self.post(Message::Answer(delta))?))
     }
 }
 

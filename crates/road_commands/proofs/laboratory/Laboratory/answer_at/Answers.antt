@@ -10,8 +10,14 @@ returns-in-Import g c =
     let Done : Outcome → Type 0 = λ o. IsOutcome o c.change-in-Import.result c.args.self.now c.change-in-Import.new.self (g.C.Crew.times_gone c.args.crew.now) (g.C.Crew.times_gone c.change-in-Import.new.crew) in
     rw c.in-Import.is (subst Done (import_is c.args.self.now c.args.at c.in-Import.edits) c.change-in-Import.ensures)
 
+pub returns-in-Send : goal.returns-in-Send
+returns-in-Send g c = rw c.in-Send.is (c.send.ensures (g.C.Crew.times_gone c.args.crew.now))
+
+pub returns-in-Heads : goal.returns-in-Heads
+returns-in-Heads g c = rw c.in-Heads.is (c.heads.ensures (g.C.Crew.times_gone c.args.crew.now))
+
 pub returns-in-Beyond : goal.returns-in-Beyond
-returns-in-Beyond g c = rw c.in-Beyond.is (rw c.deref.ensures at c.beyond.ensures)
+returns-in-Beyond g c = rw c.in-Beyond.is (rw c.deref.ensures at (c.beyond.ensures (g.C.Crew.times_gone c.args.crew.now)))
 
 pub returns-in-Take : goal.returns-in-Take
 returns-in-Take g c = rw c.in-Take.is (rw c.deref-in-Take.ensures at c.take.ensures)

@@ -5,6 +5,7 @@ use Rattle.std.specs.List.{slice_get}
 use Rattle.road_delta.specs.Deltas.{beyond}
 use Rattle.road_delta.specs.declared.heads.Head.{Head}
 use Rattle.road_scenario.specs.Winners.{winners}
+use Rattle.road_replica.specs.declared.reply.Reply.TheVariants as replies
 use Rattle.road_world.proofs.AppliedEvents.{message_made}
 use Rattle.road_world.proofs.EventAnswers.{fault_there}
 use Rattle.road_world.proofs.KeptWorlds.{below_kept, beyond_sendable, sent, sent_beyond}
@@ -38,5 +39,5 @@ returns-clause-applied c meter =
     let wanted : heads_wanted_fault (slice_get k.messages m) ≡ None = ap (λ (ns : List Message). heads_wanted_fault (slice_get ns m)) (sym held) ∙ c.in-Some.ensures.wanted in
     let delta = c.in_ok-delta.ensures.delta ∙ ap (λ (ts : List Head). beyond c.index.result.now.sheet.edits ts) asked in
     let all = sent_beyond plan xs ms c.self.invariant k c.self.view_is c.args.at c.index.result.now c.in_ok-delta.delta hs c.index.ensures below delta in
-    message_made (events.Beyond c.args.at m) k c.post.new.self c.in_ok-post.field-0 meter refl (fault_there k (events.Beyond c.args.at m) c.requires ∙ wanted, c.in_ok-post.ensures.number)
+    message_made (events.Beyond c.args.at m) k c.post.new.self (replies.Message c.in_ok-post.field-0) meter refl (fault_there k (events.Beyond c.args.at m) c.requires ∙ wanted, ap replies.Message c.in_ok-post.ensures.number)
     (c.in_ok-post.ensures.after ∙ sent plan xs ms c.self.invariant k c.self.view_is (Answer c.in_ok-delta.delta) (Answer (beyond (winners (replica_at k c.args.at).edits) hs)) all)

@@ -1,6 +1,7 @@
 -- The whole that is sent are the replica's winners.
-use Rattle.std.proofs.Common.{◌∙◌, refl}
+use Rattle.std.proofs.Common.{◌∙◌, ap, refl}
 use Rattle.std.specs.Arc.{arc_value}
+use Rattle.road_replica.specs.declared.reply.Reply.TheVariants as replies
 use Rattle.road_world.proofs.AppliedEvents.{message_made}
 use Rattle.road_world.proofs.EventAnswers.{fault_there}
 use Rattle.road_world.proofs.KeptWorlds.{below_kept, held_sendable, sent, sent_all}
@@ -26,5 +27,5 @@ returns-clause-applied c meter =
     let k = c.args.self.now in
     let below = below_kept plan xs ms c.self.invariant k c.self.view_is c.args.at c.requires in
     let all = sent_all plan xs ms c.self.invariant k c.self.view_is c.args.at c.index.result.now c.in_ok-scenario.scenario c.index.ensures below c.in_ok-scenario.ensures.message in
-    message_made (events.Send c.args.at) k c.post.new.self c.in_ok-post.field-0 meter refl (fault_there k (events.Send c.args.at) c.requires, c.in_ok-post.ensures.number)
+    message_made (events.Send c.args.at) k c.post.new.self (replies.Message c.in_ok-post.field-0) meter refl (fault_there k (events.Send c.args.at) c.requires, ap replies.Message c.in_ok-post.ensures.number)
     (c.in_ok-post.ensures.after ∙ sent plan xs ms c.self.invariant k c.self.view_is (Whole c.in_ok-scenario.scenario) (Whole (replica_at k c.args.at).edits) all)
