@@ -72,8 +72,8 @@ pub struct Passed {
 
 /// Counts what a detector of the plan counts in a step, as [`passes`], where no speed is above `greatest`, in cells per
 /// step: only the cars from which such a speed can reach the site are looked at. `speeds` has one speed for each car.
-/// About as many cars as `near` stand before the site: where it is a few less, as after a detector that is a little
-/// before this one, nothing is searched. It takes no memory.
+/// About as many cars as `near` stand before the site: where it is a few less, or one more, as what stood before it in
+/// the step before, nothing is searched. It takes no memory.
 pub fn passes_from(
     input: &StepInput,
     speeds: &[u8],
@@ -101,12 +101,12 @@ pub fn passes_from(
     }
 }
 
-// Counts the cars before a site: looked for among the few behind the first `near` ones, else searched.
+// Counts the cars before a site: looked for from one less than `near` on among the next few, else searched.
 fn place_of(road: &Road, site: u32, near: usize) -> usize
     ensures { result ≡ cars_before site (cars_of road.now) }
 {
     let cars = road.cars();
-    for place in near..cars.len().min(near.saturating_add(NEAR)) {
+    for place in near.saturating_sub(1)..cars.len().min(near.saturating_add(NEAR)) {
         if site <= cars[place].cell {
             if place == 0 || cars[place - 1].cell < site {
                 return place;

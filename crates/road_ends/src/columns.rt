@@ -32,29 +32,24 @@ impl Columns {
     }
 }
 
-// Writes the cells of cars into a column.
-pub(crate) fn write_cells(cars: &[Car], column: &mut Vec<u16>) -> Result<(), OutOfMemory>
+// Writes the cells and the speeds of cars into their columns, in one pass.
+pub(crate) fn write_cells_and_speeds(
+    cars: &[Car],
+    cells: &mut Vec<u16>,
+    speeds: &mut Vec<u8>,
+) -> Result<(), OutOfMemory>
     requires { (k : ℕ) → k < length cars.now → cell_at cars.now k < 65536 }
-    ensures { IfOk result (λ _. (k : ℕ) → k < length column.new.items
-        → slice_index column.new.items k ≡ cell_at cars.now k) }
+    ensures cells { IfOk result (λ _. (k : ℕ) → k < length cells.new.items
+        → slice_index cells.new.items k ≡ cell_at cars.now k) }
+    ensures speeds { IfOk result (λ _. (k : ℕ) → k < length speeds.new.items
+        → slice_index speeds.new.items k ≡ (nth_car cars.now k).speed) }
 {
-    column.clear();
-    column.resize(cars.len(), 0)?;
+    cells.resize(cars.len(), 0)?;
+    speeds.resize(cars.len(), 0)?;
     for place in 0..cars.len() {
-        column[place] = cars[place].cell as u16;
-    }
-    Ok(())
-}
-
-// Writes the speeds of cars into a column.
-pub(crate) fn write_speeds(cars: &[Car], column: &mut Vec<u8>) -> Result<(), OutOfMemory>
-    ensures { IfOk result (λ _. (k : ℕ) → k < length column.new.items
-        → slice_index column.new.items k ≡ (nth_car cars.now k).speed) }
-{
-    column.clear();
-    column.resize(cars.len(), 0)?;
-    for place in 0..cars.len() {
-        column[place] = cars[place].speed;
+        let car = cars[place];
+        cells[place] = car.cell as u16;
+        speeds[place] = car.speed;
     }
     Ok(())
 }

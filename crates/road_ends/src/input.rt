@@ -14,7 +14,7 @@ mod sameness;
 
 use crate::OutOfMemory;
 use crate::chance::is_any_open;
-use crate::columns::{Columns, write_cells, write_speeds};
+use crate::columns::{Columns, write_cells_and_speeds};
 use crate::entries::entered;
 use crate::pass::speeds;
 use crate::word_cache::WordCache;
@@ -267,8 +267,12 @@ fn columns_of(
         return Ok(None);
     }
     let mut columns = words.columns(alloc)?;
-    write_cells(road.cars(), &mut columns.cells)?;
-    write_speeds(road.cars(), &mut columns.speeds)?;
-    words.write_high16s(road, step, &mut columns.high16s)?;
+    let Columns {
+        cells,
+        speeds,
+        high16s,
+    } = &mut *columns;
+    write_cells_and_speeds(road.cars(), cells, speeds)?;
+    words.write_high16s(road, step, high16s)?;
     Ok(Some(columns))
 }

@@ -203,7 +203,6 @@ fn write_high16s(
     ensures kind { batches.new.kind ≡ batches.old.kind }
 {
     batches.start_batch(step);
-    column.clear();
     column.resize(cars.len(), 0)?;
     let mut place = 0;
     while place < cars.len() {

@@ -10,6 +10,7 @@ use crate::run_cache::RunCache;
 use crate::sheet::Sheet;
 use road_ends::{StepInput, WordCache};
 use road_plan::OutOfMemory;
+use road_plan::limits::MOST_DETECTORS;
 use std::alloc::Global;
 use std::marker::Model;
 use std::sync::Arc;
@@ -19,6 +20,8 @@ use std::sync::Arc;
 pub struct Draft {
     pub(crate) sheet: Sheet,
     pub(crate) cache: RunCache,
+    // For each detector how many cars stood before its site in the last step.
+    pub(crate) places: [usize; MOST_DETECTORS],
     pub(crate) words: WordCache,
 }
 
@@ -78,7 +81,8 @@ impl Draft {
         ensures grown { OnOk result (self.new ≡ sheet_after_step self.old) }
         ensures unchanged { OnErr result (self.new ≡ self.old) }
     {
-        self.sheet.grow(alloc, input, speeds, &mut self.words)
+        let (places, words) = (&mut self.places, &mut self.words);
+        self.sheet.grow(alloc, input, speeds, places, words)
     }
 
     /// Adds one more step, as [`Draft::push`], and keeps its input, to make the next one of it where nobody else has

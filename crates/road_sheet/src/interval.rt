@@ -8,6 +8,7 @@ ghost use Rattle.road_detector.specs.Passes.{no_totals, passes_at, plus};
 use crate::checkpoint::Checkpoint;
 use road_detector::{OutOfMemory, Totals, greatest_speed, passes_from};
 use road_ends::StepInput;
+use road_plan::limits::MOST_DETECTORS;
 use std::alloc::Global;
 
 /// How many steps a whole interval has.
@@ -43,8 +44,14 @@ impl Interval {
         Ok(Interval { start, totals })
     }
 
-    // Counts one more step. It allocates nothing.
-    pub(crate) fn count(&mut self, input: &StepInput, speeds: &[u8])
+    // Counts one more step. `places` has for each detector how many cars stood before its site in the last step, near
+    // which they are looked for. It allocates nothing.
+    pub(crate) fn count(
+        &mut self,
+        input: &StepInput,
+        speeds: &[u8],
+        places: &mut [usize; MOST_DETECTORS],
+    )
         requires one_each { length speeds.now ≡ length (cars_of input.now.road) }
         requires each { length self.old.totals.items ≡ length input.now.plan.detectors }
         requires cars { (d : ℕ) → d < length self.old.totals.items →
@@ -59,11 +66,11 @@ impl Interval {
             ≡ plus (slice_index_or self.old.totals.items d no_totals) (passes_at input.now speeds.now d) }
     {
         let greatest = greatest_speed(speeds);
-        let mut before = 0;
         for detector in 0..input.plan().detectors().len() {
-            let passed = passes_from(input, speeds, detector as u32, greatest, before);
+            let near = places[detector];
+            let passed = passes_from(input, speeds, detector as u32, greatest, near);
             self.totals[detector] = self.totals[detector].plus(passed.totals);
-            before = passed.before;
+            places[detector] = passed.before;
         }
     }
 }

@@ -30,6 +30,7 @@ use road_detector::Totals;
 use road_detector::laws::{cars_pass_one_by_one, totals_are_bounded};
 use road_ends::laws::{cars_stay_on_road, runs_depend_on_earlier_settings};
 use road_ends::{StepInput, WordCache, finish_with};
+use road_plan::limits::MOST_DETECTORS;
 use road_plan::{OutOfMemory, Plan};
 use road_scenario::Scenario;
 use road_scenario::laws::settings_stay_before_touched;
@@ -427,6 +428,7 @@ impl Sheet {
         Ok(Draft {
             sheet,
             cache: RunCache::empty(alloc),
+            places: [0; MOST_DETECTORS],
             words,
         })
     }
@@ -524,6 +526,7 @@ impl Sheet {
         alloc: Global,
         input: &StepInput,
         speeds: &[u8],
+        places: &mut [usize; MOST_DETECTORS],
         words: &mut WordCache,
     ) -> Result<(), OutOfMemory>
         requires input { input.now ≡ next_input self.old }
@@ -535,16 +538,22 @@ impl Sheet {
     {
         let road = finish_with(alloc, input, speeds, words)?;
         let last = if (self.horizon() + 1) % INTERVAL_STEPS == 0 {
-            self.step_to_end(alloc, input, speeds, road)?
+            self.step_to_end(alloc, input, speeds, places, road)?
         } else {
-            self.step_within(input, speeds, road)
+            self.step_within(input, speeds, places, road)
         };
         words.reuse(last);
         Ok(())
     }
 
     // Adds one more step that does not end the interval, and returns the road before it.
-    fn step_within(&mut self, input: &StepInput, speeds: &[u8], road: Road) -> Road
+    fn step_within(
+        &mut self,
+        input: &StepInput,
+        speeds: &[u8],
+        places: &mut [usize; MOST_DETECTORS],
+        road: Road,
+    ) -> Road
         requires input { input.now ≡ next_input self.old }
         requires speeds { speeds.now ≡ input_speeds input.now }
         requires within_limit { self.old.horizon < GREATEST_HORIZON }
@@ -555,7 +564,7 @@ impl Sheet {
         cars_pass_one_by_one(&self.plan);
         totals_are_bounded(&self.plan);
         let horizon = self.horizon() + 1;
-        self.open_interval.count(input, speeds);
+        self.open_interval.count(input, speeds, places);
         let last = mem::replace(&mut self.at_horizon, road);
         self.known.second = Greatest::Of(horizon);
         last
@@ -582,6 +591,7 @@ impl Sheet {
         alloc: Global,
         input: &StepInput,
         speeds: &[u8],
+        places: &mut [usize; MOST_DETECTORS],
         road: Road,
     ) -> Result<Road, OutOfMemory>
         requires input { input.now ≡ next_input self.old }
@@ -597,7 +607,7 @@ impl Sheet {
         let horizon = self.horizon() + 1;
         let next = self.next_interval(alloc, &road)?;
         let mut ended = self.open_interval.copied()?;
-        ended.count(input, speeds);
+        ended.count(input, speeds, places);
         self.intervals.push(alloc, ended)?;
         self.open_interval = next;
         let last = mem::replace(&mut self.at_horizon, road);

@@ -111,7 +111,7 @@ impl Dice {
 }
 
 // Tells whether a sheet shows the states that the run from step zero has at some steps, which goes on from each to the
-// next; the sheet by words that are kept.
+// next; the sheet by words that are kept, and by these begun again.
 fn states_agree(alloc: Global, sheet: &Sheet, steps: &[u32]) -> Result<bool, Fail> {
     let mut words = WordCache::of(alloc, sheet.plan());
     let mut last = State::opening(alloc);
@@ -126,7 +126,10 @@ fn states_agree(alloc: Global, sheet: &Sheet, steps: &[u32]) -> Result<bool, Fai
             step,
             &mut fresh,
         )?;
-        if sheet.state_with(alloc, step, &mut words)?.cars() != last.road.cars() {
+        let kept = sheet.state_with(alloc, step, &mut words)?;
+        words.restart();
+        let drawn = sheet.state_with(alloc, step, &mut words)?;
+        if kept.cars() != last.road.cars() || drawn.cars() != last.road.cars() {
             return Ok(false);
         }
     }
@@ -152,7 +155,8 @@ fn totals_of_run(
     Ok(totals)
 }
 
-// Tells whether what a detector counts in some steps is what it counts in them in the run from step zero.
+// Tells whether what a detector counts in some steps is what it counts in them in the run from step zero, asked twice
+// by words that are kept.
 fn totals_agree(
     alloc: Global,
     sheet: &Sheet,
@@ -161,7 +165,10 @@ fn totals_agree(
     to: u32,
 ) -> Result<bool, Fail> {
     let counted = totals_of_run(alloc, sheet, detector, from, to)?;
-    Ok(sheet.totals(alloc, detector, from, to)? == counted)
+    let mut words = WordCache::of(alloc, sheet.plan());
+    let drawn = sheet.totals_with(alloc, detector, from, to, &mut words)?;
+    let kept = sheet.totals_with(alloc, detector, from, to, &mut words)?;
+    Ok(drawn == counted && kept == counted && sheet.totals(alloc, detector, from, to)? == counted)
 }
 
 // Tells whether a sheet agrees with the run from step zero: its states, and what a detector counts from a random step

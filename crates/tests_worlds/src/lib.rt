@@ -12,6 +12,8 @@ mod merges;
 #[cfg(test)]
 mod meters;
 #[cfg(test)]
+mod posts;
+#[cfg(test)]
 mod refusals;
 #[cfg(test)]
 mod texts;
