@@ -37,7 +37,7 @@ impl<J: Naming> Promise<Worked<J>> for WritesShare {
 // A session's thread.
 type Worker<J> = PromisedHandle<Worked<J>, WritesShare>;
 
-// What a thread does: its session arrives at the gate, and then makes its writes.
+// Does what a thread has to: its session arrives at the gate, and then makes its writes.
 fn worked<J: Naming, R: Wait + Drop, W: Wait, G: Gate>(
     rt: &W,
     alloc: Global,
@@ -95,8 +95,8 @@ fn start<
     started.ok()
 }
 
-// The sessions work, one for each share, each on a thread of its own. The last session's thread is started first and
-// joined last, so all run before one is joined, and the sessions come back in their order.
+// Lets the sessions work, one for each share, each on a thread of its own. The last session's thread is started first
+// and joined last, so all run before one is joined, and the sessions come back in their order.
 fn all_worked<
     's,
     J: Naming + Send + Sync + 's,
@@ -136,8 +136,8 @@ fn all_worked<
     Ok(after)
 }
 
-// The sessions of a store that was just opened work, one for each share, each on a thread of its own. Where one thread
-// cannot be started, or finds no memory, all others have ended before the answer.
+// Lets the sessions of a store that was just opened work, one for each share, each on a thread of its own. Where one
+// thread cannot be started, or finds no memory, all others have ended before the answer.
 pub(crate) fn in_threads<
     J: Naming + Send + Sync,
     R: Wait + Drop + Send,
