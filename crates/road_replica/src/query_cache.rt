@@ -186,7 +186,7 @@ impl QueryCache {
     }
 }
 
-// Answers whether the sheet has totals of these steps, and they are few enough to be counted one after another.
+// Whether the sheet has totals of these steps, and they are few enough to be counted one after another.
 fn are_counted(sheet: &Sheet, detector: u32, from: u32, to: u32) -> bool
     ensures { result ≡ true → IsCounted sheet.now detector from to }
 {

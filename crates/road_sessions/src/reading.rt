@@ -36,7 +36,7 @@ fn enter<J: Naming>(reader: StoreReader<J>) -> (StoreReader<J>, Option<Found<J>>
     }
 }
 
-// Enters by a reader in its place.
+// The same of a reader in its place.
 fn enter_here<J: Naming>(reader: &mut StoreReader<J>) -> Option<Found<J>>
     ensures entered { IfSome result (λ found. EntersToLook (view reader.old.place) found.0 (view reader.new.place)) }
     ensures sheet { IfSome result
@@ -46,7 +46,7 @@ fn enter_here<J: Naming>(reader: &mut StoreReader<J>) -> Option<Found<J>>
     replace_with(reader, (), |reader, ()| enter(reader))
 }
 
-// Looks for a session: it enters the store, and what is published there becomes what it has seen.
+// A session looks: it enters the store, and what is published there becomes what it has seen.
 pub(crate) fn look<J: Naming>(
     _number: u32,
     seen: &mut Prefix<J>,
@@ -77,7 +77,7 @@ pub(crate) fn look<J: Naming>(
     }
 }
 
-// Waits, and never returns.
+// It never returns.
 fn wait_for_ever<R: Wait>(rt: &R)
     ensures { ⊥ }
 {
@@ -85,7 +85,7 @@ fn wait_for_ever<R: Wait>(rt: &R)
     unreachable!()
 }
 
-// Enters by a reader at the end of its session's write.
+// A reader enters at the end of its session's write.
 fn enter_after_write<J: Naming, R: Wait>(
     rt: &R,
     reader: StoreReader<J>,
@@ -109,9 +109,9 @@ fn enter_after_write<J: Naming, R: Wait>(
     }
 }
 
-// Enters by a reader in its place at the end of its session's write, which is published. The writer's lock is held, so
-// nobody else has published since, and the store lets its readers in while its writer lives. Were it not so, it would
-// wait for ever.
+// The same of a reader in its place, at the end of its session's write, which is published. The writer's lock is
+// held, so nobody else has published since, and the store lets its readers in while its writer lives. Were it not so,
+// it would wait for ever.
 pub(crate) fn enter_after_write_here<J: Naming, R: Wait>(
     rt: &R,
     reader: &mut StoreReader<J>,

@@ -70,7 +70,7 @@ pub enum Event {
 }
 
 impl Event {
-    /// Returns the number of its replica.
+    /// The number of its replica.
     pub fn replica(&self) -> u32
         ensures { result ≡ answers.replica_number self.now }
     {
