@@ -27,7 +27,7 @@ fn advanced<R: Clock, C: Crew>(
     Ok((cars, nanoseconds))
 }
 
-// The same of a replica of a plan, from step zero.
+// Does the same with a replica of a plan, from step zero.
 fn timed<R: Clock, C: Crew>(
     rt: &R,
     alloc: Global,
@@ -54,7 +54,7 @@ fn time<R: Clock + Print, C: Crew>(
     Ok(())
 }
 
-// By threads made for each step.
+// Does so by threads made for each step.
 fn time_threads<R: Threads + Wait + Clock + Print>(
     rt: &R,
     alloc: Global,
@@ -69,7 +69,7 @@ fn time_threads<R: Threads + Wait + Clock + Print>(
     time(rt, alloc, plan, steps, "scoped", workers, &mut crew)
 }
 
-// By lasting workers, who are asked at each step behind a gate; their start and end are not timed.
+// Does so by lasting workers, who are asked at each step behind a gate; their start and end are not timed.
 fn time_pool<R: Threads + Wait + Clock + Print + Clone + Drop + Send + 'static>(
     rt: &R,
     alloc: Global,

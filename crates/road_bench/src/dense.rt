@@ -12,7 +12,7 @@ use std::sync::{Arc, Wait};
 use std::thread::Threads;
 use tests_plans::{DENSE, DENSE_ROWS, plan_of};
 
-// Whether a crew takes a replica of the road through its worked rows.
+// Answers whether a crew takes a replica of the road through its worked rows.
 fn takes_rows<C: Crew>(alloc: Global, replica: &mut Replica, crew: &mut C) -> Result<bool> {
     let last = DENSE_ROWS.len() as u32;
     replica.advance(alloc, last, crew, &mut Meter::new())?;
@@ -24,13 +24,13 @@ fn takes_rows<C: Crew>(alloc: Global, replica: &mut Replica, crew: &mut C) -> Re
     )
 }
 
-// The same of a new replica.
+// Answers the same of a new replica.
 fn gives<C: Crew>(alloc: Global, plan: &Arc<Plan>, crew: &mut C) -> Result<bool> {
     let mut replica = Replica::open(alloc, Arc::try_clone(plan)?, 0)?;
     takes_rows(alloc, &mut replica, crew)
 }
 
-// Whether a new crew of threads made for each step takes a new replica of the road through its worked rows.
+// Answers whether a new crew of threads made for each step takes a new replica of the road through its worked rows.
 fn gives_by_threads<R: Threads + Wait>(
     rt: &R,
     alloc: Global,
@@ -44,7 +44,7 @@ fn gives_by_threads<R: Threads + Wait>(
     gives(alloc, plan, &mut crew)
 }
 
-// How many of some runs give the worked rows, each by a new crew of threads made for each step.
+// Returns how many of some runs give the worked rows, each by a new crew of threads made for each step.
 fn runs_by_threads<R: Threads + Wait>(
     rt: &R,
     alloc: Global,
@@ -64,7 +64,7 @@ fn runs_by_threads<R: Threads + Wait>(
     Ok(good)
 }
 
-// Whether a new crew of lasting workers takes a new replica of the road through its worked rows.
+// Answers whether a new crew of lasting workers takes a new replica of the road through its worked rows.
 fn gives_by_pool<R: Threads + Wait + Clone + Drop + Send + 'static>(
     rt: &R,
     alloc: Global,
@@ -81,7 +81,7 @@ fn gives_by_pool<R: Threads + Wait + Clone + Drop + Send + 'static>(
     is_good
 }
 
-// How many of some runs give the worked rows, each by a new crew of lasting workers.
+// Returns how many of some runs give the worked rows, each by a new crew of lasting workers.
 fn runs_by_pools<R: Threads + Wait + Clone + Drop + Send + 'static>(
     rt: &R,
     alloc: Global,

@@ -14,7 +14,8 @@ use std::sync::Arc;
 /// How many steps before the horizon an edit acts.
 const BACK: u32 = 200;
 
-// The scenario of one edit of the first zone's limit, to 3 and 4 in turn; none for the first, which is the run itself.
+// Returns the scenario of one edit of the first zone's limit, to 3 and 4 in turn; none for the first, which is the run
+// itself.
 fn scenario_of(alloc: Global, step: u32, count: u32) -> Result<Scenario, OutOfMemory> {
     let nothing = Scenario::empty(alloc);
     if count == 0 {
@@ -47,19 +48,19 @@ fn grow_by(
     Ok(Some(meter.ticks()))
 }
 
-// The same by one edit more.
+// Does the same by one edit more.
 fn grow(alloc: Global, sheet: &mut Sheet, count: u32, to: u32) -> Result<Option<u64>, GrownFault> {
     let scenario = scenario_of(alloc, to.saturating_sub(BACK), count)?;
     grow_by(alloc, sheet, &scenario, to)
 }
 
-// One number more.
+// Counts one number more.
 fn push(numbers: &mut Vec<u64>, number: u64) -> Result<(), OutOfMemory> {
     Ok(numbers.push(number)?)
 }
 
-// How many steps are computed for a run of a sheet up to a horizon, and then for each late edit; none where the horizon is
-// too great.
+// Returns how many steps are computed for a run of a sheet up to a horizon, and then for each late edit; none where the
+// horizon is too great.
 fn steps_from(
     alloc: Global,
     sheet: &mut Sheet,
@@ -76,7 +77,7 @@ fn steps_from(
     Ok(steps)
 }
 
-// The same from step zero of a plan.
+// Does the same from step zero of a plan.
 fn steps_of(
     alloc: Global,
     plan: &Arc<Plan>,

@@ -50,14 +50,14 @@ use std::thread::Threads;
 use std::time::Clock;
 use std::{env, io};
 
-// The plan of a text's first line.
+// Returns the plan of a text's first line.
 fn plan_in(alloc: Global, text: &str) -> Result<Arc<Plan>> {
     let line = text.lines().next().context("no plan line")?;
     let read = read_plan(alloc, line.as_bytes())?;
     Ok(Arc::new(alloc, read.plan)?)
 }
 
-// The plan of the first line of standard input.
+// Returns the plan of the first line of standard input.
 fn plan<R: Input>(rt: &R, alloc: Global) -> Result<Arc<Plan>> {
     let text = io::read_to_string(alloc, rt.reader())?;
     plan_in(alloc, &text)
@@ -90,7 +90,7 @@ fn work<R: Threads + Wait + Clock + Input + Print + Clone + Drop + Send + Sync +
     }
 }
 
-// The numbers that words spell.
+// Returns the numbers that words spell.
 fn numbers_of(alloc: Global, words: &[String]) -> Result<Vec<u32>> {
     let mut numbers = Vec::new(alloc);
     for word in words {
@@ -114,7 +114,7 @@ fn obey<R: Threads + Wait + Clock + Input + Print + Clone + Drop + Send + Sync +
     }
 }
 
-// The program's words.
+// Returns the program's words.
 fn words_of(rt: &HostRuntime) -> io::Result<Vec<String>> {
     let mut words = Vec::new(rt.alloc());
     for word in env::args(rt)? {

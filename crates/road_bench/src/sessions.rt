@@ -24,7 +24,7 @@ const LONG: Parts = Parts {
     words: WordKind::Seeded(7),
 };
 
-// The plan on which a kind of work is timed.
+// Returns the plan on which a kind of work is timed.
 fn plan_for(alloc: Global, kind: &str) -> Result<Arc<Plan>> {
     let plan = if kind == "steps" {
         plan_of(alloc, &LONG)
@@ -34,7 +34,7 @@ fn plan_for(alloc: Global, kind: &str) -> Result<Arc<Plan>> {
     Ok(Arc::new(alloc, plan?)?)
 }
 
-// How many of some runs leave the merge of all writes as their journal.
+// Returns how many of some runs leave the merge of all writes as their journal.
 fn merged_runs<R: Threads + Wait + Sync>(
     rt: &R,
     alloc: Global,
@@ -84,7 +84,7 @@ fn time_bare<R: Threads + Wait + Clock + Print + Clone + Drop + Sync>(
     print_all(rt, all.as_slice())
 }
 
-// A line for each.
+// Writes a line for each.
 fn print_all<R: Print>(rt: &R, all: &[Option<Done>]) -> Result<()> {
     for done in all {
         let done = (*done).context("no clock")?;

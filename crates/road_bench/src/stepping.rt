@@ -49,7 +49,7 @@ fn time_once<R: Clock + Print>(
     Ok(())
 }
 
-// A step of a road with the plan's own settings, which are made anew.
+// Returns a step of a road with the plan's own settings, which are made anew.
 fn stepped(
     alloc: Global,
     plan: &Arc<Plan>,
@@ -86,7 +86,7 @@ fn cars_from(
     Ok(cars)
 }
 
-// The same from the empty road.
+// Does the same from the empty road.
 fn cars_of(alloc: Global, plan: &Arc<Plan>, steps: u32) -> Result<u64, OutOfMemory> {
     let mut road = Road::empty(alloc);
     cars_from(alloc, plan, steps, &mut road)
@@ -119,13 +119,13 @@ fn words_from(
     Ok(words)
 }
 
-// The same from the empty road.
+// Does the same from the empty road.
 fn words_of(alloc: Global, plan: &Arc<Plan>, steps: u32) -> Result<u64, OutOfMemory> {
     let mut road = Road::empty(alloc);
     words_from(alloc, plan, steps, &mut road)
 }
 
-// The words drawn for the inlets of a step: one for each that is free and whose inflow leaves its entry open.
+// Returns the words drawn for the inlets of a step: one for each that is free and whose inflow leaves its entry open.
 fn words_of_entries(plan: &Plan, road: &Road) -> u64 {
     let mut words = 0u64;
     for inlet in plan.inlets() {
@@ -136,8 +136,8 @@ fn words_of_entries(plan: &Plan, road: &Road) -> u64 {
     words
 }
 
-// The words drawn for the cars of a step: one for each that wants to drive and whose slowing chance leaves that open. The
-// plan's own settings block no cell.
+// Returns the words drawn for the cars of a step: one for each that wants to drive and whose slowing chance leaves that
+// open. The plan's own settings block no cell.
 fn words_of_cars(input: &StepInput) -> u64 {
     let mut words = 0u64;
     for place in 0..input.road().cars().len() {
@@ -154,7 +154,7 @@ fn words_of_cars(input: &StepInput) -> u64 {
     words
 }
 
-// Whether a chance leaves its event open.
+// Answers whether a chance leaves its event open.
 fn is_open(chance: u32) -> bool {
     0 < chance && chance < CERTAIN
 }

@@ -31,7 +31,7 @@ pub(crate) enum CrewCase {
     StartGated,
 }
 
-// The input of the dense road's first step.
+// Returns the input of the dense road's first step.
 fn first_input(alloc: Global) -> Option<Arc<StepInput>> {
     let plan = shared_plan(alloc, &DENSE)?;
     let settings = Settings::of_plan(alloc, &plan).ok()?;
@@ -41,7 +41,7 @@ fn first_input(alloc: Global) -> Option<Arc<StepInput>> {
     enter(alloc, &plan, settings, 0, &Road::empty(alloc)).ok()
 }
 
-// Whether a crew gives the speeds; a refusal where it does not answer.
+// Answers whether a crew gives the speeds; a refusal where it does not answer.
 fn gives<C: Crew>(
     alloc: Global,
     crew: &mut C,

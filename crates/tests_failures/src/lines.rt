@@ -167,7 +167,7 @@ impl Call for LineCall {
     }
 }
 
-// The rows of a reply.
+// Returns the rows of a reply.
 fn rows(alloc: Global) -> Option<Answer> {
     let mut rows = Vec::new(alloc);
     for row in ["0..2...2#...", ".1...2.0#..."] {
@@ -176,7 +176,7 @@ fn rows(alloc: Global) -> Option<Answer> {
     Some(Answer::Rows(rows))
 }
 
-// What is answered.
+// Returns what is answered.
 fn answer_of(alloc: Global, case: LineCase) -> Option<Answer> {
     match case {
         LineCase::Edits => Some(Answer::Edits([BLOCKED, OPENED].to_vec(alloc).ok()?)),

@@ -39,7 +39,7 @@ fn tell<R: Print>(rt: &R, verdict: Option<Verdict>) -> io::Result<()> {
     }
 }
 
-// The case of a name.
+// Returns the case of a name.
 fn named(name: &str) -> Option<Case> {
     for (other, case) in all_cases() {
         if *other == name {
@@ -49,7 +49,7 @@ fn named(name: &str) -> Option<Case> {
     None
 }
 
-// How far a word says that a call is tried.
+// Returns how far a word says that a call is tried.
 fn until(word: &str) -> Until {
     match word {
         "prepared" => Until::Prepared,
@@ -109,7 +109,7 @@ fn obey<R: Print + Threads + Wait + Clone + Drop + Send + 'static>(
     }
 }
 
-// The program's words.
+// Returns the program's words.
 fn words_of(rt: &HostRuntime) -> io::Result<Vec<String>> {
     let mut words = Vec::new(rt.alloc());
     for word in env::args(rt)? {

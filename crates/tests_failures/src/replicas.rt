@@ -27,7 +27,7 @@ pub(crate) enum Write {
 }
 
 impl Write {
-    // The edits that it hands over.
+    // Returns the edits that it hands over.
     fn edits(&self) -> &'static [Edit] {
         match self {
             Write::Import(edits) => edits,
@@ -125,7 +125,7 @@ fn is_written(alloc: Global, replica: &mut Replica, write: &Write) -> Option<()>
     Some(())
 }
 
-// A replica of the free road after some writes.
+// Returns a replica of the free road after some writes.
 fn replica_after(alloc: Global, writes: &[Write]) -> Option<Replica> {
     let mut replica = Replica::open(alloc, free_plan(alloc)?, 0).ok()?;
     for write in writes {
@@ -221,7 +221,7 @@ fn told(
     }
 }
 
-// Whether these rows are those.
+// Answers whether these rows are those.
 fn are_rows(rows: &[String], wanted: &[&str]) -> bool {
     rows.len() == wanted.len()
         && rows
@@ -230,7 +230,7 @@ fn are_rows(rows: &[String], wanted: &[&str]) -> bool {
             .all(|(row, text)| row.as_str() == *text)
 }
 
-// Whether a replica that shows this is told so.
+// Answers whether a replica that shows this is told so.
 fn is_told(alloc: Global, told: &Shows, question: &Question, shown: &Shown) -> Option<bool> {
     match (told, question) {
         (Shows::Replica(copy), Question::Copied) => shows(alloc, copy.sheet(), shown),
@@ -271,13 +271,13 @@ impl Call for Asking {
     }
 }
 
-// The heads of some edits.
+// Returns the heads of some edits.
 fn heads_held(alloc: Global, edits: &[Edit]) -> Option<Heads> {
     let scenario = Scenario::of_edits(alloc, edits).ok()?;
     heads_of(alloc, &scenario).ok()
 }
 
-// The heads to which a question is the answer.
+// Returns the heads to which a question is the answer.
 fn heads_asked(alloc: Global, question: &Question) -> Option<Heads> {
     match question {
         Question::Beyond(held, _) => heads_held(alloc, held),

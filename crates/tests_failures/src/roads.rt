@@ -102,13 +102,13 @@ pub(crate) const WITHDRAWN: Shown = Shown {
     ..TO_SIX
 };
 
-/// The plan of these parts, to be shared.
+/// Returns the plan of these parts, to be shared.
 pub(crate) fn shared_plan(alloc: Global, parts: &Parts) -> Option<Arc<Plan>> {
     let plan = plan_of(alloc, parts).ok()?;
     Arc::new(alloc, plan).ok()
 }
 
-/// The plan of the free road.
+/// Returns the plan of the free road.
 pub(crate) fn free_plan(alloc: Global) -> Option<Arc<Plan>> {
     shared_plan(alloc, &FREE)
 }
@@ -131,7 +131,7 @@ pub(crate) fn row_at(alloc: Global, sheet: &Sheet, step: u32) -> Option<String> 
     }
 }
 
-/// A total of a sheet's detector: nothing inside where it has none, none where memory was wanted.
+/// Returns a total of a sheet's detector: nothing inside where it has none, none where memory was wanted.
 pub(crate) fn total_at(
     alloc: Global,
     sheet: &Sheet,
@@ -145,7 +145,7 @@ pub(crate) fn total_at(
     }
 }
 
-// Whether a sheet shows all these rows.
+// Answers whether a sheet shows all these rows.
 fn shows_rows(alloc: Global, sheet: &Sheet, rows: &[&str]) -> Option<bool> {
     for (step, wanted) in (0u32..).zip(rows) {
         let row = row_at(alloc, sheet, step)?;
@@ -156,7 +156,7 @@ fn shows_rows(alloc: Global, sheet: &Sheet, rows: &[&str]) -> Option<bool> {
     Some(true)
 }
 
-// Whether its totals from a step on are the sums of these counts.
+// Answers whether its totals from a step on are the sums of these counts.
 fn shows_sums(alloc: Global, sheet: &Sheet, counts: &[(u32, u32)], from: u32) -> Option<bool> {
     let mut sum = (0u32, 0u32);
     let mut is_right = total_at(alloc, sheet, from, from)? == Some(sum);
@@ -170,7 +170,7 @@ fn shows_sums(alloc: Global, sheet: &Sheet, counts: &[(u32, u32)], from: u32) ->
     Some(is_right)
 }
 
-// Whether all its totals are the sums of these counts.
+// Answers whether all its totals are the sums of these counts.
 fn shows_totals(alloc: Global, sheet: &Sheet, counts: &[(u32, u32)]) -> Option<bool> {
     let mut is_right = true;
     for from in 0..=sheet.horizon() {
@@ -191,7 +191,7 @@ pub(crate) fn shows(alloc: Global, sheet: &Sheet, shown: &Shown) -> Option<bool>
     )
 }
 
-// Whether two sheets show the same total.
+// Answers whether two sheets show the same total.
 fn are_same_totals(
     alloc: Global,
     sheet: &Sheet,
@@ -203,8 +203,8 @@ fn are_same_totals(
     Some(total == total_at(alloc, other, from, to)?)
 }
 
-// Whether two sheets show the same row at a step, and the same totals of that step; at the ends of intervals of 64 steps
-// the same totals up to there and from there on, too.
+// Answers whether two sheets show the same row at a step, and the same totals of that step; at the ends of intervals of
+// 64 steps the same totals up to there and from there on, too.
 fn are_same_at(alloc: Global, sheet: &Sheet, other: &Sheet, step: u32) -> Option<bool> {
     let row = row_at(alloc, sheet, step)?;
     let other_row = row_at(alloc, other, step)?;

@@ -93,12 +93,12 @@ impl MakingCall {
     }
 }
 
-// Whether settings block just cell 8.
+// Answers whether settings block just cell 8.
 fn is_blocked(settings: &Settings) -> bool {
     settings.blocks() == [8].as_slice()
 }
 
-// Whether heads are those of these edits.
+// Answers whether heads are those of these edits.
 fn are_heads(heads: &[Head], edits: &[Edit]) -> bool {
     heads.len() == edits.len()
         && heads.iter().zip(edits).all(|(head, edit)| {
@@ -106,7 +106,7 @@ fn are_heads(heads: &[Head], edits: &[Edit]) -> bool {
         })
 }
 
-// Whether what was made has these edits.
+// Answers whether what was made has these edits.
 fn has(alloc: Global, made: &Made, edits: &[Edit]) -> Option<bool> {
     match made {
         Made::Scenario(scenario) => holds(alloc, scenario, edits),
@@ -152,7 +152,7 @@ impl Call for MakingCall {
     }
 }
 
-// The scenario of some edits, with a horizon.
+// Returns the scenario of some edits, with a horizon.
 fn pair_of(alloc: Global, edits: &[Edit], horizon: Greatest<u32>) -> Option<Pair> {
     Some(Both {
         first: Scenario::of_edits(alloc, edits).ok()?,
@@ -201,7 +201,7 @@ struct MapCall {
     case: MapCase,
 }
 
-// Whether a map has just these registers.
+// Answers whether a map has just these registers.
 fn has_registers(map: &Registers, registers: &[(u32, Register)]) -> bool {
     map.keys().count() == registers.len()
         && registers
@@ -240,7 +240,7 @@ impl Call for MapCall {
     }
 }
 
-// The map of two registers.
+// Returns the map of two registers.
 fn map_of(alloc: Global, first: (u32, Register), second: (u32, Register)) -> Option<Registers> {
     let none = Registers::empty(alloc);
     let one = none.with(first.0, &first.1).ok()?;

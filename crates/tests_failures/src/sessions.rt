@@ -56,7 +56,7 @@ const NOT_LEFT: &str = "what the store leaves is not as expected";
 
 // ---- writes
 
-// The edits that a write hands over, as a scenario.
+// Returns the edits that a write hands over, as a scenario.
 fn given(alloc: Global, write: &Write) -> Option<Scenario> {
     match write {
         Write::Take(edits) => Scenario::of_edits(alloc, edits).ok(),
@@ -64,7 +64,7 @@ fn given(alloc: Global, write: &Write) -> Option<Scenario> {
     }
 }
 
-// A session writes.
+// Writes for a session.
 fn written<J: Naming, R: Wait + Drop, W: Wait>(
     rt: &W,
     shared: &Shared<J, R>,
@@ -84,7 +84,7 @@ fn written<J: Naming, R: Wait + Drop, W: Wait>(
     }
 }
 
-// The first session writes, and the second one is told.
+// Writes for the first session, and tells the second one.
 fn is_written<J: Naming, R: Wait + Drop, W: Wait>(
     rt: &W,
     alloc: Global,
@@ -100,7 +100,7 @@ fn is_written<J: Naming, R: Wait + Drop, W: Wait>(
     Some(())
 }
 
-// Why a write was refused.
+// Returns why a write was refused.
 fn refusal_of_write(fault: WriteFault) -> Refusal {
     match fault {
         WriteFault::Replica(fault) => refusal(fault),
@@ -119,7 +119,7 @@ enum Answer {
     Totals(Totals),
 }
 
-// Why a look was refused.
+// Returns why a look was refused.
 fn refusal_of_look(fault: LookFault) -> Refusal {
     match fault {
         LookFault::NotEntered => Refusal::Memory,
@@ -128,7 +128,7 @@ fn refusal_of_look(fault: LookFault) -> Refusal {
     }
 }
 
-// What is answered to a question.
+// Returns what is answered to a question.
 fn looked<T: Drop>(answer: Result<T, LookFault>) -> Result<T, Refusal> {
     match answer {
         Ok(shown) => Ok(shown),
@@ -136,7 +136,7 @@ fn looked<T: Drop>(answer: Result<T, LookFault>) -> Result<T, Refusal> {
     }
 }
 
-// What is answered to a write.
+// Returns what is answered to a write.
 fn wrote<J: Naming>(answer: Result<Wrote<J>, WriteFault>) -> Result<Answer, Refusal> {
     match answer {
         Ok(wrote) => Ok(Answer::Wrote(wrote.place, wrote.reply)),
@@ -144,7 +144,7 @@ fn wrote<J: Naming>(answer: Result<Wrote<J>, WriteFault>) -> Result<Answer, Refu
     }
 }
 
-// A session acts.
+// Acts for a session.
 fn acts<J: Naming, R: Wait + Drop, W: Wait>(
     rt: &W,
     alloc: Global,
@@ -163,7 +163,7 @@ fn acts<J: Naming, R: Wait + Drop, W: Wait>(
     }
 }
 
-// Whether an answer is the expected one.
+// Answers whether an answer is the expected one.
 fn is_right(alloc: Global, answer: &Answer, case: &SessionCase) -> Option<bool> {
     match (answer, case.act) {
         (Answer::Wrote(place, reply), Act::Write(_, wanted, wanted_reply)) => {
@@ -176,7 +176,7 @@ fn is_right(alloc: Global, answer: &Answer, case: &SessionCase) -> Option<bool> 
     }
 }
 
-// Whether a session that looks is shown this.
+// Answers whether a session that looks is shown this.
 fn is_shown<J: Naming, R: Wait + Drop>(
     alloc: Global,
     shared: &Shared<J, R>,
@@ -189,7 +189,7 @@ fn is_shown<J: Naming, R: Wait + Drop>(
     }
 }
 
-// Whether all sessions are.
+// Answers whether all sessions are.
 fn are_shown<J: Naming, R: Wait + Drop>(
     alloc: Global,
     shared: &Shared<J, R>,
@@ -221,7 +221,7 @@ fn accepted<J: Naming, R: Wait + Drop>(
     Some(verdict)
 }
 
-// The second session acts.
+// Acts for the second session.
 fn second_acts<J: Naming, R: Wait + Drop, W: Wait>(
     rt: &W,
     alloc: Global,
@@ -281,7 +281,7 @@ fn acted<J: Naming, R: Wait + Drop, W: Wait>(
     }
 }
 
-// What a session hands over.
+// Returns what a session hands over.
 fn given_to(alloc: Global, act: &Act) -> Option<Scenario> {
     match act {
         Act::Write(write, _, _) => given(alloc, write),
@@ -291,7 +291,7 @@ fn given_to(alloc: Global, act: &Act) -> Option<Scenario> {
 
 // ---- what is left
 
-// Whether an entry of a journal is this.
+// Answers whether an entry of a journal is this.
 fn is_line(alloc: Global, entry: &Entry, line: Line) -> Option<bool> {
     match (line, &entry.command) {
         (Line::Took(session, edits), SheetCommand::Take(taken)) => {
@@ -304,7 +304,7 @@ fn is_line(alloc: Global, entry: &Entry, line: Line) -> Option<bool> {
     }
 }
 
-// Whether what is left of a store has this journal and shows this.
+// Answers whether what is left of a store has this journal and shows this.
 fn is_left(alloc: Global, closed: &Closed, lines: &[Line], shown: &Shown) -> Option<bool> {
     let mut is_journal = closed.journal.len() == lines.len();
     for (entry, line) in closed.journal.iter().zip(lines) {
@@ -313,7 +313,7 @@ fn is_left(alloc: Global, closed: &Closed, lines: &[Line], shown: &Shown) -> Opt
     Some(is_journal && shows(alloc, &closed.sheet, shown)?)
 }
 
-// Whether a store that is closed leaves this.
+// Answers whether a store that is closed leaves this.
 fn leaves<J: Naming, R: Wait + Drop>(
     alloc: Global,
     shared: Shared<J, R>,

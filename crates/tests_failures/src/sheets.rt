@@ -73,7 +73,7 @@ pub(crate) struct GrowthCase {
     pub(crate) most_steps: u64,
 }
 
-// Why a sheet did not grow.
+// Returns why a sheet did not grow.
 fn refusal_of_growth(fault: GrownFault) -> Refusal {
     match fault {
         GrownFault::OutOfMemory => Refusal::Memory,
@@ -98,7 +98,7 @@ fn growth(
     }
 }
 
-// The sheet of the free road with some edits, simulated in one go up to a step.
+// Returns the sheet of the free road with some edits, simulated in one go up to a step.
 fn run_of(alloc: Global, edits: &[Edit], to: u32) -> Option<Sheet> {
     let opening = Sheet::opening(alloc, free_plan(alloc)?).ok()?;
     let scenario = Scenario::of_edits(alloc, edits).ok()?;
@@ -115,7 +115,7 @@ struct Growing {
 }
 
 impl Growing {
-    // Whether a sheet is that of a run in one go.
+    // Answers whether a sheet is that of a run in one go.
     fn is_run(alloc: Global, sheet: &Sheet, edits: &[Edit], to: u32) -> Option<bool> {
         let run = run_of(alloc, edits, to)?;
         are_same(alloc, sheet, &run)
@@ -336,7 +336,7 @@ pub(crate) fn tried_draft(alloc: Global, until: Until, case: &DraftCase) -> Opti
     judged(alloc, until, &mut drafting)
 }
 
-// The draft of a run that goes on at a step.
+// Returns the draft of a run that goes on at a step.
 fn draft_at(alloc: Global, step: u32) -> Option<Draft> {
     let sheet = run_of(alloc, &[], step)?;
     drafted(alloc, &sheet, &Scenario::empty(alloc), step).ok()

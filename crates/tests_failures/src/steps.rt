@@ -117,7 +117,7 @@ fn is_row(alloc: Global, road: &Road, row: &str) -> Option<bool> {
     Some(text.as_str() == row)
 }
 
-// The row after this step from the first on.
+// Returns the row after this step from the first on.
 fn dense_row(step: usize) -> &'static str {
     match DENSE_ROWS.get(step) {
         Some(row) => *row,
@@ -162,7 +162,7 @@ impl Call for StepCall {
     }
 }
 
-// The road after the first step.
+// Returns the road after the first step.
 fn first_road(alloc: Global, plan: &Arc<Plan>) -> Option<Road> {
     let input = input_of(alloc, plan, 0, &Road::empty(alloc)).ok()?;
     road_after(alloc, &input).ok()

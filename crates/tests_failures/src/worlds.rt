@@ -30,7 +30,7 @@ pub(crate) enum Act {
 }
 
 impl Act {
-    // The event; none where there was no memory for its edits.
+    // Returns the event; none where there was no memory for its edits.
     fn event(&self, alloc: Global) -> Option<Event> {
         match *self {
             Act::Edit(at, object, step, value) => Some(Event::Edit {
@@ -53,7 +53,7 @@ impl Act {
     }
 }
 
-// The events of a list.
+// Returns the events of a list.
 fn events_of(alloc: Global, list: &[Told]) -> Option<Vec<Event>> {
     let mut events = Vec::new(alloc);
     for told in list {
@@ -93,7 +93,7 @@ fn refusal_of_event(fault: WorldFault) -> Refusal {
     }
 }
 
-// Whether a message carries this.
+// Answers whether a message carries this.
 fn carries(alloc: Global, message: &Message, sent: &Sent) -> Option<bool> {
     match (message, sent) {
         (Message::Whole(edits), Sent::Whole(wanted)) => holds(alloc, edits, wanted),
@@ -103,7 +103,7 @@ fn carries(alloc: Global, message: &Message, sent: &Sent) -> Option<bool> {
     }
 }
 
-// Whether a world has just these messages.
+// Answers whether a world has just these messages.
 fn has_messages(alloc: Global, world: &World, messages: &[Sent]) -> Option<bool> {
     let mut has = world.message(messages.len() as u64).is_none();
     for (number, sent) in (0u64..).zip(messages) {
@@ -116,7 +116,7 @@ fn has_messages(alloc: Global, world: &World, messages: &[Sent]) -> Option<bool>
     Some(has)
 }
 
-// Whether it has just these replicas.
+// Answers whether it has just these replicas.
 fn has_replicas(alloc: Global, world: &World, replicas: &[Shown]) -> Option<bool> {
     let mut has = world.replica_count() as usize == replicas.len();
     for (number, shown) in (0u32..).zip(replicas) {
@@ -129,7 +129,7 @@ fn has_replicas(alloc: Global, world: &World, replicas: &[Shown]) -> Option<bool
     Some(has)
 }
 
-// Whether it shows just this.
+// Answers whether it shows just this.
 fn world_shows(alloc: Global, world: &World, shown: &WorldShown) -> Option<bool> {
     Some(has_messages(alloc, world, shown.messages)? && has_replicas(alloc, world, shown.replicas)?)
 }
@@ -168,7 +168,7 @@ impl Call for Happening {
     }
 }
 
-// A world after the events of a list, all of which it accepts.
+// Returns a world after the events of a list, all of which it accepts.
 fn world_after(alloc: Global, list: &[Told]) -> Option<World> {
     let mut world = World::open(alloc, free_plan(alloc)?, 3).ok()?;
     for told in list {
@@ -180,7 +180,7 @@ fn world_after(alloc: Global, list: &[Told]) -> Option<World> {
     Some(world)
 }
 
-// What a world shows after the events of a list.
+// Returns what a world shows after the events of a list.
 fn shown_after(list: &[Told]) -> WorldShown {
     match list.last() {
         Some(told) => told.shown,
@@ -259,7 +259,7 @@ struct Playing {
     list: &'static [Told],
 }
 
-// Whether all events are replied as is wanted.
+// Answers whether all events are replied as is wanted.
 fn are_replied(replies: &[Result<Reply, WorldFault>], list: &[Told]) -> bool {
     replies.len() == list.len()
         && replies
@@ -268,7 +268,7 @@ fn are_replied(replies: &[Result<Reply, WorldFault>], list: &[Told]) -> bool {
             .all(|(reply, told)| *reply == Ok(told.reply))
 }
 
-// What a new world replies to the events where one of them does not happen.
+// Returns what a new world replies to the events where one of them does not happen.
 fn replies_without(
     alloc: Global,
     world: &mut World,
@@ -287,7 +287,7 @@ fn replies_without(
     Some(replies)
 }
 
-// Whether two messages carry the same.
+// Answers whether two messages carry the same.
 fn are_alike(alloc: Global, message: &Message, other: &Message) -> Option<bool> {
     match (message, other) {
         (Message::Whole(edits), Message::Whole(others)) => are_held(alloc, edits, others),
@@ -297,13 +297,13 @@ fn are_alike(alloc: Global, message: &Message, other: &Message) -> Option<bool> 
     }
 }
 
-// Whether two scenarios hold the same edits.
+// Answers whether two scenarios hold the same edits.
 fn are_held(alloc: Global, scenario: &Scenario, other: &Scenario) -> Option<bool> {
     let edits = other.edits(alloc).ok()?;
     holds(alloc, scenario, &edits)
 }
 
-// Whether two worlds have the same message of a number, or both none.
+// Answers whether two worlds have the same message of a number, or both none.
 fn have_alike(alloc: Global, world: &World, other: &World, number: u64) -> Option<bool> {
     match (world.message(number), other.message(number)) {
         (Some(message), Some(another)) => are_alike(alloc, message, another),
@@ -312,7 +312,7 @@ fn have_alike(alloc: Global, world: &World, other: &World, number: u64) -> Optio
     }
 }
 
-// Whether a replica of two worlds shows the same.
+// Answers whether a replica of two worlds shows the same.
 fn show_alike(alloc: Global, world: &World, other: &World, number: u32) -> Option<bool> {
     match (world.replica(number), other.replica(number)) {
         (Some(replica), Some(another)) => are_same(alloc, replica.sheet(), another.sheet()),
@@ -320,7 +320,7 @@ fn show_alike(alloc: Global, world: &World, other: &World, number: u32) -> Optio
     }
 }
 
-// Whether two worlds of three replicas show the same, after so many events.
+// Answers whether two worlds of three replicas show the same, after so many events.
 fn are_same_worlds(alloc: Global, world: &World, other: &World, events: usize) -> Option<bool> {
     let mut are_same = true;
     for number in 0..3 {
@@ -332,7 +332,7 @@ fn are_same_worlds(alloc: Global, world: &World, other: &World, events: usize) -
     Some(are_same)
 }
 
-// Whether all other events went as if one, which found no memory, had not been.
+// Answers whether all other events went as if one, which found no memory, had not been.
 fn goes_on(alloc: Global, playing: &Playing, played: &Played, left_out: usize) -> Option<bool> {
     let plan = Arc::try_clone(&playing.plan).ok()?;
     let mut world = World::open(alloc, plan, 3).ok()?;
@@ -353,7 +353,7 @@ impl Playing {
         }
     }
 
-    // Whether they went as is wanted.
+    // Answers whether they went as is wanted.
     fn went(&self, alloc: Global, played: &Played) -> Option<bool> {
         let are_replied = are_replied(&played.replies, self.list);
         Some(are_replied && world_shows(alloc, &played.world, &shown_after(self.list))?)

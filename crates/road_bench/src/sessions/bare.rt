@@ -30,7 +30,7 @@ impl Absorb<u64> for Greatest {
     }
 }
 
-// A reader looks so often, and says when it has ended. The looks that were let in are counted.
+// Looks so often, and says when it has ended. The looks that were let in are counted.
 fn looks<C: Clock>(
     rt: &C,
     reader: &mut ReadHandle<Greatest>,
@@ -49,7 +49,7 @@ fn looks<C: Clock>(
     Some(Done { times, nanoseconds })
 }
 
-// The writer publishes at most so often, and until the reader has ended.
+// Publishes at most so often, until the reader has ended.
 fn publishes<C: Clock, R: Wait + Drop>(
     rt: &C,
     writer: &mut WriteHandle<Greatest, u64, R>,
@@ -71,8 +71,8 @@ fn publishes<C: Clock, R: Wait + Drop>(
     Some(Done { times, nanoseconds })
 }
 
-/// What a writer of a number and one reader have done, each on a thread of its own, the writer first; none where the clock
-/// could not be read.
+/// Returns what a writer of a number and one reader have done, each on a thread of its own, the writer first; none
+/// where the clock could not be read.
 pub(crate) fn timed<W: Threads + Wait + Clock + Clone + Drop + Sync>(
     rt: &W,
     alloc: Global,

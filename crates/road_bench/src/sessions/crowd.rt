@@ -18,7 +18,7 @@ use std::thread::{Threads, for_each_mut};
 /// How many sessions write.
 pub(crate) const SESSIONS: u32 = 8;
 
-// A session writes: an edit or an advance by turns.
+// Writes for a session: an edit or an advance by turns.
 fn writes<J: Naming, R: Wait + Drop, W: Wait>(
     rt: &W,
     alloc: Global,
@@ -41,7 +41,7 @@ fn writes<J: Naming, R: Wait + Drop, W: Wait>(
     }
 }
 
-// Whether a session that looks is shown its write.
+// Answers whether a session that looks is shown its write.
 fn finds<J: Naming, R: Wait + Drop>(
     shared: &Shared<J, R>,
     session: &mut Session<J>,
@@ -53,7 +53,7 @@ fn finds<J: Naming, R: Wait + Drop>(
     }
 }
 
-// Whether all is as it should be with a session that writes and looks.
+// Answers whether all is as it should be with a session that writes and looks.
 fn works<J: Naming, R: Wait + Drop, W: Wait>(
     rt: &W,
     alloc: Global,
@@ -68,7 +68,7 @@ fn works<J: Naming, R: Wait + Drop, W: Wait>(
     well
 }
 
-// Whether all is as it should be with sessions at work, each on a thread of its own.
+// Answers whether all is as it should be with sessions at work, each on a thread of its own.
 fn all_work<J: Naming + Send + Sync, R: Wait + Drop + Send, W: Threads + Wait + Sync>(
     rt: &W,
     alloc: Global,
@@ -90,7 +90,7 @@ fn all_work<J: Naming + Send + Sync, R: Wait + Drop + Send, W: Threads + Wait + 
     well.load(Ordering::SeqCst)
 }
 
-// What a store leaves; nothing where it could not be closed.
+// Returns what a store leaves; nothing where it could not be closed.
 fn left<J: Naming, R: Wait + Drop>(
     shared: Shared<J, R>,
     sessions: Vec<Session<J>>,
@@ -101,7 +101,7 @@ fn left<J: Naming, R: Wait + Drop>(
     }
 }
 
-// Whether what is left has the merge of all writes as its journal.
+// Answers whether what is left has the merge of all writes as its journal.
 fn is_left(alloc: Global, closed: &Option<Closed>, count: u32) -> Result<bool, OutOfMemory> {
     match closed {
         Some(closed) => is_merge(alloc, &closed.journal, count),
@@ -109,7 +109,7 @@ fn is_left(alloc: Global, closed: &Option<Closed>, count: u32) -> Result<bool, O
     }
 }
 
-// Whether a store leaves the merge of all writes.
+// Answers whether a store leaves the merge of all writes.
 fn leaves_merge<J: Naming, R: Wait + Drop>(
     alloc: Global,
     shared: Shared<J, R>,
@@ -120,7 +120,7 @@ fn leaves_merge<J: Naming, R: Wait + Drop>(
     is_left(alloc, &closed, count)
 }
 
-// Whether the journal is the merge of all writes, once all sessions have worked.
+// Answers whether the journal is the merge of all writes, once all sessions have worked.
 fn is_merged<J: Naming + Send + Sync, R: Wait + Drop + Send, W: Threads + Wait + Sync>(
     rt: &W,
     alloc: Global,
@@ -138,7 +138,7 @@ fn is_merged<J: Naming + Send + Sync, R: Wait + Drop + Send, W: Threads + Wait +
     Ok(well && is_merged?)
 }
 
-/// Whether the journal of eight sessions, each on a thread of its own, is the merge of their writes.
+/// Answers whether the journal of eight sessions, each on a thread of its own, is the merge of their writes.
 pub(crate) fn merges<W: Threads + Wait + Sync>(
     rt: &W,
     alloc: Global,

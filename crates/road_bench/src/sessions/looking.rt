@@ -36,7 +36,7 @@ struct Task {
     looking: AtomicU64,
 }
 
-// A session looks.
+// Looks for a session.
 fn looks<J: Naming, R: Wait + Drop>(
     shared: &Shared<J, R>,
     session: &mut Session<J>,
@@ -52,7 +52,7 @@ fn looks<J: Naming, R: Wait + Drop>(
     times
 }
 
-// A session publishes as long as others look.
+// Publishes for a session as long as others look.
 fn publishes<J: Naming, R: Wait + Drop, W: Wait>(
     rt: &W,
     shared: &Shared<J, R>,
@@ -76,7 +76,7 @@ fn publishes<J: Naming, R: Wait + Drop, W: Wait>(
     times
 }
 
-// The first session publishes, each other one looks; and how long that took.
+// Publishes for the first session, and looks for each other one; returns how long that took.
 fn does<J: Naming, R: Wait + Drop, W: Wait + Clock>(
     rt: &W,
     shared: &Shared<J, R>,
@@ -93,7 +93,7 @@ fn does<J: Naming, R: Wait + Drop, W: Wait + Clock>(
     Some(Done { times, nanoseconds })
 }
 
-// What sessions do, each on a thread of its own.
+// Returns what sessions do, each on a thread of its own.
 fn all_do<J: Naming + Send + Sync, R: Wait + Drop + Send, W: Threads + Wait + Clock + Sync>(
     rt: &W,
     shared: &Shared<J, R>,
@@ -107,7 +107,7 @@ fn all_do<J: Naming + Send + Sync, R: Wait + Drop + Send, W: Threads + Wait + Cl
     )?)
 }
 
-// What each session has done.
+// Returns what each session has done.
 fn all_done<J: Naming + Send + Sync, R: Wait + Drop + Send, W: Threads + Wait + Clock + Sync>(
     rt: &W,
     prepared: Prepared<R>,
@@ -122,7 +122,8 @@ fn all_done<J: Naming + Send + Sync, R: Wait + Drop + Send, W: Threads + Wait + 
     all_do(rt, &shared, sessions, task)
 }
 
-/// What the writer and each of so many readers have done, the writer first; none where the clock could not be read.
+/// Returns what the writer and each of so many readers have done, the writer first; none where the clock could not be
+/// read.
 pub(crate) fn timed<W: Threads + Wait + Clock + Sync>(
     rt: &W,
     alloc: Global,
