@@ -187,10 +187,10 @@ detectors_of_small = (refl, refl)
 starts_of_small : (is_in_plan small (Start 0) ≡ true) × (is_in_plan small (Start 1) ≡ false)
 starts_of_small = (refl, refl)
 
-numbers_of_small : (default small (Limit 0) ≡ 2) × (default small (Slow 0) ≡ 0) × (default small (Inflow 0) ≡ 65536)
+numbers_of_small : (default small (Limit 0) ≡ Some 2) × (default small (Slow 0) ≡ Some 0) × (default small (Inflow 0) ≡ Some 65536)
 numbers_of_small = (refl, refl, refl)
 
-states_of_small : (default small (Block 3) ≡ 0) × (default small (Watch 0) ≡ 1)
+states_of_small : (default small (Block 3) ≡ Some 0) × (default small (Watch 0) ≡ Some 1)
 states_of_small = (refl, refl)
 
 -- ---- the limits of what stands on plans

@@ -3,6 +3,8 @@ use Rattle.std.specs.Prelude.{ℕ, Bool, true, false, length, nat_lt, nat_le}
 use Rattle.std.specs.List.{slice_index_or}
 use Rattle.std.specs.Ordering.{nat_cmp}
 use Rattle.std.specs.declared.cmp.Ordering.{Ordering}
+use Rattle.std.specs.declared.option.Option.{Option}
+use Rattle.std.specs.declared.option.Option.TheVariants.{None, Some}
 use Rattle.lattice_core.specs.Exact.{pair_cmp}
 use Rattle.road_plan.specs.Plan.{Plan}
 use Rattle.road_plan.specs.declared.object.Object.{Object}
@@ -37,14 +39,14 @@ is_start (Watch detector) = false
 is_start (Start zone) = true
 
 -- what an object is where nothing is put: the plan's number, no block, and a detector that is on; a plan has no slowing
--- chance of standing cars, and no contract asks for the 0 that is written here
-abbrev pub default : Plan → Object → ℕ
-default p (Limit zone) = (slice_index_or p.zones zone (0, 0)).0
-default p (Slow zone) = (slice_index_or p.zones zone (0, 0)).1
-default p (Block cell) = 0
-default p (Inflow inlet) = (slice_index_or p.inlets inlet (0, 0)).1
-default p (Watch detector) = 1
-default p (Start zone) = 0
+-- chance of standing cars
+abbrev pub default : Plan → Object → Option ℕ
+default p (Limit zone) = Some (slice_index_or p.zones zone (0, 0)).0
+default p (Slow zone) = Some (slice_index_or p.zones zone (0, 0)).1
+default p (Block cell) = Some 0
+default p (Inflow inlet) = Some (slice_index_or p.inlets inlet (0, 0)).1
+default p (Watch detector) = Some 1
+default p (Start zone) = None
 
 -- what objects are ordered by: the kind's place among the kinds, and the index
 abbrev pub order_key : Object → ℕ × ℕ

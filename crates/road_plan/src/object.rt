@@ -1,6 +1,7 @@
 //! What edits set: where it exists, what it takes, and what it is by default.
 
 ghost use Rattle.std.specs.Prelude.{◌≡◌, true, false};
+ghost use Rattle.std.specs.declared.option.Option.TheVariants.{Some};
 ghost use Rattle.road_plan.specs.Objects as objects;
 
 use crate::limits::{CERTAIN, GREATEST_LIMIT};
@@ -57,7 +58,7 @@ impl Object {
     pub fn default(self, plan: &Plan) -> u32
         requires in_plan { objects.is_in_plan plan.now self ≡ true }
         requires own { objects.is_start self ≡ false }
-        ensures { result ≡ objects.default plan.now self }
+        ensures { objects.default plan.now self ≡ Some result }
     {
         match self {
             Object::Limit(zone) => plan.zones()[zone as usize].0,
@@ -65,7 +66,7 @@ impl Object {
             Object::Block(_) => 0,
             Object::Inflow(inlet) => plan.inlets()[inlet as usize].1,
             Object::Watch(_) => 1,
-            Object::Start(_) => 0,
+            Object::Start(_) => unreachable!(),
         }
     }
 

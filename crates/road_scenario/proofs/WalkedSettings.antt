@@ -17,12 +17,12 @@ use Rattle.road_scenario.specs.Edits.{put_number}
 use Rattle.lattice_core.specs.Map.{IsHeld, is_empty}
 use Rattle.road_plan.specs.Plan.{Plan}
 use Rattle.road_plan.specs.Settings.{Settings, defaults}
-use Rattle.road_plan.specs.Objects.{is_in_plan, default, object_order}
+use Rattle.road_plan.specs.Objects.{is_in_plan, object_order}
 use Rattle.road_plan.specs.Instances.ObjectOrder.{ordered, object_exact}
 use Rattle.road_plan.specs.declared.object.Object.{Object}
 use Rattle.road_plan.specs.declared.object.Object.TheVariants.{Limit, Slow, Block, Inflow, Watch, Start}
 use Rattle.road_scenario.specs.Registers.{RegistersByStep, RegistersByObject, object_edits, edit_list}
-use Rattle.road_scenario.specs.Settings.{is_put_up_to, latest_edit, number_in, setting_by, setting_in, settings_in, all_settings}
+use Rattle.road_scenario.specs.Settings.{is_put_up_to, latest_edit, number_in, setting_by, setting_in, setting_without, settings_in, all_settings}
 use Rattle.road_scenario.specs.Private.RegisterWalks.{last_number, registers_of_object, settings_with_number, settings_with_optional, settings_with_last_numbers, has_place}
 use Rattle.road_scenario.specs.Instances.RegisterLattice.{AreRegistersByStep, object_cmp, AreRegisters}
 use Rattle.road_scenario.proofs.LastNumbers.{is_one, chosen, none_of_other, none_above, latest_number, other_above, steps_here, steps_there, one_object}
@@ -193,17 +193,17 @@ put_under b n d x (Some m) none = cc
 
 put-number : (p : Plan) (f : Object → Option ℕ) (o : Object) (n : ℕ) → IsReady p f o → settings_with_number (all_settings p (setting_by p f)) o n ≡ all_settings p (setting_by p (update f o (Some n)))
 put-number p f (Limit zone) n r = λ i. record (all_settings p (setting_by p f)) {
-  limits = (set_at (λ z. setting_by p f (Limit z)) n (length p.zones) zone ∙ (λ j. map (λ z. put_or (is_eq (nat_cmp zone z)) n (default p (Limit z)) (f (Limit z)) j) (range_with_len 0 (length p.zones)))) i;
+  limits = (set_at (λ z. setting_by p f (Limit z)) n (length p.zones) zone ∙ (λ j. map (λ z. put_or (is_eq (nat_cmp zone z)) n (setting_without p f (Limit z)) (f (Limit z)) j) (range_with_len 0 (length p.zones)))) i;
 }
 put-number p f (Slow zone) n r = λ i. record (all_settings p (setting_by p f)) {
-  chances = (set_at (λ z. setting_by p f (Slow z)) n (length p.zones) zone ∙ (λ j. map (λ z. put_or (is_eq (nat_cmp zone z)) n (default p (Slow z)) (f (Slow z)) j) (range_with_len 0 (length p.zones)))) i;
-  starts = (set_at (λ z. setting_by p f (Start z)) n (length p.zones) zone ∙ (λ j. map (λ z. put_under (is_eq (nat_cmp zone z)) n (default p (Slow z)) (f (Slow z)) (f (Start z)) (r z) j) (range_with_len 0 (length p.zones)))) i;
+  chances = (set_at (λ z. setting_by p f (Slow z)) n (length p.zones) zone ∙ (λ j. map (λ z. put_or (is_eq (nat_cmp zone z)) n (setting_without p f (Slow z)) (f (Slow z)) j) (range_with_len 0 (length p.zones)))) i;
+  starts = (set_at (λ z. setting_by p f (Start z)) n (length p.zones) zone ∙ (λ j. map (λ z. put_under (is_eq (nat_cmp zone z)) n (setting_without p f (Slow z)) (f (Slow z)) (f (Start z)) (r z) j) (range_with_len 0 (length p.zones)))) i;
 }
 put-number p f (Block cell) n r = λ i. record (all_settings p (setting_by p f)) {
   blocks = (push_at (λ c. setting_by p f (Block c) == 1) (n == 1) p.cells cell r.0 r.1 ∙ (λ j. filter (λ c. is_one_or (is_eq (nat_cmp cell c)) n 0 (f (Block c)) j) (range_with_len 0 p.cells))) i;
 }
 put-number p f (Inflow inlet) n r = λ i. record (all_settings p (setting_by p f)) {
-  inflows = (set_at (λ z. setting_by p f (Inflow z)) n (length p.inlets) inlet ∙ (λ j. map (λ z. put_or (is_eq (nat_cmp inlet z)) n (default p (Inflow z)) (f (Inflow z)) j) (range_with_len 0 (length p.inlets)))) i;
+  inflows = (set_at (λ z. setting_by p f (Inflow z)) n (length p.inlets) inlet ∙ (λ j. map (λ z. put_or (is_eq (nat_cmp inlet z)) n (setting_without p f (Inflow z)) (f (Inflow z)) j) (range_with_len 0 (length p.inlets)))) i;
 }
 put-number p f (Watch detector) n r = λ i. record (all_settings p (setting_by p f)) {
   watched = (set_at (λ d. setting_by p f (Watch d) == 1) (n == 1) (length p.detectors) detector ∙ (λ j. map (λ d. is_one_or (is_eq (nat_cmp detector d)) n 1 (f (Watch d)) j) (range_with_len 0 (length p.detectors)))) i;
