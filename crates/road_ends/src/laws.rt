@@ -1,11 +1,29 @@
 //! Laws of every step of a plan, from any road whose cars are on it, and of every run, for every course of settings.
-//! The functions do nothing when they run: each law is its function's contract.
+//! The functions do nothing when they run, but for [`gap_on_road`], which counts: each law is its function's contract.
 
+ghost use Rattle.std.specs.Prelude.{◌≡◌, ◌<◌, ◌≤◌, length};
+ghost use Rattle.road_plan.specs.Settings.{Fits};
+ghost use Rattle.road_cells.specs.Cars.{cars_of, cell_at};
 ghost use Rattle.road_ends.specs.Laws.{HoldsInEachStep, KeepBelowGreatestSpeed, NeverCollide, ArriveAlone, KeepOrder};
 ghost use Rattle.road_ends.specs.Laws.{StopAtBlocks};
 ghost use Rattle.road_ends.specs.Laws.{HaveOwnNumbers, HaveShortNumbers, StayOnRoad, DependOnEarlierSettings};
+ghost use Rattle.road_ends.specs.Speed.{gap};
 
-use road_plan::Plan;
+use road_cells::Road;
+use road_plan::{Plan, Settings};
+
+/// Counts the free cells in front of the car at a place of the road's list, by [`Road::gap`]: they are the gap of the
+/// definition, by which cars past the end of the road and blocks behind it are none, where the settings fit the plan and
+/// the cars are on the road.
+pub fn gap_on_road(plan: &Plan, settings: &Settings, road: &Road, place: usize) -> u8
+    requires fits { Fits plan.now settings.now }
+    requires on_road { length road.now ≤ plan.now.cells }
+    requires car { place < length (cars_of road.now) }
+    ensures { result ≡ gap plan.now settings.now road.now (cell_at (cars_of road.now) place) }
+{
+    let _ = plan;
+    road.gap(place, settings.blocks())
+}
 
 /// No car is faster than the greatest speed, 9 cells per step.
 pub fn cars_keep_below_greatest_speed(plan: &Plan)

@@ -14,7 +14,6 @@ mod job;
 mod spin;
 mod working;
 
-use crate::alone::Alone;
 use crate::crew::{Crew, gone_after};
 use crate::faults::CrewFault;
 use crate::gate::{Gate, NoGate};
@@ -31,11 +30,6 @@ use std::sync::{Arc, Wait};
 use std::thread;
 use std::thread::{JoinHandle, Threads};
 
-// The fewest cars of a step for each worker of a pool without a gate of its own; a step with fewer is the caller's. By
-// `bench/time-crews` it takes 13 microseconds to hand a dense step to a worker that does not sleep, and the caller
-// computes the speeds of its 6,450 cars in 3: so a worker is asked for half of the longest road at the least.
-const LEAST_CARS: usize = 4_000;
-
 // A worker: the end of its channel of jobs, which has room for one, and its thread.
 #[derive(Drop)]
 struct Worker {
@@ -43,18 +37,15 @@ struct Worker {
     thread: JoinHandle<()>,
 }
 
-/// The crew whose workers are threads that live as long as the crew. A call waits for them where it asks them: always
-/// behind a gate, else where each has cars enough to be worth it; the caller computes other steps by itself. After the
-/// first answer `WorkersGone` every call answers so. Contracts see it as how many workers it has, and its count of these
-/// answers.
+/// The crew whose workers are threads that live as long as the crew. Each call gives every worker its piece of the cars,
+/// which may be empty, and waits for them. After the first answer `WorkersGone` every call answers so. Contracts see it
+/// as how many workers it has, and its count of these answers.
 #[derive(Drop)]
 pub struct Pool<R> {
     rt: R,
     workers: Vec<Worker>,
     // It has room for a result of each worker.
     results: Receiver<Done>,
-    // The fewest cars of a step for which workers are asked.
-    least_cars: usize,
     // How the caller looks for a result before it sleeps.
     lookout: Lookout,
     // How often it has answered `WorkersGone`. After the first time no worker is asked.
@@ -85,8 +76,7 @@ impl<R: Threads + Wait + Clone + Drop + Send + 'static> Pool<R> {
         ensures workers { IfOk result (λ pool. pool.workers ≡ workers) }
         ensures gone { IfOk result (λ pool. ⟦<Pool<R> as Crew>⟧.times_gone pool ≡ 0) }
     {
-        let least_cars = least_cars_for(workers);
-        Pool::started(rt, alloc, workers, least_cars, no_gate(alloc)?)
+        Pool::start_gated(rt, alloc, workers, no_gate(alloc)?)
     }
 
     /// Starts a crew of 1 to 16 workers, as [`Pool::start`], each of which passes the gate before it computes a piece.
@@ -98,22 +88,6 @@ impl<R: Threads + Wait + Clone + Drop + Send + 'static> Pool<R> {
         rt: R,
         alloc: Global,
         workers: u32,
-        gate: Arc<G>,
-    ) -> Result<Pool<R>, CrewFault>
-        requires some { 0 < workers }
-        requires few { workers ≤ MOST_WORKERS }
-        ensures workers { IfOk result (λ pool. pool.workers ≡ workers) }
-        ensures gone { IfOk result (λ pool. ⟦<Pool<R> as Crew>⟧.times_gone pool ≡ 0) }
-    {
-        Pool::started(rt, alloc, workers, 0, gate)
-    }
-
-    // Starts a crew of so many workers, which are asked where a step has so many cars.
-    fn started<G: Gate + Drop + Send + Sync + 'static>(
-        rt: R,
-        alloc: Global,
-        workers: u32,
-        least_cars: usize,
         gate: Arc<G>,
     ) -> Result<Pool<R>, CrewFault>
         requires some { 0 < workers }
@@ -134,7 +108,6 @@ impl<R: Threads + Wait + Clone + Drop + Send + 'static> Pool<R> {
             rt,
             workers: started,
             results,
-            least_cars,
             lookout,
             gone: 0,
         })
@@ -157,7 +130,20 @@ impl<R: Wait> Crew for Pool<R> {
         ensures stays_gone { 0 < ⟦<Pool<R> as Crew>⟧.times_gone self.old → result ≡ Err WorkersGone }
         ensures workers { self.new.workers ≡ self.old.workers }
     {
-        self.speeds_in(alloc, input, Vec::new(alloc))
+        let answer = if self.gone > 0 {
+            Err(CrewFault::WorkersGone)
+        } else {
+            speeds_by(
+                &self.rt,
+                alloc,
+                input,
+                self.workers.as_slice(),
+                &self.results,
+                &mut self.lookout,
+            )
+        };
+        self.gone = gone_after(&answer, self.gone);
+        answer
     }
 
     fn speeds_in(
@@ -172,34 +158,9 @@ impl<R: Wait> Crew for Pool<R> {
         ensures stays_gone { 0 < ⟦<Pool<R> as Crew>⟧.times_gone self.old → result ≡ Err WorkersGone }
         ensures workers { self.new.workers ≡ self.old.workers }
     {
-        let answer = if self.gone > 0 {
-            Err(CrewFault::WorkersGone)
-        } else if cars_in(input) < self.least_cars {
-            Alone.speeds_in(alloc, input, list)
-        } else {
-            speeds_by(
-                &self.rt,
-                alloc,
-                input,
-                self.workers.as_slice(),
-                &self.results,
-                &mut self.lookout,
-            )
-        };
-        self.gone = gone_after(&answer, self.gone);
-        answer
+        let _ = list;
+        self.speeds(alloc, input)
     }
-}
-
-// Returns the fewest cars of a step for which so many workers without a gate are asked. One alone never is, for the
-// caller would wait as long as it computes.
-fn least_cars_for(workers: u32) -> usize
-    requires few { workers ≤ MOST_WORKERS }
-{
-    if workers == 1 {
-        return usize::MAX;
-    }
-    workers as usize * LEAST_CARS
 }
 
 // Makes the gate that does nothing, for all workers.

@@ -12,13 +12,13 @@ ghost use Rattle.road_cells.specs.Array.{vehicle_at};
 ghost use Rattle.road_cells.specs.Cars.{cars_of, cell_at, car_of, vehicle_of};
 ghost use Rattle.road_cells.specs.Gap.{is_blocked};
 ghost use Rattle.road_ends.specs.Entries.{entry_at, road_with_entries};
-ghost use Rattle.road_ends.specs.Speed.{gap, speed, speeds, nth_car};
+ghost use Rattle.road_ends.specs.Speed.{speed, speeds, nth_car};
 ghost use Rattle.road_ends.specs.Run.{road_after_step, run};
 ghost use Rattle.road_ends.specs.Row.{letter, row_of, row};
 ghost use Rattle.road_detector.proofs.MarkedRow.{HasDigits};
 
 use road_cells::{Car, Road, is_blocked};
-use road_ends::laws::cars_stay_on_road;
+use road_ends::laws::{cars_stay_on_road, gap_on_road};
 use road_ends::{BLOCKED, EMPTY, OutOfMemory, STANDING, leave};
 use road_plan::limits::MOST_INLETS;
 use road_plan::{Plan, Settings};
@@ -98,16 +98,6 @@ fn entered(
     Ok(Road::of(cars))
 }
 
-// Counts the free cells in front of the car at a place of the list, at most 9. Cells past the end of the road are free.
-fn gap(plan: &Plan, settings: &Settings, road: &Road, place: usize) -> u8
-    requires fits { Fits plan.now settings.now }
-    requires on_road { length road.now ≤ plan.now.cells }
-    requires car { place < length (cars_of road.now) }
-    ensures { result ≡ gap plan.now settings.now road.now (cell_at (cars_of road.now) place) }
-{
-    road.gap(place, settings.blocks())
-}
-
 // Computes the new speed of the car at a place of the list, by the limit and the slowing chance of the zone where it
 // stands.
 fn speed(plan: &Plan, settings: &Settings, step: u32, road: &Road, place: usize) -> u8
@@ -122,7 +112,7 @@ fn speed(plan: &Plan, settings: &Settings, step: u32, road: &Road, place: usize)
     let wished = wanted(
         car.speed,
         settings.limits()[zone],
-        gap(plan, settings, road, place),
+        gap_on_road(plan, settings, road, place),
     );
     let word = PlanWords::of(plan).word(car.number, u64::from(step));
     let chance = if car.speed == 0 {
