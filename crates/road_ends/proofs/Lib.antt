@@ -3,6 +3,7 @@ pub mod NoCollision
 pub mod WhereCarsComeFrom
 pub mod CarNumbers
 pub mod Locality
+pub mod CellsNearby
 pub mod Examples
 pub mod StepByCars
 pub mod ChanceEvents

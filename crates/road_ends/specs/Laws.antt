@@ -1,5 +1,5 @@
 -- Laws of every step and of every run of a plan.
-use Rattle.std.specs.Prelude.{◌≡◌, ℕ, ◌+◌, ◌*◌, ◌^◌, ◌<◌, ◌≤◌, true, length}
+use Rattle.std.specs.Prelude.{◌≡◌, ℕ, ◌+◌, ◌-◌, ◌*◌, ◌^◌, ◌<◌, ◌≤◌, true, length}
 use Rattle.std.specs.declared.option.Option.TheVariants.{Some}
 use Rattle.road_plan.specs.Plan.{Plan, exit_start}
 use Rattle.road_plan.specs.Settings.{Settings, Fits}
@@ -8,7 +8,7 @@ use Rattle.road_cells.specs.Array.{Array, Vehicle, vehicle_at}
 use Rattle.road_cells.specs.Gap.{is_blocked}
 use Rattle.road_cells.specs.declared.car.TheConstants.{GREATEST_SPEED}
 use Rattle.road_ends.specs.Speed.{speed}
-use Rattle.road_ends.specs.Run.{Course, run, road_before_motion}
+use Rattle.road_ends.specs.Run.{Course, run, road_after_steps, road_before_motion}
 
 -- what may hold of one step: of a plan, the settings and the number of the step, and the array before the motion
 abbrev pub StepLaw : Type 1
@@ -75,3 +75,14 @@ HaveShortNumbers p = (course : Course) (t c : ℕ) (car : Vehicle) → t ≤ GRE
 abbrev pub DependOnEarlierSettings : Plan → Type 0
 DependOnEarlierSettings p = (f g : Course) (s : ℕ) → ((u : ℕ) → u < s → f u ≡ g u) → (t : ℕ) → t ≤ s
     → run p f t ≡ run p g t
+
+-- two roads hold the same at each cell from a to before b
+pub record AgreeBetween (a b : ℕ) (x y : Array) : Type 0 where
+  pub same : (c : ℕ) → a ≤ c → c < b → vehicle_at x c ≡ vehicle_at y c
+
+-- locality in space: roads that agree on a stretch, and for each step 9 cells farther behind it and ahead of it, agree
+-- on the stretch after these steps, by the same settings
+abbrev pub DependOnCellsNearby : Plan → Type 0
+DependOnCellsNearby p = (course : Course) (t k lo hi : ℕ) (x y : Array)
+    → AgreeBetween (lo - GREATEST_SPEED * k) (hi + GREATEST_SPEED * k) x y
+    → AgreeBetween lo hi (road_after_steps p course t k x) (road_after_steps p course t k y)

@@ -1,5 +1,5 @@
 -- One step of the road, and the run.
-use Rattle.std.specs.Prelude.{ℕ, zero, suc, []}
+use Rattle.std.specs.Prelude.{ℕ, zero, suc, ◌+◌, []}
 use Rattle.road_plan.specs.Plan.{Plan, exit_start}
 use Rattle.road_plan.specs.Settings.{Settings}
 use Rattle.road_cells.specs.Array.{Array, vehicle_at, array}
@@ -32,3 +32,8 @@ run p course (suc t) = road_after_step p (course t) t (run p course t)
 -- the road of a step with the cars that have entered, before they move
 abbrev pub road_before_motion : Plan → Course → ℕ → Array
 road_before_motion p course t = road_with_entries p (course t) t (run p course t)
+
+-- the road after k steps from an array, the first of them step t
+abbrev pub road_after_steps : Plan → Course → ℕ → ℕ → Array → Array
+road_after_steps p course t zero a = a
+road_after_steps p course t (suc k) a = road_after_step p (course (t + k)) (t + k) (road_after_steps p course t k a)

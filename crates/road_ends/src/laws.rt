@@ -6,7 +6,8 @@ ghost use Rattle.road_plan.specs.Settings.{Fits};
 ghost use Rattle.road_cells.specs.Cars.{cars_of, cell_at};
 ghost use Rattle.road_ends.specs.Laws.{HoldsInEachStep, KeepBelowGreatestSpeed, NeverCollide, ArriveAlone, KeepOrder};
 ghost use Rattle.road_ends.specs.Laws.{StopAtBlocks};
-ghost use Rattle.road_ends.specs.Laws.{HaveOwnNumbers, HaveShortNumbers, StayOnRoad, DependOnEarlierSettings};
+ghost use Rattle.road_ends.specs.Laws.{HaveOwnNumbers, HaveShortNumbers, StayOnRoad, DependOnCellsNearby};
+ghost use Rattle.road_ends.specs.Laws.{DependOnEarlierSettings};
 ghost use Rattle.road_ends.specs.Speed.{gap};
 
 use road_cells::Road;
@@ -84,6 +85,14 @@ pub fn car_numbers_are_short(plan: &Plan)
 /// Locality: settings from a step on change no state up to that step.
 pub fn runs_depend_on_earlier_settings(plan: &Plan)
     ensures { DependOnEarlierSettings plan.now }
+{
+    let _ = plan;
+}
+
+/// Locality in space: nothing drives farther in a step than 9 cells, and no car looks farther ahead. So what stands on a
+/// stretch after some steps depends on its cells alone, and on so many more behind it and ahead of it.
+pub fn roads_depend_on_cells_nearby(plan: &Plan)
+    ensures { DependOnCellsNearby plan.now }
 {
     let _ = plan;
 }
