@@ -6,7 +6,7 @@ ghost use Rattle.road_scenario.specs.Private.RegisterWalks as walks;
 use crate::registers::RegistersByObject;
 use crate::touched::earlier;
 
-// Finds the first date of all edits after a step, by a look-up for each object.
+// Finds the first date of all edits after a step, by few look-ups for each object.
 pub(crate) fn first_date_after(registers: &RegistersByObject, step: u32) -> Option<u32>
     ensures { result ≡ walks.first_date_after step registers.now }
 {
