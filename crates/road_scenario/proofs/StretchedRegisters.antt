@@ -1,10 +1,9 @@
 -- Registers that lie in stretches: what is found, joined and put in them is what is in the list of all.
-use Rattle.std.specs.Prelude.{◌≡◌, ◌/◌, ◌<◌, ℕ, Bool, true, false, not, cond, ◌&&◌, T, IfSome, List, [], ◌∷◌, ◌++◌, nat_le, nat_lt, nat_eq, refl}
-use Rattle.std.specs.declared.cmp.Ordering.{Ordering}
+use Rattle.std.specs.Prelude.{◌≡◌, ℕ, Bool, true, false, not, cond, ◌&&◌, T, IfSome, List, [], ◌∷◌, ◌++◌, nat_le, nat_lt, refl}
 use Rattle.std.specs.declared.cmp.Ordering.TheVariants.{Less, Equal, Greater}
 use Rattle.std.specs.declared.option.Option.{Option}
 use Rattle.std.specs.declared.option.Option.TheVariants.{None, Some}
-use Rattle.std.specs.Cmp.{Equal-is, nat_cmp_total, tied_itself}
+use Rattle.std.specs.Cmp.{Equal-is, nat_cmp_total}
 use Rattle.std.specs.FinMap.Entries.{below_all, by_order, find, is_sorted, put}
 use Rattle.std.specs.List.{AllByRecursion, filter}
 use Rattle.std.specs.Option.{option_or, unwrap_or}
