@@ -26,9 +26,9 @@ pub type Won = Greatest<(Stamp, Value)>;
 // All registers, each object with its own, which scenarios share as long as nothing is joined in for the object.
 pub(crate) type RegistersByObject = LatMap<Object, Shared<RegistersByStep>>;
 
-// The registers of one object, each with its step, in stretches of `STRETCH` steps. Scenarios share a stretch as long as
-// nothing is joined in for its steps, so that an edit copies the registers of one stretch and an owner for each other
-// one. Contracts see the list of all registers.
+// The registers of one object, each with its step, in stretches of `STRETCH` steps. Scenarios share a stretch as long
+// as nothing is joined in for its steps, so that an edit copies the registers of one stretch and an owner for each
+// other one. Contracts see the list of all registers.
 #[derive(Drop)]
 pub(crate) struct RegistersByStep {
     // By the stretch's number, counted from 0.
