@@ -1,6 +1,7 @@
 //! Gates, which workers pass before they compute.
 
-/// What each worker passes before it computes its piece, for a program that watches its workers.
+/// What each worker passes before it computes its piece, for a program that watches its workers. Tests see that all
+/// workers are at their gate at once, and none of them whether a piece was computed before the gate or behind it.
 pub trait Gate {
     /// Lets a worker pass, numbered from 0, who is about to compute its piece, which may be empty.
     fn arrive(&self, worker: u32);

@@ -79,7 +79,8 @@ impl<R: Threads + Wait + Clone + Drop + Send + 'static> Pool<R> {
         Pool::start_gated(rt, alloc, workers, no_gate(alloc)?)
     }
 
-    /// Starts a crew of 1 to 16 workers, as [`Pool::start`], each of which passes the gate before it computes a piece.
+    /// Starts a crew of 1 to 16 workers, as [`Pool::start`], each of which passes the gate before it computes a piece;
+    /// [`Gate`] says what is tested of that.
     ///
     /// # Errors
     ///

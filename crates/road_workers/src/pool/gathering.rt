@@ -1,12 +1,12 @@
 //! The results of a step, gathered from the workers of a pool.
 
-ghost use Rattle.std.specs.Prelude.{◌≡◌, ℕ, ◌+◌, ◌<◌, ◌≤◌, length, take, vec_len, [], IfOk, IfSome};
+ghost use Rattle.std.specs.Prelude.{◌≡◌, ℕ, ◌+◌, ◌<◌, ◌≤◌, length, take, vec_len, [], IfOk, IfSome, IsFalse, IsTrue};
 ghost use Rattle.std.specs.Arc.{arc_value};
 ghost use Rattle.road_plan.specs.declared.limits.TheConstants.{MOST_WORKERS, GREATEST_LENGTH};
 ghost use Rattle.road_cells.specs.Cars.{cars_of};
 ghost use Rattle.road_ends.specs.Input.{input_speeds};
 ghost use Rattle.road_workers.specs.Private.Pieces.{piece_start};
-ghost use Rattle.road_workers.specs.Private.Gathered.{AreGathered};
+ghost use Rattle.road_workers.specs.Private.Gathered.{AreGathered, IsMissing, TakesOne};
 
 use crate::faults::CrewFault;
 use crate::piece::{Piece, PieceAnswer, appended};
@@ -31,7 +31,7 @@ pub(crate) fn places_for(
 }
 
 // Takes a result where its input is the one asked and its piece is still missing: it drops doubles and strangers.
-// Answers whether it took it.
+// Answers whether it took it; all other places stay as they were.
 pub(crate) fn is_taken(
     places: &mut Vec<Option<PieceAnswer>>,
     done: Done,
@@ -42,6 +42,8 @@ pub(crate) fn is_taken(
     requires cars { cars ≡ length (cars_of input.now.road) }
     requires short { cars ≤ GREATEST_LENGTH }
     requires gathered { AreGathered input.now places.old.items }
+    ensures taken { IsTrue result → TakesOne places.old.items done.answer places.new.items }
+    ensures dropped { IsFalse result → places.new ≡ places.old }
     ensures count { vec_len places.new ≡ vec_len places.old }
     ensures gathered { AreGathered input.now places.new.items }
 {
@@ -64,9 +66,9 @@ pub(crate) fn is_taken(
 fn missing_place(places: &[Option<PieceAnswer>], piece: Piece, cars: usize) -> Option<usize>
     requires few { length places.now ≤ MOST_WORKERS }
     requires short { cars ≤ GREATEST_LENGTH }
-    ensures { IfSome result (λ w. (w < length places.now)
-        × (piece.first ≡ piece_start (length places.now) cars w)
-        × (piece.end ≡ piece_start (length places.now) cars (w + 1))) }
+    ensures missing { IfSome result (IsMissing places.now) }
+    ensures first { IfSome result (λ w. piece.first ≡ piece_start (length places.now) cars w) }
+    ensures end { IfSome result (λ w. piece.end ≡ piece_start (length places.now) cars (w + 1)) }
 {
     let workers = places.len() as u32;
     for worker in 0..workers {

@@ -1,5 +1,11 @@
 //! A lasting worker of a pool.
 
+ghost use Rattle.std.specs.Prelude.{◌≡◌, Ok, Err, IfErr, IsFalse, IsTrue};
+ghost use Rattle.crossbeam_channel.specs.Err.{send_message};
+ghost use Rattle.crossbeam_channel.specs.declared.err.SendError.{SendError};
+ghost use Rattle.crossbeam_channel.specs.declared.err.SendError.TheVariants.{Disconnected};
+ghost use Rattle.road_workers.specs.declared.pool.job.Done.{Done};
+
 use crate::gate::Gate;
 use crate::pool::job::{Done, Job};
 use crate::pool::spin::Lookout;
@@ -25,21 +31,32 @@ pub(crate) fn work<R: Wait, G: Gate>(
             return;
         };
         gate.arrive(worker);
-        if !is_given(rt, job.done(alloc), results) {
+        if !is_given(rt, job.done(alloc), |done: Done| results.send(rt, done)) {
             return;
         }
     }
 }
 
-// Gives a result, which is offered again where there was no memory to give it. Answers whether somebody takes results.
-fn is_given<R: Wait>(rt: &R, done: Done, results: &Sender<Done>) -> bool {
-    let mut done = done;
+// Gives a result by this send, and again where there was no memory to give it. Answers whether it was taken; else
+// nobody takes results.
+fn is_given<R: Wait, F: Fn(Done) -> Result<(), SendError<Done>>>(
+    rt: &R,
+    done: Done,
+    send: F,
+) -> bool
+    requires may_send { F.IsAlwaysCallable send }
+    requires handed_back { (given : Done) → (fault : SendError Done) → F.post send given (Err fault)
+        → send_message fault ≡ given }
+    ensures taken { IsTrue result → F.post send done (Ok tt) }
+    ensures nobody { IsFalse result → F.post send done (Err (Disconnected done)) }
+{
+    let mut again = done;
     for _ in rt.forever() {
-        match results.send(rt, done) {
+        match send(again) {
             Ok(()) => return true,
             Err(SendError::Disconnected(_)) => return false,
-            Err(SendError::OutOfMemory(back)) => done = back,
+            Err(SendError::OutOfMemory(back)) => again = back,
         }
     }
-    false
+    unreachable!()
 }

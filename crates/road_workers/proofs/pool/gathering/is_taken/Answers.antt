@@ -15,12 +15,14 @@ returns-clause-gathered c =
     let worker = c.in-Some.place in
     let done = c.args.done in
     let answer = done.answer in
-    let found = c.in-Some.ensures in
+    let missing = c.in-Some.ensures.missing in
+    let of_first = c.in-Some.ensures.first in
+    let of_end = c.in-Some.ensures.end in
     let slice = c.as_slice.ensures.value in
     let cars = c.requires.cars in
-    let inside : worker < length places = let within = found.0 in grind rules in
-    let from : done.piece.first ≡ piece_start (length places) (length (cars_of input.road)) worker = let first = found.1 in grind rules in
-    let to : done.piece.end ≡ piece_start (length places) (length (cars_of input.road)) (worker + 1) = let end = found.2 in grind rules in
+    let inside : worker < length places = let within = missing.0 in grind rules in
+    let from : done.piece.first ≡ piece_start (length places) (length (cars_of input.road)) worker = let first = of_first in grind rules in
+    let to : done.piece.end ≡ piece_start (length places) (length (cars_of input.road)) (worker + 1) = let end = of_end in grind rules in
     let same = c.same.ensures in
     let test = c.if-not-same.ensures in
     let value = c.deref.ensures in
