@@ -1,5 +1,5 @@
 -- What a detector counts depends on the cells near its site alone.
-use Rattle.std.specs.Prelude.{◌≡◌, ℕ, zero, suc, ◌+◌, ◌-◌, ◌<◌, ◌≤◌, ◌&&◌, ◌++◌, Bool, true, false, cond, List, [], ◌∷◌, length, map, sum, nat_lt, nat_le, slice_index, refl}
+use Rattle.std.specs.Prelude.{◌≡◌, ℕ, suc, ◌+◌, ◌-◌, ◌<◌, ◌≤◌, ◌&&◌, ◌++◌, Bool, true, false, cond, List, [], ◌∷◌, length, map, sum, nat_lt, nat_le, slice_index, refl}
 use Rattle.std.specs.List.{filter, slice_index_or}
 use Rattle.std.specs.declared.option.Option.{Option}
 use Rattle.std.specs.declared.option.Option.TheVariants.{None, Some}
@@ -9,8 +9,7 @@ use Rattle.std.proofs.lemmas.Bool.Decides.{nat_tests}
 use Rattle.road_plan.specs.Plan.{Plan}
 use Rattle.road_plan.specs.Settings.{Settings}
 use Rattle.road_cells.specs.Array.{Array, Vehicle, vehicle_at}
-use Rattle.road_cells.specs.Cars.{cars_of, cars_from, car_of, vehicle_of}
-use Rattle.road_cells.specs.declared.car.Car.{Car}
+use Rattle.road_cells.specs.Cars.{cars_of, cars_from, vehicle_of}
 use Rattle.road_cells.specs.declared.car.TheConstants.{GREATEST_SPEED}
 use Rattle.road_ends.specs.Entries.{road_with_entries}
 use Rattle.road_ends.specs.Speed.{speed}
@@ -18,11 +17,10 @@ use Rattle.road_ends.specs.Laws.{AgreeBetween}
 use Rattle.road_ends.proofs.NoCollision.{speed-most}
 use Rattle.road_ends.proofs.CellsNearby.{entries-here, speed-ahead}
 use Rattle.road_detector.specs.Laws.{CountCellsNearby}
-use Rattle.road_detector.specs.Passes.{Drive, drives, is_passing, passing_speeds, totals_of, no_totals}
-use Rattle.road_detector.specs.declared.counts.Totals.{Totals}
+use Rattle.road_detector.specs.Passes.{Drive, drives, is_passing, passing_speeds, no_totals}
 
 -- what the cells of an array give, one behind the other
-walk : (ℕ → Option Vehicle → List ℕ) → Array → List ℕ
+abbrev walk : (ℕ → Option Vehicle → List ℕ) → Array → List ℕ
 walk f [] = []
 walk f (o ∷ places) = f 0 o ++ walk (λ c. f (suc c)) places
 
@@ -39,31 +37,29 @@ same_walk f g nothing_f nothing_g (o ∷ x) (u ∷ y) same =
 
 -- the speed that a car at a cell has, where it passes the site by it
 abbrev passing : ℕ → ℕ → (Vehicle → ℕ) → Option Vehicle → List ℕ
-passing site c speed None = []
-passing site c speed (Some v) = cond (is_passing site (record { cell = c; speed = speed v })) (speed v ∷ []) []
+passing site c drive None = []
+passing site c drive (Some v) = cond (is_passing site (record { cell = c; speed = drive v })) (drive v ∷ []) []
 
 -- the speeds of the cars that pass a site, cell by cell
-passing_cars : (site : ℕ) (speed : ℕ → Vehicle → ℕ) (k : ℕ) (a : Array)
-    → passing_speeds site (drives (cars_from k a) (map (λ car. speed car.cell (vehicle_of car)) (cars_from k a))) ≡ walk (λ c. passing site (k + c) (speed (k + c))) a
-passing_cars site speed k [] = refl
-passing_cars site speed k (None ∷ places) = passing_cars site speed (k + 1) places ∙ (λ i. walk (λ c. passing site (further k c i) (speed (further k c i))) places)
+passing_cars : (site : ℕ) (drive : ℕ → Vehicle → ℕ) (k : ℕ) (a : Array)
+    → passing_speeds site (drives (cars_from k a) (map (λ car. drive car.cell (vehicle_of car)) (cars_from k a))) ≡ walk (λ c. passing site (k + c) (drive (k + c))) a
+passing_cars site drive k [] = refl
+passing_cars site drive k (None ∷ places) = passing_cars site drive (k + 1) places ∙ (λ i. walk (λ c. passing site (further k c i) (drive (further k c i))) places)
   where
     further : (k c : ℕ) → k + 1 + c ≡ k + suc c
     further k c = omega arith
-passing_cars site speed k (Some v ∷ places) =
-    front (is_passing site (record { cell = k; speed = speed k v }))
-    ∙ (λ i. passing site (here k i) (speed (here k i)) (Some v) ++ (passing_cars site speed (k + 1) places ∙ (λ j. walk (λ c. passing site (further k c j) (speed (further k c j))) places)) i)
+passing_cars site drive k (Some v ∷ places) =
+    front (drives (cars_from (k + 1) places) (map (λ car. drive car.cell (vehicle_of car)) (cars_from (k + 1) places))) (is_passing site (record { cell = k; speed = drive k v }))
+    ∙ (λ i. passing site (here k i) (drive (here k i)) (Some v) ++ (passing_cars site drive (k + 1) places ∙ (λ j. walk (λ c. passing site (further k c j) (drive (further k c j))) places)) i)
   where
     further : (k c : ℕ) → k + 1 + c ≡ k + suc c
     further k c = omega arith
     here : (k : ℕ) → k ≡ k + 0
     here k = omega arith
-    abbrev rest : List Drive
-    rest = drives (cars_from (k + 1) places) (map (λ car. speed car.cell (vehicle_of car)) (cars_from (k + 1) places))
-    front : (b : Bool) → map (λ (x : Drive). x.speed) (cond b (record { cell = k; speed = speed k v } ∷ filter (is_passing site) rest) (filter (is_passing site) rest))
-        ≡ cond b (speed k v ∷ []) [] ++ passing_speeds site rest
-    front true = refl
-    front false = refl
+    front : (rest : List Drive) (b : Bool) → map (λ (x : Drive). x.speed) (cond b (record { cell = k; speed = drive k v } ∷ filter (is_passing site) rest) (filter (is_passing site) rest))
+        ≡ cond b (drive k v ∷ []) [] ++ passing_speeds site rest
+    front rest true = refl
+    front rest false = refl
 
 module _ (p : Plan) (s : Settings) (t site : ℕ) (x y : Array) (agree : AgreeBetween (site - GREATEST_SPEED) (site + GREATEST_SPEED) x y) where
   late : (c v : ℕ) → site ≤ c → is_passing site (record { cell = c; speed = v }) ≡ false
@@ -127,8 +123,5 @@ module _ (p : Plan) (s : Settings) (t site : ℕ) (x y : Array) (agree : AgreeBe
 
 -- the totals are those of the speeds
 pub count_cells_nearby : (p : Plan) → CountCellsNearby p
-count_cells_nearby p s t d x y agree = λ i.
-    cond (slice_index_or s.watched d false) (counted (passed-nearby p s t (slice_index p.detectors d) x y agree i)) no_totals
-  where
-    abbrev counted : List ℕ → Totals
-    counted speeds = record { cars = length speeds; speeds = sum speeds }
+count_cells_nearby p s t d x y agree =
+    ap (λ speeds. cond (slice_index_or s.watched d false) (record { cars = length speeds; speeds = sum speeds }) no_totals) (passed-nearby p s t (slice_index p.detectors d) x y agree)
