@@ -2,4 +2,5 @@
 pub mod CarsPassing
 pub mod MarkedRow
 pub mod CarsPassOneByOne
+pub mod CountsNearby
 mod Examples

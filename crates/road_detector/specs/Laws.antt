@@ -1,11 +1,14 @@
 -- Laws of the detectors of every run of a plan.
-use Rattle.std.specs.Prelude.{ℕ, ◌*◌, ◌-◌, ◌≤◌}
+use Rattle.std.specs.Prelude.{◌≡◌, ℕ, ◌+◌, ◌*◌, ◌-◌, ◌≤◌, slice_index}
 use Rattle.road_plan.specs.Plan.{Plan}
 use Rattle.road_plan.specs.declared.limits.TheConstants.{GREATEST_HORIZON}
 use Rattle.road_cells.specs.declared.car.TheConstants.{GREATEST_SPEED}
+use Rattle.road_plan.specs.Settings.{Settings}
+use Rattle.road_cells.specs.Array.{Array}
 use Rattle.road_cells.specs.Cars.{cars_of}
 use Rattle.road_ends.specs.Run.{Course, run}
-use Rattle.road_detector.specs.Passes.{passes, total}
+use Rattle.road_ends.specs.Laws.{AgreeBetween}
+use Rattle.road_detector.specs.Passes.{passes, passes_from, total}
 use Rattle.road_detector.specs.declared.counts.Totals.{Totals}
 use Rattle.road_detector.specs.Rows.{HaveDigits}
 
@@ -40,3 +43,10 @@ BoundTotalsOfLongestRun p = (course : Course) (d a b : ℕ) → b ≤ GREATEST_H
 -- the speed of each car of a run is a digit, so each state has a row
 abbrev pub HaveDigitsInRuns : Plan → Type 0
 HaveDigitsInRuns p = (course : Course) (t : ℕ) → HaveDigits (cars_of (run p course t))
+
+-- locality in space: on roads that agree on the 9 cells behind a detector's site and as many from it on, it counts the
+-- same in a step, by the same settings
+abbrev pub CountCellsNearby : Plan → Type 0
+CountCellsNearby p = (s : Settings) (t d : ℕ) (x y : Array)
+    → AgreeBetween (slice_index p.detectors d - GREATEST_SPEED) (slice_index p.detectors d + GREATEST_SPEED) x y
+    → passes_from p s t x d ≡ passes_from p s t y d

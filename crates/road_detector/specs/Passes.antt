@@ -3,6 +3,8 @@ use Rattle.std.specs.Prelude.{ℕ, ◌+◌, ◌-◌, ◌&&◌, Bool, false, List
 use Rattle.std.specs.Prelude.{slice_index, if◌then◌else◌}
 use Rattle.std.specs.List.{filter, slice_index_or, range_with_len}
 use Rattle.road_plan.specs.Plan.{Plan}
+use Rattle.road_plan.specs.Settings.{Settings}
+use Rattle.road_cells.specs.Array.{Array}
 use Rattle.road_cells.specs.Cars.{cars_before, cars_of}
 use Rattle.road_cells.specs.declared.car.Car.{Car}
 use Rattle.road_ends.specs.Input.{StepInput, input_of, input_speeds}
@@ -48,9 +50,13 @@ before_at input d =
     if slice_index_or input.settings.watched d false
     then cars_before (slice_index input.plan.detectors d) (cars_of input.road) else 0
 
+-- what a detector counts in step t from an array
+abbrev pub passes_from : Plan → Settings → ℕ → Array → ℕ → Totals
+passes_from p s t a d = let input = input_of p s t a in passes_at input (input_speeds input) d
+
 -- what a detector counts in step t of a run
 abbrev pub passes : Plan → Course → ℕ → ℕ → Totals
-passes p course d t = let input = input_of p (course t) t (run p course t) in passes_at input (input_speeds input) d
+passes p course d t = passes_from p (course t) t (run p course t) d
 
 -- totals, one after another
 abbrev pub plus : Totals → Totals → Totals

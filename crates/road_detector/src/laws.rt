@@ -1,7 +1,8 @@
 //! Laws of the detectors of every run of a plan, for every course of settings. The functions do nothing when they run:
 //! each law is its function's contract.
 
-ghost use Rattle.road_detector.specs.Laws.{PassOneByOne, BoundTotals, BoundTotalsOfLongestRun, HaveDigitsInRuns};
+ghost use Rattle.road_detector.specs.Laws.{PassOneByOne, BoundTotals, BoundTotalsOfLongestRun, CountCellsNearby};
+ghost use Rattle.road_detector.specs.Laws.{HaveDigitsInRuns};
 
 use road_ends::laws::{cars_keep_below_greatest_speed, cars_never_collide, cars_stay_on_road};
 use road_plan::Plan;
@@ -34,4 +35,11 @@ pub fn cars_have_digits(plan: &Plan)
     ensures { HaveDigitsInRuns plan.now }
 {
     cars_stay_on_road(plan);
+}
+
+/// Locality in space: what a detector counts in a step depends on the 9 cells behind its site and as many from it on.
+pub fn counts_depend_on_cells_nearby(plan: &Plan)
+    ensures { CountCellsNearby plan.now }
+{
+    let _ = plan;
 }

@@ -30,7 +30,7 @@ same_place n f g c same = elim (cases_lt c n) as (λ _. vehicle_at (array n f) c
 ]
 
 -- who enters at a cell depends on what stands there alone
-entries-here : (p : Plan) (s : Settings) (t : ℕ) (x y : Array) (c : ℕ) → vehicle_at x c ≡ vehicle_at y c → vehicle_at (road_with_entries p s t x) c ≡ vehicle_at (road_with_entries p s t y) c
+pub entries-here : (p : Plan) (s : Settings) (t : ℕ) (x y : Array) (c : ℕ) → vehicle_at x c ≡ vehicle_at y c → vehicle_at (road_with_entries p s t x) c ≡ vehicle_at (road_with_entries p s t y) c
 entries-here p s t x y c same = same_place p.cells _ _ c (ap (λ o. option_or o (entry_at p s t c)) same)
 
 -- a gap depends on the cells in front alone
@@ -38,7 +38,7 @@ gap-ahead : (p : Plan) (s : Settings) (x y : Array) (c : ℕ) → ((d : ℕ) →
 gap-ahead p s x y c same = free_before-same (is_taken_on_road p s x) (is_taken_on_road p s y) GREATEST_SPEED (c + 1) (λ d from to i. nat_lt d p.cells && (is_some (same d (omega arith) (omega arith) i) || is_blocked s.blocks d))
 
 -- so does the speed of a car
-speed-ahead : (p : Plan) (s : Settings) (t : ℕ) (x y : Array) (c : ℕ) (car : Vehicle) → ((d : ℕ) → c < d → d ≤ c + GREATEST_SPEED → vehicle_at x d ≡ vehicle_at y d) → speed p s t x c car ≡ speed p s t y c car
+pub speed-ahead : (p : Plan) (s : Settings) (t : ℕ) (x y : Array) (c : ℕ) (car : Vehicle) → ((d : ℕ) → c < d → d ≤ c + GREATEST_SPEED → vehicle_at x d ≡ vehicle_at y d) → speed p s t x c car ≡ speed p s t y c car
 speed-ahead p s t x y c car same = ap (λ free. slowed_speed (wanted_speed car.speed (slice_index s.limits (zone_of p c)) free) (is_slowed p s t (zone_of p c) car)) (gap-ahead p s x y c same)
 
 -- a car does not come to a cell that lies behind it, or farther ahead than it drives

@@ -1,11 +1,12 @@
 //! The input of a step, and the speeds of its cars.
 
-ghost use Rattle.std.specs.Prelude.{◌≡◌, ◌≤◌, length, IfOk, IfSome, IsTrue, IsFalse, OnErr, OnOk};
+ghost use Rattle.std.specs.Prelude.{◌≡◌, ◌≤◌, ℕ, length, IfOk, IfSome, IsTrue, IsFalse, OnErr, OnOk};
 ghost use Rattle.std.specs.Arc.{arc_value};
 ghost use Rattle.std.specs.Box.{box_value};
 ghost use Rattle.road_plan.specs.Plan.{IsWithinLimits};
 ghost use Rattle.road_plan.specs.declared.limits.TheConstants.{GREATEST_LENGTH};
 ghost use Rattle.road_plan.specs.Settings.{Fits};
+ghost use Rattle.road_words.specs.Words.{word};
 ghost use Rattle.road_ends.specs.Input.{input_of, input_speeds};
 ghost use Rattle.road_ends.specs.Private.StepColumns.{AreColumns, AreHigh16s};
 
@@ -20,6 +21,7 @@ use crate::pass::speeds;
 use crate::word_cache::WordCache;
 use road_cells::Road;
 use road_plan::{Plan, Settings};
+use road_words::{PlanWords, Words};
 use std::alloc::Global;
 use std::marker::Model;
 use std::mem;
@@ -119,6 +121,14 @@ impl StepInput {
         ensures fits { Fits self.now.plan self.now.settings }
     {
         &self.settings
+    }
+
+    /// Returns the random words of the plan.
+    pub fn words(&self) -> PlanWords
+        ensures { (stream place : ℕ) →
+            ⟦<PlanWords as Words>⟧.word_of result stream place ≡ word self.now.plan.words stream place }
+    {
+        PlanWords::of(&self.plan)
     }
 
     /// Computes the new speeds of all cars of the step, in their order.

@@ -5,6 +5,7 @@ use crate::rows::row_of;
 use road_cells::{Car, Road};
 use road_ends::{Meter, OutOfMemory, StepInput, enter, finish, step_alone};
 use road_plan::{Plan, Settings, WordKind};
+use road_words::Words;
 use std::alloc::Global;
 use std::process::Abort;
 use std::sync::Arc;
@@ -648,5 +649,15 @@ fn goes_by_the_words_of_each_inlet_and_car(rt: HostRuntime) -> Result<(), Fail> 
         let cars = after_step_one(rt.alloc(), parts, *car)?;
         assert!(rt; cars.as_slice() == *want, "row {row}");
     }
+    Ok(())
+}
+
+#[test]
+fn an_input_has_the_words_of_its_plan(rt: HostRuntime) -> Result<(), Fail> {
+    let alloc = rt.alloc();
+    let plan = Arc::new(alloc, plan_of(alloc, &STEADY)?)?;
+    let input = input_of_step_one(alloc, &plan, &Road::empty(alloc))?;
+    // (48 * 40,503 + 5 * 30,011) mod 65,536 is 62,583.
+    assert_eq!(rt; input.words().word(48, 5), 62_583 * 65_536);
     Ok(())
 }
