@@ -1,5 +1,5 @@
 -- What a BTreeMap finds, puts and is built of, by entries.
-use Rattle.std.proofs.Common.{◌≡◌, Bool, true, false, cond, ◌&&◌, T, List, [], ◌∷◌, refl, sym, ap, subst, ◌∙◌}
+use Rattle.std.proofs.Common.{◌≡◌, Bool, true, false, cond, ◌&&◌, T, List, [], ◌∷◌, ◌++◌, append_assoc, refl, sym, ap, subst, ◌∙◌}
 use Rattle.std.proofs.lemmas.Cmp.{eq_by_cmp_equiv}
 use Rattle.std.proofs.lemmas.Map.Keys.{IsDistinct-from_sorted}
 use Rattle.std.proofs.lemmas.Map.Made.{update_all_none}
@@ -13,8 +13,9 @@ use Rattle.std.specs.FinMap.Entries.{find, is_sorted, put, by_order, below_all, 
 use Rattle.std.specs.List.{AllByRecursion}
 use Rattle.std.specs.List.Sorted.{IsStrictlySortedBy}
 use Rattle.std.specs.Map.{lookup, keys_of}
-use Rattle.std.specs.Ordering.{is_eq, is_lt, eq_by_cmp, match_ordering}
+use Rattle.std.specs.Ordering.{is_eq, is_lt, eq_by_cmp, match_ordering, ordering_reverse}
 use Rattle.lattice_core.specs.Exact.{IsExact}
+use Rattle.lattice_core.specs.Instances.TestAnswers.{first_of_both, second_of_both}
 use Rattle.lattice_core.specs.Map.{join_option}
 use Rattle.lattice_core.specs.Private.EntryLists.{put_joined}
 
@@ -47,6 +48,11 @@ both_hold false b p q = absurd p
 below : (r : Ordering) → r ≡ Less → T (is_lt r)
 below r h = subst (λ r. T (is_lt r)) (sym h) tt
 
+above : (r : Ordering) → T (is_lt r) → ordering_reverse r ≡ Greater
+above Less h = refl
+above Equal h = absurd h
+above Greater h = absurd h
+
 module _ {K V : Type 0} (cmp : K → K → Ordering) where
   below_keys : (k : K) (es : List (K × V)) → AllByRecursion (λ y. cmp k y ≡ Less) (keys_of es) → T (below_all cmp k es)
   below_keys k [] h = tt
@@ -57,6 +63,27 @@ module _ {K V : Type 0} (cmp : K → K → Ordering) where
   unfolding IsStrictlySortedBy
   sorted-keys [] h = tt
   sorted-keys (e ∷ es) h = both_hold _ _ (below_keys e.0 es h.0) (sorted-keys es h.1)
+
+  below_middle : (q : K) (es : List (K × V)) (e : K × V) (fs : List (K × V)) → T (below_all cmp q (es ++ e ∷ fs)) → T (is_lt (cmp q e.0))
+  below_middle q [] e fs h = first_of_both _ _ h
+  below_middle q (x ∷ es) e fs h = below_middle q es e fs (second_of_both (is_lt (cmp q x.0)) _ h)
+
+  -- an entry above all others goes to the end
+  put-last : IsTotalOrder cmp → (es : List (K × V)) (k : K) (v : V) (fs : List (K × V)) → T (is_sorted cmp (es ++ (k, v) ∷ fs))
+      → put cmp k v es ≡ es ++ (k, v) ∷ []
+  put-last total [] k v fs h = refl
+  put-last total (e ∷ es) k v fs h =
+      let greater : cmp k e.0 ≡ Greater = total.antisymm k e.0 ∙ above _ (below_middle e.0 es (k, v) fs (first_of_both _ _ h)) in
+      ap (λ r. by_order r ((k, v) ∷ e ∷ es) ((e.0, v) ∷ es) (e ∷ put cmp k v es)) greater
+      ∙ ap (λ x. e ∷ x) (put-last total es k v fs (second_of_both (below_all cmp e.0 (es ++ (k, v) ∷ fs)) _ h))
+
+  -- the next entry of a map goes to the end of those before it
+  pub copied_turn : IsTotalOrder cmp → (old new it rest all : List (K × V)) (k : K) (v w : V) → it ≡ (k, v) ∷ rest → old ++ it ≡ all
+      → T (is_sorted cmp all) → new ≡ put cmp k w old → w ≡ v → new ++ rest ≡ all
+  copied_turn total old new it rest all k v w steps inv sorted made same =
+      let whole : old ++ (k, v) ∷ rest ≡ all = ap (λ x. old ++ x) (sym steps) ∙ inv in
+      ap (λ x. x ++ rest) (made ∙ ap (λ x. put cmp k x old) same ∙ put-last total old k v rest (subst (λ x. T (is_sorted cmp x)) (sym whole) sorted))
+      ∙ append_assoc old ((k, v) ∷ []) rest ∙ whole
 
   -- a BTreeMap that is built of the entries of another has these
   pub built : IsTotalOrder cmp → IsExact cmp → (es : List (K × V)) (m : BTreeMap K V)

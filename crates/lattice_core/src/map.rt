@@ -17,6 +17,9 @@ use std::collections::btree_map::{Iter, Keys, Range};
 use std::marker::Model;
 use std::ops::Bound;
 
+// How many entries are copied one by one: they fit into one node of the map.
+const FEW: usize = 8;
+
 /// A map to a lattice, joined key by key. It never holds a bottom, so that two maps which give equal values at every
 /// key are equal. Contracts see the list of its entries by rising key. A copy builds the map anew, in its order. A join
 /// copies the map that has more entries, and takes one look-up and one insertion for each entry of the other.
@@ -113,6 +116,27 @@ impl<K: Exact, V: Lattice> LatMap<K, V> {
         if self.map.is_empty() {
             return Ok(BTreeMap::new(self.alloc));
         }
+        if self.map.len() <= FEW {
+            return self.copied_one_by_one();
+        }
+        self.built_anew()
+    }
+
+    // Copies the entries one after another: what a few take in look-ups, they spare in allocations.
+    fn copied_one_by_one(&self) -> Result<BTreeMap<K, V>, OutOfMemory>
+        ensures { IfOk result (λ map. map.entries ≡ self.now) }
+    {
+        let mut map = BTreeMap::new(self.alloc);
+        for (key, value) in &self.map {
+            map.insert(*key, value.copied()?)?;
+        }
+        Ok(map)
+    }
+
+    // Copies the entries, and builds a map of them in one pass.
+    fn built_anew(&self) -> Result<BTreeMap<K, V>, OutOfMemory>
+        ensures { IfOk result (λ map. map.entries ≡ self.now) }
+    {
         let mut entries = Vec::with_capacity(self.alloc, self.map.len())?;
         for (key, value) in &self.map {
             entries.push((*key, value.copied()?))?;

@@ -178,7 +178,7 @@ impl Scenario {
     }
 
     /// Finds the first step after a step by which an edit is dated, a withdrawal too; none where there is no later one.
-    /// The settings of all steps before it are those of the step. It takes a look-up for each object and no memory.
+    /// The settings of all steps before it are those of the step. It takes few look-ups for each object and no memory.
     pub fn next_date(&self, step: u32) -> Option<u32>
         ensures date { result ≡ next_date self.now step }
         ensures settings { (plan : Plan) (t : ℕ) → step ≤ t → IsBefore t result →

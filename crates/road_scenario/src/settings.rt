@@ -7,7 +7,7 @@ ghost use Rattle.road_scenario.specs.Private.RegisterWalks as walks;
 ghost use Rattle.road_scenario.specs.Settings.{setting_without};
 
 use crate::edit::Value;
-use crate::registers::{RegistersByObject, RegistersByStep, Won};
+use crate::registers::{RegistersByObject, Won};
 use lattice_core::greatest::Greatest;
 use road_plan::{Object, OutOfMemory, Plan, Settings};
 
@@ -22,7 +22,7 @@ pub(crate) fn put_all(
     ensures { OnOk result (settings.new ≡ walks.settings_with_last_numbers step settings.old registers.now) }
 {
     for (object, steps) in registers.iter() {
-        match last_put(steps.value(), step) {
+        match steps.value().last_put(step) {
             Some(number) => put(settings, *object, number)?,
             None => {}
         }
@@ -80,23 +80,9 @@ pub(crate) fn number_of(registers: &RegistersByObject, object: Object, step: u32
     ensures { result ≡ walks.last_number step (walks.registers_of_object (⟦<Object as Ord>⟧.cmp) registers.now object) }
 {
     match registers.get(object) {
-        Some(steps) => last_put(steps.value(), step),
+        Some(steps) => steps.value().last_put(step),
         None => None,
     }
-}
-
-// Finds the last number put up to a step. The walk goes back from there, past withdrawals alone.
-fn last_put(steps: &RegistersByStep, step: u32) -> Option<u32>
-    ensures { result ≡ walks.last_number step steps.now }
-{
-    let mut earlier = steps.up_to(step);
-    while let Some((_, won)) = earlier.next_back() {
-        match number_put(won) {
-            Some(number) => return Some(number),
-            None => {}
-        }
-    }
-    None
 }
 
 // Returns the number that won: nothing where a withdrawal did.

@@ -9,6 +9,7 @@ use std::test::Fail;
 use tests_plans::{FREE, plan_of};
 
 mod plain;
+mod stretches;
 
 const LIMIT: Object = Object::Limit(0);
 

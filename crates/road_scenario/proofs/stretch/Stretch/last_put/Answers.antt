@@ -1,18 +1,20 @@
 -- Going back from a step, the first number that is met is the last one put.
 use Rattle.std.proofs.Common.{sym, ap, ◌∙◌}
+use Rattle.std.specs.Ordering.{nat_cmp}
+use Rattle.lattice_core.specs.Map.{entries_up_to}
 use Rattle.road_scenario.specs.Private.RegisterWalks.{last_number}
 use Rattle.road_scenario.proofs.LastNumbers.{last-up_to, last_found, last_further, last_number_of}
-use Rattle.road_scenario.proofs.settings.last_put.Goals as goal
+use Rattle.road_scenario.proofs.stretch.Stretch.last_put.Goals as goal
 
 pub loop-won-init : goal.loop-won-init
-loop-won-init c = ap last_number_of c.up_to-earlier.ensures ∙ last-up_to c.args.step c.args.steps.now
+loop-won-init c = ap last_number_of (c.up_to-earlier.ensures ∙ ap (entries_up_to nat_cmp c.args.step) c.self.view_is) ∙ last-up_to c.args.step c.args.self.now
 
 pub returns-in-Some-number_put : goal.returns-in-Some-number_put
 returns-in-Some-number_put c =
-    last_found c.loop-won.earlier c.next_back.new.self (c.in-Some.field-0-0.now, c.in-Some.won.now) c.number_put.result (last_number c.args.step c.args.steps.now) c.in-Some-number_put.number
+    last_found c.loop-won.earlier c.next_back.new.self (c.in-Some.field-0-0.now, c.in-Some.won.now) c.number_put.result (last_number c.args.step c.args.self.now) c.in-Some-number_put.number
     c.in-Some.ensures.steps c.number_put.ensures (sym c.in-Some-number_put.is) c.loop-won.invariant
 
 pub loop-won-preserved : goal.loop-won-preserved
 loop-won-preserved c =
-    last_further c.loop-won.earlier c.next_back.new.self (c.in-Some.field-0-0.now, c.in-Some.won.now) c.number_put.result (last_number c.args.step c.args.steps.now)
+    last_further c.loop-won.earlier c.next_back.new.self (c.in-Some.field-0-0.now, c.in-Some.won.now) c.number_put.result (last_number c.args.step c.args.self.now)
     c.in-Some.ensures.steps c.number_put.ensures (sym c.in-None.is) c.loop-won.invariant

@@ -8,7 +8,7 @@ use Rattle.std.specs.BTreeMap.{IsFromIterResult}
 use Rattle.std.specs.List.Sorted.{IsStrictlySortedBy}
 use Rattle.std.specs.Map.{keys_of}
 use Rattle.lattice_core.proofs.MapLoops.{built}
-use Rattle.lattice_core.proofs.map.LatMap.copied_entries.Goals as goal
+use Rattle.lattice_core.proofs.map.LatMap.built_anew.Goals as goal
 
 pub loop-key-init : goal.loop-key-init
 loop-key-init g c =
@@ -22,8 +22,8 @@ loop-key-preserved g c =
     ∙ ap (λ v. c.loop-key.entries.items ++ (c.in-Some.key.now, v) ∷ c.next.new.self) c.in_ok-copied.ensures
     ∙ ap (λ es. c.loop-key.entries.items ++ es) (sym c.in-Some.ensures.steps) ∙ c.loop-key.invariant
 
-pub returns-clause-made : goal.returns-clause-made
-returns-clause-made g c =
+pub returns : goal.returns
+returns g c =
     let cmp = g.K.Ord.cmp in
     let items = c.loop-key.entries.items in
     let all : items ≡ c.args.self.now =

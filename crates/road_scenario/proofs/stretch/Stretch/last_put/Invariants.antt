@@ -1,12 +1,12 @@
--- The registers of an object are walked back from a step until one puts a number.
+-- The registers of a stretch are walked back from a step until one puts a number.
 use Rattle.std.proofs.Common.{◌≡◌, length}
 use Rattle.road_scenario.specs.Private.RegisterWalks.{last_number}
 use Rattle.road_scenario.proofs.LastNumbers.{last_number_of}
-use Rattle.road_scenario.proofs.settings.last_put.Given as goal
+use Rattle.road_scenario.proofs.stretch.Stretch.last_put.Given as goal
 
 -- the last number of what is left is the one sought
 abbrev pub invariant-loop-won : goal.invariant-loop-won
-invariant-loop-won l = last_number_of l.earlier ≡ last_number l.step l.steps
+invariant-loop-won l = last_number_of l.earlier ≡ last_number l.step l.self
 
 abbrev pub decreases-loop-won : goal.decreases-loop-won
 decreases-loop-won l = length l.earlier
