@@ -6,7 +6,9 @@
      FAIL_PIECE   the most bytes that each such read gives or write takes; 0 for as many as asked
      FAIL_SCRIPT  the path of a script: its reads are counted as those of standard input, and its opening
      FAIL_COUNTS  a file of zeros, as long as struct counts, where the counts are kept
-   Reads are those of standard input and of the script, writes those to standard output; others are let through. */
+   Reads are those of standard input and of the script, writes those to standard output; others are let through.
+   A thread's start first allocates a block, which it hands to the new thread: the allocation is known by where in the program it is
+   called. The counts name these places, and that of the allocation that failed. */
 #define _GNU_SOURCE
 #include <dlfcn.h>
 #include <errno.h>
@@ -15,6 +17,7 @@
 #include <stdarg.h>
 #include <stdlib.h>
 #include <string.h>
+#include <sys/auxv.h>
 #include <sys/mman.h>
 #include <sys/syscall.h>
 #include <sys/uio.h>
@@ -22,11 +25,15 @@
 
 enum kind { MEMORY, THREAD, OPEN, READ, WRITE, KINDS };
 
+enum { PLACES = 16 };
+
 struct counts {
     long calls[KINDS];
     long bytes[KINDS];
     long failed;          /* how many calls were made to fail */
-    long starting;        /* 1 where the one that failed was part of a thread's start */
+    long starting;        /* 1 where the first that failed was made inside a thread's start */
+    long place;           /* from where in the program it was called, by its distance from the program's entry */
+    long starts[PLACES];  /* from where the blocks of threads are allocated; 0 behind the last */
 };
 
 /* The C library's own allocator, by names that this library does not take over. */
@@ -39,6 +46,8 @@ static long number, piece, lasting;
 static const char *script_path;
 static int (*real_create)(pthread_t *, const pthread_attr_t *, void *(*)(void *), void *);
 static __thread int starting;
+static __thread void *last_block;
+static __thread long last_place;
 
 static long number_in(const char *name) {
     const char *said = getenv(name);
@@ -59,13 +68,16 @@ __attribute__((constructor)) static void begin(void) {
     if (kept != MAP_FAILED) counts = kept;      /* from here on calls are counted */
 }
 
+/* Where in the program a call returns to. */
+static long place_of(void *where) { return (long)where - (long)getauxval(AT_ENTRY); }
+
 /* Counts a call of a kind, and says whether it is to fail. */
-static int fails(enum kind kind) {
+static int fails(enum kind kind, long place) {
     if (!counts) return 0;
     long now = __atomic_add_fetch(&counts->calls[kind], 1, __ATOMIC_SEQ_CST);
     if ((int)kind != chosen || number == 0 || now < number || (now > number && !lasting)) return 0;
     __atomic_add_fetch(&counts->failed, 1, __ATOMIC_SEQ_CST);
-    counts->starting = starting;
+    if (now == number) counts->starting = starting, counts->place = place;
     errno = way;
     return 1;
 }
@@ -79,28 +91,46 @@ static ssize_t moved(enum kind kind, ssize_t count) {
     return count;
 }
 
-void *malloc(size_t size) { return fails(MEMORY) ? NULL : __libc_malloc(size); }
-void *calloc(size_t items, size_t size) { return fails(MEMORY) ? NULL : __libc_calloc(items, size); }
-void *realloc(void *old, size_t size) { return fails(MEMORY) ? NULL : __libc_realloc(old, size); }
-void *aligned_alloc(size_t unit, size_t size) { return fails(MEMORY) ? NULL : __libc_memalign(unit, size); }
-void *memalign(size_t unit, size_t size) { return fails(MEMORY) ? NULL : __libc_memalign(unit, size); }
+/* Notes that this thread allocated a block last, and from where. */
+static void *noted(void *block, long place) {
+    last_block = block, last_place = place;
+    return block;
+}
+
+/* Notes that a thread is started with a block, where this thread allocated that last. */
+static void note_start(void *block) {
+    if (!counts || !block || block != last_block) return;
+    for (int i = 0; i < PLACES; i++) {
+        long none = 0;
+        if (__atomic_compare_exchange_n(&counts->starts[i], &none, last_place, 0, __ATOMIC_SEQ_CST, __ATOMIC_SEQ_CST)) return;
+        if (none == last_place) return;
+    }
+}
+
+#define PLACE place_of(__builtin_return_address(0))
+void *malloc(size_t size) { return fails(MEMORY, PLACE) ? NULL : noted(__libc_malloc(size), PLACE); }
+void *calloc(size_t items, size_t size) { return fails(MEMORY, PLACE) ? NULL : noted(__libc_calloc(items, size), PLACE); }
+void *realloc(void *old, size_t size) { return fails(MEMORY, PLACE) ? NULL : __libc_realloc(old, size); }
+void *aligned_alloc(size_t unit, size_t size) { return fails(MEMORY, PLACE) ? NULL : noted(__libc_memalign(unit, size), PLACE); }
+void *memalign(size_t unit, size_t size) { return fails(MEMORY, PLACE) ? NULL : noted(__libc_memalign(unit, size), PLACE); }
 
 int posix_memalign(void **made, size_t unit, size_t size) {
-    void *got = fails(MEMORY) ? NULL : __libc_memalign(unit, size);
+    void *got = fails(MEMORY, PLACE) ? NULL : __libc_memalign(unit, size);
     if (!got) return ENOMEM;
-    *made = got;
+    *made = noted(got, PLACE);
     return 0;
 }
 
 /* The program's own mappings; those that the C library makes for itself do not come here. */
 void *mmap(void *place, size_t size, int rights, int flags, int file, off_t from) {
-    if (flags & MAP_ANONYMOUS && fails(MEMORY)) return MAP_FAILED;
+    if (flags & MAP_ANONYMOUS && fails(MEMORY, PLACE)) return MAP_FAILED;
     return (void *)syscall(SYS_mmap, place, size, rights, flags, file, from);
 }
 void *mmap64(void *, size_t, int, int, int, off_t) __attribute__((alias("mmap")));
 
 int pthread_create(pthread_t *thread, const pthread_attr_t *how, void *(*what)(void *), void *with) {
-    if (fails(THREAD)) return way;
+    if (fails(THREAD, PLACE)) return way;
+    note_start(with);
     starting = 1;
     int ended = real_create(thread, how, what, with);
     starting = 0;
@@ -113,7 +143,7 @@ int open(const char *path, int flags, ...) {
     int rights = flags & (O_CREAT | __O_TMPFILE) ? va_arg(more, int) : 0;
     va_end(more);
     int is_script = script_path && !strcmp(path, script_path);
-    if (is_script && fails(OPEN)) return -1;
+    if (is_script && fails(OPEN, PLACE)) return -1;
     int file = (int)syscall(SYS_openat, AT_FDCWD, path, flags, rights);
     if (is_script) script = file;
     return file;
@@ -122,14 +152,14 @@ int open64(const char *, int, ...) __attribute__((alias("open")));
 
 ssize_t read(int file, void *bytes, size_t size) {
     if (file != 0 && (file < 0 || file != script)) return syscall(SYS_read, file, bytes, size);
-    if (fails(READ)) return way ? -1 : 0;
+    if (fails(READ, PLACE)) return way ? -1 : 0;
     return moved(READ, syscall(SYS_read, file, bytes, at_most(READ, size)));
 }
 ssize_t __read(int, void *, size_t) __attribute__((alias("read")));
 
 ssize_t write(int file, const void *bytes, size_t size) {
     if (file != 1) return syscall(SYS_write, file, bytes, size);
-    if (fails(WRITE)) return way ? -1 : 0;
+    if (fails(WRITE, PLACE)) return way ? -1 : 0;
     return moved(WRITE, syscall(SYS_write, file, bytes, at_most(WRITE, size)));
 }
 ssize_t __write(int, const void *, size_t) __attribute__((alias("write")));
@@ -137,13 +167,13 @@ ssize_t __write(int, const void *, size_t) __attribute__((alias("write")));
 ssize_t readv(int file, const struct iovec *pieces, int count) {
     if (file != 0 && (file < 0 || file != script)) return syscall(SYS_readv, file, pieces, count);
     if (piece > 0 && count > 0) return read(file, pieces[0].iov_base, pieces[0].iov_len);
-    if (fails(READ)) return way ? -1 : 0;
+    if (fails(READ, PLACE)) return way ? -1 : 0;
     return moved(READ, syscall(SYS_readv, file, pieces, count));
 }
 
 ssize_t writev(int file, const struct iovec *pieces, int count) {
     if (file != 1) return syscall(SYS_writev, file, pieces, count);
     if (piece > 0 && count > 0) return write(file, pieces[0].iov_base, pieces[0].iov_len);
-    if (fails(WRITE)) return way ? -1 : 0;
+    if (fails(WRITE, PLACE)) return way ? -1 : 0;
     return moved(WRITE, syscall(SYS_writev, file, pieces, count));
 }

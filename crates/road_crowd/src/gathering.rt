@@ -74,6 +74,7 @@ fn left<J: Naming + Send + Sync, R: Wait + Drop + Send, W: Threads + Wait, G: Ga
     requires replica { prepared.replica ≡ J.replica }
     requires ledger { (prepared.ledger.name ≡ J.name) × (prepared.ledger.parts ≡ J.parts) }
     requires limit { prepared.limit ≡ J.limit }
+    requires room { prepared.limit ≡ crowd_writes (shares_of shares.now) }
     requires opening { prepared.replica ≡ replica_of_plan (arc_value plan.now) 0 }
     requires some { 0 < length shares.now }
     requires one_each { prepared.sessions ≡ length shares.now }

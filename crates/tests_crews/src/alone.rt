@@ -30,9 +30,9 @@ const CLOSED: Parts = Parts {
     ..FREE
 };
 
-/// No speed is a list that does not grow: the answer is the same where every allocation fails.
+/// Of no car there is no speed.
 #[test]
-fn an_empty_road_needs_no_speeds(rt: HostRuntime) -> Result<(), Fail> {
+fn an_empty_road_has_no_speeds(rt: HostRuntime) -> Result<(), Fail> {
     let input = first_input(rt.alloc(), &CLOSED)?;
     assert!(rt; input.road().cars().is_empty());
     let speeds = Alone.speeds(rt.alloc(), &input);

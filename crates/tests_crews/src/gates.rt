@@ -7,8 +7,8 @@ use std::sync::atomic::{AtomicBool, AtomicU32, Ordering};
 use std::thread;
 use std::time::{Clock, Duration};
 
-/// Holds each of the workers 0 and 1 until the other has arrived, or the turns are used up. A turn is a millisecond of
-/// sleep, so that a busy machine makes no turn long.
+/// Holds each of the workers 0 and 1 until the other has arrived, or the turns are used up. Each hundredth turn is a
+/// millisecond of sleep, so that the other one comes on a busy machine too.
 #[derive(Drop)]
 pub(crate) struct Meeting<R> {
     rt: R,
@@ -34,6 +34,15 @@ impl<R: Clock> Meeting<R> {
         self.has_first.load(Ordering::SeqCst) && self.has_second.load(Ordering::SeqCst)
     }
 
+    // Lets others run, in the turn of this number.
+    fn wait_a_turn(&self, turn: u32) {
+        if turn % 100 == 99 {
+            thread::sleep(&self.rt, Duration::from_millis(1));
+        } else {
+            thread::yield_now();
+        }
+    }
+
     /// Answers whether both have arrived, and neither before the other was there in vain.
     pub(crate) fn was_held(&self) -> bool {
         self.have_met() && self.missed.load(Ordering::SeqCst) == 0
@@ -48,11 +57,11 @@ impl<R: Clock> Gate for Meeting<R> {
             &self.has_second
         };
         own.store(true, Ordering::SeqCst);
-        for _ in 0..self.turns {
+        for turn in 0..self.turns {
             if self.have_met() {
                 return;
             }
-            thread::sleep(&self.rt, Duration::from_millis(1));
+            self.wait_a_turn(turn);
         }
         self.missed.fetch_add(1, Ordering::SeqCst);
     }

@@ -10,8 +10,6 @@ mod gates;
 #[cfg(test)]
 mod meetings;
 #[cfg(test)]
-mod refused;
-#[cfg(test)]
 mod rows;
 #[cfg(test)]
 mod sameness;

@@ -7,8 +7,8 @@ use std::sync::Arc;
 use std::test::Fail;
 use tests_plans::{DENSE, DENSE_ROWS};
 
-/// How often a worker looks for another one that comes.
-const TURNS: u32 = 10_000;
+/// How often a worker looks for another one at most.
+const TURNS: u32 = 1_000_000;
 
 #[test]
 fn threads_made_for_a_call_meet(rt: HostRuntime) -> Result<(), Fail> {

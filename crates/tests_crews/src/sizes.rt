@@ -1,4 +1,4 @@
-//! Lasting workers without a gate, on roads with few cars, which the caller computes, and with many, which they do.
+//! Lasting workers without a gate, on roads with few cars and with many.
 
 ghost use Rattle.std.specs.Prelude.{◌<◌, ◌≤◌};
 
@@ -36,8 +36,9 @@ fn queue(alloc: Global, cells: u32) -> Result<Road, OutOfMemory> {
     Ok(Road::of(cars))
 }
 
-/// How many cells are taken so, with 63, 7,938 and 8,064 cars: of two workers only on the last road each has enough.
-const CELLS: &[u32] = &[64, 8_064, 8_192];
+/// How many cells are taken so, with 5, 63 and 8,064 cars: the first are fewer than workers, the second no multiple of
+/// two.
+const CELLS: &[u32] = &[5, 64, 8_192];
 
 // Makes the input of a step of such a queue.
 fn input_of_queue(alloc: Global, cells: u32) -> Result<Arc<StepInput>, Fail> {

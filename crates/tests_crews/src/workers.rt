@@ -6,7 +6,7 @@ use crate::rows::gives_all;
 use road_workers::{NoGate, Pool, Scoped};
 use std::alloc::Global;
 use std::process::Abort;
-use std::sync::{Arc, Wait};
+use std::sync::Wait;
 use std::test::Fail;
 use std::thread::Threads;
 
@@ -27,7 +27,7 @@ fn threads_made_for_each_call_give_the_worked_rows(rt: HostRuntime) -> Result<()
     scoped_gives(&rt, rt.alloc(), 16)
 }
 
-// Compares them by lasting workers, who are asked at each step behind a gate.
+// Compares them by lasting workers.
 fn pool_gives<R: Threads + Wait + Abort + Clone + Drop + Send + 'static>(
     rt: &R,
     alloc: Global,
@@ -36,8 +36,7 @@ fn pool_gives<R: Threads + Wait + Abort + Clone + Drop + Send + 'static>(
     requires some { 0 < workers }
     requires few { workers ≤ 16 }
 {
-    let gate = Arc::new(alloc, NoGate)?;
-    let mut crew = Pool::start_gated(rt.clone()?, alloc, workers, gate)?;
+    let mut crew = Pool::start(rt.clone()?, alloc, workers)?;
     let given = gives_all(rt, alloc, &mut crew);
     crew.finish();
     given

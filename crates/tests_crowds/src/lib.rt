@@ -8,6 +8,4 @@ mod meetings;
 #[cfg(test)]
 mod orders;
 #[cfg(test)]
-mod refused;
-#[cfg(test)]
 mod worked;

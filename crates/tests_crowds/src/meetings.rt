@@ -7,11 +7,11 @@ use std::test::Fail;
 use std::thread;
 use std::time::{Clock, Duration};
 
-/// How often a session looks for the other one, which is fewer than 1,000,000 turns.
-const TURNS: u32 = 10_000;
+/// How often a session looks for the other one at most.
+const TURNS: u32 = 1_000_000;
 
-/// A gate that holds each of the sessions 0 and 1 until the other has arrived, or the turns are used up. A turn is a
-/// millisecond of sleep.
+/// A gate that holds each of the sessions 0 and 1 until the other has arrived, or the turns are used up. Each hundredth
+/// turn is a millisecond of sleep, so that the other one comes on a busy machine too.
 #[derive(Drop)]
 struct Meeting<R> {
     rt: R,
@@ -38,6 +38,15 @@ impl<R: Clock> Meeting<R> {
         self.has_first.load(Ordering::SeqCst) && self.has_second.load(Ordering::SeqCst)
     }
 
+    // Lets others run, in the turn of this number.
+    fn wait_a_turn(&self, turn: u32) {
+        if turn % 100 == 99 {
+            thread::sleep(&self.rt, Duration::from_millis(1));
+        } else {
+            thread::yield_now();
+        }
+    }
+
     // Tells whether both have arrived, and none waited for the other in vain.
     fn went_well(&self) -> bool {
         self.have_met() && self.in_vain.load(Ordering::SeqCst) == 0
@@ -51,11 +60,11 @@ impl<R: Clock> Gate for Meeting<R> {
             1 => self.has_second.store(true, Ordering::SeqCst),
             _ => {}
         }
-        for _ in 0..self.turns {
+        for turn in 0..self.turns {
             if self.have_met() {
                 return;
             }
-            thread::sleep(&self.rt, Duration::from_millis(1));
+            self.wait_a_turn(turn);
         }
         self.in_vain.fetch_add(1, Ordering::SeqCst);
     }

@@ -1,6 +1,6 @@
 //! Many orders of the same writes leave the same.
 
-use crate::crowds::{edit, is_left, left};
+use crate::crowds::{block_and_withdrawal, edit, is_left, left};
 use road_plan::Object;
 use road_scenario::{Edit, Value};
 use road_workers::NoGate;
@@ -27,6 +27,18 @@ fn limits_from(alloc: Global, first: u32) -> Result<Vec<Edit>, Fail> {
         edits.push(limit((first % EDITS + turn) % EDITS))?;
     }
     Ok(edits)
+}
+
+#[test]
+fn the_greater_withdrawal_wins(rt: HostRuntime) -> Result<(), Fail> {
+    let alloc = rt.alloc();
+    let shares = block_and_withdrawal(alloc)?;
+    let withdrawal = edit(Object::Block(8), 4, 2, 64, Value::Withdrawn);
+    for _ in 0..TIMES {
+        let left = left(&rt, alloc, shares.as_slice(), 6, &NoGate)?;
+        assert!(rt; is_left(&left, &[withdrawal], 4, "0..2...2...."));
+    }
+    Ok(())
 }
 
 #[test]

@@ -1,6 +1,6 @@
 //! Worked crowds, and what no crowd may hold.
 
-use crate::crowds::{block_and_withdrawal, edit, free_road, is_left, left};
+use crate::crowds::{edit, free_road, is_left, left};
 use road_plan::Object;
 use road_replica::{ReplicaFault, shares_fault};
 use road_scenario::{Edit, Value};
@@ -13,16 +13,6 @@ fn an_empty_share_advances(rt: HostRuntime) -> Result<(), Fail> {
     let shares: Vec<Vec<Edit>> = vec![in alloc; Vec::new(alloc)]?;
     let left = left(&rt, alloc, shares.as_slice(), 0, &NoGate)?;
     assert!(rt; is_left(&left, &[], 1, "............"));
-    Ok(())
-}
-
-#[test]
-fn the_greater_withdrawal_wins(rt: HostRuntime) -> Result<(), Fail> {
-    let alloc = rt.alloc();
-    let shares = block_and_withdrawal(alloc)?;
-    let left = left(&rt, alloc, shares.as_slice(), 6, &NoGate)?;
-    let withdrawal = edit(Object::Block(8), 4, 2, 64, Value::Withdrawn);
-    assert!(rt; is_left(&left, &[withdrawal], 4, "0..2...2...."));
     Ok(())
 }
 

@@ -1,6 +1,7 @@
 //! The calls by their names.
 
 use crate::crews::{self, CrewCase};
+use crate::crowds::{self, CrowdCase};
 use crate::lines::{self, LineCase};
 use crate::replicas::{self, QuestionCase, WriteCase};
 use crate::scenarios::{self, MapCase, ScenarioCase};
@@ -35,6 +36,7 @@ pub(crate) enum Case {
     Store(Whole),
     Session(SessionCase),
     Crew(CrewCase),
+    Crowd(CrowdCase),
     Line(LineCase),
     Step(StepCase),
     Map(MapCase),
@@ -167,6 +169,8 @@ const CASES: &[(&str, Case)] = &[
     ("session-look", Case::Session(sessions::LOOK_BY_SECOND)),
     ("session-state", Case::Session(sessions::STATE_BY_SECOND)),
     ("session-totals", Case::Session(sessions::TOTALS_BY_SECOND)),
+    ("crowd-of-one", Case::Crowd(crowds::EMPTY_SHARE)),
+    ("crowd-of-two", Case::Crowd(crowds::BLOCK_AND_WITHDRAWAL)),
     ("read-plan", Case::Line(LineCase::PlanLine)),
     ("read-import", Case::Line(LineCase::Import)),
     ("read-edit", Case::Line(LineCase::Edit)),
@@ -204,6 +208,7 @@ pub(crate) fn tried<R: Threads + Wait + Clone + Drop + Send + 'static>(
         Case::Store(Whole::Close) => sessions::tried_close(rt, alloc, until),
         Case::Session(case) => sessions::tried_call(rt, alloc, until, &case),
         Case::Crew(case) => crews::tried(rt, alloc, until, case),
+        Case::Crowd(case) => crowds::tried(rt, alloc, until, &case),
         Case::Line(case) => lines::tried(alloc, until, case),
         Case::Step(case) => steps::tried(alloc, until, case),
         Case::Map(case) => scenarios::tried_map(alloc, until, case),

@@ -23,7 +23,7 @@ pub(crate) enum CrewCase {
     Alone,
     /// Two threads are made for the call.
     Scoped,
-    /// Two lasting workers compute.
+    /// Two lasting workers compute, each its piece.
     Pool,
     /// They are started.
     Start,
@@ -41,18 +41,19 @@ fn first_input(alloc: Global) -> Option<Arc<StepInput>> {
     enter(alloc, &plan, settings, 0, &Road::empty(alloc)).ok()
 }
 
+/// Returns why a crew gave no speeds, or a crowd was not gathered.
+pub(crate) fn refusal(fault: CrewFault) -> Refusal {
+    match fault {
+        CrewFault::OutOfMemory => Refusal::Memory,
+        CrewFault::WorkersGone => Refusal::Workers,
+    }
+}
+
 // Answers whether a crew gives the speeds; a refusal where it does not answer.
-fn gives<C: Crew>(
-    alloc: Global,
-    crew: &mut C,
-    input: &Arc<StepInput>,
-    may_lose: bool,
-) -> Result<bool, Refusal> {
+fn gives<C: Crew>(alloc: Global, crew: &mut C, input: &Arc<StepInput>) -> Result<bool, Refusal> {
     match crew.speeds(alloc, input) {
         Ok(speeds) => Ok(speeds.as_slice() == SPEEDS),
-        Err(CrewFault::OutOfMemory) => Err(Refusal::Memory),
-        Err(CrewFault::WorkersGone) if may_lose => Err(Refusal::Memory),
-        Err(CrewFault::WorkersGone) => Err(Refusal::Other),
+        Err(fault) => Err(refusal(fault)),
     }
 }
 
@@ -65,28 +66,35 @@ fn accepted(is_right: bool, verdict: Verdict) -> Verdict {
     }
 }
 
-// Tries the speeds of a crew. Where threads are made for a call, they may be lost for that call.
+// Returns the verdict on a call that was refused so first.
+fn after(refused: Refusal) -> Verdict {
+    match refused {
+        Refusal::Memory => Verdict::Again,
+        Refusal::Workers => Verdict::Restarted,
+        Refusal::Other => Verdict::Wrong("it was refused for another cause"),
+    }
+}
+
+// Tries the speeds of a crew.
 fn tried_speeds<C: Crew>(
     alloc: Global,
     until: Until,
     crew: &mut C,
     input: &Arc<StepInput>,
-    may_lose: bool,
 ) -> Verdict {
     if until == Until::Prepared {
         return Verdict::Left;
     }
-    let first = gives(alloc, crew, input, may_lose);
+    let first = gives(alloc, crew, input);
     if until == Until::Called {
         return Verdict::Left;
     }
     match first {
         Ok(is_right) => accepted(is_right, Verdict::Right),
-        Err(Refusal::Memory) => match gives(alloc, crew, input, false) {
-            Ok(is_right) => accepted(is_right, Verdict::Again),
+        Err(refused) => match gives(alloc, crew, input) {
+            Ok(is_right) => accepted(is_right, after(refused)),
             Err(_) => Verdict::Wrong("it was refused again"),
         },
-        Err(Refusal::Other) => Verdict::Wrong("it was refused for another cause"),
     }
 }
 
@@ -113,7 +121,7 @@ fn tried_pool<R: Threads + Wait + Clone + Drop + Send + 'static>(
 ) -> Option<Verdict> {
     let input = first_input(alloc)?;
     let mut pool = started(rt, alloc, false)?.ok()?;
-    let verdict = tried_speeds(alloc, until, &mut pool, &input, false);
+    let verdict = tried_speeds(alloc, until, &mut pool, &input);
     pool.finish();
     Some(verdict)
 }
@@ -125,12 +133,12 @@ fn judged_start<R: Threads + Wait + Clone + Drop + Send + 'static>(
     input: &Arc<StepInput>,
     verdict: Verdict,
 ) -> Option<Verdict> {
-    let given = gives(alloc, &mut pool, input, false);
+    let given = gives(alloc, &mut pool, input);
     pool.finish();
     match given {
         Ok(is_right) => Some(accepted(is_right, verdict)),
         Err(Refusal::Memory) => None,
-        Err(Refusal::Other) => Some(Verdict::Wrong("the workers do not answer")),
+        Err(_) => Some(Verdict::Wrong("the workers do not answer")),
     }
 }
 
@@ -152,8 +160,8 @@ fn tried_start<R: Threads + Wait + Clone + Drop + Send + 'static>(
             Some(Verdict::Left)
         }
         Ok(pool) => judged_start(alloc, pool, &input, Verdict::Right),
-        Err(_) => match started(rt, alloc, is_gated)? {
-            Ok(pool) => judged_start(alloc, pool, &input, Verdict::Again),
+        Err(fault) => match started(rt, alloc, is_gated)? {
+            Ok(pool) => judged_start(alloc, pool, &input, after(refusal(fault))),
             Err(_) => Some(Verdict::Wrong("it was refused again")),
         },
     }
@@ -164,7 +172,7 @@ fn tried_scoped<R: Threads + Wait>(rt: &R, alloc: Global, until: Until) -> Optio
     let input = first_input(alloc)?;
     let gate = Box::new(alloc, NoGate).ok()?;
     let mut crew = Scoped::new(rt, 2, gate);
-    Some(tried_speeds(alloc, until, &mut crew, &input, true))
+    Some(tried_speeds(alloc, until, &mut crew, &input))
 }
 
 /// Tries a crew.
@@ -177,7 +185,7 @@ pub(crate) fn tried<R: Threads + Wait + Clone + Drop + Send + 'static>(
     match case {
         CrewCase::Alone => {
             let input = first_input(alloc)?;
-            Some(tried_speeds(alloc, until, &mut Alone, &input, false))
+            Some(tried_speeds(alloc, until, &mut Alone, &input))
         }
         CrewCase::Scoped => tried_scoped(rt, alloc, until),
         CrewCase::Pool => tried_pool(rt, alloc, until),

@@ -4,13 +4,15 @@
 //! that something is wrong: `tools/fail-in-turn` does that.
 //!
 //! `tests_failures NAME` tries the call of a name. It prints `right` where it answered at once, `right again` where it
-//! was refused first, `wrong: ..`, or `not met` where an allocation failed before the call or in the judging.
+//! was refused first, `right with new threads` where that was because a thread could not be started, `wrong: ..`, or
+//! `not met` where an allocation failed before the call or in the judging.
 //! `tests_failures NAME prepared` ends before the call, and `tests_failures NAME called` before the judging.
 //! `tests_failures list` prints all names, and `tests_failures all` tries them one after another.
 #![tactic(auto)]
 
 mod cases;
 mod crews;
+mod crowds;
 mod lines;
 mod replicas;
 mod roads;
@@ -34,6 +36,7 @@ fn tell<R: Print>(rt: &R, verdict: Option<Verdict>) -> io::Result<()> {
         Some(Verdict::Left) => Ok(()),
         Some(Verdict::Right) => println!(rt; "right"),
         Some(Verdict::Again) => println!(rt; "right again"),
+        Some(Verdict::Restarted) => println!(rt; "right with new threads"),
         Some(Verdict::Wrong(what)) => println!(rt; "wrong: {what}"),
         None => println!(rt; "not met"),
     }

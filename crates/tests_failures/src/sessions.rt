@@ -277,7 +277,7 @@ fn acted<J: Naming, R: Wait + Drop, W: Wait>(
     match first {
         Ok(answer) => accepted(alloc, shared, sessions, case, &answer, Verdict::Right),
         Err(Refusal::Memory) => made_again(rt, alloc, shared, sessions, case, &given),
-        Err(Refusal::Other) => Some(Verdict::Wrong("it was refused for another cause")),
+        Err(_) => Some(Verdict::Wrong("it was refused for another cause")),
     }
 }
 

@@ -18,6 +18,8 @@ pub(crate) enum Until {
 pub(crate) enum Refusal {
     /// Out of memory, or what may be answered in its place.
     Memory,
+    /// A thread could not be started, or has gone.
+    Workers,
     /// Another cause.
     Other,
 }
@@ -29,8 +31,10 @@ pub(crate) enum Verdict {
     Left,
     /// It gave the expected answer at once.
     Right,
-    /// It was refused, and gave the expected answer when it was made again.
+    /// It was refused for out of memory, and gave the expected answer when it was made again.
     Again,
+    /// It was refused since a thread could not be started, and gave the expected answer when it was made again.
+    Restarted,
     /// What is wrong.
     Wrong(&'static str),
 }
@@ -64,7 +68,8 @@ pub(crate) fn judged<C: Call>(alloc: Global, until: Until, call: &mut C) -> Opti
     }
     match first {
         Ok(answer) => accepted(alloc, call, answer, Verdict::Right),
-        Err(Refusal::Memory) => made_again(alloc, call),
+        Err(Refusal::Memory) => made_again(alloc, call, Verdict::Again),
+        Err(Refusal::Workers) => made_again(alloc, call, Verdict::Restarted),
         Err(Refusal::Other) => Some(Verdict::Wrong("it was refused for another cause")),
     }
 }
@@ -86,12 +91,12 @@ fn accepted<C: Call>(
 }
 
 // Judges what a refused call left, and makes it again.
-fn made_again<C: Call>(alloc: Global, call: &mut C) -> Option<Verdict> {
+fn made_again<C: Call>(alloc: Global, call: &mut C, verdict: Verdict) -> Option<Verdict> {
     if !call.is_before(alloc)? {
         return Some(Verdict::Wrong("the refused call changed something"));
     }
     match call.answer(alloc) {
-        Ok(answer) => accepted(alloc, call, answer, Verdict::Again),
+        Ok(answer) => accepted(alloc, call, answer, verdict),
         Err(_) => Some(Verdict::Wrong("it was refused again")),
     }
 }

@@ -4,8 +4,6 @@
 #[cfg(test)]
 mod examples;
 #[cfg(test)]
-mod growths;
-#[cfg(test)]
 mod scripts;
 #[cfg(test)]
 mod sheets;

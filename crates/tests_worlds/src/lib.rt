@@ -4,8 +4,6 @@
 #[cfg(test)]
 mod crews;
 #[cfg(test)]
-mod growths;
-#[cfg(test)]
 mod lists;
 #[cfg(test)]
 mod merges;

@@ -1,0 +1,48 @@
+//! Serves standard input within fewer lines than the program does, so that a run which ends at a limit is tried with
+//! each of its allocations failing: `tools/fail-in-turn` does that. It ends as the program does.
+#![tactic(auto)]
+
+use road_crowd::OnThreads;
+use road_serve::{ServeFault, StdSink, StdSource, serve_within};
+use road_workers::Alone;
+use std::process::ExitCode;
+
+/// How many lines may come after the plan line.
+const LINES: u32 = 9;
+
+/// How many bytes may come.
+const BYTES: u64 = 1_000_000;
+
+// Returns the exit status of a run that failed.
+fn status_of(fault: &ServeFault) -> u8 {
+    match fault {
+        ServeFault::BadPlan => 2,
+        ServeFault::OutOfMemory => 3,
+        ServeFault::Write => 4,
+        ServeFault::Read => 5,
+        ServeFault::TooMany => 6,
+        ServeFault::WorkersGone => 7,
+    }
+}
+
+fn main(rt: HostRuntime) -> ExitCode {
+    let mut reader = StdSource::new(rt.stdin());
+    let mut writer = StdSink::new(rt.stdout());
+    let crowds = OnThreads::new(&rt);
+    let served = serve_within(
+        rt.alloc(),
+        &mut reader,
+        &mut writer,
+        &mut Alone,
+        &crowds,
+        LINES,
+        BYTES,
+    );
+    match served {
+        Ok(_) => ExitCode::from(0),
+        Err(fault) => {
+            let _ = eprintln!(&rt; "{fault}");
+            ExitCode::from(status_of(&fault))
+        }
+    }
+}
