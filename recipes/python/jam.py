@@ -4,21 +4,13 @@
 """
 import sys
 
-from road_lab import Plan, RoadLab
+from road_lab import Plan, RoadLab, as_array
 
 try:
     import numpy
 except ImportError:
     print("left out: the jam in an array (numpy is not installed)")
     sys.exit(0)
-
-EMPTY, BLOCKED = -1, -2
-
-
-def as_array(rows: list[str]) -> "numpy.ndarray":
-    """Steps by cells: the speed of a car, EMPTY or BLOCKED."""
-    signs = numpy.array([list(row.encode()) for row in rows], dtype=numpy.int16)
-    return numpy.select([signs == ord("."), signs == ord("#")], [EMPTY, BLOCKED], signs - ord("0"))
 
 
 def main() -> None:

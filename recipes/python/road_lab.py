@@ -17,30 +17,49 @@ import sys
 from dataclasses import dataclass, field
 from pathlib import Path
 from types import TracebackType
-from typing import Any, Iterable, NamedTuple, TextIO
+from typing import TYPE_CHECKING, Any, Callable, Iterable, NamedTuple
+
+from refusals import LAST_HORIZON, MOST_ROWS, Reasons
+
+if TYPE_CHECKING:
+    import numpy
 
 Object = tuple[str, int]
 """What an edit sets: ("limit", zone), ("slow", zone), ("block", cell), ("inflow", inlet),
 ("watch", detector) or ("start", zone)."""
 
 FORM = 2
-MOST_ROWS = 1_024
+EMPTY, BLOCKED = -1, -2
+"""Cells without a car in an array of rows."""
+
+STATUSES = {3: "no memory", 4: "its output could not be written", 5: "the script could not be read",
+            6: "more lines or bytes than it takes", 7: "a thread could not start, or has gone"}
 
 
 class Refused(Exception):
-    """The program refused a command or the plan; `reason` is what it names, like "NoObject"."""
+    """The program refused a command or the plan; `reason` is what it names, like "NoObject", and
+    `why` says what is wrong with the line."""
 
-    def __init__(self, reason: str, command: str) -> None:
-        super().__init__(f"{reason}: {command}")
-        self.reason = reason
+    def __init__(self, reason: str, why: str, command: str) -> None:
+        super().__init__(f"{reason}: {why}: {command}")
+        self.reason, self.why = reason, why
 
 
 class Ended(Exception):
     """The program ended before it answered; `status` is its exit status."""
 
     def __init__(self, status: int, said: str) -> None:
-        super().__init__(f"the program ended with status {status}: {said or 'it said nothing'}")
+        super().__init__(f"the program ended with status {status}: "
+                         f"{STATUSES.get(status) or said or 'it said nothing'}")
         self.status = status
+
+
+class NoProgram(Exception):
+    """There is no program to start."""
+
+    def __init__(self, path: Path | str) -> None:
+        super().__init__(f"no program at {path}: run `rt run < stdin` in crates/road_lab, which takes "
+                         "half an hour the first time, or let ROAD_LAB be the path of a built one")
 
 
 class Stamp(NamedTuple):
@@ -101,6 +120,28 @@ class Head(NamedTuple):
         return cls((kind, index), step, Stamp(count, number))
 
 
+class Lost(NamedTuple):
+    """An edit that won, and the one of somebody else that wins now in its place."""
+
+    edit: Edit
+    to: Edit
+
+
+def lost(before: Iterable[Edit], after: Iterable[Edit]) -> list[Lost]:
+    """Who lost between two scenarios of a replica, as before and after it took a message."""
+    now = {(edit.object, edit.step): edit for edit in after}
+    pairs = [Lost(edit, now[edit.object, edit.step]) for edit in before]
+    return [pair for pair in pairs if pair.to.stamp.number != pair.edit.stamp.number]
+
+
+class Crowd(NamedTuple):
+    """What a crowd leaves: the edits that win, how many were made with its advances, the last row."""
+
+    edits: list[Edit]
+    journal: int
+    row: str
+
+
 @dataclass(frozen=True)
 class Plan:
     """A road: cells, zones as (speed limit, slowing chance), inlets as (cell, inflow chance).
@@ -128,12 +169,21 @@ def program_path() -> Path:
     return Path(os.environ.get("ROAD_LAB") or built)
 
 
+def started(path: Path | str) -> subprocess.Popen[bytes]:
+    """The program at a path, or `NoProgram`."""
+    try:
+        return subprocess.Popen([str(path)], stdin=subprocess.PIPE, stdout=subprocess.PIPE,
+                                stderr=subprocess.PIPE)
+    except (FileNotFoundError, PermissionError):
+        raise NoProgram(path) from None
+
+
 class RoadLab:
     """A running program. Each method sends one command and gives its reply, or raises `Refused`."""
 
     def __init__(self, plan: Plan, program: Path | str | None = None) -> None:
-        self._process = subprocess.Popen([str(program or program_path())], stdin=subprocess.PIPE,
-                                         stdout=subprocess.PIPE, stderr=subprocess.PIPE)
+        self._process = started(program or program_path())
+        self._reasons = Reasons()
         try:
             self._ask(plan.written())
         except BaseException:
@@ -157,9 +207,9 @@ class RoadLab:
         self._process.wait()
 
     def _ask(self, line: dict[str, Any]) -> dict[str, Any]:
-        text = json.dumps(line, separators=(",", ":"), ensure_ascii=False)
+        text = json.dumps(line, separators=(",", ":"), ensure_ascii=False).encode()
         try:
-            self._process.stdin.write(text.encode() + b"\n")
+            self._process.stdin.write(text + b"\n")
             self._process.stdin.flush()
         except BrokenPipeError:
             pass  # what follows tells why
@@ -168,13 +218,14 @@ class RoadLab:
             said = self._process.stderr.read().decode(errors="replace").strip()
             raise Ended(self._process.wait(), said)
         answer = json.loads(reply)
-        if "refused" in answer:
-            raise Refused(answer["refused"], text)
+        why = self._reasons.hear(text, answer)
+        if why is not None:
+            raise Refused(answer["refused"], why, text.decode())
         return answer
 
-    def command(self, verb: str, at: str, /, **fields: Any) -> dict[str, Any]:
-        """Any command, and its reply as it is written."""
-        return self._ask({verb: {"at": at, **fields}})
+    def command(self, verb: str, at: str | None = None, /, **fields: Any) -> dict[str, Any]:
+        """Any command, with a replica or without, and its reply as it is written."""
+        return self._ask({verb: fields if at is None else {"at": at, **fields}})
 
     # Edits
 
@@ -215,14 +266,16 @@ class RoadLab:
 
     # Queries
 
-    def advance(self, at: str, to: int, piece: int = 10_000, progress: TextIO = sys.stderr) -> int:
-        """Simulates up to a step, piece by piece, with a bar where `progress` is a terminal."""
-        horizon = self.command("advance", at, to=0)["horizon"]
-        first, bar = horizon, Bar(to - horizon, progress)
+    def advance(self, at: str, to: int, piece: int = 10_000,
+                progress: Callable[[int, int], None] | None = None) -> int:
+        """Simulates up to a step, piece by piece. After each piece `progress` is told the steps done
+        and all steps; without it a bar is drawn where standard error is a terminal."""
+        horizon = self.command("advance", at, to=to if to > LAST_HORIZON else 0)["horizon"]
+        first, bar = horizon, Bar()
         try:
             while horizon < to:
                 horizon = self.command("advance", at, to=min(to, horizon + piece))["horizon"]
-                bar.show(horizon - first)
+                (progress or bar.show)(horizon - first, to - first)
         finally:
             bar.end()
         return horizon
@@ -248,26 +301,40 @@ class RoadLab:
             rows += self.command("diagram", at, **fields)["rows"]
         return rows
 
+    # Beside the replicas
+
+    def crowd(self, shares: Iterable[Iterable[Edit]], to: int) -> Crowd:
+        """Lets a session for each share edit one road of the plan and advance to a step, at once."""
+        written = [[edit.written() for edit in share] for share in shares]
+        left = self.command("crowd", shares=written, form=FORM, to=to)
+        return Crowd(list(map(Edit.read, left["edits"])), left["journal"], left["row"])
+
+
+def as_array(rows: list[str]) -> numpy.ndarray:
+    """Steps by cells: the speed of a car, EMPTY or BLOCKED. This alone needs numpy."""
+    import numpy
+    signs = numpy.array([list(row.encode()) for row in rows], dtype=numpy.int16)
+    return numpy.select([signs == ord("."), signs == ord("#")], [EMPTY, BLOCKED], signs - ord("0"))
+
 
 class Bar:
     """A progress bar on a terminal; nothing elsewhere, and nothing for less than two shows."""
 
     WIDTH = 40
 
-    def __init__(self, whole: int, stream: TextIO) -> None:
-        self._whole, self._stream = whole, stream
-        self._wanted = stream.isatty()
+    def __init__(self) -> None:
+        self._wanted = sys.stderr.isatty()
         self._shown = False
 
-    def show(self, done: int) -> None:
-        if not self._wanted or done >= self._whole and not self._shown:
+    def show(self, done: int, whole: int) -> None:
+        if not self._wanted or done >= whole and not self._shown:
             return
-        full = self.WIDTH * done // self._whole
+        full = self.WIDTH * done // whole
         bar = "#" * full + "." * (self.WIDTH - full)
-        self._stream.write(f"\r[{bar}] {done} of {self._whole} steps")
-        self._stream.flush()
+        sys.stderr.write(f"\r[{bar}] {done} of {whole} steps")
+        sys.stderr.flush()
         self._shown = True
 
     def end(self) -> None:
         if self._shown:
-            self._stream.write("\n")
+            sys.stderr.write("\n")
