@@ -12,7 +12,6 @@ mod merges;
 #[cfg(test)]
 mod meters;
 #[cfg(test)]
-mod posts;
 #[cfg(test)]
 mod refusals;
 #[cfg(test)]
