@@ -12,6 +12,7 @@ mod merges;
 #[cfg(test)]
 mod meters;
 #[cfg(test)]
+mod posts;
 #[cfg(test)]
 mod refusals;
 #[cfg(test)]
