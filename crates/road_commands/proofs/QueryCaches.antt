@@ -10,9 +10,10 @@ use Rattle.road_plan.specs.declared.limits.TheConstants.{MOST_REPLICAS}
 use Rattle.road_scenario.specs.Winners.{winners}
 use Rattle.road_sheet.specs.Sheets.{Sheet}
 use Rattle.road_world.proofs.EventLists.{plan-after_events, replicas-after_event}
+use Rattle.road_world.proofs.MadeMessages.{none_is_no_item}
 use Rattle.road_world.proofs.WinnersSuffice.{opening_world-of_winners, replica-of_winners, world-again}
 use Rattle.road_world.specs.Answers.{replica_number, sheet_at}
-use Rattle.road_world.specs.Events.{World, WorldReplica, opening_replica, opening_world, replica_at, replica_of_winners, world_after_event, world_of_winners, world_with_message}
+use Rattle.road_world.specs.Events.{World, WorldReplica, message_of_event, opening_replica, opening_world, replica_at, replica_of_winners, world_after_event, world_of_winners}
 use Rattle.road_world.specs.declared.event.Event.{Event}
 use Rattle.road_world.specs.declared.event.Event.TheVariants.{Edit, Withdraw, Import, Send, Heads, Beyond, Take, Advance}
 use Rattle.road_world.specs.declared.message.Message.{Message}
@@ -171,12 +172,13 @@ module _ (names messages : List (List ℕ)) (w : World) (runs : List CachedState
   run_below r below =
       let same : length names ≡ length lab.replica_names = ap (λ (l : Laboratory). length l.replica_names) view_is in omega (arith, same, kept.each, below)
 
--- with a message more
-pub cached_with_message : (names : List (List ℕ)) (w v : World) (runs : List CachedState) (m : Message) → IsCached names w runs → v ≡ world_with_message m w → world_of_winners v ≡ v → IsCached names v runs
-cached_with_message names w v runs m kept is wins = subst (λ (u : World). IsCached names u runs) (sym is) (record {
-  few = kept.few;
-  replicas = kept.replicas;
-  winners = subst (λ (u : World). world_of_winners u ≡ u) is wins;
-  each = kept.each;
-  cached = kept.cached;
-})
+-- an event that makes a message keeps the edits of its replica
+pub made_keeps : (e : Event) (w : World) (m : Message) → message_of_event w e ≡ Some m → keeps_edits e ≡ true
+made_keeps (Edit r o step n) w m made = absurd (none_is_no_item m made)
+made_keeps (Withdraw r o step) w m made = absurd (none_is_no_item m made)
+made_keeps (Import r es) w m made = absurd (none_is_no_item m made)
+made_keeps (Send r) w m made = refl
+made_keeps (Heads r) w m made = refl
+made_keeps (Beyond r n) w m made = refl
+made_keeps (Take r n) w m made = absurd (none_is_no_item m made)
+made_keeps (Advance r to) w m made = absurd (none_is_no_item m made)

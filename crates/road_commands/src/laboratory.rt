@@ -1,6 +1,6 @@
 //! A world with names, and its answers to commands.
 
-ghost use Rattle.std.specs.Prelude.{◌≡◌, ◌<◌, ◌≤◌, ◌++◌, ◌∷◌, [], IfOk, IfSome, None, OnErr, OnOk, false};
+ghost use Rattle.std.specs.Prelude.{◌≡◌, ◌<◌, ◌≤◌, ◌++◌, ◌∷◌, [], IfOk, IfSome, None, OnErr, OnOk, Some, false};
 ghost use Rattle.std.specs.Prelude.{is_none, length, string_bytes, ℕ};
 ghost use Rattle.std.specs.Arc.{arc_value};
 ghost use Rattle.std.specs.List.{All, IsDistinct};
@@ -10,9 +10,9 @@ ghost use Rattle.road_scenario.specs.Faults.{AreInRange, FitsSomePlan};
 ghost use Rattle.road_scenario.specs.Winners.{AreWinners};
 ghost use Rattle.road_sheet.specs.Sheets.{Sheet};
 ghost use Rattle.road_replica.specs.QueryCaches.{IsCacheOf};
-ghost use Rattle.road_world.specs.Answers.{IsAnswer, gone_after_answer, replica_number, reply_to_event, sheet_at};
-ghost use Rattle.road_world.specs.Events.{replica_at, world_after_event, world_with_message};
-ghost use Rattle.road_world.specs.Messages.{IsSendable};
+ghost use Rattle.road_world.specs.Answers.{IsAnswer, fault_at_replica, gone_after_answer, replica_number};
+ghost use Rattle.road_world.specs.Answers.{reply_to_event, sheet_at};
+ghost use Rattle.road_world.specs.Events.{message_of_event, replica_at, world_after_event};
 ghost use Rattle.road_format.specs.Views.{answer_view, command_view, plan_line_view, shares_view, texts};
 ghost use Rattle.road_commands.specs.Laboratory.{answer_to, beyond_outcome, change_outcome, crowd_outcome};
 ghost use Rattle.road_commands.specs.Laboratory.{gone_after_command, heads_outcome, is_gathered, laboratory_after};
@@ -316,7 +316,7 @@ impl Laboratory {
         let held = self.scenario(at);
         let size = held.len() as u64;
         let edits = held.copied()?;
-        self.post(alloc, Message::Whole(edits), &name)?;
+        self.post(alloc, &Event::Send { at }, Message::Whole(edits), &name)?;
         Ok(Answer::Sent {
             message: name,
             size,
@@ -334,7 +334,7 @@ impl Laboratory {
         }
         let asked = heads_of(alloc, self.scenario(at))?;
         let heads = asked.list().to_vec(alloc)?;
-        self.post(alloc, Message::Asked(asked), &name)?;
+        self.post(alloc, &Event::Heads { at }, Message::Asked(asked), &name)?;
         Ok(Answer::Heads {
             message: name,
             heads,
@@ -364,7 +364,8 @@ impl Laboratory {
         }
         let delta = beyond(alloc, self.scenario(at), heads)?;
         let edits = delta.edits(alloc)?;
-        self.post(alloc, Message::Answer(delta), &name)?;
+        let event = Event::Beyond { at, message: number };
+        self.post(alloc, &event, Message::Answer(delta), &name)?;
         Ok(Answer::Delta {
             message: name,
             edits,
@@ -385,19 +386,27 @@ impl Laboratory {
         }
     }
 
-    // Posts a message, and names it. No message may have the name.
-    fn post(&mut self, alloc: Global, message: Message, name: &str) -> Result<(), OutOfMemory>
-        requires sendable { IsSendable self.old.world.plan message }
+    // Applies an event whose message is made already, and names that message. No message may have the name.
+    fn post(
+        &mut self,
+        alloc: Global,
+        event: &Event,
+        message: Message,
+        name: &str,
+    ) -> Result<(), OutOfMemory>
+        requires there { replica_number event.now < length self.old.replica_names }
+        requires accepted { fault_at_replica self.old.world event.now ≡ None }
+        requires made { message_of_event self.old.world event.now ≡ Some message }
         requires free { number_of self.old.message_names name.now ≡ None }
         ensures after { OnOk result (self.new ≡ laboratory_of_winners (record self.old {
           message_names = self.old.message_names ++ name.now ∷ [];
-          world = world_with_message message self.old.world;
+          world = world_after_event event.now self.old.world;
         })) }
         ensures unchanged { OnErr result (self.new ≡ self.old) }
     {
         let count = self.messages.len();
         self.messages.put(String::from_str(alloc, name)?)?;
-        match self.world.post(message) {
+        match self.world.post(event, message) {
             Ok(_) => Ok(()),
             Err(fault) => {
                 self.messages.cut(count);

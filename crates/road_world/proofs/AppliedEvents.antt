@@ -1,5 +1,5 @@
 -- What a replica answers to a write, and the world that it leaves, are what the event says; so for messages.
-use Rattle.std.proofs.Common.{◌≡◌, ◌≤◌, ◌<◌, ◌∙◌, ℕ, List, length, Option, Some, None, refl, ap, arith, sym, subst}
+use Rattle.std.proofs.Common.{◌≡◌, ◌≤◌, ◌<◌, ◌∙◌, ℕ, List, [], ◌∷◌, ◌++◌, length, Option, Some, None, refl, ap, arith, sym, subst}
 use Rattle.std.specs.Prelude.{IsErrAnd, IsNone, Result, slice_set, unwrap_or}
 use Rattle.std.specs.List.{slice_get, slice_index_or}
 use Rattle.std.specs.Option.{option_map}
@@ -29,14 +29,15 @@ use Rattle.road_replica.specs.Refusals.{advance_fault, arrived_edit_fault, edit_
 use Rattle.road_replica.specs.Replicas.{Replica, edit_made, replica_after, single_edit}
 use Rattle.road_replica.specs.Writes.{IsAccepted, IsRefused, most_steps_of_command, steps_of_command}
 use Rattle.road_replica.specs.declared.faults.ReplicaFault.{ReplicaFault}
+use Rattle.road_replica.specs.declared.faults.ReplicaFault.TheVariants.{OutOfMemory}
 use Rattle.road_replica.specs.declared.reply.Reply.{Reply}
 use Rattle.road_replica.specs.declared.reply.Reply.TheVariants as replies
 use Rattle.road_replica.proofs.GrownSheets.{grown_by_edits, grown_is_sheet}
 use Rattle.road_replica.proofs.ImportedEdits.{no_fault_imported}
 use Rattle.road_replica.proofs.Writes.{few_steps_of}
-use Rattle.road_world.specs.Answers.{IsAnswer, IsRefusal, fault_at_replica, replica_number, replica_with_sheet, reply_to_event, sheet_at, stamp_reply}
+use Rattle.road_world.specs.Answers.{IsAnswer, IsRefusal, fault_at_replica, fault_of_event, replica_number, replica_with_sheet, reply_to_event, sheet_at, stamp_reply}
 use Rattle.road_world.specs.Applied.{IsApplied}
-use Rattle.road_world.specs.Events.{World, carried_edits, world_after_event, world_of_winners}
+use Rattle.road_world.specs.Events.{World, carried_edits, message_of_event, world_after_event, world_of_winners}
 use Rattle.road_world.specs.Private.LocalEvents.{local_event}
 use Rattle.road_world.specs.Private.Worlds.{IsWorldKept}
 use Rattle.road_world.specs.Steps.{command_of_event, most_steps_of_event, steps_of_event}
@@ -46,7 +47,8 @@ use Rattle.road_world.specs.declared.faults.WorldFault.{WorldFault}
 use Rattle.road_world.specs.declared.faults.WorldFault.TheVariants as faults
 use Rattle.road_world.specs.declared.message.Message.{Message}
 use Rattle.road_world.proofs.EventAnswers.{IsWrite, fault_there, not_accepted, refused}
-use Rattle.road_world.proofs.KeptWorlds.{advanced, is_replica, none_is_no_item, same_some, still_kept, taken, viewed, with_sheet, written}
+use Rattle.road_world.proofs.KeptWorlds.{advanced, is_replica, posted, still_kept, taken, viewed, with_sheet, written}
+use Rattle.road_world.proofs.MadeMessages.{memory_refuses, no_command, none_is_no_item, reply_made, same_some}
 
 -- ---- what is allowed
 
@@ -207,15 +209,37 @@ module _ (plan : Plan) (xs : List Replica) (ms : List Message) (kept : IsWorldKe
 no_steps : (most meter : ℕ) → TicksAtMost most meter meter
 no_steps most meter = record { ticks = 0; few = omega arith; counted = refl }
 
--- a message that is made
-pub message_made : (event : Event) (old new : World) (reply : Reply) (meter : ℕ) → command_of_event old event ≡ None → IsAnswer old event (Ok reply) → new ≡ world_of_winners (world_after_event event old) → IsApplied event (Ok reply) old new meter meter
-message_made event old new reply meter none answer after =
-    let counted : meter ≡ meter_after meter (steps_of_event old event) =
-    ap (λ (o : Option SheetCommand). meter_after meter (unwrap_or (option_map (λ c. steps_of_command c (sheet_at old (replica_number event))) o) 0)) (sym none) in record {
-      answer = answer;
-      after = after;
-      unchanged = tt;
-      steps = counted;
-      named = tt;
-      few_steps = no_steps (most_steps_of_event old event) meter;
-    }
+-- a message that is made already, and is that of its event
+module _ (plan : Plan) (xs : List Replica) (ms now : List Message) (kept : IsWorldKept plan xs ms) (k : World) (v : viewed plan xs ms ≡ k) (event : Event) (message : Message) (accepted : fault_of_event k event ≡ None) (made : message_of_event k event ≡ Some message) where
+  no_steps_made : (meter : ℕ) → meter ≡ meter_after meter (steps_of_event k event)
+  no_steps_made meter =
+      ap (λ (o : Option SheetCommand). meter_after meter (unwrap_or (option_map (λ c. steps_of_command c (sheet_at k (replica_number event))) o) 0)) (sym (no_command event k message made))
+
+  -- appended, the event is applied
+  pub post_applied : (number meter : ℕ) → number ≡ length k.messages → now ≡ ms ++ message ∷ [] → IsApplied event (Ok (replies.Message number)) k (viewed plan xs now) meter meter
+  post_applied number meter is put = record {
+    answer = (accepted, ap replies.Message is ∙ sym (reply_made event k message made));
+    after = ap (λ (ns : List Message). viewed plan xs ns) put ∙ posted plan xs ms kept k v event message accepted made;
+    unchanged = tt;
+    steps = no_steps_made meter;
+    named = tt;
+    few_steps = no_steps (most_steps_of_event k event) meter;
+  }
+
+-- where no memory is left for it, the event is refused
+pub post_refused : (event : Event) (k : World) (meter : ℕ) → fault_of_event k event ≡ None → IsApplied event (Err (faults.Replica OutOfMemory)) k k meter meter
+post_refused event k meter accepted = record {
+  answer = subst (λ (o : Option WorldFault). IsRefusal event o (faults.Replica OutOfMemory)) (sym accepted) (memory_refuses event);
+  after = tt;
+  unchanged = refl;
+  steps = tt;
+  named = λ some. refl;
+  few_steps = no_steps (most_steps_of_event k event) meter;
+}
+
+-- the world hands that refusal on
+pub post_handed_on : (event : Event) (result : Result Reply WorldFault) (old new : World) (meter : ℕ) → IsErrAnd result (λ given. given ≡ faults.Replica OutOfMemory) → IsApplied event (Err (faults.Replica OutOfMemory)) old new meter meter
+    → IsApplied event result old new meter meter
+post_handed_on event (Ok reply) old new meter given is = absurd given
+post_handed_on event (Err fault) old new meter given is =
+    subst (λ (f : WorldFault). IsApplied event (Err f) old new meter meter) (sym given) is

@@ -1,9 +1,10 @@
 -- What a replica answers is what its world answers.
-use Rattle.std.proofs.Common.{◌≡◌, ◌⊎◌, ◌<◌, length, Option, Some, None, ap, sym, subst, inl, inr}
-use Rattle.std.specs.Prelude.{IsErrAnd, Result, if◌then◌else◌}
+use Rattle.std.proofs.Common.{◌≡◌, ◌⊎◌, ◌<◌, ℕ, Bool, true, false, length, Option, Some, None, refl, ap, arith, sym, subst, inl, inr}
+use Rattle.std.specs.Prelude.{IsErrAnd, Result, nat_lt, if◌then◌else◌}
 use Rattle.std.specs.Option.{option_map}
 use Rattle.std.specs.declared.result.Result.TheVariants.{Ok, Err}
 use Rattle.std.proofs.lemmas.Bool.{lt-ltb}
+use Rattle.std.proofs.lemmas.Bool.Decides.{nat_tests}
 use Rattle.road_replica.specs.Refusals.{IsWriteRefusal}
 use Rattle.road_replica.specs.declared.faults.ReplicaFault.{ReplicaFault}
 use Rattle.road_replica.specs.declared.faults.ReplicaFault.TheVariants.{WorkersGone, OutOfMemory}
@@ -40,3 +41,14 @@ pub handed_on : (w : World) (event : Event) (result : Result Reply WorldFault) (
     → IsRefusal event (fault_at_replica w event) (faults.Replica fault) → IsAnswer w event result
 handed_on w event (Ok reply) fault below given is = absurd given
 handed_on w event (Err other) fault below given is = subst (λ given. IsAnswer w event (Err given)) (sym given) (not_accepted w event (faults.Replica fault) below is)
+
+-- an event that is not refused names a replica, which does not refuse it
+pub none_refuses : (e : Event) (w : World) → fault_of_event w e ≡ None → (replica_number e < length w.replicas) × (fault_at_replica w e ≡ None)
+none_refuses e w h = parts (replica_number e) (length w.replicas) (fault_at_replica w e) h
+  where
+    parts : (n m : ℕ) (f : Option WorldFault) → (if nat_lt n m then f else Some NoReplica) ≡ None → (n < m) × (f ≡ None)
+    parts n m f h = by_test (nat_lt n m) refl h
+      where
+        by_test : (b : Bool) → nat_lt n m ≡ b → (if b then f else Some NoReplica) ≡ None → (n < m) × (f ≡ None)
+        by_test true t g = (grind (arith, nat_tests), g)
+        by_test false t g = cc

@@ -1,7 +1,7 @@
 -- Stamps that one world issues are distinct, and none is that of an import: each is above all that reached its replica
 -- before, and bears a replica's number.
 use Rattle.std.proofs.Common.{◌≡◌, ◌≤◌, ◌<◌, ◌==◌, ℕ, suc, zero, Bool, true, false, List, [], ◌∷◌, ◌++◌, length, map, Option, Some, None, refl, ap, sym, subst, ◌∙◌, arith}
-use Rattle.std.specs.Prelude.{◌||◌, slice_set, nat_lt, Result, if◌then◌else◌}
+use Rattle.std.specs.Prelude.{◌||◌, IfSome, slice_set, nat_lt, Result, if◌then◌else◌}
 use Rattle.std.specs.List.{AllByRecursion, IsDistinct, list_any, slice_index_or}
 use Rattle.std.specs.Option.{option_map}
 use Rattle.std.specs.declared.result.Result.TheVariants.{Ok, Err}
@@ -19,6 +19,7 @@ use Rattle.road_scenario.specs.declared.edit.Edit as edits
 use Rattle.road_scenario.specs.declared.edit.Stamp.{Stamp}
 use Rattle.road_scenario.specs.declared.edit.Value.{Value}
 use Rattle.road_scenario.specs.declared.edit.Value.TheVariants.{Withdrawn, Put}
+use Rattle.road_scenario.proofs.GreatestCounts.{upper_in}
 use Rattle.road_replica.specs.Refusals.{arrived_edit_fault, imported_edit_fault, import_fault}
 use Rattle.road_replica.specs.Replicas.{local_edit, single_edit}
 use Rattle.road_replica.specs.declared.faults.ReplicaFault.{ReplicaFault}
@@ -26,14 +27,14 @@ use Rattle.road_replica.specs.declared.faults.ReplicaFault.TheVariants.{Insider}
 use Rattle.road_replica.proofs.ImportedEdits.{none_of_both}
 use Rattle.road_replica.specs.declared.reply.Reply.{Reply}
 use Rattle.road_replica.specs.declared.reply.Reply.TheVariants.{Stamped, Touched, Message, Horizon}
-use Rattle.road_world.specs.Answers.{AreAnswers, fault_at_replica, fault_of_event, replica_number, reply_to_event}
+use Rattle.road_world.specs.Answers.{AreAnswers, IsAnswer, fault_of_event, replica_number, reply_to_event}
 use Rattle.road_world.specs.Events.{World, WorldReplica, accepted_events, opening_replica, opening_world, replica_at, world_after_event, world_with_edits, world_with_local_edit}
-use Rattle.road_world.specs.Stamps.{AreFresh, imported_stamps, is_same_stamp, issued_stamps}
+use Rattle.road_world.specs.Stamps.{AreFresh, IsNew, imported_stamps, is_same_stamp, issued_stamp, issued_stamps}
 use Rattle.road_world.specs.declared.event.Event.{Event}
 use Rattle.road_world.specs.declared.event.Event.TheVariants.{Edit, Withdraw, Import, Send, Heads, Beyond, Take, Advance}
 use Rattle.road_world.specs.declared.faults.WorldFault.{WorldFault}
-use Rattle.road_world.specs.declared.faults.WorldFault.TheVariants.{NoReplica}
 use Rattle.road_world.specs.declared.faults.WorldFault.TheVariants as faults
+use Rattle.road_world.proofs.EventAnswers.{none_refuses}
 use Rattle.road_world.proofs.EventLists.{replicas-after_event}
 use Rattle.road_world.proofs.GrowingCounts.{greatest_count_of_union, count_of_single}
 
@@ -83,17 +84,6 @@ pub record IsIssued (e : Event) (w : World) (s : Stamp) : Type 0 where
   pub above : IsAbove w s
   pub held : s.count ≤ count_at (world_after_event e w) s.number
 
--- an event that is not refused names a replica, which does not refuse it
-pub none_refuses : (e : Event) (w : World) → fault_of_event w e ≡ None → (replica_number e < length w.replicas) × (fault_at_replica w e ≡ None)
-none_refuses e w h = parts (replica_number e) (length w.replicas) (fault_at_replica w e) h
-  where
-    parts : (n m : ℕ) (f : Option WorldFault) → (if nat_lt n m then f else Some NoReplica) ≡ None → (n < m) × (f ≡ None)
-    parts n m f h = by_test (nat_lt n m) refl h
-      where
-        by_test : (b : Bool) → nat_lt n m ≡ b → (if b then f else Some NoReplica) ≡ None → (n < m) × (f ≡ None)
-        by_test true t g = (grind (arith, nat_tests), g)
-        by_test false t g = cc
-
 -- the stamp of an edit that a replica makes is above the world
 made_above : (w : World) (r : ℕ) (o : Object) (step : ℕ) (v : Value) → r < length w.replicas → IsAbove w (local_edit r (replica_at w r).edits o step v).stamp
 made_above w r o step v b = record { of_replica = b; greater = next (count_at w r) }
@@ -131,6 +121,36 @@ stamp_is_issued (Heads r) w s f h = cc
 stamp_is_issued (Beyond r m) w s f h = cc
 stamp_is_issued (Take r m) w s f h = cc
 stamp_is_issued (Advance r to) w s f h = cc
+
+-- ---- the stamp of one answer
+
+-- the stamp of an edit that a replica makes is new there
+made_new : (w : World) (r : ℕ) (o : Object) (step : ℕ) (v : Value) → IsNew w r (local_edit r (replica_at w r).edits o step v).stamp
+made_new w r o step v = record {
+  of_replica = refl;
+  greater = λ e inside. next _ _ (upper_in (replica_at w r).edits e inside);
+}
+  where
+    next : (n m : ℕ) → n ≤ m → n < suc m
+    next n m h = omega arith
+
+stamp_is_new : (e : Event) (w : World) (s : Stamp) → Stamped s ≡ reply_to_event w e → IsNew w (replica_number e) s
+stamp_is_new (Edit r o step n) w s h = subst (IsNew w r) (sym (same_stamped s _ h)) (made_new w r o step (Put n))
+stamp_is_new (Withdraw r o step) w s h = subst (IsNew w r) (sym (same_stamped s _ h)) (made_new w r o step Withdrawn)
+stamp_is_new (Import r es) w s h = cc
+stamp_is_new (Send r) w s h = cc
+stamp_is_new (Heads r) w s h = cc
+stamp_is_new (Beyond r m) w s h = cc
+stamp_is_new (Take r m) w s h = cc
+stamp_is_new (Advance r to) w s h = cc
+
+-- the stamp that an answer issues is new at the event's replica
+pub issued_is_new : (e : Event) (w : World) (answer : Result Reply WorldFault) → IsAnswer w e answer → IfSome (issued_stamp answer) (IsNew w (replica_number e))
+issued_is_new e w (Ok (Stamped s)) h = stamp_is_new e w s h.1
+issued_is_new e w (Ok (Touched t)) h = tt
+issued_is_new e w (Ok (Message m)) h = tt
+issued_is_new e w (Ok (Horizon to)) h = tt
+issued_is_new e w (Err fault) h = tt
 
 -- ---- the stamps of all replies
 

@@ -24,26 +24,25 @@ use Rattle.road_sheet.specs.Sheets.{Sheet, IsSheet, opening_sheet}
 use Rattle.road_rewind.specs.Growth.{touched_step}
 use Rattle.road_replica.specs.Refusals.{arrived_edit_fault, take_fault}
 use Rattle.road_replica.specs.Replicas.{Replica, replica_after}
-use Rattle.road_world.specs.Answers.{edits_wanted_fault, replica_with_sheet, sheet_at}
-use Rattle.road_world.specs.Events.{World, WorldReplica, opening_replica, replica_at, carried_edits, replica_of_winners, message_of_winners, world_of_winners}
-use Rattle.road_world.specs.Events.{world_with_advance, world_with_edits, world_with_message}
-use Rattle.road_world.specs.Messages.{AreSendable, IsSendable}
-use Rattle.road_world.specs.Private.Worlds.{world_replica, IsReplicaOf, IsWorldKept}
+use Rattle.road_world.specs.Answers.{edits_wanted_fault, fault_of_event, replica_with_sheet, sheet_at}
+use Rattle.road_world.specs.Events.{World, WorldReplica, opening_replica, replica_at, asked_heads, carried_edits, message_of_event, replica_of_winners, message_of_winners, world_after_event, world_of_winners}
+use Rattle.road_world.specs.Events.{world_with_advance, world_with_edits}
+use Rattle.road_world.specs.Private.Worlds.{AreSendable, IsSendable, world_replica, IsReplicaOf, IsWorldKept}
+use Rattle.road_world.specs.declared.event.Event.{Event}
+use Rattle.road_world.specs.declared.event.Event.TheVariants.{Edit, Withdraw, Import, Send, Heads, Beyond}
+use Rattle.road_world.specs.declared.event.Event.TheVariants as events
 use Rattle.road_world.specs.declared.faults.WorldFault.{WorldFault}
 use Rattle.road_world.specs.declared.message.Message.{Message}
 use Rattle.road_world.specs.declared.message.Message.TheVariants.{Whole, Answer, Asked}
+use Rattle.road_world.proofs.EventAnswers.{none_refuses}
+use Rattle.road_world.proofs.MadeMessages.{after_made, none_is_no_item, same_some}
+use Rattle.road_world.proofs.WinnersSuffice.{winners_again, world_with_message}
 
 -- what is kept, as it is seen
 abbrev pub viewed : Plan → List Replica → List Message → World
 viewed plan xs ms = record { plan = plan; replicas = map world_replica xs; messages = ms }
 
 -- ---- lists
-
-pub same_some : {A : Type 0} (x y : A) → Some x ≡ Some y → x ≡ y
-same_some x y h = cc
-
-pub none_is_no_item : {A : Type 0} (x : A) → None ≡ Some x → ⊥
-none_is_no_item x h = cc
 
 -- what both say of an item that is there
 pub if_both : {X : Type 0} (A : Type 0) (P Q R : X → Type 0) (o : Option X) → IfSome o P → MatchOption o A Q → ((x : X) → P x → Q x → R x) → IfSome o R
@@ -226,41 +225,58 @@ module _ (plan : Plan) (xs : List Replica) (ms : List Message) (kept : IsWorldKe
         ∙ sym (ap (λ (w : World). world_with_message (message_of_winners n) w) world_wins)
         ∙ ap (λ (ns : List Message). let w : World = record { plan = k.plan; replicas = map replica_of_winners k.replicas; messages = ns } in w) (sym (map-append message_of_winners k.messages (n ∷ [])))
 
-    -- all that a replica holds
-    pub sent_all : (r : ℕ) (x : Replica) (edits : Edits) → x ≡ slice_index_or xs r x → r < length xs → edits ≡ x.sheet.edits → Whole edits ≡ message_of_winners (Whole (replica_at k r).edits)
-    sent_all r x edits is below all =
-        ap Whole (all ∙ sym (is_replica r x is below).sheet.winners) ∙ ap (λ (q : WorldReplica). Whole (winners q.edits)) (sym (read r x is below))
+    -- all that a replica holds, as the event's message
+    pub whole_made : (r : ℕ) (x : Replica) (edits : Edits) → x ≡ slice_index_or xs r x → r < length xs → edits ≡ x.sheet.edits → message_of_event k (Send r) ≡ Some (Whole edits)
+    whole_made r x edits is below all =
+        ap (λ (q : WorldReplica). Some (Whole q.edits)) (read r x is below) ∙ ap (λ (s : Edits). Some (Whole s)) (sym all)
 
     -- its heads
-    pub sent_heads : (r : ℕ) (x : Replica) (hs : List Head) → x ≡ slice_index_or xs r x → r < length xs → hs ≡ heads x.sheet.edits → Asked hs ≡ Asked (heads (winners (replica_at k r).edits))
-    sent_heads r x hs is below all =
-        ap Asked (all ∙ ap heads (sym (is_replica r x is below).sheet.winners)) ∙ ap (λ (q : WorldReplica). Asked (heads (winners q.edits))) (sym (read r x is below))
-
-    pub held_sendable : (r : ℕ) (x : Replica) (edits : Edits) → x ≡ slice_index_or xs r x → r < length xs → edits ≡ x.sheet.edits → AreSendable k.plan edits
-    held_sendable r x edits is below all =
-        let of = is_replica r x is below in
-        let held : AreSendable x.sheet.plan x.sheet.edits = record { winners = of.sheet.winners; in_range = of.sheet.in_range } in
-        subst (λ (p : Plan). AreSendable p edits) (of.plan_is ∙ plan_same) (subst (λ (s : Edits). AreSendable x.sheet.plan s) (sym all) held)
+    pub heads_made : (r : ℕ) (x : Replica) (hs : List Head) → x ≡ slice_index_or xs r x → r < length xs → hs ≡ heads x.sheet.edits → message_of_event k (Heads r) ≡ Some (Asked hs)
+    heads_made r x hs is below all =
+        ap (λ (q : WorldReplica). Some (Asked (heads (winners q.edits)))) (read r x is below)
+        ∙ ap (λ (s : Edits). Some (Asked (heads s))) (is_replica r x is below).sheet.winners ∙ ap (λ (ts : List Head). Some (Asked ts)) (sym all)
 
     -- what it holds beyond heads
-    pub sent_beyond : (r : ℕ) (x : Replica) (delta : Edits) (hs : List Head) → x ≡ slice_index_or xs r x → r < length xs → delta ≡ beyond x.sheet.edits hs
-        → Answer delta ≡ message_of_winners (Answer (beyond (winners (replica_at k r).edits) hs))
-    sent_beyond r x delta hs is below all =
-        let wins = (is_replica r x is below).sheet.winners in
-        ap Answer (all ∙ sym (winners-beyond x.sheet.edits hs wins) ∙ ap (λ (s : Edits). winners (beyond s hs)) (sym wins)) ∙ ap (λ (q : WorldReplica). Answer (winners (beyond (winners q.edits) hs))) (sym (read r x is below))
+    pub answer_made : (r : ℕ) (x : Replica) (m : ℕ) (delta : Edits) → x ≡ slice_index_or xs r x → r < length xs → delta ≡ beyond x.sheet.edits (asked_heads (slice_get k.messages m)) → message_of_event k (Beyond r m) ≡ Some (Answer delta)
+    answer_made r x m delta is below all =
+        let asked : List Head = asked_heads (slice_get k.messages m) in
+        ap (λ (q : WorldReplica). Some (Answer (beyond (winners q.edits) asked))) (read r x is below)
+        ∙ ap (λ (s : Edits). Some (Answer (beyond s asked))) (is_replica r x is below).sheet.winners ∙ ap (λ (s : Edits). Some (Answer s)) (sym all)
 
-    pub beyond_sendable : (r : ℕ) (x : Replica) (delta : Edits) (hs : List Head) → x ≡ slice_index_or xs r x → r < length xs → delta ≡ beyond x.sheet.edits hs → AreSendable k.plan delta
-    beyond_sendable r x delta hs is below all =
-        let of = is_replica r x is below in record {
-          winners = ap winners all ∙ winners-beyond x.sheet.edits hs of.sheet.winners ∙ sym all;
-          in_range = λ e i. subst (λ (p : Plan). IsInRange p e) (of.plan_is ∙ plan_same) (of.sheet.in_range e (from_set x.sheet.edits hs e (ap (λ (s : Edits). contains s e) (sym all) ∙ i)));
-        }
+    -- the message of an event that is not refused may be sent
+    made_sendable : (e : Event) (m : Message) → fault_of_event k e ≡ None → message_of_event k e ≡ Some m → IsSendable k.plan m
+    made_sendable (Edit r o step n) m accepted made = absurd (none_is_no_item m made)
+    made_sendable (Withdraw r o step) m accepted made = absurd (none_is_no_item m made)
+    made_sendable (Import r es) m accepted made = absurd (none_is_no_item m made)
+    made_sendable (Send r) m accepted made =
+        let sheet = is_sheet r (none_refuses (Send r) k accepted).0 in
+        let held : AreSendable k.plan (replica_at k r).edits = record { winners = sheet.winners; in_range = sheet.in_range } in
+        subst (IsSendable k.plan) (same_some (Whole (replica_at k r).edits) m made) held
+    made_sendable (Heads r) m accepted made = subst (IsSendable k.plan) (same_some _ m made) tt
+    made_sendable (Beyond r n) m accepted made =
+        let sheet = is_sheet r (none_refuses (Beyond r n) k accepted).0 in
+        let held : Edits = (replica_at k r).edits in
+        let asked : List Head = asked_heads (slice_get k.messages n) in
+        let wins : winners held ≡ held = sheet.winners in
+        let delta : AreSendable k.plan (beyond (winners held) asked) = record {
+          winners = winners-beyond (winners held) asked (winners_again held);
+          in_range = λ e i. sheet.in_range e (from_set held asked e (ap (λ (s : Edits). contains (beyond s asked) e) (sym wins) ∙ i));
+        } in
+        subst (IsSendable k.plan) (same_some (Answer (beyond (winners held) asked)) m made) delta
+    made_sendable (events.Take r n) m accepted made = absurd (none_is_no_item m made)
+    made_sendable (events.Advance r to) m accepted made = absurd (none_is_no_item m made)
 
--- with a message more
-pub posted_wins : (plan : Plan) (xs : List Replica) (ms now : List Message) (m : Message) → IsWorldKept plan xs ms → IsSendable plan m → now ≡ ms ++ m ∷ [] → world_of_winners (viewed plan xs now) ≡ viewed plan xs now
-posted_wins plan xs ms now m kept is posted =
-    let all : IsWorldKept plan xs (ms ++ m ∷ []) = record { few = kept.few; each = kept.each; sendable = All-push (IsSendable plan) ms m kept.sendable is } in
-    subst (λ (ns : List Message). world_of_winners (viewed plan xs ns) ≡ viewed plan xs ns) (sym posted) (world_wins plan xs (ms ++ m ∷ []) all (viewed plan xs (ms ++ m ∷ [])) refl)
+    -- with it more, the world is still kept,
+    pub posted_kept : (e : Event) (m : Message) → fault_of_event k e ≡ None → message_of_event k e ≡ Some m → IsWorldKept plan xs (ms ++ m ∷ [])
+    posted_kept e m accepted made =
+        let sendable = subst (λ (p : Plan). IsSendable p m) (sym plan_same) (made_sendable e m accepted made) in
+        record { few = kept.few; each = kept.each; sendable = All-push (IsSendable plan) ms m kept.sendable sendable }
+
+    -- and is that after the event
+    pub posted : (e : Event) (m : Message) → fault_of_event k e ≡ None → message_of_event k e ≡ Some m → viewed plan xs (ms ++ m ∷ []) ≡ world_of_winners (world_after_event e k)
+    posted e m accepted made =
+        ap (world_with_message m) v ∙ sent m m (sym (message_wins k.plan m (made_sendable e m accepted made)))
+        ∙ ap world_of_winners (sym (after_made e k m made))
 
 -- ---- before any event
 

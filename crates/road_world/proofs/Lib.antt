@@ -7,8 +7,9 @@ pub mod HeadlineOfWinners
 pub mod ShownRuns
 pub mod PlayedEvents
 pub mod EventSteps
-pub mod KeptWorlds
 pub mod EventAnswers
+pub mod MadeMessages
+pub mod KeptWorlds
 pub mod AppliedEvents
 pub mod ListedWorlds
 pub mod Examples

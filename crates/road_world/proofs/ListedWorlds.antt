@@ -33,7 +33,7 @@ use Rattle.road_replica.specs.Replicas.{local_edit, single_edit}
 use Rattle.road_replica.specs.declared.reply.Reply.{Reply}
 use Rattle.road_replica.specs.declared.reply.Reply.TheVariants as replies
 use Rattle.road_world.specs.Answers.{touched_reply, reply_to_event, replica_number, edits_wanted_fault, heads_wanted_fault, fault_at_replica, fault_of_event, IsRefusal, IsAnswer, world_after_answer, AreAnswers}
-use Rattle.road_world.specs.Events.{World, WorldReplica, opening_replica, opening_world, replica_at, world_with_edits, world_with_local_edit, world_with_message, carried_edits, asked_heads, world_after_event, world_after_events, accepted_events, replica_after_events}
+use Rattle.road_world.specs.Events.{World, WorldReplica, opening_replica, opening_world, replica_at, world_with_edits, world_with_local_edit, carried_edits, asked_heads, world_after_event, world_after_events, accepted_events, replica_after_events}
 use Rattle.road_world.specs.declared.event.Event.{Event}
 use Rattle.road_world.specs.declared.event.Event.TheVariants.{Edit, Withdraw, Import, Send, Heads, Beyond, Take, Advance}
 use Rattle.road_world.specs.declared.faults.WorldFault.{WorldFault}
@@ -41,7 +41,7 @@ use Rattle.road_world.specs.declared.faults.WorldFault.TheVariants.{NoReplica}
 use Rattle.road_world.specs.declared.faults.WorldFault.TheVariants as faults
 use Rattle.road_world.specs.declared.message.Message.{Message}
 use Rattle.road_world.specs.declared.message.Message.TheVariants as messages
-use Rattle.road_world.proofs.WinnersSuffice.{replica_with, same_world}
+use Rattle.road_world.proofs.WinnersSuffice.{replica_with, same_world, world_with_message}
 
 -- ---- sets of lists
 

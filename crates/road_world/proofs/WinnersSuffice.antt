@@ -27,7 +27,7 @@ use Rattle.road_replica.specs.Replicas.{local_edit, single_edit}
 use Rattle.road_replica.specs.declared.reply.Reply.{Reply}
 use Rattle.road_replica.specs.declared.reply.Reply.TheVariants as replies
 use Rattle.road_world.specs.Answers.{stamp_reply, touched_reply, reply_to_event, replica_number, edits_wanted_fault, heads_wanted_fault, fault_at_replica, fault_of_event, IsRefusal, IsAnswer}
-use Rattle.road_world.specs.Events.{WorldReplica, World, opening_replica, opening_world, replica_at, world_with_edits, world_with_local_edit, world_with_message, carried_edits, asked_heads, world_after_event, replica_of_winners, message_of_winners, world_of_winners}
+use Rattle.road_world.specs.Events.{WorldReplica, World, opening_replica, opening_world, replica_at, world_with_edits, world_with_local_edit, carried_edits, asked_heads, world_after_event, replica_of_winners, message_of_winners, world_of_winners}
 use Rattle.road_world.specs.declared.event.Event.{Event}
 use Rattle.road_world.specs.declared.event.Event.TheVariants.{Edit, Withdraw, Import, Send, Heads, Beyond, Take, Advance}
 use Rattle.road_world.specs.declared.faults.WorldFault.{WorldFault}
@@ -152,6 +152,10 @@ made-of_winners w r o step v =
     let made : edits.Edit = local_edit r (replica_at w r).edits o step v in
     ap (λ (e : edits.Edit). world_of_winners (world_with_edits r (single_edit e) (world_of_winners w))) (local_edit-of_winners w r o step v)
     ∙ edits-of_winners w r (single_edit made) (single_edit made) (winners_of_one_part (replica_at w r).edits (single_edit made))
+
+-- the world with a message more
+abbrev pub world_with_message : Message → World → World
+world_with_message message w = record w { messages = w.messages ++ message ∷ [] }
 
 -- messages made, of the same winners
 message-of_winners : (w : World) (m n : Message) → message_of_winners m ≡ message_of_winners n → world_of_winners (world_with_message m (world_of_winners w)) ≡ world_of_winners (world_with_message n w)

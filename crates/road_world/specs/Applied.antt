@@ -1,13 +1,17 @@
 -- What the application of an event to a world comes to.
 use Rattle.std.specs.Prelude.{◌≡◌, ◌≢◌, ℕ, OnErr, OnOk, Result}
 use Rattle.std.specs.declared.option.Option.TheVariants.{None}
+use Rattle.std.specs.declared.result.Result.TheVariants.{Ok, Err}
 use Rattle.road_rewind.specs.Growth.{TicksAtMost, meter_after}
+use Rattle.road_replica.specs.declared.faults.ReplicaFault.TheVariants.{OutOfMemory}
 use Rattle.road_replica.specs.declared.reply.Reply.{Reply}
+use Rattle.road_replica.specs.declared.reply.Reply.TheVariants.{Message}
 use Rattle.road_world.specs.Answers.{IsAnswer, fault_of_event}
 use Rattle.road_world.specs.Events.{World, world_after_event, world_of_winners}
 use Rattle.road_world.specs.Steps.{most_steps_of_event, steps_of_event}
 use Rattle.road_world.specs.declared.event.Event.{Event}
 use Rattle.road_world.specs.declared.faults.WorldFault.{WorldFault}
+use Rattle.road_world.specs.declared.faults.WorldFault.TheVariants.{Replica}
 
 -- an event is applied to a world, and a meter counts the steps that are computed
 pub record IsApplied (event : Event) (result : Result Reply WorldFault) (old new : World)
@@ -24,3 +28,8 @@ pub record IsApplied (event : Event) (result : Result Reply WorldFault) (old new
   pub named : OnErr result (fault_of_event old event ≢ None → later ≡ meter)
   -- and else at most those that it may cost
   pub few_steps : TicksAtMost (most_steps_of_event old event) meter later
+
+-- the answer to an event whose message is posted: the message's number, or out of memory
+abbrev pub posted_answer : {A : Type 0} → Result ℕ A → Result Reply WorldFault
+posted_answer (Ok number) = Ok (Message number)
+posted_answer (Err failed) = Err (Replica OutOfMemory)

@@ -58,10 +58,6 @@ abbrev pub world_with_local_edit : ℕ → Object → ℕ → Value → World �
 world_with_local_edit r object step value w =
     world_with_edits r (single_edit (local_edit r (replica_at w r).edits object step value)) w
 
--- the world with a message more
-abbrev pub world_with_message : Message → World → World
-world_with_message message w = record w { messages = w.messages ++ message ∷ [] }
-
 -- the world after replica r was advanced to a step
 abbrev pub world_with_advance : ℕ → ℕ → World → World
 world_with_advance r to w =
@@ -82,16 +78,32 @@ asked_heads (Some (Answer edits)) = []
 asked_heads (Some (Asked hs)) = hs
 asked_heads None = []
 
+-- the message that an event makes, by what its replica holds; none where the event is no making of a message
+abbrev pub message_of_event : World → Event → Option Message
+message_of_event w (Send r) = Some (Whole (replica_at w r).edits)
+message_of_event w (Heads r) = Some (Asked (heads (winners (replica_at w r).edits)))
+message_of_event w (Beyond r message) =
+    let asked = asked_heads (slice_get w.messages message) in
+    Some (Answer (beyond (winners (replica_at w r).edits) asked))
+message_of_event w event = None
+
+-- messages, and behind them the one that was made, if one was
+abbrev pub messages_with : Option Message → List Message → List Message
+messages_with None messages = messages
+messages_with (Some message) messages = messages ++ message ∷ []
+
+-- the world after an event that makes a message
+abbrev pub world_with_made : Event → World → World
+world_with_made event w = record w { messages = messages_with (message_of_event w event) w.messages }
+
 -- the world after an accepted event
 abbrev pub world_after_event : Event → World → World
 world_after_event (Edit r object step number) w = world_with_local_edit r object step (Put number) w
 world_after_event (Withdraw r object step) w = world_with_local_edit r object step Withdrawn w
 world_after_event (Import r edits) w = world_with_edits r (from_list edits.items) w
-world_after_event (Send r) w = world_with_message (Whole (replica_at w r).edits) w
-world_after_event (Heads r) w = world_with_message (Asked (heads (winners (replica_at w r).edits))) w
-world_after_event (Beyond r message) w =
-    let asked = asked_heads (slice_get w.messages message) in
-    world_with_message (Answer (beyond (winners (replica_at w r).edits) asked)) w
+world_after_event (Send r) w = world_with_made (Send r) w
+world_after_event (Heads r) w = world_with_made (Heads r) w
+world_after_event (Beyond r message) w = world_with_made (Beyond r message) w
 world_after_event (Take r message) w = world_with_edits r (carried_edits (slice_get w.messages message)) w
 world_after_event (Advance r to) w = world_with_advance r to w
 

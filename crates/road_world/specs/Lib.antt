@@ -1,6 +1,5 @@
 -- What events do, what they are answered and may cost, and what a list of them carries.
 pub mod Events
-pub mod Messages
 pub mod Answers
 pub mod Steps
 pub mod Applied

@@ -1,10 +1,15 @@
 -- The stamps that a world gives out.
-use Rattle.std.specs.Prelude.{◌≡◌, ◌==◌, ◌&&◌, Bool, false, List, [], ◌∷◌, ◌++◌, map, Result}
+use Rattle.std.specs.Prelude.{◌≡◌, ◌<◌, ◌==◌, ◌&&◌, ℕ, Bool, true, false, List, [], ◌∷◌, ◌++◌, map, Result}
 use Rattle.std.specs.List.{IsDistinct, list_any}
+use Rattle.std.specs.declared.option.Option.{Option}
+use Rattle.std.specs.declared.option.Option.TheVariants.{None, Some}
 use Rattle.std.specs.declared.result.Result.TheVariants.{Ok}
+use Rattle.lattice_core.specs.Sets.{contains}
+use Rattle.road_scenario.specs.declared.edit.Edit.{Edit}
 use Rattle.road_scenario.specs.declared.edit.Stamp.{Stamp}
 use Rattle.road_replica.specs.declared.reply.Reply.{Reply}
 use Rattle.road_replica.specs.declared.reply.Reply.TheVariants.{Stamped}
+use Rattle.road_world.specs.Events.{World, replica_at}
 use Rattle.road_world.specs.declared.event.Event.{Event}
 use Rattle.road_world.specs.declared.event.Event.TheVariants.{Import}
 use Rattle.road_world.specs.declared.faults.WorldFault.{WorldFault}
@@ -12,6 +17,16 @@ use Rattle.road_world.specs.declared.faults.WorldFault.{WorldFault}
 -- whether two stamps are one
 abbrev pub is_same_stamp : Stamp → Stamp → Bool
 is_same_stamp s t = s.count == t.count && s.number == t.number
+
+-- the stamp that an answer issues, if it does: that of a local edit
+abbrev pub issued_stamp : Result Reply WorldFault → Option Stamp
+issued_stamp (Ok (Stamped stamp)) = Some stamp
+issued_stamp answer = None
+
+-- a stamp is new at replica r: it bears r's number, and its count is greater than that of each edit that r holds
+pub record IsNew (w : World) (r : ℕ) (stamp : Stamp) : Type 0 where
+  pub of_replica : stamp.number ≡ r
+  pub greater : (e : Edit) → contains (replica_at w r).edits e ≡ true → e.stamp.count < stamp.count
 
 -- the stamps in replies: those of the local edits that were accepted
 abbrev pub issued_stamps : List (Result Reply WorldFault) → List Stamp

@@ -1,13 +1,15 @@
 //! A list of events, played one after another from the opened world on.
 
-ghost use Rattle.std.specs.Prelude.{◌≡◌, ◌≤◌, ◌++◌, ◌∷◌, [], IfOk, OnErr, OnOk};
+ghost use Rattle.std.specs.Prelude.{◌≡◌, ◌≤◌, ◌++◌, ◌∷◌, [], IfOk, OnErr, OnOk, map};
 ghost use Rattle.std.specs.Prelude.{vec_capacity, vec_len};
 ghost use Rattle.std.specs.Arc.{arc_value};
 ghost use Rattle.road_plan.specs.declared.limits.TheConstants.{MOST_REPLICAS};
 ghost use Rattle.road_rewind.specs.Growth.{TicksAtMost, meter_after};
 ghost use Rattle.road_world.specs.Answers.{AreAnswers, gone_after_answers};
-ghost use Rattle.road_world.specs.Events.{opening_world, world_of_events, world_of_winners};
+ghost use Rattle.road_world.specs.Events.{accepted_events, message_of_winners, opening_world, world_of_events};
+ghost use Rattle.road_world.specs.Events.{world_of_winners};
 ghost use Rattle.road_world.specs.Headline.{Headline};
+ghost use Rattle.road_world.specs.Stamps.{AreFresh, imported_stamps, issued_stamps};
 ghost use Rattle.road_world.specs.Steps.{most_wasted_steps_of_events, steps_of_events};
 
 use crate::event::Event;
@@ -53,6 +55,12 @@ pub fn play<C: Crew>(
     // Each event has its answer.
     ensures answers { IfOk result (λ played.
         AreAnswers (opening_world (arc_value plan) replicas) events.now played.replies.items) }
+    // Each message is what its event put into it, of edits the winners.
+    ensures messages { IfOk result (λ played. played.world.messages
+        ≡ map message_of_winners (world_of_events (arc_value plan) replicas events.now played.replies.items).messages) }
+    // No stamp is issued twice, and none is that of an import.
+    ensures stamps { IfOk result (λ played. AreFresh (issued_stamps played.replies.items)
+        (imported_stamps (accepted_events events.now played.replies.items))) }
     // The meter counts the sum of the steps of the accepted events, and for events that are refused for out of memory or
     // lost workers at most the steps that they may cost.
     ensures steps { IfOk result (λ played. TicksAtMost

@@ -12,13 +12,13 @@ ghost use Rattle.road_sheet.specs.Sheets.{IsSheet, opening_sheet};
 ghost use Rattle.road_sheet.specs.Shown.{rows_at, run_at, total_at};
 ghost use Rattle.road_replica.specs.Refusals.{rows_fault, state_fault, totals_fault};
 ghost use Rattle.road_replica.specs.declared.reply.Reply.TheVariants as replies;
-ghost use Rattle.road_world.specs.Answers.{IsQueryRefusal, edits_wanted_fault, gone_after_answer, heads_wanted_fault};
-ghost use Rattle.road_world.specs.Answers.{query_fault, sheet_at};
-ghost use Rattle.road_world.specs.Applied.{IsApplied};
+ghost use Rattle.road_world.specs.Answers.{IsQueryRefusal, edits_wanted_fault, fault_of_event, gone_after_answer};
+ghost use Rattle.road_world.specs.Answers.{heads_wanted_fault, query_fault, replica_number, sheet_at};
+ghost use Rattle.road_world.specs.Applied.{IsApplied, posted_answer};
 ghost use Rattle.road_world.specs.Events as worlds;
-ghost use Rattle.road_world.specs.Events.{asked_heads, carried_edits, opening_world, replica_at};
-ghost use Rattle.road_world.specs.Events.{world_of_winners, world_with_message};
-ghost use Rattle.road_world.specs.Messages.{IsSendable};
+ghost use Rattle.road_world.specs.Events.{asked_heads, carried_edits, message_of_event, messages_with, opening_world};
+ghost use Rattle.road_world.specs.Events.{replica_at, world_of_winners};
+ghost use Rattle.road_world.specs.Stamps.{IsNew, issued_stamp};
 ghost use Rattle.road_world.specs.Private.LocalEvents.{local_event};
 ghost use Rattle.road_world.specs.declared.event.Event.TheVariants as events;
 ghost use Rattle.road_world.specs.declared.faults.WorldFault.TheVariants.{NoMessage};
@@ -126,18 +126,16 @@ impl World {
         self.messages.get(number as usize)
     }
 
-    /// Appends a message that is made already: by a replica of this world, or elsewhere. It must carry heads, or edits
-    /// that fit the plan. Returns its number.
+    /// Applies an event whose message is made already: appends that message, which must be the one that the event makes
+    /// in this world, and returns its number. The event must be one that [`World::apply`] refuses for no named cause.
     ///
     /// # Errors
     ///
     /// `OutOfMemory` where an allocation failed. The world is then as it was.
-    pub fn post(&mut self, message: Message) -> Result<u64, OutOfMemory>
-        requires { IsSendable self.old.plan message }
-        ensures number { IfOk result (λ number. number ≡ length self.old.messages) }
-        ensures after { OnOk result (self.new ≡ world_with_message message self.old) }
-        ensures winners { OnOk result (world_of_winners self.new ≡ self.new) }
-        ensures unchanged { OnErr result (self.new ≡ self.old) }
+    pub fn post(&mut self, event: &Event, message: Message) -> Result<u64, OutOfMemory>
+        requires accepted { fault_of_event self.old event.now ≡ None }
+        requires made { message_of_event self.old event.now ≡ Some message }
+        ensures applied { (meter : ℕ) → IsApplied event.now (posted_answer result) self.old self.new meter meter }
     {
         let number = self.messages.len() as u64;
         self.messages.push(message)?;
@@ -239,11 +237,31 @@ impl World {
         meter: &mut Meter,
     ) -> Result<Reply, WorldFault>
         ensures applied { IsApplied event.now result self.old self.new meter.old meter.new }
+        // A stamp that is issued is new at the event's replica.
+        ensures stamp { IfSome (issued_stamp result) (IsNew self.old (replica_number event.now)) }
+        // The messages are those before, and behind them the one that the event makes, if it makes one.
+        ensures messages { OnOk result (self.new.messages
+            ≡ messages_with (message_of_event self.old event.now) self.old.messages) }
         ensures gone { C.times_gone crew.new ≡ gone_after_answer result (C.times_gone crew.old) }
     {
         if event.replica() as usize >= self.replicas.len() {
             return Err(WorldFault::NoReplica);
         }
+        self.apply_there(alloc, event, crew, meter)
+    }
+
+    // Applies an event at a replica that the world has.
+    fn apply_there<C: Crew>(
+        &mut self,
+        alloc: Global,
+        event: &Event,
+        crew: &mut C,
+        meter: &mut Meter,
+    ) -> Result<Reply, WorldFault>
+        requires { replica_number event.now < length self.old.replicas }
+        ensures applied { IsApplied event.now result self.old self.new meter.old meter.new }
+        ensures gone { C.times_gone crew.new ≡ gone_after_answer result (C.times_gone crew.old) }
+    {
         match event {
             Event::Edit {
                 at,
@@ -351,7 +369,8 @@ impl World {
         ensures no_crew { (n : ℕ) → gone_after_answer result n ≡ n }
     {
         let scenario = self.replicas[at as usize].message()?;
-        Ok(Reply::Message(self.post(Message::Whole(scenario))?))
+        let number = self.post(&Event::Send { at }, Message::Whole(scenario))?;
+        Ok(Reply::Message(number))
     }
 
     // Sends a replica's heads.
@@ -361,7 +380,8 @@ impl World {
         ensures no_crew { (n : ℕ) → gone_after_answer result n ≡ n }
     {
         let heads = self.replicas[at as usize].heads(alloc)?;
-        Ok(Reply::Message(self.post(Message::Asked(heads))?))
+        let number = self.post(&Event::Heads { at }, Message::Asked(heads))?;
+        Ok(Reply::Message(number))
     }
 
     // Answers heads by what a replica holds beyond them.
@@ -374,7 +394,8 @@ impl World {
             return Err(WorldFault::NoMessage);
         };
         let delta = self.replicas[at as usize].beyond(alloc, heads)?;
-        Ok(Reply::Message(self.post(Message::Answer(delta))?))
+        let number = self.post(&Event::Beyond { at, message }, Message::Answer(delta))?;
+        Ok(Reply::Message(number))
     }
 }
 

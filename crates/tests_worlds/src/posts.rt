@@ -1,10 +1,9 @@
-//! Messages that are made already when they come to a world.
+//! Messages that are made already: posted for their event, they are what the event would have made.
 
-use crate::worlds::{B1, BLOCK, holds};
-use road_delta::heads_of;
+use crate::worlds::{A1, BLOCK, holds};
 use road_ends::Meter;
 use road_replica::Reply;
-use road_scenario::{Edit, Scenario, Value};
+use road_scenario::{Edit, Value};
 use road_workers::Alone;
 use road_world::{Event, Message, World, WorldFault};
 use std::alloc::Global;
@@ -12,53 +11,77 @@ use std::sync::Arc;
 use std::test::Fail;
 use tests_plans::{FREE, plan_of};
 
-const MADE_ELSEWHERE: Edit = Edit {
+const CLOSED: Edit = Edit {
     object: BLOCK,
     step: 4,
-    stamp: B1,
+    stamp: A1,
     value: Value::Put(1),
 };
 
-// Returns the world of two replicas of the free road.
+// Returns the world of three replicas of the free road, of which replica 0 has closed a cell, and 2 has run to step 6.
 fn opened(alloc: Global) -> Result<World, Fail> {
     let plan = Arc::new(alloc, plan_of(alloc, &FREE)?)?;
-    Ok(World::open(alloc, plan, 2)?)
+    let mut world = World::open(alloc, plan, 3)?;
+    let mut meter = Meter::new();
+    let closed = Event::Edit {
+        at: 0,
+        object: BLOCK,
+        step: 4,
+        value: 1,
+    };
+    world.apply(alloc, &closed, &mut Alone, &mut meter)?;
+    let advanced = Event::Advance { at: 2, to: 6 };
+    world.apply(alloc, &advanced, &mut Alone, &mut meter)?;
+    Ok(world)
 }
 
-// Posts the edit, and returns the number of its message.
-fn post_edit(alloc: Global, world: &mut World) -> Result<u64, Fail> {
-    let scenario = Scenario::empty(alloc).with_edit(&MADE_ELSEWHERE)?;
-    if scenario.edits(alloc)?.is_empty() || scenario.fits(world.plan()).is_some() {
-        return Err(Fail::new("no edit that fits"));
-    }
-    Ok(world.post(Message::Whole(scenario))?)
+// Posts all that a replica holds, and returns the number of the message.
+fn post_whole(world: &mut World, at: u32) -> Result<u64, Fail> {
+    let Some(replica) = world.replica(at) else {
+        return Err(Fail::new("no replica"));
+    };
+    let whole = Message::Whole(replica.message()?);
+    Ok(world.post(&Event::Send { at }, whole)?)
 }
 
-// Posts the heads of no edits, and returns the number of their message.
-fn post_heads(alloc: Global, world: &mut World) -> Result<u64, Fail> {
-    let heads = heads_of(alloc, &Scenario::empty(alloc))?;
-    Ok(world.post(Message::Asked(heads))?)
+// Posts a replica's heads, and returns the number of their message.
+fn post_heads(alloc: Global, world: &mut World, at: u32) -> Result<u64, Fail> {
+    let Some(replica) = world.replica(at) else {
+        return Err(Fail::new("no replica"));
+    };
+    let asked = Message::Asked(replica.heads(alloc)?);
+    Ok(world.post(&Event::Heads { at }, asked)?)
+}
+
+// Posts what a replica holds beyond the heads of a message, and returns the number of the answer.
+fn post_answer(alloc: Global, world: &mut World, at: u32, message: u64) -> Result<u64, Fail> {
+    let Some(replica) = world.replica(at) else {
+        return Err(Fail::new("no replica"));
+    };
+    let Some(Message::Asked(heads)) = world.message(message) else {
+        return Err(Fail::new("no heads"));
+    };
+    let answer = Message::Answer(replica.beyond(alloc, heads)?);
+    Ok(world.post(&Event::Beyond { at, message }, answer)?)
 }
 
 #[test]
-fn a_posted_message_is_taken_or_answered(rt: HostRuntime) -> Result<(), Fail> {
+fn a_posted_message_is_that_of_its_event(rt: HostRuntime) -> Result<(), Fail> {
     let alloc = rt.alloc();
     let mut world = opened(alloc)?;
     let mut meter = Meter::new();
-    assert_eq!(&rt; post_heads(alloc, &mut world)?, 0);
-    assert_eq!(&rt; post_edit(alloc, &mut world)?, 1);
-    let advanced = Event::Advance { at: 1, to: 6 };
-    let reply = world.apply(alloc, &advanced, &mut Alone, &mut meter);
-    assert!(&rt; reply == Ok(Reply::Horizon(6)));
+    assert_eq!(&rt; post_heads(alloc, &mut world, 1)?, 0);
+    assert_eq!(&rt; post_answer(alloc, &mut world, 0, 0)?, 1);
+    assert_eq!(&rt; post_whole(&mut world, 0)?, 2);
     let wrong = Event::Take { at: 1, message: 0 };
     let reply = world.apply(alloc, &wrong, &mut Alone, &mut meter);
     assert!(&rt; reply == Err(WorldFault::NoMessage));
-    let taken = Event::Take { at: 1, message: 1 };
-    let reply = world.apply(alloc, &taken, &mut Alone, &mut meter);
-    assert!(&rt; reply == Ok(Reply::Touched(Some(4))));
-    let answered = Event::Beyond { at: 1, message: 0 };
+    let answered = Event::Take { at: 1, message: 1 };
     let reply = world.apply(alloc, &answered, &mut Alone, &mut meter);
-    assert!(&rt; reply == Ok(Reply::Message(2)));
-    holds(&rt, alloc, &world, 0, &[])?;
-    holds(&rt, alloc, &world, 1, &[MADE_ELSEWHERE])
+    assert!(&rt; reply == Ok(Reply::Touched(Some(4))));
+    let sent = Event::Take { at: 2, message: 2 };
+    let reply = world.apply(alloc, &sent, &mut Alone, &mut meter);
+    assert!(&rt; reply == Ok(Reply::Touched(Some(4))));
+    holds(&rt, alloc, &world, 1, &[CLOSED])?;
+    holds(&rt, alloc, &world, 2, &[CLOSED])
 }

@@ -4,11 +4,14 @@ use Rattle.std.specs.List.{All, slice_get}
 use Rattle.std.specs.declared.option.Option.TheVariants.{Some}
 use Rattle.road_plan.specs.Plan.{Plan}
 use Rattle.road_plan.specs.declared.limits.TheConstants.{MOST_REPLICAS}
+use Rattle.road_scenario.specs.Edits.{Edits}
+use Rattle.road_scenario.specs.Faults.{AreInRange}
+use Rattle.road_scenario.specs.Winners.{AreWinners}
 use Rattle.road_sheet.specs.Sheets.{IsSheet}
 use Rattle.road_replica.specs.Replicas.{Replica}
 use Rattle.road_world.specs.Events.{WorldReplica}
-use Rattle.road_world.specs.Messages.{IsSendable}
 use Rattle.road_world.specs.declared.message.Message.{Message}
+use Rattle.road_world.specs.declared.message.Message.TheVariants.{Whole, Answer, Asked}
 
 -- a replica as the world's events see it: its edits, and its horizon
 abbrev pub world_replica : Replica → WorldReplica
@@ -19,6 +22,17 @@ pub record IsReplicaOf (plan : Plan) (number : ℕ) (replica : Replica) : Type 0
   pub number_is : replica.number ≡ number
   pub plan_is : replica.sheet.plan ≡ plan
   pub sheet : IsSheet replica.sheet
+
+-- no edit of a set exceeds another, and all are in the plan and its ranges
+pub record AreSendable (plan : Plan) (edits : Edits) : Type 0 where
+  pub winners : AreWinners edits
+  pub in_range : AreInRange plan edits
+
+-- a message carries such edits; of heads nothing is asked
+abbrev pub IsSendable : Plan → Message → Type 0
+IsSendable plan (Whole edits) = AreSendable plan edits
+IsSendable plan (Answer edits) = AreSendable plan edits
+IsSendable plan (Asked hs) = Unit {0}
 
 -- each replica has its place as its number, they are few enough, and each message may be sent
 pub record IsWorldKept (plan : Plan) (replicas : List Replica) (messages : List Message) : Type 0 where

@@ -11,6 +11,7 @@ use Rattle.road_world.specs.declared.event.Event.{Event}
 use Rattle.road_world.specs.declared.faults.WorldFault.{WorldFault}
 use Rattle.road_world.proofs.EventLists.{gone-one_more}
 use Rattle.road_world.proofs.EventSteps.{IsMetered, metered_all, metered_none, metered_one_more}
+use Rattle.road_world.proofs.FreshStamps.{stamps_are_fresh}
 use Rattle.road_world.proofs.HeadlineOfWinners.{headline}
 use Rattle.road_world.proofs.PlayedEvents.{IsPlayed, played_none, played_one_more}
 use Rattle.road_world.proofs.playing.play.Goals as goal
@@ -72,6 +73,16 @@ returns-clause-answers g c =
 pub returns-clause-world : goal.returns-clause-world
 returns-clause-world g c =
     (played_all (arc_value c.args.plan) c.args.replicas c.loop-event.event-index c.args.events.now c.loop-event.replies.items c.loop-event.world c.loop-event-test.false c.loop-event.invariant.played).holds
+
+pub returns-clause-messages : goal.returns-clause-messages
+returns-clause-messages g c =
+    let all = played_all (arc_value c.args.plan) c.args.replicas c.loop-event.event-index c.args.events.now c.loop-event.replies.items c.loop-event.world c.loop-event-test.false c.loop-event.invariant.played in
+    ap (λ (w : World). w.messages) all.holds
+
+pub returns-clause-stamps : goal.returns-clause-stamps
+returns-clause-stamps g c =
+    let all = played_all (arc_value c.args.plan) c.args.replicas c.loop-event.event-index c.args.events.now c.loop-event.replies.items c.loop-event.world c.loop-event-test.false c.loop-event.invariant.played in
+    stamps_are_fresh (arc_value c.args.plan) c.args.replicas c.args.events.now c.loop-event.replies.items c.requires all.answers
 
 pub returns-clause-steps : goal.returns-clause-steps
 returns-clause-steps g c =

@@ -1,7 +1,54 @@
--- A message more leaves all caches as they were.
-use Rattle.road_commands.proofs.QueryCaches.{cached_with_message}
+-- An event that makes a message is one of the world, and leaves all caches as they were.
+use Rattle.std.proofs.Common.{◌∙◌, ◌≡◌, ◌<◌, ◌++◌, ◌∷◌, [], List, ℕ, ap, arith, length, rules, subst, sym, take}
+use Rattle.std.proofs.Math.Seq.{take-append_seam}
+use Rattle.road_commands.proofs.QueryCaches.{cached_on, laboratory_with, made_keeps}
+use Rattle.road_commands.specs.Laboratory.{Laboratory, laboratory_of_winners}
+use Rattle.road_commands.specs.Private.Caching.{IsCached}
+use Rattle.road_world.specs.Answers.{fault_at_replica, replica_number}
+use Rattle.road_world.specs.Events.{World, message_of_event, world_after_event, world_of_winners}
+use Rattle.road_world.proofs.EventAnswers.{fault_there}
 use Rattle.road_commands.proofs.laboratory.Laboratory.post.Goals as goal
+
+pub post-requires-clause-accepted : goal.post-requires-clause-accepted
+post-requires-clause-accepted c =
+    let e = c.args.event.now in
+    let world = ap (λ (l : Laboratory). l.world) c.self.view_is in
+    let names = ap (λ (l : Laboratory). length l.replica_names) c.self.view_is in
+    let below : replica_number e < length c.self.inside.world.replicas = omega (arith, c.self.invariant.replicas, names, c.requires.there) in
+    fault_there c.self.inside.world e below ∙ ap (λ (w : World). fault_at_replica w e) world ∙ c.requires.accepted
+
+pub post-requires-clause-made : goal.post-requires-clause-made
+post-requires-clause-made c =
+    ap (λ (w : World). message_of_event w c.args.event.now) (ap (λ (l : Laboratory). l.world) c.self.view_is) ∙ c.requires.made
 
 pub invariant_of-self-in-Ok : goal.invariant_of-self-in-Ok
 invariant_of-self-in-Ok c =
-    cached_with_message c.self.inside.replicas c.self.inside.world c.post.new.self c.self.inside.caches.items c.args.message c.self.invariant c.in-Ok.ensures.after c.in-Ok.ensures.winners
+    cached_on c.self.inside.replicas c.self.inside.world c.post.new.self c.self.inside.caches.items c.args.event.now c.self.invariant
+    (c.in-Ok.ensures.applied 0).after (made_keeps c.args.event.now c.args.self.now.world c.args.message c.requires.made)
+
+pub invariant_of-self-in-Err : goal.invariant_of-self-in-Err
+invariant_of-self-in-Err c =
+    subst (λ (w : World). IsCached c.self.inside.replicas w c.self.inside.caches.items) (sym (c.in-Err.ensures.applied 0).unchanged) c.self.invariant
+
+pub returns-in-Ok-clause-after : goal.returns-in-Ok-clause-after
+returns-in-Ok-clause-after c =
+    let e = c.args.event.now in
+    let name = c.args.name.now in
+    let r = c.self.inside.replicas in
+    let m = c.self.inside.messages in
+    let w = c.self.inside.world in
+    let named : c.put.new.self ≡ m ++ name ∷ [] = search rules in
+    ap (λ (v : World). laboratory_with r c.put.new.self v) (c.in-Ok.ensures.applied 0).after
+    ∙ ap (λ (ns : List (List ℕ)). laboratory_with r ns (world_of_winners (world_after_event e w))) named
+    ∙ ap (λ (lab : Laboratory). laboratory_of_winners (record lab { message_names = lab.message_names ++ name ∷ []; world = world_after_event e lab.world })) c.self.view_is
+
+pub returns-in-Err-clause-unchanged : goal.returns-in-Err-clause-unchanged
+returns-in-Err-clause-unchanged c =
+    let r = c.self.inside.replicas in
+    let m = c.self.inside.messages in
+    let name = c.args.name.now in
+    let named : c.put.new.self ≡ m ++ name ∷ [] = search rules in
+    let count : c.len-count.result ≡ length m = search rules in
+    let cut = c.cut.ensures ∙ ap (λ n. take n c.put.new.self) count ∙ ap (take (length m)) named ∙ take-append_seam m (name ∷ []) in
+    ap (λ (v : World). laboratory_with r c.cut.new.self v) (c.in-Err.ensures.applied 0).unchanged
+    ∙ ap (λ (ns : List (List ℕ)). laboratory_with r ns c.self.inside.world) cut ∙ c.self.view_is

@@ -1,20 +1,15 @@
--- A message is made at whatever count of the meter.
-use Rattle.std.proofs.Common.{subst, sym}
-use Rattle.road_world.specs.Applied.{IsApplied}
-use Rattle.road_world.specs.declared.event.Event.{Event}
+-- What an event issues and makes, by its answer and the world after it.
+use Rattle.std.specs.Arc.{arc_value}
+use Rattle.road_world.proofs.FreshStamps.{issued_is_new}
+use Rattle.road_world.proofs.KeptWorlds.{world_wins}
+use Rattle.road_world.proofs.MadeMessages.{messages_made}
 use Rattle.road_world.proofs.world.World.apply.Goals as goal
 
-pub returns-in-Send-clause-applied : goal.returns-in-Send-clause-applied
-returns-in-Send-clause-applied g c =
-    let n = c.args.meter.now in
-    subst (λ (e : Event). IsApplied e c.send.result c.args.self.now c.send.new.self n n) (sym c.in-Send.is) (c.send.ensures.applied n)
+pub returns-clause-stamp : goal.returns-clause-stamp
+returns-clause-stamp g c =
+    issued_is_new c.args.event.now c.args.self.now c.apply_there.result c.apply_there.ensures.applied.answer
 
-pub returns-in-Heads-clause-applied : goal.returns-in-Heads-clause-applied
-returns-in-Heads-clause-applied g c =
-    let n = c.args.meter.now in
-    subst (λ (e : Event). IsApplied e c.heads.result c.args.self.now c.heads.new.self n n) (sym c.in-Heads.is) (c.heads.ensures.applied n)
-
-pub returns-in-Beyond-clause-applied : goal.returns-in-Beyond-clause-applied
-returns-in-Beyond-clause-applied g c =
-    let n = c.args.meter.now in
-    subst (λ (e : Event). IsApplied e c.beyond.result c.args.self.now c.beyond.new.self n n) (sym c.in-Beyond.is) (c.beyond.ensures.applied n)
+pub returns-clause-messages : goal.returns-clause-messages
+returns-clause-messages g c =
+    let wins = world_wins (arc_value c.self.inside.plan) c.self.inside.replicas.items c.self.inside.messages.items c.self.invariant c.args.self.now c.self.view_is in
+    messages_made c.args.event.now c.apply_there.result c.args.self.now c.apply_there.new.self wins c.apply_there.ensures.applied.after

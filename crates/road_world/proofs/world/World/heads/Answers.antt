@@ -1,24 +1,26 @@
--- The heads that are sent are those of the replica's winners.
-use Rattle.std.proofs.Common.{◌∙◌, ap, refl}
+-- The heads of all that a replica holds are the message of its event.
 use Rattle.std.specs.Arc.{arc_value}
-use Rattle.road_delta.specs.Deltas.{heads}
-use Rattle.road_scenario.specs.Winners.{winners}
-use Rattle.road_replica.specs.declared.reply.Reply.TheVariants as replies
-use Rattle.road_world.proofs.AppliedEvents.{message_made}
+use Rattle.road_world.proofs.AppliedEvents.{post_handed_on}
 use Rattle.road_world.proofs.EventAnswers.{fault_there}
-use Rattle.road_world.proofs.KeptWorlds.{below_kept, sent, sent_heads}
-use Rattle.road_world.specs.Events.{replica_at}
+use Rattle.road_world.proofs.KeptWorlds.{below_kept, heads_made}
 use Rattle.road_world.specs.declared.event.Event.TheVariants as events
-use Rattle.road_world.specs.declared.message.Message.TheVariants.{Asked}
 use Rattle.road_world.proofs.world.World.heads.Goals as goal
 
-pub returns-clause-applied : goal.returns-clause-applied
-returns-clause-applied c meter =
+pub post-requires-clause-accepted : goal.post-requires-clause-accepted
+post-requires-clause-accepted c = fault_there c.args.self.now (events.Heads c.args.at) c.requires
+
+pub post-requires-clause-made : goal.post-requires-clause-made
+post-requires-clause-made c =
     let plan = arc_value c.self.inside.plan in
     let xs = c.self.inside.replicas.items in
     let ms = c.self.inside.messages.items in
     let k = c.args.self.now in
     let below = below_kept plan xs ms c.self.invariant k c.self.view_is c.args.at c.requires in
-    let all = sent_heads plan xs ms c.self.invariant k c.self.view_is c.args.at c.index.result.now c.in_ok-heads.heads c.index.ensures below c.in_ok-heads.ensures.heads in
-    message_made (events.Heads c.args.at) k c.post.new.self (replies.Message c.in_ok-post.field-0) meter refl (fault_there k (events.Heads c.args.at) c.requires, ap replies.Message c.in_ok-post.ensures.number)
-    (c.in_ok-post.ensures.after ∙ sent plan xs ms c.self.invariant k c.self.view_is (Asked c.in_ok-heads.heads) (Asked (heads (winners (replica_at k c.args.at).edits))) all)
+    heads_made plan xs ms c.self.invariant k c.self.view_is c.args.at c.index.result.now c.in_ok-heads.heads c.index.ensures below c.in_ok-heads.ensures.heads
+
+pub returns-in_err-number-clause-applied : goal.returns-in_err-number-clause-applied
+returns-in_err-number-clause-applied c meter =
+    post_handed_on (events.Heads c.args.at) c.from_residual-in_err-number.result c.args.self.now c.post.new.self meter c.from_residual-in_err-number.ensures.1 (c.in_err-number.ensures.applied meter)
+
+pub returns-clause-applied : goal.returns-clause-applied
+returns-clause-applied c meter = c.in_ok-number.ensures.applied meter
