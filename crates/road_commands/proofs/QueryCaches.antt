@@ -17,8 +17,8 @@ use Rattle.road_world.specs.Events.{World, WorldReplica, message_of_event, openi
 use Rattle.road_world.specs.declared.event.Event.{Event}
 use Rattle.road_world.specs.declared.event.Event.TheVariants.{Edit, Withdraw, Import, Send, Heads, Beyond, Take, Advance}
 use Rattle.road_world.specs.declared.message.Message.{Message}
-use Rattle.road_replica.specs.QueryCaches.{CachedState, IsCacheOf}
-use Rattle.road_replica.proofs.SameRuns as cache_runs
+use Rattle.road_sheet.specs.QueryCaches.{CachedState, IsCacheOf}
+use Rattle.road_sheet.proofs.CachedRuns as cache_runs
 use Rattle.road_commands.specs.Private.Caching.{IsCached}
 use Rattle.road_commands.specs.Laboratory.{Laboratory}
 use Rattle.road_commands.specs.Private.Changes.{keeps_edits}

@@ -1,14 +1,14 @@
 //! Queries, and what a replica's sheet answers.
 
 ghost use Rattle.std.specs.Prelude.{◌≡◌, IfErr, IfOk, None};
-ghost use Rattle.road_replica.specs.QueryCaches.{IsCacheOf};
+ghost use Rattle.road_sheet.specs.QueryCaches.{IsCacheOf};
 ghost use Rattle.road_replica.specs.Refusals.{IsRefusal};
 ghost use Rattle.road_format.specs.Views.{answer_view};
 ghost use Rattle.road_commands.specs.Private.Queries.{query_fault, sheet_answer};
 
 use road_format::Answer;
-use road_replica::{QueryCache, ReplicaFault};
-use road_sheet::Sheet;
+use road_replica::ReplicaFault;
+use road_sheet::{QueryCache, Sheet};
 use std::alloc::Global;
 
 /// What a replica is asked. It depends on the replica's sheet alone.

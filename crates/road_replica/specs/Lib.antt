@@ -1,8 +1,5 @@
--- What replicas are, what their calls make of them, for which causes these are refused, what a query cache holds, and
--- what crowds come to.
+-- What replicas are, what their calls make of them, for which causes these are refused, and what crowds come to.
 pub mod Replicas
 pub mod Refusals
 pub mod Writes
-pub mod QueryCaches
 pub mod Crowds
-pub mod Private

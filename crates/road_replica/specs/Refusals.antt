@@ -1,12 +1,12 @@
 -- What a replica refuses, and for which cause.
-use Rattle.std.specs.Prelude.{◌≡◌, ◌⊎◌, ◌||◌, ◌+◌, ◌-◌, ◌^◌, ℕ, suc, min, nat_lt, Bool, List, [], ◌∷◌, if◌then◌else◌}
+use Rattle.std.specs.Prelude.{◌≡◌, ◌⊎◌, ◌+◌, ◌-◌, ◌^◌, ℕ, min, nat_lt, List, [], ◌∷◌, if◌then◌else◌}
 use Rattle.std.specs.Prelude.{MatchResult, Result}
 use Rattle.std.specs.Option.{option_or, option_map}
 use Rattle.std.specs.declared.option.Option.{Option}
 use Rattle.std.specs.declared.option.Option.TheVariants.{None, Some}
 use Rattle.road_plan.specs.Plan.{Plan}
 use Rattle.road_plan.specs.declared.object.Object.{Object}
-use Rattle.road_plan.specs.declared.limits.TheConstants.{GREATEST_HORIZON, FIRST_IMPORT_NUMBER, MOST_ROWS}
+use Rattle.road_plan.specs.declared.limits.TheConstants.{GREATEST_HORIZON, FIRST_IMPORT_NUMBER}
 use Rattle.road_scenario.specs.Edits.{Edits}
 use Rattle.road_scenario.specs.Faults.{fault_of_edit, fault_in}
 use Rattle.road_scenario.specs.declared.edit.Edit.{Edit}
@@ -85,14 +85,9 @@ state_fault s step = option_map query_fault (sheets.state_fault s step)
 abbrev pub totals_fault : Sheet → ℕ → ℕ → ℕ → Option ReplicaFault
 totals_fault s detector from to = option_map query_fault (sheets.totals_fault s detector from to)
 
--- whether the rows from one step to another are none, or more than one diagram has
-abbrev pub is_out_of_range : ℕ → ℕ → Bool
-is_out_of_range from to = nat_lt to from || nat_lt MOST_ROWS (suc to - from)
-
 -- the first named cause for which a query for rows is refused
 abbrev pub rows_fault : Sheet → ℕ → ℕ → Option ReplicaFault
-rows_fault s from to = if is_out_of_range from to then Some Range
-    else (if nat_lt s.horizon to then Some NotSimulated else None)
+rows_fault s from to = option_map query_fault (sheets.rows_fault s from to)
 
 -- ---- refusals
 

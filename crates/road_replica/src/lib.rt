@@ -15,13 +15,11 @@
 
 mod crowds;
 mod faults;
-mod query_cache;
 mod replica;
 mod reply;
 
 pub use crowds::{Crowd, Crowds, MOST_CROWD_WRITES, write_count};
 pub use faults::ReplicaFault;
-pub use query_cache::QueryCache;
 pub use replica::{Replica, shares_fault};
 pub use reply::Reply;
 /// Out of memory: an allocation failed.

@@ -23,7 +23,6 @@ ghost use Rattle.road_replica.specs.Replicas.{edit_made, single_edit};
 ghost use Rattle.road_replica.specs.Writes.{IsWrite};
 
 use crate::faults::{ReplicaFault, arrived_fault, made_fault};
-use crate::query_cache::QueryCache;
 use road_cells::Road;
 use road_delta::{Heads, beyond, heads_of};
 use road_detector::Totals;
@@ -32,7 +31,7 @@ use road_plan::limits::{FIRST_IMPORT_NUMBER, GREATEST_HORIZON};
 use road_plan::{Object, OutOfMemory, Plan};
 use road_rewind::{Grown, grown};
 use road_scenario::{Edit, Scenario, Stamp, Value};
-use road_sheet::Sheet;
+use road_sheet::{QueryCache, Sheet};
 use road_workers::Crew;
 use std::alloc::Global;
 use std::marker::Model;
@@ -464,7 +463,7 @@ impl Replica {
         ensures refused { IfErr result (IsRefusal (refusals.rows_fault self.now.sheet from to)) }
     {
         let mut cache = QueryCache::of(alloc, self.sheet.plan());
-        cache.rows(alloc, &self.sheet, from, to)
+        Ok(cache.rows(alloc, &self.sheet, from, to)?)
     }
 }
 

@@ -2,8 +2,8 @@
 pub mod Ranges
 pub mod RunStates
 pub mod RunRows
+pub mod CachedRuns
 pub mod RunTotals
-pub mod IntervalSteps
 pub mod SameRuns
 pub mod Shelves
 pub mod SheetIntervals

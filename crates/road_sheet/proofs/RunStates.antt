@@ -1,5 +1,5 @@
 -- The states of a run, one after another.
-use Rattle.std.proofs.Common.{◌≡◌, ◌+◌, ◌∙◌, ℕ, ap, sym}
+use Rattle.std.proofs.Common.{◌≡◌, ◌+◌, ◌∙◌, ℕ, ap, subst, sym}
 use Rattle.std.proofs.Math.Numerals.{add-one}
 use Rattle.road_plan.specs.Plan.{Plan}
 use Rattle.road_plan.specs.Settings.{Settings}
@@ -8,7 +8,8 @@ use Rattle.road_ends.specs.Input.{StepInput, input_of}
 use Rattle.road_ends.specs.Run.{road_after_step}
 use Rattle.road_scenario.specs.Edits.{Edits}
 use Rattle.road_scenario.specs.Settings.{settings_of}
-use Rattle.road_sheet.specs.Private.RunCache.{IsInputOf}
+use Rattle.road_sheet.specs.RunCaches.{IsInputOf, IsOfRun}
+use Rattle.road_sheet.specs.declared.run_cache.RunCache.{RunCache}
 use Rattle.road_sheet.specs.Sheets.{Sheet, state_of, next_input}
 use Rattle.road_sheet.specs.Shown.{run_at}
 
@@ -30,3 +31,7 @@ input_of_run p edits t road input is = record {
   plan = ap (λ (x : StepInput). x.plan) is;
   settings = ap (λ (x : StepInput). x.settings) is ∙ ap (settings_of p edits) (sym (ap (λ (x : StepInput). x.step) is));
 }
+
+-- what a run keeps of every edits, it keeps of these
+pub of_edits : (p q : Plan) (edits : Edits) (cache : RunCache) → p ≡ q → ((es : Edits) → IsOfRun p es cache) → IsOfRun q edits cache
+of_edits p q edits cache same all = subst (λ (x : Plan). IsOfRun x edits cache) same (all edits)

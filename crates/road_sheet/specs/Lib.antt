@@ -3,4 +3,7 @@ pub mod Shown
 pub mod Sheets
 pub mod Commands
 pub mod Drafts
+pub mod SettingsCaches
+pub mod RunCaches
+pub mod QueryCaches
 pub mod Private

@@ -1,12 +1,12 @@
 -- Sheets: a set of edits, and how far its run is simulated.
-use Rattle.std.specs.Prelude.{◌≡◌, ◌≤◌, ◌+◌, ◌%◌, ◌⊎◌, ℕ, not, nat_lt, List, length, if◌then◌else◌}
+use Rattle.std.specs.Prelude.{◌≡◌, ◌≤◌, ◌+◌, ◌-◌, ◌%◌, ◌⊎◌, ◌||◌, Bool, ℕ, suc, not, nat_lt, List, length, if◌then◌else◌}
 use Rattle.std.specs.declared.option.Option.{Option}
 use Rattle.std.specs.declared.option.Option.TheVariants.{None, Some}
 use Rattle.lattice_core.specs.declared.greatest.Greatest.{Greatest}
 use Rattle.lattice_core.specs.declared.greatest.Greatest.TheVariants.{Nothing, Of}
 use Rattle.lattice_core.specs.Sets.{empty}
 use Rattle.road_plan.specs.Plan.{Plan, IsWithinLimits}
-use Rattle.road_plan.specs.declared.limits.TheConstants.{GREATEST_HORIZON}
+use Rattle.road_plan.specs.declared.limits.TheConstants.{GREATEST_HORIZON, MOST_ROWS}
 use Rattle.road_cells.specs.Array.{Array}
 use Rattle.road_ends.specs.Input.{StepInput, input_of}
 use Rattle.road_scenario.specs.Edits.{Edits}
@@ -74,6 +74,15 @@ totals_fault s detector from to =
     if not (nat_lt detector (length s.plan.detectors)) then Some NoDetector
     else (if nat_lt to from then Some Range
     else (if nat_lt s.horizon to then Some NotSimulated else None))
+
+-- whether the rows from one step to another are none, or more than one diagram has
+abbrev pub is_out_of_range : ℕ → ℕ → Bool
+is_out_of_range from to = nat_lt to from || nat_lt MOST_ROWS (suc to - from)
+
+-- the first named cause for which rows are refused
+abbrev pub rows_fault : Sheet → ℕ → ℕ → Option SheetFault
+rows_fault s from to = if is_out_of_range from to then Some Range
+    else (if nat_lt s.horizon to then Some NotSimulated else None)
 
 -- steps from a checkpoint up to a checkpoint or the horizon
 pub record AreWholeIntervals (s : Sheet) (from to : ℕ) : Type 0 where

@@ -8,7 +8,7 @@ ghost use Rattle.road_sheet.specs.Sheets.{next_input, sheet_after_step};
 
 use crate::run_cache::RunCache;
 use crate::sheet::Sheet;
-use road_ends::{StepInput, WordCache};
+use road_ends::StepInput;
 use road_plan::OutOfMemory;
 use road_plan::limits::MOST_DETECTORS;
 use std::alloc::Global;
@@ -22,7 +22,6 @@ pub struct Draft {
     pub(crate) cache: RunCache,
     // For each detector how many cars stood before its site in the last step.
     pub(crate) places: [usize; MOST_DETECTORS],
-    pub(crate) words: WordCache,
 }
 
 impl Model for Draft {
@@ -37,9 +36,9 @@ impl Model for Draft {
 
     ghost view = { λ d. d.sheet };
 
-    ghost use Rattle.road_sheet.specs.Private.RunCache.{IsCacheOf};
+    ghost use Rattle.road_sheet.specs.RunCaches.{IsOfRun};
 
-    ghost invariant = { λ d. IsCacheOf d.sheet.plan d.sheet.edits d.cache × (d.words ≡ d.sheet.plan.words) };
+    ghost invariant = { λ d. IsOfRun d.sheet.plan d.sheet.edits d.cache };
 }
 
 impl Draft {
@@ -59,8 +58,7 @@ impl Draft {
         ensures input { IfOk result (λ input. arc_value input ≡ next_input self.old) }
         ensures unchanged { self.new ≡ self.old }
     {
-        self.sheet
-            .next_input(alloc, &mut self.cache, &mut self.words)
+        self.sheet.next_input(alloc, &mut self.cache)
     }
 
     /// Adds one more step, from its input and the new speeds of its cars. The input must be that of the next step, the
@@ -81,8 +79,11 @@ impl Draft {
         ensures grown { OnOk result (self.new ≡ sheet_after_step self.old) }
         ensures unchanged { OnErr result (self.new ≡ self.old) }
     {
-        let (places, words) = (&mut self.places, &mut self.words);
-        self.sheet.grow(alloc, input, speeds, places, words)
+        let road = self.cache.finish(alloc, input, speeds)?;
+        let places = &mut self.places;
+        let last = self.sheet.grow(alloc, input, speeds, places, road)?;
+        self.cache.reuse(last);
+        Ok(())
     }
 
     /// Adds one more step, as [`Draft::push`], and keeps its input, to make the next one of it where nobody else has

@@ -3,6 +3,7 @@
 ghost use Rattle.std.specs.Prelude.{◌≡◌};
 ghost use Rattle.road_sheet.specs.declared.faults.SheetFault.TheVariants.{OutOfMemory};
 
+use road_plan::limits::MOST_ROWS;
 use std::alloc::AllocError;
 use thiserror::Error;
 
@@ -12,8 +13,8 @@ pub enum SheetFault {
     /// The plan has no such detector.
     #[error("the plan has no such detector")]
     NoDetector,
-    /// The first step is after the last.
-    #[error("the first step is after the last")]
+    /// The first step is after the last, or there are too many rows.
+    #[error("the first step is after the last, or there are more than {most} rows", most = MOST_ROWS)]
     Range,
     /// A step is above the horizon.
     #[error("a step is not simulated")]

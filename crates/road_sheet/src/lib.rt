@@ -18,6 +18,7 @@ mod checkpoint;
 mod draft;
 mod faults;
 mod interval;
+mod query_cache;
 mod run_cache;
 mod settings_cache;
 mod shared_intervals;
@@ -28,6 +29,7 @@ pub mod simulation;
 pub use draft::Draft;
 pub use faults::SheetFault;
 pub use interval::{INTERVAL_STEPS, Interval};
+pub use query_cache::QueryCache;
 pub use sheet::Sheet;
 /// Out of memory: an allocation failed.
 pub use std::alloc::AllocError as OutOfMemory;

@@ -48,7 +48,7 @@ pub(crate) struct SettingsCache {
 }
 
 impl SettingsCache {
-    ghost use Rattle.road_sheet.specs.Private.SettingsCache.{AreCached};
+    ghost use Rattle.road_sheet.specs.SettingsCaches.{AreCached};
 
     pub(crate) fn none() -> SettingsCache
         ensures { (plan : Plan) (edits : Edits) → AreCached plan edits result }

@@ -19,17 +19,18 @@ use crate::checkpoint::Checkpoint;
 use crate::draft::Draft;
 use crate::faults::SheetFault;
 use crate::interval::{INTERVAL_STEPS, Interval};
+use crate::query_cache::QueryCache;
 use crate::run_cache::RunCache;
 use crate::shared_intervals::SharedIntervals;
-use crate::simulation::{State, run_on, totals_between};
+use crate::simulation::State;
 use lattice_core::both::Both;
 use lattice_core::greatest::Greatest;
 use lattice_core::lattice::Lattice;
 use road_cells::Road;
 use road_detector::Totals;
 use road_detector::laws::{cars_pass_one_by_one, totals_are_bounded};
+use road_ends::StepInput;
 use road_ends::laws::{cars_stay_on_road, runs_depend_on_earlier_settings};
-use road_ends::{StepInput, WordCache, finish_with};
 use road_plan::limits::MOST_DETECTORS;
 use road_plan::{OutOfMemory, Plan};
 use road_scenario::Scenario;
@@ -78,7 +79,7 @@ impl Model for Sheet {
 }
 
 impl Sheet {
-    ghost use Rattle.road_sheet.specs.Private.RunCache.{IsCacheOf};
+    ghost use Rattle.road_sheet.specs.RunCaches.{IsOfRun};
 
     /// Makes the sheet without edits, of which no step is simulated.
     ///
@@ -143,32 +144,7 @@ impl Sheet {
         ensures accepted { IfOk result (λ _. state_fault self.now step ≡ None) }
         ensures refused { IfErr result (λ fault. IsRefusalBy (state_fault self.now step) fault) }
     {
-        let mut words = WordCache::of(alloc, &self.plan);
-        self.state_with(alloc, step, &mut words)
-    }
-
-    /// Returns the road at a step, as [`Sheet::state`], by the caller's cache of words, which must be the plan's.
-    ///
-    /// # Errors
-    ///
-    /// `NotSimulated` where the step is above the horizon, else `OutOfMemory` where an allocation failed. The cache
-    /// stays one of the plan's words.
-    pub fn state_with(
-        &self,
-        alloc: Global,
-        step: u32,
-        words: &mut WordCache,
-    ) -> Result<Road, SheetFault>
-        requires words { words.old ≡ self.now.plan.words }
-        ensures state { IfOk result (λ road. road ≡ state_of self.now step) }
-        ensures accepted { IfOk result (λ _. state_fault self.now step ≡ None) }
-        ensures refused { IfErr result (λ fault. IsRefusalBy (state_fault self.now step) fault) }
-        ensures unchanged { words.new ≡ words.old }
-    {
-        if self.horizon() < step {
-            return Err(SheetFault::NotSimulated);
-        }
-        Ok(self.road_at(alloc, step, words)?)
+        QueryCache::of(alloc, &self.plan).into_state(alloc, self, step)
     }
 
     /// Returns what a detector counts in the steps from one up to another, that one not among them. It computes the
@@ -192,78 +168,36 @@ impl Sheet {
         ensures kept { totals_fault self.now detector from to ≡ None → AreWholeIntervals self.now from to
             → IsOk result }
     {
-        let mut words = WordCache::of(alloc, &self.plan);
-        self.totals_with(alloc, detector, from, to, &mut words)
+        QueryCache::of(alloc, &self.plan).totals(alloc, self, detector, from, to)
     }
 
-    /// Returns what a detector counts, as [`Sheet::totals`], by the caller's cache of words, which must be the plan's.
-    ///
-    /// # Errors
-    ///
-    /// As there. The cache stays one of the plan's words.
-    pub fn totals_with(
-        &self,
-        alloc: Global,
-        detector: u32,
-        from: u32,
-        to: u32,
-        words: &mut WordCache,
-    ) -> Result<Totals, SheetFault>
-        requires words { words.old ≡ self.now.plan.words }
-        ensures totals { IfOk result (λ totals. totals ≡ total_of self.now detector from to) }
-        ensures accepted { IfOk result (λ _. totals_fault self.now detector from to ≡ None) }
-        ensures refused { IfErr result (λ fault. IsRefusalBy (totals_fault self.now detector from to) fault) }
-        ensures kept { totals_fault self.now detector from to ≡ None → AreWholeIntervals self.now from to
-            → IsOk result }
-        ensures unchanged { words.new ≡ words.old }
-    {
-        if detector as usize >= self.plan.detectors().len() {
-            return Err(SheetFault::NoDetector);
-        }
-        if from > to {
-            return Err(SheetFault::Range);
-        }
-        if self.horizon() < to {
-            return Err(SheetFault::NotSimulated);
-        }
-        Ok(self.totals_between(alloc, detector, from, to, words)?)
-    }
-
-    // Returns the road at a step.
-    fn road_at(&self, alloc: Global, step: u32, words: &mut WordCache) -> Result<Road, OutOfMemory>
-        requires simulated { step ≤ self.now.horizon }
-        requires words { words.old ≡ self.now.plan.words }
-        ensures road { IfOk result (λ road. road ≡ state_of self.now step) }
-        ensures unchanged { words.new ≡ words.old }
+    // Copies the last state that is kept and not after a step: that at the horizon, or at the first step of the step's
+    // interval.
+    pub(crate) fn kept_state(&self, alloc: Global, step: u32) -> Result<State, OutOfMemory>
+        requires { step ≤ self.now.horizon }
+        ensures before { IfOk result (λ state. state.step ≤ step) }
+        ensures road { IfOk result (λ state. state.road ≡ state_of self.now state.step) }
     {
         if step == self.horizon() {
-            return self.at_horizon.copied();
+            let road = self.at_horizon.copied()?;
+            return Ok(State { step, road });
         }
         let interval = step / INTERVAL_STEPS;
-        let state = self.state_in(alloc, interval, step, words)?;
-        Ok(state.road)
+        let road = self.interval(interval as usize).start.road(alloc)?;
+        Ok(State {
+            step: interval * INTERVAL_STEPS,
+            road,
+        })
     }
 
-    // Computes the state at a step of an interval, from the interval's checkpoint.
-    fn state_in(
-        &self,
-        alloc: Global,
-        interval: u32,
-        step: u32,
-        words: &mut WordCache,
-    ) -> Result<State, OutOfMemory>
-        requires begun { INTERVAL_STEPS * interval ≤ step }
-        requires simulated { step ≤ self.now.horizon }
-        requires words { words.old ≡ self.now.plan.words }
-        ensures step { IfOk result (λ state. state.step ≡ step) }
-        ensures road { IfOk result (λ state. state.road ≡ state_of self.now step) }
-        ensures unchanged { words.new ≡ words.old }
+    // Returns what a detector counts in all simulated steps of an interval.
+    pub(crate) fn interval_totals(&self, interval: u32, detector: u32) -> Totals
+        requires in_plan { detector < length self.now.plan.detectors }
+        requires simulated { INTERVAL_STEPS * interval ≤ self.now.horizon }
+        ensures { result ≡ total_of self.now detector (INTERVAL_STEPS * interval)
+            (min (INTERVAL_STEPS * interval + INTERVAL_STEPS) self.now.horizon) }
     {
-        let first = State {
-            step: interval * INTERVAL_STEPS,
-            road: self.interval(interval as usize).start.road(alloc)?,
-        };
-        run_on(alloc, &self.plan, &self.known.first, first, step, words)
+        self.interval(interval as usize).totals[detector as usize]
     }
 
     // Returns an interval, whole or open.
@@ -283,98 +217,6 @@ impl Sheet {
         ensures { result ≡ self.now.horizon / INTERVAL_STEPS }
     {
         (self.horizon() / INTERVAL_STEPS) as usize
-    }
-
-    // Adds up what a detector counts, interval by interval.
-    fn totals_between(
-        &self,
-        alloc: Global,
-        detector: u32,
-        from: u32,
-        to: u32,
-        words: &mut WordCache,
-    ) -> Result<Totals, OutOfMemory>
-        requires in_plan { detector < length self.now.plan.detectors }
-        requires order { from ≤ to }
-        requires simulated { to ≤ self.now.horizon }
-        requires words { words.old ≡ self.now.plan.words }
-        ensures totals { IfOk result (λ totals. totals ≡ total_of self.now detector from to) }
-        ensures kept { AreWholeIntervals self.now from to → IsOk result }
-        ensures unchanged { words.new ≡ words.old }
-    {
-        totals_are_bounded(&self.plan);
-        let mut totals = Totals { cars: 0, speeds: 0 };
-        for interval in from / INTERVAL_STEPS..to.div_ceil(INTERVAL_STEPS) {
-            let first = interval * INTERVAL_STEPS;
-            let begin = first.max(from);
-            let end = (first + INTERVAL_STEPS).min(to);
-            let counted = self.totals_in(alloc, detector, interval, begin, end, words)?;
-            totals = totals.plus(counted);
-        }
-        Ok(totals)
-    }
-
-    // Counts some steps of an interval. The counts of all that are simulated are kept; those of its last ones are these
-    // less the counts of the steps before.
-    fn totals_in(
-        &self,
-        alloc: Global,
-        detector: u32,
-        interval: u32,
-        from: u32,
-        to: u32,
-        words: &mut WordCache,
-    ) -> Result<Totals, OutOfMemory>
-        requires in_plan { detector < length self.now.plan.detectors }
-        requires begun { INTERVAL_STEPS * interval ≤ from }
-        requires order { from ≤ to }
-        requires ended { to ≤ INTERVAL_STEPS * interval + INTERVAL_STEPS }
-        requires simulated { to ≤ self.now.horizon }
-        requires words { words.old ≡ self.now.plan.words }
-        ensures totals { IfOk result (λ totals. totals ≡ total_of self.now detector from to) }
-        ensures kept { from ≡ INTERVAL_STEPS * interval
-            → to ≡ min (INTERVAL_STEPS * interval + INTERVAL_STEPS) self.now.horizon → IsOk result }
-        ensures unchanged { words.new ≡ words.old }
-    {
-        let horizon = self.horizon();
-        let first = interval * INTERVAL_STEPS;
-        let end = (first + INTERVAL_STEPS).min(horizon);
-        if to < end {
-            return self.counted(alloc, detector, interval, from, to, words);
-        }
-        let whole = self.interval(interval as usize).totals[detector as usize];
-        if from == first {
-            return Ok(whole);
-        }
-        let before = self.counted(alloc, detector, interval, first, from, words)?;
-        Ok(Totals {
-            cars: whole.cars - before.cars,
-            speeds: whole.speeds - before.speeds,
-        })
-    }
-
-    // Counts some steps of an interval, step by step.
-    fn counted(
-        &self,
-        alloc: Global,
-        detector: u32,
-        interval: u32,
-        from: u32,
-        to: u32,
-        words: &mut WordCache,
-    ) -> Result<Totals, OutOfMemory>
-        requires in_plan { detector < length self.now.plan.detectors }
-        requires begun { INTERVAL_STEPS * interval ≤ from }
-        requires order { from ≤ to }
-        requires simulated { to ≤ self.now.horizon }
-        requires words { words.old ≡ self.now.plan.words }
-        ensures totals { IfOk result (λ totals. totals ≡ total_of self.now detector from to) }
-        ensures unchanged { words.new ≡ words.old }
-    {
-        let state = self.state_in(alloc, interval, from, words)?;
-        let (plan, scenario) = (&self.plan, &self.known.first);
-        let (totals, _) = totals_between(alloc, plan, scenario, state, detector, to, words)?;
-        Ok(totals)
     }
 
     /// Begins the run of this sheet's edits with a scenario joined in: a draft that resumes at the horizon where that
@@ -424,12 +266,11 @@ impl Sheet {
         } else {
             self.resume_at_checkpoint(alloc, joined, keep / INTERVAL_STEPS)?
         };
-        let words = WordCache::of(alloc, &self.plan);
+        let cache = RunCache::of(alloc, sheet.plan());
         Ok(Draft {
             sheet,
-            cache: RunCache::empty(alloc),
+            cache,
             places: [0; MOST_DETECTORS],
-            words,
         })
     }
 
@@ -507,43 +348,36 @@ impl Sheet {
         &self,
         alloc: Global,
         cache: &mut RunCache,
-        words: &mut WordCache,
     ) -> Result<Arc<StepInput>, OutOfMemory>
-        requires cached { IsCacheOf self.now.plan self.now.edits cache.old }
-        requires words { words.old ≡ self.now.plan.words }
+        requires { IsOfRun self.now.plan self.now.edits cache.old }
         ensures input { IfOk result (λ input. arc_value input ≡ next_input self.now) }
-        ensures cached { IsCacheOf self.now.plan self.now.edits cache.new }
-        ensures unchanged { words.new ≡ words.old }
+        ensures cached { IsOfRun self.now.plan self.now.edits cache.new }
     {
-        let (plan, scenario) = (&self.plan, &self.known.first);
         let step = self.horizon();
-        cache.enter(alloc, plan, scenario, step, &self.at_horizon, words)
+        cache.enter(alloc, self, step, &self.at_horizon)
     }
 
-    // Adds one more step. What can fail for memory is done before the sheet is changed.
+    // Adds one more step, whose road is made already, and returns the road before it. What can fail for memory is done
+    // before the sheet is changed.
     pub(crate) fn grow(
         &mut self,
         alloc: Global,
         input: &StepInput,
         speeds: &[u8],
         places: &mut [usize; MOST_DETECTORS],
-        words: &mut WordCache,
-    ) -> Result<(), OutOfMemory>
+        road: Road,
+    ) -> Result<Road, OutOfMemory>
         requires input { input.now ≡ next_input self.old }
         requires speeds { speeds.now ≡ input_speeds input.now }
         requires within_limit { self.old.horizon < GREATEST_HORIZON }
+        requires road { road ≡ state_of self.old (self.old.horizon + 1) }
         ensures grown { OnOk result (self.new ≡ sheet_after_step self.old) }
         ensures unchanged { OnErr result (self.new ≡ self.old) }
-        ensures words { words.new ≡ words.old }
     {
-        let road = finish_with(alloc, input, speeds, words)?;
-        let last = if (self.horizon() + 1) % INTERVAL_STEPS == 0 {
-            self.step_to_end(alloc, input, speeds, places, road)?
-        } else {
-            self.step_within(input, speeds, places, road)
-        };
-        words.reuse(last);
-        Ok(())
+        if (self.horizon() + 1) % INTERVAL_STEPS == 0 {
+            return self.step_to_end(alloc, input, speeds, places, road);
+        }
+        Ok(self.step_within(input, speeds, places, road))
     }
 
     // Adds one more step that does not end the interval, and returns the road before it.

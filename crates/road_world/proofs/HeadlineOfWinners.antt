@@ -7,11 +7,9 @@ use Rattle.std.proofs.lemmas.Bool.Decides.{nat_tests}
 use Rattle.road_plan.specs.Plan.{Plan}
 use Rattle.road_scenario.specs.Edits.{Edits}
 use Rattle.road_scenario.specs.Winners.{winners}
-use Rattle.road_sheet.specs.Sheets.{Sheet, state_of, rows_of, total_of}
+use Rattle.road_sheet.specs.Sheets.{Sheet, is_out_of_range, state_of, rows_of, total_of}
 use Rattle.road_sheet.specs.Shown.{run_at, rows_at, total_at}
-use Rattle.road_replica.specs.Refusals.{state_fault, rows_fault, totals_fault, is_out_of_range, query_fault}
-use Rattle.road_replica.specs.declared.faults.ReplicaFault.{ReplicaFault}
-use Rattle.road_replica.specs.declared.faults.ReplicaFault.TheVariants.{Range, NotSimulated}
+use Rattle.road_replica.specs.Refusals.{state_fault, rows_fault, totals_fault, query_fault}
 use Rattle.road_replica.specs.declared.reply.Reply.{Reply}
 use Rattle.road_sheet.specs.declared.faults.SheetFault.{SheetFault}
 use Rattle.road_sheet.specs.declared.faults.SheetFault.TheVariants as sheet_faults
@@ -39,7 +37,7 @@ none_of_three : (a b c : Bool) (x y z : SheetFault) → a ≡ false → b ≡ fa
 none_of_three a b c x y z p q r = rw p (rw q (rw r refl))
 
 -- of two,
-none_of_two : (a b : Bool) (x y : ReplicaFault) → a ≡ false → b ≡ false → (if a then Some x else (if b then Some y else None)) ≡ None
+none_of_two : (a b : Bool) (x y : SheetFault) → a ≡ false → b ≡ false → option_map query_fault (if a then Some x else (if b then Some y else None)) ≡ None
 none_of_two a b x y p q = rw p (rw q refl)
 
 -- of one
@@ -53,7 +51,7 @@ state_answered s step below = none_of_one (nat_lt s.horizon step) sheet_faults.N
 -- nor are rows of so many simulated steps as one diagram shows,
 pub rows_answered : (s : Sheet) (from to : ℕ) → is_out_of_range from to ≡ false → to ≤ s.horizon → rows_fault s from to ≡ None
 rows_answered s from to range below =
-    none_of_two (is_out_of_range from to) (nat_lt s.horizon to) Range NotSimulated range (not_above to s.horizon below)
+    none_of_two (is_out_of_range from to) (nat_lt s.horizon to) sheet_faults.Range sheet_faults.NotSimulated range (not_above to s.horizon below)
 
 -- nor are a detector's totals of simulated steps
 pub totals_answered : (s : Sheet) (detector from to : ℕ) → detector < length s.plan.detectors → from ≤ to → to ≤ s.horizon → totals_fault s detector from to ≡ None

@@ -12,9 +12,9 @@ use Rattle.std.specs.declared.option.Option.{Option}
 use Rattle.std.specs.declared.option.Option.TheVariants.{None}
 use Rattle.road_plan.specs.Plan.{Plan}
 use Rattle.road_scenario.specs.Winners.{winners}
-use Rattle.road_sheet.specs.Sheets.{state_of, rows_of, total_of}
+use Rattle.road_sheet.specs.Sheets.{is_out_of_range, state_of, rows_of, total_of}
 use Rattle.road_sheet.specs.Shown.{run_at, rows_at, total_at}
-use Rattle.road_replica.specs.Refusals.{state_fault, rows_fault, totals_fault, is_out_of_range}
+use Rattle.road_replica.specs.Refusals.{state_fault, rows_fault, totals_fault}
 use Rattle.road_replica.specs.declared.faults.ReplicaFault.{ReplicaFault}
 use Rattle.road_replica.specs.declared.reply.Reply.{Reply}
 use Rattle.road_world.specs.Answers.{sheet_at}

@@ -3,8 +3,8 @@
 use crate::replicas::{BLOCK, Write, replica_after};
 use road_cells::Car;
 use road_plan::Object;
-use road_replica::{QueryCache, Replica, ReplicaFault};
-use road_sheet::Sheet;
+use road_replica::{Replica, ReplicaFault};
+use road_sheet::{QueryCache, Sheet};
 use std::alloc::Global;
 use std::test::Fail;
 

@@ -2,12 +2,12 @@
 //! total against a run from step zero. One script in two has steady words, each other one seeded words of its own.
 
 use crate::sheets::{grow, opening};
-use road_detector::Totals;
-use road_ends::WordCache;
+use road_detector::{Totals, passes};
+use road_ends::{Meter, step_alone};
 use road_plan::{Object, WordKind};
 use road_scenario::{Edit, Stamp, Value};
-use road_sheet::Sheet;
-use road_sheet::simulation::{State, state_at, totals_between};
+use road_sheet::simulation::State;
+use road_sheet::{QueryCache, Sheet};
 use std::alloc::Global;
 use std::test::Fail;
 use tests_plans::Parts;
@@ -110,53 +110,52 @@ impl Dice {
     }
 }
 
+// Takes a state to a later step of a sheet's run, by steps that one caller computes, and returns what a detector counts
+// in them.
+fn go_on(
+    alloc: Global,
+    sheet: &Sheet,
+    state: &mut State,
+    detector: u32,
+    to: u32,
+) -> Result<Totals, Fail> {
+    let (plan, scenario) = (sheet.plan(), sheet.scenario());
+    let mut meter = Meter::new();
+    let mut totals = Totals { cars: 0, speeds: 0 };
+    if plan.detectors().len() <= detector as usize {
+        return Err(Fail::new("no such detector"));
+    }
+    for step in state.step..to {
+        let settings = scenario.settings_at(alloc, plan, step)?;
+        let done = step_alone(alloc, plan, settings, step, &state.road, &mut meter)?;
+        let passed = passes(&done.input, &done.speeds, detector);
+        totals.cars = totals.cars.saturating_add(passed.cars);
+        totals.speeds = totals.speeds.saturating_add(passed.speeds);
+        state.road = done.road;
+        state.step = step + 1;
+    }
+    Ok(totals)
+}
+
 // Tells whether a sheet shows the states that the run from step zero has at some steps, which goes on from each to the
-// next; the sheet by words that are kept, and by these begun again.
+// next: by one cache for all, and by none.
 fn states_agree(alloc: Global, sheet: &Sheet, steps: &[u32]) -> Result<bool, Fail> {
-    let mut words = WordCache::of(alloc, sheet.plan());
+    let mut cache = QueryCache::of(alloc, sheet.plan());
     let mut last = State::opening(alloc);
     for place in steps {
         let step = (*place).min(sheet.horizon());
-        let mut fresh = WordCache::of(alloc, sheet.plan());
-        last = state_at(
-            alloc,
-            sheet.plan(),
-            sheet.scenario(),
-            &last,
-            step,
-            &mut fresh,
-        )?;
-        let kept = sheet.state_with(alloc, step, &mut words)?;
-        words.restart();
-        let drawn = sheet.state_with(alloc, step, &mut words)?;
-        if kept.cars() != last.road.cars() || drawn.cars() != last.road.cars() {
+        let _ = go_on(alloc, sheet, &mut last, 0, step)?;
+        let cached = cache.state(alloc, sheet, step)?;
+        let fresh = sheet.state(alloc, step)?;
+        if cached.cars() != last.road.cars() || fresh.cars() != last.road.cars() {
             return Ok(false);
         }
     }
     Ok(true)
 }
 
-// Returns what a detector counts in some steps of the run from step zero.
-fn totals_of_run(
-    alloc: Global,
-    sheet: &Sheet,
-    detector: u32,
-    from: u32,
-    to: u32,
-) -> Result<Totals, Fail> {
-    if from > to || to > 1_048_576 || sheet.plan().detectors().len() <= detector as usize {
-        return Err(Fail::new("no such steps, or no such detector"));
-    }
-    let (plan, scenario) = (sheet.plan(), sheet.scenario());
-    let mut words = WordCache::of(alloc, plan);
-    let opening = State::opening(alloc);
-    let first = state_at(alloc, plan, scenario, &opening, from, &mut words)?;
-    let (totals, _) = totals_between(alloc, plan, scenario, first, detector, to, &mut words)?;
-    Ok(totals)
-}
-
-// Tells whether what a detector counts in some steps is what it counts in them in the run from step zero, asked twice
-// by words that are kept.
+// Tells whether what a detector counts in some steps is what it counts in them in the run from step zero: asked twice by
+// one cache, and by none.
 fn totals_agree(
     alloc: Global,
     sheet: &Sheet,
@@ -164,11 +163,14 @@ fn totals_agree(
     from: u32,
     to: u32,
 ) -> Result<bool, Fail> {
-    let counted = totals_of_run(alloc, sheet, detector, from, to)?;
-    let mut words = WordCache::of(alloc, sheet.plan());
-    let drawn = sheet.totals_with(alloc, detector, from, to, &mut words)?;
-    let kept = sheet.totals_with(alloc, detector, from, to, &mut words)?;
-    Ok(drawn == counted && kept == counted && sheet.totals(alloc, detector, from, to)? == counted)
+    let mut state = State::opening(alloc);
+    let _ = go_on(alloc, sheet, &mut state, detector, from)?;
+    let counted = go_on(alloc, sheet, &mut state, detector, to)?;
+    let mut cache = QueryCache::of(alloc, sheet.plan());
+    let first = cache.totals(alloc, sheet, detector, from, to)?;
+    let again = cache.totals(alloc, sheet, detector, from, to)?;
+    let fresh = sheet.totals(alloc, detector, from, to)?;
+    Ok(first == counted && again == counted && fresh == counted)
 }
 
 // Tells whether a sheet agrees with the run from step zero: its states, and what a detector counts from a random step

@@ -3,7 +3,7 @@ use Rattle.std.specs.Prelude.{◌≡◌, ◌≤◌, ℕ, List, length}
 use Rattle.std.specs.List.{slice_get}
 use Rattle.std.specs.declared.option.Option.TheVariants.{Some}
 use Rattle.road_plan.specs.declared.limits.TheConstants.{MOST_REPLICAS}
-use Rattle.road_replica.specs.QueryCaches.{CachedState, IsCacheOf}
+use Rattle.road_sheet.specs.QueryCaches.{CachedState, IsCacheOf}
 use Rattle.road_world.specs.Answers.{sheet_at}
 use Rattle.road_world.specs.Events.{World, world_of_winners}
 

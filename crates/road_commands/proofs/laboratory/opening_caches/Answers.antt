@@ -3,7 +3,7 @@ use Rattle.std.proofs.Common.{◌+◌, ◌∙◌, length, List, ap, sym, subst}
 use Rattle.std.specs.List.{All}
 use Rattle.std.proofs.lemmas.List.{length-append}
 use Rattle.std.proofs.lemmas.List.Elements.{All-push}
-use Rattle.road_replica.specs.QueryCaches.{CachedState, IsCacheOf}
+use Rattle.road_sheet.specs.QueryCaches.{CachedState, IsCacheOf}
 use Rattle.road_commands.proofs.laboratory.opening_caches.Goals as goal
 
 pub loop-made-preserved : goal.loop-made-preserved

@@ -3,7 +3,7 @@ use Rattle.std.proofs.Common.{◌≡◌, length}
 use Rattle.std.specs.Arc.{arc_value}
 use Rattle.std.specs.List.{All}
 use Rattle.road_sheet.specs.Sheets.{Sheet}
-use Rattle.road_replica.specs.QueryCaches.{IsCacheOf}
+use Rattle.road_sheet.specs.QueryCaches.{IsCacheOf}
 use Rattle.road_commands.proofs.laboratory.opening_caches.Given as goal
 
 -- so many caches so far, of which nothing is computed

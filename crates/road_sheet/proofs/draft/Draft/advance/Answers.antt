@@ -2,7 +2,7 @@
 use Rattle.std.proofs.Common.{◌∙◌, refl, subst, sym}
 use Rattle.std.specs.Arc.{arc_value}
 use Rattle.road_ends.specs.Input.{StepInput}
-use Rattle.road_sheet.specs.Private.RunCache.{IsInputOf}
+use Rattle.road_sheet.specs.RunCaches.{IsInputOf}
 use Rattle.road_sheet.specs.Sheets.{Sheet, next_input}
 use Rattle.road_sheet.proofs.draft.Draft.advance.Goals as goal
 
@@ -13,4 +13,4 @@ invariant_of-self c =
     let next : IsInputOf before.plan before.edits (next_input before) = record { plan = refl; settings = refl } in
     let input = subst (λ (x : StepInput). IsInputOf before.plan before.edits x) (sym c.requires.input) next in
     let kept = subst (λ (s : Sheet). IsInputOf s.plan s.edits (arc_value c.args.input)) (sym (c.self.view_is ∙ c.in_ok-push.ensures.grown)) input in
-    (c.keep_input.ensures sheet.plan sheet.edits c.self.invariant.0 kept, c.self.invariant.1)
+    c.keep_input.ensures sheet.plan sheet.edits c.self.invariant kept

@@ -1,7 +1,14 @@
--- An input of the draft's next step is one of its sheet's.
+-- An input of the draft's next step is one of its sheet's, and the road after it is the sheet's next one.
 use Rattle.std.proofs.Common.{◌∙◌, ap, sym}
-use Rattle.road_sheet.specs.Sheets.{next_input}
+use Rattle.std.proofs.Math.Numerals.{add-one}
+use Rattle.road_ends.specs.Input.{input_next}
+use Rattle.road_sheet.specs.Sheets.{next_input, state_of}
 use Rattle.road_sheet.proofs.draft.Draft.push.Goals as goal
 
 pub grow-requires-clause-input : goal.grow-requires-clause-input
 grow-requires-clause-input c = c.requires.input ∙ ap next_input (sym c.self.view_is)
+
+pub grow-requires-clause-road : goal.grow-requires-clause-road
+grow-requires-clause-road c =
+    let s = c.self.inside.sheet in
+    c.in_ok-road.ensures.road ∙ ap input_next (c.requires.input ∙ ap next_input (sym c.self.view_is)) ∙ sym (ap (state_of s) (add-one s.horizon))

@@ -5,7 +5,7 @@ use Rattle.road_plan.specs.Plan.{Plan}
 use Rattle.road_plan.specs.Settings.{Settings, Fits}
 use Rattle.road_scenario.specs.Faults.{AreInRange}
 use Rattle.road_scenario.specs.Settings.{settings_of}
-use Rattle.road_sheet.specs.Private.SettingsCache.{AreInForce}
+use Rattle.road_sheet.specs.SettingsCaches.{AreInForce}
 use Rattle.road_sheet.specs.declared.settings_cache.InForce.{InForce}
 use Rattle.road_sheet.proofs.settings_cache.SettingsCache.renewed.Goals as goal
 
