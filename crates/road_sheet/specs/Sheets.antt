@@ -1,5 +1,6 @@
 -- Sheets: a set of edits, and how far its run is simulated.
-use Rattle.std.specs.Prelude.{◌≡◌, ◌≤◌, ◌+◌, ◌-◌, ◌%◌, ◌⊎◌, ◌||◌, Bool, ℕ, suc, not, nat_lt, List, length, if◌then◌else◌}
+use Rattle.std.specs.Prelude.{◌≡◌, ◌≤◌, ◌+◌, ◌-◌, ◌%◌, ◌⊎◌, ◌||◌, Bool, ℕ, suc, not, nat_lt, List, length}
+use Rattle.std.specs.Prelude.{if◌then◌else◌}
 use Rattle.std.specs.declared.option.Option.{Option}
 use Rattle.std.specs.declared.option.Option.TheVariants.{None, Some}
 use Rattle.lattice_core.specs.declared.greatest.Greatest.{Greatest}
