@@ -37,21 +37,22 @@ use road_sheet::QueryCache;
 use road_workers::{Crew, CrewFault};
 use road_world::{Event, Message, World, WorldFault};
 use std::alloc::Global;
+use std::hash::BuildHasher;
 use std::marker::Model;
 use std::sync::Arc;
 
 /// Names the replicas and the messages of a world, and caches the queries of each replica: some 140 bytes for each of its
 /// cars.
 #[derive(Drop)]
-pub struct Laboratory {
-    replicas: Names,
-    messages: Names,
+pub struct Laboratory<S: BuildHasher> {
+    replicas: Names<S>,
+    messages: Names<S>,
     world: World,
     caches: Vec<QueryCache>,
     meter: Meter,
 }
 
-impl Model for Laboratory {
+impl<S: BuildHasher> Model for Laboratory<S> {
     ghost use Rattle.std.specs.Coded.{codes};
     ghost use Rattle.road_scenario.specs.Instances.EditOrder.{edits_code};
     ghost use Rattle.road_commands.specs.Private.Caching.{IsCached};
@@ -70,26 +71,26 @@ impl Model for Laboratory {
     ghost invariant = { λ lab. IsCached lab.replicas lab.world lab.caches.items };
 }
 
-impl Laboratory {
+impl<S: BuildHasher + Copy> Laboratory<S> {
     /// Opens the laboratory of a plan line, before any command. No step is simulated. The line has at most 64 names, all
     /// different, as every line that `read_plan` accepts.
     ///
     /// # Errors
     ///
     /// `OutOfMemory` where an allocation failed.
-    pub fn open(alloc: Global, line: PlanLine) -> Result<Laboratory, OutOfMemory>
+    pub fn open(alloc: Global, line: PlanLine, hasher: S) -> Result<Laboratory<S>, OutOfMemory>
         requires few { length line.names.items ≤ MOST_REPLICAS }
         requires apart { IsDistinct bytes_eq (texts line.names.items) }
         ensures { IfOk result (λ lab. lab ≡ opening_laboratory (plan_line_view line)) }
     {
-        let replicas = Names::of(alloc, line.names)?;
+        let replicas = Names::of(alloc, line.names, hasher)?;
         let count = replicas.len();
         let plan = Arc::new(alloc, line.plan)?;
         let caches = opening_caches(alloc, &plan, count)?;
         let world = World::open(alloc, plan, count as u32)?;
         Ok(Laboratory {
             replicas,
-            messages: Names::none(alloc),
+            messages: Names::none(alloc, hasher),
             world,
             caches,
             meter: Meter::new(),

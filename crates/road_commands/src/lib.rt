@@ -3,7 +3,7 @@
 //! ```
 //! // The laboratory of a plan line. A command is read, answered by a crew, or by sessions on threads where it is a crowd,
 //! // and its reply written.
-//! let mut laboratory = Laboratory::open(alloc, read_plan(alloc, first_line)?)?;
+//! let mut laboratory = Laboratory::open(alloc, read_plan(alloc, first_line)?, RandomState::new(&rt)?)?;
 //! let (mut crew, crowds) = (Alone, OnThreads::new(&rt));
 //! for line in lines {
 //!     let command = read_command(alloc, line)?;

@@ -7,39 +7,35 @@ ghost use Rattle.std.specs.Str.{bytes_eq};
 ghost use Rattle.road_format.specs.Views.{texts};
 ghost use Rattle.road_commands.specs.Laboratory.{number_of};
 
+use indexmap::IndexSet;
 use road_plan::OutOfMemory;
 use std::alloc::Global;
-use std::collections::BTreeMap;
+use std::hash::BuildHasher;
 use std::marker::Model;
 
-/// Names, no two alike, numbered from 0 in their order. Contracts see the list of their texts. A name is found by
-/// comparisons, as many as the logarithm of how many there are: no choice of names makes them more.
+/// Names, no two alike, numbered from 0 in their order. Contracts see the list of their texts. Each stands once, and is
+/// found by its hash, which an `S` makes: where its keys are random, nobody can craft names that share one.
 #[derive(Drop)]
-pub struct Names {
-    list: Vec<String>,
-    numbers: BTreeMap<String, usize>,
+pub struct Names<S: BuildHasher> {
+    numbered: IndexSet<String, S>,
 }
 
-impl Model for Names {
+impl<S: BuildHasher> Model for Names<S> {
     ghost use Rattle.std.specs.Prelude.{List, ℕ};
     ghost use Rattle.road_format.specs.Views.{texts};
-    ghost use Rattle.road_commands.specs.Private.Numbering.{IsNumbering};
 
     ghost Value = { List (List ℕ) };
 
-    ghost view = { λ names. texts names.list.items };
-
-    ghost invariant = { λ names. IsNumbering (texts names.list.items) names.numbers };
+    ghost view = { λ names. texts names.numbered.keys };
 }
 
-impl Names {
-    /// Returns no names. It takes no memory.
-    pub fn none(alloc: Global) -> Names
+impl<S: BuildHasher + Drop> Names<S> {
+    /// Returns no names, whose hashes this will make. It takes no memory.
+    pub fn none(alloc: Global, hasher: S) -> Names<S>
         ensures { result ≡ [] }
     {
         Names {
-            list: Vec::new(alloc),
-            numbers: BTreeMap::new(alloc),
+            numbered: IndexSet::with_hasher(alloc, hasher),
         }
     }
 
@@ -48,11 +44,11 @@ impl Names {
     /// # Errors
     ///
     /// `OutOfMemory` where an allocation failed.
-    pub fn of(alloc: Global, names: Vec<String>) -> Result<Names, OutOfMemory>
+    pub fn of(alloc: Global, names: Vec<String>, hasher: S) -> Result<Names<S>, OutOfMemory>
         requires { IsDistinct bytes_eq (texts names.items) }
         ensures { IfOk result (λ made. made ≡ texts names.items) }
     {
-        let mut numbered = Names::none(alloc);
+        let mut numbered = Names::none(alloc, hasher);
         for name in names {
             numbered.put(name)?;
         }
@@ -63,7 +59,7 @@ impl Names {
     pub fn len(&self) -> usize
         ensures { result ≡ length self.now }
     {
-        self.list.len()
+        self.numbered.len()
     }
 
     /// Returns the number of a name.
@@ -71,10 +67,7 @@ impl Names {
         ensures number { result ≡ number_of self.now name.now }
         ensures within { IfSome result (λ number. number < length self.now) }
     {
-        match self.numbers.get(name) {
-            Some(number) => Some(*number),
-            None => None,
-        }
+        self.numbered.get_index_of(name)
     }
 
     /// Adds a name, the last. It must be new.
@@ -87,15 +80,8 @@ impl Names {
         ensures after { OnOk result (self.new ≡ self.old ++ string_bytes name ∷ []) }
         ensures unchanged { OnErr result (self.new ≡ self.old) }
     {
-        let number = self.len();
-        self.list.push(name.clone()?)?;
-        match self.numbers.insert(name, number) {
-            Ok(_) => Ok(()),
-            Err(_) => {
-                self.list.pop();
-                Err(OutOfMemory)
-            }
-        }
+        self.numbered.insert(name)?;
+        Ok(())
     }
 
     /// Takes the last name away: only the first names stay.
@@ -103,8 +89,6 @@ impl Names {
         requires { length self.old ≡ count + 1 }
         ensures { self.new ≡ take count self.old }
     {
-        if let Some(name) = self.list.pop() {
-            self.numbers.remove(name.as_str());
-        }
+        self.numbered.truncate(count);
     }
 }

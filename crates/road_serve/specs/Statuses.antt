@@ -1,5 +1,5 @@
 -- How the program ends: its exit status, and the line on standard error.
-use Rattle.std.specs.Prelude.{◌≡◌, ◌⊎◌, ℕ, List, codes, false, Option, Some, None, Result, Ok, Err}
+use Rattle.std.specs.Prelude.{◌≡◌, ◌⊎◌, ℕ, ◌+◌, ◌-◌, ◌^◌, min, List, codes, false, Option, Some, None, Result, Ok, Err}
 use Rattle.std.specs.Option.{option_map}
 use Rattle.road_serve.specs.Serving.{Serving, AnswersInput}
 use Rattle.road_serve.specs.StreamViews.{SourceView}
@@ -48,6 +48,27 @@ IsRefused ended = HasStatus ended 2 (Some (codes "bad arguments")) ⊎ HasStatus
 pub record EndsAfter (ended : Ended) (run : Serving) : Type 0 where
   pub status : HasStatus ended (status_of run.result) (line_of run.result)
   pub answers : AnswersInput run
+
+-- the source as a read that failed leaves it
+abbrev pub after_failed_read : SourceView → SourceView
+after_failed_read source = record {
+  remaining = source.remaining;
+  at_end = false;
+  failures = min (source.failures + 1) (2 ^ 64 - 1);
+}
+
+-- A run for which the system had no random bytes, which counts as a failed read: the reader was not read, and nothing
+-- was written.
+pub record HasNoRandomBytes (before after : SourceView) (run : Serving) : Type 0 where
+  pub result : run.result ≡ Err faults.Read
+  pub counted : run.source_after ≡ after_failed_read before
+  pub unread : after ≡ before
+  pub unwritten : run.sink_after ≡ run.sink_before
+
+-- The program ends after this run of a reader, which was as given before and after it.
+pub record EndsReader (before after : SourceView) (ended : Ended) (run : Serving) : Type 0 where
+  pub ends : EndsAfter ended run
+  pub reads : (run.source_after ≡ after) ⊎ HasNoRandomBytes before after run
 
 -- the source that is made of a file, before its first byte is read
 abbrev pub source_of_file : {F : Type 0} → (F → Option (List ℕ)) → F → SourceView

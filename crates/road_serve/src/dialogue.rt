@@ -29,6 +29,7 @@ use road_plan::limits::LONGEST_LINE;
 use road_replica::Crowds;
 use road_workers::{Crew, CrewFault};
 use std::alloc::Global;
+use std::hash::BuildHasher;
 
 // Reads a line as the first one.
 fn first_line(
@@ -73,11 +74,12 @@ fn later_line(
 }
 
 // Returns the reply to the plan line, and the laboratory where it is accepted.
-fn opening(
+fn opening<S: BuildHasher + Copy>(
     alloc: Global,
     held: &[u8],
     long: bool,
-) -> Result<(String, Option<Laboratory>), OutOfMemory>
+    hasher: S,
+) -> Result<(String, Option<Laboratory<S>>), OutOfMemory>
     ensures text { IfOk result (λ opened. string_bytes opened.0
         ≡ reply (opening_answer (reading_unless long (plan_line_of held.now)))) }
     ensures laboratory { IfOk result (λ opened. opened.1
@@ -85,7 +87,7 @@ fn opening(
 {
     match first_line(alloc, held, long)? {
         Ok(line) => {
-            let (reply, laboratory) = opened(alloc, line)?;
+            let (reply, laboratory) = opened(alloc, line, hasher)?;
             Ok((reply, Some(laboratory)))
         }
         Err(refusal) => Ok((refusal_reply(alloc, refusal)?, None)),
@@ -93,14 +95,18 @@ fn opening(
 }
 
 // Opens the laboratory of a plan line that is accepted, and returns the reply too.
-fn opened(alloc: Global, line: PlanLine) -> Result<(String, Laboratory), OutOfMemory>
+fn opened<S: BuildHasher + Copy>(
+    alloc: Global,
+    line: PlanLine,
+    hasher: S,
+) -> Result<(String, Laboratory<S>), OutOfMemory>
     requires few { vec_len line.names ≤ 64 }
     requires apart { IsDistinct bytes_eq (texts line.names.items) }
     ensures text { IfOk result (λ opened. string_bytes opened.0 ≡ reply (opening_answer (Ok (plan_line_view line)))) }
     ensures laboratory { IfOk result (λ opened. Some opened.1 ≡ opened_laboratory (Ok (plan_line_view line))) }
 {
     let replicas = line.names.len() as u32;
-    let laboratory = Laboratory::open(alloc, line)?;
+    let laboratory = Laboratory::open(alloc, line, hasher)?;
     let reply = reply_line(alloc, &Answer::Open { replicas })?;
     Ok((reply, laboratory))
 }
@@ -113,9 +119,9 @@ fn refusal_reply(alloc: Global, refusal: Refusal) -> Result<String, OutOfMemory>
 }
 
 // Returns the reply to a line after the first.
-fn later_reply<C: Crew, K: Crowds>(
+fn later_reply<S: BuildHasher + Copy, C: Crew, K: Crowds>(
     alloc: Global,
-    laboratory: &mut Laboratory,
+    laboratory: &mut Laboratory<S>,
     held: &[u8],
     long: bool,
     crew: &mut C,
@@ -135,9 +141,9 @@ fn later_reply<C: Crew, K: Crowds>(
 }
 
 // Returns the reply to a command.
-fn command_reply<C: Crew, K: Crowds>(
+fn command_reply<S: BuildHasher + Copy, C: Crew, K: Crowds>(
     alloc: Global,
-    laboratory: &mut Laboratory,
+    laboratory: &mut Laboratory<S>,
     command: Command,
     crew: &mut C,
     crowds: &K,
@@ -163,9 +169,11 @@ fn line_end(bytes: &[u8]) -> Option<usize>
 /// Answers each whole line that came, and holds the bytes of the next one: no more of a line than the longest one has.
 /// At most 64 KiB of replies wait to be written.
 #[derive(Drop)]
-pub struct Dialogue {
+pub struct Dialogue<S: BuildHasher> {
+    /// What makes the hashes of names.
+    pub hasher: S,
     /// The laboratory, once the plan line is accepted.
-    pub laboratory: Option<Laboratory>,
+    pub laboratory: Option<Laboratory<S>>,
     /// The bytes of the line that has not ended.
     pub held: Vec<u8>,
     /// Whether that line is too long, so that its bytes are not held.
@@ -178,14 +186,16 @@ pub struct Dialogue {
     pub over: Option<EarlyEnd>,
 }
 
-impl Dialogue {
-    /// Returns the dialogue to which nothing has come. So many lines may come after the plan line.
-    pub fn new(alloc: Global, lines: u32) -> Dialogue
+impl<S: BuildHasher + Copy> Dialogue<S> {
+    /// Returns the dialogue to which nothing has come. So many lines may come after the plan line, and names are found by
+    /// hashes that this hasher makes.
+    pub fn new(alloc: Global, lines: u32, hasher: S) -> Dialogue<S>
         ensures none_came { (first : SinkView) → HasAnswered lines [] first first result }
         ensures going { result.over ≡ None }
         ensures none_wait { result.waiting.items ≡ [] }
     {
         Dialogue {
+            hasher,
             laboratory: None,
             held: Vec::new(alloc),
             long: false,
@@ -250,7 +260,7 @@ impl Dialogue {
             self.long = false;
             return Ok(reply);
         }
-        let (reply, laboratory) = opening(alloc, self.held.as_slice(), self.long)?;
+        let (reply, laboratory) = opening(alloc, self.held.as_slice(), self.long, self.hasher)?;
         self.laboratory = laboratory;
         if self.laboratory.is_none() {
             self.over = Some(EarlyEnd::BadPlan);

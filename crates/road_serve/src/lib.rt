@@ -4,7 +4,7 @@
 //! // The answers to an input that is held in memory, by one worker; its crowds are gathered by threads.
 //! let mut reader = MemorySource::new(input, input.len().max(1), Failing::Never);
 //! let mut writer = MemorySink::new(Vec::new(alloc), 65_536, Failing::Never, Failing::Never);
-//! match serve(alloc, &mut reader, &mut writer, &mut Alone, &OnThreads::new(&rt)) {
+//! match serve(alloc, &mut reader, &mut writer, &mut Alone, &OnThreads::new(&rt), RandomState::new(&rt)?) {
 //!     Ok(served) => println!(&rt; "{} lines were answered", served.lines),
 //!     Err(fault) => println!(&rt; "{fault} behind {} bytes of replies", writer.bytes().len()),
 //! }

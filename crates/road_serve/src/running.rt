@@ -6,7 +6,7 @@ ghost use Rattle.road_format.specs.Views.{texts};
 ghost use Rattle.road_plan.specs.declared.limits.TheConstants.{MOST_WORKERS};
 ghost use Rattle.road_serve.specs.Arguments.{are_accepted, script_of, workers_of};
 ghost use Rattle.road_serve.specs.Serving.{program_serving};
-ghost use Rattle.road_serve.specs.Statuses.{status_of, line_of, fault_status, fault_line, EndsAfter, EndsScript};
+ghost use Rattle.road_serve.specs.Statuses.{status_of, line_of, fault_status, fault_line, EndsAfter, EndsReader, EndsScript};
 ghost use Rattle.road_serve.specs.Statuses.{HasStatus, IsRefused};
 ghost use Rattle.road_serve.specs.StreamViews.{SourceView, source_view, sink_view};
 ghost use Rattle.road_serve.specs.declared.serving.Served.{Served};
@@ -23,6 +23,8 @@ use road_replica::Crowds;
 use road_workers::{Alone, Crew, CrewFault, Pool};
 use std::alloc::Global;
 use std::fs;
+use std::hash::{BuildHasher, RandomState};
+use std::random::RandomSource;
 use std::rt::Files;
 use std::sync::Wait;
 use std::thread::Threads;
@@ -60,9 +62,10 @@ impl Ended {
 
 /// Runs the program with these words after its name: from the script that they name, or from the reader, and with the
 /// workers that they ask for, or alone. A script is opened before workers are started. The sessions of a crowd work on
-/// threads of their own.
+/// threads of their own. Names are found by hashes with keys from the system's random bytes; where it has none, the
+/// program ends as after a failed read, before it reads a line.
 pub fn run<
-    F: Files + Threads + Wait + AllocGlobal + Clone + Drop + Send + 'static,
+    F: Files + Threads + Wait + RandomSource + AllocGlobal + Clone + Drop + Send + 'static,
     R: Source,
     W: Sink,
 >(rt: &F, words: &[String], reader: &mut R, writer: &mut W) -> Ended
@@ -70,7 +73,9 @@ pub fn run<
         × (reader.new ≡ reader.old) × (writer.new ≡ writer.old) }
     ensures served { are_accepted (texts words.now) ≡ true → script_of (texts words.now) ≡ None
         → (served : Result Served ServeFault) × (gone : ℕ) × (workers_of (texts words.now) ≡ None → gone ≡ 0)
-        × EndsAfter result (program_serving (source_view R.Source reader.old) (source_view R.Source reader.new)
+        × (after : SourceView)
+        × EndsReader (source_view R.Source reader.old) (source_view R.Source reader.new) result
+        (program_serving (source_view R.Source reader.old) after
         (sink_view W.Sink writer.old) (sink_view W.Sink writer.new) 0 gone served) }
     // No contract says which file a path opens, nor which bytes a file holds.
     ensures script { are_accepted (texts words.now) ≡ true → IsSome (script_of (texts words.now))
@@ -91,12 +96,10 @@ pub fn run<
 }
 
 // Runs the program from the script at a path.
-fn run_script<F: Files + Threads + Wait + AllocGlobal + Clone + Drop + Send + 'static, W: Sink>(
-    rt: &F,
-    path: &str,
-    workers: Option<u32>,
-    writer: &mut W,
-) -> Ended
+fn run_script<
+    F: Files + Threads + Wait + RandomSource + AllocGlobal + Clone + Drop + Send + 'static,
+    W: Sink,
+>(rt: &F, path: &str, workers: Option<u32>, writer: &mut W) -> Ended
     requires { IfSome workers (λ count. (0 < count) × (count ≤ MOST_WORKERS)) }
     ensures { (served : Result Served ServeFault) × (gone : ℕ) × (workers ≡ None → gone ≡ 0)
         × (before : SourceView) × (after : SourceView) × (opened : Option F.File)
@@ -107,12 +110,10 @@ fn run_script<F: Files + Threads + Wait + AllocGlobal + Clone + Drop + Send + 's
 }
 
 // Runs the program from the script that was opened, from its first byte. Where none could be, that is a read that fails.
-fn run_opened<F: Files + Threads + Wait + AllocGlobal + Clone + Drop + Send + 'static, W: Sink>(
-    rt: &F,
-    opened: Option<F::File>,
-    workers: Option<u32>,
-    writer: &mut W,
-) -> Ended
+fn run_opened<
+    F: Files + Threads + Wait + RandomSource + AllocGlobal + Clone + Drop + Send + 'static,
+    W: Sink,
+>(rt: &F, opened: Option<F::File>, workers: Option<u32>, writer: &mut W) -> Ended
     requires { IfSome workers (λ count. (0 < count) × (count ≤ MOST_WORKERS)) }
     ensures script { (served : Result Served ServeFault) × (gone : ℕ) × (workers ≡ None → gone ≡ 0)
         × (before : SourceView) × (after : SourceView)
@@ -129,12 +130,32 @@ fn run_opened<F: Files + Threads + Wait + AllocGlobal + Clone + Drop + Send + 's
     }
 }
 
-// Runs the program with so many workers, or alone, from a reader to a writer.
-fn run_with<F: Threads + Wait + AllocGlobal + Clone + Drop + Send + 'static, R: Source, W: Sink>(
+// Runs the program with so many workers, or alone, from a reader to a writer. Names are found by hashes with random keys:
+// where the system has no random bytes for these, that is a read that fails.
+fn run_with<
+    F: Threads + Wait + RandomSource + AllocGlobal + Clone + Drop + Send + 'static,
+    R: Source,
+    W: Sink,
+>(rt: &F, workers: Option<u32>, reader: &mut R, writer: &mut W) -> Ended
+    requires { IfSome workers (λ count. (0 < count) × (count ≤ MOST_WORKERS)) }
+    ensures { (served : Result Served ServeFault) × (gone : ℕ) × (workers ≡ None → gone ≡ 0) × (after : SourceView)
+        × EndsReader (source_view R.Source reader.old) (source_view R.Source reader.new) result
+        (program_serving (source_view R.Source reader.old) after
+        (sink_view W.Sink writer.old) (sink_view W.Sink writer.new) 0 gone served) }
+{
+    match RandomState::new(rt) {
+        Ok(hasher) => run_hashed(rt, workers, reader, writer, hasher),
+        Err(_) => after_fault(&ServeFault::Read),
+    }
+}
+
+// Runs the program with so many workers, or alone, from a reader to a writer, and finds names by this hasher.
+fn run_hashed<F: Threads + Wait + AllocGlobal + Clone + Drop + Send + 'static, R: Source, W: Sink>(
     rt: &F,
     workers: Option<u32>,
     reader: &mut R,
     writer: &mut W,
+    hasher: RandomState,
 ) -> Ended
     requires { IfSome workers (λ count. (0 < count) × (count ≤ MOST_WORKERS)) }
     ensures { (served : Result Served ServeFault) × (gone : ℕ) × (workers ≡ None → gone ≡ 0)
@@ -142,8 +163,8 @@ fn run_with<F: Threads + Wait + AllocGlobal + Clone + Drop + Send + 'static, R: 
         (sink_view W.Sink writer.old) (sink_view W.Sink writer.new) 0 gone served) }
 {
     match workers {
-        None => run_alone(rt, reader, writer),
-        Some(count) => run_by_workers(rt, count, reader, writer),
+        None => run_alone(rt, reader, writer, hasher),
+        Some(count) => run_by_workers(rt, count, reader, writer, hasher),
     }
 }
 
@@ -152,13 +173,21 @@ fn run_alone<F: Threads + Wait + AllocGlobal, R: Source, W: Sink>(
     rt: &F,
     reader: &mut R,
     writer: &mut W,
+    hasher: RandomState,
 ) -> Ended
     ensures { (served : Result Served ServeFault)
         × EndsAfter result (program_serving (source_view R.Source reader.old) (source_view R.Source reader.new)
         (sink_view W.Sink writer.old) (sink_view W.Sink writer.new) 0 0 served) }
 {
     let mut crew = Alone;
-    run_by(rt.alloc(), reader, writer, &mut crew, &OnThreads::new(rt))
+    run_by(
+        rt.alloc(),
+        reader,
+        writer,
+        &mut crew,
+        &OnThreads::new(rt),
+        hasher,
+    )
 }
 
 // Runs the program by so many lasting workers, from a reader to a writer. They are ended before it ends.
@@ -166,7 +195,7 @@ fn run_by_workers<
     F: Threads + Wait + AllocGlobal + Clone + Drop + Send + 'static,
     R: Source,
     W: Sink,
->(rt: &F, count: u32, reader: &mut R, writer: &mut W) -> Ended
+>(rt: &F, count: u32, reader: &mut R, writer: &mut W, hasher: RandomState) -> Ended
     requires some { 0 < count }
     requires few { count ≤ MOST_WORKERS }
     ensures { (served : Result Served ServeFault) × (gone : ℕ)
@@ -175,7 +204,14 @@ fn run_by_workers<
 {
     match crew_of(rt, count) {
         Ok(mut crew) => {
-            let ended = run_by(rt.alloc(), reader, writer, &mut crew, &OnThreads::new(rt));
+            let ended = run_by(
+                rt.alloc(),
+                reader,
+                writer,
+                &mut crew,
+                &OnThreads::new(rt),
+                hasher,
+            );
             crew.finish();
             ended
         }
@@ -196,20 +232,21 @@ fn crew_of<F: Threads + Wait + AllocGlobal + Clone + Drop + Send + 'static>(
     Pool::start(rt.clone()?, rt.alloc(), count)
 }
 
-/// Runs the program by a crew, and whoever gathers crowds, from a reader to a writer.
-pub fn run_by<R: Source, W: Sink, C: Crew, K: Crowds>(
+/// Runs the program by a crew, and whoever gathers crowds, from a reader to a writer, and finds names by this hasher.
+pub fn run_by<R: Source, W: Sink, C: Crew, K: Crowds, S: BuildHasher + Copy>(
     alloc: Global,
     reader: &mut R,
     writer: &mut W,
     crew: &mut C,
     crowds: &K,
+    hasher: S,
 ) -> Ended
     ensures { (served : Result Served ServeFault)
         × EndsAfter result (program_serving (source_view R.Source reader.old) (source_view R.Source reader.new)
         (sink_view W.Sink writer.old) (sink_view W.Sink writer.new) (C.times_gone crew.old) (C.times_gone crew.new)
         served) }
 {
-    after_run(&serve(alloc, reader, writer, crew, crowds))
+    after_run(&serve(alloc, reader, writer, crew, crowds, hasher))
 }
 
 // Returns how the program ends after a run.

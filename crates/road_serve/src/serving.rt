@@ -12,6 +12,7 @@ use road_plan::limits::{MOST_BYTES, MOST_LINES};
 use road_replica::Crowds;
 use road_workers::Crew;
 use std::alloc::Global;
+use std::hash::BuildHasher;
 
 // Bounds how many bytes are read at once.
 const PIECE: usize = 16_384;
@@ -34,7 +35,8 @@ struct Limits {
 
 /// Reads an input to its end, and writes the reply to each of its lines. At most 1,000,000 lines after the plan line
 /// are read, and at most 2^32 bytes. The crew computes the speeds of the steps that are simulated; `crowds` gathers the
-/// crowds. Without crowds no call waits but those of the source, the sink and the crew.
+/// crowds; the hasher makes the hashes by which names are found, and no reply depends on it. Without crowds no call waits
+/// but those of the source, the sink and the crew.
 ///
 /// # Errors
 ///
@@ -42,18 +44,21 @@ struct Limits {
 /// replies are written whole. `Read` where the source failed: then the replies to all lines that were read whole are
 /// written. `Write` where the sink failed, `WorkersGone` where the crew did, or a thread of a crowd could not be started,
 /// `OutOfMemory` where an allocation failed: then what was written begins the replies.
-pub fn serve<R: Source, W: Sink, C: Crew, K: Crowds>(
+pub fn serve<R: Source, W: Sink, C: Crew, K: Crowds, S: BuildHasher + Copy>(
     alloc: Global,
     reader: &mut R,
     writer: &mut W,
     crew: &mut C,
     crowds: &K,
+    hasher: S,
 ) -> Result<Served, ServeFault>
     ensures { AnswersInput (program_serving (source_view R.Source reader.old) (source_view R.Source reader.new)
         (sink_view W.Sink writer.old) (sink_view W.Sink writer.new) (C.times_gone crew.old) (C.times_gone crew.new)
         result) }
 {
-    serve_within(alloc, reader, writer, crew, crowds, MOST_LINES, MOST_BYTES)
+    serve_within(
+        alloc, reader, writer, crew, crowds, hasher, MOST_LINES, MOST_BYTES,
+    )
 }
 
 /// Serves as `serve` does, with at most so many lines after the plan line, and at most so many bytes.
@@ -61,12 +66,13 @@ pub fn serve<R: Source, W: Sink, C: Crew, K: Crowds>(
 /// # Errors
 ///
 /// As for `serve`.
-pub fn serve_within<R: Source, W: Sink, C: Crew, K: Crowds>(
+pub fn serve_within<R: Source, W: Sink, C: Crew, K: Crowds, S: BuildHasher + Copy>(
     alloc: Global,
     reader: &mut R,
     writer: &mut W,
     crew: &mut C,
     crowds: &K,
+    hasher: S,
     lines: u32,
     bytes: u64,
 ) -> Result<Served, ServeFault>
@@ -83,7 +89,7 @@ pub fn serve_within<R: Source, W: Sink, C: Crew, K: Crowds>(
     }) }
 {
     let limits = Limits { lines, bytes };
-    let mut dialogue = Dialogue::new(alloc, lines);
+    let mut dialogue = Dialogue::new(alloc, lines, hasher);
     answer_input(alloc, reader, writer, crew, crowds, &mut dialogue, limits)
 }
 
@@ -91,13 +97,13 @@ pub fn serve_within<R: Source, W: Sink, C: Crew, K: Crowds>(
 //
 // The dialogue is lent: each way out of the function that owns it drops it, and for each such drop the prover goes
 // through all that a laboratory holds.
-fn answer_input<R: Source, W: Sink, C: Crew, K: Crowds>(
+fn answer_input<R: Source, W: Sink, C: Crew, K: Crowds, S: BuildHasher + Copy>(
     alloc: Global,
     reader: &mut R,
     writer: &mut W,
     crew: &mut C,
     crowds: &K,
-    dialogue: &mut Dialogue,
+    dialogue: &mut Dialogue<S>,
     limits: Limits,
 ) -> Result<Served, ServeFault>
     requires none_came { (first : SinkView) → HasAnswered limits.lines [] first first dialogue.old }

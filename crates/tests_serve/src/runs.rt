@@ -11,6 +11,7 @@ use road_serve::{
 };
 use road_workers::{Alone, Crew, CrewFault};
 use std::alloc::Global;
+use std::hash::{BuildHasher, Hasher, RandomState};
 use std::io;
 use std::sync::Arc;
 use std::test::Fail;
@@ -24,6 +25,32 @@ const FREE_ROAD: &str =
 fn sink(alloc: Global) -> Result<MemorySink, OutOfMemory> {
     let bytes = Vec::with_capacity(alloc, 1000)?;
     Ok(MemorySink::new(bytes, 1000, Failing::Never, Failing::Never))
+}
+
+/// Makes one hash for all names, so that each look-up goes by comparisons.
+#[derive(Clone, Copy, Debug)]
+pub(crate) struct AllAlike;
+
+impl BuildHasher for AllAlike {
+    type Hasher = AllAlike;
+
+    ghost build_hasher = { λ builder. builder };
+
+    fn build_hasher(&self) -> AllAlike {
+        AllAlike
+    }
+}
+
+impl Hasher for AllAlike {
+    ghost write = { λ hasher bytes. hasher };
+
+    ghost finish = { λ hasher. 0 };
+
+    fn write(&mut self, _bytes: &[u8]) {}
+
+    fn finish(&self) -> u64 {
+        0
+    }
 }
 
 /// Gathers no crowd: the thread of its first session cannot be started.
@@ -181,6 +208,7 @@ fn limits_and_faults(rt: HostRuntime) -> Result<(), Fail> {
             &mut writer,
             &mut Alone,
             &Unmanned,
+            AllAlike,
             lines,
             bytes,
         ))?;
@@ -200,7 +228,14 @@ fn limits_and_faults(rt: HostRuntime) -> Result<(), Fail> {
 fn a_refused_plan_is_the_end(rt: HostRuntime) -> Result<(), Fail> {
     let mut writer = sink(rt.alloc())?;
     let mut reader = MemorySource::new(b"{}\n", 3, Failing::From(1));
-    let result = end_of(serve(rt.alloc(), &mut reader, &mut writer, &mut Alone, &Unmanned))?;
+    let result = end_of(serve(
+        rt.alloc(),
+        &mut reader,
+        &mut writer,
+        &mut Alone,
+        &Unmanned,
+        AllAlike,
+    ))?;
     assert!(rt; matches!(result, Err(ServeFault::BadPlan)));
     Ok(())
 }
@@ -254,7 +289,14 @@ fn workers_that_leave(rt: HostRuntime) -> Result<(), Fail> {
         };
         // Each reply is written before the next line is read.
         let mut reader = MemorySource::new(input.as_bytes(), 1, ALL);
-        let ended = run_by(alloc, &mut reader, &mut writer, &mut crew, &Unmanned);
+        let ended = run_by(
+            alloc,
+            &mut reader,
+            &mut writer,
+            &mut crew,
+            &Unmanned,
+            AllAlike,
+        );
         if ended.status == 3 {
             return Err(OutOfMemory.into());
         }
@@ -284,7 +326,14 @@ fn a_crowd_without_threads(rt: HostRuntime) -> Result<(), Fail> {
         calls_left: 0,
         gone: 0,
     };
-    let result = end_of(serve(alloc, &mut reader, &mut writer, &mut crew, &Unmanned))?;
+    let result = end_of(serve(
+        alloc,
+        &mut reader,
+        &mut writer,
+        &mut crew,
+        &Unmanned,
+        AllAlike,
+    ))?;
     assert!(rt; matches!(result, Err(ServeFault::WorkersGone)) && crew.gone == 0);
     let replies = "{\"open\":3}\n{\"refused\":\"Insider\"}\n";
     assert!(rt; writer.bytes() == replies.as_bytes());
@@ -298,7 +347,10 @@ fn a_crowd_on_threads(rt: HostRuntime) -> Result<(), Fail> {
     let mut reader = MemorySource::new(input.as_bytes(), usize::MAX, ALL);
     let mut writer = sink(alloc)?;
     let crowds = OnThreads::new(&rt);
-    let result = end_of(serve(alloc, &mut reader, &mut writer, &mut Alone, &crowds))?;
+    let Ok(hasher) = RandomState::new(&rt) else {
+        return Err(Fail::new("no random bytes"));
+    };
+    let result = end_of(serve(alloc, &mut reader, &mut writer, &mut Alone, &crowds, hasher))?;
     assert!(rt; matches!(result, Ok(Served { lines: 3 })));
     let replies =
         "{\"open\":3}\n{\"refused\":\"Insider\"}\n{\"edits\":[[\"block\",8,4,2,64,null]],\"form\":2,\"journal\":4,\"row\":\"0..2...2....\"}\n{\"horizon\":1}\n";
@@ -391,7 +443,14 @@ fn writers_of_std(rt: HostRuntime) -> Result<(), Fail> {
         };
         let mut writer = StdSink::new(&mut holding);
         let mut reader = MemorySource::new(FREE_ROAD.as_bytes(), usize::MAX, ALL);
-        let result = end_of(serve(rt.alloc(), &mut reader, &mut writer, &mut Alone, &Unmanned))?;
+        let result = end_of(serve(
+            rt.alloc(),
+            &mut reader,
+            &mut writer,
+            &mut Alone,
+            &Unmanned,
+            AllAlike,
+        ))?;
         drop(writer);
         if whole {
             assert!(rt; result.is_ok() && holding.passed_on == 11 && holding.held == 0);
@@ -415,7 +474,14 @@ fn a_failed_write_of_std(rt: HostRuntime) -> Result<(), Fail> {
         };
         let mut writer = StdSink::new(&mut refusing);
         let mut reader = MemorySource::new(FREE_ROAD.as_bytes(), usize::MAX, ALL);
-        let result = end_of(serve(rt.alloc(), &mut reader, &mut writer, &mut Alone, &Unmanned))?;
+        let result = end_of(serve(
+            rt.alloc(),
+            &mut reader,
+            &mut writer,
+            &mut Alone,
+            &Unmanned,
+            AllAlike,
+        ))?;
         drop(writer);
         assert!(rt; matches!(result, Err(ServeFault::Write)) && refusing.writes == 1);
     }

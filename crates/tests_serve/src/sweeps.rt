@@ -3,7 +3,7 @@
 
 ghost use Rattle.std.specs.Prelude.{◌≤◌, length, IfOk};
 
-use crate::runs::{Leaving, Unmanned, end_of};
+use crate::runs::{AllAlike, Leaving, Unmanned, end_of};
 use road_plan::OutOfMemory;
 use road_serve::{
     Failing, MemorySink, MemorySource, ServeFault, StdSink, StdSource, run_by, serve,
@@ -77,7 +77,14 @@ fn leaves(rt: &impl Abort, alloc: Global, calls_left: u64) -> Result<(), Fail> {
         calls_left,
         gone: 0,
     };
-    let result = end_of(serve(alloc, &mut reader, &mut writer, &mut crew, &Unmanned))?;
+    let result = end_of(serve(
+        alloc,
+        &mut reader,
+        &mut writer,
+        &mut crew,
+        &Unmanned,
+        AllAlike,
+    ))?;
     let front = ANSWERS.as_bytes().get(..written_after(calls_left));
     assert!(rt; matches!(result, Err(ServeFault::WorkersGone)) && crew.gone == 1);
     assert!(rt; front == Some(writer.bytes()), "after {calls_left} calls");
@@ -102,7 +109,14 @@ fn a_crew_is_asked_no_more(rt: HostRuntime) -> Result<(), Fail> {
         calls_left: CALLS,
         gone: 0,
     };
-    let ended = run_by(rt.alloc(), &mut reader, &mut writer, &mut crew, &Unmanned);
+    let ended = run_by(
+        rt.alloc(),
+        &mut reader,
+        &mut writer,
+        &mut crew,
+        &Unmanned,
+        AllAlike,
+    );
     if ended.status == 3 {
         return Err(Fail::new("no memory"));
     }
@@ -162,7 +176,14 @@ fn falters(rt: &impl Abort, alloc: Global, fails_at: u64, takes_none: bool) -> R
     };
     let mut writer = StdSink::new(&mut faltering);
     let mut reader = MemorySource::new(STORED.as_bytes(), usize::MAX, Failing::Never);
-    let result = end_of(serve(alloc, &mut reader, &mut writer, &mut Alone, &Unmanned))?;
+    let result = end_of(serve(
+        alloc,
+        &mut reader,
+        &mut writer,
+        &mut Alone,
+        &Unmanned,
+        AllAlike,
+    ))?;
     drop(writer);
     let front = ANSWERS.as_bytes().get(..fails_at as usize);
     assert!(rt; matches!(result, Err(ServeFault::Write)));
@@ -206,7 +227,14 @@ fn a_sink_takes_short(rt: HostRuntime) -> Result<(), Fail> {
     for step in [1, 2, 3, 7, 100] {
         let mut writer = short_sink(rt.alloc(), step, Failing::Never)?;
         let mut reader = MemorySource::new(STORED.as_bytes(), usize::MAX, Failing::Never);
-        let result = end_of(serve(rt.alloc(), &mut reader, &mut writer, &mut Alone, &Unmanned))?;
+        let result = end_of(serve(
+            rt.alloc(),
+            &mut reader,
+            &mut writer,
+            &mut Alone,
+            &Unmanned,
+            AllAlike,
+        ))?;
         assert!(rt; result.is_ok() && writer.bytes() == ANSWERS.as_bytes());
     }
     Ok(())
@@ -216,7 +244,14 @@ fn a_sink_takes_short(rt: HostRuntime) -> Result<(), Fail> {
 fn sink_fails(rt: &impl Abort, alloc: Global, fails_at: u64) -> Result<(), Fail> {
     let mut writer = short_sink(alloc, 1, Failing::Once(fails_at))?;
     let mut reader = MemorySource::new(STORED.as_bytes(), usize::MAX, Failing::Never);
-    let result = end_of(serve(alloc, &mut reader, &mut writer, &mut Alone, &Unmanned))?;
+    let result = end_of(serve(
+        alloc,
+        &mut reader,
+        &mut writer,
+        &mut Alone,
+        &Unmanned,
+        AllAlike,
+    ))?;
     let front = ANSWERS.as_bytes().get(..fails_at as usize);
     assert!(rt; matches!(result, Err(ServeFault::Write)) && front == Some(writer.bytes()));
     Ok(())
@@ -283,7 +318,14 @@ fn stumbles(rt: &impl Abort, alloc: Global, fails_at: u64) -> Result<(), Fail> {
     let taken = Vec::with_capacity(alloc, 1000)?;
     let mut writer = MemorySink::new(taken, 1000, Failing::Never, Failing::Never);
     let mut reader = StdSource::new(&mut stumbling);
-    let result = end_of(serve(alloc, &mut reader, &mut writer, &mut Alone, &Unmanned))?;
+    let result = end_of(serve(
+        alloc,
+        &mut reader,
+        &mut writer,
+        &mut Alone,
+        &Unmanned,
+        AllAlike,
+    ))?;
     drop(reader);
     let written = bytes_of_answers(lines_within(fails_at as usize));
     assert!(rt; matches!(result, Err(ServeFault::Read)));

@@ -11,7 +11,7 @@ pub returns-in-Some-clause-script : goal.returns-in-Some-clause-script
 returns-in-Some-clause-script g c =
     let ran = c.run_with.ensures in
     rw (c.in-Some.is)
-    (ran.0, ran.1, ran.2, _, _, (ran.3, source_is _ _ c.new-reader.ensures.remaining c.new-reader.ensures.going c.new-reader.ensures.failures))
+    (ran.0, ran.1, ran.2, _, ran.3, (ran.4.ends, source_is _ _ c.new-reader.ensures.remaining c.new-reader.ensures.going c.new-reader.ensures.failures))
 
 pub returns-in-None-clause-script : goal.returns-in-None-clause-script
 returns-in-None-clause-script g c = rw (c.in-None.is) (

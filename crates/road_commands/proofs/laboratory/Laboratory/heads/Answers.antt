@@ -8,6 +8,6 @@ use Rattle.road_world.specs.declared.message.Message.TheVariants.{Asked}
 use Rattle.road_commands.proofs.laboratory.Laboratory.heads.Goals as goal
 
 pub post-requires-clause-made : goal.post-requires-clause-made
-post-requires-clause-made c =
+post-requires-clause-made g c =
     ap (λ (s : Edits). Some (Asked (heads (winners s)))) (sym c.scenario.ensures.edits)
     ∙ ap (λ (s : Edits). Some (Asked (heads s))) c.scenario.ensures.winners ∙ ap (λ (hs : List Head). Some (Asked hs)) (sym c.in_ok-asked.ensures.heads)

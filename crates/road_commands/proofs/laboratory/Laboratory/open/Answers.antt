@@ -7,7 +7,7 @@ use Rattle.road_commands.proofs.QueryCaches.{cached_opening}
 use Rattle.road_commands.proofs.laboratory.Laboratory.open.Goals as goal
 
 pub invariant_of-result : goal.invariant_of-result
-invariant_of-result c =
+invariant_of-result g c =
     let as_many = ap (λ (names : List (List ℕ)). length names) c.in_ok-replicas.ensures ∙ length-map c.args.line.names.items string_bytes in
     let few = subst (λ (n : ℕ). n ≤ MOST_REPLICAS) (sym as_many) c.requires.few in
     cached_opening c.in_ok-replicas.replicas (arc_value c.in_ok-plan.plan) c.in_ok-world.world c.in_ok-caches.caches.items c.len-count.result

@@ -10,7 +10,7 @@ use Rattle.road_world.proofs.EventAnswers.{fault_there}
 use Rattle.road_commands.proofs.laboratory.Laboratory.post.Goals as goal
 
 pub post-requires-clause-accepted : goal.post-requires-clause-accepted
-post-requires-clause-accepted c =
+post-requires-clause-accepted g c =
     let e = c.args.event.now in
     let world = ap (λ (l : Laboratory). l.world) c.self.view_is in
     let names = ap (λ (l : Laboratory). length l.replica_names) c.self.view_is in
@@ -18,20 +18,20 @@ post-requires-clause-accepted c =
     fault_there c.self.inside.world e below ∙ ap (λ (w : World). fault_at_replica w e) world ∙ c.requires.accepted
 
 pub post-requires-clause-made : goal.post-requires-clause-made
-post-requires-clause-made c =
+post-requires-clause-made g c =
     ap (λ (w : World). message_of_event w c.args.event.now) (ap (λ (l : Laboratory). l.world) c.self.view_is) ∙ c.requires.made
 
 pub invariant_of-self-in-Ok : goal.invariant_of-self-in-Ok
-invariant_of-self-in-Ok c =
+invariant_of-self-in-Ok g c =
     cached_on c.self.inside.replicas c.self.inside.world c.post.new.self c.self.inside.caches.items c.args.event.now c.self.invariant
     (c.in-Ok.ensures.applied 0).after (made_keeps c.args.event.now c.args.self.now.world c.args.message c.requires.made)
 
 pub invariant_of-self-in-Err : goal.invariant_of-self-in-Err
-invariant_of-self-in-Err c =
+invariant_of-self-in-Err g c =
     subst (λ (w : World). IsCached c.self.inside.replicas w c.self.inside.caches.items) (sym (c.in-Err.ensures.applied 0).unchanged) c.self.invariant
 
 pub returns-in-Ok-clause-after : goal.returns-in-Ok-clause-after
-returns-in-Ok-clause-after c =
+returns-in-Ok-clause-after g c =
     let e = c.args.event.now in
     let name = c.args.name.now in
     let r = c.self.inside.replicas in
@@ -43,7 +43,7 @@ returns-in-Ok-clause-after c =
     ∙ ap (λ (lab : Laboratory). laboratory_of_winners (record lab { message_names = lab.message_names ++ name ∷ []; world = world_after_event e lab.world })) c.self.view_is
 
 pub returns-in-Err-clause-unchanged : goal.returns-in-Err-clause-unchanged
-returns-in-Err-clause-unchanged c =
+returns-in-Err-clause-unchanged g c =
     let r = c.self.inside.replicas in
     let m = c.self.inside.messages in
     let name = c.args.name.now in

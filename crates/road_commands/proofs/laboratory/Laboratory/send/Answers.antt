@@ -5,5 +5,5 @@ use Rattle.road_world.specs.declared.message.Message.TheVariants.{Whole}
 use Rattle.road_commands.proofs.laboratory.Laboratory.send.Goals as goal
 
 pub post-requires-clause-made : goal.post-requires-clause-made
-post-requires-clause-made c =
+post-requires-clause-made g c =
     ap (λ (s : Edits). Some (Whole s)) (sym (c.in_ok-edits.ensures.copy ∙ c.scenario-held.ensures.edits))

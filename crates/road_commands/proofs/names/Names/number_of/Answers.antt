@@ -1,13 +1,10 @@
--- A number in the map is a place in the list.
-use Rattle.std.proofs.Common.{◌≡◌, ◌∙◌, ℕ, List, [], Some, ap, sym}
-use Rattle.std.specs.Str.{bytes_eq}
-use Rattle.std.proofs.lemmas.List.Quantifiers.{position-Some}
+-- A name's number is its place in the set.
+use Rattle.std.proofs.Common.{◌∙◌, ℕ, List, ap}
 use Rattle.road_commands.specs.Laboratory.{number_of}
+use Rattle.road_commands.proofs.NameNumbers.{number_by_place}
 use Rattle.road_commands.proofs.names.Names.number_of.Goals as goal
 
-pub returns-in-Some-clause-within : goal.returns-in-Some-clause-within
-returns-in-Some-clause-within c =
+pub returns-clause-number : goal.returns-clause-number
+returns-clause-number g c =
     let name = c.args.name.now in
-    let placed : number_of c.args.self.now name ≡ Some c.in-Some.number.now =
-    ap (λ (names : List (List ℕ)). number_of names name) (sym c.self.view_is) ∙ sym (c.self.invariant.found name) ∙ sym c.in-Some.ensures.value in
-    (position-Some (bytes_eq name) c.args.self.now c.in-Some.number.now [] placed).0
+    c.get_index_of.ensures.index ∙ number_by_place name c.self.inside.numbered.keys ∙ ap (λ (names : List (List ℕ)). number_of names name) c.self.view_is

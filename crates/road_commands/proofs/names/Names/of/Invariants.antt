@@ -5,4 +5,4 @@ use Rattle.road_commands.proofs.names.Names.of.Given as goal
 
 -- the names that are numbered, and then those to come, are all
 abbrev pub invariant-loop-name : goal.invariant-loop-name
-invariant-loop-name l = l.numbered ++ texts l.name-iterator.rest.items ≡ texts l.fn.names.items
+invariant-loop-name g l = l.numbered ++ texts l.name-iterator.rest.items ≡ texts l.fn.names.items
