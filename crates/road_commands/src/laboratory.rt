@@ -366,7 +366,10 @@ impl<S: BuildHasher + Copy> Laboratory<S> {
         }
         let delta = beyond(alloc, self.scenario(at), heads)?;
         let edits = delta.edits(alloc)?;
-        let event = Event::Beyond { at, message: number };
+        let event = Event::Beyond {
+            at,
+            message: number,
+        };
         self.post(alloc, &event, Message::Answer(delta), &name)?;
         Ok(Answer::Delta {
             message: name,

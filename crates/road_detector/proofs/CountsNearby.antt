@@ -54,8 +54,10 @@ passing_cars site drive k (Some v ∷ places) =
   where
     further : (k c : ℕ) → k + 1 + c ≡ k + suc c
     further k c = omega arith
+
     here : (k : ℕ) → k ≡ k + 0
     here k = omega arith
+
     front : (rest : List Drive) (b : Bool) → map (λ (x : Drive). x.speed) (cond b (record { cell = k; speed = drive k v } ∷ filter (is_passing site) rest) (filter (is_passing site) rest))
         ≡ cond b (drive k v ∷ []) [] ++ passing_speeds site rest
     front rest true = refl
@@ -73,6 +75,7 @@ module _ (p : Plan) (s : Settings) (t site : ℕ) (x y : Array) (agree : AgreeBe
     where
       short : (e site : ℕ) → e < site → nat_le site e ≡ false
       short e site lt = grind (arith, nat_tests)
+
       none : (b : Bool) → b && false ≡ false
       none true = refl
       none false = refl
