@@ -70,7 +70,7 @@ fn left<J: Naming + Send + Sync, R: Wait + Drop + Send, W: Threads + Wait, G: Ga
     to: u32,
     gate: &G,
 ) -> Result<Crowd, CrewFault>
-    requires book { prepared.book.seen.book ≡ J.book }
+    requires book { prepared.book ≡ J.book }
     requires replica { prepared.replica ≡ J.replica }
     requires ledger { (prepared.ledger.name ≡ J.name) × (prepared.ledger.parts ≡ J.parts) }
     requires limit { prepared.limit ≡ J.limit }

@@ -3,8 +3,6 @@ use Rattle.std.specs.Prelude.{◌≡◌, ◌≢◌, ◌+◌, ℕ, List, [], ◌�
 use Rattle.std.specs.List.{AllByRecursion}
 use mathlib.Core.List.{IsPrefix}
 use Rattle.road_sessions.specs.declared.entry.Entry.{Entry}
-use Rattle.road_sessions.specs.declared.faults.CloseCause.{CloseCause}
-use Rattle.road_sessions.specs.declared.faults.CloseCause.TheVariants.{Missing, OutOfMemory}
 use Rattle.road_sessions.specs.Journals.{writes_of}
 use Rattle.road_sessions.specs.Sessions.{Session}
 
@@ -30,8 +28,3 @@ HasWritesOf journal s = (writes_of s.number journal ≡ s.view.own) × IsPrefix 
 -- a journal is written by just these sessions: it has the writes of each, and as many entries as they made writes
 abbrev pub IsWrittenBy : List Entry → List Session → Type 0
 IsWrittenBy journal ss = (length journal ≡ write_count ss) × AllByRecursion (HasWritesOf journal) ss
-
--- a closing is refused as `Missing` where these are not all the sessions, and else for out of memory
-abbrev pub IsCloseRefusal : ℕ → List Session → CloseCause → Type 0
-IsCloseRefusal count ss Missing = ¬ AreAll count ss
-IsCloseRefusal count ss OutOfMemory = AreAll count ss

@@ -1,12 +1,10 @@
 -- Sessions, as contracts see them.
-use Rattle.std.specs.Prelude.{◌≡◌, ◌⊎◌, ◌+◌, ℕ, List, [], ◌∷◌, ◌++◌, length}
+use Rattle.std.specs.Prelude.{◌≡◌, ◌+◌, ℕ, List, [], ◌∷◌, ◌++◌, length}
 use mathlib.Core.List.{IsPrefix}
 use Rattle.road_replica.specs.Replicas.{Replica}
-use Rattle.road_replica.specs.declared.faults.ReplicaFault.TheVariants as causes
 use Rattle.road_replica.specs.declared.reply.Reply.{Reply}
 use Rattle.road_sessions.specs.declared.entry.Entry.{Entry}
 use Rattle.road_sessions.specs.declared.faults.WriteFault.{WriteFault}
-use Rattle.road_sessions.specs.declared.faults.WriteFault.TheVariants.{Replica as OfReplica}
 use Rattle.road_sessions.specs.declared.reader_view.View.{View}
 use Rattle.road_sessions.specs.declared.wish.Wish.{Wish}
 use Rattle.road_sessions.specs.Journals.{IsLegal, Write, AreInJournal, AreWritesOf, AreAtRisingPlaces, entry, replay}
@@ -70,10 +68,8 @@ pub record IsRefusedThere (limit : ℕ) (r : Replica) (wish : Wish) (seen : List
   pub legal : IsLegal r front
   pub refused : IsRefused limit wish r front fault meter after
 
--- a refused write: it leaves the session as it was. It is refused for what stands behind such a history, or at once,
--- for out of memory
+-- a refused write: it leaves the session as it was. It is refused for what stands behind such a history
 pub record IsRefusedWrite (limit : ℕ) (r : Replica) (wish : Wish) (s : Session) (fault : WriteFault) (t : Session)
     (meter after : ℕ) : Type 0 where
   pub unchanged : t ≡ s
   pub refused : IsRefusedThere limit r wish s.seen fault meter after
-      ⊎ ((fault ≡ OfReplica causes.OutOfMemory) × (after ≡ meter))

@@ -2,14 +2,14 @@
 ghost use Rattle.std.specs.Prelude.{◌≡◌, ◌≢◌, ◌+◌, IfErr, IfOk, IsTrue, MatchBool, MatchResult, length};
 ghost use Rattle.std.specs.Arc.{arc_value};
 ghost use Rattle.std.specs.List.{AllByRecursion};
-ghost use Rattle.road_sessions.specs.Closings.{AreAll, AreApart, IsCloseRefusal, IsWrittenBy, write_count};
+ghost use Rattle.road_sessions.specs.Closings.{AreAll, AreApart, IsWrittenBy, write_count};
 ghost use Rattle.road_sessions.specs.Private.ClosingSessions.{IsSessionOf};
 ghost use Rattle.road_sessions.specs.Journals.{replay};
+ghost use Rattle.road_sessions.specs.declared.faults.CloseCause.TheVariants as causes;
 
 use crate::entry::Entry;
 use crate::faults::CloseCause;
-use crate::held::Held;
-use crate::history::Prefix;
+use crate::history::{Head, Whole};
 use crate::naming::Naming;
 use crate::session::Session;
 use crate::shared::Shared;
@@ -17,7 +17,7 @@ use crate::store::Published;
 use left_right::Absorb;
 use road_sheet::Sheet;
 use std::sync::ledger::Share;
-use std::sync::{Arc, Mutex, Wait};
+use std::sync::{Arc, Wait};
 
 /// What is left of a closed store.
 #[derive(Drop)]
@@ -48,51 +48,36 @@ where
 ///
 /// # Errors
 ///
-/// `Missing` where these are not all sessions of the store, else `OutOfMemory` where an allocation failed. All that
-/// was given is handed back, as it was.
+/// `Missing` where these are not all sessions of the store, and for no other cause. All that was given is handed back, as
+/// it was.
 pub fn close<J: Naming, R: Wait + Drop>(
-    shared: Shared<J, R>,
+    mut shared: Shared<J, R>,
     sessions: Vec<Session<J>>,
 ) -> Result<Closed, CloseFault<J, R>>
     ensures journal { IfOk result (λ closed. IsWrittenBy closed.journal.items sessions.items) }
     ensures sheet { IfOk result
         (λ closed. arc_value closed.sheet ≡ (replay J.replica closed.journal.items).sheet) }
     ensures all { MatchResult result (λ _. AreAll J.parts sessions.items)
-        (λ fault. IsCloseRefusal J.parts sessions.items fault.cause) }
+        (λ fault. (fault.cause ≡ causes.Missing) × ¬ AreAll J.parts sessions.items) }
     ensures unchanged { IfErr result (λ fault. fault.sessions.items ≡ sessions.items) }
 {
+    let opened = shared.held.get_mut().sessions;
+    if sessions.len() != opened as usize || !are_apart(sessions.as_slice()) {
+        return Err(CloseFault {
+            cause: CloseCause::Missing,
+            shared,
+            sessions,
+        });
+    }
     let Shared { held } = shared;
     let mut held = held.into_inner();
-    if sessions.len() != held.sessions as usize || !are_apart(sessions.as_slice()) {
-        return Err(refusal(CloseCause::Missing, held, sessions));
-    }
-    // What a session has seen was published, and is a prefix of the journal. No contract says so, and the refusal stands here.
-    if !are_sessions_of(sessions.as_slice(), &held.history) {
-        return Err(refusal(CloseCause::OutOfMemory, held, sessions));
-    }
+    let open = &mut held;
+    know_all(sessions.as_slice(), &open.head, &mut open.history);
     let mut all = held.spare.empty();
     all = shares(sessions, all);
     held.accepted.audit(&mut all);
     let (sheet, journal) = held.into_sheet_and_journal();
     Ok(Closed { sheet, journal })
-}
-
-// Hands all back.
-fn refusal<J: Naming, R: Wait + Drop>(
-    cause: CloseCause,
-    held: Held<J, R>,
-    sessions: Vec<Session<J>>,
-) -> CloseFault<J, R>
-    ensures { (result.cause ≡ cause) × (result.sessions ≡ sessions) }
-{
-    let shared = Shared {
-        held: Mutex::new(held),
-    };
-    CloseFault {
-        cause,
-        shared,
-        sessions,
-    }
 }
 
 // Says whether none of these sessions has a number.
@@ -116,13 +101,14 @@ fn are_apart<J: Naming>(sessions: &[Session<J>]) -> bool
     }
 }
 
-// Says whether what each of them has seen is a prefix of a history, where their writes stand then.
-fn are_sessions_of<J: Naming>(sessions: &[Session<J>], history: &Prefix<J>) -> bool
-    ensures { IsTrue result → AllByRecursion (IsSessionOf history.now) sessions.now }
+// Shows that what each of them has seen is a prefix of the history, where their writes stand then.
+fn know_all<J: Naming>(sessions: &[Session<J>], head: &Head<J>, history: &mut Whole<J>)
+    ensures all { AllByRecursion (IsSessionOf history.old) sessions.now }
+    ensures same { history.new ≡ history.old }
 {
-    match sessions.split_first() {
-        None => true,
-        Some((first, rest)) => first.is_session_of(history) && are_sessions_of(rest, history),
+    if let Some((first, rest)) = sessions.split_first() {
+        first.know_in(head, history);
+        know_all(rest, head, history);
     }
 }
 

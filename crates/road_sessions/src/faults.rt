@@ -63,7 +63,7 @@ pub enum CloseCause {
     /// These are not all its sessions.
     #[error("not all sessions are given")]
     Missing,
-    /// There was no memory.
+    /// There was no memory. No closing answers it, since a closing takes none.
     #[error("no memory")]
     OutOfMemory,
 }

@@ -18,7 +18,7 @@ ghost use Rattle.road_sessions.specs.declared.faults.OpenFault.TheVariants as op
 
 use crate::entry::Entry;
 use crate::faults::{OpenFault, WriteFault};
-use crate::history::{Length, Prefix};
+use crate::history::{Head, Prefix, Whole};
 use crate::naming::Naming;
 use crate::perform::{perform, wish_fault};
 use crate::reading::enter_after_write_here;
@@ -47,9 +47,9 @@ where
     alloc: Global,
     /// The store's writer.
     pub writer: StoreWriter<J>,
-    length_word: Length<J>,
-    /// The history that is published.
-    pub history: Prefix<J>,
+    pub(crate) head: Head<J>,
+    /// The history that is published, which is the whole one.
+    pub history: Whole<J>,
     /// The replica that it leaves.
     pub replica: Replica,
     /// Who wrote what, in order.
@@ -78,7 +78,7 @@ impl<J: Naming, R: Wait + Drop> Drop for Held<J, R> {
             rt,
             alloc: _,
             writer,
-            length_word: _length_word,
+            head: _head,
             history: _history,
             replica: _replica,
             journal: _journal,
@@ -91,22 +91,22 @@ impl<J: Naming, R: Wait + Drop> Drop for Held<J, R> {
     }
 }
 
-// Appends an entry to the journal. The answer is what is published of the replica that it leaves; where that is refused,
-// the journal is as it was.
+// Appends an entry to the journal and to the history. The answer is what is published of the replica that it leaves;
+// where that is refused, both are as they were.
 fn append_entry<J: Naming>(
     replica: &Replica,
-    history: &Prefix<J>,
-    length_word: &Length<J>,
+    head: &Head<J>,
+    history: &mut Whole<J>,
     journal: &mut Vec<Entry>,
     entry: Entry,
 ) -> Result<Published<J>, ReplicaFault>
-    requires same { history.now ≡ journal.old.items }
+    requires same { history.old ≡ journal.old.items }
     requires room { length journal.old.items < MOST_WRITES }
     requires allowed { IsAllowed J.replica.sheet.plan (entry_command entry.command) }
     requires after { replica.now ≡ replica_after (entry_command entry.command) (replay J.replica journal.old.items) }
     ensures history { IfOk result (λ next. next ≡ journal.old.items ++ entry ∷ []) }
-    ensures journal { OnOk result (journal.new.items ≡ journal.old.items ++ entry ∷ []) }
-    ensures unchanged { OnErr result (journal.new.items ≡ journal.old.items) }
+    ensures journal { OnOk result ((journal.new.items ≡ journal.old.items ++ entry ∷ []) × (history.new ≡ journal.new.items)) }
+    ensures unchanged { OnErr result ((journal.new.items ≡ journal.old.items) × (history.new ≡ history.old)) }
     ensures refused { IfErr result (λ fault. fault ≡ replica_faults.OutOfMemory) }
 {
     let sheet = Arc::try_clone(replica.sheet())?;
@@ -114,14 +114,8 @@ fn append_entry<J: Naming>(
     let Ok(()) = journal.push(entry) else {
         return Err(ReplicaFault::OutOfMemory);
     };
-    let mut longer = history.again();
-    // Nobody else writes to the history while the lock is held, so it is no longer than what is published. No contract
-    // says so, and the refusal stands here.
-    if !longer.append(length_word, &journal[place]) {
-        journal.pop();
-        return Err(ReplicaFault::OutOfMemory);
-    }
-    Ok(Published::new(sheet, longer))
+    history.append(head, &journal[place]);
+    Ok(Published::new(sheet, history.seen()))
 }
 
 impl<J: Naming, R: Wait + Drop> Held<J, R> {
@@ -130,8 +124,8 @@ impl<J: Naming, R: Wait + Drop> Held<J, R> {
         rt: R,
         alloc: Global,
         writer: StoreWriter<J>,
-        length_word: Length<J>,
-        history: Prefix<J>,
+        head: Head<J>,
+        history: Whole<J>,
         replica: Replica,
         limit: u64,
         sessions: u32,
@@ -153,7 +147,7 @@ impl<J: Naming, R: Wait + Drop> Held<J, R> {
             rt,
             alloc,
             writer,
-            length_word,
+            head,
             history,
             replica,
             journal: Vec::new(alloc),
@@ -265,13 +259,12 @@ impl<J: Naming, R: Wait + Drop> Held<J, R> {
             (λ _. mine.new.amount ≡ mine.old.amount + 1) (λ _. mine.new.amount ≡ mine.old.amount) }
     {
         let Held {
-            length_word,
+            head,
             history,
             journal,
             ..
         } = self;
-        let next = append_entry(&replica, history, length_word, journal, entry)?;
-        self.history = next.history().again();
+        let next = append_entry(&replica, head, history, journal, entry)?;
         let Held { rt, writer, .. } = self;
         replace_with(writer, (), |writer, ()| (publish(rt, writer, next), ()));
         self.replica = replica;
@@ -301,12 +294,9 @@ impl<J: Naming, R: Wait + Drop> Held<J, R> {
             (λ _. mine.new.amount ≡ mine.old.amount + 1) (λ _. mine.new.amount ≡ mine.old.amount) }
         ensures gone { CountsGone result (C.times_gone crew.old) (C.times_gone crew.new) }
     {
-        // Whatever a session has seen was published. No contract says so, and the refusal stands here.
-        if !seen.is_prefix_of(&self.history) {
-            return Err(WriteFault::Replica(ReplicaFault::OutOfMemory));
-        }
+        self.history.know(&self.head, seen);
         let (place, reply) = self.write(session, wish, crew, meter, mine)?;
-        *seen = self.history.again();
+        *seen = self.history.seen();
         enter_after_write_here(&self.rt, reader, seen);
         Ok((place, reply))
     }
@@ -332,7 +322,7 @@ impl<J: Naming, R: Wait + Drop> Held<J, R> {
         let mut sessions = Vec::new(self.alloc);
         for number in 0..self.sessions {
             let reader = self.reader()?;
-            let seen = self.history.again();
+            let seen = self.history.seen();
             let share = whole.split_off(1, 0);
             let Ok(()) = sessions.push(Session::new(number, seen, reader, share)) else {
                 return Err(OpenFault::OutOfMemory);
@@ -367,7 +357,7 @@ impl<J: Naming, R: Wait + Drop> Held<J, R> {
             rt,
             alloc: _,
             writer,
-            length_word: _length_word,
+            head: _head,
             history: _history,
             replica,
             journal,

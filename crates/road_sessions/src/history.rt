@@ -1,33 +1,44 @@
-//! The one history of a store. It stands in the proofs alone: the program keeps how long it is, and values that have
-//! seen a prefix of it.
+//! The one history of a store. It stands in the proofs alone, page by page in a logbook: the program keeps how long it
+//! is, and values that have seen a prefix of it.
 ghost use Rattle.std.specs.Prelude.{◌≡◌, ◌<◌, ◌≤◌, ◌^◌, ◌++◌, ◌∷◌, [], length, IsTrue, MatchBool};
 ghost use mathlib.Core.List.{IsPrefix};
+ghost use Rattle.logbook.specs.Pages.{may_write};
 ghost use Rattle.road_sheet.specs.Commands.{IsAllowed};
 ghost use Rattle.road_sessions.specs.Journals.{IsLegal, entry_command};
-ghost use Rattle.road_sessions.specs.Private.Books.{length_word};
+ghost use Rattle.road_sessions.specs.Private.Books.{first_word};
 
 use crate::entry::Entry;
 use crate::naming::Naming;
-use logbook::{Gain, Offer, Plain, Play, Rule, Seen, Start, Word};
+use logbook::{Gain, Offer, Pen, Plain, Play, Rule, Seen, Start, Word};
 use std::marker::{Model, PhantomData};
 
-/// The rule of a history's logbook: its word is the length of the history.
-pub struct LengthRule;
+/// A page of the logbook. Contracts alone see it, and no value of it is ever made.
+pub struct Page {
+    /// What it says.
+    pub entry: Entry,
+    /// The key of the pen that wrote it.
+    pub by: u64,
+    /// The key of the pen that may write the next one.
+    pub next: u64,
+}
 
-impl Rule<Entry, u64> for LengthRule {
+/// The rule of a history's logbook: the pen that wrote a page is spent.
+pub struct PageRule;
+
+impl Rule<Page, u64> for PageRule {
     ghost use Rattle.std.specs.Prelude.{[]};
     ghost use base.Fml.{ftrue};
-    ghost use Rattle.road_sessions.specs.Private.Books.{HasLength};
+    ghost use Rattle.road_sessions.specs.Private.Books.{HasPages};
 
-    ghost holds = { λ words history. HasLength words history };
+    ghost holds = { λ cells pages. HasPages cells pages };
 
     ghost first = { [] };
 
-    ghost hinted = { λ n history. Unit {0} };
+    ghost hinted = { λ n pages. Unit {0} };
 
-    ghost shows = { λ history. [] };
+    ghost shows = { λ pages. [] };
 
-    ghost keeps = { λ names history. ftrue };
+    ghost keeps = { λ names pages. ftrue };
 
     ghost moves = { λ ask before after answer. Unit {0} };
 }
@@ -35,71 +46,223 @@ impl Rule<Entry, u64> for LengthRule {
 /// Who writes into the logbook gets nothing for it.
 pub struct NoGain;
 
-impl Gain<Entry, u64> for NoGain {
+impl Gain<Page, u64> for NoGain {
     ghost use base.Fml.{ftrue};
 
     ghost after = { λ names about answer. ftrue };
 }
 
-/// The step that writes an entry.
+/// What a page is made of: an entry, the pen that writes it, and that of the next page.
+#[derive(Drop)]
+pub struct Line<'a> {
+    entry: &'a Entry,
+    by: &'a Pen,
+    next: &'a Pen,
+}
+
+/// The step that writes a page.
 pub struct Append;
 
-impl Play<Entry, u64> for Append {
+impl Play<Page, u64> for Append {
     ghost use Rattle.road_sessions.specs.Private.Books.{Appends};
 
     ghost then = { Appends };
 }
 
-impl Plain<Entry, Entry, u64> for Append {
+impl<'a> Plain<Line<'a>, Page, u64> for Append {
     ghost use Rattle.std.specs.Prelude.{None};
+    ghost use Rattle.road_sessions.specs.Private.Books.{page};
 
-    ghost ask = { λ entry. entry };
+    ghost ask = { λ line. page line.entry.now line.by.now.nib.key line.next.now.nib.key };
 
-    ghost state = { λ entry. None };
+    ghost state = { λ line. None };
 }
 
-/// An empty history, of no store yet.
+/// The step by which the one who may write the next page knows all pages.
+pub struct KnowAll;
+
+impl Play<Page, u64> for KnowAll {
+    ghost use Rattle.road_sessions.specs.Private.Books.{KnowsAll};
+
+    ghost then = { KnowsAll };
+}
+
+impl Plain<(), Page, u64> for KnowAll {
+    ghost use Rattle.std.specs.Prelude.{None};
+    ghost use Rattle.road_sessions.specs.Private.Books.{no_page};
+
+    ghost ask = { λ _. no_page };
+
+    ghost state = { λ _. None };
+}
+
+/// The step that makes a pen.
+pub struct MakePen;
+
+impl Play<Page, u64> for MakePen {
+    ghost use Rattle.road_sessions.specs.Private.Books.{MakesPen};
+
+    ghost then = { MakesPen };
+}
+
+impl Plain<(), Page, u64> for MakePen {
+    ghost use Rattle.std.specs.Prelude.{None};
+    ghost use Rattle.road_sessions.specs.Private.Books.{no_page};
+
+    ghost ask = { λ _. no_page };
+
+    ghost state = { λ _. None };
+}
+
+// Makes a pen that may write one page.
+fn new_pen(word: &Word<Page, u64, PageRule>, seen: &Seen<Page, u64, PageRule>) -> Pen
+    requires { word.now ≡ first_word seen.now.book }
+    ensures { (result.book ≡ seen.now.book) × (result.nib.right ≡ may_write) }
+{
+    let mut later = seen.again();
+    let mut offer: Offer<Page, u64, PageRule, NoGain> = later.plain::<NoGain, (), MakePen>(&());
+    let mut pen = later.no_pen();
+    word.compare_exchange::<MakePen, NoGain>(0, 0, &mut later, &mut offer, &mut pen);
+    let _made: Word<Page, u64, PageRule> = Word::tracked(0, &mut pen);
+    pen
+}
+
+/// An empty history, of no store yet. Contracts see it as its book.
 #[derive(Drop)]
 pub struct EmptyHistory {
-    word: Word<Entry, u64, LengthRule>,
-    seen: Seen<Entry, u64, LengthRule>,
-    pub ghost empty: { seen.log ≡ [] },
-    pub ghost word_is: { word ≡ length_word seen.book },
+    word: Word<Page, u64, PageRule>,
+    seen: Seen<Page, u64, PageRule>,
+    pen: Pen,
+}
+
+impl Model for EmptyHistory {
+    ghost use Rattle.std.specs.Prelude.{◌≡◌, []};
+    ghost use Rattle.logbook.specs.Pages.{may_write};
+    ghost use Rattle.road_sessions.specs.Books.{Book};
+    ghost use Rattle.road_sessions.specs.Private.Books.{book, first_word};
+
+    ghost Value = { Book };
+
+    ghost view = { λ h. book h.seen.book h.pen.nib.key };
+
+    ghost invariant = { λ h. (h.seen.log ≡ []) × (h.word ≡ first_word h.seen.book)
+        × (h.pen.book ≡ h.seen.book) × (h.pen.nib.right ≡ may_write) };
 }
 
 impl EmptyHistory {
-    // Opens a logbook for it.
+    // Opens a logbook for it, with the pen of its first page.
     pub(crate) fn new() -> EmptyHistory {
-        let (seen, mut pen, _unused) = Seen::open(Start::alone(), 0, 0);
-        let word = Word::tracked(0, &mut pen);
-        EmptyHistory { word, seen }
+        let (seen, mut home, _unused) = Seen::open(Start::alone(), 0, 0);
+        let word = Word::tracked(0, &mut home);
+        let pen = new_pen(&word, &seen);
+        EmptyHistory { word, seen, pen }
     }
 
-    // Makes it the history of a store: its length, and the prefix without entries.
-    pub(crate) fn of_store<J: Naming>(self) -> (Length<J>, Prefix<J>)
-        requires { self.seen.book ≡ J.book }
+    // Makes it the whole history of a store, and the word by which that is written.
+    pub(crate) fn of_store<J: Naming>(self) -> (Head<J>, Whole<J>)
+        requires { self ≡ J.book }
         ensures { result.1 ≡ [] }
     {
-        let EmptyHistory { word, seen } = self;
-        let length_word = Length {
+        let EmptyHistory { word, seen, pen } = self;
+        let head = Head {
             word,
             of: PhantomData,
         };
-        let prefix = Prefix {
+        let whole = Whole {
             count: 0,
             seen,
+            pen,
             of: PhantomData,
         };
-        (length_word, prefix)
+        (head, whole)
     }
 }
 
-/// The length of a store's history.
+/// The word that each step of a store's logbook exchanges.
 #[derive(Drop)]
-pub struct Length<J: Naming> {
-    word: Word<Entry, u64, LengthRule>,
+pub struct Head<J: Naming> {
+    word: Word<Page, u64, PageRule>,
     of: PhantomData<J>,
-    ghost word_is: { word ≡ length_word J.book },
+    ghost word_is: { word ≡ first_word J.book.pages },
+}
+
+/// The whole history of a store, and the right to write its next entry, which nothing else has. Contracts see it as its
+/// entries.
+#[derive(Drop)]
+pub struct Whole<J: Naming> {
+    count: u64,
+    seen: Seen<Page, u64, PageRule>,
+    pen: Pen,
+    of: PhantomData<J>,
+}
+
+impl<J: Naming> Model for Whole<J> {
+    ghost use Rattle.std.specs.Prelude.{◌≡◌, List, length};
+    ghost use Rattle.std.specs.Coded.{codes};
+    ghost use Rattle.logbook.specs.Pages.{may_write};
+    ghost use Rattle.road_scenario.specs.Instances.EditOrder.{edits_code};
+    ghost use Rattle.road_sessions.specs.declared.entry.Entry.{Entry};
+    ghost use Rattle.road_sessions.specs.Journals.{IsLegal};
+    ghost use Rattle.road_sessions.specs.Private.Books.{entries_from, pen_after};
+
+    ghost Value = { List Entry };
+
+    ghost coded = { Prim.hlevel (codes, edits_code) };
+
+    ghost view = { λ b. entries_from J.book.first_pen b.seen.log };
+
+    ghost invariant = { λ b. (b.count ≡ length (entries_from J.book.first_pen b.seen.log))
+        × (b.seen.book ≡ J.book.pages) × IsLegal J.replica (entries_from J.book.first_pen b.seen.log)
+        × (b.pen.book ≡ J.book.pages) × (b.pen.nib.right ≡ may_write)
+        × (b.pen.nib.key ≡ pen_after J.book.first_pen b.seen.log) };
+}
+
+impl<J: Naming> Whole<J> {
+    // Returns what has seen as much.
+    pub(crate) fn seen(&self) -> Prefix<J>
+        ensures same { result ≡ self.now }
+        ensures legal { IsLegal J.replica self.now }
+    {
+        Prefix {
+            count: self.count,
+            seen: self.seen.again(),
+            of: PhantomData,
+        }
+    }
+
+    // Shows that what was seen is a prefix of it.
+    pub(crate) fn know(&mut self, head: &Head<J>, seen: &Prefix<J>)
+        ensures prefix { IsPrefix seen.now self.old }
+        ensures same { self.new ≡ self.old }
+        ensures legal { IsLegal J.replica self.old }
+    {
+        let mut both = self.seen.again();
+        both.learn(&seen.seen);
+        let mut offer: Offer<Page, u64, PageRule, NoGain> = both.plain::<NoGain, (), KnowAll>(&());
+        head.word
+            .compare_exchange::<KnowAll, NoGain>(0, 0, &mut both, &mut offer, &mut self.pen);
+    }
+
+    // Writes an entry at its end.
+    pub(crate) fn append(&mut self, head: &Head<J>, entry: &Entry)
+        requires room { length self.old < 2 ^ 62 }
+        requires allowed { IsAllowed J.replica.sheet.plan (entry_command entry.now.command) }
+        ensures { self.new ≡ self.old ++ entry.now ∷ [] }
+    {
+        let next = new_pen(&head.word, &self.seen);
+        let line = Line {
+            entry,
+            by: &self.pen,
+            next: &next,
+        };
+        let mut offer: Offer<Page, u64, PageRule, NoGain> = self
+            .seen
+            .plain::<NoGain, Line<'_>, Append>(&line);
+        head.word
+            .compare_exchange::<Append, NoGain>(0, 0, &mut self.seen, &mut offer, &mut self.pen);
+        self.pen = next;
+        self.count += 1;
+    }
 }
 
 /// A prefix of a store's history that was seen, legal as all of it. Contracts see it as its entries; it keeps how many
@@ -107,7 +270,7 @@ pub struct Length<J: Naming> {
 #[derive(Drop)]
 pub struct Prefix<J: Naming> {
     count: u64,
-    seen: Seen<Entry, u64, LengthRule>,
+    seen: Seen<Page, u64, PageRule>,
     of: PhantomData<J>,
 }
 
@@ -117,14 +280,16 @@ impl<J: Naming> Model for Prefix<J> {
     ghost use Rattle.road_scenario.specs.Instances.EditOrder.{edits_code};
     ghost use Rattle.road_sessions.specs.declared.entry.Entry.{Entry};
     ghost use Rattle.road_sessions.specs.Journals.{IsLegal};
+    ghost use Rattle.road_sessions.specs.Private.Books.{entries_from};
 
     ghost Value = { List Entry };
 
     ghost coded = { Prim.hlevel (codes, edits_code) };
 
-    ghost view = { λ b. b.seen.log };
+    ghost view = { λ b. entries_from J.book.first_pen b.seen.log };
 
-    ghost invariant = { λ b. (b.count ≡ length b.seen.log) × (b.seen.book ≡ J.book) × IsLegal J.replica b.seen.log };
+    ghost invariant = { λ b. (b.count ≡ length (entries_from J.book.first_pen b.seen.log))
+        × (b.seen.book ≡ J.book.pages) × IsLegal J.replica (entries_from J.book.first_pen b.seen.log) };
 }
 
 impl<J: Naming> Prefix<J> {
@@ -157,34 +322,5 @@ impl<J: Naming> Prefix<J> {
         ensures { IsTrue result → self.now ≡ other.now }
     {
         self.is_prefix_of(other) && other.is_prefix_of(self)
-    }
-
-    // Writes an entry behind all that it has seen, and says whether it did: it does not where the history is longer.
-    pub(crate) fn append(&mut self, length_word: &Length<J>, entry: &Entry) -> bool
-        requires room { length self.old < 2 ^ 62 }
-        requires allowed { IsAllowed J.replica.sheet.plan (entry_command entry.now.command) }
-        ensures { MatchBool result (self.new ≡ self.old ++ entry.now ∷ []) (self.new ≡ self.old) }
-    {
-        let mut seen = self.seen.again();
-        let mut offer: Offer<Entry, u64, LengthRule, NoGain> = seen.plain::<NoGain, Entry, Append>(
-            entry,
-        );
-        let mut pen = seen.no_pen();
-        let expected = self.count;
-        let found = length_word
-            .word
-            .compare_exchange::<Append, NoGain>(
-                expected,
-                expected + 1,
-                &mut seen,
-                &mut offer,
-                &mut pen,
-            );
-        if found != expected {
-            return false;
-        }
-        self.seen = seen;
-        self.count = expected + 1;
-        true
     }
 }

@@ -7,10 +7,10 @@ use std::sync::ledger::Ledger;
 /// limit of what it prepared.
 pub trait Naming: Ledger {
     ghost use Rattle.std.specs.Prelude.{ℕ};
-    ghost use Rattle.logbook.specs.Pages.{Book};
+    ghost use Rattle.road_sessions.specs.Books.{Book};
     ghost use Rattle.road_replica.specs.Replicas.{Replica};
 
-    /// The logbook of the store's one history.
+    /// The book of the store's one history.
     ghost book: { Book };
 
     /// The replica that was opened.
@@ -25,7 +25,7 @@ impl Naming for Brand {
     ghost use Rattle.road_plan.specs.declared.parts.WordKind.TheVariants.{Steady};
     ghost use Rattle.road_sessions.specs.Journals.{replica_of_plan};
 
-    ghost book = { record { number = 0; log_name = 0; cells_name = 0 } };
+    ghost book = { record { pages = record { number = 0; log_name = 0; cells_name = 0 }; first_pen = 0 } };
 
     ghost replica = { replica_of_plan
         (record { cells = 0; exit = 0; width = 0; zones = []; inlets = []; detectors = []; words = Steady }) 0 };

@@ -11,7 +11,7 @@ ghost use Rattle.road_sessions.specs.Writes.{CountsGone};
 ghost use Rattle.road_sessions.specs.declared.wish.Wish.TheVariants as wishes;
 
 use crate::faults::{LookFault, WriteFault};
-use crate::history::Prefix;
+use crate::history::{Head, Prefix, Whole};
 use crate::naming::Naming;
 use crate::reading;
 use crate::shared::{Of, Shared};
@@ -335,11 +335,12 @@ impl<J: Naming> Session<J> {
 
     // ---- closing
 
-    // Says whether all that it has seen is a prefix of this history, where its writes stand then.
-    pub(crate) fn is_session_of(&self, history: &Prefix<J>) -> bool
-        ensures { IsTrue result → IsSessionOf history.now self.now }
+    // Shows that all that it has seen is a prefix of the history, where its writes stand then.
+    pub(crate) fn know_in(&self, head: &Head<J>, history: &mut Whole<J>)
+        ensures of { IsSessionOf history.old self.now }
+        ensures same { history.new ≡ history.old }
     {
-        self.seen.is_prefix_of(history)
+        history.know(head, &self.seen);
     }
 
     // Returns its share of the ledger, which counts its writes.

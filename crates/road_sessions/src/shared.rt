@@ -100,7 +100,7 @@ pub fn prepare<R: Wait + Drop>(
 pub fn open<J: Naming, R: Wait + Drop>(
     prepared: Prepared<R>,
 ) -> Result<(Shared<J, R>, Vec<Session<J>>), OpenFault>
-    requires book { prepared.book.seen.book ≡ J.book }
+    requires book { prepared.book ≡ J.book }
     requires replica { prepared.replica ≡ J.replica }
     requires ledger { (prepared.ledger.name ≡ J.name) × (prepared.ledger.parts ≡ J.parts) }
     requires limit { prepared.limit ≡ J.limit }
@@ -121,7 +121,7 @@ pub fn open<J: Naming, R: Wait + Drop>(
 pub fn opened<J: Naming, R: Wait + Drop>(
     prepared: Prepared<R>,
 ) -> Result<(Held<J, R>, Vec<Session<J>>), OpenFault>
-    requires book { prepared.book.seen.book ≡ J.book }
+    requires book { prepared.book ≡ J.book }
     requires replica { prepared.replica ≡ J.replica }
     requires ledger { (prepared.ledger.name ≡ J.name) × (prepared.ledger.parts ≡ J.parts) }
     requires limit { prepared.limit ≡ J.limit }
@@ -139,21 +139,12 @@ pub fn opened<J: Naming, R: Wait + Drop>(
         limit,
         ledger,
     } = prepared;
-    let (length_word, history) = book.of_store::<J>();
-    let (writer, published) = store_of(alloc, replica.sheet(), &history, sessions)?;
+    let (head, history) = book.of_store::<J>();
+    let (writer, published) = store_of(alloc, replica.sheet(), &history.seen(), sessions)?;
     let (accepted, mut whole) = ledger.open::<J>();
     let spare = whole.empty();
     let mut held = Held::new(
-        rt,
-        alloc,
-        writer,
-        length_word,
-        history,
-        replica,
-        limit,
-        sessions,
-        accepted,
-        spare,
+        rt, alloc, writer, head, history, replica, limit, sessions, accepted, spare,
     );
     let sessions = held.opening_sessions(published, whole)?;
     Ok((held, sessions))

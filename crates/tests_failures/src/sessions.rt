@@ -14,8 +14,8 @@ use road_ends::Meter;
 use road_replica::Reply;
 use road_scenario::{Edit, Scenario, Stamp, Value};
 use road_sessions::{
-    CloseCause, CloseFault, Closed, Entry, LookFault, Naming, OpenFault, Prepared, Session, Shared,
-    SheetCommand, WriteFault, Wrote, close, open, prepare,
+    Closed, Entry, LookFault, Naming, OpenFault, Prepared, Session, Shared, SheetCommand,
+    WriteFault, Wrote, close, open, prepare,
 };
 use road_sheet::{Sheet, SheetFault};
 use road_workers::Alone;
@@ -336,7 +336,7 @@ fn goes<J: Naming, R: Wait + Drop, W: Wait>(
     until: Until,
     case: &SessionCase,
 ) -> Option<Verdict>
-    requires book { prepared.book.seen.book ≡ J.book }
+    requires book { prepared.book ≡ J.book }
     requires replica { prepared.replica ≡ J.replica }
     requires ledger { (prepared.ledger.name ≡ J.name) × (prepared.ledger.parts ≡ J.parts) }
     requires limit { prepared.limit ≡ J.limit }
@@ -401,7 +401,7 @@ fn opens<J: Naming, R: Wait + Drop>(
     prepared: Prepared<R>,
     until: Until,
 ) -> Option<OpenedHow>
-    requires book { prepared.book.seen.book ≡ J.book }
+    requires book { prepared.book ≡ J.book }
     requires replica { prepared.replica ≡ J.replica }
     requires ledger { (prepared.ledger.name ≡ J.name) × (prepared.ledger.parts ≡ J.parts) }
     requires limit { prepared.limit ≡ J.limit }
@@ -482,7 +482,7 @@ pub(crate) fn tried_prepare<R: Wait + Drop + Copy>(
     }
 }
 
-// Closes a store, once more where there was no memory.
+// Closes a store, which takes no memory.
 fn closed<J: Naming, R: Wait + Drop>(
     alloc: Global,
     shared: Shared<J, R>,
@@ -499,24 +499,8 @@ fn closed<J: Naming, R: Wait + Drop>(
             let is_left = is_left(alloc, &closed, case.journal, &case.after)?;
             Some(and_then(Verdict::Right, is_left, NOT_LEFT))
         }
-        Err(fault) => closes_again(alloc, fault, case),
+        Err(_fault) => Some(Verdict::Wrong("it was refused")),
     }
-}
-
-// Closes a store once more, of what was handed back.
-fn closes_again<J: Naming, R: Wait + Drop>(
-    alloc: Global,
-    fault: CloseFault<J, R>,
-    case: &SessionCase,
-) -> Option<Verdict> {
-    let CloseFault {
-        cause,
-        shared,
-        sessions,
-    } = fault;
-    let is_left = leaves(alloc, shared, sessions, case)?;
-    let is_right = is_left && cause == CloseCause::OutOfMemory;
-    Some(and_then(Verdict::Again, is_right, NOT_LEFT))
 }
 
 // Opens what was prepared, has the sessions write, and closes the store.
@@ -527,7 +511,7 @@ fn closes<J: Naming, R: Wait + Drop, W: Wait>(
     until: Until,
     case: &SessionCase,
 ) -> Option<Verdict>
-    requires book { prepared.book.seen.book ≡ J.book }
+    requires book { prepared.book ≡ J.book }
     requires replica { prepared.replica ≡ J.replica }
     requires ledger { (prepared.ledger.name ≡ J.name) × (prepared.ledger.parts ≡ J.parts) }
     requires limit { prepared.limit ≡ J.limit }

@@ -2,7 +2,8 @@
 
 ghost use Rattle.std.specs.Prelude.{◌≡◌};
 
-use crate::journals::{Closing, Line, closed, is_journal};
+use crate::closings::{Closing, closed};
+use crate::journals::{Line, is_journal};
 use crate::questions::{
     Cars, Count, Row, Run, looks, looks_run, shows, shows_all_cars, shows_counts, shows_run,
 };
@@ -33,7 +34,8 @@ pub(crate) enum Act {
     Counts(&'static [Count]),
 }
 
-/// A store of a replica on the free road: what its sessions do, its closing, the journal, and the rows of the last sheet.
+/// A store of a replica on the free road: what its sessions do; its closing; what is done where a session is missing
+/// first, by those that are handed back, and then by all together; the journal, and the rows of the last sheet.
 #[derive(Clone, Copy)]
 pub(crate) struct Script {
     pub(crate) number: u32,
@@ -41,6 +43,8 @@ pub(crate) struct Script {
     pub(crate) limit: u64,
     pub(crate) acts: &'static [(usize, Act)],
     pub(crate) closing: Closing,
+    pub(crate) handed_back: &'static [(usize, Act)],
+    pub(crate) together: &'static [(usize, Act)],
     pub(crate) journal: &'static [Line],
     pub(crate) rows: &'static [Row],
 }
@@ -127,20 +131,20 @@ fn one_acts<J: Naming, R: Wait + Drop, W: Wait>(
     }
 }
 
-// Tells whether all sessions that act are answered so.
-fn all_act<J: Naming, R: Wait + Drop, W: Wait>(
+/// Tells whether all sessions that act are answered so.
+pub(crate) fn all_act<J: Naming, R: Wait + Drop, W: Wait>(
     rt: &W,
     alloc: Global,
     shared: &Shared<J, R>,
     sessions: &mut [Session<J>],
-    script: &Script,
+    all: &[(usize, Act)],
 ) -> bool {
     let mut memory = Memory {
         told: None,
         kept: None,
     };
     let mut well = true;
-    for act in script.acts {
+    for act in all {
         well = well && one_acts(rt, alloc, shared, sessions, &mut memory, act);
     }
     well
@@ -164,7 +168,7 @@ pub(crate) fn goes<J: Naming, R: Wait + Drop, W: Wait>(
     prepared: Prepared<R>,
     script: &Script,
 ) -> Option<bool>
-    requires book { prepared.book.seen.book ≡ J.book }
+    requires book { prepared.book ≡ J.book }
     requires replica { prepared.replica ≡ J.replica }
     requires ledger { (prepared.ledger.name ≡ J.name) × (prepared.ledger.parts ≡ J.parts) }
     requires limit { prepared.limit ≡ J.limit }
@@ -172,7 +176,7 @@ pub(crate) fn goes<J: Naming, R: Wait + Drop, W: Wait>(
     let Ok((shared, mut sessions)) = open::<J, R>(prepared) else {
         return None;
     };
-    let well = all_act(rt, alloc, &shared, sessions.as_mut_slice(), script);
-    let closed = closed(shared, sessions, script.closing);
+    let well = all_act(rt, alloc, &shared, sessions.as_mut_slice(), script.acts);
+    let closed = closed(rt, alloc, shared, sessions, script);
     Some(well && is_left(alloc, &closed, script))
 }

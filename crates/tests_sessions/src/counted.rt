@@ -70,7 +70,7 @@ fn counts<J: Naming, R: Wait + Drop, W: Wait>(
     prepared: Prepared<R>,
     writes: &[(Write, bool, u64)],
 ) -> Option<bool>
-    requires book { prepared.book.seen.book ≡ J.book }
+    requires book { prepared.book ≡ J.book }
     requires replica { prepared.replica ≡ J.replica }
     requires ledger { (prepared.ledger.name ≡ J.name) × (prepared.ledger.parts ≡ J.parts) }
     requires limit { prepared.limit ≡ J.limit }

@@ -4,6 +4,8 @@
 #[cfg(test)]
 mod acts;
 #[cfg(test)]
+mod closings;
+#[cfg(test)]
 mod counted;
 #[cfg(test)]
 mod journals;

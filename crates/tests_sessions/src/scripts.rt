@@ -1,7 +1,8 @@
 //! Scripts of worked runs.
 
 use crate::acts::{Act, Script};
-use crate::journals::{Closing, Line};
+use crate::closings::Closing;
+use crate::journals::Line;
 use crate::questions::{Cars, Count, Row, Run};
 use crate::writes::{BLOCK, LIMIT, Write};
 use road_cells::Car;
@@ -80,6 +81,8 @@ pub(crate) const TOLD: Script = Script {
         (1, Act::Look(6, BLOCKED_ROWS)),
     ],
     closing: Closing::InOrder,
+    handed_back: &[],
+    together: &[],
     journal: &[Line::Advanced(0, 6), Line::Took(0, &[BLOCKED])],
     rows: BLOCKED_ROWS,
 };
@@ -91,6 +94,45 @@ pub(crate) const CLOSINGS: [Closing; 4] = [
     Closing::WithoutLast,
     Closing::WithoutFirst,
 ];
+
+/// The last session is missing at first. The others look and write on, and so does it once it is there.
+pub(crate) const LAST_MISSING: Script = Script {
+    sessions: 3,
+    limit: 3,
+    acts: &[(0, TO_SIX)],
+    closing: Closing::WithoutLast,
+    handed_back: &[
+        (0, Act::Look(6, FREE_ROWS)),
+        (1, Act::Look(6, FREE_ROWS)),
+        (1, BLOCKS),
+        (0, Act::Hear),
+        (0, Act::Look(6, BLOCKED_ROWS)),
+    ],
+    together: &[
+        (2, Act::Look(6, BLOCKED_ROWS)),
+        (2, Act::Write(Write::Advance(7), Ok((2, Reply::Horizon(7))))),
+        (1, Act::Hear),
+        (1, Act::Look(7, BLOCKED_ROWS)),
+        (0, FULL),
+    ],
+    journal: &[
+        Line::Advanced(0, 6),
+        Line::Took(1, &[BLOCKED]),
+        Line::Advanced(2, 7),
+    ],
+    ..TOLD
+};
+
+/// The first one is missing at first, and the last one stands in its place.
+pub(crate) const FIRST_MISSING: Script = Script {
+    closing: Closing::WithoutFirst,
+    journal: &[
+        Line::Advanced(0, 6),
+        Line::Took(1, &[BLOCKED]),
+        Line::Advanced(0, 7),
+    ],
+    ..LAST_MISSING
+};
 
 /// The only session of a store.
 pub(crate) const ALONE: Script = Script {
@@ -230,6 +272,8 @@ pub(crate) const THREE: Script = Script {
         (2, Act::Look(6, FREE_ROWS)),
     ],
     closing: Closing::LastFirst,
+    handed_back: &[],
+    together: &[],
     journal: &[
         Line::Took(
             2,
@@ -286,5 +330,38 @@ pub(crate) const KEPT: Script = Script {
     closing: Closing::LastFirst,
     journal: &[Line::Advanced(0, 130), Line::Took(0, &[SLOW])],
     rows: &[(129, ".1.1.1.1.1.."), (130, "0.1.1.1.1.1.")],
+    ..TOLD
+};
+
+const OPENS: Act = Act::Look(0, &[(0, "............")]);
+
+const SEES_SIX: Act = Act::Look(6, FREE_ROWS);
+
+/// As many sessions as a store can have: each one looks before the last one writes, and after.
+pub(crate) const EIGHT: Script = Script {
+    sessions: 8,
+    limit: 1,
+    acts: &[
+        (0, OPENS),
+        (1, OPENS),
+        (2, OPENS),
+        (3, OPENS),
+        (4, OPENS),
+        (5, OPENS),
+        (6, OPENS),
+        (7, OPENS),
+        (7, TO_SIX),
+        (0, SEES_SIX),
+        (1, SEES_SIX),
+        (2, SEES_SIX),
+        (3, SEES_SIX),
+        (4, SEES_SIX),
+        (5, SEES_SIX),
+        (6, SEES_SIX),
+        (7, SEES_SIX),
+    ],
+    closing: Closing::LastFirst,
+    journal: &[Line::Advanced(7, 6)],
+    rows: FREE_ROWS,
     ..TOLD
 };

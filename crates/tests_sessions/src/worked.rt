@@ -1,7 +1,9 @@
 //! Worked runs of sessions, one after another in one thread.
 
 use crate::acts::{Script, goes};
-use crate::scripts::{ALONE, CLOSINGS, KEPT, THREE, TOLD, WITHDRAWN};
+use crate::scripts::{
+    ALONE, CLOSINGS, EIGHT, FIRST_MISSING, KEPT, LAST_MISSING, THREE, TOLD, WITHDRAWN,
+};
 use road_sessions::{OpenFault, Prepared, prepare};
 use std::alloc::Global;
 use std::marker::Brand;
@@ -53,7 +55,14 @@ fn a_receipt_is_heard(rt: HostRuntime) {
 
 #[test]
 fn worked_scripts(rt: HostRuntime) {
-    for script in [ALONE, WITHDRAWN, THREE] {
+    for script in [ALONE, WITHDRAWN, THREE, EIGHT] {
+        assert!(rt; runs(&rt, rt.alloc(), &script));
+    }
+}
+
+#[test]
+fn what_a_refused_closing_hands_back_goes_on(rt: HostRuntime) {
+    for script in [LAST_MISSING, FIRST_MISSING] {
         assert!(rt; runs(&rt, rt.alloc(), &script));
     }
 }

@@ -140,7 +140,7 @@ fn looks_meanwhile<J: Naming + Send + Sync, R: Wait + Drop + Send, W: Threads + 
     rt: &W,
     prepared: Prepared<R>,
 ) -> Result<(Answer, Option<u32>), Fail>
-    requires book { prepared.book.seen.book ≡ J.book }
+    requires book { prepared.book ≡ J.book }
     requires replica { prepared.replica ≡ J.replica }
     requires ledger { (prepared.ledger.name ≡ J.name) × (prepared.ledger.parts ≡ J.parts) }
     requires limit { prepared.limit ≡ J.limit }

@@ -127,7 +127,7 @@ fn is_merged<J: Naming + Send + Sync, R: Wait + Drop + Send, W: Threads + Wait +
     prepared: Prepared<R>,
     count: u32,
 ) -> Result<bool>
-    requires book { prepared.book.seen.book ≡ J.book }
+    requires book { prepared.book ≡ J.book }
     requires replica { prepared.replica ≡ J.replica }
     requires ledger { (prepared.ledger.name ≡ J.name) × (prepared.ledger.parts ≡ J.parts) }
     requires limit { prepared.limit ≡ J.limit }

@@ -113,7 +113,7 @@ fn all_done<J: Naming + Send + Sync, R: Wait + Drop + Send, W: Threads + Wait + 
     prepared: Prepared<R>,
     task: &Task,
 ) -> Result<Vec<Option<Done>>>
-    requires book { prepared.book.seen.book ≡ J.book }
+    requires book { prepared.book ≡ J.book }
     requires replica { prepared.replica ≡ J.replica }
     requires ledger { (prepared.ledger.name ≡ J.name) × (prepared.ledger.parts ≡ J.parts) }
     requires limit { prepared.limit ≡ J.limit }
