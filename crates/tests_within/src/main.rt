@@ -5,6 +5,7 @@
 use road_crowd::OnThreads;
 use road_serve::{ServeFault, StdSink, StdSource, serve_within};
 use road_workers::Alone;
+use std::hash::RandomState;
 use std::process::ExitCode;
 
 /// How many lines may come after the plan line.
@@ -29,15 +30,19 @@ fn main(rt: HostRuntime) -> ExitCode {
     let mut reader = StdSource::new(rt.stdin());
     let mut writer = StdSink::new(rt.stdout());
     let crowds = OnThreads::new(&rt);
-    let served = serve_within(
-        rt.alloc(),
-        &mut reader,
-        &mut writer,
-        &mut Alone,
-        &crowds,
-        LINES,
-        BYTES,
-    );
+    let served = match RandomState::new(&rt) {
+        Ok(hasher) => serve_within(
+            rt.alloc(),
+            &mut reader,
+            &mut writer,
+            &mut Alone,
+            &crowds,
+            hasher,
+            LINES,
+            BYTES,
+        ),
+        Err(_) => Err(ServeFault::Read),
+    };
     match served {
         Ok(_) => ExitCode::from(0),
         Err(fault) => {
