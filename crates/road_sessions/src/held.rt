@@ -105,7 +105,8 @@ fn append_entry<J: Naming>(
     requires allowed { IsAllowed J.replica.sheet.plan (entry_command entry.command) }
     requires after { replica.now ≡ replica_after (entry_command entry.command) (replay J.replica journal.old.items) }
     ensures history { IfOk result (λ next. next ≡ journal.old.items ++ entry ∷ []) }
-    ensures journal { OnOk result ((journal.new.items ≡ journal.old.items ++ entry ∷ []) × (history.new ≡ journal.new.items)) }
+    ensures journal { OnOk result ((journal.new.items ≡ journal.old.items ++ entry ∷ [])
+        × (history.new ≡ journal.new.items)) }
     ensures unchanged { OnErr result ((journal.new.items ≡ journal.old.items) × (history.new ≡ history.old)) }
     ensures refused { IfErr result (λ fault. fault ≡ replica_faults.OutOfMemory) }
 {

@@ -46,8 +46,10 @@ pen_after pen (p ∷ ps) = if nat_eq p.by pen then pen_after p.next ps else pen_
 
 -- the entry stands behind all that were written, by the pen that may write it
 abbrev pub Appends : Step Page → View Page ℕ → ℕ → View Page ℕ → Type 0
-Appends s before found after = (first : ℕ) (pages : List Page) → IsPrefix pages before.0 → pen_after first pages ≡ s.ask.by
-    → (entries_from first after.0 ≡ entries_from first pages ++ s.ask.entry ∷ []) × (pen_after first after.0 ≡ s.ask.next)
+Appends s before found after = (first : ℕ) (pages : List Page) → IsPrefix pages before.0
+    → pen_after first pages ≡ s.ask.by
+    → (entries_from first after.0 ≡ entries_from first pages ++ s.ask.entry ∷ [])
+    × (pen_after first after.0 ≡ s.ask.next)
 
 -- who has the pen of the next page, and keeps it, has seen all pages
 abbrev pub KnowsAll : Step Page → View Page ℕ → ℕ → View Page ℕ → Type 0
