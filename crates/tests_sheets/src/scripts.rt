@@ -137,11 +137,19 @@ fn go_on(
     Ok(totals)
 }
 
-// Tells whether a sheet shows the states that the run from step zero has at some steps, which goes on from each to the
-// next: by one cache for all, and by none.
-fn states_agree(alloc: Global, sheet: &Sheet, steps: &[u32]) -> Result<bool, Fail> {
+// Copies a state.
+fn copied(state: &State) -> Result<State, Fail> {
+    Ok(State {
+        step: state.step,
+        road: state.road.copied()?,
+    })
+}
+
+// Tells whether a sheet shows the states that the run has at some steps, which goes on from its first state to each of
+// them: by one cache for all, and by none.
+fn states_agree(alloc: Global, sheet: &Sheet, first: &State, steps: &[u32]) -> Result<bool, Fail> {
     let mut cache = QueryCache::of(alloc, sheet.plan());
-    let mut last = State::opening(alloc);
+    let mut last = copied(first)?;
     for place in steps {
         let step = (*place).min(sheet.horizon());
         let _ = go_on(alloc, sheet, &mut last, 0, step)?;
@@ -154,34 +162,40 @@ fn states_agree(alloc: Global, sheet: &Sheet, steps: &[u32]) -> Result<bool, Fai
     Ok(true)
 }
 
-// Tells whether what a detector counts in some steps is what it counts in them in the run from step zero: asked twice by
-// one cache, and by none.
+// Tells whether what a detector counts in some steps is what it counts in them in the run that goes on from its first
+// state: asked twice by one cache, and by none.
 fn totals_agree(
     alloc: Global,
     sheet: &Sheet,
+    first: &State,
     detector: u32,
     from: u32,
     to: u32,
 ) -> Result<bool, Fail> {
-    let mut state = State::opening(alloc);
+    let mut state = copied(first)?;
     let _ = go_on(alloc, sheet, &mut state, detector, from)?;
     let counted = go_on(alloc, sheet, &mut state, detector, to)?;
     let mut cache = QueryCache::of(alloc, sheet.plan());
-    let first = cache.totals(alloc, sheet, detector, from, to)?;
+    let cached = cache.totals(alloc, sheet, detector, from, to)?;
     let again = cache.totals(alloc, sheet, detector, from, to)?;
     let fresh = sheet.totals(alloc, detector, from, to)?;
-    Ok(first == counted && again == counted && fresh == counted)
+    Ok(cached == counted && again == counted && fresh == counted)
 }
 
-// Tells whether a sheet agrees with the run from step zero: its states, and what a detector counts from a random step
-// to another.
-fn sheet_agrees(alloc: Global, sheet: &Sheet, dice: &mut Dice) -> Result<bool, Fail> {
-    if !states_agree(alloc, sheet, dice.steps)? {
+// Tells whether a sheet agrees with the run from its first state: its states, and what a detector counts from a random
+// step to another.
+fn sheet_agrees(
+    alloc: Global,
+    sheet: &Sheet,
+    first: &State,
+    dice: &mut Dice,
+) -> Result<bool, Fail> {
+    if !states_agree(alloc, sheet, first, dice.steps)? {
         return Ok(false);
     }
     let to = dice.step().min(sheet.horizon());
     let from = dice.step().min(to);
-    totals_agree(alloc, sheet, dice.below(2), from, to)
+    totals_agree(alloc, sheet, first, dice.below(2), from, to)
 }
 
 // Makes a sheet with none, one or two more edits, simulated up to a random step.
@@ -196,16 +210,27 @@ fn grown_at_random(
     Ok(grow(alloc, sheet, some, dice.step())?.sheet)
 }
 
-// Lets a sheet grow at random. Tells whether it agrees with the run from step zero then.
-fn goes_on(alloc: Global, sheet: &mut Sheet, dice: &mut Dice, count: u64) -> Result<bool, Fail> {
+// Lets a sheet grow at random. Tells whether it agrees with the run then.
+fn goes_on(
+    alloc: Global,
+    sheet: &mut Sheet,
+    first: &State,
+    dice: &mut Dice,
+    count: u64,
+) -> Result<bool, Fail> {
     *sheet = grown_at_random(alloc, sheet, dice, count)?;
-    sheet_agrees(alloc, sheet, dice)
+    sheet_agrees(alloc, sheet, first, dice)
 }
 
 // Tells whether it agrees each time.
-fn all_agree(alloc: Global, sheet: &mut Sheet, mut dice: Dice) -> Result<bool, Fail> {
+fn all_agree(
+    alloc: Global,
+    sheet: &mut Sheet,
+    first: &State,
+    mut dice: Dice,
+) -> Result<bool, Fail> {
     for count in 1..6 {
-        if !goes_on(alloc, sheet, &mut dice, count)? {
+        if !goes_on(alloc, sheet, first, &mut dice, count)? {
             return Ok(false);
         }
     }
@@ -225,7 +250,7 @@ fn script_agrees(alloc: Global, seed: u64) -> Result<bool, Fail> {
     let words = words_of(seed);
     let mut sheet = opening(alloc, &Parts { words, ..MIXED })?;
     let dice = Dice { seed, steps: STEPS };
-    all_agree(alloc, &mut sheet, dice)
+    all_agree(alloc, &mut sheet, &State::opening(alloc), dice)
 }
 
 #[test]
@@ -243,14 +268,17 @@ fn opened_late(alloc: Global, seed: u64) -> Result<Sheet, Fail> {
     Ok(grow(alloc, &sheet, OPENED, 1_048_384)?.sheet)
 }
 
-// Tells whether all sheets of a script about the last steps agree with the run from step zero.
+// Tells whether all sheets of a script about the last steps agree with the run from step zero. No edit is dated before the
+// first of these steps, so all of them have one run up to there.
 fn late_script_agrees(alloc: Global, seed: u64) -> Result<bool, Fail> {
     let mut sheet = opened_late(alloc, seed)?;
+    let mut first = State::opening(alloc);
+    let _ = go_on(alloc, &sheet, &mut first, 0, 1_048_384)?;
     let dice = Dice {
         seed,
         steps: LATE_STEPS,
     };
-    all_agree(alloc, &mut sheet, dice)
+    all_agree(alloc, &mut sheet, &first, dice)
 }
 
 #[test]
