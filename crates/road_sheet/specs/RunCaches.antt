@@ -13,8 +13,7 @@ pub record IsInputOf (p : Plan) (edits : Edits) (input : StepInput) : Type 0 whe
   pub plan : input.plan ≡ p
   pub settings : input.settings ≡ settings_of p edits input.step
 
--- the words are the plan's; the settings that are cached and the input that is kept, if there is one, are of the run of
--- these edits
+-- what a run keeps is its own: the plan's words, and settings and a last input, if there is one, by these edits
 pub record IsOfRun (plan : Plan) (edits : Edits) (cache : RunCache) : Type 0 where
   pub words : cache.words ≡ plan.words
   pub settings : AreCached plan edits cache.settings

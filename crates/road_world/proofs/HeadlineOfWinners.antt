@@ -1,5 +1,5 @@
 -- The headline: a world that holds the winners of what events have made shows their runs, and refuses no query about
--- a step that it has simulated.
+-- a step it has simulated.
 use Rattle.std.proofs.Common.{◌≡◌, ◌≤◌, ◌<◌, ℕ, List, length, Bool, false, Some, None, refl, ap, sym, ◌∙◌, arith}
 use Rattle.std.specs.Prelude.{Result, nat_lt, not, if◌then◌else◌}
 use Rattle.std.specs.Option.{option_map}

@@ -10,7 +10,7 @@ use Rattle.lattice_core.specs.Sets.{contains, items, union}
 use Rattle.road_plan.specs.Plan.{Plan, IsWithinLimits}
 use Rattle.road_plan.specs.declared.limits.TheConstants.{MOST_REPLICAS}
 use Rattle.road_scenario.specs.Edits.{Edits}
-use Rattle.road_scenario.specs.Faults.{IsInRange, fault_in}
+use Rattle.road_scenario.specs.Faults.{fault_in}
 use Rattle.road_scenario.specs.Touched.{first_touched_step, first_touched_step_in}
 use Rattle.road_scenario.specs.Winners.{winners, AreWinners}
 use Rattle.road_scenario.specs.Instances.EditOrder.{winners_laws}

@@ -5,7 +5,6 @@ use Rattle.std.specs.List.{slice_get}
 use Rattle.std.specs.Option.{option_map}
 use Rattle.std.specs.declared.result.Result.TheVariants.{Ok, Err}
 use Rattle.std.proofs.lemmas.List.{map-append}
-use Rattle.road_delta.specs.Deltas.{beyond}
 use Rattle.road_delta.specs.declared.heads.Head.{Head}
 use Rattle.road_delta.proofs.DeltaEdits.{winners-beyond}
 use Rattle.road_replica.specs.declared.faults.ReplicaFault.TheVariants.{OutOfMemory}

@@ -1,7 +1,7 @@
 -- The headline: for every list of events, each replica's scenario is the winners of the edits that reached it, and at
--- every step that it has simulated each cell and each detector count is that of one worker's run of those winners from
--- step zero; so replicas that the same edits reached, in whatever order, grouping and repetition, agree at every step
--- that both have simulated.
+-- every step it has simulated each cell and each detector count is that of one worker's run of those winners from step
+-- zero; so replicas that the same edits reached, in whatever order, grouping and repetition, agree at every step that
+-- both have simulated.
 --
 -- What a replica shows is told by its sheet s: `Replica::state` answers `state_of s step`, or refuses for
 -- `state_fault s step`; likewise `rows` by `rows_of` and `rows_fault`, `totals` by `total_of` and `totals_fault`.
@@ -38,7 +38,7 @@ pub record ShowsRuns (plan : Plan) (count : ℕ) (past : ℕ → WorldReplica) (
   pub scenario : (r : ℕ) → r < count → (sheet_at world r).edits ≡ winners (past r).edits
   -- it has simulated each step up to the greatest to which it was advanced
   pub simulated : (r : ℕ) → r < count → (sheet_at world r).horizon ≡ (past r).horizon
-  -- at each step that it has simulated each cell is that of the run of those winners from step zero
+  -- at each step it has simulated each cell is that of the run of those winners from step zero
   pub cells : (r step : ℕ) → r < count → step ≤ (past r).horizon →
       IsRight (state_fault (sheet_at world r) step)
       (state_of (sheet_at world r) step) (run_at plan (winners (past r).edits) step)

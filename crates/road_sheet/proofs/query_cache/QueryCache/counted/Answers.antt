@@ -1,6 +1,5 @@
 -- The counts of one more step are added, and no sum wraps.
 use Rattle.std.proofs.Common.{◌∙◌, ◌+◌, ap, subst, arith}
-use Rattle.std.specs.Arc.{arc_value}
 use Rattle.road_scenario.specs.Settings.{settings_of}
 use Rattle.road_detector.specs.Laws.{PassOneByOne, BoundTotals}
 use Rattle.road_detector.specs.Passes.{passes}
