@@ -139,3 +139,25 @@ written_by journal ss apart known count = let few = few_entries 0 journal ss apa
 pub write_count_one_more : (ss : List Session) (s : Session) → write_count (ss ++ s ∷ []) ≡ write_count ss + length s.view.own
 write_count_one_more [] s = omega arith
 write_count_one_more (t ∷ ss) s = let rest = write_count_one_more ss s in omega arith
+
+no_writes : (ss : List Session) → length ss ≡ 0 → write_count ss ≡ 0
+no_writes [] none = refl
+no_writes (s ∷ ss) none = absurd (omega arith)
+
+one_longer : (ss : List Session) (s : Session) → length (ss ++ s ∷ []) ≡ length ss + 1
+one_longer [] s = omega arith
+one_longer (t ∷ ss) s = let rest = one_longer ss s in omega arith
+
+-- no session adds nothing to a share
+pub shares_of_none : (parts amount : ℕ) (ss : List Session) → length ss ≡ 0 → (parts ≡ parts + length ss) × (amount ≡ amount + write_count ss)
+shares_of_none parts amount ss none = let writes = no_writes ss none in (omega arith, omega arith)
+
+-- the last session adds its share, and then those before it theirs
+pub shares_with_last : (parts amount part own merged_parts merged_amount all_parts all_amount : ℕ) (whole rest : List Session) (s : Session) → whole ≡ rest ++ s ∷ []
+    → part ≡ 1 → own ≡ length s.view.own → merged_parts ≡ parts + part → merged_amount ≡ amount + own
+    → all_parts ≡ merged_parts + length rest → all_amount ≡ merged_amount + write_count rest
+    → (all_parts ≡ parts + length whole) × (all_amount ≡ amount + write_count whole)
+shares_with_last parts amount part own merged_parts merged_amount all_parts all_amount whole rest s is one writes merges adds all sum =
+    let long = ap length is ∙ one_longer rest s in
+    let count = ap write_count is ∙ write_count_one_more rest s in
+    (omega arith, omega arith)

@@ -23,9 +23,8 @@ use crate::naming::Naming;
 use crate::perform::{perform, wish_fault};
 use crate::reading::enter_after_write_here;
 use crate::session::Session;
-use crate::store::{Published, StoreReader, StoreWriter, publish};
+use crate::store::{Published, StoreReader, StoreWriter, publish_here};
 use crate::wish::Wish;
-use core::mem::replace_with;
 use left_right::Absorb;
 use road_ends::Meter;
 use road_plan::OutOfMemory;
@@ -267,7 +266,7 @@ impl<J: Naming, R: Wait + Drop> Held<J, R> {
         } = self;
         let next = append_entry(&replica, head, history, journal, entry)?;
         let Held { rt, writer, .. } = self;
-        replace_with(writer, (), |writer, ()| (publish(rt, writer, next), ()));
+        publish_here(rt, writer, next);
         self.replica = replica;
         self.accepted.add(mine, 1);
         Ok(())

@@ -9,6 +9,7 @@ use crate::entry::Entry;
 use crate::history::Prefix;
 use crate::naming::Naming;
 use crate::reader_view::View;
+use core::mem::replace_with;
 use crossbeam_utils::rule::{Outcome, Protocol};
 use left_right::Absorb;
 use left_right::reader::Reader;
@@ -188,12 +189,20 @@ fn show<J: Naming, R: Wait>(
     unreachable!()
 }
 
-// Publishes a sheet with its history, in place of what is published or pending. It returns once that is done.
-pub(crate) fn publish<J: Naming, R: Wait>(
+// Publishes as `publish`, by a writer that stays where it is.
+pub(crate) fn publish_here<J: Naming, R: Wait>(
     rt: &R,
-    writer: StoreWriter<J>,
+    writer: &mut StoreWriter<J>,
     next: Published<J>,
-) -> StoreWriter<J>
+)
+    requires { IsPrefix writer.old.desk.shown.value next }
+    ensures { writer.new.desk.shown.value ≡ next }
+{
+    replace_with(writer, (), |writer, ()| (publish(rt, writer, next), ()));
+}
+
+// Publishes a sheet with its history, in place of what is published or pending. It returns once that is done.
+fn publish<J: Naming, R: Wait>(rt: &R, writer: StoreWriter<J>, next: Published<J>) -> StoreWriter<J>
     requires { IsPrefix writer.desk.shown.value next }
     ensures { result.desk.shown.value ≡ next }
 {
