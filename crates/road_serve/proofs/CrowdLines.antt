@@ -72,7 +72,7 @@ crowd_ended n a some =
     ∙ ap (λ (ls : List (List ℕ)). lines_gather false (take (suc n) ls)) (sym (newline_lines a))
 
 -- a last line that is answered or where a call fails, at the end of the input
-pub line_ends : {S : Type 0} (n : ℕ) (a : List ℕ) (first sink : SinkView) (d : Dialogue S) (r : Result (Unit {0}) ServeFault) (gone later : ℕ) → has_more_lines n a ≡ false → 0 < length (pieces_of a).1
+pub line_ends : {S H : Type 0} (n : ℕ) (a : List ℕ) (first sink : SinkView) (d : Dialogue S H) (r : Result (Unit {0}) ServeFault) (gone later : ℕ) → has_more_lines n a ≡ false → 0 < length (pieces_of a).1
     → MatchResult r (λ _. HasAnswered n (a ++ newline ∷ []) first sink d) (λ fault. IsStopped n (a ++ newline ∷ []) false first sink fault gone later)
     → MatchResult r (λ _. HasFinished n a first sink d) (λ fault. IsStopped n a true first sink fault gone later)
 line_ends n a first sink d (Ok done) gone later few some h = line_finished n a first sink d few some h
@@ -114,7 +114,7 @@ whole_lines : (n : ℕ) (a : List ℕ) → length (pieces_of a).0 ≤ suc n → 
 unfolding has_crowd
 whole_lines n a few = ap (λ (ls : List (List ℕ)). lines_gather false (take (suc n) ls)) (append-nil (pieces_of a).0) ∙ ap (lines_gather false) (take_all (suc n) (pieces_of a).0 few)
 
-pub crowd_held : {S : Type 0} (n : ℕ) (a : List ℕ) (d : Dialogue S) → GoesOn n a d → has_more_lines n (a ++ newline ∷ []) ≡ false → holds_crowd d ≡ true → has_crowd n (a ++ newline ∷ []) false ≡ true
+pub crowd_held : {S H : Type 0} (n : ℕ) (a : List ℕ) (d : Dialogue S H) → GoesOn n a d → has_more_lines n (a ++ newline ∷ []) ≡ false → holds_crowd d ≡ true → has_crowd n (a ++ newline ∷ []) false ≡ true
 crowd_held n a d on few is =
     whole_lines n (a ++ newline ∷ []) (whole_few n (a ++ newline ∷ []) few) ∙ ap (λ (p : Pieces). lines_gather false p.0) (cut-newline a)
     ∙ held_gathers n (pieces_of a).0 d.laboratory d.held.items d.long d.left (pieces_of a).1 on.after on.holds is

@@ -76,7 +76,7 @@ accepted_lines n [] lab left after some = absurd (omega arith)
 accepted_lines n (first ∷ later) None left after some = absurd after
 accepted_lines n (first ∷ later) (Some kept) left after some = rw (after.1) refl
 
-stands_accepted : {S : Type 0} (n : ℕ) (a : List ℕ) (d : Dialogue S) (ls : List (List ℕ)) → lines_of a true ≡ ls → has_more_lines n a ≡ false → IsAfterLines n ls d.laboratory d.left → 0 < length ls → StandsAtEnd n a d None
+stands_accepted : {S H : Type 0} (n : ℕ) (a : List ℕ) (d : Dialogue S H) (ls : List (List ℕ)) → lines_of a true ≡ ls → has_more_lines n a ≡ false → IsAfterLines n ls d.laboratory d.left → 0 < length ls → StandsAtEnd n a d None
 unfolding is_plan_refused
 stands_accepted n a d ls e few after some =
     let Family : List (List ℕ) → Type 0 = λ x. IsAfterLines n x d.laboratory d.left in (
@@ -85,7 +85,7 @@ stands_accepted n a d ls e few after some =
       subst Family (sym e) after,
     )
 
-stands_line : {S : Type 0} (n : ℕ) (a : List ℕ) (d : Dialogue S) (o : Option EarlyEnd) → has_more_lines n a ≡ false → 0 < length (pieces_of a).1 → Stands n (a ++ newline ∷ []) d o → StandsAtEnd n a d o
+stands_line : {S H : Type 0} (n : ℕ) (a : List ℕ) (d : Dialogue S H) (o : Option EarlyEnd) → has_more_lines n a ≡ false → 0 < length (pieces_of a).1 → Stands n (a ++ newline ∷ []) d o → StandsAtEnd n a d o
 stands_line n a d None few some on =
     let Family : List (List ℕ) → Type 0 = λ ls. IsAfterLines n ls d.laboratory d.left in
     let after = subst Family (ap (λ (p : Pieces). p.0) (cut-newline a)) on.after in
@@ -93,10 +93,10 @@ stands_line n a d None few some on =
 stands_line n a d (Some ends.BadPlan) few some refused = (refused_ended a some ∙ refused.0, refused.1, refused.2)
 stands_line n a d (Some ends.TooMany) few some many = let no = last_few n a few some in let yes_ = many.1 in absurd (cc)
 
-pub rest_of : {S : Type 0} (n : ℕ) (a : List ℕ) (d : Dialogue S) → GoesOn n a d → (d.held.items ≡ [] → d.long ≡ false → ⊥) → 0 < length (pieces_of a).1
+pub rest_of : {S H : Type 0} (n : ℕ) (a : List ℕ) (d : Dialogue S H) → GoesOn n a d → (d.held.items ≡ [] → d.long ≡ false → ⊥) → 0 < length (pieces_of a).1
 rest_of n a d on some = has_rest d.held.items d.long (pieces_of a).1 on.holds some
 
-pub line_finished : {S : Type 0} (n : ℕ) (a : List ℕ) (first sink : SinkView) (d : Dialogue S) → has_more_lines n a ≡ false → 0 < length (pieces_of a).1 → HasAnswered n (a ++ newline ∷ []) first sink d → HasFinished n a first sink d
+pub line_finished : {S H : Type 0} (n : ℕ) (a : List ℕ) (first sink : SinkView) (d : Dialogue S H) → has_more_lines n a ≡ false → 0 < length (pieces_of a).1 → HasAnswered n (a ++ newline ∷ []) first sink d → HasFinished n a first sink d
 line_finished n a first sink d few some h = record {
   answered = takes_same first sink _ _ _ _ (sym (answers_ended n a some)) refl h.answered;
   well = h.well;
@@ -123,7 +123,7 @@ answers_clear n a clear some =
     ap (λ (ls : List (List ℕ)). line_replies true (take (suc n) ls)) (clear_lines a clear) ∙ replies_clear n (pieces_of a).0 some
     ∙ ap (λ (ls : List (List ℕ)). line_replies false (take (suc n) ls)) (sym (append-nil (pieces_of a).0))
 
-pub clear_ends : {S : Type 0} (n : ℕ) (a : List ℕ) (first sink : SinkView) (d : Dialogue S) → HasAnswered n a first sink d → d.over ≡ None → d.held.items ≡ [] → d.long ≡ false → IsSome d.laboratory → HasFinished n a first sink d
+pub clear_ends : {S H : Type 0} (n : ℕ) (a : List ℕ) (first sink : SinkView) (d : Dialogue S H) → HasAnswered n a first sink d → d.over ≡ None → d.held.items ≡ [] → d.long ≡ false → IsSome d.laboratory → HasFinished n a first sink d
 clear_ends n a first sink d h none held short kept =
     let on = goes_on n a first sink d h none in
     let clear = no_rest d.held.items d.long (pieces_of a).1 on.holds held short in
@@ -164,14 +164,14 @@ refused_none a none = ap (λ (ls : List (List ℕ)). is_refusal (first_reading t
 abbrev NoPlanFacts : ℕ → List ℕ → Type 0
 NoPlanFacts n a = (answers n a true ≡ answers n a false ++ reply (Refused refusals.NoPlan)) × (is_plan_refused a true ≡ true)
 
-no_plan_facts : {S : Type 0} (n : ℕ) (a : List ℕ) (d : Dialogue S) → GoesOn n a d → d.held.items ≡ [] → d.long ≡ false → d.laboratory ≡ None → NoPlanFacts n a
+no_plan_facts : {S H : Type 0} (n : ℕ) (a : List ℕ) (d : Dialogue S H) → GoesOn n a d → d.held.items ≡ [] → d.long ≡ false → d.laboratory ≡ None → NoPlanFacts n a
 no_plan_facts n a d on held short kept =
     let clear = no_rest d.held.items d.long (pieces_of a).1 on.holds held short in
     let whole = no_lines n (pieces_of a).0 d.laboratory d.left on.after kept in
     let none = none_at_all a clear whole in
     (answers_none n a none whole, refused_none a none)
 
-pub no_plan_ends : {S : Type 0} (n : ℕ) (a text all : List ℕ) (first sink sink' : SinkView) (d d' : Dialogue S) (r : Result (Unit {0}) ServeFault) (count later : ℕ) → HasAnswered n a first sink d → d.over ≡ None → d.held.items ≡ [] → d.long ≡ false → d.laboratory ≡ None
+pub no_plan_ends : {S H : Type 0} (n : ℕ) (a text all : List ℕ) (first sink sink' : SinkView) (d d' : Dialogue S H) (r : Result (Unit {0}) ServeFault) (count later : ℕ) → HasAnswered n a first sink d → d.over ≡ None → d.held.items ≡ [] → d.long ≡ false → d.laboratory ≡ None
     → text ≡ reply (Refused refusals.NoPlan) → all ≡ d.waiting.items ++ text → Put sink sink' all d'.waiting.items r → d'.over ≡ Some ends.BadPlan → d'.laboratory ≡ d.laboratory → d'.left ≡ d.left
     → IfErr r (λ fault. CountsGone fault (has_crowd n a true) count later) → MatchResult r (λ _. HasFinished n a first sink' d') (λ fault. IsStopped n a true first sink' fault count later)
 no_plan_ends n a text all first sink sink' d d' (Ok done) count later h none held short kept says e put over lab left counts =
@@ -193,12 +193,12 @@ no_plan_ends n a text all first sink sink' d d' (Err fault) count later h none h
 
 -- ---- what waits is flushed
 
-stands_end_same : {S : Type 0} (n : ℕ) (a : List ℕ) (d d' : Dialogue S) (o : Option EarlyEnd) → d'.laboratory ≡ d.laboratory → d'.left ≡ d.left → StandsAtEnd n a d o → StandsAtEnd n a d' o
+stands_end_same : {S H : Type 0} (n : ℕ) (a : List ℕ) (d d' : Dialogue S H) (o : Option EarlyEnd) → d'.laboratory ≡ d.laboratory → d'.left ≡ d.left → StandsAtEnd n a d o → StandsAtEnd n a d' o
 stands_end_same n a d d' None lab left s = (s.0, s.1, after_same n _ _ d.laboratory d'.laboratory d.left d'.left refl (sym lab) (sym left) s.2)
 stands_end_same n a d d' (Some ends.BadPlan) lab left s = (s.0, lab ∙ s.1, left ∙ s.2)
 stands_end_same n a d d' (Some ends.TooMany) lab left s = s
 
-pub finished_flushed : {S : Type 0} (n : ℕ) (a : List ℕ) (first sink sink' : SinkView) (d d' : Dialogue S) → HasFinished n a first sink d → Appends sink.contents sink'.contents d.waiting.items → sink'.failures ≡ sink.failures → d'.waiting.items ≡ []
+pub finished_flushed : {S H : Type 0} (n : ℕ) (a : List ℕ) (first sink sink' : SinkView) (d d' : Dialogue S H) → HasFinished n a first sink d → Appends sink.contents sink'.contents d.waiting.items → sink'.failures ≡ sink.failures → d'.waiting.items ≡ []
     → d'.laboratory ≡ d.laboratory → d'.left ≡ d.left → d'.over ≡ d.over → HasFinished n a first sink' d'
 finished_flushed n a first sink sink' d d' h all well none lab left over =
     let Family : Option EarlyEnd → Type 0 = λ o. StandsAtEnd n a d' o in
@@ -210,7 +210,7 @@ finished_flushed n a first sink sink' d d' h all well none lab left over =
 
 -- ---- there is no memory
 
-pub memory_at_end : {S : Type 0} (n : ℕ) (a : List ℕ) (first sink : SinkView) (d : Dialogue S) → HasAnswered n a first sink d → Stops first sink (answers n a true) faults.OutOfMemory
+pub memory_at_end : {S H : Type 0} (n : ℕ) (a : List ℕ) (first sink : SinkView) (d : Dialogue S H) → HasAnswered n a first sink d → Stops first sink (answers n a true) faults.OutOfMemory
 memory_at_end n a first sink d h = stops_same first sink _ _ faults.OutOfMemory (ap (λ (x : List ℕ). answers n x true) (append-nil a)) (stops_memory n a [] true first sink d h)
 
 -- ---- nobody was refused who goes on
@@ -220,5 +220,5 @@ refused_after n [] lab left after = refl
 refused_after n (first ∷ later) None left after = absurd after
 refused_after n (first ∷ later) (Some kept) left after = rw (after.1) refl
 
-pub going_accepted : {S : Type 0} (n : ℕ) (a : List ℕ) (d : Dialogue S) → GoesOn n a d → is_plan_refused a false ≡ false
+pub going_accepted : {S H : Type 0} (n : ℕ) (a : List ℕ) (d : Dialogue S H) → GoesOn n a d → is_plan_refused a false ≡ false
 going_accepted n a d on = refused_whole a ∙ refused_after n (pieces_of a).0 d.laboratory d.left on.after

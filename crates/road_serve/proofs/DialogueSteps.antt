@@ -27,7 +27,7 @@ after_same n ls ls' lab lab' left left' e f g h =
 
 -- ---- over: further bytes change nothing
 
-stands_over : {S : Type 0} (n : ℕ) (a b : List ℕ) (d : Dialogue S) (o : Option EarlyEnd) → IsSome o → Stands n a d o → Stands n (a ++ b) d o × (answers n (a ++ b) false ≡ answers n a false)
+stands_over : {S H : Type 0} (n : ℕ) (a b : List ℕ) (d : Dialogue S H) (o : Option EarlyEnd) → IsSome o → Stands n a d o → Stands n (a ++ b) d o × (answers n (a ++ b) false ≡ answers n a false)
 stands_over n a b d None some s = absurd (cc)
 stands_over n a b d (Some ends.BadPlan) some s = ((refused_stays a b false true (refused_some a s.0) s.0, s.1, s.2), answers_refused n a b false s.0)
 stands_over n a b d (Some ends.TooMany) some s =
@@ -44,19 +44,19 @@ stands_over n a b d (Some ends.TooMany) some s =
       answers_full n a b (omega arith),
     )
 
-pub over_more : {S : Type 0} (n : ℕ) (a b : List ℕ) (first sink : SinkView) (d : Dialogue S) → HasAnswered n a first sink d → IsSome d.over → HasAnswered n (a ++ b) first sink d
+pub over_more : {S H : Type 0} (n : ℕ) (a b : List ℕ) (first sink : SinkView) (d : Dialogue S H) → HasAnswered n a first sink d → IsSome d.over → HasAnswered n (a ++ b) first sink d
 over_more n a b first sink d h some =
     let s = stands_over n a b d d.over some h.stands in
     record { answered = takes_same first sink _ _ d.waiting.items d.waiting.items (sym s.1) refl h.answered; well = h.well; stands = s.0 }
 
 -- ---- going on
 
-pub goes_on : {S : Type 0} (n : ℕ) (a : List ℕ) (first sink : SinkView) (d : Dialogue S) → HasAnswered n a first sink d → d.over ≡ None → GoesOn n a d
+pub goes_on : {S H : Type 0} (n : ℕ) (a : List ℕ) (first sink : SinkView) (d : Dialogue S H) → HasAnswered n a first sink d → d.over ≡ None → GoesOn n a d
 goes_on n a first sink d h none =
     let Family : Option EarlyEnd → Type 0 = λ o. Stands n a d o in
     subst Family none h.stands
 
-pub stands_on : {S : Type 0} (n : ℕ) (a : List ℕ) (d : Dialogue S) → d.over ≡ None → GoesOn n a d → Stands n a d d.over
+pub stands_on : {S H : Type 0} (n : ℕ) (a : List ℕ) (d : Dialogue S H) → d.over ≡ None → GoesOn n a d → Stands n a d d.over
 stands_on n a d none on =
     let Family : Option EarlyEnd → Type 0 = λ o. Stands n a d o in
     subst Family (sym none) on
@@ -71,7 +71,7 @@ accepted_full n ls None left after some none = absurd (cc)
 accepted_full n [] (Some kept) left after some none = absurd after
 accepted_full n (first ∷ later) (Some kept) left after some none = (omega (arith, after.3), rw (after.1) refl)
 
-pub full_more : {S : Type 0} (n : ℕ) (a b : List ℕ) (first sink : SinkView) (d d' : Dialogue S) → HasAnswered n a first sink d → d.over ≡ None → IsSome d.laboratory → d.left ≡ 0 → 0 < length b
+pub full_more : {S H : Type 0} (n : ℕ) (a b : List ℕ) (first sink : SinkView) (d d' : Dialogue S H) → HasAnswered n a first sink d → d.over ≡ None → IsSome d.laboratory → d.left ≡ 0 → 0 < length b
     → d'.over ≡ Some ends.TooMany → d'.waiting ≡ d.waiting → d'.laboratory ≡ d.laboratory → d'.left ≡ d.left → HasAnswered n (a ++ b) first sink d'
 full_more n a b first sink d d' h none some spent more over waits lab left =
     let g = goes_on n a first sink d h none in
@@ -98,12 +98,12 @@ some_room n (first ∷ later) None left after open_ = absurd after
 some_room n (first ∷ later) (Some kept) zero after open_ = absurd (open_ refl refl)
 some_room n (first ∷ later) (Some kept) (suc left) after open_ = omega (arith, after.3)
 
-pub room_line : {S : Type 0} (n : ℕ) (a b : List ℕ) (d : Dialogue S) → GoesOn n a d → (IsSome d.laboratory → d.left ≡ 0 → ⊥) → IsLine b → has_more_lines n (a ++ b) ≡ false
+pub room_line : {S H : Type 0} (n : ℕ) (a b : List ℕ) (d : Dialogue S H) → GoesOn n a d → (IsSome d.laboratory → d.left ≡ 0 → ⊥) → IsLine b → has_more_lines n (a ++ b) ≡ false
 room_line n a b d g open_ line =
     let room = some_room n (pieces_of a).0 d.laboratory d.left g.after open_ in
     are_few n (a ++ b) (omega (arith, room, len_line a b line))
 
-pub room_newline : {S : Type 0} (n : ℕ) (a b : List ℕ) (d : Dialogue S) → GoesOn n a d → (IsSome d.laboratory → d.left ≡ 0 → ⊥) → IsLine b → has_more_lines n ((a ++ b) ++ newline ∷ []) ≡ false
+pub room_newline : {S H : Type 0} (n : ℕ) (a b : List ℕ) (d : Dialogue S H) → GoesOn n a d → (IsSome d.laboratory → d.left ≡ 0 → ⊥) → IsLine b → has_more_lines n ((a ++ b) ++ newline ∷ []) ≡ false
 room_newline n a b d g open_ line =
     let room = some_room n (pieces_of a).0 d.laboratory d.left g.after open_ in
     let same = ap (λ (p : Pieces). length p.0) (cut-more a b line) in
@@ -112,7 +112,7 @@ room_newline n a b d g open_ line =
 holds_same : (held held' : List ℕ) (long long' : Bool) (line line' : List ℕ) → line ≡ line' → Holds held long line → Holds held long line'
 holds_same held held' long long' line line' e h = let Family : List ℕ → Type 0 = λ x. Holds held long x in subst Family e h
 
-pub held_more : {S : Type 0} (n : ℕ) (a b : List ℕ) (first sink : SinkView) (d d' : Dialogue S) → HasAnswered n a first sink d → d.over ≡ None → has_more_lines n (a ++ b) ≡ false → IsLine b
+pub held_more : {S H : Type 0} (n : ℕ) (a b : List ℕ) (first sink : SinkView) (d d' : Dialogue S H) → HasAnswered n a first sink d → d.over ≡ None → has_more_lines n (a ++ b) ≡ false → IsLine b
     → d'.laboratory ≡ d.laboratory → d'.left ≡ d.left → d'.waiting ≡ d.waiting → d'.over ≡ d.over → Holds d'.held.items d'.long ((pieces_of a).1 ++ b) → HasAnswered n (a ++ b) first sink d'
 held_more n a b first sink d d' h none few line lab left waits over holds =
     let g = goes_on n a first sink d h none in
@@ -140,7 +140,7 @@ answers_step n a text few few' one =
 len_step : (n : ℕ) (a : List ℕ) → has_more_lines n (a ++ newline ∷ []) ≡ false → length ((pieces_of a).0 ++ (pieces_of a).1 ∷ []) ≤ suc n
 len_step n a few = omega (arith, few_lines n (a ++ newline ∷ []) few, len_newline a, length-append (pieces_of a).0 ((pieces_of a).1 ∷ []))
 
-goes_on_cleared : {S : Type 0} (n : ℕ) (a : List ℕ) (d : Dialogue S) (lab : Option Laboratory) (left : ℕ) → has_more_lines n (a ++ newline ∷ []) ≡ false → IsAfterLines n ((pieces_of a).0 ++ (pieces_of a).1 ∷ []) lab left
+goes_on_cleared : {S H : Type 0} (n : ℕ) (a : List ℕ) (d : Dialogue S H) (lab : Option Laboratory) (left : ℕ) → has_more_lines n (a ++ newline ∷ []) ≡ false → IsAfterLines n ((pieces_of a).0 ++ (pieces_of a).1 ∷ []) lab left
     → d.laboratory ≡ lab → d.left ≡ left → d.held.items ≡ [] → d.long ≡ false → GoesOn n (a ++ newline ∷ []) d
 goes_on_cleared n a d lab left few after k l held short =
     let c = cut-newline a in
@@ -150,10 +150,10 @@ goes_on_cleared n a d lab left few after k l held short =
       few = few;
     }
 
-lab_after : {S : Type 0} (n : ℕ) (a : List ℕ) (d : Dialogue S) (lab : Option Laboratory) → GoesOn n a d → d.laboratory ≡ lab → IsAfterLines n (pieces_of a).0 lab d.left
+lab_after : {S H : Type 0} (n : ℕ) (a : List ℕ) (d : Dialogue S H) (lab : Option Laboratory) → GoesOn n a d → d.laboratory ≡ lab → IsAfterLines n (pieces_of a).0 lab d.left
 lab_after n a d lab g is = after_same n _ _ d.laboratory lab d.left d.left refl is refl g.after
 
-pub later_step : {S : Type 0} (n : ℕ) (a text : List ℕ) (d d' : Dialogue S) (kept kept' : Laboratory) → GoesOn n a d → d.laboratory ≡ Some kept → has_more_lines n (a ++ newline ∷ []) ≡ false
+pub later_step : {S H : Type 0} (n : ℕ) (a text : List ℕ) (d d' : Dialogue S H) (kept kept' : Laboratory) → GoesOn n a d → d.laboratory ≡ Some kept → has_more_lines n (a ++ newline ∷ []) ≡ false
     → text ≡ reply (line_answer kept (reading_unless d.long (command_of d.held.items))) → kept' ≡ kept_after_line kept (reading_unless d.long (command_of d.held.items))
     → d'.laboratory ≡ Some kept' → d'.left ≡ d.left - 1 → d'.held.items ≡ [] → d'.long ≡ false → d'.over ≡ None
     → (answers n (a ++ newline ∷ []) false ≡ answers n a false ++ text) × Stands n (a ++ newline ∷ []) d' d'.over
@@ -165,7 +165,7 @@ later_step n a text d d' kept kept' g is few says kept_is lab left held short ov
       stands_on n (a ++ newline ∷ []) d' over (goes_on_cleared n a d' _ _ few next (lab ∙ ap (λ (k : Laboratory). Some k) kept_is) left held short),
     )
 
-pub opening_step : {S : Type 0} (n : ℕ) (a text : List ℕ) (d d' : Dialogue S) → GoesOn n a d → d.laboratory ≡ None → has_more_lines n (a ++ newline ∷ []) ≡ false
+pub opening_step : {S H : Type 0} (n : ℕ) (a text : List ℕ) (d d' : Dialogue S H) → GoesOn n a d → d.laboratory ≡ None → has_more_lines n (a ++ newline ∷ []) ≡ false
     → text ≡ reply (opening_answer (reading_unless d.long (plan_line_of d.held.items))) → d'.laboratory ≡ opened_laboratory (reading_unless d.long (plan_line_of d.held.items)) → d'.laboratory ≢ None
     → d'.left ≡ d.left → d'.held.items ≡ [] → d'.long ≡ false → d'.over ≡ None
     → (answers n (a ++ newline ∷ []) false ≡ answers n a false ++ text) × Stands n (a ++ newline ∷ []) d' d'.over
@@ -181,7 +181,7 @@ none_left : (n : ℕ) (ls : List (List ℕ)) (left : ℕ) → IsAfterLines n ls 
 none_left n [] left after = after
 none_left n (first ∷ later) left after = absurd after
 
-pub refused_step : {S : Type 0} (n : ℕ) (a text : List ℕ) (d : Dialogue S) (lab : Option Laboratory) → GoesOn n a d → d.laboratory ≡ None → has_more_lines n (a ++ newline ∷ []) ≡ false
+pub refused_step : {S H : Type 0} (n : ℕ) (a text : List ℕ) (d : Dialogue S H) (lab : Option Laboratory) → GoesOn n a d → d.laboratory ≡ None → has_more_lines n (a ++ newline ∷ []) ≡ false
     → text ≡ reply (opening_answer (reading_unless d.long (plan_line_of d.held.items))) → lab ≡ opened_laboratory (reading_unless d.long (plan_line_of d.held.items)) → lab ≡ None
     → (answers n (a ++ newline ∷ []) false ≡ answers n a false ++ text) × ((is_plan_refused (a ++ newline ∷ []) false ≡ true) × (lab ≡ None) × (d.left ≡ n))
 refused_step n a text d lab g is few says kept none =
@@ -202,7 +202,7 @@ no_answers : (n : ℕ) → answers n [] false ≡ []
 unfolding answers
 no_answers n = refl
 
-pub nothing_came : {S : Type 0} (n : ℕ) (first : SinkView) (d : Dialogue S) → d.laboratory ≡ None → d.left ≡ n → d.held.items ≡ [] → d.long ≡ false → d.over ≡ None → d.waiting.items ≡ [] → HasAnswered n [] first first d
+pub nothing_came : {S H : Type 0} (n : ℕ) (first : SinkView) (d : Dialogue S H) → d.laboratory ≡ None → d.left ≡ n → d.held.items ≡ [] → d.long ≡ false → d.over ≡ None → d.waiting.items ≡ [] → HasAnswered n [] first first d
 nothing_came n first d lab left held short over waits = record {
   answered = takes_same first first [] _ [] _ (sym (no_answers n)) (sym waits) (takes_none first []);
   well = refl;

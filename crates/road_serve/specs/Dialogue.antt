@@ -43,14 +43,14 @@ pub data Holds (held : List ℕ) (long : Bool) (line : List ℕ) : Type 0 where
 -- ---- after bytes
 
 -- the dialogue goes on: it is after the whole lines of these bytes, and holds the rest
-pub record GoesOn {S : Type 0} (lines : ℕ) (bytes : List ℕ) (d : Dialogue S) : Type 0 where
+pub record GoesOn {S H : Type 0} (lines : ℕ) (bytes : List ℕ) (d : Dialogue S H) : Type 0 where
   pub after : IsAfterLines lines (pieces_of bytes).0 d.laboratory d.left
   pub holds : Holds d.held.items d.long (pieces_of bytes).1
   pub few : has_more_lines lines bytes ≡ false
 
 -- after these bytes the dialogue goes on, or why it does not: there is no plan, or it stands after the last line that
 -- may come
-abbrev pub Stands : {S : Type 0} → ℕ → List ℕ → Dialogue S → Option EarlyEnd → Type 0
+abbrev pub Stands : {S H : Type 0} → ℕ → List ℕ → Dialogue S H → Option EarlyEnd → Type 0
 Stands lines bytes d None = GoesOn lines bytes d
 Stands lines bytes d (Some ends.BadPlan) =
     (is_plan_refused bytes false ≡ true) × (d.laboratory ≡ None) × (d.left ≡ lines)
@@ -60,7 +60,7 @@ Stands lines bytes d (Some ends.TooMany) =
 
 -- These bytes came since the sink was as it was first, and each whole line of them is answered: in the sink, or in
 -- what waits to be written. No call of the sink failed.
-pub record HasAnswered {S : Type 0} (lines : ℕ) (bytes : List ℕ) (first sink : SinkView) (d : Dialogue S) : Type 0 where
+pub record HasAnswered {S H : Type 0} (lines : ℕ) (bytes : List ℕ) (first sink : SinkView) (d : Dialogue S H) : Type 0 where
   pub answered : TakesAllBut first sink (answers lines bytes false) d.waiting.items
   pub well : sink.failures ≡ first.failures
   pub stands : Stands lines bytes d d.over
@@ -68,7 +68,7 @@ pub record HasAnswered {S : Type 0} (lines : ℕ) (bytes : List ℕ) (first sink
 -- ---- the end of input
 
 -- the plan line was accepted, and the dialogue is after all lines; or there is no plan
-abbrev pub StandsAtEnd : {S : Type 0} → ℕ → List ℕ → Dialogue S → Option EarlyEnd → Type 0
+abbrev pub StandsAtEnd : {S H : Type 0} → ℕ → List ℕ → Dialogue S H → Option EarlyEnd → Type 0
 StandsAtEnd lines bytes d None =
     (is_plan_refused bytes true ≡ false) × (has_more_lines lines bytes ≡ false)
     × IsAfterLines lines (lines_of bytes true) d.laboratory d.left
@@ -78,7 +78,7 @@ StandsAtEnd lines bytes d (Some ends.TooMany) = ⊥
 
 -- The input has ended with these bytes, and all its lines are answered: in the sink, or in what waits to be written.
 -- No call of the sink failed.
-pub record HasFinished {S : Type 0} (lines : ℕ) (bytes : List ℕ) (first sink : SinkView) (d : Dialogue S) : Type 0 where
+pub record HasFinished {S H : Type 0} (lines : ℕ) (bytes : List ℕ) (first sink : SinkView) (d : Dialogue S H) : Type 0 where
   pub answered : TakesAllBut first sink (answers lines bytes true) d.waiting.items
   pub well : sink.failures ≡ first.failures
   pub stands : StandsAtEnd lines bytes d d.over
