@@ -1,0 +1,11 @@
+-- What the session wrote is what its share says.
+use Rattle.std.proofs.Common.{◌≡◌, List, IfOk, subst}
+use Rattle.road_scenario.specs.declared.edit.Edit.{Edit}
+use Rattle.road_sessions.specs.Sessions.{Session}
+use Rattle.road_crowd.specs.Private.Works.{share_entries, work_of}
+use Rattle.road_crowd.proofs.threads.fn.start.spawn_with.Goals as goal
+
+pub returns : goal.returns
+returns g c =
+    subst (λ (es : List Edit). IfOk c.worked.result (λ (after : Session). work_of after ≡ (c.captures.session.number, share_entries c.captures.session.number es c.captures.to)))
+    c.as_slice.ensures.value c.worked.ensures
