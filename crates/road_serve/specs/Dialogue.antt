@@ -60,7 +60,8 @@ Stands lines bytes d (Some ends.TooMany) =
 
 -- These bytes came since the sink was as it was first, and each whole line of them is answered: in the sink, or in
 -- what waits to be written. No call of the sink failed.
-pub record HasAnswered {S H : Type 0} (lines : ℕ) (bytes : List ℕ) (first sink : SinkView) (d : Dialogue S H) : Type 0 where
+pub record HasAnswered {S H : Type 0} (lines : ℕ) (bytes : List ℕ) (first sink : SinkView) (d : Dialogue S H)
+    : Type 0 where
   pub answered : TakesAllBut first sink (answers lines bytes false) d.waiting.items
   pub well : sink.failures ≡ first.failures
   pub stands : Stands lines bytes d d.over
@@ -78,7 +79,8 @@ StandsAtEnd lines bytes d (Some ends.TooMany) = ⊥
 
 -- The input has ended with these bytes, and all its lines are answered: in the sink, or in what waits to be written.
 -- No call of the sink failed.
-pub record HasFinished {S H : Type 0} (lines : ℕ) (bytes : List ℕ) (first sink : SinkView) (d : Dialogue S H) : Type 0 where
+pub record HasFinished {S H : Type 0} (lines : ℕ) (bytes : List ℕ) (first sink : SinkView) (d : Dialogue S H)
+    : Type 0 where
   pub answered : TakesAllBut first sink (answers lines bytes true) d.waiting.items
   pub well : sink.failures ≡ first.failures
   pub stands : StandsAtEnd lines bytes d d.over
