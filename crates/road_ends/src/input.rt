@@ -18,6 +18,7 @@ use crate::chance::is_any_open;
 use crate::columns::{Columns, write_cells_and_speeds};
 use crate::entries::entered;
 use crate::pass::speeds;
+use crate::step_settings::StepSettings;
 use crate::word_cache::WordCache;
 use road_cells::Road;
 use road_plan::{Plan, Settings};
@@ -99,7 +100,12 @@ impl StepInput {
         ensures unchanged { words.new ≡ words.old }
     {
         words.reuse_columns(mem::replace(&mut self.columns, None));
-        let road = entered(alloc, &self.plan, &self.settings, step, road, words)?;
+        let at = StepSettings {
+            plan: &self.plan,
+            settings: &self.settings,
+            step,
+        };
+        let road = entered(alloc, at, road, words)?;
         let columns = columns_of(alloc, &self.settings, step, &road, words)?;
         words.reuse(mem::replace(&mut self.road, road));
         self.columns = columns;
@@ -151,13 +157,25 @@ impl StepInput {
     pub fn speeds_in(&self, alloc: Global, list: Vec<u8>) -> Result<Vec<u8>, OutOfMemory>
         ensures { IfOk result (λ new. new.items ≡ input_speeds self.now) }
     {
-        let (plan, settings, road) = (&self.plan, &self.settings, &self.road);
         match &self.columns {
-            Some(columns) => speeds(plan, settings, self.step, road, columns, list),
+            Some(columns) => speeds(self.at(), &self.road, columns, list),
             None => {
                 let none = Columns::empty(alloc);
-                speeds(plan, settings, self.step, road, &none, list)
+                speeds(self.at(), &self.road, &none, list)
             }
+        }
+    }
+
+    // Returns the plan, the settings and the number of the step.
+    fn at(&self) -> StepSettings<'_>
+        ensures plan { result.plan.now ≡ self.now.plan }
+        ensures settings { result.settings.now ≡ self.now.settings }
+        ensures step { result.step ≡ self.now.step }
+    {
+        StepSettings {
+            plan: &self.plan,
+            settings: &self.settings,
+            step: self.step,
         }
     }
 }
@@ -180,7 +198,12 @@ pub fn enter(
     ensures { IfOk result (λ input. arc_value input ≡ input_of (arc_value plan.now) settings step road.now) }
 {
     let mut words = WordCache::of(alloc, plan);
-    let road = entered(alloc, plan, &settings, step, road, &mut words)?;
+    let at = StepSettings {
+        plan,
+        settings: &settings,
+        step,
+    };
+    let road = entered(alloc, at, road, &mut words)?;
     let plan = Arc::try_clone(plan)?;
     let settings = Arc::new(alloc, settings)?;
     let input = StepInput {
@@ -215,7 +238,12 @@ impl WordCache {
             ≡ input_of (arc_value plan.now) (arc_value settings) step road.now) }
         ensures unchanged { self.new ≡ self.old }
     {
-        let road = entered(alloc, plan, &settings, step, road, self)?;
+        let at = StepSettings {
+            plan,
+            settings: &settings,
+            step,
+        };
+        let road = entered(alloc, at, road, self)?;
         let columns = columns_of(alloc, &settings, step, &road, self)?;
         let plan = Arc::try_clone(plan)?;
         let input = StepInput {

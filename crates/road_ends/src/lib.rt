@@ -26,6 +26,7 @@ mod letters;
 mod meter;
 mod pass;
 mod step;
+mod step_settings;
 mod word_batches;
 mod word_cache;
 
