@@ -4,17 +4,16 @@ ghost use Rattle.std.specs.Prelude.{◌≡◌, ℕ, ◌-◌, ◌≤◌, ◌<◌,
 ghost use Rattle.std.specs.List.{position, range_with_len};
 ghost use Rattle.std.specs.Option.{option_map, option_or};
 ghost use Rattle.road_plan.specs.Plan.{IsWithinLimits};
-ghost use Rattle.road_plan.specs.Settings.{Fits};
 ghost use Rattle.road_cells.specs.Array.{vehicle_at};
 ghost use Rattle.road_cells.specs.Cars.{car_of, cars_from};
 ghost use Rattle.road_ends.specs.Entries.{entry_at, road_with_entries};
 
 use crate::OutOfMemory;
 use crate::chance::has_inflow;
+use crate::step_settings::StepSettings;
 use crate::word_cache::WordCache;
 use road_cells::{Car, Road, is_blocked};
 use road_plan::limits::MOST_INLETS;
-use road_plan::{Plan, Settings};
 use std::alloc::Global;
 
 // Makes the road with the cars that enter at a step: at each inlet whose cell is empty and not blocked, and whose word
@@ -23,19 +22,18 @@ use std::alloc::Global;
 #[inline(never)]
 pub(crate) fn entered(
     alloc: Global,
-    plan: &Plan,
-    settings: &Settings,
-    step: u32,
+    at: StepSettings,
     road: &Road,
     words: &mut WordCache,
 ) -> Result<Road, OutOfMemory>
-    requires fits { Fits plan.now settings.now }
-    requires words { words.old ≡ plan.now.words }
-    ensures moving { IfOk result (λ moving. moving ≡ road_with_entries plan.now settings.now step road.now) }
-    ensures on_road { IfOk result (λ moving. length moving ≤ plan.now.cells) }
-    ensures within { IfOk result (λ _. IsWithinLimits plan.now) }
+    requires words { words.old ≡ at.plan.now.words }
+    ensures moving { IfOk result (λ moving.
+        moving ≡ road_with_entries at.entry.plan.now at.entry.settings.now at.entry.step road.now) }
+    ensures on_road { IfOk result (λ moving. length moving ≤ at.entry.plan.now.cells) }
+    ensures within { IfOk result (λ _. IsWithinLimits at.entry.plan.now) }
     ensures unchanged { words.new ≡ words.old }
 {
+    let plan = at.plan;
     words.resize_slots(road.cars().len())?;
     let mut cars = words.list(alloc);
     cars.reserve(road.cars().len() + plan.inlets().len())?;
@@ -44,7 +42,7 @@ pub(crate) fn entered(
         let inlet = next_inlet(plan.inlets(), cell, plan.length());
         copy_between(road, cell, inlet, &mut cars)?;
         if inlet < plan.length() {
-            match standing_or_entering(plan, settings, step, road, inlet, cars.len(), words)? {
+            match standing_or_entering(at, road, inlet, cars.len(), words)? {
                 Some(car) => cars.push(car)?,
                 None => {}
             }
@@ -84,40 +82,40 @@ fn next_inlet(inlets: &[(u32, u32)], cell: u32, end: u32) -> u32
 
 // Finds the car that stands at a cell, or else lets one enter there, as the one of that place in the list of cars.
 fn standing_or_entering(
-    plan: &Plan,
-    settings: &Settings,
-    step: u32,
+    at: StepSettings,
     road: &Road,
     cell: u32,
     place: usize,
     words: &mut WordCache,
 ) -> Result<Option<Car>, OutOfMemory>
-    requires fits { Fits plan.now settings.now }
-    requires words { words.old ≡ plan.now.words }
+    requires words { words.old ≡ at.plan.now.words }
     ensures car { IfOk result (λ car. car ≡ option_map (car_of cell)
-        (option_or (vehicle_at road.now cell) (entry_at plan.now settings.now step cell))) }
+        (option_or (vehicle_at road.now cell) (entry_at at.entry.plan.now at.entry.settings.now at.entry.step cell))) }
     ensures unchanged { words.new ≡ words.old }
 {
     match road.car_at(cell) {
         Some(car) => Ok(Some(car)),
-        None => entering(plan, settings, step, cell, place, words),
+        None => entering(at, cell, place, words),
     }
 }
 
 // Lets a car enter at a cell, where that is an inlet's, as the one of that place in the list of cars.
 fn entering(
-    plan: &Plan,
-    settings: &Settings,
-    step: u32,
+    at: StepSettings,
     cell: u32,
     place: usize,
     words: &mut WordCache,
 ) -> Result<Option<Car>, OutOfMemory>
-    requires fits { Fits plan.now settings.now }
-    requires words { words.old ≡ plan.now.words }
-    ensures car { IfOk result (λ car. car ≡ option_map (car_of cell) (entry_at plan.now settings.now step cell)) }
+    requires words { words.old ≡ at.plan.now.words }
+    ensures car { IfOk result (λ car.
+        car ≡ option_map (car_of cell) (entry_at at.entry.plan.now at.entry.settings.now at.entry.step cell)) }
     ensures unchanged { words.new ≡ words.old }
 {
+    let StepSettings {
+        plan,
+        settings,
+        step,
+    } = at;
     let Some(inlet) = inlet_at(plan.inlets(), cell) else {
         return Ok(None);
     };

@@ -18,6 +18,7 @@ use crate::chance::is_any_open;
 use crate::columns::{Columns, write_cells_and_speeds};
 use crate::entries::entered;
 use crate::pass::speeds;
+use crate::step_settings::StepSettings;
 use crate::word_cache::WordCache;
 use road_cells::Road;
 use road_plan::{Plan, Settings};
@@ -99,7 +100,12 @@ impl StepInput {
         ensures unchanged { words.new ≡ words.old }
     {
         words.reuse_columns(mem::replace(&mut self.columns, None));
-        let road = entered(alloc, &self.plan, &self.settings, step, road, words)?;
+        let at = StepSettings {
+            plan: &self.plan,
+            settings: &self.settings,
+            step,
+        };
+        let road = entered(alloc, at, road, words)?;
         let columns = columns_of(alloc, &self.settings, step, &road, words)?;
         words.reuse(mem::replace(&mut self.road, road));
         self.columns = columns;
@@ -151,13 +157,25 @@ impl StepInput {
     pub fn speeds_in(&self, alloc: Global, list: Vec<u8>) -> Result<Vec<u8>, OutOfMemory>
         ensures { IfOk result (λ new. new.items ≡ input_speeds self.now) }
     {
-        let (plan, settings, road) = (&self.plan, &self.settings, &self.road);
         match &self.columns {
-            Some(columns) => speeds(plan, settings, self.step, road, columns, list),
+            Some(columns) => speeds(self.at(), &self.road, columns, list),
             None => {
                 let none = Columns::empty(alloc);
-                speeds(plan, settings, self.step, road, &none, list)
+                speeds(self.at(), &self.road, &none, list)
             }
+        }
+    }
+
+    // Returns the plan, the settings and the number of the step.
+    fn at(&self) -> StepSettings<'_>
+        ensures plan { result.plan.now ≡ self.now.plan }
+        ensures settings { result.settings.now ≡ self.now.settings }
+        ensures step { result.step ≡ self.now.step }
+    {
+        StepSettings {
+            plan: &self.plan,
+            settings: &self.settings,
+            step: self.step,
         }
     }
 }
@@ -180,7 +198,12 @@ pub fn enter(
     ensures { IfOk result (λ input. arc_value input ≡ input_of (arc_value plan.now) settings step road.now) }
 {
     let mut words = WordCache::of(alloc, plan);
-    let road = entered(alloc, plan, &settings, step, road, &mut words)?;
+    let at = StepSettings {
+        plan,
+        settings: &settings,
+        step,
+    };
+    let road = entered(alloc, at, road, &mut words)?;
     let plan = Arc::try_clone(plan)?;
     let settings = Arc::new(alloc, settings)?;
     let input = StepInput {
@@ -193,68 +216,75 @@ pub fn enter(
     Ok(Arc::new(alloc, input)?)
 }
 
-/// Makes the input of a step, as [`enter`], of a run whose words are drawn for 64 steps at once. The settings must fit
-/// the plan, and the words must be the plan's.
-///
-/// # Errors
-///
-/// `OutOfMemory` where an allocation failed, of the new road, of its words or of the input, or the plan can have no
-/// more owners. The words are the plan's as before.
-pub fn enter_with(
-    alloc: Global,
-    plan: &Arc<Plan>,
-    settings: Arc<Settings>,
-    step: u32,
-    road: &Road,
-    words: &mut WordCache,
-) -> Result<Arc<StepInput>, OutOfMemory>
-    requires fits { Fits (arc_value plan.now) (arc_value settings) }
-    requires words { words.old ≡ (arc_value plan.now).words }
-    ensures input { IfOk result (λ input. arc_value input
-        ≡ input_of (arc_value plan.now) (arc_value settings) step road.now) }
-    ensures unchanged { words.new ≡ words.old }
-{
-    let road = entered(alloc, plan, &settings, step, road, words)?;
-    let columns = columns_of(alloc, &settings, step, &road, words)?;
-    let plan = Arc::try_clone(plan)?;
-    let input = StepInput {
-        plan,
-        settings,
-        step,
-        road,
-        columns,
-    };
-    Ok(Arc::new(alloc, input)?)
-}
+impl WordCache {
+    /// Makes the input of a step, as [`enter`], of a run whose words are drawn for 64 steps at once. The settings must
+    /// fit the plan, and the words must be the plan's.
+    ///
+    /// # Errors
+    ///
+    /// `OutOfMemory` where an allocation failed, of the new road, of its words or of the input, or the plan can have no
+    /// more owners. The words are the plan's as before.
+    pub fn enter(
+        &mut self,
+        alloc: Global,
+        plan: &Arc<Plan>,
+        settings: Arc<Settings>,
+        step: u32,
+        road: &Road,
+    ) -> Result<Arc<StepInput>, OutOfMemory>
+        requires fits { Fits (arc_value plan.now) (arc_value settings) }
+        requires words { self.old ≡ (arc_value plan.now).words }
+        ensures input { IfOk result (λ input. arc_value input
+            ≡ input_of (arc_value plan.now) (arc_value settings) step road.now) }
+        ensures unchanged { self.new ≡ self.old }
+    {
+        let at = StepSettings {
+            plan,
+            settings: &settings,
+            step,
+        };
+        let road = entered(alloc, at, road, self)?;
+        let columns = columns_of(alloc, &settings, step, &road, self)?;
+        let plan = Arc::try_clone(plan)?;
+        let input = StepInput {
+            plan,
+            settings,
+            step,
+            road,
+            columns,
+        };
+        Ok(Arc::new(alloc, input)?)
+    }
 
-/// Makes of an input that of another step of its plan by its settings, from the road before that step, where the input
-/// has no other owner, and answers whether it did: the plan and the settings keep their owners, and memory is used
-/// again. The words must be the plan's.
-///
-/// # Errors
-///
-/// `OutOfMemory` where an allocation failed, of the road or of its words. The input is then as it was, and the words
-/// are the plan's as before.
-pub fn enter_again(
-    alloc: Global,
-    input: &mut Arc<StepInput>,
-    step: u32,
-    road: &Road,
-    words: &mut WordCache,
-) -> Result<bool, OutOfMemory>
-    requires words { words.old ≡ (arc_value input.old).plan.words }
-    ensures input { IfOk result (λ alone. IsTrue alone → arc_value input.new
-        ≡ input_of (arc_value input.old).plan (arc_value input.old).settings step road.now) }
-    ensures shared { IfOk result (λ alone. IsFalse alone → arc_value input.new ≡ arc_value input.old) }
-    ensures kept { OnErr result (arc_value input.new ≡ arc_value input.old) }
-    ensures unchanged { words.new ≡ words.old }
-{
-    match Arc::get_mut(input) {
-        Some(own) => {
-            own.turn_to(alloc, step, road, words)?;
-            Ok(true)
+    /// Makes of an input that of another step of its plan by its settings, from the road before that step, where the
+    /// input has no other owner, and answers whether it did: the plan and the settings keep their owners, and memory is
+    /// used again. The words must be the plan's.
+    ///
+    /// # Errors
+    ///
+    /// `OutOfMemory` where an allocation failed, of the road or of its words. The input is then as it was, and the words
+    /// are the plan's as before.
+    pub fn enter_again(
+        &mut self,
+        alloc: Global,
+        input: &mut Arc<StepInput>,
+        step: u32,
+        road: &Road,
+    ) -> Result<bool, OutOfMemory>
+        requires words { self.old ≡ (arc_value input.old).plan.words }
+        ensures input { IfOk result (λ alone. IsTrue alone → arc_value input.new
+            ≡ input_of (arc_value input.old).plan (arc_value input.old).settings step road.now) }
+        ensures shared { IfOk result (λ alone. IsFalse alone → arc_value input.new ≡ arc_value input.old) }
+        ensures kept { OnErr result (arc_value input.new ≡ arc_value input.old) }
+        ensures unchanged { self.new ≡ self.old }
+    {
+        match Arc::get_mut(input) {
+            Some(own) => {
+                own.turn_to(alloc, step, road, self)?;
+                Ok(true)
+            }
+            None => Ok(false),
         }
-        None => Ok(false),
     }
 }
 

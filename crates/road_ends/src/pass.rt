@@ -2,7 +2,6 @@
 
 ghost use Rattle.std.specs.Prelude.{◌≡◌, ℕ, ◌+◌, ◌-◌, ◌*◌, ◌/◌, ◌≤◌, ◌<◌, length, min, slice_index, slice_range, IfOk};
 ghost use Rattle.std.specs.List.Sorted.{IsNonDecreasing};
-ghost use Rattle.road_plan.specs.Settings.{Fits};
 ghost use Rattle.road_cells.specs.Cars.{cars_of, cell_at};
 ghost use Rattle.road_cells.specs.Gap.{ArePartedAt};
 ghost use Rattle.road_cells.specs.declared.car.TheConstants.{GREATEST_SPEED};
@@ -11,16 +10,18 @@ ghost use Rattle.road_ends.specs.Speed.{chance_at, nth_car, speeds};
 ghost use Rattle.road_ends.specs.Private.StepColumns.{AreColumns, AreHigh16s};
 ghost use Rattle.road_ends.specs.Private.PassPlaces.{IsNthOrNowhere, AreOfZone, wanted_before};
 
+mod step_cars;
 mod stretch;
 
 use crate::OutOfMemory;
 use crate::chance::{Chances, slowed_by_chance, slowed_by_high16};
 use crate::columns::Columns;
+use crate::pass::step_cars::{Places, StepCars};
 use crate::pass::stretch::{
     first_car, first_cell, slow_by_high16s, slow_by_words, slow_without_words, write_wanted,
 };
+use crate::step_settings::StepSettings;
 use road_cells::{Car, GREATEST_SPEED, Road, reached_blocks_below};
-use road_plan::{Plan, Settings};
 use road_rules::wanted;
 use road_words::{PlanWords, Words};
 
@@ -56,21 +57,18 @@ struct Zone {
 
 // Computes the new speeds of all cars, in the order of the cars, in the memory of a list or in one allocation.
 pub(crate) fn speeds(
-    plan: &Plan,
-    settings: &Settings,
-    step: u32,
+    at: StepSettings,
     road: &Road,
     columns: &Columns,
     list: Vec<u8>,
 ) -> Result<Vec<u8>, OutOfMemory>
-    requires fits { Fits plan.now settings.now }
-    requires on_road { length road.now ≤ plan.now.cells }
-    requires high16s { AreHigh16s plan.now.words step road.now columns.now.high16s.items }
+    requires on_road { length road.now ≤ at.plan.now.cells }
+    requires high16s { AreHigh16s at.plan.now.words at.step road.now columns.now.high16s.items }
     requires columns { AreColumns road.now columns.now.cells.items columns.now.speeds.items }
-    ensures { IfOk result (λ new. new.items ≡ speeds plan.now settings.now step road.now) }
+    ensures { IfOk result (λ new. new.items ≡ speeds at.entry.plan.now at.entry.settings.now at.entry.step road.now) }
 {
     let count = road.cars().len();
-    Ok(speeds_between(plan, settings, step, road, columns, 0, count, list)?)
+    Ok(speeds_between(at, road, columns, 0, count, list)?)
 }
 
 // Computes the new speeds of the cars at the places from `first` to before `end`, in the order of the cars. It is one
@@ -80,23 +78,26 @@ pub(crate) fn speeds(
 // speed.
 #[inline(never)]
 pub(crate) fn speeds_between(
-    plan: &Plan,
-    settings: &Settings,
-    step: u32,
+    at: StepSettings,
     road: &Road,
     columns: &Columns,
     first: usize,
     end: usize,
     list: Vec<u8>,
 ) -> Result<Vec<u8>, OutOfMemory>
-    requires fits { Fits plan.now settings.now }
-    requires on_road { length road.now ≤ plan.now.cells }
-    requires high16s { AreHigh16s plan.now.words step road.now columns.now.high16s.items }
+    requires on_road { length road.now ≤ at.plan.now.cells }
+    requires high16s { AreHigh16s at.plan.now.words at.step road.now columns.now.high16s.items }
     requires columns { AreColumns road.now columns.now.cells.items columns.now.speeds.items }
     requires order { first ≤ end }
     requires within { end ≤ length (cars_of road.now) }
-    ensures { IfOk result (λ new. new.items ≡ slice_range (speeds plan.now settings.now step road.now) first end) }
+    ensures { IfOk result (λ new.
+        new.items ≡ slice_range (speeds at.entry.plan.now at.entry.settings.now at.entry.step road.now) first end) }
 {
+    let StepSettings {
+        plan,
+        settings,
+        step,
+    } = at;
     let words = PlanWords::of(plan);
     let cars = road.cars();
     let width = plan.width();
@@ -104,6 +105,12 @@ pub(crate) fn speeds_between(
     let starts = settings.starts();
     let chances = settings.chances();
     let blocks = settings.blocks();
+    let all = StepCars {
+        words: &words,
+        step,
+        list: cars,
+        columns,
+    };
     let mut new = list;
     new.resize(end - first, 0)?;
     let mut cursor = far_end(blocks, cell_at(cars, end));
@@ -115,73 +122,60 @@ pub(crate) fn speeds_between(
         cursor.block = block_ahead(blocks, car.cell, cursor.block);
         new[place - first] = new_speed(&words, step, car, &columns.high16s, place, cursor);
         let from = first_car(road, first_cell(blocks, cursor), first, place);
-        speeds_behind(
-            &words, step, cars, columns, cursor, first, from, place, &mut new,
-        );
+        let behind = Places {
+            first,
+            from,
+            to: place,
+        };
+        speeds_behind(all, cursor, behind, &mut new);
         place = from;
         cursor.next = cars[place].cell;
     }
     Ok(new)
 }
 
-// Writes the new speeds of the cars of a stretch at the places `from` to before `to`, into a list whose first car is at
-// the place `first`; the car at `to` is in front of them.
+// Writes the new speeds of the cars of a stretch; the car at the place `to` is in front of them.
 #[inline(always)]
-fn speeds_behind(
-    words: &PlanWords,
-    step: u32,
-    cars: &[Car],
-    columns: &Columns,
-    cursor: Cursor,
-    first: usize,
-    from: usize,
-    to: usize,
-    new: &mut [u8],
-)
-    requires order { from ≤ to }
-    requires front { to < length cars.now }
-    requires apart { (k : ℕ) → from ≤ k → k < to
-        → cell_at cars.now k < min (cell_at cars.now (k + 1)) cursor.block.cell }
-    requires cells { (k : ℕ) → k < length columns.now.cells.items
-        → slice_index columns.now.cells.items k ≡ cell_at cars.now k }
-    requires speeds { (k : ℕ) → k < length columns.now.speeds.items
-        → slice_index columns.now.speeds.items k ≡ (nth_car cars.now k).speed }
-    requires from { first ≤ from }
-    requires room { to - first ≤ length new.old }
+fn speeds_behind(cars: StepCars, cursor: Cursor, places: Places, new: &mut [u8])
+    requires front { places.to < length cars.list.now }
+    requires apart { (k : ℕ) → places.from ≤ k → k < places.to
+        → cell_at cars.list.now k < min (cell_at cars.list.now (k + 1)) cursor.block.cell }
+    requires room { places.to - places.first ≤ length new.old }
     ensures long { length new.new ≡ length new.old }
-    ensures rest { (k : ℕ) → to ≤ k → slice_index new.new (k - first) ≡ slice_index new.old (k - first) }
-    ensures by_high16 { to ≤ min (length columns.now.high16s.items) (length columns.now.speeds.items)
-        → (k : ℕ) → from ≤ k → k < to →
-        let wished = wanted_before cars.now cursor.zone.limit (cell_at cars.now (k + 1)) cursor.block.cell k in
-        let chance = chance_at (nth_car cars.now k).speed cursor.zone.chances.standing cursor.zone.chances.moving in
-        (word : ℕ) → (0 < wished → slice_index columns.now.high16s.items k ≡ word / 65536)
-        → slice_index new.new (k - first) ≡ slowed_speed wished (comes_about word chance) }
-    ensures by_word { min (length columns.now.high16s.items) (length columns.now.speeds.items) < to
-        → (k : ℕ) → from ≤ k → k < to →
-        let wished = wanted_before cars.now cursor.zone.limit (cell_at cars.now (k + 1)) cursor.block.cell k in
-        let chance = chance_at (nth_car cars.now k).speed cursor.zone.chances.standing cursor.zone.chances.moving in
-        let word = ⟦<PlanWords as Words>⟧.word_of words.now (nth_car cars.now k).number step in
-        slice_index new.new (k - first) ≡ slowed_speed wished (comes_about word chance) }
+    ensures rest { (k : ℕ) → places.to ≤ k
+        → slice_index new.new (k - places.first) ≡ slice_index new.old (k - places.first) }
+    ensures by_high16 { places.to
+        ≤ min (length cars.entry.columns.now.high16s.items) (length cars.entry.columns.now.speeds.items)
+        → (k : ℕ) → places.from ≤ k → k < places.to →
+        let next = cell_at cars.entry.list.now (k + 1) in
+        let wished = wanted_before cars.entry.list.now cursor.zone.limit next cursor.block.cell k in
+        let chances = cursor.zone.chances in
+        let chance = chance_at (nth_car cars.entry.list.now k).speed chances.standing chances.moving in
+        (word : ℕ) → (0 < wished → slice_index cars.entry.columns.now.high16s.items k ≡ word / 65536)
+        → slice_index new.new (k - places.first) ≡ slowed_speed wished (comes_about word chance) }
+    ensures by_word { min (length cars.entry.columns.now.high16s.items) (length cars.entry.columns.now.speeds.items)
+        < places.to
+        → (k : ℕ) → places.from ≤ k → k < places.to →
+        let next = cell_at cars.entry.list.now (k + 1) in
+        let wished = wanted_before cars.entry.list.now cursor.zone.limit next cursor.block.cell k in
+        let chances = cursor.zone.chances in
+        let chance = chance_at (nth_car cars.entry.list.now k).speed chances.standing chances.moving in
+        let number = (nth_car cars.entry.list.now k).number in
+        let word = ⟦<PlanWords as Words>⟧.word_of cars.entry.words.now number cars.entry.step in
+        slice_index new.new (k - places.first) ≡ slowed_speed wished (comes_about word chance) }
 {
-    if from == to {
+    if places.from == places.to {
         return;
     }
-    write_wanted(cars, columns, cursor, first, from, to, new);
+    write_wanted(cars, cursor, places, new);
     let chances = cursor.zone.chances;
-    if to <= columns.high16s.len().min(columns.speeds.len()) {
-        slow_by_high16s(
-            &columns.high16s,
-            &columns.speeds,
-            chances,
-            first,
-            from,
-            to,
-            new,
-        );
+    let columns = cars.columns;
+    if places.to <= columns.high16s.len().min(columns.speeds.len()) {
+        slow_by_high16s(&columns.high16s, &columns.speeds, chances, places, new);
     } else if chances.are_closed() {
-        slow_without_words(cars, chances, first, from, to, new);
+        slow_without_words(cars.list, chances, places, new);
     } else {
-        slow_by_words(words, step, cars, chances, first, from, to, new);
+        slow_by_words(cars, chances, places, new);
     }
 }
 

@@ -321,8 +321,7 @@ fn filled(
     requires high16s { length high16s.old ≡ length cars.now }
     requires from { from ≤ length cars.now }
     ensures long { length high16s.new ≡ length cars.now }
-    ensures after { from ≤ result }
-    ensures within { result ≤ length cars.now }
+    ensures place { (from ≤ result) × (result ≤ length cars.now) }
     ensures before { (k : ℕ) → k < from → slice_index high16s.new k ≡ slice_index high16s.old k }
     ensures are { (k : ℕ) → from ≤ k → k < result →
         IsHigh16 batches.now.kind step cars.now k (slice_index high16s.new k) }

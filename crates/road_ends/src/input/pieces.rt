@@ -29,15 +29,12 @@ impl StepInput {
         requires within { end ≤ length (cars_of self.now.road) }
         ensures { IfOk result (λ new. new.items ≡ input_speeds_between self.now first end) }
     {
-        let (plan, settings, road) = (&self.plan, &self.settings, &self.road);
         let list = Vec::new(alloc);
         match &self.columns {
-            Some(columns) => {
-                speeds_between(plan, settings, self.step, road, columns, first, end, list)
-            }
+            Some(columns) => speeds_between(self.at(), &self.road, columns, first, end, list),
             None => {
                 let none = Columns::empty(alloc);
-                speeds_between(plan, settings, self.step, road, &none, first, end, list)
+                speeds_between(self.at(), &self.road, &none, first, end, list)
             }
         }
     }

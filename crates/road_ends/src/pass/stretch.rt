@@ -11,7 +11,7 @@ ghost use Rattle.road_ends.specs.Speed.{chance_at, nth_car};
 ghost use Rattle.road_ends.specs.Private.PassPlaces.{is_closed, wanted_before};
 
 use crate::chance::{Chances, slowed_by_chance, slowed_by_high16, slowed_without_word};
-use crate::columns::Columns;
+use crate::pass::step_cars::{Places, StepCars};
 use crate::pass::{Cursor, free_between};
 use road_cells::{Car, GREATEST_SPEED, Road};
 use road_rules::wanted;
@@ -52,74 +52,46 @@ pub(super) fn first_car(road: &Road, cell: u32, first: usize, end: usize) -> usi
     road.cars_before(cell).max(first).min(end)
 }
 
-// Applies rules 1 and 2 to the cars at the places `from` to before `to`, in a list whose first car is at the place
-// `first`: by the columns, where there are some.
-pub(super) fn write_wanted(
-    cars: &[Car],
-    columns: &Columns,
-    cursor: Cursor,
-    first: usize,
-    from: usize,
-    to: usize,
-    new: &mut [u8],
-)
-    requires order { from ≤ to }
-    requires front { to < length cars.now }
-    requires apart { (k : ℕ) → from ≤ k → k < to
-        → cell_at cars.now k < min (cell_at cars.now (k + 1)) cursor.block.cell }
-    requires cells { (k : ℕ) → k < length columns.now.cells.items
-        → slice_index columns.now.cells.items k ≡ cell_at cars.now k }
-    requires speeds { (k : ℕ) → k < length columns.now.speeds.items
-        → slice_index columns.now.speeds.items k ≡ (nth_car cars.now k).speed }
-    requires from { first ≤ from }
-    requires room { to - first ≤ length new.old }
+// Applies rules 1 and 2 to these cars: by the columns, where there are some.
+pub(super) fn write_wanted(cars: StepCars, cursor: Cursor, places: Places, new: &mut [u8])
+    requires front { places.to < length cars.list.now }
+    requires apart { (k : ℕ) → places.from ≤ k → k < places.to
+        → cell_at cars.list.now k < min (cell_at cars.list.now (k + 1)) cursor.block.cell }
+    requires room { places.to - places.first ≤ length new.old }
     ensures long { length new.new ≡ length new.old }
-    ensures rest { (k : ℕ) → to ≤ k → slice_index new.new (k - first) ≡ slice_index new.old (k - first) }
-    ensures wanted { (k : ℕ) → from ≤ k → k < to →
-        slice_index new.new (k - first)
-        ≡ wanted_before cars.now cursor.zone.limit (cell_at cars.now (k + 1)) cursor.block.cell k }
+    ensures rest { (k : ℕ) → places.to ≤ k
+        → slice_index new.new (k - places.first) ≡ slice_index new.old (k - places.first) }
+    ensures wanted { (k : ℕ) → places.from ≤ k → k < places.to →
+        slice_index new.new (k - places.first)
+        ≡ wanted_before cars.entry.list.now cursor.zone.limit (cell_at cars.entry.list.now (k + 1))
+        cursor.block.cell k }
 {
-    if to < columns.cells.len() && to <= columns.speeds.len() {
-        write_wanted_by_columns(
-            &columns.cells,
-            &columns.speeds,
-            cursor,
-            first,
-            from,
-            to,
-            new,
-        );
+    let columns = cars.columns;
+    if places.to < columns.cells.len() && places.to <= columns.speeds.len() {
+        write_wanted_by_columns(&columns.cells, &columns.speeds, cursor, places, new);
     } else {
-        write_wanted_by_cars(cars, cursor, first, from, to, new);
+        write_wanted_by_cars(cars.list, cursor, places, new);
     }
 }
 
 // Applies them by the list of cars.
-fn write_wanted_by_cars(
-    cars: &[Car],
-    cursor: Cursor,
-    first: usize,
-    from: usize,
-    to: usize,
-    new: &mut [u8],
-)
-    requires order { from ≤ to }
-    requires front { to < length cars.now }
-    requires apart { (k : ℕ) → from ≤ k → k < to
+fn write_wanted_by_cars(cars: &[Car], cursor: Cursor, places: Places, new: &mut [u8])
+    requires front { places.to < length cars.now }
+    requires apart { (k : ℕ) → places.from ≤ k → k < places.to
         → cell_at cars.now k < min (cell_at cars.now (k + 1)) cursor.block.cell }
-    requires from { first ≤ from }
-    requires room { to - first ≤ length new.old }
+    requires room { places.to - places.first ≤ length new.old }
     ensures long { length new.new ≡ length new.old }
-    ensures rest { (k : ℕ) → to ≤ k → slice_index new.new (k - first) ≡ slice_index new.old (k - first) }
-    ensures wanted { (k : ℕ) → from ≤ k → k < to →
-        slice_index new.new (k - first)
+    ensures rest { (k : ℕ) → places.to ≤ k
+        → slice_index new.new (k - places.first) ≡ slice_index new.old (k - places.first) }
+    ensures wanted { (k : ℕ) → places.from ≤ k → k < places.to →
+        slice_index new.new (k - places.first)
         ≡ wanted_before cars.now cursor.zone.limit (cell_at cars.now (k + 1)) cursor.block.cell k }
 {
-    for place in from..to {
+    for place in places.from..places.to {
         let car = cars[place];
         let next = cars[place + 1].cell;
         let free = free_between(car.cell, next.min(cursor.block.cell));
-        new[place - first] = wanted(car.speed, cursor.zone.limit, free);
+        new[place - places.first] = wanted(car.speed, cursor.zone.limit, free);
     }
 }
 
@@ -128,31 +100,28 @@ fn write_wanted_by_columns(
     cells: &[u16],
     speeds: &[u8],
     cursor: Cursor,
-    first: usize,
-    from: usize,
-    to: usize,
+    places: Places,
     new: &mut [u8],
 )
-    requires order { from ≤ to }
-    requires front { to < length cells.now }
-    requires speeds { to ≤ length speeds.now }
-    requires apart { (k : ℕ) → from ≤ k → k < to
+    requires front { places.to < length cells.now }
+    requires speeds { places.to ≤ length speeds.now }
+    requires apart { (k : ℕ) → places.from ≤ k → k < places.to
         → slice_index cells.now k < min (slice_index cells.now (k + 1)) cursor.block.cell }
-    requires from { first ≤ from }
-    requires room { to - first ≤ length new.old }
+    requires room { places.to - places.first ≤ length new.old }
     ensures long { length new.new ≡ length new.old }
-    ensures rest { (k : ℕ) → to ≤ k → slice_index new.new (k - first) ≡ slice_index new.old (k - first) }
-    ensures wanted { (k : ℕ) → from ≤ k → k < to → slice_index new.new (k - first)
+    ensures rest { (k : ℕ) → places.to ≤ k
+        → slice_index new.new (k - places.first) ≡ slice_index new.old (k - places.first) }
+    ensures wanted { (k : ℕ) → places.from ≤ k → k < places.to → slice_index new.new (k - places.first)
         ≡ wanted_speed (slice_index speeds.now k) cursor.zone.limit
         (min GREATEST_SPEED (min (slice_index cells.now (k + 1)) cursor.block.cell - (slice_index cells.now k + 1))) }
 {
     let limit = cursor.zone.limit.min(GREATEST_NARROW) as u16;
     let block = cursor.block.cell.min(GREATEST_NARROW) as u16;
-    for place in from..to {
+    for place in places.from..places.to {
         let next = cells[place + 1].min(block);
         let free = (next - cells[place] - 1).min(u16::from(GREATEST_SPEED));
         let faster = u16::from(speeds[place]) + 1;
-        new[place - first] = faster.min(limit).min(free) as u8;
+        new[place - places.first] = faster.min(limit).min(free) as u8;
     }
 }
 
@@ -161,81 +130,71 @@ pub(super) fn slow_by_high16s(
     high16s: &[u16],
     speeds: &[u8],
     chances: Chances,
-    first: usize,
-    from: usize,
-    to: usize,
+    places: Places,
     new: &mut [u8],
 )
-    requires order { from ≤ to }
-    requires high16s { to ≤ length high16s.now }
-    requires speeds { to ≤ length speeds.now }
-    requires from { first ≤ from }
-    requires room { to - first ≤ length new.old }
+    requires high16s { places.to ≤ length high16s.now }
+    requires speeds { places.to ≤ length speeds.now }
+    requires room { places.to - places.first ≤ length new.old }
     ensures long { length new.new ≡ length new.old }
-    ensures rest { (k : ℕ) → to ≤ k → slice_index new.new (k - first) ≡ slice_index new.old (k - first) }
-    ensures slowed { (k : ℕ) → from ≤ k → k < to → (word : ℕ)
-        → (0 < slice_index new.old (k - first) → slice_index high16s.now k ≡ word / 65536)
-        → slice_index new.new (k - first) ≡ slowed_speed (slice_index new.old (k - first))
+    ensures rest { (k : ℕ) → places.to ≤ k
+        → slice_index new.new (k - places.first) ≡ slice_index new.old (k - places.first) }
+    ensures slowed { (k : ℕ) → places.from ≤ k → k < places.to → (word : ℕ)
+        → (0 < slice_index new.old (k - places.first) → slice_index high16s.now k ≡ word / 65536)
+        → slice_index new.new (k - places.first) ≡ slowed_speed (slice_index new.old (k - places.first))
         (comes_about word (chance_at (slice_index speeds.now k) chances.standing chances.moving)) }
 {
-    for place in from..to {
+    for place in places.from..places.to {
         let chance = chances.at(speeds[place]);
-        new[place - first] = slowed_by_high16(high16s[place], new[place - first], chance);
+        new[place - places.first] = slowed_by_high16(
+            high16s[place],
+            new[place - places.first],
+            chance,
+        );
     }
 }
 
 // Applies rule 3 to these cars, by chances that leave nothing to their words.
-pub(super) fn slow_without_words(
-    cars: &[Car],
-    chances: Chances,
-    first: usize,
-    from: usize,
-    to: usize,
-    new: &mut [u8],
-)
-    requires order { from ≤ to }
-    requires cars { to ≤ length cars.now }
+pub(super) fn slow_without_words(cars: &[Car], chances: Chances, places: Places, new: &mut [u8])
+    requires cars { places.to ≤ length cars.now }
     requires closed { (is_closed chances.standing && is_closed chances.moving) ≡ true }
-    requires from { first ≤ from }
-    requires room { to - first ≤ length new.old }
+    requires room { places.to - places.first ≤ length new.old }
     ensures long { length new.new ≡ length new.old }
-    ensures rest { (k : ℕ) → to ≤ k → slice_index new.new (k - first) ≡ slice_index new.old (k - first) }
-    ensures slowed { (k : ℕ) → from ≤ k → k < to → (word : ℕ) → word < 2 ^ 32
-        → slice_index new.new (k - first) ≡ slowed_speed (slice_index new.old (k - first))
+    ensures rest { (k : ℕ) → places.to ≤ k
+        → slice_index new.new (k - places.first) ≡ slice_index new.old (k - places.first) }
+    ensures slowed { (k : ℕ) → places.from ≤ k → k < places.to → (word : ℕ) → word < 2 ^ 32
+        → slice_index new.new (k - places.first) ≡ slowed_speed (slice_index new.old (k - places.first))
         (comes_about word (chance_at (nth_car cars.now k).speed chances.standing chances.moving)) }
 {
-    for place in from..to {
+    for place in places.from..places.to {
         let chance = chances.at(cars[place].speed);
-        new[place - first] = slowed_without_word(new[place - first], chance);
+        new[place - places.first] = slowed_without_word(new[place - places.first], chance);
     }
 }
 
 // Applies rule 3 to these cars, by their words.
-pub(super) fn slow_by_words(
-    words: &PlanWords,
-    step: u32,
-    cars: &[Car],
-    chances: Chances,
-    first: usize,
-    from: usize,
-    to: usize,
-    new: &mut [u8],
-)
-    requires order { from ≤ to }
-    requires cars { to ≤ length cars.now }
-    requires from { first ≤ from }
-    requires room { to - first ≤ length new.old }
+pub(super) fn slow_by_words(cars: StepCars, chances: Chances, places: Places, new: &mut [u8])
+    requires cars { places.to ≤ length cars.list.now }
+    requires room { places.to - places.first ≤ length new.old }
     ensures long { length new.new ≡ length new.old }
-    ensures rest { (k : ℕ) → to ≤ k → slice_index new.new (k - first) ≡ slice_index new.old (k - first) }
-    ensures slowed { (k : ℕ) → from ≤ k → k < to →
-        slice_index new.new (k - first) ≡ slowed_speed (slice_index new.old (k - first))
-        (comes_about (⟦<PlanWords as Words>⟧.word_of words.now (nth_car cars.now k).number step)
-        (chance_at (nth_car cars.now k).speed chances.standing chances.moving)) }
+    ensures rest { (k : ℕ) → places.to ≤ k
+        → slice_index new.new (k - places.first) ≡ slice_index new.old (k - places.first) }
+    ensures slowed { (k : ℕ) → places.from ≤ k → k < places.to →
+        slice_index new.new (k - places.first) ≡ slowed_speed (slice_index new.old (k - places.first))
+        (comes_about
+        (⟦<PlanWords as Words>⟧.word_of cars.entry.words.now (nth_car cars.entry.list.now k).number cars.entry.step)
+        (chance_at (nth_car cars.entry.list.now k).speed chances.standing chances.moving)) }
 {
-    for place in from..to {
-        let car = cars[place];
-        let wished = new[place - first];
+    for place in places.from..places.to {
+        let car = cars.list[place];
+        let wished = new[place - places.first];
         let chance = chances.at(car.speed);
-        new[place - first] = slowed_by_chance(words, car.number, u64::from(step), wished, chance);
+        new[place - places.first] = slowed_by_chance(
+            cars.words,
+            car.number,
+            u64::from(cars.step),
+            wished,
+            chance,
+        );
     }
 }

@@ -16,22 +16,22 @@ use Rattle.road_ends.proofs.entries.entered.Goals.{then-inlet-length+in_ok-car+i
 
 pub loop-cell-init : goal.loop-cell-init
 loop-cell-init c =
-    let f = λ (c' : ℕ). option_or (vehicle_at c.args.road.now c') (entry_at c.args.plan.now c.args.settings.now c.args.step c') in
+    let f = λ (c' : ℕ). option_or (vehicle_at c.args.road.now c') (entry_at c.args.at.plan.now c.args.at.settings.now c.args.at.step c') in
     record {
-      cars = ap (λ cars. cars ++ cars_left f c.args.plan.now.cells 0) (c.in_ok-reserve.ensures.items ∙ c.list-cars.ensures.empty) ∙ all_left f c.args.plan.now.cells;
+      cars = ap (λ cars. cars ++ cars_left f c.args.at.plan.now.cells 0) (c.in_ok-reserve.ensures.items ∙ c.list-cars.ensures.empty) ∙ all_left f c.args.at.plan.now.cells;
       words = c.list-cars.ensures.unchanged ∙ c.resize_slots.ensures;
     }
 
 pub loop-cell-preserved : goal.loop-cell-preserved
 loop-cell-preserved c =
     let a = c.args.road.now in
-    let f = λ (c' : ℕ). option_or (vehicle_at c.args.road.now c') (entry_at c.args.plan.now c.args.settings.now c.args.step c') in
-    let n = c.args.plan.now.cells in
+    let f = λ (c' : ℕ). option_or (vehicle_at c.args.road.now c') (entry_at c.args.at.plan.now c.args.at.settings.now c.args.at.step c') in
+    let n = c.args.at.plan.now.cells in
     let inlet = c.next_inlet-inlet.result in
     let cars = c.copy_between.new.cars.items in
     let within : inlet ≤ n = let low = c.next_inlet-inlet.ensures.within in let end = c.length-in-loop-cell.ensures.cells in omega arith in
     let copied = cars_up_to f (vehicle_at a) n c.loop-cell.cell inlet c.loop-cell.cars.items cars _ c.next_inlet-inlet.ensures.from within
-    (λ cell low high. nobody_enters c.args.plan.now c.args.settings.now c.args.step a cell (subst (λ inlets. position (λ x. nat_eq cell x.0) inlets ≡ None) c.inlets-in-loop-cell.ensures.inlets (c.next_inlet-inlet.ensures.first cell low high)))
+    (λ cell low high. nobody_enters c.args.at.plan.now c.args.at.settings.now c.args.at.step a cell (subst (λ inlets. position (λ x. nat_eq cell x.0) inlets ≡ None) c.inlets-in-loop-cell.ensures.inlets (c.next_inlet-inlet.ensures.first cell low high)))
     c.in_ok-copy_between.ensures
     c.loop-cell.invariant.cars in
     record {
@@ -55,20 +55,20 @@ loop-cell-preserved c =
 
 pub of-requires : goal.of-requires
 of-requires c =
-    let f = λ (c' : ℕ). option_or (vehicle_at c.args.road.now c') (entry_at c.args.plan.now c.args.settings.now c.args.step c') in
-    let past : c.args.plan.now.cells ≤ c.loop-cell.cell = let end = c.length.ensures.cells in let test = c.loop-cell-test.false in omega arith in
-    subst AreRising (sym (all_here f c.args.plan.now.cells c.loop-cell.cell c.loop-cell.cars.items _ past c.loop-cell.invariant.cars)) (rise-cars_from 0 (map f (range_with_len 0 c.args.plan.now.cells)))
+    let f = λ (c' : ℕ). option_or (vehicle_at c.args.road.now c') (entry_at c.args.at.plan.now c.args.at.settings.now c.args.at.step c') in
+    let past : c.args.at.plan.now.cells ≤ c.loop-cell.cell = let end = c.length.ensures.cells in let test = c.loop-cell-test.false in omega arith in
+    subst AreRising (sym (all_here f c.args.at.plan.now.cells c.loop-cell.cell c.loop-cell.cars.items _ past c.loop-cell.invariant.cars)) (rise-cars_from 0 (map f (range_with_len 0 c.args.at.plan.now.cells)))
 
 pub returns-clause-moving : goal.returns-clause-moving
 returns-clause-moving c =
-    let f = λ (c' : ℕ). option_or (vehicle_at c.args.road.now c') (entry_at c.args.plan.now c.args.settings.now c.args.step c') in
-    let past : c.args.plan.now.cells ≤ c.loop-cell.cell = let end = c.length.ensures.cells in let test = c.loop-cell-test.false in omega arith in
-    c.of.ensures.road ∙ ap array_of (all_here f c.args.plan.now.cells c.loop-cell.cell c.loop-cell.cars.items _ past c.loop-cell.invariant.cars) ∙ array_of-cars_from c.args.plan.now.cells f
+    let f = λ (c' : ℕ). option_or (vehicle_at c.args.road.now c') (entry_at c.args.at.plan.now c.args.at.settings.now c.args.at.step c') in
+    let past : c.args.at.plan.now.cells ≤ c.loop-cell.cell = let end = c.length.ensures.cells in let test = c.loop-cell-test.false in omega arith in
+    c.of.ensures.road ∙ ap array_of (all_here f c.args.at.plan.now.cells c.loop-cell.cell c.loop-cell.cars.items _ past c.loop-cell.invariant.cars) ∙ array_of-cars_from c.args.at.plan.now.cells f
 
 pub returns-clause-on_road : goal.returns-clause-on_road
 returns-clause-on_road c =
-    let f = λ (c' : ℕ). option_or (vehicle_at c.args.road.now c') (entry_at c.args.plan.now c.args.settings.now c.args.step c') in
-    let past : c.args.plan.now.cells ≤ c.loop-cell.cell = let end = c.length.ensures.cells in let test = c.loop-cell-test.false in omega arith in
-    subst (λ a. length a ≤ c.args.plan.now.cells)
-    (sym (c.of.ensures.road ∙ ap array_of (all_here f c.args.plan.now.cells c.loop-cell.cell c.loop-cell.cars.items _ past c.loop-cell.invariant.cars) ∙ array_of-cars_from c.args.plan.now.cells f))
-    (length-array c.args.plan.now.cells f)
+    let f = λ (c' : ℕ). option_or (vehicle_at c.args.road.now c') (entry_at c.args.at.plan.now c.args.at.settings.now c.args.at.step c') in
+    let past : c.args.at.plan.now.cells ≤ c.loop-cell.cell = let end = c.length.ensures.cells in let test = c.loop-cell-test.false in omega arith in
+    subst (λ a. length a ≤ c.args.at.plan.now.cells)
+    (sym (c.of.ensures.road ∙ ap array_of (all_here f c.args.at.plan.now.cells c.loop-cell.cell c.loop-cell.cars.items _ past c.loop-cell.invariant.cars) ∙ array_of-cars_from c.args.at.plan.now.cells f))
+    (length-array c.args.at.plan.now.cells f)

@@ -3,4 +3,4 @@ use Rattle.road_ends.proofs.StepByCars.{not_falling}
 use Rattle.road_ends.proofs.entries.entering.Goals as goal
 
 pub is_blocked-requires : goal.is_blocked-requires
-is_blocked-requires c = rw c.blocks-2.ensures (not_falling c.args.settings.now.blocks c.requires.fits.blocks_rise)
+is_blocked-requires c = rw c.blocks-2.ensures (not_falling c.args.at.settings.now.blocks c.args.at.fits.blocks_rise)

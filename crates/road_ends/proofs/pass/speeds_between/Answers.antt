@@ -25,8 +25,8 @@ zone_at-cursor-requires-clause-limits c =
     let most = c.loop-place-test.true in
     let last = c.loop-place.invariant.to_end in
     let within = c.requires.within in
-    let inside = zone_in_plan c.args.plan.now c.args.road.now c.cars-cars.result.now (c.loop-place.place - 1) c.width-width.result c.width-width.ensures.within c.requires.on_road (omega arith) c.cars-cars.ensures.all c.width-width.ensures.width in
-    let each = c.requires.fits.speed_limit_each in
+    let inside = zone_in_plan c.args.at.plan.now c.args.road.now c.cars-cars.result.now (c.loop-place.place - 1) c.width-width.result c.width-width.ensures.within c.requires.on_road (omega arith) c.cars-cars.ensures.all c.width-width.ensures.width in
+    let each = c.args.at.fits.speed_limit_each in
     let read = ap length c.limits-limits.ensures in
     omega arith
 
@@ -36,8 +36,8 @@ zone_at-cursor-requires-clause-chances c =
     let most = c.loop-place-test.true in
     let last = c.loop-place.invariant.to_end in
     let within = c.requires.within in
-    let inside = zone_in_plan c.args.plan.now c.args.road.now c.cars-cars.result.now (c.loop-place.place - 1) c.width-width.result c.width-width.ensures.within c.requires.on_road (omega arith) c.cars-cars.ensures.all c.width-width.ensures.width in
-    let each = c.requires.fits.chance_each in
+    let inside = zone_in_plan c.args.at.plan.now c.args.road.now c.cars-cars.result.now (c.loop-place.place - 1) c.width-width.result c.width-width.ensures.within c.requires.on_road (omega arith) c.cars-cars.ensures.all c.width-width.ensures.width in
+    let each = c.args.at.fits.chance_each in
     let read = ap length c.chances-chances.ensures in
     omega arith
 
@@ -47,8 +47,8 @@ zone_at-cursor-requires-clause-starts c =
     let most = c.loop-place-test.true in
     let last = c.loop-place.invariant.to_end in
     let within = c.requires.within in
-    let inside = zone_in_plan c.args.plan.now c.args.road.now c.cars-cars.result.now (c.loop-place.place - 1) c.width-width.result c.width-width.ensures.within c.requires.on_road (omega arith) c.cars-cars.ensures.all c.width-width.ensures.width in
-    let each = c.requires.fits.start_each in
+    let inside = zone_in_plan c.args.at.plan.now c.args.road.now c.cars-cars.result.now (c.loop-place.place - 1) c.width-width.result c.width-width.ensures.within c.requires.on_road (omega arith) c.cars-cars.ensures.all c.width-width.ensures.width in
+    let each = c.args.at.fits.start_each in
     let read = ap length c.starts-starts.ensures in
     omega arith
 
@@ -67,10 +67,10 @@ zone_at-cursor-requires-clause-last c = λ cell after before.
     }
 
 pub block_ahead-cursor-requires-clause-rising : goal.block_ahead-cursor-requires-clause-rising
-block_ahead-cursor-requires-clause-rising c = rw c.blocks-blocks.ensures (not_falling c.args.settings.now.blocks c.requires.fits.blocks_rise)
+block_ahead-cursor-requires-clause-rising c = rw c.blocks-blocks.ensures (not_falling c.args.at.settings.now.blocks c.args.at.fits.blocks_rise)
 
 pub first_cell-requires-clause-rising : goal.first_cell-requires-clause-rising
-first_cell-requires-clause-rising c = rw c.blocks-blocks.ensures (not_falling c.args.settings.now.blocks c.requires.fits.blocks_rise)
+first_cell-requires-clause-rising c = rw c.blocks-blocks.ensures (not_falling c.args.at.settings.now.blocks c.args.at.fits.blocks_rise)
 
 pub new_speed-requires-clause-next : goal.new_speed-requires-clause-next
 new_speed-requires-clause-next c =
@@ -145,8 +145,8 @@ loop-place-init c =
 
 pub loop-place-preserved : goal.loop-place-preserved
 loop-place-preserved c =
-    let p = c.args.plan.now in
-    let s = c.args.settings.now in
+    let p = c.args.at.plan.now in
+    let s = c.args.at.settings.now in
     let a = c.args.road.now in
     let place = c.loop-place.place in
     let front = place - 1 in
@@ -196,26 +196,26 @@ loop-place-preserved c =
     let in_start = c.zone_at-cursor.ensures.start in
     let few = ap length c.blocks-blocks.ensures in
     let bound = c.block_ahead-cursor.ensures.bound in
-    let rising = not_falling s.blocks c.requires.fits.blocks_rise in
-    let at_front : c.new_speed.result ≡ slice_index (speeds p s c.args.step a) front =
-    pass_speed p s c.args.step a (source_word c.of-words.result) c.cars-cars.result.now c.deref.result.now front block.reached c.loop-place.cursor.next block.cell (zone_of p (cell_at (cars_of a) front)) zone.limit zone.chances.standing zone.chances.moving c.new_speed.result
-    c.requires.fits on_road (omega arith) rising (subst (λ (xs : List ℕ). AreHigh16s p.words c.args.step a xs) (sym c.deref.ensures.value) c.requires.high16s) c.of-words.ensures c.cars-cars.ensures.all below parted ahead named refl (alike (cell_at (cars_of a) front) (omega arith) (omega arith))
-    c.new_speed.ensures.by_high16 c.new_speed.ensures.by_word ∙ sym (speed_at p s c.args.step a front below) in
-    let in_stretch : (k : ℕ) → from ≤ k → k < front → slice_index new (k - first) ≡ slice_index (speeds p s c.args.step a) k =
+    let rising = not_falling s.blocks c.args.at.fits.blocks_rise in
+    let at_front : c.new_speed.result ≡ slice_index (speeds p s c.args.at.step a) front =
+    pass_speed p s c.args.at.step a (source_word c.of-words.result) c.cars-cars.result.now c.deref.result.now front block.reached c.loop-place.cursor.next block.cell (zone_of p (cell_at (cars_of a) front)) zone.limit zone.chances.standing zone.chances.moving c.new_speed.result
+    c.args.at.fits on_road (omega arith) rising (subst (λ (xs : List ℕ). AreHigh16s p.words c.args.at.step a xs) (sym c.deref.ensures.value) c.requires.high16s) c.of-words.ensures c.cars-cars.ensures.all below parted ahead named refl (alike (cell_at (cars_of a) front) (omega arith) (omega arith))
+    c.new_speed.ensures.by_high16 c.new_speed.ensures.by_word ∙ sym (speed_at p s c.args.at.step a front below) in
+    let in_stretch : (k : ℕ) → from ≤ k → k < front → slice_index new (k - first) ≡ slice_index (speeds p s c.args.at.step a) k =
     λ k after before.
     let behind = c.first_car-from.ensures.behind k after before in
-    stretch_speed p s c.args.step a (source_word c.of-words.result) c.cars-cars.result.now c.args.columns.now.high16s.items k front block.reached block.cell zone.start zone.limit zone.chances.standing zone.chances.moving c.first_cell.result (min (length c.args.columns.now.high16s.items) (length c.args.columns.now.speeds.items)) (slice_index new (k - first))
-    c.requires.fits on_road (omega arith) rising c.requires.high16s c.of-words.ensures c.cars-cars.ensures.all before below parted named alike
+    stretch_speed p s c.args.at.step a (source_word c.of-words.result) c.cars-cars.result.now c.args.columns.now.high16s.items k front block.reached block.cell zone.start zone.limit zone.chances.standing zone.chances.moving c.first_cell.result (min (length c.args.columns.now.high16s.items) (length c.args.columns.now.speeds.items)) (slice_index new (k - first))
+    c.args.at.fits on_road (omega arith) rising c.requires.high16s c.of-words.ensures c.cars-cars.ensures.all before below parted named alike
     c.first_cell.ensures.zone (λ i less. subst (λ (xs : List ℕ). slice_index xs i ≤ c.first_cell.result) c.blocks-blocks.ensures (c.first_cell.ensures.reached i less)) behind (omega arith)
     (λ more. c.speeds_behind.ensures.by_high16 more k after before) (λ none. c.speeds_behind.ensures.by_word none k after before)
-    ∙ sym (speed_at p s c.args.step a k (omega arith)) in
-    let done : (k : ℕ) → from ≤ k → k < end → slice_index new (k - first) ≡ slice_index (speeds p s c.args.step a) k =
-    λ k after before. elim (cases_lt k front) as (λ _. slice_index new (k - first) ≡ slice_index (speeds p s c.args.step a) k) [
+    ∙ sym (speed_at p s c.args.at.step a k (omega arith)) in
+    let done : (k : ℕ) → from ≤ k → k < end → slice_index new (k - first) ≡ slice_index (speeds p s c.args.at.step a) k =
+    λ k after before. elim (cases_lt k front) as (λ _. slice_index new (k - first) ≡ slice_index (speeds p s c.args.at.step a) k) [
       | inl behind ↦ in_stretch k after behind
-      | inr more ↦ c.speeds_behind.ensures.rest k more ∙ ap (λ xs. slice_index xs (k - first)) c.deref_mut.ensures.value ∙ elim (cases_lt front k) as (λ _. slice_index put (k - first) ≡ slice_index (speeds p s c.args.step a) k) [
+      | inr more ↦ c.speeds_behind.ensures.rest k more ∙ ap (λ xs. slice_index xs (k - first)) c.deref_mut.ensures.value ∙ elim (cases_lt front k) as (λ _. slice_index put (k - first) ≡ slice_index (speeds p s c.args.at.step a) k) [
         | inl past ↦ get_or-set_other old (front - first) (k - first) c.new_speed.result 0 (λ is. absurd (omega arith)) ∙ c.loop-place.invariant.done k (omega arith) before
         | inr this ↦ let is : k ≡ front = omega arith in
-            get_or-set_at old (front - first) (k - first) c.new_speed.result 0 (ap (λ n. n - first) is) room ∙ at_front ∙ ap (slice_index (speeds p s c.args.step a)) (sym is)
+            get_or-set_at old (front - first) (k - first) c.new_speed.result 0 (ap (λ n. n - first) is) room ∙ at_front ∙ ap (slice_index (speeds p s c.args.at.step a)) (sym is)
       ]
     ] in
     record {
@@ -239,5 +239,5 @@ pub returns : goal.returns
 returns c =
     let first = c.loop-place.invariant.from_first in
     let end = c.loop-place-test.false in
-    speeds_of_piece c.args.plan.now c.args.settings.now c.args.step c.args.road.now c.loop-place.new.items c.args.first c.args.end c.requires.order c.requires.within c.loop-place.invariant.one_each
+    speeds_of_piece c.args.at.plan.now c.args.at.settings.now c.args.at.step c.args.road.now c.loop-place.new.items c.args.first c.args.end c.requires.order c.requires.within c.loop-place.invariant.one_each
     (λ k after before. c.loop-place.invariant.done k (omega arith) before)

@@ -9,7 +9,7 @@ use Rattle.road_ends.proofs.pass.stretch.slow_by_words.Given as goal
 abbrev pub invariant-loop-place : goal.invariant-loop-place
 invariant-loop-place l = record {
   long : length l.new ≡ length l.fn.new;
-  rest : (k : ℕ) → l.place ≤ k → slice_index l.new (k - l.first) ≡ slice_index l.fn.new (k - l.first);
-  slowed : (k : ℕ) → l.from ≤ k → k < l.place
-      → slice_index l.new (k - l.first) ≡ slowed_speed (slice_index l.fn.new (k - l.first)) (comes_about (source_word l.words (nth_car l.cars k).number l.step) (chance_at (nth_car l.cars k).speed l.chances.standing l.chances.moving));
+  rest : (k : ℕ) → l.place ≤ k → slice_index l.new (k - l.places.first) ≡ slice_index l.fn.new (k - l.places.first);
+  slowed : (k : ℕ) → l.places.from ≤ k → k < l.place
+      → slice_index l.new (k - l.places.first) ≡ slowed_speed (slice_index l.fn.new (k - l.places.first)) (comes_about (source_word l.cars.words.now (nth_car l.cars.list.now k).number l.cars.step) (chance_at (nth_car l.cars.list.now k).speed l.chances.standing l.chances.moving));
 }
