@@ -25,6 +25,7 @@ pub mod laws;
 mod letters;
 mod meter;
 mod pass;
+mod span;
 mod step;
 mod word_batches;
 mod word_cache;
@@ -33,6 +34,7 @@ pub use alone::{Stepped, step_alone};
 pub use input::{StepInput, enter, enter_again, enter_with};
 pub use letters::{BLOCKED, EMPTY, STANDING};
 pub use meter::Meter;
+pub use span::Span;
 pub use word_cache::WordCache;
 /// Out of memory: an allocation failed.
 pub use std::alloc::AllocError as OutOfMemory;
