@@ -8,7 +8,8 @@ use Rattle.road_cells.specs.Array.{Array}
 use Rattle.road_cells.specs.Cars.{cars_before, cars_of}
 use Rattle.road_cells.specs.declared.car.Car.{Car}
 use Rattle.road_ends.specs.Input.{StepInput, input_of, input_speeds}
-use Rattle.road_ends.specs.Run.{Course, run}
+use Rattle.road_ends.specs.Run.{Course, run, road_after_steps}
+use Rattle.road_ends.specs.Span.{Span}
 use Rattle.road_detector.specs.declared.counts.Totals.{Totals}
 
 -- a car's cell before the motion, and its new speed
@@ -70,3 +71,13 @@ sum_of_totals (x ∷ xs) = plus x (sum_of_totals xs)
 -- what a detector counts in the steps from a to b - 1 of a run
 abbrev pub total : Plan → Course → ℕ → ℕ → ℕ → Totals
 total p course d a b = sum_of_totals (map (passes p course d) (range_with_len a (b - a)))
+
+-- what a detector counts in k steps from an array, the first of them step t
+abbrev pub total_from : Plan → Course → ℕ → ℕ → Array → ℕ → Totals
+total_from p course t k a d = sum_of_totals
+    (map (λ j. passes_from p (course (t + j)) (t + j) (road_after_steps p course t j a) d) (range_with_len 0 k))
+
+-- what each detector counts in the steps of a span, from the road before them
+abbrev pub span_totals : Span → Array → List Totals
+span_totals span a = map (total_from span.plan (λ _. span.settings) span.step span.steps a)
+    (range_with_len 0 (length span.plan.detectors))

@@ -14,9 +14,11 @@
 
 mod counts;
 pub mod laws;
+mod ran;
 mod rows;
 
 pub use counts::{Passed, Totals, greatest_speed, passes, passes_from};
+pub use ran::Ran;
 pub use rows::row_text;
 /// Out of memory: an allocation failed.
 pub use std::alloc::AllocError as OutOfMemory;

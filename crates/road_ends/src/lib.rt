@@ -25,6 +25,7 @@ pub mod laws;
 mod letters;
 mod meter;
 mod pass;
+mod span;
 mod step;
 mod step_settings;
 mod word_batches;
@@ -34,6 +35,7 @@ pub use alone::{Stepped, step_alone};
 pub use input::{StepInput, enter};
 pub use letters::{BLOCKED, EMPTY, STANDING};
 pub use meter::Meter;
+pub use span::Span;
 pub use word_cache::WordCache;
 /// Out of memory: an allocation failed.
 pub use std::alloc::AllocError as OutOfMemory;

@@ -40,4 +40,11 @@ impl Meter {
     {
         self.ticks = self.ticks.saturating_add(1);
     }
+
+    /// Counts so many computed steps. At the greatest count the meter stays.
+    pub fn count(&mut self, steps: u32)
+        ensures { self.new ≡ min (self.old + steps) u64.MAX }
+    {
+        self.ticks = self.ticks.saturating_add(u64::from(steps));
+    }
 }

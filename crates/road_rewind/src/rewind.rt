@@ -1,17 +1,18 @@
 //! Rewinding: a sheet grows by edits and steps, keeps what no edit touches, and simulates the rest.
 
-ghost use Rattle.std.specs.Prelude.{◌≡◌, ◌≤◌, ◌<◌, ◌-◌, max, IfOk, OnOk, OnErr};
+ghost use Rattle.std.specs.Prelude.{◌≡◌, ◌≤◌, ◌<◌, ◌+◌, ◌-◌, max, IfOk, OnOk, OnErr};
 ghost use Rattle.road_plan.specs.declared.limits.TheConstants.{GREATEST_HORIZON};
 ghost use Rattle.road_scenario.specs.Faults.{AreInRange};
 ghost use Rattle.road_scenario.specs.Winners.{join};
 ghost use Rattle.road_sheet.specs.Drafts.{draft_start};
 ghost use Rattle.road_sheet.specs.Sheets.{IsAtMost, sheet_after_step};
+ghost use Rattle.road_sheet.specs.Spans.{IsNextSpan, sheet_after_span};
 ghost use Rattle.road_rewind.specs.Growth.{grown_sheet, touched_step, kept_step, most_steps, meter_after, CountsGone};
 ghost use Rattle.road_rewind.specs.Growth.{TicksAtMost};
 
 use crate::faults::{GrownFault, growth_fault};
 use crate::outcome::Grown;
-use road_ends::{Meter, OutOfMemory};
+use road_ends::{Meter, OutOfMemory, Span};
 use road_scenario::Scenario;
 use road_scenario::laws::winners_agree;
 use road_sheet::{Draft, Sheet};
@@ -115,8 +116,57 @@ fn simulate<C: Crew>(
     ensures gone { CountsGone result (C.times_gone crew.old) (C.times_gone crew.new) }
 {
     let mut speeds = Vec::new(alloc);
-    for step in draft.horizon()..to {
-        one_step(alloc, draft, crew, &mut speeds)?;
+    while draft.horizon() < to {
+        let span = draft.next_span(alloc, to)?;
+        simulate_span(alloc, draft, &span, crew, &mut speeds, meter)?;
+    }
+    Ok(())
+}
+
+// Simulates the next steps of a draft: by one run of the crew where it runs several steps, and else one after another.
+// The meter counts each step.
+fn simulate_span<C: Crew>(
+    alloc: Global,
+    draft: &mut Draft,
+    span: &Span,
+    crew: &mut C,
+    speeds: &mut Vec<u8>,
+    meter: &mut Meter,
+) -> Result<(), GrownFault>
+    requires next { IsNextSpan draft.old span.now }
+    ensures simulated { OnOk result (draft.new ≡ sheet_after_span span.now draft.old) }
+    ensures steps { OnOk result (meter.new ≡ meter_after meter.old span.now.steps) }
+    ensures few { TicksAtMost span.now.steps meter.old meter.new }
+    ensures gone { CountsGone result (C.times_gone crew.old) (C.times_gone crew.new) }
+{
+    match crew.run(alloc, span, draft.road()) {
+        Ok(Some(ran)) => {
+            draft.push_span(alloc, span, ran)?;
+            meter.count(span.steps());
+            Ok(())
+        }
+        Ok(None) => simulate_steps(alloc, draft, span.steps(), crew, speeds, meter),
+        Err(fault) => Err(growth_fault(fault)),
+    }
+}
+
+// Simulates so many steps of a draft one after another. The meter counts each.
+fn simulate_steps<C: Crew>(
+    alloc: Global,
+    draft: &mut Draft,
+    steps: u32,
+    crew: &mut C,
+    speeds: &mut Vec<u8>,
+    meter: &mut Meter,
+) -> Result<(), GrownFault>
+    requires within_limit { draft.old.horizon + steps ≤ GREATEST_HORIZON }
+    ensures simulated { OnOk result (draft.new ≡ record draft.old { horizon = draft.old.horizon + steps }) }
+    ensures steps { OnOk result (meter.new ≡ meter_after meter.old steps) }
+    ensures few { TicksAtMost steps meter.old meter.new }
+    ensures gone { CountsGone result (C.times_gone crew.old) (C.times_gone crew.new) }
+{
+    for done in 0..steps {
+        one_step(alloc, draft, crew, speeds)?;
         meter.tick();
     }
     Ok(())

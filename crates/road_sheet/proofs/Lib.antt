@@ -8,4 +8,5 @@ pub mod SameRuns
 pub mod Shelves
 pub mod SheetIntervals
 pub mod SmallCars
+pub mod Spans
 mod Examples

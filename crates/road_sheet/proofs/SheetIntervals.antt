@@ -1,4 +1,4 @@
--- The intervals of a sheet: one more step, a checkpoint, and the same run by other edits.
+-- The intervals of a sheet: more steps, a checkpoint, and the same run by other edits.
 use Rattle.std.proofs.Common.{◌≡◌, ◌≢◌, ◌≤◌, ◌<◌, ◌+◌, ◌*◌, ◌/◌, ◌%◌, ◌^◌, ◌∙◌, ◌⊎◌, inl, inr, ℕ, zero, suc, List, [], ◌∷◌, ◌++◌, length, take, replicate, min, Some, ap, sym, subst, arith, refl}
 use Rattle.std.proofs.lemmas.List.{get_or-replicate, length-replicate, length-take-le, length_push}
 use Rattle.std.proofs.lemmas.Option.{slice_get_within}
@@ -14,11 +14,11 @@ use Rattle.road_scenario.specs.Winners.{AreWinners}
 use Rattle.road_detector.specs.Laws.{PassOneByOne, BoundTotals}
 use Rattle.road_detector.specs.Passes.{no_totals, passes, passes_at, plus}
 use Rattle.road_detector.specs.declared.counts.Totals.{Totals}
-use Rattle.road_sheet.specs.Private.Intervals.{AreTotals, IsInterval, IsRunOf, GiveSameRun}
-use Rattle.road_sheet.specs.Sheets.{Sheet, IsSheet, next_input, sheet_after_step}
+use Rattle.road_sheet.specs.Private.Intervals.{AreTotals, IsInterval, IsRunOf, IsWithinInterval, GiveSameRun}
+use Rattle.road_sheet.specs.Sheets.{Sheet, IsSheet, next_input}
 use Rattle.road_sheet.specs.Shown.{run_at}
 use Rattle.road_sheet.specs.declared.interval.Interval.{Interval}
-use Rattle.road_sheet.proofs.RunTotals.{cars_fit, none_yet, passed_next, speeds_fit, total_more}
+use Rattle.road_sheet.proofs.RunTotals.{cars_fit, cars_in_parts, none_yet, passed_next, speeds_fit, speeds_in_parts, total_more, totals_in_parts}
 
 -- ---- intervals
 
@@ -67,73 +67,90 @@ get_take (suc n) [] x k h = absurd (cc)
 get_take (suc n) (y ∷ xs) x zero h = (h, omega arith)
 get_take (suc n) (y ∷ xs) x (suc k) h = let r = get_take n xs x k h in (r.0, omega (arith, r.1))
 
--- ---- one more step
+-- ---- more steps
 
-later : (s : Sheet) → IsSheet s → s.horizon < GREATEST_HORIZON → IsSheet (sheet_after_step s)
-later s is early = record { plan_within = is.plan_within; winners = is.winners; in_range = is.in_range; within_limit = omega (arith, early) }
+abbrev simulated_to : Sheet → ℕ → Sheet
+simulated_to s end = record s { horizon = end }
+
+later : (s : Sheet) (end : ℕ) → IsSheet s → end ≤ GREATEST_HORIZON → IsSheet (simulated_to s end)
+later s end is early = record { plan_within = is.plan_within; winners = is.winners; in_range = is.in_range; within_limit = early }
 
 cut_start : (n h : ℕ) → 64 * n ≤ h → h < 64 * n + 64 → 64 * (h / 64) ≡ 64 * n
 cut_start n h begun going = omega arith
 
--- within the interval
-pub step_within : (s : Sheet) (intervals : List Interval) (open_interval new : Interval) (at_horizon road : Array) → IsRunOf s intervals open_interval at_horizon → s.horizon < GREATEST_HORIZON → road ≡ run_at s.plan s.edits (s.horizon + 1) → new.start ≡ open_interval.start
-    → AreTotals s.plan s.edits (64 * (s.horizon / 64)) (s.horizon + 1) new.totals.items → (s.horizon + 1) % 64 ≢ 0 → IsRunOf (sheet_after_step s) intervals new road
-step_within s intervals open_interval new at_horizon road is early next start totals off = record {
-  sheet = later s is.sheet early;
-  begun = let b = is.begun in omega (arith, b);
-  not_ended = going (length intervals) s.horizon is.begun is.not_ended off;
-  each = is.each;
-  open_interval = record { start = start ∙ is.open_interval.start; totals = subst (λ n. AreTotals s.plan s.edits n (s.horizon + 1) new.totals.items) (cut_start (length intervals) s.horizon is.begun is.not_ended) totals };
-  at_horizon = next;
-}
-  where
-    going : (n h : ℕ) → 64 * n ≤ h → h < 64 * n + 64 → (h + 1) % 64 ≢ 0 → h + 1 < 64 * n + 64
-    going n h a b c = omega (arith, a, b, c)
+-- one more step is within the interval that the horizon cuts
+pub one_more : (s : Sheet) → s.horizon < GREATEST_HORIZON → IsWithinInterval s (s.horizon + 1)
+one_more s early = record { more = omega arith; not_past = omega arith; within_limit = omega (arith, early) }
 
--- to the end of the interval
-pub step_to_end : (s : Sheet) (intervals more : List Interval) (open_interval new begun : Interval) (at_horizon road : Array) → IsRunOf s intervals open_interval at_horizon → s.horizon < GREATEST_HORIZON → road ≡ run_at s.plan s.edits (s.horizon + 1) → new.start ≡ open_interval.start
-    → AreTotals s.plan s.edits (64 * (s.horizon / 64)) (s.horizon + 1) new.totals.items
+-- up to a step within the interval
+up_to_within : (s : Sheet) (end : ℕ) (intervals : List Interval) (open_interval new : Interval) (at_horizon road : Array) → IsRunOf s intervals open_interval at_horizon → IsWithinInterval s end → road ≡ run_at s.plan s.edits end → new.start ≡ open_interval.start
+    → AreTotals s.plan s.edits (64 * (s.horizon / 64)) end new.totals.items → end % 64 ≢ 0 → IsRunOf (simulated_to s end) intervals new road
+up_to_within s end intervals open_interval new at_horizon road is within next start totals off =
+    let cut = cut_start (length intervals) s.horizon is.begun is.not_ended in
+    record {
+      sheet = later s end is.sheet within.within_limit;
+      begun = omega (arith, is.begun, within.more);
+      not_ended = going (length intervals) s.horizon end cut within.not_past off;
+      each = is.each;
+      open_interval = record { start = start ∙ is.open_interval.start; totals = subst (λ n. AreTotals s.plan s.edits n end new.totals.items) cut totals };
+      at_horizon = next;
+    }
+  where
+    going : (n h end : ℕ) → 64 * (h / 64) ≡ 64 * n → end ≤ 64 * (h / 64) + 64 → end % 64 ≢ 0 → end < 64 * n + 64
+    going n h end a b c = omega (arith, a, b, c)
+
+-- up to the end of the interval
+up_to_end : (s : Sheet) (end : ℕ) (intervals more : List Interval) (open_interval new begun : Interval) (at_horizon road : Array) → IsRunOf s intervals open_interval at_horizon → IsWithinInterval s end → road ≡ run_at s.plan s.edits end
+    → IsInterval s.plan s.edits (64 * (s.horizon / 64)) end new
     → begun.start ≡ road → begun.totals.items ≡ replicate (length s.plan.detectors) no_totals → more ≡ intervals ++ new ∷ []
-    → (s.horizon + 1) % 64 ≡ 0 → IsRunOf (sheet_after_step s) more begun road
-step_to_end s intervals more open_interval new begun at_horizon road is early next start totals first zeros all on =
+    → end % 64 ≡ 0 → IsRunOf (simulated_to s end) more begun road
+up_to_end s end intervals more open_interval new begun at_horizon road is within next ended first zeros all on =
     let many_more = length_push intervals new in
-    let end : s.horizon + 1 ≡ 64 * length intervals + 64 = at_end (length intervals) s.horizon is.begun is.not_ended on in
-    let next_interval : 64 * length (intervals ++ new ∷ []) ≡ s.horizon + 1 = omega (arith, many_more, end) in
-    let counted = subst (λ n. AreTotals s.plan s.edits n (s.horizon + 1) new.totals.items) (cut_start (length intervals) s.horizon is.begun is.not_ended) totals in
-    let here : IsInterval s.plan s.edits (64 * length intervals) (64 * length intervals + 64) new = record { start = start ∙ is.open_interval.start; totals = subst (λ n. AreTotals s.plan s.edits (64 * length intervals) n new.totals.items) end counted } in
+    let cut = cut_start (length intervals) s.horizon is.begun is.not_ended in
+    let at : end ≡ 64 * length intervals + 64 = at_end (length intervals) s.horizon end cut within.more within.not_past on in
+    let next_interval : 64 * length (intervals ++ new ∷ []) ≡ end = omega (arith, many_more, at) in
+    let here : IsInterval s.plan s.edits (64 * length intervals) (64 * length intervals + 64) new = subst (λ n. IsInterval s.plan s.edits (64 * length intervals) n new) at (subst (λ n. IsInterval s.plan s.edits n end new) cut ended) in
     rw all (record {
-      sheet = later s is.sheet early;
+      sheet = later s end is.sheet within.within_limit;
       begun = omega (arith, next_interval);
       not_ended = omega (arith, next_interval);
       each = λ k b g. elim (get_push intervals new b k g) as (λ _. IsInterval s.plan s.edits (64 * k) (64 * k + 64) b) [
         | inl i ↦ is.each k b i
         | inr i ↦ subst (λ c. IsInterval s.plan s.edits (64 * k) (64 * k + 64) c) i.1 (subst (λ n. IsInterval s.plan s.edits (64 * n) (64 * n + 64) new) (sym i.0) here)
       ];
-      open_interval = subst (λ n. IsInterval s.plan s.edits n (s.horizon + 1) begun) (sym next_interval) (fresh s.plan s.edits (s.horizon + 1) begun (first ∙ next) zeros);
+      open_interval = subst (λ n. IsInterval s.plan s.edits n end begun) (sym next_interval) (fresh s.plan s.edits end begun (first ∙ next) zeros);
       at_horizon = next;
     })
   where
-    at_end : (n h : ℕ) → 64 * n ≤ h → h < 64 * n + 64 → (h + 1) % 64 ≡ 0 → h + 1 ≡ 64 * n + 64
-    at_end n h a b c = omega (arith, a, b, c)
+    at_end : (n h end : ℕ) → 64 * (h / 64) ≡ 64 * n → h < end → end ≤ 64 * (h / 64) + 64 → end % 64 ≡ 0 → end ≡ 64 * n + 64
+    at_end n h end a b c d = omega (arith, a, b, c, d)
 
 -- the same, by the sheet that contracts see
-pub ends_interval : (s now : Sheet) (h : ℕ) (intervals more : List Interval) (open_interval new begun : Interval) (at_horizon road : Array) → IsRunOf s intervals open_interval at_horizon → s ≡ now → now.horizon < GREATEST_HORIZON → road ≡ run_at now.plan now.edits (now.horizon + 1)
-    → AreTotals now.plan now.edits (64 * (now.horizon / 64)) (now.horizon + 1) new.totals.items → (now.horizon + 1) % 64 ≡ 0 → h ≡ now.horizon → begun.totals.items ≡ replicate (length now.plan.detectors) no_totals
-    → new.start ≡ open_interval.start → begun.start ≡ road → more ≡ intervals ++ new ∷ [] → IsRunOf (record { plan = s.plan; edits = s.edits; horizon = h + 1 }) more begun road
-ends_interval s now h intervals more open_interval new begun at_horizon road is view early next totals on same zeros start first all =
+pub ends_interval : (s now : Sheet) (end : ℕ) (intervals more : List Interval) (open_interval new begun : Interval) (at_horizon road : Array) → IsRunOf s intervals open_interval at_horizon → s ≡ now → IsWithinInterval now end → road ≡ run_at now.plan now.edits end
+    → IsInterval now.plan now.edits (64 * (now.horizon / 64)) end new → end % 64 ≡ 0 → begun.totals.items ≡ replicate (length now.plan.detectors) no_totals
+    → begun.start ≡ road → more ≡ intervals ++ new ∷ [] → IsRunOf (record { plan = s.plan; edits = s.edits; horizon = end }) more begun road
+ends_interval s now end intervals more open_interval new begun at_horizon road is view within next ended on zeros first all =
     subst
-    (λ (x : Sheet). x.horizon < GREATEST_HORIZON → road ≡ run_at x.plan x.edits (x.horizon + 1) → AreTotals x.plan x.edits (64 * (x.horizon / 64)) (x.horizon + 1) new.totals.items → (x.horizon + 1) % 64 ≡ 0 → h ≡ x.horizon
-    → begun.totals.items ≡ replicate (length x.plan.detectors) no_totals → IsRunOf (record { plan = s.plan; edits = s.edits; horizon = h + 1 }) more begun road) view
-    (λ e n t o k z. subst (λ (u : ℕ). IsRunOf (record { plan = s.plan; edits = s.edits; horizon = u + 1 }) more begun road) (sym k) (step_to_end s intervals more open_interval new begun at_horizon road is e n start t first z all o)) early next totals on same zeros
+    (λ (x : Sheet). IsWithinInterval x end → road ≡ run_at x.plan x.edits end → IsInterval x.plan x.edits (64 * (x.horizon / 64)) end new
+    → begun.totals.items ≡ replicate (length x.plan.detectors) no_totals → IsRunOf (record { plan = s.plan; edits = s.edits; horizon = end }) more begun road) view
+    (λ w n e z. up_to_end s end intervals more open_interval new begun at_horizon road is w n e first z all on) within next ended zeros
 
--- a step within the interval, by the sheet that contracts see
-pub stays_in_interval : (s now : Sheet) (h : ℕ) (intervals : List Interval) (open_interval new : Interval) (at_horizon road : Array) → IsRunOf s intervals open_interval at_horizon → s ≡ now → now.horizon < GREATEST_HORIZON → road ≡ run_at now.plan now.edits (now.horizon + 1)
-    → AreTotals now.plan now.edits (64 * (now.horizon / 64)) (now.horizon + 1) new.totals.items → (now.horizon + 1) % 64 ≢ 0 → h ≡ now.horizon → new.start ≡ open_interval.start → IsRunOf (record { plan = s.plan; edits = s.edits; horizon = h + 1 }) intervals new road
-stays_in_interval s now h intervals open_interval new at_horizon road is view early next totals off same start =
+-- steps within the interval, by the sheet that contracts see
+pub stays_in_interval : (s now : Sheet) (end k : ℕ) (intervals : List Interval) (open_interval new : Interval) (at_horizon road : Array) → IsRunOf s intervals open_interval at_horizon → s ≡ now → IsWithinInterval now end → road ≡ run_at now.plan now.edits end
+    → AreTotals now.plan now.edits (64 * (now.horizon / 64)) end new.totals.items → end % 64 ≢ 0 → k ≡ end → new.start ≡ open_interval.start → IsRunOf (record { plan = s.plan; edits = s.edits; horizon = k }) intervals new road
+stays_in_interval s now end k intervals open_interval new at_horizon road is view within next totals off same start =
     subst
-    (λ (x : Sheet). x.horizon < GREATEST_HORIZON → road ≡ run_at x.plan x.edits (x.horizon + 1) → AreTotals x.plan x.edits (64 * (x.horizon / 64)) (x.horizon + 1) new.totals.items → (x.horizon + 1) % 64 ≢ 0 → h ≡ x.horizon
-    → IsRunOf (record { plan = s.plan; edits = s.edits; horizon = h + 1 }) intervals new road) view
-    (λ e n t o k. subst (λ (u : ℕ). IsRunOf (record { plan = s.plan; edits = s.edits; horizon = u + 1 }) intervals new road) (sym k) (step_within s intervals open_interval new at_horizon road is e n start t o)) early next totals off same
+    (λ (x : Sheet). IsWithinInterval x end → road ≡ run_at x.plan x.edits end → AreTotals x.plan x.edits (64 * (x.horizon / 64)) end new.totals.items
+    → IsRunOf (record { plan = s.plan; edits = s.edits; horizon = k }) intervals new road) view
+    (λ w n t. subst (λ (u : ℕ). IsRunOf (record { plan = s.plan; edits = s.edits; horizon = u }) intervals new road) (sym same) (up_to_within s end intervals open_interval new at_horizon road is w n start t off)) within next totals
+
+-- an interval up to a step, from the cut one's road and the totals up to there
+pub ended_interval : (s t : Sheet) (end : ℕ) (intervals : List Interval) (open_interval new : Interval) (at_horizon : Array) → IsRunOf s intervals open_interval at_horizon → s ≡ t → new.start ≡ open_interval.start → AreTotals t.plan t.edits (64 * (t.horizon / 64)) end new.totals.items
+    → IsInterval t.plan t.edits (64 * (t.horizon / 64)) end new
+ended_interval s t end intervals open_interval new at_horizon is same start totals = record {
+  start = start ∙ subst (λ (x : Sheet). open_interval.start ≡ run_at x.plan x.edits (64 * (x.horizon / 64))) same (is.open_interval.start ∙ ap (run_at s.plan s.edits) (sym (cut_start (length intervals) s.horizon is.begun is.not_ended)));
+  totals = totals;
+}
 
 -- the totals of the cut interval
 pub cut_totals : (s t : Sheet) (intervals : List Interval) (open_interval : Interval) (at_horizon : Array) → IsRunOf s intervals open_interval at_horizon → s ≡ t → AreTotals t.plan t.edits (64 * (t.horizon / 64)) t.horizon open_interval.totals.items
@@ -168,6 +185,43 @@ counted_next s t intervals open_interval at_horizon input speeds xs ys is same a
     let counted = subst (AreTotals t.plan t.edits (64 * (t.horizon / 64)) t.horizon) (sym kept) (cut_totals s t intervals open_interval at_horizon is same) in
     counted_more t.plan t.edits (64 * (t.horizon / 64)) t.horizon xs ys (omega arith) counted many
     (λ d below. more d below ∙ ap (plus (slice_index_or xs d no_totals)) (passed_next t input speeds d at new))
+
+-- ---- what the detectors have counted with more steps
+
+-- the cars fit
+pub more_cars_fit : (s t : Sheet) (end : ℕ) (intervals : List Interval) (open_interval : Interval) (at_horizon : Array) (xs ys : List Totals) → IsRunOf s intervals open_interval at_horizon → s ≡ t → BoundTotals s.plan → IsWithinInterval t end → AreTotals t.plan t.edits t.horizon end ys
+    → xs ≡ open_interval.totals.items → (d : ℕ) → d < length xs → (slice_index_or xs d no_totals).cars + (slice_index_or ys d no_totals).cars < 2 ^ 32
+more_cars_fit s t end intervals open_interval at_horizon xs ys is same bounded within more kept d below =
+    let counted = subst (AreTotals t.plan t.edits (64 * (t.horizon / 64)) t.horizon) (sym kept) (cut_totals s t intervals open_interval at_horizon is same) in
+    let in_plan : d < length t.plan.detectors = omega (arith, counted.each, below) in
+    cars_in_parts t.plan (settings_of t.plan t.edits) d (64 * (t.horizon / 64)) t.horizon end (slice_index_or xs d no_totals) (slice_index_or ys d no_totals) (subst BoundTotals (ap (λ (x : Sheet). x.plan) same) bounded)
+    (omega arith) (omega (arith, within.more)) within.within_limit (counted.counted d in_plan) (more.counted d in_plan)
+
+-- their speeds fit
+pub more_speeds_fit : (s t : Sheet) (end : ℕ) (intervals : List Interval) (open_interval : Interval) (at_horizon : Array) (xs ys : List Totals) → IsRunOf s intervals open_interval at_horizon → s ≡ t → BoundTotals s.plan → IsWithinInterval t end → AreTotals t.plan t.edits t.horizon end ys
+    → xs ≡ open_interval.totals.items → (d : ℕ) → d < length xs → (slice_index_or xs d no_totals).speeds + (slice_index_or ys d no_totals).speeds < 2 ^ 32
+more_speeds_fit s t end intervals open_interval at_horizon xs ys is same bounded within more kept d below =
+    let counted = subst (AreTotals t.plan t.edits (64 * (t.horizon / 64)) t.horizon) (sym kept) (cut_totals s t intervals open_interval at_horizon is same) in
+    let in_plan : d < length t.plan.detectors = omega (arith, counted.each, below) in
+    speeds_in_parts t.plan (settings_of t.plan t.edits) d (64 * (t.horizon / 64)) t.horizon end (slice_index_or xs d no_totals) (slice_index_or ys d no_totals) (subst BoundTotals (ap (λ (x : Sheet). x.plan) same) bounded)
+    (omega arith) (omega (arith, within.more)) within.within_limit (counted.counted d in_plan) (more.counted d in_plan)
+
+-- as many totals
+pub one_each : (s t : Sheet) (end : ℕ) (intervals : List Interval) (open_interval : Interval) (at_horizon : Array) (xs ys : List Totals) → IsRunOf s intervals open_interval at_horizon → s ≡ t → AreTotals t.plan t.edits t.horizon end ys → xs ≡ open_interval.totals.items
+    → length xs ≡ length ys
+one_each s t end intervals open_interval at_horizon xs ys is same more kept =
+    ap (λ (x : List Totals). length x) kept ∙ (cut_totals s t intervals open_interval at_horizon is same).each ∙ sym more.each
+
+-- they are the totals up to the step after them
+pub counted_with : (s t : Sheet) (end : ℕ) (intervals : List Interval) (open_interval : Interval) (at_horizon : Array) (xs ys zs : List Totals) → IsRunOf s intervals open_interval at_horizon → s ≡ t → IsWithinInterval t end → AreTotals t.plan t.edits t.horizon end ys
+    → xs ≡ open_interval.totals.items → length zs ≡ length xs → ((d : ℕ) → d < length xs → slice_index_or zs d no_totals ≡ plus (slice_index_or xs d no_totals) (slice_index_or ys d no_totals)) → AreTotals t.plan t.edits (64 * (t.horizon / 64)) end zs
+counted_with s t end intervals open_interval at_horizon xs ys zs is same within more kept many sums =
+    let counted = subst (AreTotals t.plan t.edits (64 * (t.horizon / 64)) t.horizon) (sym kept) (cut_totals s t intervals open_interval at_horizon is same) in
+    record {
+      each = many ∙ counted.each;
+      counted = λ d l. sums d (omega (arith, l, counted.each))
+          ∙ totals_in_parts t.plan (settings_of t.plan t.edits) d (64 * (t.horizon / 64)) t.horizon end (slice_index_or xs d no_totals) (slice_index_or ys d no_totals) (omega arith) (omega (arith, within.more)) (counted.counted d l) (more.counted d l);
+    }
 
 -- ---- other edits with the same run
 

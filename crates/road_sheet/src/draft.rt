@@ -1,21 +1,26 @@
-//! Drafts: sheets that grow by a step at a time.
+//! Drafts: sheets that grow, by one step or by several under the same settings.
 
-ghost use Rattle.std.specs.Prelude.{◌≡◌, ◌<◌, IfOk, OnErr, OnOk};
+ghost use Rattle.std.specs.Prelude.{◌≡◌, ◌<◌, ◌≤◌, ◌+◌, IfOk, OnErr, OnOk};
 ghost use Rattle.std.specs.Arc.{arc_value};
 ghost use Rattle.road_plan.specs.declared.limits.TheConstants.{GREATEST_HORIZON};
 ghost use Rattle.road_ends.specs.Input.{input_speeds};
-ghost use Rattle.road_sheet.specs.Sheets.{next_input, sheet_after_step};
+ghost use Rattle.road_ends.specs.Span.{span_road};
+ghost use Rattle.road_detector.specs.Passes.{span_totals};
+ghost use Rattle.road_sheet.specs.Sheets.{next_input, sheet_after_step, state_of};
+ghost use Rattle.road_sheet.specs.Spans.{IsNextSpan, sheet_after_span};
 
 use crate::run_cache::RunCache;
 use crate::sheet::Sheet;
-use road_ends::StepInput;
+use road_cells::Road;
+use road_detector::Ran;
+use road_ends::{Span, StepInput};
 use road_plan::OutOfMemory;
 use road_plan::limits::MOST_DETECTORS;
 use std::alloc::Global;
 use std::marker::Model;
 use std::sync::Arc;
 
-/// A sheet that is being made, step by step: contracts see the sheet that it is so far.
+/// A sheet that is being made: contracts see the sheet that it is so far.
 #[derive(Drop)]
 pub struct Draft {
     pub(crate) sheet: Sheet,
@@ -106,6 +111,50 @@ impl Draft {
     {
         self.push(alloc, &input, speeds)?;
         self.cache.keep_input(input);
+        Ok(())
+    }
+
+    /// Returns the road at the horizon.
+    pub fn road(&self) -> &Road
+        ensures { result.now ≡ state_of self.now self.now.horizon }
+    {
+        self.sheet.road()
+    }
+
+    /// Finds the steps that come next under the same settings, at least one: up to the step `to`, the end of the
+    /// interval of 64 steps, or the first step at which an edit is dated, whichever is the earliest. `to` must be above
+    /// the horizon, and at most 1,048,576.
+    ///
+    /// # Errors
+    ///
+    /// `OutOfMemory` where an allocation failed, or the plan or the settings can have no more owners. The draft is then
+    /// as it was.
+    pub fn next_span(&mut self, alloc: Global, to: u32) -> Result<Span, OutOfMemory>
+        requires before { self.old.horizon < to }
+        requires within_limit { to ≤ GREATEST_HORIZON }
+        ensures next { IfOk result (λ span. IsNextSpan self.old span) }
+        ensures before { IfOk result (λ span. self.old.horizon + span.steps ≤ to) }
+        ensures unchanged { self.new ≡ self.old }
+    {
+        self.sheet.next_span(alloc, &mut self.cache, to)
+    }
+
+    /// Adds the steps of a span at once, from what they come to. The span must be of the next steps, the road that after
+    /// it, and the totals those of each detector in it.
+    ///
+    /// # Errors
+    ///
+    /// `OutOfMemory` where an allocation failed. The draft is then as it was.
+    pub fn push_span(&mut self, alloc: Global, span: &Span, ran: Ran) -> Result<(), OutOfMemory>
+        requires next { IsNextSpan self.old span.now }
+        requires road { ran.road ≡ span_road span.now (state_of self.old self.old.horizon) }
+        requires totals { ran.totals.items ≡ span_totals span.now (state_of self.old self.old.horizon) }
+        ensures grown { OnOk result (self.new ≡ sheet_after_span span.now self.old) }
+        ensures unchanged { OnErr result (self.new ≡ self.old) }
+    {
+        let last = self.sheet.grow_by(alloc, span, ran)?;
+        self.cache.jump();
+        self.cache.reuse(last);
         Ok(())
     }
 

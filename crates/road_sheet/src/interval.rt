@@ -73,4 +73,24 @@ impl Interval {
             places[detector] = passed.before;
         }
     }
+
+    // Counts more steps, of which each detector has these totals. It allocates nothing.
+    pub(crate) fn add(&mut self, totals: &[Totals])
+        requires each { length self.old.totals.items ≡ length totals.now }
+        requires cars { (d : ℕ) → d < length self.old.totals.items →
+            (slice_index_or self.old.totals.items d no_totals).cars
+            + (slice_index_or totals.now d no_totals).cars < 2 ^ 32 }
+        requires speeds { (d : ℕ) → d < length self.old.totals.items →
+            (slice_index_or self.old.totals.items d no_totals).speeds
+            + (slice_index_or totals.now d no_totals).speeds < 2 ^ 32 }
+        ensures start { self.new.start ≡ self.old.start }
+        ensures each { length self.new.totals.items ≡ length self.old.totals.items }
+        ensures totals { (d : ℕ) → d < length self.old.totals.items →
+            slice_index_or self.new.totals.items d no_totals
+            ≡ plus (slice_index_or self.old.totals.items d no_totals) (slice_index_or totals.now d no_totals) }
+    {
+        for detector in 0..totals.len() {
+            self.totals[detector] = self.totals[detector].plus(totals[detector]);
+        }
+    }
 }

@@ -1,6 +1,6 @@
 //! What a run owns: its words, its settings, its last input and its memory.
 
-ghost use Rattle.std.specs.Prelude.{◌≡◌, ◌+◌, IfOk};
+ghost use Rattle.std.specs.Prelude.{◌≡◌, ◌+◌, ◌<◌, ◌≤◌, ℕ, IfOk};
 ghost use Rattle.std.specs.Arc.{arc_value};
 ghost use Rattle.road_plan.specs.Plan.{Plan};
 ghost use Rattle.road_plan.specs.Settings.{Fits};
@@ -75,6 +75,28 @@ impl RunCache {
     {
         let (plan, scenario) = (sheet.plan(), sheet.scenario());
         self.settings.at(alloc, plan, scenario, step)
+    }
+
+    // Returns the settings of a step, and up to which step, no further than another, they are in force.
+    pub(crate) fn settings_until(
+        &mut self,
+        alloc: Global,
+        sheet: &Sheet,
+        step: u32,
+        to: u32,
+    ) -> Result<(Arc<Settings>, u32), OutOfMemory>
+        requires before { step < to }
+        requires cached { IsOfRun sheet.now.plan sheet.now.edits self.old }
+        ensures some { IfOk result (λ found. step < found.1) }
+        ensures before { IfOk result (λ found. found.1 ≤ to) }
+        ensures settings { IfOk result (λ found. (t : ℕ) → step ≤ t → t < found.1
+            → settings_of sheet.now.plan sheet.now.edits t ≡ arc_value found.0) }
+        ensures fits { IfOk result (λ found. Fits sheet.now.plan (arc_value found.0)) }
+        ensures cached { IsOfRun sheet.now.plan sheet.now.edits self.new }
+    {
+        let settings = self.settings_at(alloc, sheet, step)?;
+        let until = self.settings.until(step, to);
+        Ok((settings, until))
     }
 
     // Makes the input of a step: of the last one, where it can be, and else a new one.

@@ -1,6 +1,6 @@
 //! The cache of the settings that a run uses from a step to the next.
 
-ghost use Rattle.std.specs.Prelude.{◌≡◌, ◌<◌, ◌≤◌, ℕ, IfOk, IfSome, IsTrue};
+ghost use Rattle.std.specs.Prelude.{◌≡◌, ◌<◌, ◌≤◌, ◌⊎◌, ℕ, IfOk, IfSome, IsTrue};
 ghost use Rattle.std.specs.Arc.{arc_value};
 ghost use Rattle.road_plan.specs.Plan.{Plan};
 ghost use Rattle.road_plan.specs.Settings.{Fits};
@@ -38,6 +38,22 @@ impl InForce {
         ensures { IsTrue result → (self.now.from ≤ step) × (step < self.now.until) }
     {
         self.from <= step && step < self.until
+    }
+
+    // Returns up to which step, and no further than another, they are in force from a step on: up to the next step
+    // where they are not in force at it.
+    fn until_from(&self, step: u32, to: u32) -> u32
+        requires { step < to }
+        ensures some { step < result }
+        ensures before { result ≤ to }
+        ensures in_force { (t : ℕ) → step ≤ t → t < result → (t ≡ step) ⊎ ((self.now.from ≤ step)
+            × (t < self.now.until)) }
+    {
+        if self.is_at(step) {
+            self.until.min(to)
+        } else {
+            step + 1
+        }
     }
 }
 
@@ -85,6 +101,21 @@ impl SettingsCache {
         match &self.last {
             Some(kept) => kept.is_at(step) && kept.is_at(other),
             None => false,
+        }
+    }
+
+    // Returns up to which step, and no further than another, the cached settings of a step are in force: at least for
+    // that step.
+    pub(crate) fn until(&self, step: u32, to: u32) -> u32
+        requires { step < to }
+        ensures some { step < result }
+        ensures before { result ≤ to }
+        ensures same { (plan : Plan) (edits : Edits) → AreCached plan edits self.now → (t : ℕ) → step ≤ t → t < result
+            → settings_of plan edits t ≡ settings_of plan edits step }
+    {
+        match &self.last {
+            Some(kept) => kept.until_from(step, to),
+            None => step + 1,
         }
     }
 

@@ -5,15 +5,17 @@ ghost use Rattle.std.specs.Prelude.{None, length, min, replicate, take};
 ghost use Rattle.std.specs.Arc.{arc_value};
 ghost use Rattle.road_plan.specs.Plan.{IsWithinLimits};
 ghost use Rattle.road_plan.specs.declared.limits.TheConstants.{GREATEST_HORIZON};
-ghost use Rattle.road_detector.specs.Passes.{no_totals};
+ghost use Rattle.road_detector.specs.Passes.{no_totals, span_totals};
 ghost use Rattle.road_ends.specs.Input.{input_speeds};
+ghost use Rattle.road_ends.specs.Span.{span_road};
 ghost use Rattle.road_scenario.specs.Faults.{AreInRange};
 ghost use Rattle.road_scenario.specs.Touched.{first_touched_step};
 ghost use Rattle.road_scenario.specs.Winners.{AreWinners, join};
 ghost use Rattle.road_sheet.specs.Drafts.{IsUpTo, draft_start};
-ghost use Rattle.road_sheet.specs.Private.Intervals.{AreTotals, IsInterval, GiveSameRun};
+ghost use Rattle.road_sheet.specs.Private.Intervals.{AreTotals, GiveSameRun, IsInterval, IsWithinInterval};
 ghost use Rattle.road_sheet.specs.Sheets.{IsSheet, opening_sheet, state_of, total_of, next_input, sheet_after_step};
 ghost use Rattle.road_sheet.specs.Sheets.{AreWholeIntervals, IsRefusalBy, state_fault, totals_fault};
+ghost use Rattle.road_sheet.specs.Spans.{IsNextSpan, sheet_after_span};
 
 use crate::checkpoint::Checkpoint;
 use crate::draft::Draft;
@@ -27,10 +29,10 @@ use lattice_core::both::Both;
 use lattice_core::greatest::Greatest;
 use lattice_core::lattice::Lattice;
 use road_cells::Road;
-use road_detector::Totals;
 use road_detector::laws::{cars_pass_one_by_one, totals_are_bounded};
-use road_ends::StepInput;
+use road_detector::{Ran, Totals};
 use road_ends::laws::{cars_stay_on_road, runs_depend_on_earlier_settings};
+use road_ends::{Span, StepInput};
 use road_plan::limits::MOST_DETECTORS;
 use road_plan::{OutOfMemory, Plan};
 use road_scenario::Scenario;
@@ -357,6 +359,34 @@ impl Sheet {
         cache.enter(alloc, self, step, &self.at_horizon)
     }
 
+    // Returns the road at the horizon.
+    pub(crate) fn road(&self) -> &Road
+        ensures { result.now ≡ state_of self.now self.now.horizon }
+    {
+        &self.at_horizon
+    }
+
+    // Finds the next steps under the same settings, up to a step at most.
+    pub(crate) fn next_span(
+        &self,
+        alloc: Global,
+        cache: &mut RunCache,
+        to: u32,
+    ) -> Result<Span, OutOfMemory>
+        requires before { self.now.horizon < to }
+        requires within_limit { to ≤ GREATEST_HORIZON }
+        requires cached { IsOfRun self.now.plan self.now.edits cache.old }
+        ensures next { IfOk result (λ span. IsNextSpan self.now span) }
+        ensures before { IfOk result (λ span. self.now.horizon + span.steps ≤ to) }
+        ensures cached { IsOfRun self.now.plan self.now.edits cache.new }
+    {
+        let step = self.horizon();
+        let end = (step - step % INTERVAL_STEPS + INTERVAL_STEPS).min(to);
+        let (settings, until) = cache.settings_until(alloc, self, step, end)?;
+        let plan = Arc::try_clone(&self.plan)?;
+        Ok(Span::new(plan, settings, step, until - step))
+    }
+
     // Adds one more step, whose road is made already, and returns the road before it. What can fail for memory is done
     // before the sheet is changed.
     pub(crate) fn grow(
@@ -404,22 +434,22 @@ impl Sheet {
         last
     }
 
-    // Begins the interval of the next step's road.
-    fn next_interval(&self, alloc: Global, road: &Road) -> Result<Interval, OutOfMemory>
-        requires within_limit { self.now.horizon < GREATEST_HORIZON }
-        requires road { road.now ≡ state_of self.now (self.now.horizon + 1) }
+    // Begins the interval of the road of a step.
+    fn next_interval(&self, alloc: Global, step: u32, road: &Road) -> Result<Interval, OutOfMemory>
+        requires within_limit { step ≤ GREATEST_HORIZON }
+        requires road { road.now ≡ state_of self.now step }
         ensures start { IfOk result (λ interval. interval.start ≡ road.now) }
         ensures totals { IfOk result (λ interval. interval.totals.items
             ≡ replicate (length self.now.plan.detectors) no_totals) }
     {
+        let _ = step;
         cars_stay_on_road(&self.plan);
         let detectors = self.plan.detectors().len();
         let kept = Checkpoint::of(alloc, road)?;
         Interval::begin(alloc, kept, detectors)
     }
 
-    // Adds one more step that ends the interval, and returns the road before it. What can fail for memory is done
-    // before the sheet is changed.
+    // Adds one more step that ends the interval, and returns the road before it.
     fn step_to_end(
         &mut self,
         alloc: Global,
@@ -438,14 +468,84 @@ impl Sheet {
     {
         cars_pass_one_by_one(&self.plan);
         totals_are_bounded(&self.plan);
-        let horizon = self.horizon() + 1;
-        let next = self.next_interval(alloc, &road)?;
         let mut ended = self.open_interval.copied()?;
         ended.count(input, speeds, places);
+        self.end_interval(alloc, self.horizon() + 1, ended, road)
+    }
+
+    // Adds the steps of a span, from the road after it and what each detector counts in it, and returns the road before
+    // it.
+    pub(crate) fn grow_by(
+        &mut self,
+        alloc: Global,
+        span: &Span,
+        ran: Ran,
+    ) -> Result<Road, OutOfMemory>
+        requires next { IsNextSpan self.old span.now }
+        requires road { ran.road ≡ span_road span.now (state_of self.old self.old.horizon) }
+        requires totals { ran.totals.items ≡ span_totals span.now (state_of self.old self.old.horizon) }
+        ensures grown { OnOk result (self.new ≡ sheet_after_span span.now self.old) }
+        ensures unchanged { OnErr result (self.new ≡ self.old) }
+    {
+        let end = self.horizon() + span.steps();
+        if end % INTERVAL_STEPS == 0 {
+            return self.span_to_end(alloc, end, ran);
+        }
+        Ok(self.span_within(end, ran))
+    }
+
+    // Adds the steps up to one that does not end the interval, and returns the road before them.
+    fn span_within(&mut self, end: u32, ran: Ran) -> Road
+        requires within { IsWithinInterval self.old end }
+        requires within_interval { end % INTERVAL_STEPS ≢ 0 }
+        requires road { ran.road ≡ state_of self.old end }
+        requires totals { AreTotals self.old.plan self.old.edits self.old.horizon end ran.totals.items }
+        ensures { self.new ≡ record self.old { horizon = end } }
+    {
+        totals_are_bounded(&self.plan);
+        self.open_interval.add(&ran.totals);
+        let last = mem::replace(&mut self.at_horizon, ran.road);
+        self.known.second = Greatest::Of(end);
+        last
+    }
+
+    // Adds the steps up to the end of the interval, and returns the road before them.
+    fn span_to_end(&mut self, alloc: Global, end: u32, ran: Ran) -> Result<Road, OutOfMemory>
+        requires within { IsWithinInterval self.old end }
+        requires at_end { end % INTERVAL_STEPS ≡ 0 }
+        requires road { ran.road ≡ state_of self.old end }
+        requires totals { AreTotals self.old.plan self.old.edits self.old.horizon end ran.totals.items }
+        ensures grown { OnOk result (self.new ≡ record self.old { horizon = end }) }
+        ensures unchanged { OnErr result (self.new ≡ self.old) }
+    {
+        totals_are_bounded(&self.plan);
+        let mut ended = self.open_interval.copied()?;
+        ended.add(&ran.totals);
+        self.end_interval(alloc, end, ended, ran.road)
+    }
+
+    // Ends the interval at a step, from the interval up to there and the road there, and returns the road at the
+    // horizon before. What can fail for memory is done before the sheet is changed.
+    fn end_interval(
+        &mut self,
+        alloc: Global,
+        end: u32,
+        ended: Interval,
+        road: Road,
+    ) -> Result<Road, OutOfMemory>
+        requires within { IsWithinInterval self.old end }
+        requires at_end { end % INTERVAL_STEPS ≡ 0 }
+        requires road { road ≡ state_of self.old end }
+        requires ended { IsInterval self.old.plan self.old.edits
+            (INTERVAL_STEPS * (self.old.horizon / INTERVAL_STEPS)) end ended }
+        ensures grown { OnOk result (self.new ≡ record self.old { horizon = end }) }
+        ensures unchanged { OnErr result (self.new ≡ self.old) }
+    {
+        let next = self.next_interval(alloc, end, &road)?;
         self.intervals.push(alloc, ended)?;
         self.open_interval = next;
         let last = mem::replace(&mut self.at_horizon, road);
-        self.known.second = Greatest::Of(horizon);
+        self.known.second = Greatest::Of(end);
         Ok(last)
     }
 }

@@ -1,12 +1,16 @@
 //! What a crew gives, and how it counts the answers that a worker has gone.
 
-ghost use Rattle.std.specs.Prelude.{◌≡◌, ℕ, IfOk};
+ghost use Rattle.std.specs.Prelude.{◌≡◌, ℕ, IfOk, IfSome};
 ghost use Rattle.std.specs.Arc.{arc_value};
 ghost use Rattle.road_ends.specs.Input.{input_speeds};
+ghost use Rattle.road_ends.specs.Span.{span_road};
+ghost use Rattle.road_detector.specs.Passes.{span_totals};
 ghost use Rattle.road_workers.specs.Crews.{gone_after};
 
 use crate::faults::CrewFault;
-use road_ends::StepInput;
+use road_cells::Road;
+use road_detector::Ran;
+use road_ends::{Span, StepInput};
 use std::alloc::Global;
 use std::sync::Arc;
 
@@ -41,6 +45,22 @@ pub trait Crew {
         ensures gone { times_gone self.new ≡ gone_after result (times_gone self.old) }
     {
         self.speeds(alloc, input)
+    }
+
+    /// Runs all steps of a span from the road before them, where this crew computes several steps at once. None where
+    /// it does not: then it is to be asked for the speeds of each step.
+    ///
+    /// # Errors
+    ///
+    /// Those of [`Crew::speeds`].
+    fn run(&mut self, _alloc: Global, span: &Span, road: &Road) -> Result<Option<Ran>, CrewFault>
+        ensures road { IfOk result (λ done. IfSome done (λ ran. ran.road ≡ span_road span.now road.now)) }
+        ensures totals { IfOk result (λ done. IfSome done (λ ran. ran.totals.items ≡ span_totals span.now road.now)) }
+        ensures gone { times_gone self.new ≡ gone_after result (times_gone self.old) }
+    {
+        let _ = span;
+        let _ = road;
+        Ok(None)
     }
 }
 

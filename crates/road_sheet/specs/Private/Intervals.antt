@@ -1,8 +1,9 @@
 -- The run of a sheet as intervals of steps: the road at the first step of each, and what each detector counts in it.
-use Rattle.std.specs.Prelude.{◌≡◌, ◌<◌, ◌≤◌, ◌+◌, ◌*◌, ℕ, List, length, slice_get}
+use Rattle.std.specs.Prelude.{◌≡◌, ◌<◌, ◌≤◌, ◌+◌, ◌*◌, ◌/◌, ℕ, List, length, slice_get}
 use Rattle.std.specs.List.{slice_index_or}
 use Rattle.std.specs.declared.option.Option.TheVariants.{Some}
 use Rattle.road_plan.specs.Plan.{Plan}
+use Rattle.road_plan.specs.declared.limits.TheConstants.{GREATEST_HORIZON}
 use Rattle.road_cells.specs.Array.{Array}
 use Rattle.road_scenario.specs.Edits.{Edits}
 use Rattle.road_detector.specs.Passes.{no_totals}
@@ -36,3 +37,9 @@ pub record IsRunOf (s : Sheet) (intervals : List Interval) (cut : Interval) (roa
 pub record GiveSameRun (plan : Plan) (s t : Edits) (step : ℕ) : Type 0 where
   pub state : (u : ℕ) → u ≤ step → run_at plan s u ≡ run_at plan t u
   pub total : (d a b : ℕ) → b ≤ step → total_at plan s d a b ≡ total_at plan t d a b
+
+-- a step that a sheet is simulated to next: above its horizon, and not past the end of the interval that it cuts
+pub record IsWithinInterval (s : Sheet) (end : ℕ) : Type 0 where
+  pub more : s.horizon < end
+  pub not_past : end ≤ INTERVAL_STEPS * (s.horizon / INTERVAL_STEPS) + INTERVAL_STEPS
+  pub within_limit : end ≤ GREATEST_HORIZON

@@ -1,0 +1,109 @@
+//! Several steps under the same settings.
+
+ghost use Rattle.std.specs.Prelude.{◌≡◌, ◌+◌, ◌≤◌, IfOk};
+ghost use Rattle.std.specs.Arc.{arc_value};
+ghost use Rattle.road_plan.specs.Plan.{IsWithinLimits};
+ghost use Rattle.road_plan.specs.Settings.{Fits};
+ghost use Rattle.road_plan.specs.declared.limits.TheConstants.{GREATEST_HORIZON};
+
+use crate::OutOfMemory;
+use road_plan::{Plan, Settings};
+use std::marker::Model;
+use std::sync::Arc;
+
+/// Steps of a plan, one after another, under the same settings.
+#[derive(Drop)]
+pub struct Span {
+    plan: Arc<Plan>,
+    settings: Arc<Settings>,
+    step: u32,
+    steps: u32,
+}
+
+impl Model for Span {
+    ghost use Rattle.std.specs.Prelude.{◌≤◌, ◌+◌};
+    ghost use Rattle.std.specs.Arc.{arc_value};
+    ghost use Rattle.road_plan.specs.Plan.{IsWithinLimits};
+    ghost use Rattle.road_plan.specs.Settings.{Fits};
+    ghost use Rattle.road_plan.specs.declared.limits.TheConstants.{GREATEST_HORIZON};
+    ghost use Rattle.road_ends.specs.Span.{Span};
+
+    ghost Value = { Span };
+
+    ghost view = { λ span. record
+        { plan = arc_value span.plan; settings = arc_value span.settings; step = span.step; steps = span.steps } };
+
+    ghost invariant = { λ span. IsWithinLimits (arc_value span.plan)
+        × Fits (arc_value span.plan) (arc_value span.settings)
+        × (span.step + span.steps ≤ GREATEST_HORIZON) };
+}
+
+impl Span {
+    /// Makes a span of so many steps from one on. The settings must fit the plan, and the steps must end at 1,048,576
+    /// or before. It takes no memory.
+    pub fn new(plan: Arc<Plan>, settings: Arc<Settings>, step: u32, steps: u32) -> Span
+        requires fits { Fits (arc_value plan) (arc_value settings) }
+        requires within_limit { step + steps ≤ GREATEST_HORIZON }
+        ensures { result ≡ record
+            { plan = arc_value plan; settings = arc_value settings; step = step; steps = steps } }
+    {
+        let _ = plan.length();
+        Span {
+            plan,
+            settings,
+            step,
+            steps,
+        }
+    }
+
+    /// Returns the plan.
+    pub fn plan(&self) -> &Arc<Plan>
+        ensures plan { arc_value result.now ≡ self.now.plan }
+        ensures within { IsWithinLimits self.now.plan }
+    {
+        &self.plan
+    }
+
+    /// Returns the settings.
+    pub fn settings(&self) -> &Arc<Settings>
+        ensures settings { arc_value result.now ≡ self.now.settings }
+        ensures fits { Fits self.now.plan self.now.settings }
+    {
+        &self.settings
+    }
+
+    /// Returns the number of the first step.
+    pub fn step(&self) -> u32
+        ensures { result ≡ self.now.step }
+    {
+        let Span { step, .. } = self;
+        *step
+    }
+
+    /// Returns how many steps it has: they end at 1,048,576 or before.
+    pub fn steps(&self) -> u32
+        ensures steps { result ≡ self.now.steps }
+        ensures within_limit { self.now.step + self.now.steps ≤ GREATEST_HORIZON }
+    {
+        let Span { steps, .. } = self;
+        *steps
+    }
+
+    /// Makes another span of the same plan, settings and steps.
+    ///
+    /// # Errors
+    ///
+    /// `OutOfMemory` where the plan or the settings can have no more owners.
+    pub fn copied(&self) -> Result<Span, OutOfMemory>
+        ensures { IfOk result (λ copy. copy ≡ self.now) }
+    {
+        let plan = Arc::try_clone(&self.plan)?;
+        let settings = Arc::try_clone(&self.settings)?;
+        Ok(Span {
+            plan,
+            settings,
+            step: self.step,
+            steps: self.steps,
+        })
+    }
+}
