@@ -17,8 +17,8 @@ use Rattle.road_sheet.specs.Sheets.{Sheet}
 use Rattle.road_sheet.specs.Sheets as sheets
 use Rattle.road_sheet.specs.declared.faults.SheetFault.{SheetFault}
 use Rattle.road_sheet.specs.declared.faults.SheetFault.TheVariants as sheet_faults
-use Rattle.road_rewind.specs.declared.faults.GrownFault.{GrownFault}
-use Rattle.road_rewind.specs.declared.faults.GrownFault.TheVariants as growth
+use Rattle.road_workers.specs.declared.faults.CrewFault.{CrewFault}
+use Rattle.road_workers.specs.declared.faults.CrewFault.TheVariants as growth
 use Rattle.road_replica.specs.Replicas.{Replica, edit_made}
 use Rattle.road_replica.specs.declared.faults.ReplicaFault.{ReplicaFault}
 use Rattle.road_replica.specs.declared.faults.ReplicaFault.TheVariants.{NoObject, Step, ValueOutOfRange, Count, Insider}
@@ -49,7 +49,7 @@ query_fault sheet_faults.NotSimulated = NotSimulated
 query_fault sheet_faults.OutOfMemory = OutOfMemory
 
 -- the refusal of a write, where the sheet does not grow
-abbrev pub growth_fault : GrownFault → ReplicaFault
+abbrev pub growth_fault : CrewFault → ReplicaFault
 growth_fault growth.WorkersGone = WorkersGone
 growth_fault growth.OutOfMemory = OutOfMemory
 

@@ -8,8 +8,8 @@ use Rattle.road_scenario.specs.Touched.{first_touched_step}
 use Rattle.road_scenario.specs.Winners.{join}
 use Rattle.road_sheet.specs.Commands.{Take, Advance, sheet_after}
 use Rattle.road_sheet.specs.Sheets.{Sheet}
-use Rattle.road_rewind.specs.declared.faults.GrownFault.{GrownFault}
-use Rattle.road_rewind.specs.declared.faults.GrownFault.TheVariants.{WorkersGone, OutOfMemory}
+use Rattle.road_workers.specs.declared.faults.CrewFault.{CrewFault}
+use Rattle.road_workers.specs.declared.faults.CrewFault.TheVariants.{WorkersGone, OutOfMemory}
 
 -- the sheet with edits joined in, simulated at least up to a step
 abbrev pub grown_sheet : Sheet → Edits → ℕ → Sheet
@@ -42,10 +42,10 @@ pub record TicksAtMost (most meter later : ℕ) : Type 0 where
   pub counted : later ≡ meter_after meter ticks
 
 -- how often a crew has answered `WorkersGone`, after such a refusal of a growth
-abbrev pub gone_after_fault : GrownFault → ℕ → ℕ
+abbrev pub gone_after_fault : CrewFault → ℕ → ℕ
 gone_after_fault WorkersGone n = min (n + 1) (2 ^ 64 - 1)
 gone_after_fault OutOfMemory n = n
 
 -- it counts the refusals for `WorkersGone`, and nothing else
-abbrev pub CountsGone : {A : Type 0} → Result A GrownFault → ℕ → ℕ → Type 0
+abbrev pub CountsGone : {A : Type 0} → Result A CrewFault → ℕ → ℕ → Type 0
 CountsGone result gone later = MatchResult result (λ _. later ≡ gone) (λ fault. later ≡ gone_after_fault fault gone)

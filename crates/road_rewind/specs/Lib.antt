@@ -1,3 +1,2 @@
 -- What a grown sheet is, and how many steps it may cost.
 pub mod Growth
-pub mod Private

@@ -15,12 +15,12 @@
 //! ```
 #![tactic(auto)]
 
-mod faults;
 mod outcome;
 mod rewind;
 
-pub use faults::GrownFault;
 pub use outcome::Grown;
 pub use rewind::grown;
 /// Out of memory: an allocation failed.
 pub use std::alloc::AllocError as OutOfMemory;
+/// Why `grown` is refused: its crew answered `WorkersGone`, or an allocation failed.
+pub use road_workers::CrewFault as GrownFault;

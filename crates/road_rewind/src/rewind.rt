@@ -10,7 +10,7 @@ ghost use Rattle.road_sheet.specs.Spans.{IsNextSpan, sheet_after_span};
 ghost use Rattle.road_rewind.specs.Growth.{grown_sheet, touched_step, kept_step, most_steps, meter_after, CountsGone};
 ghost use Rattle.road_rewind.specs.Growth.{TicksAtMost};
 
-use crate::faults::{GrownFault, growth_fault};
+use crate::GrownFault;
 use crate::outcome::Grown;
 use road_ends::{Meter, OutOfMemory, Span};
 use road_scenario::Scenario;
@@ -186,12 +186,8 @@ fn one_step<C: Crew>(
 {
     let input = draft.input(alloc)?;
     let list = mem::replace(speeds, Vec::new(alloc));
-    match crew.speeds_in(alloc, &input, list) {
-        Ok(new) => {
-            draft.advance(alloc, input, &new)?;
-            *speeds = new;
-            Ok(())
-        }
-        Err(fault) => Err(growth_fault(fault)),
-    }
+    let new = crew.speeds_in(alloc, &input, list)?;
+    draft.advance(alloc, input, &new)?;
+    *speeds = new;
+    Ok(())
 }

@@ -13,8 +13,8 @@ pub enum SheetFault {
     /// The plan has no such detector.
     #[error("the plan has no such detector")]
     NoDetector,
-    /// The first step is after the last, or there are too many rows.
-    #[error("the first step is after the last, or there are more than {most} rows", most = MOST_ROWS)]
+    /// The first step is after the last, or more rows are asked for than a query gives.
+    #[error("the first step is after the last, or more than {most} rows are asked for", most = MOST_ROWS)]
     Range,
     /// A step is above the horizon.
     #[error("a step is not simulated")]

@@ -1,5 +1,5 @@
 -- One entry more is copied.
-use Rattle.std.proofs.Common.{subst, T, ap, ◌∙◌}
+use Rattle.std.proofs.Common.{subst, T, ◌∙◌}
 use Rattle.std.specs.FinMap.Entries.{is_sorted}
 use Rattle.lattice_core.proofs.MapLoops.{copied_turn, insert_entry-put}
 use Rattle.lattice_core.proofs.map.LatMap.copied_one_by_one.Goals as goal
