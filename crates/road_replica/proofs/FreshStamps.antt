@@ -10,6 +10,7 @@ use Rattle.road_scenario.specs.Counts.{greatest_count}
 use Rattle.road_scenario.specs.Edits.{Edits, number_pair_cmp, stamp_key}
 use Rattle.road_plan.specs.declared.object.Object.{Object}
 use Rattle.road_scenario.specs.declared.edit.Edit.{Edit}
+use Rattle.road_scenario.specs.declared.edit.Stamp.{Stamp}
 use Rattle.road_scenario.specs.declared.edit.Value.{Value}
 use Rattle.road_replica.specs.Replicas.{Replica, edit_made}
 
@@ -22,6 +23,6 @@ next_count_is_fresh edits number e held =
     less_by_count e.stamp.count (greatest_count edits) (nat_cmp e.stamp.number number) (upper_in edits e held)
 
 -- the edit that a replica makes has a fresh stamp
-pub made_stamp_is_fresh : (r : Replica) (object : Object) (step : ℕ) (value : Value) (made : Edit) → made ≡ edit_made r object step value → (e : Edit) → contains r.sheet.edits e ≡ true → number_pair_cmp (stamp_key e.stamp) (stamp_key made.stamp) ≡ Less
-made_stamp_is_fresh r object step value made is e held =
-    subst (λ (x : Edit). number_pair_cmp (stamp_key e.stamp) (stamp_key x.stamp) ≡ Less) (sym is) (next_count_is_fresh r.sheet.edits r.number e held)
+pub made_stamp_is_fresh : (r : Replica) (object : Object) (step : ℕ) (value : Value) (stamp : Stamp) → stamp ≡ (edit_made r object step value).stamp → (e : Edit) → contains r.sheet.edits e ≡ true → number_pair_cmp (stamp_key e.stamp) (stamp_key stamp) ≡ Less
+made_stamp_is_fresh r object step value stamp is e held =
+    subst (λ (s : Stamp). number_pair_cmp (stamp_key e.stamp) (stamp_key s) ≡ Less) (sym is) (next_count_is_fresh r.sheet.edits r.number e held)

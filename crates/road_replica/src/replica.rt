@@ -225,13 +225,36 @@ impl Replica {
             (refusals.edit_fault self.old object step value) result self.old self.new meter.old meter.new }
         ensures gone { CountsGone result (C.times_gone crew.old) (C.times_gone crew.new) }
     {
+        let (stamp, taken) = self.new_edit(alloc, object, step, value)?;
+        self.join(alloc, &taken, crew, meter)?;
+        Ok(stamp)
+    }
+
+    /// Makes the edit that [`Replica::put`] makes, as a scenario that has it alone, and its stamp. The scenario fits the
+    /// plan, and the replica does not hold it until it is joined ([`Replica::join`]).
+    ///
+    /// # Errors
+    ///
+    /// The named causes of [`Replica::put`], else `OutOfMemory` where an allocation failed.
+    pub fn new_edit(
+        &self,
+        alloc: Global,
+        object: Object,
+        step: u32,
+        value: Value,
+    ) -> Result<(Stamp, Scenario), ReplicaFault>
+        ensures stamp { IfOk result (λ made. made.0 ≡ (edit_made self.now object step value).stamp) }
+        ensures edit { IfOk result (λ made. made.1 ≡ single_edit (edit_made self.now object step value)) }
+        ensures fits { IfOk result (λ made. AreInRange self.now.sheet.plan made.1) }
+        ensures accepted { IfOk result (λ _. refusals.edit_fault self.now object step value ≡ None) }
+        ensures refused { IfErr result (IsRefusal (refusals.edit_fault self.now object step value)) }
+    {
         let edit = self.edit_made(object, step, value);
         if let Some(fault) = edit.fault(self.sheet.plan()) {
             return Err(made_fault(fault));
         }
-        let taken = Scenario::empty(alloc).with_edit(&edit)?;
-        self.join(alloc, &taken, crew, meter)?;
-        Ok(edit.stamp)
+        let alone = Scenario::empty(alloc).with_edit(&edit)?;
+        Ok((edit.stamp, alone))
     }
 
     /// Imports edits from outside this world, in any order, whose stamps have numbers from 64 on. All are taken, or
@@ -285,6 +308,28 @@ impl Replica {
         self.join(alloc, scenario, crew, meter)
     }
 
+    /// Joins a scenario, which must fit the plan (`Scenario::fits` gives none). It is the one way of all writes of edits:
+    /// [`Replica::put`], [`Replica::import`] and [`Replica::take`] ask for the named causes, and then join. The answer is
+    /// the first step at which other numbers are put than before.
+    ///
+    /// # Errors
+    ///
+    /// `WorkersGone` where the crew answers so, else `OutOfMemory` where an allocation failed.
+    pub fn join<C: Crew>(
+        &mut self,
+        alloc: Global,
+        scenario: &Scenario,
+        crew: &mut C,
+        meter: &mut Meter,
+    ) -> Result<Option<u32>, ReplicaFault>
+        requires { AreInRange self.old.sheet.plan scenario.now }
+        ensures touched { IfOk result (λ touched. touched ≡ touched_step self.old.sheet scenario.now) }
+        ensures write { IsWrite (Take scenario.now) None result self.old self.new meter.old meter.new }
+        ensures gone { CountsGone result (C.times_gone crew.old) (C.times_gone crew.new) }
+    {
+        self.grow(alloc, scenario, 0, crew, meter)
+    }
+
     /// Simulates up to a step, where it has not yet. The answer is its horizon: the greater of that before and `to`.
     ///
     /// # Errors
@@ -323,22 +368,6 @@ impl Replica {
             stamp: Stamp { count, number },
             value,
         }
-    }
-
-    // Joins a scenario that fits the plan.
-    fn join<C: Crew>(
-        &mut self,
-        alloc: Global,
-        scenario: &Scenario,
-        crew: &mut C,
-        meter: &mut Meter,
-    ) -> Result<Option<u32>, ReplicaFault>
-        requires { AreInRange self.old.sheet.plan scenario.now }
-        ensures touched { IfOk result (λ touched. touched ≡ touched_step self.old.sheet scenario.now) }
-        ensures write { IsWrite (Take scenario.now) None result self.old self.new meter.old meter.new }
-        ensures gone { CountsGone result (C.times_gone crew.old) (C.times_gone crew.new) }
-    {
-        self.grow(alloc, scenario, 0, crew, meter)
     }
 
     // Joins a scenario that fits the plan, and simulates up to a step.

@@ -1,11 +1,13 @@
 -- What a session's write or look leaves of it.
 use Rattle.std.proofs.Common.{◌≡◌, ◌∙◌, ℕ, ◌+◌, ◌<◌, List, [], ◌∷◌, ◌++◌, length, length-append, slice_get, Option, None, Some, inr, refl, sym, ap, subst, arith}
 use Rattle.std.proofs.lemmas.Option.{slice_get_within}
-use Rattle.std.specs.Prelude.{IsErrAnd, MatchResult, Result}
+use Rattle.std.specs.Prelude.{Bool, IsErrAnd, MatchResult, Result, false, if◌then◌else◌, nat_le}
+use Rattle.std.specs.Option.{option_map}
 use Rattle.std.specs.List.{AllByRecursion}
 use Rattle.std.specs.declared.result.Result.TheVariants.{Err, Ok}
 use mathlib.Core.List.{IsPrefix}
 use Rattle.road_rewind.specs.Growth.{TicksAtMost}
+use Rattle.road_replica.specs.Refusals.{IsRefusal}
 use Rattle.road_replica.specs.Replicas.{Replica}
 use Rattle.road_replica.specs.declared.faults.ReplicaFault.{ReplicaFault}
 use Rattle.road_replica.specs.declared.faults.ReplicaFault.TheVariants as causes
@@ -17,9 +19,9 @@ use Rattle.road_sessions.specs.Journals.{AreWritesOf, IsLegal, AreAtRisingPlaces
 use Rattle.road_sessions.specs.Looks.{HasEntered}
 use Rattle.road_sessions.specs.Private.Stores.{EntersAfterWrite, EntersToLook, last_write_from}
 use Rattle.road_sessions.specs.Sessions.{AreNewSessions, IsAcceptedWrite, IsSession, Session, new_view, session_of}
-use Rattle.road_sessions.specs.Writes.{IsAccepted, IsRefused, IsWriteRefusal, most_steps_of_wish, reply_to, wish_command, write_fault}
+use Rattle.road_sessions.specs.Writes.{IsAccepted, IsRefused, IsWriteRefusal, most_steps_of_wish, reply_to, wish_command, wish_fault, write_fault}
 use Rattle.road_sessions.specs.declared.faults.WriteFault.{WriteFault}
-use Rattle.road_sessions.specs.declared.faults.WriteFault.TheVariants.{Replica as OfReplica}
+use Rattle.road_sessions.specs.declared.faults.WriteFault.TheVariants.{JournalFull, Replica as OfReplica}
 use Rattle.road_sessions.proofs.Prefixes.{each_of_both, got_last, in_longer_journal}
 
 -- ---- a write
@@ -35,6 +37,24 @@ refused_late limit wish r journal (Err given) fault meter counted none same is f
       named = λ some. absurd (some none);
       few_steps = few;
     }
+
+-- a refusal by the replica, which is asked first
+pub refused_early : {A : Type 0} (limit : ℕ) (wish : Wish) (r asked : Replica) (journal : List Entry) (result : Result A WriteFault) (fault : ReplicaFault) (meter : ℕ)
+    → nat_le limit (length journal) ≡ false → asked ≡ replay r journal → IsErrAnd result (λ given. given ≡ OfReplica fault) → IsRefusal (wish_fault wish asked) fault
+    → MatchResult result (λ _. IsAccepted limit wish r journal meter meter) (λ given. IsRefused limit wish r journal given meter meter)
+refused_early limit wish r asked journal (Ok x) fault meter room same given is = absurd given
+refused_early limit wish r asked journal (Err other) fault meter room same given is =
+    let cause : option_map OfReplica (wish_fault wish asked) ≡ write_fault limit wish r journal =
+    ap (λ (q : Replica). option_map OfReplica (wish_fault wish q)) same
+    ∙ ap (λ (full : Bool). if full then Some JournalFull else option_map OfReplica (wish_fault wish (replay r journal))) (sym room) in record {
+      refused = subst (λ (o : Option WriteFault). IsWriteRefusal o other) cause (by_replica (wish_fault wish asked) given is);
+      named = λ _. refl;
+      few_steps = record { ticks = 0; few = omega arith; counted = refl };
+    }
+  where
+    by_replica : (o : Option ReplicaFault) → other ≡ OfReplica fault → IsRefusal o fault → IsWriteRefusal (option_map OfReplica o) other
+    by_replica (Some cause) same is = same ∙ ap (λ (f : ReplicaFault). OfReplica f) is
+    by_replica None same is = inr (same ∙ ap (λ (f : ReplicaFault). OfReplica f) is)
 
 last_of_more : (place : ℕ) (history : List Entry) (e : Entry) → last_write_from place (history ++ e ∷ []) ≡ (place + length history, e) ∷ []
 last_of_more place [] e = ap (λ (n : ℕ). (n, e) ∷ []) (omega arith)

@@ -7,20 +7,20 @@ ghost use Rattle.road_rewind.specs.Growth.{TicksAtMost};
 ghost use Rattle.road_sheet.specs.Commands.{IsAllowed};
 ghost use Rattle.road_replica.specs.Refusals as refusals;
 ghost use Rattle.road_replica.specs.Replicas.{replica_after};
+ghost use Rattle.road_replica.specs.Writes.{IsAccepted as IsDone, most_steps_of_command};
 ghost use Rattle.road_replica.specs.declared.faults.ReplicaFault.TheVariants as replica_faults;
 ghost use Rattle.road_sessions.specs.declared.entry.TheConstants.{MOST_WRITES};
 ghost use Rattle.road_sessions.specs.Journals.{entry_command, entry, replay};
-ghost use Rattle.road_sessions.specs.Private.MadeWrites.{IsDone};
+ghost use Rattle.road_sessions.specs.Private.Errands.{reply_to_command};
 ghost use Rattle.road_sessions.specs.Sessions.{AreNewSessions, IsAcceptedWrite, IsRefusedWrite, new_view, session_of};
-ghost use Rattle.road_sessions.specs.Writes.{CountsGone, IsAccepted, IsRefused, most_steps_of_wish, reply_to};
-ghost use Rattle.road_sessions.specs.Writes.{wish_command, wish_fault};
+ghost use Rattle.road_sessions.specs.Writes.{CountsGone, IsAccepted, IsRefused, reply_to, wish_command};
 ghost use Rattle.road_sessions.specs.declared.faults.OpenFault.TheVariants as openings;
 
-use crate::entry::Entry;
+use crate::entry::{Entry, SheetCommand};
 use crate::faults::{OpenFault, WriteFault};
 use crate::history::{Head, Prefix, Whole};
 use crate::naming::Naming;
-use crate::perform::{perform, wish_fault};
+use crate::perform::{Errand, errand_of, perform, reply_of};
 use crate::reading::enter_after_write_here;
 use crate::session::Session;
 use crate::store::{Published, StoreReader, StoreWriter, publish_here};
@@ -206,35 +206,32 @@ impl<J: Naming, R: Wait + Drop> Held<J, R> {
         if self.journal.len() as u64 >= self.limit {
             return Err(WriteFault::JournalFull);
         }
-        if let Some(fault) = wish_fault(&self.replica, wish) {
-            return Err(WriteFault::Replica(fault));
-        }
-        let (replica, entry, reply) = self.next(session, wish, crew, meter)?;
+        let Errand { command, stamp } = errand_of(self.alloc, &self.replica, wish)?;
+        let (replica, answer) = self.next(&command, crew, meter)?;
         let place = self.journal.len() as u64;
-        self.put(replica, entry, mine)?;
-        Ok((place, reply))
+        self.put(replica, Entry { session, command }, mine)?;
+        Ok((place, reply_of(stamp, answer)))
     }
 
-    // Performs a wish on a copy of the replica. The answer is the copy, the entry of the journal, and the reply.
+    // Performs a command on a copy of the replica. The answer is the copy, and what the command is answered.
     fn next<C: Crew>(
         &self,
-        session: u32,
-        wish: &Wish<'_>,
+        command: &SheetCommand,
         crew: &mut C,
         meter: &mut Meter,
-    ) -> Result<(Replica, Entry, Reply), ReplicaFault>
-        requires { wish_fault wish.now self.now.replica ≡ None }
-        ensures entry { IfOk result (λ next. next.1 ≡ entry session (wish_command wish.now self.now.replica)) }
-        ensures reply { IfOk result (λ next. next.2 ≡ reply_to wish.now self.now.replica) }
-        ensures done { IfOk result
-            (λ next. IsDone next.1.command self.now.replica next.0 meter.old meter.new) }
+    ) -> Result<(Replica, Reply), ReplicaFault>
+        requires { IsAllowed self.now.replica.sheet.plan (entry_command command.now) }
+        ensures reply { IfOk result (λ next. next.1 ≡ reply_to_command command.now self.now.replica) }
+        ensures done { IfOk result (λ next.
+            IsDone (entry_command command.now) None self.now.replica next.0 meter.old meter.new) }
         ensures refused { IfErr result (refusals.IsWriteRefusal None) }
-        ensures few_steps { TicksAtMost (most_steps_of_wish wish.now self.now.replica) meter.old meter.new }
+        ensures few_steps { TicksAtMost (most_steps_of_command (entry_command command.now) self.now.replica.sheet)
+            meter.old meter.new }
         ensures gone { refusals.CountsGone result (C.times_gone crew.old) (C.times_gone crew.new) }
     {
         let mut replica = self.replica.copied()?;
-        let (command, reply) = perform(self.alloc, &mut replica, wish, crew, meter)?;
-        Ok((replica, Entry { session, command }, reply))
+        let answer = perform(self.alloc, &mut replica, command, crew, meter)?;
+        Ok((replica, answer))
     }
 
     // Puts the next replica in place, with its entry of the journal, and publishes its sheet. What may be refused comes

@@ -1,151 +1,118 @@
-//! Wishes, performed at a replica.
-ghost use Rattle.std.specs.Prelude.{◌≡◌, max, IfErr, IfOk, None};
-ghost use Rattle.road_plan.specs.Plan.{Plan};
-ghost use Rattle.road_scenario.specs.Faults.{AreInRange, fault_of_edit};
-ghost use Rattle.road_sheet.specs.Commands as sheet_commands;
-ghost use Rattle.road_rewind.specs.Growth.{TicksAtMost, touched_step};
+//! Wishes: what they come to at a replica, and how that is done.
+ghost use Rattle.std.specs.Prelude.{◌≡◌, IfErr, IfOk, None, Some};
+ghost use Rattle.road_sheet.specs.Commands.{IsAllowed};
 ghost use Rattle.road_replica.specs.Refusals as refusals;
 ghost use Rattle.road_replica.specs.Replicas.{edit_made, single_edit};
-ghost use Rattle.road_replica.specs.Writes.{most_steps_of_command};
-ghost use Rattle.road_replica.specs.declared.reply.Reply.TheVariants as replies;
-ghost use Rattle.road_sessions.specs.Private.MadeWrites.{IsDone};
-ghost use Rattle.road_sessions.specs.Writes.{most_steps_of_wish, reply_to, wish_command, wish_fault};
+ghost use Rattle.road_replica.specs.Writes.{IsWrite};
+ghost use Rattle.road_sessions.specs.Journals.{entry_command};
+ghost use Rattle.road_sessions.specs.Private.Errands.{reply_to_command, reply_with};
+ghost use Rattle.road_sessions.specs.Writes.{reply_to, wish_command, wish_fault};
 ghost use Rattle.road_sessions.specs.declared.entry.SheetCommand.TheVariants as commands;
 
 use crate::entry::SheetCommand;
 use crate::wish::Wish;
 use road_ends::Meter;
+use road_plan::Object;
 use road_plan::limits::GREATEST_HORIZON;
-use road_plan::{Object, OutOfMemory};
 use road_replica::{Replica, ReplicaFault, Reply};
-use road_scenario::{Edit, Scenario, Value};
+use road_scenario::{Stamp, Value};
 use road_workers::Crew;
 use std::alloc::Global;
 
-// Returns the named cause for which a replica refuses a wish; none where it does not, but for lost workers or out of
-// memory.
-pub(crate) fn wish_fault(replica: &Replica, wish: &Wish<'_>) -> Option<ReplicaFault>
-    ensures { result ≡ wish_fault wish.now replica.now }
-{
-    match *wish {
-        Wish::Take(edits) => replica.take_fault(edits),
-        Wish::Advance(to) if to > GREATEST_HORIZON => Some(ReplicaFault::Horizon),
-        Wish::Advance(_) => None,
-        Wish::Edit(object, step, value) => replica.edit_fault(object, step, Value::Put(value)),
-        Wish::Withdraw(object, step) => replica.edit_fault(object, step, Value::Withdrawn),
-    }
+/// What a wish comes to at a replica.
+#[derive(Drop)]
+pub(crate) struct Errand {
+    /// The command to the replica's sheet, which the plan allows.
+    pub(crate) command: SheetCommand,
+    /// The stamp of the edit that the replica makes, where it makes one.
+    pub(crate) stamp: Option<Stamp>,
 }
 
-// Does what is wished, where no named cause stands. The answer is the command that it comes to, and the reply.
-pub(crate) fn perform<C: Crew>(
+// Makes what a wish comes to, where the replica has no named cause to refuse it. What is wished is looked at once here,
+// and not again where it is done.
+pub(crate) fn errand_of(
     alloc: Global,
-    replica: &mut Replica,
+    replica: &Replica,
     wish: &Wish<'_>,
-    crew: &mut C,
-    meter: &mut Meter,
-) -> Result<(SheetCommand, Reply), ReplicaFault>
-    requires { wish_fault wish.now replica.old ≡ None }
-    ensures command { IfOk result (λ made. made.0 ≡ wish_command wish.now replica.old) }
-    ensures reply { IfOk result (λ made. made.1 ≡ reply_to wish.now replica.old) }
-    ensures done { IfOk result (λ made. IsDone made.0 replica.old replica.new meter.old meter.new) }
-    ensures refused { IfErr result (refusals.IsWriteRefusal None) }
-    ensures few_steps { TicksAtMost (most_steps_of_wish wish.now replica.old) meter.old meter.new }
-    ensures gone { refusals.CountsGone result (C.times_gone crew.old) (C.times_gone crew.new) }
+) -> Result<Errand, ReplicaFault>
+    ensures command { IfOk result (λ errand. errand.command ≡ wish_command wish.now replica.now) }
+    ensures reply { IfOk result (λ errand.
+        reply_with errand.stamp (reply_to_command errand.command replica.now) ≡ reply_to wish.now replica.now) }
+    ensures allowed { IfOk result (λ errand. IsAllowed replica.now.sheet.plan (entry_command errand.command)) }
+    ensures accepted { IfOk result (λ _. wish_fault wish.now replica.now ≡ None) }
+    ensures refused { IfErr result (refusals.IsRefusal (wish_fault wish.now replica.now)) }
 {
     match *wish {
-        Wish::Take(edits) => take(alloc, replica, edits, crew, meter),
-        Wish::Advance(to) => advance(alloc, replica, to, crew, meter),
-        Wish::Edit(object, step, value) => {
-            put(alloc, replica, object, step, Value::Put(value), crew, meter)
-        }
-        Wish::Withdraw(object, step) => {
-            put(alloc, replica, object, step, Value::Withdrawn, crew, meter)
-        }
+        Wish::Take(edits) => match replica.take_fault(edits) {
+            Some(fault) => Err(fault),
+            None => Ok(Errand {
+                command: SheetCommand::Take(edits.copied()?),
+                stamp: None,
+            }),
+        },
+        Wish::Advance(to) if to > GREATEST_HORIZON => Err(ReplicaFault::Horizon),
+        Wish::Advance(to) => Ok(Errand {
+            command: SheetCommand::Advance(to),
+            stamp: None,
+        }),
+        Wish::Edit(object, step, value) => edit(alloc, replica, object, step, Value::Put(value)),
+        Wish::Withdraw(object, step) => edit(alloc, replica, object, step, Value::Withdrawn),
     }
 }
 
-// Takes edits.
-fn take<C: Crew>(
+// Makes an edit of the replica, to be taken.
+fn edit(
     alloc: Global,
-    replica: &mut Replica,
-    edits: &Scenario,
-    crew: &mut C,
-    meter: &mut Meter,
-) -> Result<(SheetCommand, Reply), ReplicaFault>
-    requires { refusals.take_fault replica.old.sheet.plan edits.now ≡ None }
-    ensures command { IfOk result (λ made. made.0 ≡ commands.Take edits.now) }
-    ensures reply { IfOk result (λ made. made.1 ≡ replies.Touched (touched_step replica.old.sheet edits.now)) }
-    ensures done { IfOk result (λ made. IsDone made.0 replica.old replica.new meter.old meter.new) }
-    ensures refused { IfErr result (refusals.IsWriteRefusal None) }
-    ensures few_steps { TicksAtMost (most_steps_of_command (sheet_commands.Take edits.now) replica.old.sheet)
-        meter.old meter.new }
-    ensures gone { refusals.CountsGone result (C.times_gone crew.old) (C.times_gone crew.new) }
-{
-    let asked = replica.take_fault(edits);
-    prove!(asked.is_none());
-    let copy = edits.copied()?;
-    let touched = replica.take(alloc, edits, crew, meter)?;
-    Ok((SheetCommand::Take(copy), Reply::Touched(touched)))
-}
-
-// Simulates up to a step.
-fn advance<C: Crew>(
-    alloc: Global,
-    replica: &mut Replica,
-    to: u32,
-    crew: &mut C,
-    meter: &mut Meter,
-) -> Result<(SheetCommand, Reply), ReplicaFault>
-    requires { refusals.advance_fault to ≡ None }
-    ensures command { IfOk result (λ made. made.0 ≡ commands.Advance to) }
-    ensures reply { IfOk result (λ made. made.1 ≡ replies.Horizon (max replica.old.sheet.horizon to)) }
-    ensures done { IfOk result (λ made. IsDone made.0 replica.old replica.new meter.old meter.new) }
-    ensures refused { IfErr result (refusals.IsWriteRefusal None) }
-    ensures few_steps { TicksAtMost (most_steps_of_command (sheet_commands.Advance to) replica.old.sheet)
-        meter.old meter.new }
-    ensures gone { refusals.CountsGone result (C.times_gone crew.old) (C.times_gone crew.new) }
-{
-    let horizon = replica.advance(alloc, to, crew, meter)?;
-    Ok((SheetCommand::Advance(to), Reply::Horizon(horizon)))
-}
-
-// Makes an edit.
-fn put<C: Crew>(
-    alloc: Global,
-    replica: &mut Replica,
+    replica: &Replica,
     object: Object,
     step: u32,
     value: Value,
-    crew: &mut C,
-    meter: &mut Meter,
-) -> Result<(SheetCommand, Reply), ReplicaFault>
-    requires { refusals.edit_fault replica.old object step value ≡ None }
+) -> Result<Errand, ReplicaFault>
     ensures command { IfOk result
-        (λ made. made.0 ≡ commands.Take (single_edit (edit_made replica.old object step value))) }
-    ensures reply { IfOk result
-        (λ made. made.1 ≡ replies.Stamped (edit_made replica.old object step value).stamp) }
-    ensures done { IfOk result (λ made. IsDone made.0 replica.old replica.new meter.old meter.new) }
-    ensures refused { IfErr result (refusals.IsWriteRefusal None) }
-    ensures few_steps { TicksAtMost (most_steps_of_command
-        (sheet_commands.Take (single_edit (edit_made replica.old object step value))) replica.old.sheet)
-        meter.old meter.new }
-    ensures gone { refusals.CountsGone result (C.times_gone crew.old) (C.times_gone crew.new) }
+        (λ errand. errand.command ≡ commands.Take (single_edit (edit_made replica.now object step value))) }
+    ensures stamp { IfOk result (λ errand. errand.stamp ≡ Some (edit_made replica.now object step value).stamp) }
+    ensures allowed { IfOk result (λ errand. IsAllowed replica.now.sheet.plan (entry_command errand.command)) }
+    ensures accepted { IfOk result (λ _. refusals.edit_fault replica.now object step value ≡ None) }
+    ensures refused { IfErr result (refusals.IsRefusal (refusals.edit_fault replica.now object step value)) }
 {
-    let stamp = replica.put(alloc, object, step, value, crew, meter)?;
-    let edit = Edit {
-        object,
-        step,
-        stamp,
-        value,
-    };
-    let single = single(alloc, &edit)?;
-    Ok((SheetCommand::Take(single), Reply::Stamped(stamp)))
+    let (stamp, alone) = replica.new_edit(alloc, object, step, value)?;
+    Ok(Errand {
+        command: SheetCommand::Take(alone),
+        stamp: Some(stamp),
+    })
 }
 
-// Makes the scenario of one edit.
-fn single(alloc: Global, edit: &Edit) -> Result<Scenario, OutOfMemory>
-    ensures single { IfOk result (λ single. single ≡ single_edit edit.now) }
-    ensures fits { (plan : Plan) → fault_of_edit plan edit.now ≡ None → IfOk result (λ single. AreInRange plan single) }
+// Does what a command says at a replica.
+pub(crate) fn perform<C: Crew>(
+    alloc: Global,
+    replica: &mut Replica,
+    command: &SheetCommand,
+    crew: &mut C,
+    meter: &mut Meter,
+) -> Result<Reply, ReplicaFault>
+    requires { IsAllowed replica.old.sheet.plan (entry_command command.now) }
+    ensures reply { IfOk result (λ reply. reply ≡ reply_to_command command.now replica.old) }
+    ensures write { IsWrite (entry_command command.now) None result replica.old replica.new meter.old meter.new }
+    ensures gone { refusals.CountsGone result (C.times_gone crew.old) (C.times_gone crew.new) }
 {
-    Ok(Scenario::empty(alloc).with_edit(edit)?)
+    match command {
+        SheetCommand::Take(edits) => {
+            let touched = replica.join(alloc, edits, crew, meter)?;
+            Ok(Reply::Touched(touched))
+        }
+        SheetCommand::Advance(to) => {
+            let horizon = replica.advance(alloc, *to, crew, meter)?;
+            Ok(Reply::Horizon(horizon))
+        }
+    }
+}
+
+// Returns the reply to a wish: the stamp of the edit that was made, else what the command was answered.
+pub(crate) fn reply_of(stamp: Option<Stamp>, answer: Reply) -> Reply
+    ensures { result ≡ reply_with stamp answer }
+{
+    match stamp {
+        Some(stamp) => Reply::Stamped(stamp),
+        None => answer,
+    }
 }

@@ -1,7 +1,6 @@
 -- What is kept of a world, and the world that it is seen as: one replica read or changed, one message more.
 use Rattle.std.proofs.Common.{◌≡◌, ◌<◌, ◌≤◌, ◌+◌, ◌∙◌, ℕ, zero, suc, max, List, [], ◌∷◌, ◌++◌, length, map, Option, Some, None, refl, ap, sym, subst, arith}
 use Rattle.std.specs.Prelude.{slice_set, replicate, IfSome, MatchOption}
-use Rattle.std.specs.Option.{option_map}
 use Rattle.std.specs.List.{All, slice_index_or, slice_get}
 use Rattle.std.proofs.lemmas.List.{get_or-map, get_or_default, map-set, map-append, length-set, length-map, length-replicate, replicate_more}
 use Rattle.std.proofs.lemmas.List.Elements.{All-nil, All-push}
@@ -10,19 +9,18 @@ use Rattle.lattice_core.specs.Sets.{contains, items, union}
 use Rattle.road_plan.specs.Plan.{Plan, IsWithinLimits}
 use Rattle.road_plan.specs.declared.limits.TheConstants.{MOST_REPLICAS}
 use Rattle.road_scenario.specs.Edits.{Edits}
-use Rattle.road_scenario.specs.Faults.{fault_in}
+use Rattle.road_scenario.specs.Faults.{AreInRange}
 use Rattle.road_scenario.specs.Touched.{first_touched_step, first_touched_step_in}
 use Rattle.road_scenario.specs.Winners.{winners, AreWinners}
 use Rattle.road_scenario.specs.Instances.EditOrder.{winners_laws}
 use Rattle.road_scenario.proofs.NoEdits.{winners-empty}
-use Rattle.road_scenario.proofs.EditRanges.{in_range-empty, in_range-faultless}
+use Rattle.road_scenario.proofs.EditRanges.{in_range-empty}
 use Rattle.road_delta.specs.Deltas.{heads, beyond}
 use Rattle.road_delta.specs.declared.heads.Head.{Head}
 use Rattle.road_delta.proofs.DeltaEdits.{from_set, winners-beyond}
 use Rattle.road_sheet.specs.Commands.{SheetCommand, Advance, Take, sheet_after}
 use Rattle.road_sheet.specs.Sheets.{Sheet, IsSheet, opening_sheet}
 use Rattle.road_rewind.specs.Growth.{touched_step}
-use Rattle.road_replica.specs.Refusals.{arrived_edit_fault, take_fault}
 use Rattle.road_replica.specs.Replicas.{Replica, replica_after}
 use Rattle.road_world.specs.Answers.{edits_wanted_fault, fault_of_event, replica_with_sheet, sheet_at}
 use Rattle.road_world.specs.Events.{World, WorldReplica, opening_replica, replica_at, asked_heads, carried_edits, message_of_event, replica_of_winners, message_of_winners, world_after_event, world_of_winners}
@@ -167,10 +165,12 @@ module _ (plan : Plan) (xs : List Replica) (ms : List Message) (kept : IsWorldKe
     pub carried : (m : ℕ) → edits_wanted_fault (slice_get ms m) ≡ None → AreSendable plan (carried_edits (slice_get ms m))
     carried m wanted = carried_by plan (slice_get ms m) (λ x. is_sendable m x) wanted
 
-    pub carried_without_fault : (r : ℕ) (x : Replica) (m : ℕ) → x ≡ slice_index_or xs r x → r < length xs → edits_wanted_fault (slice_get ms m) ≡ None → take_fault x.sheet.plan (carried_edits (slice_get ms m)) ≡ None
-    carried_without_fault r x m is below wanted =
-        let edits = carried_edits (slice_get ms m) in
-        ap (option_map arrived_edit_fault) (ap (λ (p : Plan). fault_in p edits) (is_replica r x is below).plan_is ∙ in_range-faultless plan edits (carried m wanted).in_range)
+    -- they fit the plan of each replica
+    pub carried_in_range : (r : ℕ) (x : Replica) (m : ℕ) (edits : Edits) (ns : List Message) → x ≡ slice_index_or xs r x → r < length xs → ns ≡ ms → edits ≡ carried_edits (slice_get ns m) → edits_wanted_fault (slice_get ns m) ≡ None → AreInRange x.sheet.plan edits
+    carried_in_range r x m edits ns is below same carries wanted =
+        let sendable = carried m (subst (λ (l : List Message). edits_wanted_fault (slice_get l m) ≡ None) same wanted) in
+        let here : edits ≡ carried_edits (slice_get ms m) = carries ∙ ap (λ (l : List Message). carried_edits (slice_get l m)) same in
+        subst (λ (p : Plan). AreInRange p edits) (sym (is_replica r x is below).plan_is) (subst (λ (s : Edits). AreInRange plan s) (sym here) sendable.in_range)
 
     -- and of any
     pub carried_there : (m : ℕ) → AreSendable k.plan (carried_edits (slice_get k.messages m))

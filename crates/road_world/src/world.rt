@@ -338,7 +338,7 @@ impl World {
             return Err(WorldFault::NoMessage);
         };
         let replica = &mut self.replicas[at as usize];
-        let touched = replica.take(alloc, scenario, crew, meter)?;
+        let touched = replica.join(alloc, scenario, crew, meter)?;
         Ok(Reply::Touched(touched))
     }
 

@@ -1,11 +1,14 @@
--- The entry is the session's, and has the command that its wish comes to.
-use Rattle.std.proofs.Common.{◌∙◌, ap}
+-- An accepted command ticks no more often than a refused one may.
+use Rattle.std.proofs.Common.{subst}
+use Rattle.road_rewind.specs.Growth.{TicksAtMost}
 use Rattle.road_replica.specs.Replicas.{Replica}
-use Rattle.road_sessions.specs.Journals.{entry}
-use Rattle.road_sessions.specs.Writes.{wish_command}
-use Rattle.road_sessions.specs.declared.entry.SheetCommand.{SheetCommand}
+use Rattle.road_replica.specs.Writes.{most_steps_of_command}
+use Rattle.road_replica.proofs.Writes.{few_steps_of}
+use Rattle.road_sessions.specs.Journals.{entry_command}
 use Rattle.road_sessions.proofs.held.Held.next.Goals as goal
 
-pub returns-clause-entry : goal.returns-clause-entry
-returns-clause-entry g c =
-    ap (λ (command : SheetCommand). entry c.args.session command) (c.in_ok-command.ensures.command ∙ ap (λ (r : Replica). wish_command c.args.wish.now r) c.in_ok-replica.ensures)
+pub returns-clause-few_steps : goal.returns-clause-few_steps
+returns-clause-few_steps g c =
+    let command = entry_command c.args.command.now in
+    subst (λ (r : Replica). TicksAtMost (most_steps_of_command command r.sheet) c.args.meter.now c.perform.new.meter) c.in_ok-replica.ensures
+    (few_steps_of command c.in_ok-replica.replica.sheet c.args.meter.now c.perform.new.meter c.in_ok-answer.ensures.write.steps)

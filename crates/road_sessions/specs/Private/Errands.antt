@@ -1,0 +1,21 @@
+-- What a command is answered, and what a session is replied that wished it.
+use Rattle.std.specs.Prelude.{max}
+use Rattle.std.specs.declared.option.Option.{Option}
+use Rattle.std.specs.declared.option.Option.TheVariants.{None, Some}
+use Rattle.road_rewind.specs.Growth.{touched_step}
+use Rattle.road_replica.specs.Replicas.{Replica}
+use Rattle.road_replica.specs.declared.reply.Reply.{Reply}
+use Rattle.road_replica.specs.declared.reply.Reply.TheVariants.{Stamped, Touched, Horizon}
+use Rattle.road_scenario.specs.declared.edit.Stamp.{Stamp}
+use Rattle.road_sessions.specs.declared.entry.SheetCommand.{SheetCommand}
+use Rattle.road_sessions.specs.declared.entry.SheetCommand.TheVariants.{Take, Advance}
+
+-- what a replica answers to a command: the touched step, or the horizon
+abbrev pub reply_to_command : SheetCommand → Replica → Reply
+reply_to_command (Take edits) r = Touched (touched_step r.sheet edits)
+reply_to_command (Advance to) r = Horizon (max r.sheet.horizon to)
+
+-- the reply to a session: the stamp of the edit that was made, where one was, else the answer
+abbrev pub reply_with : Option Stamp → Reply → Reply
+reply_with (Some stamp) answer = Stamped stamp
+reply_with None answer = answer
