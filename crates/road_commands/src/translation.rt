@@ -1,6 +1,6 @@
 //! Translates the world's replies and faults to the program's, and commands to the replica that they name.
 
-ghost use Rattle.std.specs.Prelude.{◌≡◌, None, false};
+ghost use Rattle.std.specs.Prelude.{◌≡◌, false};
 ghost use Rattle.road_format.specs.Views.{answer_view, command_view};
 ghost use Rattle.road_commands.specs.Laboratory as laboratory;
 ghost use Rattle.road_commands.specs.Private.Changes as changes;
@@ -94,12 +94,10 @@ pub(crate) fn replica_refusal(fault: ReplicaFault) -> Option<Refusal>
 
 // Returns the crew's fault where the world refuses an event for no named cause.
 pub(crate) fn fault_by(fault: WorldFault) -> CrewFault
-    requires { laboratory.world_refusal fault ≡ None }
     ensures { result ≡ changes.fault_by fault }
 {
     match fault {
         WorldFault::Replica(ReplicaFault::WorkersGone) => CrewFault::WorkersGone,
-        WorldFault::Replica(ReplicaFault::OutOfMemory) => CrewFault::OutOfMemory,
-        _ => unreachable!(),
+        _ => CrewFault::OutOfMemory,
     }
 }
