@@ -1,5 +1,5 @@
 -- How many steps a growth computes.
-use Rattle.std.proofs.Common.{◌≡◌, ◌≤◌, ◌+◌, ◌-◌, ◌^◌, ◌∙◌, inl, inr, ℕ, zero, suc, min, Option, Some, None, ltb, ap, arith, refl}
+use Rattle.std.proofs.Common.{◌≡◌, ◌≤◌, ◌<◌, ◌+◌, ◌-◌, ◌^◌, ◌∙◌, inl, inr, ℕ, zero, suc, min, Option, Some, None, ltb, ap, arith, refl}
 use Rattle.std.proofs.lemmas.Bool.{cases_Bool}
 use Rattle.std.proofs.lemmas.Bool.Decides.{nat_tests}
 use Rattle.road_sheet.specs.Drafts.{draft_start}
@@ -12,17 +12,28 @@ tick_more meter count later h step before is ticked =
     ticked ∙ ap (λ n. min (n + 1) (2 ^ 64 - 1)) is ∙ ap (meter_after meter) more
 
 -- ticks after others
-meter_more : (meter n k : ℕ) → meter_after (meter_after meter n) k ≡ meter_after meter (n + k)
-meter_more meter n zero = ap (meter_after meter) (omega arith)
-meter_more meter n (suc k) = let one : suc (n + k) ≡ n + suc k = omega arith in ap (λ (m : ℕ). min (m + 1) (2 ^ 64 - 1)) (meter_more meter n k) ∙ ap (meter_after meter) one
+pub more_ticks_after : (meter n k : ℕ) → meter_after (meter_after meter n) k ≡ meter_after meter (n + k)
+more_ticks_after meter n zero = ap (meter_after meter) (omega arith)
+more_ticks_after meter n (suc k) =
+    let one : suc (n + k) ≡ n + suc k = omega arith in
+    ap (λ (m : ℕ). min (m + 1) (2 ^ 64 - 1)) (more_ticks_after meter n k) ∙ ap (meter_after meter) one
 
--- so many ticks at once
-pub ticks_at_once : (meter k later : ℕ) → meter ≤ 2 ^ 64 - 1 → later ≡ min (meter + k) (2 ^ 64 - 1) → later ≡ meter_after meter k
-ticks_at_once meter k later below is = is ∙ by_ticks k
-  where
-    by_ticks : (k : ℕ) → min (meter + k) (2 ^ 64 - 1) ≡ meter_after meter k
-    by_ticks zero = omega (arith, below)
-    by_ticks (suc k) = let rest = by_ticks k in let one : min (meter + suc k) (2 ^ 64 - 1) ≡ min (min (meter + k) (2 ^ 64 - 1) + 1) (2 ^ 64 - 1) = omega arith in one ∙ ap (λ (m : ℕ). min (m + 1) (2 ^ 64 - 1)) rest
+-- so many ticks at once, and at least one
+at_once : (meter k : ℕ) → min (meter + suc k) (2 ^ 64 - 1) ≡ meter_after meter (suc k)
+at_once meter zero = refl
+at_once meter (suc k) =
+    let one : min (meter + suc (suc k)) (2 ^ 64 - 1) ≡ min (min (meter + suc k) (2 ^ 64 - 1) + 1) (2 ^ 64 - 1) = omega arith in
+    one ∙ ap (λ (m : ℕ). min (m + 1) (2 ^ 64 - 1)) (at_once meter k)
+
+pub ticks_at_once : (meter k later : ℕ) → 0 < k → later ≡ min (meter + k) (2 ^ 64 - 1) → later ≡ meter_after meter k
+ticks_at_once meter zero later some is = absurd (omega (arith, some))
+ticks_at_once meter (suc k) later some is = is ∙ at_once meter k
+
+-- a bound of ticks after others
+pub few_after : (meter n k most count later : ℕ) → count ≡ meter_after meter n → n + k ≤ most → TicksAtMost k count later → TicksAtMost most meter later
+few_after meter n k most count later is within more =
+    let few = more.few in
+    record { ticks = n + more.ticks; few = omega (arith, few, within); counted = more.counted ∙ ap (λ (m : ℕ). meter_after m more.ticks) is ∙ more_ticks_after meter n more.ticks }
 
 -- a weaker bound
 pub more_ticks : (few most meter later : ℕ) → few ≤ most → TicksAtMost few meter later → TicksAtMost most meter later

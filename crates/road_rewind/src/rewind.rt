@@ -116,9 +116,11 @@ fn simulate<C: Crew>(
     ensures gone { CountsGone result (C.times_gone crew.old) (C.times_gone crew.new) }
 {
     let mut speeds = Vec::new(alloc);
-    while draft.horizon() < to {
+    let mut step = draft.horizon();
+    while step < to {
         let span = draft.next_span(alloc, to)?;
         simulate_span(alloc, draft, &span, crew, &mut speeds, meter)?;
+        step += span.steps();
     }
     Ok(())
 }
@@ -145,27 +147,31 @@ fn simulate_span<C: Crew>(
             meter.count(span.steps());
             Ok(())
         }
-        Ok(None) => simulate_steps(alloc, draft, span.steps(), crew, speeds, meter),
-        Err(fault) => Err(growth_fault(fault)),
+        Ok(None) => {
+            let end = draft.horizon() + span.steps();
+            simulate_steps(alloc, draft, end, crew, speeds, meter)
+        }
+        Err(fault) => Err(fault),
     }
 }
 
-// Simulates so many steps of a draft one after another. The meter counts each.
+// Simulates a draft up to a step, one step after another. The meter counts each.
 fn simulate_steps<C: Crew>(
     alloc: Global,
     draft: &mut Draft,
-    steps: u32,
+    to: u32,
     crew: &mut C,
     speeds: &mut Vec<u8>,
     meter: &mut Meter,
 ) -> Result<(), GrownFault>
-    requires within_limit { draft.old.horizon + steps ≤ GREATEST_HORIZON }
-    ensures simulated { OnOk result (draft.new ≡ record draft.old { horizon = draft.old.horizon + steps }) }
-    ensures steps { OnOk result (meter.new ≡ meter_after meter.old steps) }
-    ensures few { TicksAtMost steps meter.old meter.new }
+    requires before { draft.old.horizon ≤ to }
+    requires within_limit { to ≤ GREATEST_HORIZON }
+    ensures simulated { OnOk result (draft.new ≡ record draft.old { horizon = to }) }
+    ensures steps { OnOk result (meter.new ≡ meter_after meter.old (to - draft.old.horizon)) }
+    ensures few { TicksAtMost (to - draft.old.horizon) meter.old meter.new }
     ensures gone { CountsGone result (C.times_gone crew.old) (C.times_gone crew.new) }
 {
-    for done in 0..steps {
+    for step in draft.horizon()..to {
         one_step(alloc, draft, crew, speeds)?;
         meter.tick();
     }

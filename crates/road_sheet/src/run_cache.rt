@@ -94,9 +94,9 @@ impl RunCache {
         ensures fits { IfOk result (λ found. Fits sheet.now.plan (arc_value found.0)) }
         ensures cached { IsOfRun sheet.now.plan sheet.now.edits self.new }
     {
-        let settings = self.settings_at(alloc, sheet, step)?;
+        let in_force = self.settings_at(alloc, sheet, step)?;
         let until = self.settings.until(step, to);
-        Ok((settings, until))
+        Ok((in_force, until))
     }
 
     // Makes the input of a step: of the last one, where it can be, and else a new one.

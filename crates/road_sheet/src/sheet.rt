@@ -380,11 +380,11 @@ impl Sheet {
         ensures before { IfOk result (λ span. self.now.horizon + span.steps ≤ to) }
         ensures cached { IsOfRun self.now.plan self.now.edits cache.new }
     {
-        let step = self.horizon();
-        let end = (step - step % INTERVAL_STEPS + INTERVAL_STEPS).min(to);
-        let (settings, until) = cache.settings_until(alloc, self, step, end)?;
+        let first = self.horizon();
+        let end = (first - first % INTERVAL_STEPS + INTERVAL_STEPS).min(to);
+        let (settings, until) = cache.settings_until(alloc, self, first, end)?;
         let plan = Arc::try_clone(&self.plan)?;
-        Ok(Span::new(plan, settings, step, until - step))
+        Ok(Span::new(plan, settings, first, until - first))
     }
 
     // Adds one more step, whose road is made already, and returns the road before it. What can fail for memory is done

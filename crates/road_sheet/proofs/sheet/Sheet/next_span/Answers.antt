@@ -7,7 +7,7 @@ use Rattle.road_sheet.proofs.sheet.Sheet.next_span.Goals as goal
 pub returns-clause-next : goal.returns-clause-next
 returns-clause-next c =
     let s = c.args.self.now in
-    let at = c.horizon-step.ensures.horizon in
+    let at = c.horizon-first.ensures.horizon in
     let steps = ap (λ (x : Span). x.steps) c.new.ensures in
     let end = c.min-end.ensures in
     let until = c.in_ok-settings.ensures.before in
