@@ -193,68 +193,70 @@ pub fn enter(
     Ok(Arc::new(alloc, input)?)
 }
 
-/// Makes the input of a step, as [`enter`], of a run whose words are drawn for 64 steps at once. The settings must fit
-/// the plan, and the words must be the plan's.
-///
-/// # Errors
-///
-/// `OutOfMemory` where an allocation failed, of the new road, of its words or of the input, or the plan can have no
-/// more owners. The words are the plan's as before.
-pub fn enter_with(
-    alloc: Global,
-    plan: &Arc<Plan>,
-    settings: Arc<Settings>,
-    step: u32,
-    road: &Road,
-    words: &mut WordCache,
-) -> Result<Arc<StepInput>, OutOfMemory>
-    requires fits { Fits (arc_value plan.now) (arc_value settings) }
-    requires words { words.old ≡ (arc_value plan.now).words }
-    ensures input { IfOk result (λ input. arc_value input
-        ≡ input_of (arc_value plan.now) (arc_value settings) step road.now) }
-    ensures unchanged { words.new ≡ words.old }
-{
-    let road = entered(alloc, plan, &settings, step, road, words)?;
-    let columns = columns_of(alloc, &settings, step, &road, words)?;
-    let plan = Arc::try_clone(plan)?;
-    let input = StepInput {
-        plan,
-        settings,
-        step,
-        road,
-        columns,
-    };
-    Ok(Arc::new(alloc, input)?)
-}
+impl WordCache {
+    /// Makes the input of a step, as [`enter`], of a run whose words are drawn for 64 steps at once. The settings must
+    /// fit the plan, and the words must be the plan's.
+    ///
+    /// # Errors
+    ///
+    /// `OutOfMemory` where an allocation failed, of the new road, of its words or of the input, or the plan can have no
+    /// more owners. The words are the plan's as before.
+    pub fn enter(
+        &mut self,
+        alloc: Global,
+        plan: &Arc<Plan>,
+        settings: Arc<Settings>,
+        step: u32,
+        road: &Road,
+    ) -> Result<Arc<StepInput>, OutOfMemory>
+        requires fits { Fits (arc_value plan.now) (arc_value settings) }
+        requires words { self.old ≡ (arc_value plan.now).words }
+        ensures input { IfOk result (λ input. arc_value input
+            ≡ input_of (arc_value plan.now) (arc_value settings) step road.now) }
+        ensures unchanged { self.new ≡ self.old }
+    {
+        let road = entered(alloc, plan, &settings, step, road, self)?;
+        let columns = columns_of(alloc, &settings, step, &road, self)?;
+        let plan = Arc::try_clone(plan)?;
+        let input = StepInput {
+            plan,
+            settings,
+            step,
+            road,
+            columns,
+        };
+        Ok(Arc::new(alloc, input)?)
+    }
 
-/// Makes of an input that of another step of its plan by its settings, from the road before that step, where the input
-/// has no other owner, and answers whether it did: the plan and the settings keep their owners, and memory is used
-/// again. The words must be the plan's.
-///
-/// # Errors
-///
-/// `OutOfMemory` where an allocation failed, of the road or of its words. The input is then as it was, and the words
-/// are the plan's as before.
-pub fn enter_again(
-    alloc: Global,
-    input: &mut Arc<StepInput>,
-    step: u32,
-    road: &Road,
-    words: &mut WordCache,
-) -> Result<bool, OutOfMemory>
-    requires words { words.old ≡ (arc_value input.old).plan.words }
-    ensures input { IfOk result (λ alone. IsTrue alone → arc_value input.new
-        ≡ input_of (arc_value input.old).plan (arc_value input.old).settings step road.now) }
-    ensures shared { IfOk result (λ alone. IsFalse alone → arc_value input.new ≡ arc_value input.old) }
-    ensures kept { OnErr result (arc_value input.new ≡ arc_value input.old) }
-    ensures unchanged { words.new ≡ words.old }
-{
-    match Arc::get_mut(input) {
-        Some(own) => {
-            own.turn_to(alloc, step, road, words)?;
-            Ok(true)
+    /// Makes of an input that of another step of its plan by its settings, from the road before that step, where the
+    /// input has no other owner, and answers whether it did: the plan and the settings keep their owners, and memory is
+    /// used again. The words must be the plan's.
+    ///
+    /// # Errors
+    ///
+    /// `OutOfMemory` where an allocation failed, of the road or of its words. The input is then as it was, and the words
+    /// are the plan's as before.
+    pub fn enter_again(
+        &mut self,
+        alloc: Global,
+        input: &mut Arc<StepInput>,
+        step: u32,
+        road: &Road,
+    ) -> Result<bool, OutOfMemory>
+        requires words { self.old ≡ (arc_value input.old).plan.words }
+        ensures input { IfOk result (λ alone. IsTrue alone → arc_value input.new
+            ≡ input_of (arc_value input.old).plan (arc_value input.old).settings step road.now) }
+        ensures shared { IfOk result (λ alone. IsFalse alone → arc_value input.new ≡ arc_value input.old) }
+        ensures kept { OnErr result (arc_value input.new ≡ arc_value input.old) }
+        ensures unchanged { self.new ≡ self.old }
+    {
+        match Arc::get_mut(input) {
+            Some(own) => {
+                own.turn_to(alloc, step, road, self)?;
+                Ok(true)
+            }
+            None => Ok(false),
         }
-        None => Ok(false),
     }
 }
 

@@ -31,11 +31,11 @@ mod word_batches;
 mod word_cache;
 
 pub use alone::{Stepped, step_alone};
-pub use input::{StepInput, enter, enter_again, enter_with};
+pub use input::{StepInput, enter};
 pub use letters::{BLOCKED, EMPTY, STANDING};
 pub use meter::Meter;
 pub use span::Span;
 pub use word_cache::WordCache;
 /// Out of memory: an allocation failed.
 pub use std::alloc::AllocError as OutOfMemory;
-pub use step::{finish, finish_with, leave};
+pub use step::{finish, leave};

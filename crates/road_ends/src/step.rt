@@ -40,24 +40,26 @@ pub fn finish(alloc: Global, input: &StepInput, speeds: &[u8]) -> Result<Road, O
     Ok(leave(input.plan(), moved))
 }
 
-/// Makes the road after a step, as [`finish`], in memory that these words keep where there is some. The speeds must be
-/// those that [`StepInput::speeds`] gives.
-///
-/// # Errors
-///
-/// `OutOfMemory` where the allocation of the new road failed. The words are as before.
-pub fn finish_with(
-    alloc: Global,
-    input: &StepInput,
-    speeds: &[u8],
-    words: &mut WordCache,
-) -> Result<Road, OutOfMemory>
-    requires { speeds.now ≡ input_speeds input.now }
-    ensures step { IfOk result (λ later. later ≡ input_next input.now) }
-    ensures unchanged { words.new ≡ words.old }
-{
-    let mut cars = words.list(alloc);
-    cars.extend_from_slice(input.road().cars())?;
-    let moved = moved_in_place(Road::of(cars), speeds);
-    Ok(leave(input.plan(), moved))
+impl WordCache {
+    /// Makes the road after a step, as [`finish`], in memory that these words keep where there is some. The speeds must
+    /// be those that [`StepInput::speeds`] gives.
+    ///
+    /// # Errors
+    ///
+    /// `OutOfMemory` where the allocation of the new road failed. The words are as before.
+    pub fn finish(
+        &mut self,
+        alloc: Global,
+        input: &StepInput,
+        speeds: &[u8],
+    ) -> Result<Road, OutOfMemory>
+        requires { speeds.now ≡ input_speeds input.now }
+        ensures step { IfOk result (λ later. later ≡ input_next input.now) }
+        ensures unchanged { self.new ≡ self.old }
+    {
+        let mut cars = self.list(alloc);
+        cars.extend_from_slice(input.road().cars())?;
+        let moved = moved_in_place(Road::of(cars), speeds);
+        Ok(leave(input.plan(), moved))
+    }
 }

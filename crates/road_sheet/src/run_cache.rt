@@ -12,7 +12,7 @@ ghost use Rattle.road_sheet.specs.Sheets.{state_of};
 use crate::settings_cache::SettingsCache;
 use crate::sheet::Sheet;
 use road_cells::Road;
-use road_ends::{StepInput, Stepped, WordCache, enter_again, enter_with, finish_with};
+use road_ends::{StepInput, Stepped, WordCache};
 use road_plan::{OutOfMemory, Plan, Settings};
 use std::alloc::Global;
 use std::mem;
@@ -97,7 +97,7 @@ impl RunCache {
             self.words.reuse_input(input);
             return self.enter_anew(alloc, sheet, step, road);
         }
-        if enter_again(alloc, &mut input, step, road, &mut self.words)? {
+        if self.words.enter_again(alloc, &mut input, step, road)? {
             return Ok(input);
         }
         self.words.reuse_input(input);
@@ -118,7 +118,7 @@ impl RunCache {
         ensures cached { IsOfRun sheet.now.plan sheet.now.edits self.new }
     {
         let settings = self.settings_at(alloc, sheet, step)?;
-        enter_with(alloc, sheet.plan(), settings, step, road, &mut self.words)
+        self.words.enter(alloc, sheet.plan(), settings, step, road)
     }
 
     // Computes the step that turns the road of a step into that of the next.
@@ -159,7 +159,7 @@ impl RunCache {
         ensures road { IfOk result (λ road. road ≡ input_next input.now) }
         ensures cached { (plan : Plan) (edits : Edits) → IsOfRun plan edits self.old → IsOfRun plan edits self.new }
     {
-        finish_with(alloc, input, speeds, &mut self.words)
+        self.words.finish(alloc, input, speeds)
     }
 
     // Keeps the input of a step and the memory of its speeds, and returns the road after it.

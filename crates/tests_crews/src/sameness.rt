@@ -4,7 +4,7 @@ ghost use Rattle.road_cells.specs.Cars.{AreRising};
 
 use crate::rows::{input_of, settings_of, shared_plan};
 use road_cells::{Car, Road};
-use road_ends::{StepInput, WordCache, enter_again, enter_with};
+use road_ends::{StepInput, WordCache};
 use road_plan::Plan;
 use std::alloc::Global;
 use std::sync::Arc;
@@ -59,7 +59,7 @@ fn input_of_run(
     }
     let settings = Arc::new(alloc, settings)?;
     let mut words = WordCache::of(alloc, plan);
-    Ok(enter_with(alloc, plan, settings, step, road, &mut words)?)
+    Ok(words.enter(alloc, plan, settings, step, road)?)
 }
 
 // Makes the input of a step on this road, that of a run or that of a single step. The first has columns of its cars,
@@ -178,14 +178,14 @@ fn entered_again(
     let settings = Arc::new(alloc, settings)?;
     let mut words = WordCache::of(alloc, &plan);
     let road = Road::of(cars.to_vec(alloc)?);
-    let mut input = enter_with(alloc, &plan, settings, 3, &road, &mut words)?;
+    let mut input = words.enter(alloc, &plan, settings, 3, &road)?;
     let owner = if is_shared {
         Some(Arc::try_clone(&input)?)
     } else {
         None
     };
     let road = Road::of(later.to_vec(alloc)?);
-    let is_done = enter_again(alloc, &mut input, 4, &road, &mut words)?;
+    let is_done = words.enter_again(alloc, &mut input, 4, &road)?;
     let before = input_with(alloc, None, 3, cars, true)?;
     let after = input_with(alloc, None, 4, later, true)?;
     drop(owner);

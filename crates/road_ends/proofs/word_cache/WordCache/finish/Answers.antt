@@ -5,7 +5,7 @@ use Rattle.road_cells.specs.declared.car.Car.{Car}
 use Rattle.road_rules.specs.Motion.{MayMove, array_after_motion_at}
 use Rattle.road_ends.specs.Run.{road_before_exit}
 use Rattle.road_ends.proofs.StepByCars.{may_move, left-array_after_motion_at}
-use Rattle.road_ends.proofs.step.finish_with.Goals as goal
+use Rattle.road_ends.proofs.word_cache.WordCache.finish.Goals as goal
 
 pub moved_in_place-moved-requires-clause-may : goal.moved_in_place-moved-requires-clause-may
 moved_in_place-moved-requires-clause-may c =

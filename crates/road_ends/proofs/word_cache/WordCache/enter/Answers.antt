@@ -1,7 +1,7 @@
 -- The road with its entries is short enough for columns.
 use Rattle.std.proofs.Common.{ap, arith}
 use Rattle.road_plan.specs.Plan.{Plan}
-use Rattle.road_ends.proofs.input.enter_with.Goals as goal
+use Rattle.road_ends.proofs.word_cache.WordCache.enter.Goals as goal
 
 pub columns_of-requires : goal.columns_of-requires
 columns_of-requires c =
