@@ -1,22 +1,27 @@
 -- Cars pass a site one by one.
 use Rattle.std.specs.Prelude.{◌≡◌, ℕ, zero, suc, ◌+◌, ◌*◌, ◌<◌, ◌≤◌, ◌&&◌, Bool, true, false, cond, List, [], ◌∷◌, length, map, sum, nat_lt, nat_le, slice_index, refl}
 use Rattle.std.specs.List.{slice_index_or, filter, range_with_len}
+use Rattle.std.specs.Option.{option_or}
 use Rattle.std.specs.declared.option.Option.TheVariants.{Some}
 use Rattle.std.proofs.Common.{sym, ap, ◌∙◌, arith}
 use Rattle.std.proofs.lemmas.Bool.Decides.{nat_tests}
 use Rattle.std.proofs.lemmas.List.{get_or_default}
 use Rattle.std.proofs.lemmas.List.Sums.{sum_by-cons}
 use Rattle.road_plan.specs.Plan.{Plan}
+use Rattle.road_plan.specs.Settings.{Settings}
 use Rattle.road_cells.specs.Array.{Array, vehicle_at}
+use Rattle.road_cells.proofs.ArrayPlaces.{length-array}
 use Rattle.road_cells.specs.Cars.{cars_of, vehicle_of, cell_at, vehicle_among}
 use Rattle.road_cells.proofs.CarLists.{vehicle_among-cars_from, rise-cars_from}
 use Rattle.road_cells.proofs.CarPlaces.{vehicle_among-at, rise-at}
 use Rattle.road_cells.specs.declared.car.Car.{Car}
 use Rattle.road_cells.specs.declared.car.TheConstants.{GREATEST_SPEED}
 use Rattle.road_ends.specs.Speed.{speed}
+use Rattle.road_ends.specs.Entries.{entry_at, road_with_entries}
 use Rattle.road_ends.specs.Run.{Course, road_before_motion}
 use Rattle.road_ends.specs.Laws.{HoldsInEachStep, KeepBelowGreatestSpeed, NeverCollide}
-use Rattle.road_detector.specs.Passes.{Drive, drives, is_passing, passing_speeds, totals_of, no_totals, passes, sum_of_totals}
+use Rattle.road_ends.proofs.NoCollision.{keep_below_greatest_speed, never_collide}
+use Rattle.road_detector.specs.Passes.{Drive, drives, is_passing, passing_speeds, totals_of, no_totals, passes, passes_from, sum_of_totals}
 use Rattle.road_detector.specs.declared.counts.Totals.{Totals}
 use Rattle.road_detector.specs.Laws.{PassesOneByOne}
 
@@ -68,38 +73,48 @@ module _ (site : ℕ) (f : Car → ℕ) (most : (car : Car) → f car ≤ GREATE
       past : (c v : ℕ) → (nat_lt c site && nat_le site (c + v)) ≡ true → site ≤ c + v
       past c v is = grind (arith, nat_tests)
 
-module _ (p : Plan) (behind : HoldsInEachStep NeverCollide p) (slow : HoldsInEachStep KeepBelowGreatestSpeed p) (course : Course) (d : ℕ) where
-  abbrev new_speed : ℕ → Car → ℕ
-  new_speed t car = speed p (course t) t (road_before_motion p course t) car.cell (vehicle_of car)
+-- the k-th car stands at its cell
+stands : (a : Array) (k : ℕ) (d : Car) → k < length (cars_of a) → vehicle_at a (cell_at (cars_of a) k) ≡ Some (vehicle_of (slice_index_or (cars_of a) k d))
+stands a k d below =
+    let zero_on : 0 + cell_at (cars_of a) k ≡ cell_at (cars_of a) k = omega arith in
+    sym (vehicle_among-cars_from 0 (cell_at (cars_of a) k) a) ∙ ap (λ c. vehicle_among c (cars_of a)) zero_on ∙ vehicle_among-at 0 (cars_of a) k d (rise-cars_from 0 a) below
 
-  abbrev PassesCount : Totals → Type 0
-  PassesCount counts = (counts.cars ≤ 1) × (counts.speeds ≤ GREATEST_SPEED)
+abbrev PassesCount : Totals → Type 0
+PassesCount counts = (counts.cars ≤ 1) × (counts.speeds ≤ GREATEST_SPEED)
 
-  -- the k-th car stands at its cell
-  stands : (a : Array) (k : ℕ) (d : Car) → k < length (cars_of a) → vehicle_at a (cell_at (cars_of a) k) ≡ Some (vehicle_of (slice_index_or (cars_of a) k d))
-  stands a k d below =
-      let zero_on : 0 + cell_at (cars_of a) k ≡ cell_at (cars_of a) k = omega arith in
-      sym (vehicle_among-cars_from 0 (cell_at (cars_of a) k) a) ∙ ap (λ c. vehicle_among c (cars_of a)) zero_on ∙ vehicle_among-at 0 (cars_of a) k d (rise-cars_from 0 a) below
+-- one step from an array of at most so many cells as the road has
+module _ (p : Plan) (s : Settings) (t : ℕ) (a : Array) (behind : NeverCollide p s t a) (slow : KeepBelowGreatestSpeed p s t a) where
+  abbrev new_speed : Car → ℕ
+  new_speed car = speed p s t a car.cell (vehicle_of car)
 
   -- the cars of a step stop behind those in front of them
-  apart_at : (t : ℕ) (d : Car) (i j : ℕ) → i < j → j < length (cars_of (road_before_motion p course t))
-      → cell_at (cars_of (road_before_motion p course t)) i + new_speed t (slice_index_or (cars_of (road_before_motion p course t)) i d) < cell_at (cars_of (road_before_motion p course t)) j
-  apart_at t d i j lt below =
-      let a = road_before_motion p course t in
+  apart : (d : Car) (i j : ℕ) → i < j → j < length (cars_of a) → cell_at (cars_of a) i + new_speed (slice_index_or (cars_of a) i d) < cell_at (cars_of a) j
+  apart d i j lt below =
       let order = rise-at 0 (cars_of a) i j (rise-cars_from 0 a) lt below in
       let nobody : Car = record { number = 0; cell = 0; speed = 0 } in
       let same : slice_index_or (cars_of a) i d ≡ slice_index_or (cars_of a) i nobody = get_or_default (cars_of a) i d nobody (omega arith) in
-      let free = behind.in_runs course t (cell_at (cars_of a) i) (cell_at (cars_of a) j) (vehicle_of (slice_index_or (cars_of a) i nobody)) (vehicle_of (slice_index_or (cars_of a) j nobody)) (stands a i nobody (omega arith)) (stands a j nobody below) order in
-      let speed = ap (new_speed t) same in
+      let free = behind (cell_at (cars_of a) i) (cell_at (cars_of a) j) (vehicle_of (slice_index_or (cars_of a) i nobody)) (vehicle_of (slice_index_or (cars_of a) j nobody)) (stands a i nobody (omega arith)) (stands a j nobody below) order in
+      let speed = ap new_speed same in
       omega arith
 
   -- what a detector that is on or off counts
-  counts : (t : ℕ) (b : Bool) (site : ℕ) → PassesCount (cond b (totals_of site (drives (cars_of (road_before_motion p course t)) (map (new_speed t) (cars_of (road_before_motion p course t))))) no_totals)
-  counts t true site = let is = alone site (new_speed t) (λ car. slow.in_runs course t car.cell (vehicle_of car)) (cars_of (road_before_motion p course t)) (apart_at t) in (is.one, is.slow)
-  counts t false site = ((omega arith), (omega arith))
+  counts_one : (b : Bool) (site : ℕ) → PassesCount (cond b (totals_of site (drives (cars_of a) (map new_speed (cars_of a)))) no_totals)
+  counts_one true site = let is = alone site new_speed (λ car. slow car.cell (vehicle_of car)) (cars_of a) apart in (is.one, is.slow)
+  counts_one false site = ((omega arith), (omega arith))
 
+-- from any array
+pub one_from : (p : Plan) (s : Settings) (t : ℕ) (a : Array) (d : ℕ) → PassesCount (passes_from p s t a d)
+one_from p s t a d =
+    let entered = road_with_entries p s t a in
+    let short = length-array p.cells (λ c. option_or (vehicle_at a c) (entry_at p s t c)) in
+    counts_one p s t entered ((never_collide p).on_arrays s t entered short) ((keep_below_greatest_speed p).on_arrays s t entered short)
+    (slice_index_or s.watched d false) (slice_index p.detectors d)
+
+module _ (p : Plan) (behind : HoldsInEachStep NeverCollide p) (slow : HoldsInEachStep KeepBelowGreatestSpeed p) (course : Course) (d : ℕ) where
   pub one_by_one : (t : ℕ) → PassesOneByOne p course d t
-  one_by_one t = let is = counts t (slice_index_or (course t).watched d false) (slice_index p.detectors d) in record { one = is.0; slow = is.1 }
+  one_by_one t =
+      let is = counts_one p (course t) t (road_before_motion p course t) (behind.in_runs course t) (slow.in_runs course t) (slice_index_or (course t).watched d false) (slice_index p.detectors d) in
+      record { one = is.0; slow = is.1 }
 
   pub bounded : (n a : ℕ) → ((sum_of_totals (map (passes p course d) (range_with_len a n))).cars ≤ n) × ((sum_of_totals (map (passes p course d) (range_with_len a n))).speeds ≤ GREATEST_SPEED * n)
   bounded zero a = ((omega arith), (omega arith))

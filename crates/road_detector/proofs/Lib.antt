@@ -3,4 +3,5 @@ pub mod CarsPassing
 pub mod MarkedRow
 pub mod CarsPassOneByOne
 pub mod CountsNearby
+pub mod TotalsFrom
 mod Examples

@@ -44,7 +44,7 @@ range_with_len-append a (suc m) n =
     ap (range_with_len a) all ∙ ap (λ xs. a ∷ xs) (range_with_len-append (a + 1) m n ∙ ap (λ k. range_with_len (a + 1) m ++ range_with_len k n) next)
 
 -- the cars of places, one part after another
-cars_from-append : (k m : ℕ) (xs ys : List (Option Vehicle)) → length xs ≡ m → cars_from k (xs ++ ys) ≡ cars_from k xs ++ cars_from (k + m) ys
+pub cars_from-append : (k m : ℕ) (xs ys : List (Option Vehicle)) → length xs ≡ m → cars_from k (xs ++ ys) ≡ cars_from k xs ++ cars_from (k + m) ys
 cars_from-append k m [] ys is = let here : k ≡ k + m = omega arith in ap (λ j. cars_from j ys) here
 cars_from-append k zero (x ∷ xs) ys is = absurd (omega arith)
 cars_from-append k (suc m) (None ∷ xs) ys is =

@@ -11,7 +11,7 @@ ghost use Rattle.road_ends.specs.Input.{input_of, input_speeds};
 ghost use Rattle.road_ends.specs.Private.StepColumns.{AreColumns, AreHigh16s};
 
 mod pieces;
-mod sameness;
+pub(crate) mod sameness;
 
 use crate::OutOfMemory;
 use crate::chance::is_any_open;

@@ -1,12 +1,13 @@
 //! Several steps under the same settings.
 
-ghost use Rattle.std.specs.Prelude.{◌≡◌, ◌+◌, ◌≤◌, IfOk};
+ghost use Rattle.std.specs.Prelude.{◌≡◌, ◌↔◌, ◌+◌, ◌≤◌, IfOk, IsTrue};
 ghost use Rattle.std.specs.Arc.{arc_value};
 ghost use Rattle.road_plan.specs.Plan.{IsWithinLimits};
 ghost use Rattle.road_plan.specs.Settings.{Fits};
 ghost use Rattle.road_plan.specs.declared.limits.TheConstants.{GREATEST_HORIZON};
 
 use crate::OutOfMemory;
+use crate::input::sameness::{are_same_settings, is_same_plan};
 use road_plan::{Plan, Settings};
 use std::marker::Model;
 use std::sync::Arc;
@@ -105,5 +106,14 @@ impl Span {
             step: self.step,
             steps: self.steps,
         })
+    }
+    /// Answers whether two spans are the same: in their steps, plan and settings. It takes no memory.
+    pub fn same(&self, other: &Span) -> bool
+        ensures { IsTrue result ↔ (self.now ≡ other.now) }
+    {
+        self.step == other.step
+            && self.steps == other.steps
+            && is_same_plan(&self.plan, &other.plan)
+            && are_same_settings(&self.settings, &other.settings)
     }
 }

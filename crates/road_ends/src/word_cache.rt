@@ -10,8 +10,8 @@ use crate::columns::Columns;
 use crate::input::StepInput;
 use crate::word_batches::{BATCH_STEPS, NO_BATCH, WordBatches};
 use road_cells::{Car, Road};
-use road_plan::Plan;
 use road_plan::limits::MOST_INLETS;
+use road_plan::{Plan, WordKind};
 use std::alloc::Global;
 use std::marker::Model;
 use std::mem;
@@ -66,6 +66,13 @@ impl WordCache {
             older_spare: Vec::new(alloc),
             columns: None,
         }
+    }
+
+    /// Returns which words these are.
+    pub fn kind(&self) -> WordKind
+        ensures { result ≡ self.now }
+    {
+        self.batches.kind
     }
 
     /// Lets go what is drawn, before steps that do not follow the last one, and keeps the memory. It takes none.

@@ -1,3 +1,6 @@
 -- Lemmas on the pieces of workers.
 pub mod PiecesInOrder
 pub mod OneMore
+pub mod StretchTotals
+pub mod StretchCars
+pub mod SideBySide

@@ -2,3 +2,5 @@
 pub mod Pieces
 pub mod Started
 pub mod Gathered
+pub mod Stretches
+pub mod RunsUnderWay

@@ -23,6 +23,7 @@ mod gate;
 mod piece;
 mod pool;
 mod scoped;
+mod stretch;
 
 pub use alone::Alone;
 pub use crew::Crew;

@@ -1,10 +1,12 @@
 //! The crew of lasting workers.
 
-ghost use Rattle.std.specs.Prelude.{◌≡◌, ◌<◌, ◌≤◌, length, vec_len, IfOk, Err};
+ghost use Rattle.std.specs.Prelude.{◌≡◌, ◌<◌, ◌≤◌, length, vec_len, IfOk, IfSome, Err};
 ghost use Rattle.std.specs.Arc.{arc_value};
 ghost use Rattle.road_plan.specs.declared.limits.TheConstants.{MOST_WORKERS, GREATEST_LENGTH};
 ghost use Rattle.road_cells.specs.Cars.{cars_of};
 ghost use Rattle.road_ends.specs.Input.{input_speeds};
+ghost use Rattle.road_ends.specs.Span.{span_road};
+ghost use Rattle.road_detector.specs.Passes.{span_totals};
 ghost use Rattle.road_workers.specs.Crews.{gone_after};
 ghost use Rattle.road_workers.specs.Private.Gathered.{AreGathered};
 ghost use Rattle.road_workers.specs.declared.faults.CrewFault.TheVariants.{WorkersGone};
@@ -22,8 +24,12 @@ use crate::pool::gathering::{is_taken, places_for, put_together};
 use crate::pool::job::{Done, Job};
 use crate::pool::spin::Lookout;
 use crate::pool::working::work;
+use crate::stretch::run_whole;
+use crate::stretch::running::RunMemory;
 use crossbeam_channel::{Receiver, SendError, Sender, bounded};
-use road_ends::{OutOfMemory, StepInput};
+use road_cells::Road;
+use road_detector::Ran;
+use road_ends::{OutOfMemory, Span, StepInput};
 use std::alloc::Global;
 use std::marker::Model;
 use std::sync::{Arc, Wait};
@@ -50,6 +56,10 @@ pub struct Pool<R> {
     lookout: Lookout,
     // How often it has answered `WorkersGone`. After the first time no worker is asked.
     gone: u64,
+    // Whether its workers pass a gate of the caller's before each piece: then each step is asked of them.
+    is_watched: bool,
+    // What the caller keeps of the runs that it computes itself.
+    kept: Option<RunMemory>,
 }
 
 impl<R> Model for Pool<R> {
@@ -76,7 +86,7 @@ impl<R: Threads + Wait + Clone + Drop + Send + 'static> Pool<R> {
         ensures workers { IfOk result (λ pool. pool.workers ≡ workers) }
         ensures gone { IfOk result (λ pool. ⟦<Pool<R> as Crew>⟧.times_gone pool ≡ 0) }
     {
-        Pool::start_gated(rt, alloc, workers, no_gate(alloc)?)
+        Pool::start_by(rt, alloc, workers, no_gate(alloc)?, false)
     }
 
     /// Starts a crew of 1 to 16 workers, as [`Pool::start`], each of which passes the gate before it computes a piece;
@@ -90,6 +100,22 @@ impl<R: Threads + Wait + Clone + Drop + Send + 'static> Pool<R> {
         alloc: Global,
         workers: u32,
         gate: Arc<G>,
+    ) -> Result<Pool<R>, CrewFault>
+        requires some { 0 < workers }
+        requires few { workers ≤ MOST_WORKERS }
+        ensures workers { IfOk result (λ pool. pool.workers ≡ workers) }
+        ensures gone { IfOk result (λ pool. ⟦<Pool<R> as Crew>⟧.times_gone pool ≡ 0) }
+    {
+        Pool::start_by(rt, alloc, workers, gate, true)
+    }
+
+    // Starts a crew whose workers pass this gate.
+    fn start_by<G: Gate + Drop + Send + Sync + 'static>(
+        rt: R,
+        alloc: Global,
+        workers: u32,
+        gate: Arc<G>,
+        is_watched: bool,
     ) -> Result<Pool<R>, CrewFault>
         requires some { 0 < workers }
         requires few { workers ≤ MOST_WORKERS }
@@ -111,6 +137,8 @@ impl<R: Threads + Wait + Clone + Drop + Send + 'static> Pool<R> {
             results,
             lookout,
             gone: 0,
+            is_watched,
+            kept: None,
         })
     }
 
@@ -162,6 +190,38 @@ impl<R: Wait> Crew for Pool<R> {
         let _ = list;
         self.speeds(alloc, input)
     }
+
+    fn run(&mut self, alloc: Global, span: &Span, road: &Road) -> Result<Option<Ran>, CrewFault>
+        ensures road { IfOk result (λ done. IfSome done (λ ran. ran.road ≡ span_road span.now road.now)) }
+        ensures totals { IfOk result (λ done. IfSome done (λ ran. ran.totals.items ≡ span_totals span.now road.now)) }
+        ensures gone { ⟦<Pool<R> as Crew>⟧.times_gone self.new
+            ≡ gone_after result (⟦<Pool<R> as Crew>⟧.times_gone self.old) }
+        ensures stays_gone { 0 < ⟦<Pool<R> as Crew>⟧.times_gone self.old → result ≡ Err WorkersGone }
+        ensures workers { self.new.workers ≡ self.old.workers }
+    {
+        let answer = if self.gone > 0 {
+            Err(CrewFault::WorkersGone)
+        } else if self.is_watched {
+            Ok(None)
+        } else {
+            run_by(alloc, span, road, &mut self.kept)
+        };
+        self.gone = gone_after(&answer, self.gone);
+        answer
+    }
+}
+
+// Runs the steps of a span.
+fn run_by(
+    alloc: Global,
+    span: &Span,
+    road: &Road,
+    kept: &mut Option<RunMemory>,
+) -> Result<Option<Ran>, CrewFault>
+    ensures road { IfOk result (λ done. IfSome done (λ ran. ran.road ≡ span_road span.now road.now)) }
+    ensures totals { IfOk result (λ done. IfSome done (λ ran. ran.totals.items ≡ span_totals span.now road.now)) }
+{
+    Ok(Some(run_whole(alloc, span, road, kept)?))
 }
 
 // Makes the gate that does nothing, for all workers.

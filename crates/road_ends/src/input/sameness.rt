@@ -81,7 +81,7 @@ fn is_same_road(road: &Road, other: &Road) -> bool
     are_same_cars(road.cars(), other.cars())
 }
 
-fn is_same_plan(plan: &Plan, other: &Plan) -> bool
+pub(crate) fn is_same_plan(plan: &Plan, other: &Plan) -> bool
     ensures { IsTrue result ↔ (plan.now ≡ other.now) }
 {
     have_same_numbers(plan, other) && have_same_lists(plan, other)
@@ -113,7 +113,7 @@ fn have_same_lists(plan: &Plan, other: &Plan) -> bool
         && are_same_numbers(plan.detectors(), other.detectors())
 }
 
-fn are_same_settings(settings: &Settings, other: &Settings) -> bool
+pub(crate) fn are_same_settings(settings: &Settings, other: &Settings) -> bool
     ensures { IsTrue result ↔ (settings.now ≡ other.now) }
 {
     have_same_chances(settings, other) && have_same_places(settings, other)
