@@ -16,4 +16,6 @@ mod sameness;
 #[cfg(test)]
 mod sizes;
 #[cfg(test)]
+mod spans;
+#[cfg(test)]
 mod workers;

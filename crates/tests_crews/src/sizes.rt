@@ -21,8 +21,8 @@ const LONG: Parts = Parts {
     ..FREE
 };
 
-// Makes a road whose first cells are taken by standing cars, but for each 64th.
-fn queue(alloc: Global, cells: u32) -> Result<Road, OutOfMemory> {
+/// Makes a road whose first cells are taken by standing cars, but for each 64th.
+pub(crate) fn queue(alloc: Global, cells: u32) -> Result<Road, OutOfMemory> {
     let mut cars = Vec::new(alloc);
     for cell in 0..cells {
         if cell % 64 != 63 {

@@ -1,0 +1,218 @@
+//! Spans of steps that lasting workers run, a stretch of road each, beside the same steps one by one.
+
+ghost use Rattle.std.specs.Prelude.{◌<◌, ◌≤◌, IfOk};
+ghost use Rattle.std.specs.Arc.{arc_value};
+ghost use Rattle.road_plan.specs.Settings.{Fits};
+
+use crate::rows::shared_plan;
+use crate::sizes::queue;
+use road_cells::Road;
+use road_detector::{Ran, Totals, passes};
+use road_ends::{Meter, Span, step_alone};
+use road_plan::{Plan, Settings, WordKind};
+use road_workers::{Crew, Pool};
+use std::alloc::Global;
+use std::process::Abort;
+use std::sync::{Arc, Wait};
+use std::test::Fail;
+use std::thread::Threads;
+use tests_plans::Parts;
+
+/// The longest road: zones of all kinds, inlets all along it, and detectors on both sides of where it may be cut.
+const LONG: Parts = Parts {
+    road: (8_192, 3, 1_024),
+    zones: &[
+        (9, 0),
+        (5, 16_384),
+        (9, 1_000),
+        (3, 0),
+        (9, 32_768),
+        (7, 8_192),
+        (9, 0),
+        (5, 20_000),
+    ],
+    inlets: &[
+        (0, 40_000),
+        (511, 65_536),
+        (1_023, 30_000),
+        (1_024, 65_536),
+        (2_047, 50_000),
+        (2_048, 65_536),
+        (2_730, 20_000),
+        (2_731, 65_536),
+        (4_095, 65_536),
+        (4_096, 65_536),
+        (5_460, 10_000),
+        (5_461, 65_536),
+        (6_143, 65_536),
+        (6_144, 65_536),
+        (7_000, 1_000),
+        (8_188, 65_536),
+    ],
+    detectors: &[
+        1, 9, 511, 512, 1_023, 1_024, 1_025, 2_047, 2_048, 2_049, 2_730, 2_731, 4_095, 4_096,
+        4_097, 5_460, 5_461, 5_462, 6_143, 6_144, 6_145, 7_168, 8_180, 8_191,
+    ],
+    words: WordKind::Seeded(7),
+};
+
+/// Cells on both sides of where the road may be cut.
+const BLOCKS: &[u32] = &[
+    1_024, 2_047, 2_048, 2_731, 4_095, 4_097, 5_461, 6_143, 6_145,
+];
+
+// Makes settings of one of four kinds: the plan's own; cells blocked; other limits and chances of standing cars; other
+// inflows, with detectors off.
+fn settings_of(alloc: Global, plan: &Plan, kind: u32) -> Result<Settings, Fail>
+    ensures { IfOk result (λ settings. Fits plan.now settings) }
+{
+    let mut settings = Settings::of_plan(alloc, plan)?;
+    match kind {
+        0 => {}
+        1 => settings.blocks = BLOCKS.to_vec(alloc)?,
+        2 => {
+            settings.limits = vec![in alloc; 9; plan.zones().len()]?;
+            settings.starts = vec![in alloc; 45_000; plan.zones().len()]?;
+        }
+        _ => {
+            settings.inflows = vec![in alloc; 65_536; plan.inlets().len()]?;
+            settings.watched = vec![in alloc; false; plan.detectors().len()]?;
+        }
+    }
+    if !settings.fits(plan) {
+        return Err(Fail::new("settings that do not fit the plan"));
+    }
+    Ok(settings)
+}
+
+// Makes a span of so many steps by settings of this kind.
+fn span_of(
+    alloc: Global,
+    plan: &Arc<Plan>,
+    kind: u32,
+    step: u32,
+    steps: u32,
+) -> Result<Span, Fail> {
+    if step > 10_000 || steps > 64 {
+        return Err(Fail::new("a span that is too late or too long"));
+    }
+    let settings = Arc::new(alloc, settings_of(alloc, plan, kind)?)?;
+    Ok(Span::new(Arc::try_clone(plan)?, settings, step, steps))
+}
+
+// Computes one step, and adds what the detectors count in it. Returns the road after it.
+fn stepped(
+    alloc: Global,
+    plan: &Arc<Plan>,
+    kind: u32,
+    step: u32,
+    road: &Road,
+    totals: &mut Vec<Totals>,
+) -> Result<Road, Fail> {
+    let settings = settings_of(alloc, plan, kind)?;
+    let done = step_alone(alloc, plan, settings, step, road, &mut Meter::new())?;
+    for detector in 0..done.input.plan().detectors().len() {
+        let counted = passes(&done.input, &done.speeds, detector as u32);
+        if let Some(total) = totals.get_mut(detector) {
+            total.cars = total.cars.saturating_add(counted.cars);
+            total.speeds = total.speeds.saturating_add(counted.speeds);
+        }
+    }
+    Ok(done.road)
+}
+
+// Computes so many steps one by one.
+fn one_by_one(
+    alloc: Global,
+    plan: &Arc<Plan>,
+    kind: u32,
+    step: u32,
+    steps: u32,
+    road: &Road,
+) -> Result<Ran, Fail> {
+    let mut totals = vec![in alloc; Totals { cars: 0, speeds: 0 }; plan.detectors().len()]?;
+    let mut road = road.copied()?;
+    for done in 0..steps {
+        road = stepped(
+            alloc,
+            plan,
+            kind,
+            step.saturating_add(done),
+            &road,
+            &mut totals,
+        )?;
+    }
+    Ok(Ran { road, totals })
+}
+
+/// Spans, one after another: the kind of settings and the steps of each.
+const SPANS: &[(u32, u32)] = &[
+    (0, 64),
+    (1, 64),
+    (2, 63),
+    (3, 1),
+    (1, 7),
+    (3, 33),
+    (2, 64),
+    (0, 64),
+    (1, 16),
+];
+
+// Answers whether a crew runs all these spans, from a queue on so many cells, as they are one by one.
+fn runs_as_one_by_one<C: Crew>(
+    rt: &impl Abort,
+    alloc: Global,
+    crew: &mut C,
+    cells: u32,
+) -> Result<(), Fail> {
+    let plan = shared_plan(alloc, &LONG)?;
+    let mut road = queue(alloc, cells)?;
+    let mut step = 0_u32;
+    for (kind, steps) in SPANS {
+        let span = span_of(alloc, &plan, *kind, step, *steps)?;
+        let Some(ran) = crew.run(alloc, &span, &road)? else {
+            return Err(Fail::new("a crew that runs no spans"));
+        };
+        let wanted = one_by_one(alloc, &plan, *kind, step, *steps, &road)?;
+        assert!(rt;
+            ran.road.cars() == wanted.road.cars(),
+            "the road of {steps} steps from {step}"
+        );
+        assert!(rt;
+            ran.totals == wanted.totals,
+            "the counts of {steps} steps from {step}"
+        );
+        road = wanted.road;
+        step = step.saturating_add(*steps);
+    }
+    Ok(())
+}
+
+/// How many cells are taken at first: none, a few, and so many that each worker has a stretch.
+const QUEUES: &[u32] = &[0, 200, 3_000, 8_192];
+
+// Compares them by so many lasting workers.
+fn pool_runs<R: Threads + Wait + Abort + Clone + Drop + Send + 'static>(
+    rt: &R,
+    alloc: Global,
+    workers: u32,
+) -> Result<(), Fail>
+    requires some { 0 < workers }
+    requires few { workers ≤ 16 }
+{
+    let mut crew = Pool::start(rt.clone()?, alloc, workers)?;
+    for cells in QUEUES {
+        runs_as_one_by_one(rt, alloc, &mut crew, *cells)?;
+    }
+    crew.finish();
+    Ok(())
+}
+
+#[test]
+fn lasting_workers_run_spans_as_they_are_one_by_one(rt: HostRuntime) -> Result<(), Fail> {
+    pool_runs(&rt, rt.alloc(), 1)?;
+    pool_runs(&rt, rt.alloc(), 2)?;
+    pool_runs(&rt, rt.alloc(), 3)?;
+    pool_runs(&rt, rt.alloc(), 7)?;
+    pool_runs(&rt, rt.alloc(), 16)
+}
