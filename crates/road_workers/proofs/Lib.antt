@@ -2,5 +2,6 @@
 pub mod PiecesInOrder
 pub mod OneMore
 pub mod StretchTotals
+pub mod Cuts
 pub mod StretchCars
 pub mod SideBySide

@@ -1,13 +1,14 @@
 //! Stretches of road, each of which is run alone for the steps of a span: no car drives farther in a step than 9 cells,
 //! nor looks farther.
 
-ghost use Rattle.std.specs.Prelude.{◌≡◌, ◌<◌, ◌≤◌, ◌+◌, ◌-◌, ◌*◌, length, IfOk};
+ghost use Rattle.std.specs.Prelude.{◌≡◌, ◌<◌, ◌≤◌, ◌+◌, ◌-◌, ◌*◌, length, IfOk, IsTrue};
 ghost use Rattle.road_plan.specs.declared.limits.TheConstants.{GREATEST_HORIZON, GREATEST_LENGTH};
+ghost use Rattle.road_cells.specs.Cars.{cars_of, cell_at};
 ghost use Rattle.road_cells.specs.declared.car.TheConstants.{GREATEST_SPEED};
 ghost use Rattle.road_ends.specs.Laws.{AgreeBetween};
 ghost use Rattle.road_ends.specs.Span.{span_road};
 ghost use Rattle.road_detector.specs.Passes.{span_totals};
-ghost use Rattle.road_workers.specs.Private.Stretches.{IsRunOf, has_site};
+ghost use Rattle.road_workers.specs.Private.Stretches.{IsRunOf, cut, has_site};
 
 pub(crate) mod counting;
 pub(crate) mod joining;
@@ -37,6 +38,20 @@ pub(crate) struct StretchRun {
 }
 
 impl Stretch {
+    // Returns the stretch at a place of so many side by side, of a road of so many cells: they have about as many cars each.
+    pub fn of(road: &Road, cells: u32, count: u32, place: u32) -> Stretch
+        requires there { place < count }
+        ensures first { result.first ≡ cut cells (cars_of road.now) count place }
+        ensures end { result.end ≡ cut cells (cars_of road.now) count (place + 1) }
+        ensures order { result.first ≤ result.end }
+        ensures within { result.end ≤ cells }
+    {
+        Stretch {
+            first: cut(road.cars(), cells, count, place),
+            end: cut(road.cars(), cells, count, place + 1),
+        }
+    }
+
     // Answers whether a detector's site is on it.
     pub fn has(self, plan: &Plan, detector: usize) -> bool
         requires { detector < length plan.now.detectors }
@@ -62,7 +77,23 @@ pub(crate) fn run_stretch(
     ensures unchanged { memory.new.words ≡ memory.old.words }
 {
     let near = road_near(alloc, span, road, stretch)?;
-    let ran = ran(alloc, span, &near, stretch, memory)?;
+    run_near(alloc, span, &near, stretch, memory)
+}
+
+// Runs a stretch for all steps of a span, from the cars near it.
+pub(crate) fn run_near(
+    alloc: Global,
+    span: &Span,
+    near: &Road,
+    stretch: Stretch,
+    memory: &mut RunMemory,
+) -> Result<StretchRun, OutOfMemory>
+    requires order { stretch.first ≤ stretch.end }
+    requires words { memory.old.words ≡ span.now.plan.words }
+    ensures run { IfOk result (λ done. IsRunOf stretch.first stretch.end span.now near.now done) }
+    ensures unchanged { memory.new.words ≡ memory.old.words }
+{
+    let ran = ran(alloc, span, near, stretch, memory)?;
     let mut cars = Vec::new(alloc);
     cars.extend_from_slice(ran.road.between(stretch.first, stretch.end))?;
     Ok(StretchRun {
@@ -72,7 +103,7 @@ pub(crate) fn run_stretch(
 }
 
 // Makes the road of the cars on a stretch and so near it that they may matter there in the steps of a span.
-fn road_near(alloc: Global, span: &Span, road: &Road, stretch: Stretch) -> Result<Road, OutOfMemory>
+pub(crate) fn road_near(alloc: Global, span: &Span, road: &Road, stretch: Stretch) -> Result<Road, OutOfMemory>
     requires order { stretch.first ≤ stretch.end }
     requires short { stretch.end ≤ GREATEST_LENGTH }
     ensures { IfOk result (λ near. AgreeBetween (stretch.first - GREATEST_SPEED * span.now.steps)
@@ -84,6 +115,64 @@ fn road_near(alloc: Global, span: &Span, road: &Road, stretch: Stretch) -> Resul
     let mut cars = Vec::new(alloc);
     cars.extend_from_slice(near)?;
     Ok(Road::of(cars))
+}
+
+// Answers whether the cars of a road are those near a stretch.
+pub(crate) fn is_near(near: &Road, span: &Span, road: &Road, stretch: Stretch) -> bool
+    requires order { stretch.first ≤ stretch.end }
+    requires short { stretch.end ≤ GREATEST_LENGTH }
+    ensures { IsTrue result → AgreeBetween (stretch.first - GREATEST_SPEED * span.now.steps)
+        (stretch.end + GREATEST_SPEED * span.now.steps) near.now road.now }
+{
+    let margin = margin_of(span);
+    let from = stretch.first.saturating_sub(margin);
+    are_same_cars(near.cars(), road.between(from, stretch.end + margin))
+}
+
+// Compares cars.
+fn are_same_cars(cars: &[Car], other: &[Car]) -> bool
+    ensures { IsTrue result → cars.now ≡ other.now }
+{
+    if cars.len() != other.len() {
+        return false;
+    }
+    for place in 0..cars.len() {
+        if !is_same_car(&cars[place], &other[place]) {
+            return false;
+        }
+    }
+    true
+}
+
+fn is_same_car(car: &Car, other: &Car) -> bool
+    ensures { IsTrue result → car.now ≡ other.now }
+{
+    car.number == other.number && car.cell == other.cell && car.speed == other.speed
+}
+
+// Finds where the stretch at a place begins, of so many: the last of them ends with the road, which has so many cells.
+fn cut(cars: &[Car], cells: u32, count: u32, place: u32) -> u32
+    requires some { 0 < count }
+    requires there { place ≤ count }
+    ensures { result ≡ cut cells cars.now count place }
+{
+    if place == 0 {
+        return 0;
+    }
+    if place == count {
+        return cells;
+    }
+    cell_at(cars, cars.len() / count as usize * place as usize).min(cells)
+}
+
+// Returns the cell of a car; of no car it is 0.
+fn cell_at(cars: &[Car], place: usize) -> u32
+    ensures { result ≡ cell_at cars.now place }
+{
+    match cars.get(place) {
+        Some(car) => car.cell,
+        None => 0,
+    }
 }
 
 // Returns how many cells behind a stretch and ahead of it may matter there in the steps of a span.

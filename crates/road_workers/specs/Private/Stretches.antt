@@ -1,9 +1,10 @@
 -- Stretches of road, each of which somebody runs alone.
-use Rattle.std.specs.Prelude.{◌≡◌, ℕ, ◌-◌, ◌<◌, ◌&&◌, Bool, List, length, map, nat_le, nat_lt, slice_index, slice_index_or, if◌then◌else◌}
+use Rattle.std.specs.Prelude.{◌≡◌, ℕ, ◌-◌, ◌*◌, ◌/◌, ◌<◌, ◌&&◌, Bool, List, length, map, min, nat_eq, nat_le, nat_lt}
+use Rattle.std.specs.Prelude.{slice_index, slice_index_or, if◌then◌else◌}
 use Rattle.std.specs.List.{range_with_len}
 use Rattle.road_plan.specs.Plan.{Plan}
 use Rattle.road_cells.specs.Array.{Array, vehicle_at}
-use Rattle.road_cells.specs.Cars.{cars_from}
+use Rattle.road_cells.specs.Cars.{cars_from, cell_at}
 use Rattle.road_cells.specs.declared.car.Car.{Car}
 use Rattle.road_ends.specs.Input.{StepInput}
 use Rattle.road_ends.specs.Run.{road_after_steps}
@@ -42,3 +43,10 @@ pub record AreTotalsOn (lo hi : ℕ) (span : Span) (k : ℕ) (a : Array) (totals
 pub record IsRunOf (lo hi : ℕ) (span : Span) (a : Array) (done : StretchRun) : Type 0 where
   pub cars : done.cars.items ≡ cars_between lo hi (span_road span a)
   pub totals : AreTotalsOn lo hi span span.steps a done.totals.items
+
+-- where the stretch at place w of n begins, of a road of so many cells: at the car that has w n-th parts of the cars
+-- behind it; the first begins with the road, and the last ends with it
+abbrev pub cut : ℕ → List Car → ℕ → ℕ → ℕ
+cut cells cars n w =
+    if nat_eq w 0 then 0
+    else (if nat_eq w n then cells else min (cell_at cars (length cars / n * w)) cells)
