@@ -15,7 +15,8 @@ use Rattle.road_ends.proofs.CellsNearby.{depend_on_cells_nearby}
 use Rattle.road_detector.specs.Passes.{no_totals, total_from}
 use Rattle.road_detector.specs.declared.counts.Totals.{Totals}
 use Rattle.road_detector.proofs.TotalsFrom.{total-nearby}
-use Rattle.road_workers.specs.Private.Stretches.{cars_between, has_site, total_on, AreTotalsOn}
+use Rattle.road_workers.specs.Private.Stretches.{cars_between, has_site, total_on, AreTotalsOn, IsRunOf}
+use Rattle.road_workers.specs.declared.stretch.StretchRun.{StretchRun}
 
 -- what a function gives at n numbers from a on
 place : (f : ℕ → Option Vehicle) (n a j : ℕ) → j < n → vehicle_at (map f (range_with_len a n)) j ≡ f (a + j)
@@ -71,3 +72,11 @@ stretch_totals lo hi span near a totals agree are = record {
         let below = within.1 in
         total-nearby span.plan (λ _. span.settings) span.step span.steps near a d (record { same = λ c from to. agree.same c (omega arith) (omega arith) })
     by d false is = refl
+
+-- so a stretch that was run from what is near it was run
+pub run-nearby : (lo hi : ℕ) (span : Span) (near a : Array) (done : StretchRun) → lo ≤ hi → AgreeBetween (lo - GREATEST_SPEED * span.steps) (hi + GREATEST_SPEED * span.steps) near a
+    → IsRunOf lo hi span near done → IsRunOf lo hi span a done
+run-nearby lo hi span near a done order agree run = record {
+  cars = run.cars ∙ stretch_cars lo hi span near a order agree;
+  totals = stretch_totals lo hi span near a done.totals.items agree run.totals;
+}
