@@ -1,5 +1,6 @@
 -- Stretches of road, each of which somebody runs alone.
-use Rattle.std.specs.Prelude.{◌≡◌, ℕ, ◌-◌, ◌<◌, ◌&&◌, Bool, List, length, map, nat_le, nat_lt, slice_index, slice_index_or, if◌then◌else◌}
+use Rattle.std.specs.Prelude.{◌≡◌, ℕ, ◌-◌, ◌<◌, ◌&&◌, Bool, List, length, map, nat_le, nat_lt}
+use Rattle.std.specs.Prelude.{slice_index, slice_index_or, if◌then◌else◌}
 use Rattle.std.specs.List.{range_with_len}
 use Rattle.road_plan.specs.Plan.{Plan}
 use Rattle.road_cells.specs.Array.{Array, vehicle_at}
