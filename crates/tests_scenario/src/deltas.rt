@@ -1,16 +1,12 @@
 //! Exchanges worked out by hand, and one of many edits.
 
 use road_delta::{Head, beyond, heads_of};
-use road_plan::{Object, Plan};
+use road_plan::Plan;
 use road_scenario::{Edit, OutOfMemory, Scenario, Stamp, Value};
 use std::alloc::Global;
 use std::process::Abort;
 use std::test::Fail;
-use tests_plans::{FREE, edit, head, plan_of};
-
-const LIMIT: Object = Object::Limit(0);
-
-const BLOCK: Object = Object::Block(8);
+use tests_plans::{BLOCK, FREE, LIMIT, edit, head, plan_of};
 
 /// A limit that A put, and the one that B put later at the same step.
 const FIRST_LIMIT: Edit = edit!(LIMIT, 3, (1, 0), 1);
