@@ -9,7 +9,7 @@ use Rattle.road_cells.specs.declared.car.TheConstants.{GREATEST_SPEED}
 use Rattle.road_ends.specs.Run.{Course, road_after_steps}
 use Rattle.road_ends.specs.Laws.{AgreeBetween}
 use Rattle.road_ends.proofs.CellsNearby.{depend_on_cells_nearby}
-use Rattle.road_detector.specs.Passes.{plus, sum_of_totals, no_totals, passes_from, total_from}
+use Rattle.road_detector.specs.Passes.{plus, sum_of_totals, passes_from, total_from}
 use Rattle.road_detector.specs.declared.counts.Totals.{Totals}
 use Rattle.road_detector.proofs.CarsPassOneByOne.{one_from}
 use Rattle.road_detector.proofs.CountsNearby.{count_cells_nearby}

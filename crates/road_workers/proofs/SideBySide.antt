@@ -1,5 +1,5 @@
 -- Stretches side by side are the road.
-use Rattle.std.specs.Prelude.{◌≡◌, ℕ, zero, suc, ◌+◌, ◌-◌, ◌*◌, ◌^◌, ◌<◌, ◌≤◌, ◌&&◌, Bool, true, false, if◌then◌else◌, List, [], ◌∷◌, ◌++◌, length, map, nat_le, nat_lt, slice_index, slice_index_or, refl}
+use Rattle.std.specs.Prelude.{◌≡◌, ℕ, suc, ◌+◌, ◌-◌, ◌^◌, ◌<◌, ◌≤◌, ◌&&◌, Bool, true, false, if◌then◌else◌, List, ◌++◌, length, map, nat_le, nat_lt, slice_index, slice_index_or, refl}
 use Rattle.std.specs.List.{range_with_len}
 use Rattle.std.specs.declared.option.Option.{Option}
 use Rattle.std.proofs.Common.{sym, ap, subst, ◌∙◌, inl, inr, arith}
@@ -7,7 +7,7 @@ use Rattle.std.proofs.lemmas.Bool.{cases_lt}
 use Rattle.std.proofs.lemmas.Bool.Decides.{nat_tests}
 use Rattle.std.proofs.lemmas.List.{map-append}
 use Rattle.std.proofs.lemmas.List.FromFn.{length-map-range_with_len}
-use Rattle.road_plan.specs.Plan.{Plan, exit_start}
+use Rattle.road_plan.specs.Plan.{exit_start}
 use Rattle.road_plan.specs.declared.limits.TheConstants.{GREATEST_HORIZON}
 use Rattle.road_cells.specs.Array.{Array, Vehicle, vehicle_at, array}
 use Rattle.road_cells.specs.Cars.{array_of, cars_from}
@@ -20,7 +20,7 @@ use Rattle.road_ends.specs.Span.{Span, span_road}
 use Rattle.road_ends.proofs.CellsBetweenInlets.{range_with_len-append, cars_from-append}
 use Rattle.road_detector.specs.Passes.{plus, no_totals, total_from}
 use Rattle.road_detector.specs.declared.counts.Totals.{Totals}
-use Rattle.road_workers.specs.Private.Stretches.{cars_between, has_site, road_after, total_on, AreTotalsOn}
+use Rattle.road_workers.specs.Private.Stretches.{cars_between, road_after, total_on, AreTotalsOn}
 use Rattle.road_workers.proofs.StretchTotals.{site_on, total_on-bounded}
 
 -- the cars of two stretches, one list behind the other

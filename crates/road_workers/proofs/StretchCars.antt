@@ -1,5 +1,5 @@
 -- The cars of a stretch: they depend on the cells near it alone, and stretches side by side are the road.
-use Rattle.std.specs.Prelude.{◌≡◌, ℕ, zero, suc, ◌+◌, ◌-◌, ◌*◌, ◌<◌, ◌≤◌, ◌&&◌, Bool, true, false, if◌then◌else◌, List, [], ◌∷◌, ◌++◌, length, map, nat_le, nat_lt, slice_index, slice_index_or, refl}
+use Rattle.std.specs.Prelude.{◌≡◌, ℕ, zero, suc, ◌+◌, ◌-◌, ◌*◌, ◌<◌, ◌≤◌, ◌&&◌, Bool, true, false, if◌then◌else◌, List, [], ◌∷◌, map, nat_le, nat_lt, slice_index, refl}
 use Rattle.std.specs.List.{range_with_len}
 use Rattle.std.specs.declared.option.Option.{Option}
 use Rattle.std.proofs.Common.{sym, ap, subst, ◌∙◌, arith}
@@ -15,7 +15,7 @@ use Rattle.road_ends.proofs.CellsNearby.{depend_on_cells_nearby}
 use Rattle.road_detector.specs.Passes.{no_totals, total_from}
 use Rattle.road_detector.specs.declared.counts.Totals.{Totals}
 use Rattle.road_detector.proofs.TotalsFrom.{total-nearby}
-use Rattle.road_workers.specs.Private.Stretches.{cars_between, has_site, total_on, AreTotalsOn, IsRunOf}
+use Rattle.road_workers.specs.Private.Stretches.{cars_between, has_site, AreTotalsOn, IsRunOf}
 use Rattle.road_workers.specs.declared.stretch.StretchRun.{StretchRun}
 
 -- what a function gives at n numbers from a on

@@ -1,19 +1,18 @@
 -- The totals of a stretch: none at first, one step more, and bounds.
-use Rattle.std.specs.Prelude.{◌≡◌, ℕ, zero, suc, ◌+◌, ◌-◌, ◌*◌, ◌^◌, ◌<◌, ◌≤◌, ◌&&◌, Bool, true, false, if◌then◌else◌, List, [], ◌∷◌, length, map, replicate, nat_le, nat_lt, slice_index, slice_index_or, IfOk, refl}
+use Rattle.std.specs.Prelude.{◌≡◌, ℕ, ◌+◌, ◌-◌, ◌^◌, ◌<◌, ◌≤◌, ◌&&◌, Bool, true, false, if◌then◌else◌, List, length, replicate, nat_le, nat_lt, slice_index, slice_index_or, IfOk, refl}
 use Rattle.std.specs.declared.result.Result.{Result}
 use Rattle.std.specs.declared.result.Result.TheVariants.{Ok, Err}
-use Rattle.std.proofs.Common.{sym, ap, subst, ◌∙◌, arith, inl, inr}
+use Rattle.std.proofs.Common.{sym, ap, subst, ◌∙◌, arith}
 use Rattle.std.proofs.Math.Numerals.{add-one}
 use Rattle.std.proofs.lemmas.List.{length-replicate, get_or-replicate}
 use Rattle.std.proofs.lemmas.List.FromFn.{fill_by_all}
 use Rattle.std.proofs.lemmas.Bool.Decides.{nat_tests}
-use Rattle.road_plan.specs.Plan.{Plan, IsWithinLimits, exit_start}
+use Rattle.road_plan.specs.Plan.{Plan, IsWithinLimits}
 use Rattle.road_plan.specs.declared.limits.TheConstants.{GREATEST_HORIZON}
 use Rattle.road_cells.specs.Array.{Array}
 use Rattle.road_ends.specs.Input.{StepInput, input_of, input_next, input_speeds}
-use Rattle.road_ends.specs.Run.{road_after_step}
 use Rattle.road_ends.specs.Span.{Span}
-use Rattle.road_detector.specs.Passes.{plus, no_totals, passes_at, passes_from, total_from, span_totals}
+use Rattle.road_detector.specs.Passes.{plus, no_totals, passes_from, total_from, span_totals}
 use Rattle.road_detector.specs.declared.counts.Totals.{Totals}
 use Rattle.road_detector.proofs.TotalsFrom.{AreBounded, bounded_from, total_from_more}
 use Rattle.road_detector.proofs.CarsPassOneByOne.{one_from}

@@ -199,15 +199,15 @@ impl<R: Wait> Crew for Pool<R> {
         ensures stays_gone { 0 < ⟦<Pool<R> as Crew>⟧.times_gone self.old → result ≡ Err WorkersGone }
         ensures workers { self.new.workers ≡ self.old.workers }
     {
-        let answer = if self.gone > 0 {
+        let done = if self.gone > 0 {
             Err(CrewFault::WorkersGone)
         } else if self.is_watched {
             Ok(None)
         } else {
             run_by(alloc, span, road, &mut self.kept)
         };
-        self.gone = gone_after(&answer, self.gone);
-        answer
+        self.gone = gone_after(&done, self.gone);
+        done
     }
 }
 

@@ -17,7 +17,7 @@ pub(crate) mod running;
 use crate::stretch::running::{RunMemory, ran};
 use road_cells::{Car, GREATEST_SPEED, Road};
 use road_detector::{Ran, Totals};
-use road_ends::{OutOfMemory, Span};
+use road_ends::{OutOfMemory, Span, are_same_cars};
 use road_plan::Plan;
 use std::alloc::Global;
 use std::mem;
@@ -127,27 +127,6 @@ pub(crate) fn is_near(near: &Road, span: &Span, road: &Road, stretch: Stretch) -
     let margin = margin_of(span);
     let from = stretch.first.saturating_sub(margin);
     are_same_cars(near.cars(), road.between(from, stretch.end + margin))
-}
-
-// Compares cars.
-fn are_same_cars(cars: &[Car], other: &[Car]) -> bool
-    ensures { IsTrue result → cars.now ≡ other.now }
-{
-    if cars.len() != other.len() {
-        return false;
-    }
-    for place in 0..cars.len() {
-        if !is_same_car(&cars[place], &other[place]) {
-            return false;
-        }
-    }
-    true
-}
-
-fn is_same_car(car: &Car, other: &Car) -> bool
-    ensures { IsTrue result → car.now ≡ other.now }
-{
-    car.number == other.number && car.cell == other.cell && car.speed == other.speed
 }
 
 // Finds where the stretch at a place begins, of so many: the last of them ends with the road, which has so many cells.

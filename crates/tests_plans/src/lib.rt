@@ -1,11 +1,68 @@
-//! Plans, their worked rows, and cars that the crates of tests share.
+//! Plans, their worked rows, and cars, objects and edits that the crates of tests share.
 #![tactic(auto)]
 
 ghost use Rattle.std.specs.Prelude.{◌≡◌};
 
 use road_cells::Car;
-use road_plan::{OutOfMemory, Plan, PlanFault, PlanParts, WordKind};
+use road_plan::{Object, OutOfMemory, Plan, PlanFault, PlanParts, WordKind};
 use std::alloc::Global;
+
+/// Lists cars, each by its number, cell and speed. It wants `Car` of `road_cells` in scope.
+#[macro_export]
+macro_rules! cars {
+    ($(($number:expr, $cell:expr, $speed:expr)),* $(,)?) => {
+        &[$(Car { number: $number, cell: $cell, speed: $speed }),*]
+    };
+}
+
+/// Writes the stamp of a count and a writer's number. It wants `Stamp` of `road_scenario` in scope.
+#[macro_export]
+macro_rules! stamp {
+    ($count:expr, $number:expr) => {
+        Stamp { count: $count, number: $number }
+    };
+}
+
+/// Writes the edit that puts a number from a step on, or withdraws: its object, its step, the count and the writer's
+/// number of its stamp, and what it does. It wants `Edit`, `Stamp` and `Value` of `road_scenario` in scope.
+#[macro_export]
+macro_rules! edit {
+    ($object:expr, $step:expr, ($count:expr, $number:expr), withdrawn) => {
+        Edit {
+            object: $object,
+            step: $step,
+            stamp: Stamp { count: $count, number: $number },
+            value: Value::Withdrawn,
+        }
+    };
+    ($object:expr, $step:expr, ($count:expr, $number:expr), $value:expr) => {
+        Edit {
+            object: $object,
+            step: $step,
+            stamp: Stamp { count: $count, number: $number },
+            value: Value::Put($value),
+        }
+    };
+}
+
+/// Writes the head of an object and a step: these, and the count and the writer's number of its stamp. It wants `Head`
+/// of `road_delta` and `Stamp` of `road_scenario` in scope.
+#[macro_export]
+macro_rules! head {
+    ($object:expr, $step:expr, ($count:expr, $number:expr)) => {
+        Head { object: $object, step: $step, stamp: Stamp { count: $count, number: $number } }
+    };
+}
+
+/// The speed limit, the inflow and a closure of the free road.
+pub const LIMIT: Object = Object::Limit(0);
+
+pub const INFLOW: Object = Object::Inflow(0);
+
+pub const BLOCK: Object = Object::Block(8);
+
+/// The slowing chance of standing cars there.
+pub const START: Object = Object::Start(0);
 
 /// The parts of a plan, of which most tests change one or two.
 #[derive(Clone, Copy, Debug)]
@@ -30,6 +87,59 @@ pub const FREE: Parts = Parts {
     detectors: &[5],
     words: WordKind::Seeded(7),
 };
+
+/// A step, and the row after it.
+pub type Row = (u32, &'static str);
+
+/// The rows of the free road up to step 6.
+pub const FREE_ROWS: &[Row] = &[
+    (0, "............"),
+    (1, ".1.........."),
+    (2, "0..2........"),
+    (3, ".1...2......"),
+    (4, "0..2...2...."),
+    (5, ".1...2...2.."),
+    (6, "0..2...2...."),
+];
+
+/// Its cars at step 6.
+pub const CARS_AT_SIX: &[Car] = cars![(80, 0, 0), (48, 3, 2), (16, 7, 2)];
+
+/// Its rows where cell 8 is blocked from step 4 on.
+pub const BLOCKED_ROWS: &[Row] = &[
+    (4, "0..2...2#..."),
+    (5, ".1...2.0#..."),
+    (6, "0..2..10#..."),
+];
+
+/// Its rows where all cars are slowed at every step.
+pub const SLOWED_ROWS: &[Row] = &[
+    (1, "0..........."),
+    (2, "0..........."),
+    (3, "0..........."),
+    (4, "0..........."),
+    (5, "0..........."),
+    (6, "0..........."),
+];
+
+/// Its rows where all standing cars are slowed up to step 3, and no car later.
+pub const SLOW_TO_START_ROWS: &[Row] = &[
+    (1, "0..........."),
+    (2, "0..........."),
+    (3, "0..........."),
+    (4, ".1.........."),
+    (5, "0..2........"),
+    (6, ".1...2......"),
+];
+
+/// Its rows where all moving cars are slowed at every step, and no standing one.
+pub const QUICK_TO_START_ROWS: &[Row] = &[
+    (1, ".1.........."),
+    (2, "0.1........."),
+    (3, ".1.1........"),
+    (4, "00..1......."),
+    (5, "0.1..1......"),
+];
 
 /// The free road with slowing chance one half, by steady words.
 pub const HALF_SLOWED: Parts = Parts {

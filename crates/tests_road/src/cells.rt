@@ -8,25 +8,10 @@ use road_cells::{Car, GREATEST_SPEED, OutOfMemory, Road, reached_blocks, reached
 use std::alloc::Global;
 use std::process::Abort;
 use std::test::Fail;
+use tests_plans::{CARS_AT_SIX, cars};
 
 /// The three cars of the road `0..2...2....`, where each digit is a car's speed.
-const CARS: &[Car] = &[
-    Car {
-        number: 80,
-        cell: 0,
-        speed: 0,
-    },
-    Car {
-        number: 48,
-        cell: 3,
-        speed: 2,
-    },
-    Car {
-        number: 16,
-        cell: 7,
-        speed: 2,
-    },
-];
+const CARS: &[Car] = CARS_AT_SIX;
 
 fn road_of(alloc: Global, cars: &[Car]) -> Result<Road, OutOfMemory>
     requires { AreRising cars.now }
@@ -152,33 +137,7 @@ fn sees_the_next_car_or_block(rt: HostRuntime) -> Result<(), Fail> {
 }
 
 /// Cars with the next one in the next, ninth, tenth and eleventh cell.
-const FAR: &[Car] = &[
-    Car {
-        number: 1,
-        cell: 5,
-        speed: 0,
-    },
-    Car {
-        number: 2,
-        cell: 6,
-        speed: 0,
-    },
-    Car {
-        number: 3,
-        cell: 15,
-        speed: 0,
-    },
-    Car {
-        number: 4,
-        cell: 25,
-        speed: 0,
-    },
-    Car {
-        number: 5,
-        cell: 36,
-        speed: 0,
-    },
-];
+const FAR: &[Car] = cars![(1, 5, 0), (2, 6, 0), (3, 15, 0), (4, 25, 0), (5, 36, 0)];
 
 /// The gap of each of them but the last.
 const GAPS: &[u8] = &[0, 8, 9, 9];

@@ -1,98 +1,33 @@
 //! Exchanges worked out by hand, and one of many edits.
 
 use road_delta::{Head, beyond, heads_of};
-use road_plan::{Object, Plan};
+use road_plan::Plan;
 use road_scenario::{Edit, OutOfMemory, Scenario, Stamp, Value};
 use std::alloc::Global;
 use std::process::Abort;
 use std::test::Fail;
-use tests_plans::{FREE, plan_of};
-
-const LIMIT: Object = Object::Limit(0);
-
-const BLOCK: Object = Object::Block(8);
+use tests_plans::{BLOCK, FREE, LIMIT, edit, head, plan_of};
 
 /// A limit that A put, and the one that B put later at the same step.
-const FIRST_LIMIT: Edit = Edit {
-    object: LIMIT,
-    step: 3,
-    stamp: Stamp {
-        count: 1,
-        number: 0,
-    },
-    value: Value::Put(1),
-};
+const FIRST_LIMIT: Edit = edit!(LIMIT, 3, (1, 0), 1);
 
-const LIMIT_OF_B: Edit = Edit {
-    object: LIMIT,
-    step: 3,
-    stamp: Stamp {
-        count: 3,
-        number: 1,
-    },
-    value: Value::Put(0),
-};
+const LIMIT_OF_B: Edit = edit!(LIMIT, 3, (3, 1), 0);
 
 /// A limit that A put meanwhile, at the same step and at a later one.
-const LIMIT_OF_A: Edit = Edit {
-    object: LIMIT,
-    step: 3,
-    stamp: Stamp {
-        count: 3,
-        number: 0,
-    },
-    value: Value::Put(2),
-};
+const LIMIT_OF_A: Edit = edit!(LIMIT, 3, (3, 0), 2);
 
-const LATER_LIMIT: Edit = Edit {
-    object: LIMIT,
-    step: 5,
-    stamp: Stamp {
-        count: 3,
-        number: 0,
-    },
-    value: Value::Put(0),
-};
+const LATER_LIMIT: Edit = edit!(LIMIT, 5, (3, 0), 0);
 
 /// A block that A put, and B took.
-const BLOCKED: Edit = Edit {
-    object: BLOCK,
-    step: 4,
-    stamp: Stamp {
-        count: 2,
-        number: 0,
-    },
-    value: Value::Put(1),
-};
+const BLOCKED: Edit = edit!(BLOCK, 4, (2, 0), 1);
 
 /// What A holds, and the heads that it tells.
 const HELD_BY_A: &[Edit] = &[FIRST_LIMIT, LATER_LIMIT, BLOCKED];
 
 const HEADS_OF_A: &[Head] = &[
-    Head {
-        object: LIMIT,
-        step: 3,
-        stamp: Stamp {
-            count: 1,
-            number: 0,
-        },
-    },
-    Head {
-        object: LIMIT,
-        step: 5,
-        stamp: Stamp {
-            count: 3,
-            number: 0,
-        },
-    },
-    Head {
-        object: BLOCK,
-        step: 4,
-        stamp: Stamp {
-            count: 2,
-            number: 0,
-        },
-    },
+    head!(LIMIT, 3, (1, 0)),
+    head!(LIMIT, 5, (3, 0)),
+    head!(BLOCK, 4, (2, 0)),
 ];
 
 /// What one replica holds and tells by heads, what another holds, and what it sends: the edits beyond those heads.
@@ -108,24 +43,7 @@ const EXCHANGES: &[Exchange] = &[
     // B's limit is newer than A's; the block has the same stamp and is sent again.
     Exchange {
         asking: &[LIMIT_OF_B, BLOCKED],
-        heads: &[
-            Head {
-                object: LIMIT,
-                step: 3,
-                stamp: Stamp {
-                    count: 3,
-                    number: 1,
-                },
-            },
-            Head {
-                object: BLOCK,
-                step: 4,
-                stamp: Stamp {
-                    count: 2,
-                    number: 0,
-                },
-            },
-        ],
+        heads: &[head!(LIMIT, 3, (3, 1)), head!(BLOCK, 4, (2, 0))],
         asked: HELD_BY_A,
         sent: &[LATER_LIMIT, BLOCKED],
     },
@@ -146,27 +64,13 @@ const EXCHANGES: &[Exchange] = &[
     // Of equal counts the number decides.
     Exchange {
         asking: &[LIMIT_OF_B],
-        heads: &[Head {
-            object: LIMIT,
-            step: 3,
-            stamp: Stamp {
-                count: 3,
-                number: 1,
-            },
-        }],
+        heads: &[head!(LIMIT, 3, (3, 1))],
         asked: &[LIMIT_OF_A, LATER_LIMIT],
         sent: &[LATER_LIMIT],
     },
     Exchange {
         asking: &[LIMIT_OF_A],
-        heads: &[Head {
-            object: LIMIT,
-            step: 3,
-            stamp: Stamp {
-                count: 3,
-                number: 0,
-            },
-        }],
+        heads: &[head!(LIMIT, 3, (3, 0))],
         asked: &[LIMIT_OF_B],
         sent: &[LIMIT_OF_B],
     },

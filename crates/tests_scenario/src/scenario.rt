@@ -6,18 +6,12 @@ use road_scenario::{Edit, EditFault, OutOfMemory, Scenario, Stamp, Value};
 use std::alloc::Global;
 use std::process::Abort;
 use std::test::Fail;
-use tests_plans::{FREE, plan_of};
+use tests_plans::{BLOCK, FREE, INFLOW, LIMIT, START, edit, plan_of};
 
 mod plain;
 mod stretches;
 
-const LIMIT: Object = Object::Limit(0);
-
 const SLOW: Object = Object::Slow(0);
-
-const BLOCK: Object = Object::Block(8);
-
-const START: Object = Object::Start(0);
 
 /// Returns the scenario that these edits make, in this order.
 fn scenario(alloc: Global, edits: &[Edit]) -> Result<Scenario, OutOfMemory> {
@@ -28,302 +22,108 @@ fn scenario(alloc: Global, edits: &[Edit]) -> Result<Scenario, OutOfMemory> {
     Ok(scenario)
 }
 
-/// Edits come to a replica that holds others: what is listed then, the touched step, and the greatest count.
-#[derive(Clone, Copy)]
-struct Merge {
-    held: &'static [Edit],
-    come: &'static [Edit],
-    listed: &'static [Edit],
-    touched: Option<u32>,
-    count: u64,
-}
+/// Edits that a replica holds, and others that come to it: what is listed then, the touched step, the greatest count.
+type Merge = (
+    &'static [Edit],
+    &'static [Edit],
+    &'static [Edit],
+    Option<u32>,
+    u64,
+);
 
 /// Two imports with one stamp: the greater number wins at both replicas, whichever came first.
-const TWO: Edit = Edit {
-    object: LIMIT,
-    step: 0,
-    stamp: Stamp {
-        count: 7,
-        number: 64,
-    },
-    value: Value::Put(2),
-};
+const TWO: Edit = edit!(LIMIT, 0, (7, 64), 2);
 
-const THREE: Edit = Edit {
-    object: LIMIT,
-    step: 0,
-    stamp: Stamp {
-        count: 7,
-        number: 64,
-    },
-    value: Value::Put(3),
-};
+const THREE: Edit = edit!(LIMIT, 0, (7, 64), 3);
 
 /// An edit, and one on top of it.
-const ONE: Edit = Edit {
-    object: LIMIT,
-    step: 3,
-    stamp: Stamp {
-        count: 1,
-        number: 0,
-    },
-    value: Value::Put(1),
-};
+const ONE: Edit = edit!(LIMIT, 3, (1, 0), 1);
 
-const NEXT: Edit = Edit {
-    object: LIMIT,
-    step: 3,
-    stamp: Stamp {
-        count: 2,
-        number: 1,
-    },
-    value: Value::Put(2),
-};
+const NEXT: Edit = edit!(LIMIT, 3, (2, 1), 2);
 
 /// A withdrawal stays, so that the edit it withdrew is not taken again.
-const BLOCKED: Edit = Edit {
-    object: BLOCK,
-    step: 4,
-    stamp: Stamp {
-        count: 1,
-        number: 0,
-    },
-    value: Value::Put(1),
-};
+const BLOCKED: Edit = edit!(BLOCK, 4, (1, 0), 1);
 
-const FREED: Edit = Edit {
-    object: BLOCK,
-    step: 4,
-    stamp: Stamp {
-        count: 2,
-        number: 0,
-    },
-    value: Value::Withdrawn,
-};
+const FREED: Edit = edit!(BLOCK, 4, (2, 0), withdrawn);
 
 /// Withdrawals where nothing was put.
-const NO_LIMIT: Edit = Edit {
-    object: LIMIT,
-    step: 3,
-    stamp: Stamp {
-        count: 2,
-        number: 0,
-    },
-    value: Value::Withdrawn,
-};
+const NO_LIMIT: Edit = edit!(LIMIT, 3, (2, 0), withdrawn);
 
-const NO_SLOW: Edit = Edit {
-    object: SLOW,
-    step: 0,
-    stamp: Stamp {
-        count: 3,
-        number: 0,
-    },
-    value: Value::Withdrawn,
-};
+const NO_SLOW: Edit = edit!(SLOW, 0, (3, 0), withdrawn);
 
 /// Edits at steps 3 and 5.
-const EARLY: Edit = Edit {
-    object: LIMIT,
-    step: 3,
-    stamp: Stamp {
-        count: 3,
-        number: 1,
-    },
-    value: Value::Put(0),
-};
+const EARLY: Edit = edit!(LIMIT, 3, (3, 1), 0);
 
-const LATE: Edit = Edit {
-    object: LIMIT,
-    step: 5,
-    stamp: Stamp {
-        count: 3,
-        number: 0,
-    },
-    value: Value::Put(0),
-};
+const LATE: Edit = edit!(LIMIT, 5, (3, 0), 0);
 
 /// Slowing chances of all cars and of standing cars.
-const SLOWED: Edit = Edit {
-    object: SLOW,
-    step: 3,
-    stamp: Stamp {
-        count: 1,
-        number: 64,
-    },
-    value: Value::Put(9),
-};
+const SLOWED: Edit = edit!(SLOW, 3, (1, 64), 9);
 
-const SLOWED_LATER: Edit = Edit {
-    step: 5,
-    value: Value::Put(8),
-    ..SLOWED
-};
+const SLOWED_LATER: Edit = edit!(SLOW, 5, (1, 64), 8);
 
-const STARTED: Edit = Edit {
-    object: START,
-    step: 2,
-    value: Value::Put(7),
-    ..SLOWED
-};
+const STARTED: Edit = edit!(START, 2, (1, 64), 7);
 
-const STARTED_LATER: Edit = Edit {
-    step: 4,
-    value: Value::Put(0),
-    ..STARTED
-};
+const STARTED_LATER: Edit = edit!(START, 4, (1, 64), 0);
 
-const NO_START: Edit = Edit {
-    object: START,
-    step: 2,
-    stamp: Stamp {
-        count: 4,
-        number: 0,
-    },
-    value: Value::Withdrawn,
-};
+const NO_START: Edit = edit!(START, 2, (4, 0), withdrawn);
 
 const MERGES: &[Merge] = &[
-    Merge {
-        held: &[],
-        come: &[],
-        listed: &[],
-        touched: None,
-        count: 0,
-    },
-    Merge {
-        held: &[],
-        come: &[TWO],
-        listed: &[TWO],
-        touched: Some(0),
-        count: 7,
-    },
-    Merge {
-        held: &[TWO],
-        come: &[THREE],
-        listed: &[THREE],
-        touched: Some(0),
-        count: 7,
-    },
-    Merge {
-        held: &[],
-        come: &[THREE],
-        listed: &[THREE],
-        touched: Some(0),
-        count: 7,
-    },
-    Merge {
-        held: &[THREE],
-        come: &[TWO],
-        listed: &[THREE],
-        touched: None,
-        count: 7,
-    },
-    Merge {
-        held: &[],
-        come: &[ONE],
-        listed: &[ONE],
-        touched: Some(3),
-        count: 1,
-    },
-    Merge {
-        held: &[ONE],
-        come: &[NEXT],
-        listed: &[NEXT],
-        touched: Some(3),
-        count: 2,
-    },
-    Merge {
-        held: &[],
-        come: &[ONE, NEXT],
-        listed: &[NEXT],
-        touched: Some(3),
-        count: 2,
-    },
-    Merge {
-        held: &[ONE, NEXT],
-        come: &[ONE],
-        listed: &[NEXT],
-        touched: None,
-        count: 2,
-    },
-    Merge {
-        held: &[BLOCKED],
-        come: &[FREED],
-        listed: &[FREED],
-        touched: Some(4),
-        count: 2,
-    },
-    Merge {
-        held: &[BLOCKED, FREED],
-        come: &[BLOCKED],
-        listed: &[FREED],
-        touched: None,
-        count: 2,
-    },
-    Merge {
-        held: &[NO_LIMIT],
-        come: &[NO_SLOW],
-        listed: &[NO_LIMIT, NO_SLOW],
-        touched: None,
-        count: 3,
-    },
-    Merge {
-        held: &[],
-        come: &[NO_SLOW, FREED],
-        listed: &[NO_SLOW, FREED],
-        touched: None,
-        count: 3,
-    },
-    Merge {
-        held: &[BLOCKED, LATE],
-        come: &[ONE],
-        listed: &[ONE, LATE, BLOCKED],
-        touched: Some(3),
-        count: 3,
-    },
-    Merge {
-        held: &[BLOCKED, LATE, ONE],
-        come: &[NO_SLOW, EARLY],
-        listed: &[EARLY, LATE, NO_SLOW, BLOCKED],
-        touched: Some(3),
-        count: 3,
-    },
-    Merge {
-        held: &[NO_SLOW, EARLY],
-        come: &[BLOCKED, LATE, ONE],
-        listed: &[EARLY, LATE, NO_SLOW, BLOCKED],
-        touched: Some(4),
-        count: 3,
-    },
-    Merge {
-        held: &[SLOWED, SLOWED_LATER],
-        come: &[STARTED_LATER],
-        listed: &[SLOWED, SLOWED_LATER, STARTED_LATER],
-        touched: Some(4),
-        count: 1,
-    },
-    Merge {
-        held: &[STARTED, BLOCKED],
-        come: &[SLOWED],
-        listed: &[SLOWED, BLOCKED, STARTED],
-        touched: Some(3),
-        count: 1,
-    },
-    Merge {
-        held: &[STARTED, SLOWED_LATER],
-        come: &[NO_START],
-        listed: &[SLOWED_LATER, NO_START],
-        touched: Some(2),
-        count: 4,
-    },
-    Merge {
-        held: &[STARTED_LATER, NO_START, STARTED],
-        come: &[STARTED, NO_SLOW],
-        listed: &[NO_SLOW, NO_START, STARTED_LATER],
-        touched: None,
-        count: 4,
-    },
+    (&[], &[], &[], None, 0),
+    (&[], &[TWO], &[TWO], Some(0), 7),
+    (&[TWO], &[THREE], &[THREE], Some(0), 7),
+    (&[], &[THREE], &[THREE], Some(0), 7),
+    (&[THREE], &[TWO], &[THREE], None, 7),
+    (&[], &[ONE], &[ONE], Some(3), 1),
+    (&[ONE], &[NEXT], &[NEXT], Some(3), 2),
+    (&[], &[ONE, NEXT], &[NEXT], Some(3), 2),
+    (&[ONE, NEXT], &[ONE], &[NEXT], None, 2),
+    (&[BLOCKED], &[FREED], &[FREED], Some(4), 2),
+    (&[BLOCKED, FREED], &[BLOCKED], &[FREED], None, 2),
+    (&[NO_LIMIT], &[NO_SLOW], &[NO_LIMIT, NO_SLOW], None, 3),
+    (&[], &[NO_SLOW, FREED], &[NO_SLOW, FREED], None, 3),
+    (&[BLOCKED, LATE], &[ONE], &[ONE, LATE, BLOCKED], Some(3), 3),
+    (
+        &[BLOCKED, LATE, ONE],
+        &[NO_SLOW, EARLY],
+        &[EARLY, LATE, NO_SLOW, BLOCKED],
+        Some(3),
+        3,
+    ),
+    (
+        &[NO_SLOW, EARLY],
+        &[BLOCKED, LATE, ONE],
+        &[EARLY, LATE, NO_SLOW, BLOCKED],
+        Some(4),
+        3,
+    ),
+    (
+        &[SLOWED, SLOWED_LATER],
+        &[STARTED_LATER],
+        &[SLOWED, SLOWED_LATER, STARTED_LATER],
+        Some(4),
+        1,
+    ),
+    (
+        &[STARTED, BLOCKED],
+        &[SLOWED],
+        &[SLOWED, BLOCKED, STARTED],
+        Some(3),
+        1,
+    ),
+    (
+        &[STARTED, SLOWED_LATER],
+        &[NO_START],
+        &[SLOWED_LATER, NO_START],
+        Some(2),
+        4,
+    ),
+    (
+        &[STARTED_LATER, NO_START, STARTED],
+        &[STARTED, NO_SLOW],
+        &[NO_SLOW, NO_START, STARTED_LATER],
+        None,
+        4,
+    ),
 ];
 
 // Tells whether a copy of a scenario lists just these edits, in this order.
@@ -339,11 +139,12 @@ fn is_left(
     before: &Scenario,
     after: &Scenario,
 ) -> Result<bool, OutOfMemory> {
+    let (_, _, listed, touched, count) = *merge;
     Ok(
-        lists(alloc, after, merge.listed)?
+        lists(alloc, after, listed)?
             && before.at_most(after)
-            && after.greatest_count() == merge.count
-            && before.touched(after) == merge.touched,
+            && after.greatest_count() == count
+            && before.touched(after) == touched,
     )
 }
 
@@ -360,13 +161,13 @@ fn joins(
 
 // Tells whether it is by the edits of the row.
 fn comes_to(alloc: Global, merge: &Merge, before: &Scenario) -> Result<bool, OutOfMemory> {
-    let come = scenario(alloc, merge.come)?;
+    let come = scenario(alloc, merge.1)?;
     joins(alloc, merge, before, &come)
 }
 
 // Tells whether the edits of a row come to a replica as they should.
 fn comes(alloc: Global, merge: &Merge) -> Result<bool, OutOfMemory> {
-    let before = scenario(alloc, merge.held)?;
+    let before = scenario(alloc, merge.0)?;
     comes_to(alloc, merge, &before)
 }
 
@@ -414,83 +215,16 @@ fn lists_make_scenarios(rt: HostRuntime) -> Result<(), Fail> {
 const LIMITS: &[(&[Edit], [u32; 4])] = &[
     (&[], [2, 2, 2, 2]),
     (&[ONE], [2, 1, 1, 1]),
+    (&[ONE, edit!(LIMIT, 5, (2, 0), 0)], [2, 1, 0, 0]),
     (
         &[
             ONE,
-            Edit {
-                object: LIMIT,
-                step: 5,
-                stamp: Stamp {
-                    count: 2,
-                    number: 0,
-                },
-                value: Value::Put(0),
-            },
-        ],
-        [2, 1, 0, 0],
-    ),
-    (
-        &[
-            ONE,
-            Edit {
-                object: LIMIT,
-                step: 5,
-                stamp: Stamp {
-                    count: 2,
-                    number: 0,
-                },
-                value: Value::Put(0),
-            },
-            Edit {
-                object: LIMIT,
-                step: 5,
-                stamp: Stamp {
-                    count: 3,
-                    number: 0,
-                },
-                value: Value::Withdrawn,
-            },
+            edit!(LIMIT, 5, (2, 0), 0),
+            edit!(LIMIT, 5, (3, 0), withdrawn),
         ],
         [2, 1, 1, 1],
     ),
 ];
-
-// Returns the limit of the first zone at a step.
-fn limit_at(rt: &impl Abort, scenario: &Scenario, plan: &Plan, step: u32) -> u32 {
-    assert!(rt; LIMIT.in_plan(plan));
-    scenario.setting(plan, LIMIT, step)
-}
-
-// Returns the limits of the first zone at the steps of the table.
-fn limits_after(
-    rt: &impl Abort,
-    alloc: Global,
-    plan: &Plan,
-    edits: &[Edit],
-) -> Result<[u32; 4], OutOfMemory> {
-    let made = scenario(alloc, edits)?;
-    Ok([
-        limit_at(rt, &made, plan, 2),
-        limit_at(rt, &made, plan, 4),
-        limit_at(rt, &made, plan, 5),
-        limit_at(rt, &made, plan, 1_048_575),
-    ])
-}
-
-// Checks that the limits of each row are as it says.
-fn limits_act(rt: &impl Abort, alloc: Global, plan: &Plan) -> Result<(), Fail> {
-    for (row, (edits, limits)) in LIMITS.iter().enumerate() {
-        let made = limits_after(rt, alloc, plan, edits)?;
-        assert!(rt; made == *limits, "row {row}");
-    }
-    Ok(())
-}
-
-#[test]
-fn an_earlier_put_acts_on(rt: HostRuntime) -> Result<(), Fail> {
-    let plan = plan_of(rt.alloc(), &FREE)?;
-    limits_act(&rt, rt.alloc(), &plan)
-}
 
 /// Edits, and the slowing chance of standing cars at the steps 2, 4, 5 and 1,048,575: where none is put for them it is
 /// that of all cars at that step, however late that is put.
@@ -511,10 +245,7 @@ const STARTS: &[(&[Edit], [u32; 4])] = &[
             STARTED,
             SLOWED,
             STARTED_LATER,
-            Edit {
-                step: 4,
-                ..NO_START
-            },
+            edit!(START, 4, (4, 0), withdrawn),
         ],
         [7, 7, 7, 7],
     ),
@@ -522,145 +253,75 @@ const STARTS: &[(&[Edit], [u32; 4])] = &[
         &[
             STARTED_LATER,
             SLOWED_LATER,
-            Edit {
-                step: 4,
-                ..NO_START
-            },
+            edit!(START, 4, (4, 0), withdrawn),
         ],
         [0, 0, 8, 8],
     ),
 ];
 
-// Returns the slowing chance of the first zone's standing cars at a step.
-fn start_at(rt: &impl Abort, scenario: &Scenario, plan: &Plan, step: u32) -> u32 {
-    assert!(rt; START.in_plan(plan));
-    scenario.setting(plan, START, step)
+// Returns the number of an object at a step.
+fn setting_at(rt: &impl Abort, scenario: &Scenario, plan: &Plan, object: Object, step: u32) -> u32 {
+    assert!(rt; object.in_plan(plan));
+    scenario.setting(plan, object, step)
 }
 
-// These chances at the steps of the table.
-fn starts_after(
+// Returns the numbers of an object at the steps of the tables.
+fn settings_after(
     rt: &impl Abort,
     alloc: Global,
     plan: &Plan,
+    object: Object,
     edits: &[Edit],
 ) -> Result<[u32; 4], OutOfMemory> {
     let made = scenario(alloc, edits)?;
     Ok([
-        start_at(rt, &made, plan, 2),
-        start_at(rt, &made, plan, 4),
-        start_at(rt, &made, plan, 5),
-        start_at(rt, &made, plan, 1_048_575),
+        setting_at(rt, &made, plan, object, 2),
+        setting_at(rt, &made, plan, object, 4),
+        setting_at(rt, &made, plan, object, 5),
+        setting_at(rt, &made, plan, object, 1_048_575),
     ])
 }
 
-// Checks that the chances of each row are as it says.
-fn starts_act(rt: &impl Abort, alloc: Global, plan: &Plan) -> Result<(), Fail> {
-    for (row, (edits, starts)) in STARTS.iter().enumerate() {
-        let made = starts_after(rt, alloc, plan, edits)?;
-        assert!(rt; made == *starts, "row {row}");
+// Checks that the numbers of an object are as each row says.
+fn settings_act(
+    rt: &impl Abort,
+    alloc: Global,
+    plan: &Plan,
+    object: Object,
+    rows: &[(&[Edit], [u32; 4])],
+) -> Result<(), Fail> {
+    for (row, (edits, numbers)) in rows.iter().enumerate() {
+        let made = settings_after(rt, alloc, plan, object, edits)?;
+        assert!(rt; made == *numbers, "row {row}");
     }
     Ok(())
 }
 
 #[test]
+fn an_earlier_put_acts_on(rt: HostRuntime) -> Result<(), Fail> {
+    let plan = plan_of(rt.alloc(), &FREE)?;
+    settings_act(&rt, rt.alloc(), &plan, LIMIT, LIMITS)
+}
+
+#[test]
 fn standing_cars_are_slowed_like_others_where_none_is_put(rt: HostRuntime) -> Result<(), Fail> {
     let plan = plan_of(rt.alloc(), &FREE)?;
-    starts_act(&rt, rt.alloc(), &plan)
+    settings_act(&rt, rt.alloc(), &plan, START, STARTS)
 }
 
 /// One edit of each kind from step 2 on, a block that is withdrawn, and from step 3 on another limit and another chance
 /// of standing cars.
 const ALL_KINDS: &[Edit] = &[
-    Edit {
-        object: Object::Start(0),
-        step: 3,
-        stamp: Stamp {
-            count: 1,
-            number: 0,
-        },
-        value: Value::Put(7),
-    },
-    Edit {
-        object: Object::Start(0),
-        step: 2,
-        stamp: Stamp {
-            count: 2,
-            number: 0,
-        },
-        value: Value::Withdrawn,
-    },
-    Edit {
-        object: Object::Watch(0),
-        step: 2,
-        stamp: Stamp {
-            count: 1,
-            number: 0,
-        },
-        value: Value::Put(0),
-    },
-    Edit {
-        object: Object::Inflow(0),
-        step: 2,
-        stamp: Stamp {
-            count: 1,
-            number: 0,
-        },
-        value: Value::Put(9),
-    },
-    Edit {
-        object: Object::Block(8),
-        step: 2,
-        stamp: Stamp {
-            count: 1,
-            number: 0,
-        },
-        value: Value::Put(1),
-    },
-    Edit {
-        object: Object::Block(3),
-        step: 2,
-        stamp: Stamp {
-            count: 1,
-            number: 0,
-        },
-        value: Value::Put(1),
-    },
-    Edit {
-        object: Object::Block(5),
-        step: 2,
-        stamp: Stamp {
-            count: 2,
-            number: 0,
-        },
-        value: Value::Withdrawn,
-    },
-    Edit {
-        object: Object::Slow(0),
-        step: 2,
-        stamp: Stamp {
-            count: 1,
-            number: 0,
-        },
-        value: Value::Put(65_536),
-    },
-    Edit {
-        object: Object::Limit(0),
-        step: 2,
-        stamp: Stamp {
-            count: 1,
-            number: 0,
-        },
-        value: Value::Put(0),
-    },
-    Edit {
-        object: Object::Limit(0),
-        step: 3,
-        stamp: Stamp {
-            count: 1,
-            number: 0,
-        },
-        value: Value::Put(9),
-    },
+    edit!(START, 3, (1, 0), 7),
+    edit!(START, 2, (2, 0), withdrawn),
+    edit!(Object::Watch(0), 2, (1, 0), 0),
+    edit!(INFLOW, 2, (1, 0), 9),
+    edit!(BLOCK, 2, (1, 0), 1),
+    edit!(Object::Block(3), 2, (1, 0), 1),
+    edit!(Object::Block(5), 2, (2, 0), withdrawn),
+    edit!(SLOW, 2, (1, 0), 65_536),
+    edit!(LIMIT, 2, (1, 0), 0),
+    edit!(LIMIT, 3, (1, 0), 9),
 ];
 
 /// Limits, slowing chances, inflows and blocked cells, whether the detector is on, and the chances of standing cars.
@@ -764,290 +425,76 @@ fn edits_of_all_kinds_act(rt: HostRuntime) -> Result<(), Fail> {
 /// An edit, and how the plan of the free road refuses it. A count is 1 to 2^48.
 const FAULTS: &[(Edit, Option<EditFault>)] = &[
     (
-        Edit {
-            object: Object::Limit(1),
-            step: 0,
-            stamp: Stamp {
-                count: 1,
-                number: 0,
-            },
-            value: Value::Put(1),
-        },
+        edit!(Object::Limit(1), 0, (1, 0), 1),
         Some(EditFault::NoObject),
     ),
     (
-        Edit {
-            object: Object::Block(12),
-            step: 0,
-            stamp: Stamp {
-                count: 1,
-                number: 0,
-            },
-            value: Value::Put(1),
-        },
+        edit!(Object::Block(12), 0, (1, 0), 1),
         Some(EditFault::NoObject),
     ),
     (
-        Edit {
-            object: Object::Limit(1),
-            step: 1_048_576,
-            stamp: Stamp {
-                count: 0,
-                number: 0,
-            },
-            value: Value::Put(10),
-        },
+        edit!(Object::Limit(1), 1_048_576, (0, 0), 10),
+        Some(EditFault::NoObject),
+    ),
+    (edit!(LIMIT, 1_048_576, (1, 0), 1), Some(EditFault::Step)),
+    (
+        edit!(LIMIT, 1_048_575, (1, 0), 10),
+        Some(EditFault::ValueOutOfRange),
+    ),
+    (
+        edit!(LIMIT, 1_048_575, (0, 0), 10),
+        Some(EditFault::ValueOutOfRange),
+    ),
+    (edit!(LIMIT, 0, (0, 64), 1), Some(EditFault::Count)),
+    (
+        edit!(LIMIT, 0, (281_474_976_710_657, 64), 1),
+        Some(EditFault::Count),
+    ),
+    (edit!(LIMIT, 0, (0, 64), withdrawn), Some(EditFault::Count)),
+    (edit!(LIMIT, 0, (281_474_976_710_656, 64), 1), None),
+    (edit!(LIMIT, 1_048_575, (1, 0), 9), None),
+    (edit!(LIMIT, 1_048_575, (1, 0), withdrawn), None),
+    (edit!(LIMIT, 65_536, (1, 0), 1), None),
+    (
+        edit!(Object::Start(1), 1_048_576, (0, 0), 65_537),
         Some(EditFault::NoObject),
     ),
     (
-        Edit {
-            object: LIMIT,
-            step: 1_048_576,
-            stamp: Stamp {
-                count: 1,
-                number: 0,
-            },
-            value: Value::Put(1),
-        },
+        edit!(START, 1_048_576, (1, 64), 65_537),
         Some(EditFault::Step),
     ),
     (
-        Edit {
-            object: LIMIT,
-            step: 1_048_575,
-            stamp: Stamp {
-                count: 1,
-                number: 0,
-            },
-            value: Value::Put(10),
-        },
+        edit!(START, 2, (1, 64), 65_537),
         Some(EditFault::ValueOutOfRange),
     ),
-    (
-        Edit {
-            object: LIMIT,
-            step: 1_048_575,
-            stamp: Stamp {
-                count: 0,
-                number: 0,
-            },
-            value: Value::Put(10),
-        },
-        Some(EditFault::ValueOutOfRange),
-    ),
-    (
-        Edit {
-            object: LIMIT,
-            step: 0,
-            stamp: Stamp {
-                count: 0,
-                number: 64,
-            },
-            value: Value::Put(1),
-        },
-        Some(EditFault::Count),
-    ),
-    (
-        Edit {
-            object: LIMIT,
-            step: 0,
-            stamp: Stamp {
-                count: 281_474_976_710_657,
-                number: 64,
-            },
-            value: Value::Put(1),
-        },
-        Some(EditFault::Count),
-    ),
-    (
-        Edit {
-            object: LIMIT,
-            step: 0,
-            stamp: Stamp {
-                count: 0,
-                number: 64,
-            },
-            value: Value::Withdrawn,
-        },
-        Some(EditFault::Count),
-    ),
-    (
-        Edit {
-            object: LIMIT,
-            step: 0,
-            stamp: Stamp {
-                count: 281_474_976_710_656,
-                number: 64,
-            },
-            value: Value::Put(1),
-        },
-        None,
-    ),
-    (
-        Edit {
-            object: LIMIT,
-            step: 1_048_575,
-            stamp: Stamp {
-                count: 1,
-                number: 0,
-            },
-            value: Value::Put(9),
-        },
-        None,
-    ),
-    (
-        Edit {
-            object: LIMIT,
-            step: 1_048_575,
-            stamp: Stamp {
-                count: 1,
-                number: 0,
-            },
-            value: Value::Withdrawn,
-        },
-        None,
-    ),
-    (
-        Edit {
-            object: LIMIT,
-            step: 65_536,
-            stamp: Stamp {
-                count: 1,
-                number: 0,
-            },
-            value: Value::Put(1),
-        },
-        None,
-    ),
-    (
-        Edit {
-            object: Object::Start(1),
-            step: 1_048_576,
-            stamp: Stamp {
-                count: 0,
-                number: 0,
-            },
-            value: Value::Put(65_537),
-        },
-        Some(EditFault::NoObject),
-    ),
-    (
-        Edit {
-            step: 1_048_576,
-            value: Value::Put(65_537),
-            ..STARTED
-        },
-        Some(EditFault::Step),
-    ),
-    (
-        Edit {
-            value: Value::Put(65_537),
-            ..STARTED
-        },
-        Some(EditFault::ValueOutOfRange),
-    ),
-    (
-        Edit {
-            step: 1_048_575,
-            value: Value::Put(65_536),
-            ..STARTED
-        },
-        None,
-    ),
+    (edit!(START, 1_048_575, (1, 64), 65_536), None),
     (NO_START, None),
 ];
 
 /// Edits, and the fault of the first faulty one by object and step, whichever came first.
 const FIRST_FAULTS: &[(&[Edit], Option<EditFault>)] = &[
     (&[], None),
-    (
-        &[Edit {
-            object: LIMIT,
-            step: 8,
-            stamp: Stamp {
-                count: 3,
-                number: 0,
-            },
-            value: Value::Put(1),
-        }],
-        None,
-    ),
+    (&[edit!(LIMIT, 8, (3, 0), 1)], None),
     (
         &[
-            Edit {
-                object: BLOCK,
-                step: 4,
-                stamp: Stamp {
-                    count: 1,
-                    number: 0,
-                },
-                value: Value::Put(2),
-            },
-            Edit {
-                object: LIMIT,
-                step: 1_048_576,
-                stamp: Stamp {
-                    count: 2,
-                    number: 0,
-                },
-                value: Value::Put(1),
-            },
+            edit!(BLOCK, 4, (1, 0), 2),
+            edit!(LIMIT, 1_048_576, (2, 0), 1),
         ],
         Some(EditFault::Step),
     ),
     (
         &[
-            Edit {
-                object: BLOCK,
-                step: 4,
-                stamp: Stamp {
-                    count: 1,
-                    number: 0,
-                },
-                value: Value::Put(2),
-            },
-            Edit {
-                object: LIMIT,
-                step: 1_048_576,
-                stamp: Stamp {
-                    count: 2,
-                    number: 0,
-                },
-                value: Value::Put(1),
-            },
-            Edit {
-                object: LIMIT,
-                step: 9,
-                stamp: Stamp {
-                    count: 2,
-                    number: 0,
-                },
-                value: Value::Put(10),
-            },
-            Edit {
-                object: LIMIT,
-                step: 8,
-                stamp: Stamp {
-                    count: 3,
-                    number: 0,
-                },
-                value: Value::Put(1),
-            },
+            edit!(BLOCK, 4, (1, 0), 2),
+            edit!(LIMIT, 1_048_576, (2, 0), 1),
+            edit!(LIMIT, 9, (2, 0), 10),
+            edit!(LIMIT, 8, (3, 0), 1),
         ],
         Some(EditFault::ValueOutOfRange),
     ),
     (
         &[
-            Edit {
-                step: 0,
-                value: Value::Put(65_537),
-                ..STARTED
-            },
-            Edit {
-                object: Object::Watch(0),
-                step: 1_048_576,
-                ..SLOWED
-            },
+            edit!(START, 0, (1, 64), 65_537),
+            edit!(Object::Watch(0), 1_048_576, (1, 64), 9),
         ],
         Some(EditFault::Step),
     ),
@@ -1102,7 +549,7 @@ fn scenarios_are_a_lattice(rt: HostRuntime) -> Result<(), Fail> {
 // Makes an edit of the first zone's limit.
 fn limit_edit(step: u32, count: u64, value: Value) -> Edit {
     Edit {
-        object: Object::Limit(0),
+        object: LIMIT,
         step,
         stamp: Stamp { count, number: 0 },
         value,

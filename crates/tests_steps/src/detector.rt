@@ -9,7 +9,7 @@ use std::alloc::Global;
 use std::process::Abort;
 use std::sync::Arc;
 use std::test::Fail;
-use tests_plans::{FREE, Parts, plan_of};
+use tests_plans::{FREE, Parts, cars, plan_of};
 
 // Makes the input of a step on a road, where the first detector is on or off.
 fn input_of(
@@ -150,37 +150,13 @@ const LONG: Parts = Parts {
 };
 
 /// Six cars on it.
-const CARS: &[Car] = &[
-    Car {
-        number: 1,
-        cell: 0,
-        speed: 0,
-    },
-    Car {
-        number: 2,
-        cell: 44,
-        speed: 0,
-    },
-    Car {
-        number: 3,
-        cell: 45,
-        speed: 0,
-    },
-    Car {
-        number: 4,
-        cell: 100,
-        speed: 0,
-    },
-    Car {
-        number: 5,
-        cell: 299,
-        speed: 0,
-    },
-    Car {
-        number: 6,
-        cell: 397,
-        speed: 0,
-    },
+const CARS: &[Car] = cars![
+    (1, 0, 0),
+    (2, 44, 0),
+    (3, 45, 0),
+    (4, 100, 0),
+    (5, 299, 0),
+    (6, 397, 0)
 ];
 
 /// The speeds of the six cars, and what a detector counts of them.
@@ -232,28 +208,7 @@ fn counts_by_any_speeds(rt: HostRuntime) -> Result<(), Fail> {
 }
 
 /// Cars on and past a row of 12 cells.
-const DRAWN: &[Car] = &[
-    Car {
-        number: 1,
-        cell: 0,
-        speed: 9,
-    },
-    Car {
-        number: 2,
-        cell: 3,
-        speed: 0,
-    },
-    Car {
-        number: 3,
-        cell: 11,
-        speed: 1,
-    },
-    Car {
-        number: 4,
-        cell: 12,
-        speed: 2,
-    },
-];
+const DRAWN: &[Car] = cars![(1, 0, 9), (2, 3, 0), (3, 11, 1), (4, 12, 2)];
 
 /// Blocked cells, and how the cars are drawn with them.
 const ROWS: &[(&[u32], &str)] = &[

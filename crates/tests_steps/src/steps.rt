@@ -10,7 +10,10 @@ use std::alloc::Global;
 use std::process::Abort;
 use std::sync::Arc;
 use std::test::Fail;
-use tests_plans::{DENSE, DENSE_START, FREE, HALF_SLOWED, Parts, plan_of};
+use tests_plans::{
+    BLOCKED_ROWS, CARS_AT_SIX, DENSE, DENSE_START, FREE, FREE_ROWS, HALF_SLOWED, Parts,
+    QUICK_TO_START_ROWS, SLOW_TO_START_ROWS, SLOWED_ROWS, cars, plan_of,
+};
 
 /// A road and its rows at rising steps. From a step on the only zone has another limit, from a step on a cell is
 /// blocked, from a step on standing cars have other slowing chances, one for each zone.
@@ -29,15 +32,7 @@ const FREE_ROAD: Example = Example {
     lowered: &[],
     blocked: &[],
     starts: &[],
-    rows: &[
-        (0, "............"),
-        (1, ".1.........."),
-        (2, "0..2........"),
-        (3, ".1...2......"),
-        (4, "0..2...2...."),
-        (5, ".1...2...2.."),
-        (6, "0..2...2...."),
-    ],
+    rows: FREE_ROWS,
 };
 
 /// Every car is slowed by chance at every step.
@@ -46,14 +41,7 @@ const ALWAYS_SLOWED: Example = Example {
         zones: &[(2, 65_536)],
         ..FREE
     },
-    rows: &[
-        (1, "0..........."),
-        (2, "0..........."),
-        (3, "0..........."),
-        (4, "0..........."),
-        (5, "0..........."),
-        (6, "0..........."),
-    ],
+    rows: SLOWED_ROWS,
     ..FREE_ROAD
 };
 
@@ -149,11 +137,7 @@ const LOWERED: Example = Example {
 /// Cell 8 is blocked from step 4 on.
 const BLOCKED_AHEAD: Example = Example {
     blocked: &[(4, 8)],
-    rows: &[
-        (4, "0..2...2#..."),
-        (5, ".1...2.0#..."),
-        (6, "0..2..10#..."),
-    ],
+    rows: BLOCKED_ROWS,
     ..FREE_ROAD
 };
 
@@ -182,27 +166,14 @@ const BLOCKED_INLET: Example = Example {
 /// Up to step 3 no standing car starts; moving cars are not slowed.
 const SLOW_TO_START: Example = Example {
     starts: &[(0, &[65_536]), (3, &[0])],
-    rows: &[
-        (1, "0..........."),
-        (2, "0..........."),
-        (3, "0..........."),
-        (4, ".1.........."),
-        (5, "0..2........"),
-        (6, ".1...2......"),
-    ],
+    rows: SLOW_TO_START_ROWS,
     ..FREE_ROAD
 };
 
 /// Every moving car is slowed at every step, and no standing one.
 const QUICK_TO_START: Example = Example {
     starts: &[(0, &[0])],
-    rows: &[
-        (1, ".1.........."),
-        (2, "0.1........."),
-        (3, ".1.1........"),
-        (4, "00..1......."),
-        (5, "0.1..1......"),
-    ],
+    rows: QUICK_TO_START_ROWS,
     ..ALWAYS_SLOWED
 };
 
@@ -477,31 +448,12 @@ fn runs_the_examples_plainly(rt: HostRuntime) -> Result<(), Fail> {
     Ok(())
 }
 
-/// The cars of the free road at step 6.
-const NUMBERED: &[Car] = &[
-    Car {
-        number: 80,
-        cell: 0,
-        speed: 0,
-    },
-    Car {
-        number: 48,
-        cell: 3,
-        speed: 2,
-    },
-    Car {
-        number: 16,
-        cell: 7,
-        speed: 2,
-    },
-];
-
 // They are numbered so.
 fn are_numbered(rt: &impl Abort, alloc: Global, plan: &Arc<Plan>) -> Result<(), Fail> {
     let empty = Road::empty(alloc);
     let mut meter = Meter::new();
     let road = stepped_on(rt, alloc, plan, &FREE_ROAD, (0, 6), empty, &mut meter)?;
-    assert!(rt; road.cars() == NUMBERED);
+    assert!(rt; road.cars() == CARS_AT_SIX);
     Ok(())
 }
 
@@ -548,11 +500,7 @@ fn after_step_one(alloc: Global, parts: &Parts, car: Option<Car>) -> Result<Vec<
 }
 
 /// The car that enters at inlet 3 in step 1.
-const ENTERED: &[Car] = &[Car {
-    number: 19,
-    cell: 1,
-    speed: 1,
-}];
+const ENTERED: &[Car] = cars![(19, 1, 1)];
 
 /// A car, and where it is after step 1, once it is not slowed and once it is.
 const DRIVER: Car = Car {
@@ -561,17 +509,9 @@ const DRIVER: Car = Car {
     speed: 3,
 };
 
-const NOT_SLOWED: &[Car] = &[Car {
-    number: 16,
-    cell: 11,
-    speed: 4,
-}];
+const NOT_SLOWED: &[Car] = cars![(16, 11, 4)];
 
-const ONCE_SLOWED: &[Car] = &[Car {
-    number: 16,
-    cell: 10,
-    speed: 3,
-}];
+const ONCE_SLOWED: &[Car] = cars![(16, 10, 3)];
 
 /// Parts of a plan, the car on its road, if there is one, and the cars after step 1.
 const FIRST_STEPS: &[(Parts, Option<Car>, &[Car])] = &[

@@ -104,9 +104,10 @@ fn looks_at(
     (row, merge): (usize, &Merge),
     after: &[Edit],
 ) -> Result<(), OutOfMemory> {
-    let made = scenario(alloc, merge.listed)?;
+    let (held, _, listed, first_touched, _) = *merge;
+    let made = scenario(alloc, listed)?;
     compare(rt, plan, row, after, &made);
-    assert!(rt; touched(merge.held, after) == merge.touched, "row {row}");
+    assert!(rt; touched(held, after) == first_touched, "row {row}");
     Ok(())
 }
 
@@ -117,8 +118,8 @@ fn comes(
     plan: &Plan,
     (row, merge): (usize, &Merge),
 ) -> Result<(), OutOfMemory> {
-    let mut after = merge.held.to_vec(alloc)?;
-    after.extend_from_slice(merge.come)?;
+    let mut after = merge.0.to_vec(alloc)?;
+    after.extend_from_slice(merge.1)?;
     looks_at(rt, alloc, plan, (row, merge), &after)
 }
 

@@ -1,12 +1,12 @@
 //! Edits of one object on both sides of the steps at which a stretch of registers begins, worked out by hand.
 
-use super::{limit_at, limit_edit, lists, scenario};
+use super::{limit_edit, lists, scenario, setting_at};
 use road_plan::Plan;
 use road_scenario::{Edit, OutOfMemory, Scenario, Value};
 use std::alloc::Global;
 use std::process::Abort;
 use std::test::Fail;
-use tests_plans::{FREE, plan_of};
+use tests_plans::{FREE, LIMIT, plan_of};
 
 /// Steps, and the limit that is put from each on.
 const PUTS: &[(u32, u32)] = &[
@@ -50,7 +50,7 @@ fn edits_without(alloc: Global, left_out: Option<u32>) -> Result<Vec<Edit>, OutO
 fn limits_act(rt: &impl Abort, plan: &Plan, made: &Scenario) {
     for (step, limit, next) in LIMITS {
         assert!(rt;
-            limit_at(rt, made, plan, *step) == *limit,
+            setting_at(rt, made, plan, LIMIT, *step) == *limit,
             "limit at step {step}"
         );
         assert!(rt; made.next_date(*step) == *next, "date after step {step}");
@@ -102,7 +102,7 @@ fn past_withdrawals_an_earlier_stretch_acts_on(rt: HostRuntime) -> Result<(), Fa
         edits.push(limit_edit(step, 2, Value::Withdrawn))?;
     }
     let made = scenario(rt.alloc(), &edits)?;
-    assert!(rt; limit_at(&rt, &made, &plan, 1_048_574) == 1);
+    assert!(rt; setting_at(&rt, &made, &plan, LIMIT, 1_048_574) == 1);
     assert!(rt; made.next_date(2_048) == Some(9_000) && made.next_date(9_000) == Some(1_048_575));
     Ok(())
 }

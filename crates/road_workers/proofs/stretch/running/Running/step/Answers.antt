@@ -1,8 +1,8 @@
 -- One more step is computed and counted.
-use Rattle.std.proofs.Common.{◌≡◌, ◌+◌, ap, ◌∙◌}
+use Rattle.std.proofs.Common.{◌+◌, ap, ◌∙◌}
 use Rattle.std.specs.Option.{unwrap_or}
 use Rattle.road_ends.specs.Input.{StepInput, input_of, input_next}
-use Rattle.road_workers.proofs.StretchTotals.{step_input, fit_at, totals_after, road_after-more}
+use Rattle.road_workers.proofs.StretchTotals.{fit_at, totals_after, road_after-more}
 use Rattle.road_workers.proofs.stretch.running.Running.step.Goals as goal
 
 pub moved-requires-clause-cars : goal.moved-requires-clause-cars
