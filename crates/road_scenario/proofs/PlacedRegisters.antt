@@ -1,20 +1,29 @@
 -- Where the register of a step stands among registers by rising step.
-use Rattle.std.specs.Prelude.{◌≡◌, ◌≢◌, ℕ, zero, suc, ◌<◌, ◌≤◌, true, false, cond, T, List, [], ◌∷◌, length, take, nat_le, nat_lt, refl}
+use Rattle.std.specs.Prelude.{◌≡◌, ◌≢◌, ℕ, zero, suc, ◌+◌, ◌-◌, ◌<◌, ◌≤◌, true, false, cond, T, List, [], ◌∷◌, ◌++◌, length, take, nat_le, nat_lt, refl}
 use Rattle.std.specs.declared.cmp.Ordering.{Ordering}
 use Rattle.std.specs.declared.cmp.Ordering.TheVariants.{Less, Equal, Greater}
 use Rattle.std.specs.declared.option.Option.{Option}
 use Rattle.std.specs.declared.option.Option.TheVariants.{None, Some}
 use Rattle.std.specs.FinMap.Entries.{below_all, by_order, find, is_sorted, put}
-use Rattle.std.specs.List.{AllWithin, insert, slice_index_or, slice_set}
+use Rattle.std.specs.List.{AllByRecursion, AllWithin, insert, slice_index_or, slice_set}
 use Rattle.std.specs.List.Sorted.{IsNonDecreasingBy}
+use Rattle.std.specs.Cmp.{nat_cmp_total}
 use Rattle.std.specs.Option.{option_or}
 use Rattle.std.specs.Ordering.{is_eq, is_lt, nat_cmp}
-use Rattle.std.proofs.Common.{arith, sym, ap, ◌∙◌}
+use Rattle.std.proofs.Common.{arith, sym, ap, subst, drop, ◌∙◌}
 use Rattle.std.proofs.lemmas.Bool.Decides.{nat_tests}
+use Rattle.std.proofs.lemmas.List.{drop_more, take_more}
+use Rattle.lattice_core.specs.Greatest.{is_nothing}
+use Rattle.lattice_core.specs.Instances.ExactOrders.{exact_nat}
+use Rattle.lattice_core.specs.Instances.JoinedMaps.{good_at, good-join_option, map_with-good, proper-put}
 use Rattle.lattice_core.specs.Instances.TestAnswers.{first_of_both, second_of_both}
+use Rattle.lattice_core.specs.Map.{IsHeld, join_option}
+use Rattle.lattice_core.specs.Private.EntryLists.{IsAtMostOption}
+use Rattle.lattice_core.proofs.MapOrder.{AreAtMostOptions, up_to-join}
 use Rattle.road_scenario.proofs.LastNumbers.{last_number_of}
 use Rattle.road_scenario.specs.Private.RegisterWalks.{first_step_after, last_number, register_number}
 use Rattle.road_scenario.specs.Registers.{Register, RegistersByStep}
+use Rattle.road_scenario.specs.Instances.RegisterLattice.{AreRegistersByStep, steps_join, won_join, won_laws}
 
 is_less : (a b : ℕ) → T (is_lt (nat_cmp a b)) → a < b
 is_less a b h = grind (arith, nat_tests)
@@ -117,6 +126,39 @@ module _ {V : Type 0} where
   above-from_place step (e ∷ es) (suc n) s others other (suc k) d from below =
       above-from_place step es n (second_of_both (below_all nat_cmp e.0 es) _ s) (of_rest (λ e. step ≤ e.0) e es n (length es) others) (λ x within. other x (omega (arith, within))) k d (omega (arith, from)) (omega (arith, below))
 
+  -- the element at a place that there is
+  pub same_at : (es : List (ℕ × V)) (n : ℕ) (d e : ℕ × V) → n < length es → slice_index_or es n d ≡ slice_index_or es n e
+  same_at [] n d e within = absurd (omega (arith, within))
+  same_at (x ∷ es) zero d e within = refl
+  same_at (x ∷ es) (suc n) d e within = same_at es n d e (omega (arith, within))
+
+  -- an element of another step at a place is not of the step
+  pub not_here : (step : ℕ) (es : List (ℕ × V)) (n : ℕ) (e : ℕ × V) → e ≡ slice_index_or es n e → e.0 ≢ step → (d : ℕ × V) → n < length es → (slice_index_or es n d).0 ≢ step
+  not_here step es n e at differs d within here = differs (ap (λ x. x.0) (at ∙ same_at es n e d within) ∙ here)
+
+  -- what a look-up at the first place that is not before a step gives
+  pub found-at : (step : ℕ) (xs es : List (ℕ × V)) (n : ℕ) (e : ℕ × V) → xs ≡ es → n < length xs → AllWithin (λ e. e.0 < step) es 0 n → e ≡ slice_index_or xs n e → e.0 ≡ step → Some e.1 ≡ find nat_cmp step es
+  found-at step xs es n e same within before at here =
+      let there : e ≡ slice_index_or es n e = at ∙ ap (λ x. slice_index_or x n e) same in
+      ap (λ x. Some x.1) there
+      ∙ sym (find-at_place step es n e (subst (λ x. n < length x) same within) before (ap (λ x. x.0) (sym there) ∙ here))
+
+  pub nothing-at : (step : ℕ) (es : List (ℕ × V)) (n : ℕ) → T (is_sorted nat_cmp es) → n ≤ length es → AllWithin (λ e. e.0 < step) es 0 n → AllWithin (λ e. step ≤ e.0) es n (length es)
+      → ((d : ℕ × V) → n < length es → (slice_index_or es n d).0 ≢ step) → None ≡ find nat_cmp step es
+  nothing-at step es n s bound before others other = sym (find-no_place step es n bound before (above-from_place step es n s others other))
+
+  -- what is left of entries that hold something holds something
+  pub held-drop : (P : ℕ × V → Type 0) (i : ℕ) (es : List (ℕ × V)) → AllByRecursion P es → AllByRecursion P (drop i es)
+  held-drop P zero es h = h
+  held-drop P (suc i) [] h = tt
+  held-drop P (suc i) (e ∷ es) h = held-drop P i es h.1
+
+  pub none_left : (P : ℕ × V → Type 0) (i : ℕ) (es : List (ℕ × V)) → length es ≤ i → AllByRecursion P (drop i es)
+  none_left P zero [] h = tt
+  none_left P zero (e ∷ es) h = absurd (omega (arith, h))
+  none_left P (suc i) [] h = tt
+  none_left P (suc i) (e ∷ es) h = none_left P i es (omega (arith, h))
+
 -- ---- registers up to a step
 
 -- the first step after a step is that of the first register behind those up to it
@@ -168,3 +210,80 @@ last-at_place step (e ∷ es) (suc n) within up_to later =
   where
     is_up_to : (a b : ℕ) → a ≤ b → nat_le a b ≡ true
     is_up_to a b h = grind (arith, nat_tests)
+
+pub first-found : (step : ℕ) (xs es : RegistersByStep) (n : ℕ) (e : ℕ × Register) → xs ≡ es → n < length xs → AllWithin (λ e. e.0 ≤ step) es 0 n → AllWithin (λ e. step < e.0) es n (length es) → e ≡ slice_index_or xs n e
+    → Some e.0 ≡ first_step_after step es
+first-found step xs es n e same within up_to later at =
+    let inside = subst (λ x. n < length x) same within in
+    ap (λ x. Some x.0) (at ∙ ap (λ x. slice_index_or x n e) same) ∙ sym (first-at_place step es n e inside up_to (later n e (omega arith) inside))
+
+pub first-none : (step : ℕ) (xs es : RegistersByStep) (n : ℕ) → xs ≡ es → length xs ≤ n → AllWithin (λ e. e.0 ≤ step) es 0 n → None ≡ first_step_after step es
+first-none step xs es n same behind up_to =
+    let all = subst (λ x. length x ≤ n) same behind in
+    sym (first-no_place step es (λ k d from below. up_to k d from (omega (arith, below, all))))
+
+-- the last of the registers that are left, apart
+pub last_apart : (xs es : RegistersByStep) (left : ℕ) (e : ℕ × Register) → xs ≡ es → 0 < left → left ≤ length es → e ≡ slice_index_or xs (left - 1) e → take left es ≡ take (left - 1) es ++ e ∷ []
+last_apart xs es left e same some bound at =
+    let one_more : left ≡ left - 1 + 1 = omega (arith, some) in
+    ap (λ n. take n es) one_more ∙ take_more es (left - 1) e (omega (arith, some, bound))
+    ∙ ap (λ x. take (left - 1) es ++ x ∷ []) (sym (at ∙ ap (λ x. slice_index_or x (left - 1) e) same))
+
+-- ---- joins
+
+-- a register is joined with the one at its place
+pub joined-at_place : (step : ℕ) (es : RegistersByStep) (n : ℕ) (d e : ℕ × Register) (joined theirs : Register) → n < length es → AllWithin (λ e. e.0 < step) es 0 n
+    → d ≡ slice_index_or es n d → d.0 ≡ step → e ≡ slice_index_or es n e → joined ≡ won_join e.1 theirs
+    → slice_set es n (step, joined) ≡ put nat_cmp step (join_option won_join (find nat_cmp step es) theirs) es
+joined-at_place step es n d e joined theirs within before at is at_too made =
+    let here : (slice_index_or es n d).0 ≡ step = ap (λ x. x.0) (sym at) ∙ is in
+    let present : e ≡ slice_index_or es n d = at_too ∙ same_at es n e d within in
+    ap (λ v. slice_set es n (step, v)) (made ∙ ap (λ x. won_join x.1 theirs) present ∙ ap (λ x. join_option won_join x theirs) (sym (find-at_place step es n d within before here)))
+    ∙ sym (put-at_place step (join_option won_join (find nat_cmp step es) theirs) es n d within before here)
+
+-- or stands alone where none is
+pub joined-no_place : (step : ℕ) (new es : RegistersByStep) (n : ℕ) (theirs : Register) → T (is_sorted nat_cmp es) → n ≤ length es → AllWithin (λ e. e.0 < step) es 0 n → AllWithin (λ e. step ≤ e.0) es n (length es)
+    → ((d : ℕ × Register) → n < length es → (slice_index_or es n d).0 ≢ step) → new ≡ insert es n (step, theirs)
+    → new ≡ put nat_cmp step (join_option won_join (find nat_cmp step es) theirs) es
+joined-no_place step new es n theirs s bound before others other is =
+    let above = above-from_place step es n s others other in
+    is ∙ sym (put-no_place step theirs es n bound before above)
+    ∙ ap (λ x. put nat_cmp step (join_option won_join x theirs) es) (sym (find-no_place step es n bound before above))
+
+good_next : (other : RegistersByStep) (i : ℕ) (e : ℕ × Register) → AreRegistersByStep other → i < length other → e ≡ slice_index_or other i e → IsHeld (λ (_ : Register). Unit {0}) is_nothing e.1
+good_next other i e m within at =
+    let Held : ℕ × Register → Type 0 = λ e. IsHeld (λ (_ : Register). Unit {0}) is_nothing e.1 in
+    subst Held (sym at) (subst (AllByRecursion Held) (drop_more other i e within) (held-drop Held i other m.held)).0
+
+-- one more register of another stretch is joined in
+pub joined-next : (old new all other : RegistersByStep) (i : ℕ) (e : ℕ × Register) → AreRegistersByStep other → i < length other → e ≡ slice_index_or other i e → steps_join old (drop i other) ≡ all
+    → new ≡ put nat_cmp e.0 (join_option won_join (find nat_cmp e.0 old) e.1) old → steps_join new (drop (i + 1) other) ≡ all
+joined-next old new all other i e m within at inv made =
+    let good = good_next other i e m within at in
+    ap (λ es. steps_join es (drop (i + 1) other))
+    (made ∙ sym (map_with-good nat_cmp nat_cmp_total exact_nat (λ _. Unit {0}) won_join is_nothing won_laws old e.0 e.1 good))
+    ∙ ap (λ x. steps_join old (x ∷ drop (i + 1) other)) at
+    ∙ ap (steps_join old) (sym (drop_more other i e within)) ∙ inv
+
+-- and they are registers by step
+pub proper-next : (old new other : RegistersByStep) (i : ℕ) (e : ℕ × Register) → AreRegistersByStep old → AreRegistersByStep other → i < length other → e ≡ slice_index_or other i e
+    → new ≡ put nat_cmp e.0 (join_option won_join (find nat_cmp e.0 old) e.1) old → AreRegistersByStep new
+proper-next old new other i e m n within at made =
+    let good = good_next other i e n within at in
+    subst AreRegistersByStep (sym made)
+    (proper-put nat_cmp nat_cmp_total exact_nat (λ _. Unit {0}) won_join is_nothing won_laws old e.0 (join_option won_join (find nat_cmp e.0 old) e.1) m
+    (good-join_option nat_cmp nat_cmp_total exact_nat (λ _. Unit {0}) won_join is_nothing won_laws (find nat_cmp e.0 old) e.1 (good_at nat_cmp nat_cmp_total exact_nat (λ _. Unit {0}) won_join is_nothing won_laws e.0 old m) good))
+
+-- ---- at most
+
+-- the next register is at most the one that the other stretch has at its step
+pub next_at_most : (items ours others : RegistersByStep) (i : ℕ) (d : ℕ × Register) (found : Option Register) → items ≡ ours → i < length items → AreRegistersByStep ours → AreRegistersByStep others
+    → (AreAtMostOptions nat_cmp won_join ours others → AreAtMostOptions nat_cmp won_join (drop i ours) others) → found ≡ find nat_cmp (slice_index_or items i d).0 others
+    → steps_join ours others ≡ others → IsAtMostOption won_join (slice_index_or items i d).1 found
+next_at_most items ours others i d found same within m n forth is h =
+    let e : ℕ × Register = slice_index_or items i d in
+    let inside = subst (λ x. i < length x) same within in
+    let at : e ≡ slice_index_or ours i e = ap (λ x. slice_index_or x i d) same ∙ same_at ours i d e inside in
+    let all = up_to-join nat_cmp nat_cmp_total exact_nat (λ _. Unit {0}) won_join is_nothing won_laws ours others m n h in
+    let there = (subst (λ x. AreAtMostOptions nat_cmp won_join x others) (drop_more ours i e inside) (forth all)).0 in
+    subst (IsAtMostOption won_join e.1) (sym is) (subst (λ (x : ℕ × Register). IsAtMostOption won_join x.1 (find nat_cmp x.0 others)) (sym at) there)

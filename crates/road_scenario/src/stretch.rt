@@ -63,10 +63,7 @@ impl Stretch {
     pub(crate) fn get(&self, step: u32) -> Option<&Won>
         ensures { option_copied result ≡ find nat_cmp step self.now }
     {
-        match self.won.get(count_before(&self.won, step)) {
-            Some((at, won)) if *at == step => Some(won),
-            _ => None,
-        }
+        register_at(&self.won, step)
     }
 
     pub(crate) fn registers(&self) -> &[(u32, Won)]
@@ -149,8 +146,9 @@ impl Lattice for Stretch {
     }
 
     fn at_most(&self, other: &Self) -> bool {
+        let others = &other.won;
         for (step, won) in &self.won {
-            match other.get(*step) {
+            match register_at(others, *step) {
                 Some(theirs) if won.at_most(theirs) => {}
                 _ => return false,
             }
@@ -185,6 +183,17 @@ fn count_up_to(won: &[(u32, Won)], step: u32) -> usize
             ensures { result ≡ leb entry.now.0 step }
         { entry.0 <= step },
     )
+}
+
+// Looks the register of a step up.
+fn register_at(won: &[(u32, Won)], step: u32) -> Option<&Won>
+    requires { AreRegistersByStep won.now }
+    ensures { option_copied result ≡ find nat_cmp step won.now }
+{
+    match won.get(count_before(won, step)) {
+        Some((at, won)) if *at == step => Some(won),
+        _ => None,
+    }
 }
 
 // Joins a register with what there is at its step.
