@@ -1,5 +1,5 @@
 -- The joined register is put in its place.
-use Rattle.std.proofs.Common.{◌≡◌, ◌≤◌, ◌<◌, arith, length, ap, sym, subst, ◌∙◌}
+use Rattle.std.proofs.Common.{◌≤◌, ◌<◌, arith, length, ap, sym, subst, ◌∙◌}
 use Rattle.std.specs.List.{AllWithin}
 use Rattle.road_scenario.proofs.PlacedRegisters.{joined-at_place, joined-no_place, not_here}
 use Rattle.road_scenario.proofs.stretch.join_in.Goals.{else-place-len-via-then-place-len+else-index-step, else-place-len-via-else-place-len}

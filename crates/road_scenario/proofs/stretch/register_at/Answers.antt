@@ -1,5 +1,5 @@
 -- The register of a step is the first one that is not before it, if it is of that step.
-use Rattle.std.proofs.Common.{◌≤◌, arith, refl}
+use Rattle.std.proofs.Common.{arith, refl}
 use Rattle.road_scenario.proofs.PlacedRegisters.{found-at, not_here, nothing-at}
 use Rattle.road_scenario.proofs.stretch.register_at.Goals.{in_default-via-in-Some+else-at-step, in_default-via-in_default}
 use Rattle.road_scenario.proofs.stretch.register_at.Goals as goal

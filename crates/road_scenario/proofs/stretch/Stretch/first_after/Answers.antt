@@ -1,5 +1,5 @@
 -- The first register behind those up to a step bears the first date after it.
-use Rattle.std.proofs.Common.{◌≡◌, ◌≤◌, ◌<◌, length, subst, ◌∙◌}
+use Rattle.std.proofs.Common.{◌≤◌, ◌<◌, length, subst, ◌∙◌}
 use Rattle.std.specs.List.{AllWithin}
 use Rattle.road_scenario.proofs.PlacedRegisters.{first-found, first-none}
 use Rattle.road_scenario.proofs.stretch.Stretch.first_after.Goals as goal

@@ -1,5 +1,5 @@
 -- Going back from a step, the first number that is met is the last one put.
-use Rattle.std.proofs.Common.{◌≡◌, ◌≤◌, ◌<◌, ◌-◌, arith, length, take, sym, subst, ◌∙◌}
+use Rattle.std.proofs.Common.{◌≤◌, ◌<◌, ◌-◌, arith, length, take, sym, subst, ◌∙◌}
 use Rattle.std.specs.List.{AllWithin}
 use Rattle.road_scenario.specs.Private.RegisterWalks.{last_number}
 use Rattle.road_scenario.proofs.LastNumbers.{last_found, last_further}

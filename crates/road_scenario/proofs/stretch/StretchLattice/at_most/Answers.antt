@@ -1,5 +1,5 @@
 -- Each register is at most the other's exactly where the stretch is at most the other one.
-use Rattle.std.proofs.Common.{◌≡◌, ◌≤◌, ◌∙◌, ap, length, refl, slice_index_or, sym, subst}
+use Rattle.std.proofs.Common.{◌≤◌, ◌∙◌, ap, length, refl, slice_index_or, sym, subst}
 use Rattle.std.proofs.lemmas.Bool.{true≢false}
 use Rattle.std.specs.Cmp.{nat_cmp_total}
 use Rattle.std.specs.FinMap.Entries.{find}
