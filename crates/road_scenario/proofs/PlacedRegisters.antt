@@ -1,4 +1,4 @@
--- Where the register of a step stands among registers by rising step.
+-- Where the register of a step stands among registers by rising step, and what is joined there.
 use Rattle.std.specs.Prelude.{◌≡◌, ◌≢◌, ℕ, zero, suc, ◌+◌, ◌-◌, ◌<◌, ◌≤◌, true, false, cond, T, List, [], ◌∷◌, ◌++◌, length, take, nat_le, nat_lt, refl}
 use Rattle.std.specs.declared.cmp.Ordering.TheVariants.{Less, Equal, Greater}
 use Rattle.std.specs.declared.option.Option.{Option}
@@ -184,10 +184,6 @@ first-no_place step (e ∷ es) up_to =
   where
     is_not : (a b : ℕ) → b ≤ a → nat_lt a b ≡ false
     is_not a b h = grind (arith, nat_tests)
-
-or_none : (x : Option ℕ) → option_or x None ≡ x
-or_none None = refl
-or_none (Some n) = refl
 
 later_none : (step : ℕ) (es : RegistersByStep) → AllWithin (λ e. step < e.0) es 0 (length es) → last_number step es ≡ None
 later_none step [] later = refl
