@@ -1,5 +1,5 @@
 -- The number in force for an object is the last one put in its steps.
-use Rattle.std.specs.Prelude.{◌≡◌, ℕ, ◌<◌, Bool, true, false, not, cond, ◌&&◌, ◌||◌, T, List, [], ◌∷◌, ◌++◌, nat_le, nat_lt, is_some, refl}
+use Rattle.std.specs.Prelude.{◌≡◌, ℕ, ◌<◌, Bool, true, false, cond, ◌&&◌, ◌||◌, T, List, [], ◌∷◌, ◌++◌, nat_le, nat_lt, is_some, refl}
 use Rattle.std.specs.declared.cmp.Ordering.{Ordering}
 use Rattle.std.specs.declared.cmp.Ordering.TheVariants.{Less, Equal, Greater}
 use Rattle.std.specs.declared.option.Option.{Option}
@@ -16,7 +16,6 @@ use Rattle.std.proofs.Math.Bool.{or-true}
 use Rattle.std.proofs.lemmas.List.Elements.{filter-append}
 use Rattle.lattice_core.specs.Instances.TestAnswers.{first_of_both, second_of_both, less_by_T}
 use Rattle.lattice_core.specs.declared.greatest.Greatest.TheVariants.{Nothing, Of}
-use Rattle.lattice_core.specs.Map.{entries_up_to}
 use Rattle.road_plan.specs.Objects.{order_key, object_order}
 use Rattle.road_plan.specs.Instances.ObjectOrder.{ordered}
 use Rattle.road_plan.specs.declared.object.Object.{Object}
@@ -52,19 +51,6 @@ or-assoc (Some n) y z = refl
 last-append : (es : RegistersByStep) (x : ℕ × Register) → last_number_of (es ++ x ∷ []) ≡ option_or (register_number x.1) (last_number_of es)
 last-append [] x = or_none (register_number x.1)
 last-append (e ∷ es) x = ap (λ y. option_or y (register_number e.1)) (last-append es x) ∙ or-assoc (register_number x.1) (last_number_of es) (register_number e.1)
-
--- the last number put up to a step is that of the entries up to it
-pub last-up_to : (step : ℕ) (steps : RegistersByStep) → last_number_of (entries_up_to nat_cmp step steps) ≡ last_number step steps
-last-up_to step [] = refl
-last-up_to step (e ∷ steps) =
-    ap (λ b. last_number_of (cond b (e ∷ entries_up_to nat_cmp step steps) (entries_up_to nat_cmp step steps))) (same_test step e.0)
-    ∙ elim (nat_le e.0 step) as (λ b. last_number_of (cond b (e ∷ entries_up_to nat_cmp step steps) (entries_up_to nat_cmp step steps)) ≡ option_or (last_number step steps) (cond b (register_number e.1) None)) [
-      | true ↦ ap (λ x. option_or x (register_number e.1)) (last-up_to step steps)
-      | false ↦ last-up_to step steps ∙ or_none (last_number step steps)
-    ]
-  where
-    same_test : (a b : ℕ) → not (is_lt (nat_cmp a b)) ≡ nat_le b a
-    same_test a b = grind (arith, nat_tests)
 
 -- a number of the last entry is the last number
 pub last_found : (rest left : RegistersByStep) (x : ℕ × Register) (number whole : Option ℕ) (n : ℕ) → rest ≡ left ++ x ∷ [] → number ≡ register_number x.1 → Some n ≡ number → last_number_of rest ≡ whole → Some n ≡ whole

@@ -1,8 +1,7 @@
 //! Walks over the registers of one object, stretch by stretch.
 
-ghost use Rattle.std.specs.Prelude.{◌≡◌, [], length};
+ghost use Rattle.std.specs.Prelude.{◌≡◌, length};
 ghost use Rattle.std.specs.Iterator.{at_most};
-ghost use Rattle.std.specs.Option.{unwrap_or};
 ghost use Rattle.std.specs.Map.Iter.{TakesFirst, deref_pair};
 ghost use Rattle.road_scenario.specs.Private.Stretches.{all_registers};
 
@@ -15,21 +14,20 @@ use std::marker::Model;
 // The registers of an object by step. Contracts see the list of those that are left.
 #[derive(Drop)]
 pub(crate) struct Registers<'a> {
-    // Those left of the stretch that was begun, if one was.
-    begun: Option<Iter<'a, u32, Won>>,
+    // Those left of the stretch that was begun.
+    begun: &'a [(u32, Won)],
     // The stretches that follow it.
     others: Iter<'a, u32, Shared<Stretch>>,
 }
 
 impl<'a> Model for Registers<'a> {
-    ghost use Rattle.std.specs.Prelude.{[], ◌++◌};
-    ghost use Rattle.std.specs.Option.{unwrap_or};
+    ghost use Rattle.std.specs.Prelude.{◌++◌};
     ghost use Rattle.road_scenario.specs.Private.Stretches.{all_registers};
     ghost use Rattle.road_scenario.specs.Registers.{RegistersByStep};
 
     ghost Value = { RegistersByStep };
 
-    ghost view = { λ r. unwrap_or r.begun [] ++ all_registers r.others };
+    ghost view = { λ r. r.begun.now ++ all_registers r.others };
 }
 
 impl<'a> Registers<'a> {
@@ -37,10 +35,7 @@ impl<'a> Registers<'a> {
     pub(crate) fn of(others: Iter<'a, u32, Shared<Stretch>>) -> Self
         ensures { result ≡ all_registers others.entry }
     {
-        Registers {
-            begun: None,
-            others,
-        }
+        Registers { begun: &[], others }
     }
 }
 
@@ -57,17 +52,20 @@ impl<'a> Iterator for Registers<'a> {
                 return Some(entry);
             }
             let (_, stretch) = self.others.next()?;
-            self.begun = Some(stretch.value().iter());
+            self.begun = stretch.value().registers();
         }
     }
 }
 
-// Takes the first of what is left of a stretch, where one was begun.
-fn next_of<'a>(begun: &mut Option<Iter<'a, u32, Won>>) -> Option<(&'a u32, &'a Won)>
-    ensures { TakesFirst deref_pair (unwrap_or begun.old []) result (unwrap_or begun.new []) }
+// Takes the first of what is left of a stretch.
+fn next_of<'a>(begun: &mut &'a [(u32, Won)]) -> Option<(&'a u32, &'a Won)>
+    ensures { TakesFirst deref_pair begun.old.now result begun.new.now }
 {
-    match begun {
-        Some(begun) => begun.next(),
+    match begun.split_first() {
+        Some(((step, won), left)) => {
+            *begun = left;
+            Some((step, won))
+        }
         None => None,
     }
 }
