@@ -13,6 +13,7 @@ ghost use Rattle.road_workers.specs.declared.faults.CrewFault.TheVariants.{Worke
 
 mod gathering;
 mod job;
+mod running;
 mod spin;
 mod working;
 
@@ -21,9 +22,10 @@ use crate::faults::CrewFault;
 use crate::gate::{Gate, NoGate};
 use crate::piece::{Piece, PieceAnswer, cars_in, list_for};
 use crate::pool::gathering::{is_taken, places_for, put_together};
-use crate::pool::job::{Done, Job};
+use crate::pool::job::{Done, Job, PieceJob, StretchDone};
+use crate::pool::running::stretches;
 use crate::pool::spin::Lookout;
-use crate::pool::working::work;
+use crate::pool::working::{Ends, work};
 use crate::stretch::run_whole;
 use crate::stretch::running::RunMemory;
 use crossbeam_channel::{Receiver, SendError, Sender, bounded};
@@ -36,10 +38,12 @@ use std::sync::{Arc, Wait};
 use std::thread;
 use std::thread::{JoinHandle, Threads};
 
-// A worker: the end of its channel of jobs, which has room for one, and its thread.
+// A worker: the ends of its channels of jobs and of stretches that it has run, which have room for one each, and its
+// thread.
 #[derive(Drop)]
 struct Worker {
     jobs: Sender<Job>,
+    stretches: Receiver<StretchDone>,
     thread: JoinHandle<()>,
 }
 
@@ -204,24 +208,11 @@ impl<R: Wait> Crew for Pool<R> {
         } else if self.is_watched {
             Ok(None)
         } else {
-            run_by(alloc, span, road, &mut self.kept)
+            self.run_spans(alloc, span, road)
         };
         self.gone = gone_after(&done, self.gone);
         done
     }
-}
-
-// Runs the steps of a span.
-fn run_by(
-    alloc: Global,
-    span: &Span,
-    road: &Road,
-    kept: &mut Option<RunMemory>,
-) -> Result<Option<Ran>, CrewFault>
-    ensures road { IfOk result (λ done. IfSome done (λ ran. ran.road ≡ span_road span.now road.now)) }
-    ensures totals { IfOk result (λ done. IfSome done (λ ran. ran.totals.items ≡ span_totals span.now road.now)) }
-{
-    Ok(Some(run_whole(alloc, span, road, kept)?))
 }
 
 // Makes the gate that does nothing, for all workers.
@@ -270,16 +261,23 @@ fn start_worker<
     gate: &Arc<G>,
     results: &Sender<Done>,
 ) -> Result<Worker, CrewFault> {
-    let (jobs, theirs) = bounded(alloc, 1)?;
+    let (jobs, their_jobs) = bounded(alloc, 1)?;
+    let (their_stretches, stretches) = bounded(alloc, 1)?;
+    let ends = Ends {
+        jobs: their_jobs,
+        pieces: results.clone()?,
+        stretches: their_stretches,
+        lookout,
+    };
     let gate = Arc::try_clone(gate)?;
-    let results = results.clone()?;
     let their_rt = rt.clone()?;
-    let started = thread::spawn(
-        rt,
-        move || work(&their_rt, alloc, worker, lookout, &*gate, &theirs, &results),
-    );
+    let started = thread::spawn(rt, move || work(&their_rt, alloc, worker, &*gate, &ends));
     match started {
-        Ok(thread) => Ok(Worker { jobs, thread }),
+        Ok(thread) => Ok(Worker {
+            jobs,
+            stretches,
+            thread,
+        }),
         Err(_) => Err(CrewFault::WorkersGone),
     }
 }
@@ -287,7 +285,7 @@ fn start_worker<
 // Closes the workers' channels, and joins their threads.
 fn finish_workers<R: Threads>(rt: &R, workers: Vec<Worker>) {
     for worker in workers {
-        let Worker { jobs, thread } = worker;
+        let Worker { jobs, thread, .. } = worker;
         drop(jobs);
         thread.join(rt);
     }
@@ -348,8 +346,13 @@ fn send_job<R: Wait>(
     requires order { piece.first ≤ piece.end }
     requires within { piece.end ≤ length (cars_of (arc_value input.now).road) }
 {
-    let job = Job::new(Arc::try_clone(input)?, piece);
-    match jobs.send(rt, job) {
+    let job = PieceJob::new(Arc::try_clone(input)?, piece);
+    sent(jobs.send(rt, Job::Piece(job)))
+}
+
+// Returns why a job was not sent, where it was not.
+fn sent(given: Result<(), SendError<Job>>) -> Result<(), CrewFault> {
+    match given {
         Ok(()) => Ok(()),
         Err(SendError::Disconnected(_)) => Err(CrewFault::WorkersGone),
         Err(SendError::OutOfMemory(_)) => Err(CrewFault::OutOfMemory),

@@ -77,7 +77,8 @@ pub(crate) fn run_stretch(
     ensures unchanged { memory.new.words ≡ memory.old.words }
 {
     let near = road_near(alloc, span, road, stretch)?;
-    run_near(alloc, span, &near, stretch, memory)
+    let run = run_near(alloc, span, &near, stretch, memory)?;
+    Ok(run)
 }
 
 // Runs a stretch for all steps of a span, from the cars near it.
@@ -103,7 +104,12 @@ pub(crate) fn run_near(
 }
 
 // Makes the road of the cars on a stretch and so near it that they may matter there in the steps of a span.
-pub(crate) fn road_near(alloc: Global, span: &Span, road: &Road, stretch: Stretch) -> Result<Road, OutOfMemory>
+pub(crate) fn road_near(
+    alloc: Global,
+    span: &Span,
+    road: &Road,
+    stretch: Stretch,
+) -> Result<Road, OutOfMemory>
     requires order { stretch.first ≤ stretch.end }
     requires short { stretch.end ≤ GREATEST_LENGTH }
     ensures { IfOk result (λ near. AgreeBetween (stretch.first - GREATEST_SPEED * span.now.steps)

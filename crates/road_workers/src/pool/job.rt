@@ -5,15 +5,27 @@ ghost use Rattle.std.specs.Arc.{arc_value};
 ghost use Rattle.std.proofs.Props.{props};
 ghost use Rattle.road_cells.specs.Cars.{cars_of};
 ghost use Rattle.road_ends.specs.Input.{input_speeds_between};
+ghost use Rattle.road_workers.specs.Private.Stretches.{IsRunOf};
 
 use crate::piece::{Piece, PieceAnswer};
-use road_ends::StepInput;
+use crate::stretch::running::RunMemory;
+use crate::stretch::{Stretch, StretchRun, run_near};
+use road_cells::Road;
+use road_ends::{OutOfMemory, Span, StepInput};
 use std::alloc::Global;
+use std::mem;
 use std::sync::Arc;
+
+// What a worker is to compute.
+#[derive(Drop)]
+pub(crate) enum Job {
+    Piece(PieceJob),
+    Stretch(StretchJob),
+}
 
 // The piece of a step that a worker is to compute.
 #[derive(Drop)]
-pub(crate) struct Job {
+pub(crate) struct PieceJob {
     input: Arc<StepInput>,
     piece: Piece,
     ghost order: { piece.first ≤ piece.end },
@@ -30,22 +42,76 @@ pub(crate) struct Done {
         (λ new. new.items ≡ input_speeds_between (arc_value input) piece.first piece.end) } by { Prim.hlevel props },
 }
 
-impl Job {
+// The stretch that a worker is to run for the steps of a span, from the road of the cars near it.
+#[derive(Drop)]
+pub(crate) struct StretchJob {
+    span: Span,
+    near: Road,
+    stretch: Stretch,
+    ghost order: { stretch.first ≤ stretch.end },
+}
+
+// What a stretch comes to, or out of memory.
+pub(crate) type StretchAnswer = Result<StretchRun, OutOfMemory>;
+
+// A stretch, from the road of the cars near it, with what a worker answered: what it comes to by the definition, or out
+// of memory.
+#[derive(Drop)]
+pub(crate) struct StretchDone {
+    pub span: Span,
+    pub near: Road,
+    pub stretch: Stretch,
+    pub answer: StretchAnswer,
+    ghost right: { IfOk answer (λ run. IsRunOf stretch.first stretch.end span near run) } by { Prim.hlevel props },
+}
+
+impl PieceJob {
     // Makes the job of a piece.
-    pub fn new(input: Arc<StepInput>, piece: Piece) -> Job
+    pub fn new(input: Arc<StepInput>, piece: Piece) -> PieceJob
         requires order { piece.first ≤ piece.end }
         requires within { piece.end ≤ length (cars_of (arc_value input).road) }
     {
-        Job { input, piece }
+        PieceJob { input, piece }
     }
 
     // Computes the piece.
     pub fn done(self, alloc: Global) -> Done {
-        let Job { input, piece } = self;
+        let PieceJob { input, piece } = self;
         let answer = input.speeds_between(alloc, piece.first, piece.end);
         Done {
             input,
             piece,
+            answer,
+        }
+    }
+}
+
+impl StretchJob {
+    // Makes the job of a stretch.
+    pub fn new(span: Span, near: Road, stretch: Stretch) -> StretchJob
+        requires { stretch.first ≤ stretch.end }
+    {
+        StretchJob {
+            span,
+            near,
+            stretch,
+        }
+    }
+
+    // Runs the stretch, in what the worker keeps from earlier ones.
+    pub fn done(self, alloc: Global, kept: &mut Option<RunMemory>) -> StretchDone {
+        let StretchJob {
+            span,
+            near,
+            stretch,
+        } = self;
+        let mut memory = RunMemory::ready(alloc, mem::replace(kept, None), &span);
+        let answer = run_near(alloc, &span, &near, stretch, &mut memory);
+        *kept = Some(memory);
+        StretchDone {
+            span,
+            near,
+            stretch,
             answer,
         }
     }
