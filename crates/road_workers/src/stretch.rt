@@ -8,7 +8,7 @@ ghost use Rattle.road_cells.specs.declared.car.TheConstants.{GREATEST_SPEED};
 ghost use Rattle.road_ends.specs.Laws.{AgreeBetween};
 ghost use Rattle.road_ends.specs.Span.{span_road};
 ghost use Rattle.road_detector.specs.Passes.{span_totals};
-ghost use Rattle.road_workers.specs.Private.Stretches.{IsRunOf, cut, has_site};
+ghost use Rattle.road_workers.specs.Private.Stretches.{IsRunOf, cars_between, cut, has_site};
 
 pub(crate) mod counting;
 pub(crate) mod joining;
@@ -103,7 +103,7 @@ pub(crate) fn run_near(
     })
 }
 
-// Makes the road of the cars on a stretch and so near it that they may matter there in the steps of a span.
+// Makes the road of the cars near a stretch.
 pub(crate) fn road_near(
     alloc: Global,
     span: &Span,
@@ -115,11 +115,8 @@ pub(crate) fn road_near(
     ensures { IfOk result (λ near. AgreeBetween (stretch.first - GREATEST_SPEED * span.now.steps)
         (stretch.end + GREATEST_SPEED * span.now.steps) near road.now) }
 {
-    let margin = margin_of(span);
-    let from = stretch.first.saturating_sub(margin);
-    let near = road.between(from, stretch.end + margin);
     let mut cars = Vec::new(alloc);
-    cars.extend_from_slice(near)?;
+    cars.extend_from_slice(cars_near(span, road, stretch))?;
     Ok(Road::of(cars))
 }
 
@@ -130,9 +127,19 @@ pub(crate) fn is_near(near: &Road, span: &Span, road: &Road, stretch: Stretch) -
     ensures { IsTrue result → AgreeBetween (stretch.first - GREATEST_SPEED * span.now.steps)
         (stretch.end + GREATEST_SPEED * span.now.steps) near.now road.now }
 {
+    are_same_cars(near.cars(), cars_near(span, road, stretch))
+}
+
+// Returns the cars on a stretch and so near it that they may matter there in the steps of a span.
+fn cars_near<'a>(span: &Span, road: &'a Road, stretch: Stretch) -> &'a [Car]
+    requires order { stretch.first ≤ stretch.end }
+    requires short { stretch.end ≤ GREATEST_LENGTH }
+    ensures { result.now ≡ cars_between (stretch.first - GREATEST_SPEED * span.now.steps)
+        (stretch.end + GREATEST_SPEED * span.now.steps) road.now }
+{
     let margin = margin_of(span);
     let from = stretch.first.saturating_sub(margin);
-    are_same_cars(near.cars(), road.between(from, stretch.end + margin))
+    road.between(from, stretch.end + margin)
 }
 
 // Finds where the stretch at a place begins, of so many: the last of them ends with the road, which has so many cells.

@@ -24,6 +24,6 @@ returns c =
     let same_span : done.span ≡ span = let same = c.same.ensures in let test = c.if-not-same.ensures in grind rules in
     let agree : AgreeBetween (stretch.first - GREATEST_SPEED * span.steps) (stretch.end + GREATEST_SPEED * span.steps) done.near road = c.is_near.ensures (let test = c.if-not-is_near.ensures in grind rules) in
     if_ok (IsRunOf done.stretch.first done.stretch.end done.span done.near) (IsRunOf stretch.first stretch.end span road) done.answer
-      (λ run was. run-nearby stretch.first stretch.end span done.near road run c.requires.order agree
-        (subst (λ s. IsRunOf s.first s.end span done.near run) same_stretch (subst (λ s. IsRunOf done.stretch.first done.stretch.end s done.near run) same_span was)))
-      done.right
+    (λ run was. run-nearby stretch.first stretch.end span done.near road run c.requires.order agree
+    (subst (λ s. IsRunOf s.first s.end span done.near run) same_stretch (subst (λ s. IsRunOf done.stretch.first done.stretch.end s done.near run) same_span was)))
+    done.right
