@@ -57,6 +57,7 @@ const CASES: &[(&str, Case)] = &[
     ("crew-alone", Case::Crew(CrewCase::Alone)),
     ("crew-scoped", Case::Crew(CrewCase::Scoped)),
     ("crew-pool", Case::Crew(CrewCase::Pool)),
+    ("crew-run", Case::Crew(CrewCase::Run)),
     ("pool-start", Case::Crew(CrewCase::Start)),
     ("pool-start-gated", Case::Crew(CrewCase::StartGated)),
     ("scenario-with-edit", Case::Scenario(scenarios::WITH_EDIT)),

@@ -1,20 +1,68 @@
-//! Crews: the speeds of a step of the dense road, and the start of lasting workers.
+//! Crews: the speeds of a step of the dense road, 64 steps of a long one, and the start of lasting workers.
 
 ghost use Rattle.std.specs.Prelude.{◌≡◌};
 
 use crate::roads::shared_plan;
 use crate::verdict::{Refusal, Until, Verdict};
 use road_cells::Road;
-use road_ends::{StepInput, enter};
-use road_plan::Settings;
+use road_detector::{Totals, passes};
+use road_ends::{Meter, Span, StepInput, Stepped, enter, step_alone};
+use road_plan::{Plan, Settings, WordKind};
 use road_workers::{Alone, Crew, CrewFault, NoGate, Pool, Scoped};
 use std::alloc::Global;
 use std::sync::{Arc, Wait};
 use std::thread::Threads;
-use tests_plans::DENSE;
+use tests_plans::{DENSE, Parts};
 
 /// The new speeds of the dense road's first step.
 const SPEEDS: &[u8] = &[0, 1, 0, 1, 0, 0, 1, 0, 1];
+
+/// The longest road, with inlets all along it and detectors on both sides of its middle.
+const LONG: Parts = Parts {
+    road: (8_192, 1, 8_192),
+    zones: &[(5, 16_384)],
+    inlets: &[
+        (0, 65_536),
+        (512, 65_536),
+        (1_024, 65_536),
+        (1_536, 65_536),
+        (2_048, 65_536),
+        (2_560, 65_536),
+        (3_072, 65_536),
+        (3_584, 65_536),
+        (4_096, 65_536),
+        (4_608, 65_536),
+        (5_120, 65_536),
+        (5_632, 65_536),
+        (6_144, 65_536),
+        (6_656, 65_536),
+        (7_168, 65_536),
+        (7_680, 65_536),
+    ],
+    detectors: &[520, 4_100, 4_110, 7_700],
+    words: WordKind::Seeded(7),
+};
+
+/// After so many steps the long road has cars enough for two workers, who then run so many together.
+const BEFORE: u32 = 40;
+
+const TOGETHER: u32 = 64;
+
+/// Steps that a crew is to run, and what they come to by one thread, step by step.
+struct LongRun {
+    span: Span,
+    road: Road,
+    after: Road,
+    totals: Vec<Totals>,
+}
+
+/// What a crew is asked.
+enum Task {
+    /// The speeds of the dense road's first step.
+    Speeds(Arc<StepInput>),
+    /// Steps of the long road.
+    Steps(LongRun),
+}
 
 /// What is tried of a crew.
 #[derive(Clone, Copy, PartialEq, Eq)]
@@ -25,6 +73,8 @@ pub(crate) enum CrewCase {
     Scoped,
     /// Two lasting workers compute, each its piece.
     Pool,
+    /// A lasting worker and its caller run steps of a long road, a stretch each.
+    Run,
     /// They are started.
     Start,
     /// They are started with a gate.
@@ -41,6 +91,11 @@ fn first_input(alloc: Global) -> Option<Arc<StepInput>> {
     enter(alloc, &plan, settings, 0, &Road::empty(alloc)).ok()
 }
 
+// Asks for the speeds of this step.
+fn first_speeds(alloc: Global) -> Option<Task> {
+    Some(Task::Speeds(first_input(alloc)?))
+}
+
 /// Returns why a crew gave no speeds, or a crowd was not gathered.
 pub(crate) fn refusal(fault: CrewFault) -> Refusal {
     match fault {
@@ -49,20 +104,68 @@ pub(crate) fn refusal(fault: CrewFault) -> Refusal {
     }
 }
 
-// Answers whether a crew gives the speeds; a refusal where it does not answer.
-fn gives<C: Crew>(alloc: Global, crew: &mut C, input: &Arc<StepInput>) -> Result<bool, Refusal> {
-    match crew.speeds(alloc, input) {
-        Ok(speeds) => Ok(speeds.as_slice() == SPEEDS),
-        Err(fault) => Err(refusal(fault)),
+// Computes a step of a road alone.
+fn stepped(alloc: Global, plan: &Arc<Plan>, step: u32, road: &Road) -> Option<Stepped> {
+    let settings = Settings::of_plan(alloc, plan).ok()?;
+    step_alone(alloc, plan, settings, step, road, &mut Meter::new()).ok()
+}
+
+// Adds what the detectors count in a step.
+fn count(totals: &mut Vec<Totals>, done: &Stepped) {
+    for detector in 0..done.input.plan().detectors().len() {
+        let counted = passes(&done.input, &done.speeds, detector as u32);
+        if let Some(total) = totals.get_mut(detector) {
+            total.cars = total.cars.saturating_add(counted.cars);
+            total.speeds = total.speeds.saturating_add(counted.speeds);
+        }
     }
 }
 
-// Judges speeds that were given.
+// Runs the long road up to where workers share it, and from there by one thread, step by step.
+fn long_run(alloc: Global) -> Option<LongRun> {
+    let plan = shared_plan(alloc, &LONG)?;
+    let mut road = Road::empty(alloc);
+    for step in 0..BEFORE {
+        road = stepped(alloc, &plan, step, &road)?.road;
+    }
+    let mut after = road.copied().ok()?;
+    let mut totals = vec![in alloc; Totals { cars: 0, speeds: 0 }; plan.detectors().len()].ok()?;
+    for step in BEFORE..BEFORE + TOGETHER {
+        let done = stepped(alloc, &plan, step, &after)?;
+        count(&mut totals, &done);
+        after = done.road;
+    }
+    let settings = Arc::new(alloc, Settings::of_plan(alloc, &plan).ok()?).ok()?;
+    let span = Span::new(plan, settings, BEFORE, TOGETHER);
+    Some(LongRun {
+        span,
+        road,
+        after,
+        totals,
+    })
+}
+
+// Answers whether a crew gives what it is asked; a refusal where it does not answer.
+fn gives<C: Crew>(alloc: Global, crew: &mut C, task: &Task) -> Result<bool, Refusal> {
+    match task {
+        Task::Speeds(input) => match crew.speeds(alloc, input) {
+            Ok(speeds) => Ok(speeds.as_slice() == SPEEDS),
+            Err(fault) => Err(refusal(fault)),
+        },
+        Task::Steps(run) => match crew.run(alloc, &run.span, &run.road) {
+            Ok(Some(ran)) => { Ok(ran.road.cars() == run.after.cars() && ran.totals == run.totals) }
+            Ok(None) => Ok(false),
+            Err(fault) => Err(refusal(fault)),
+        },
+    }
+}
+
+// Judges what was given.
 fn accepted(is_right: bool, verdict: Verdict) -> Verdict {
     if is_right {
         verdict
     } else {
-        Verdict::Wrong("the speeds are other ones")
+        Verdict::Wrong("the speeds or the roads are other ones")
     }
 }
 
@@ -75,23 +178,18 @@ fn after(refused: Refusal) -> Verdict {
     }
 }
 
-// Tries the speeds of a crew.
-fn tried_speeds<C: Crew>(
-    alloc: Global,
-    until: Until,
-    crew: &mut C,
-    input: &Arc<StepInput>,
-) -> Verdict {
+// Tries a crew.
+fn tried_task<C: Crew>(alloc: Global, until: Until, crew: &mut C, task: &Task) -> Verdict {
     if until == Until::Prepared {
         return Verdict::Left;
     }
-    let first = gives(alloc, crew, input);
+    let first = gives(alloc, crew, task);
     if until == Until::Called {
         return Verdict::Left;
     }
     match first {
         Ok(is_right) => accepted(is_right, Verdict::Right),
-        Err(refused) => match gives(alloc, crew, input) {
+        Err(refused) => match gives(alloc, crew, task) {
             Ok(is_right) => accepted(is_right, after(refused)),
             Err(_) => Verdict::Wrong("it was refused again"),
         },
@@ -113,15 +211,15 @@ fn started<R: Threads + Wait + Clone + Drop + Send + 'static>(
     }
 }
 
-// Tries the speeds of two lasting workers.
+// Tries two lasting workers.
 fn tried_pool<R: Threads + Wait + Clone + Drop + Send + 'static>(
     rt: &R,
     alloc: Global,
     until: Until,
+    task: &Task,
 ) -> Option<Verdict> {
-    let input = first_input(alloc)?;
     let mut pool = started(rt, alloc, false)?.ok()?;
-    let verdict = tried_speeds(alloc, until, &mut pool, &input);
+    let verdict = tried_task(alloc, until, &mut pool, task);
     pool.finish();
     Some(verdict)
 }
@@ -130,10 +228,10 @@ fn tried_pool<R: Threads + Wait + Clone + Drop + Send + 'static>(
 fn judged_start<R: Threads + Wait + Clone + Drop + Send + 'static>(
     alloc: Global,
     mut pool: Pool<R>,
-    input: &Arc<StepInput>,
+    task: &Task,
     verdict: Verdict,
 ) -> Option<Verdict> {
-    let given = gives(alloc, &mut pool, input);
+    let given = gives(alloc, &mut pool, task);
     pool.finish();
     match given {
         Ok(is_right) => Some(accepted(is_right, verdict)),
@@ -149,7 +247,7 @@ fn tried_start<R: Threads + Wait + Clone + Drop + Send + 'static>(
     until: Until,
     is_gated: bool,
 ) -> Option<Verdict> {
-    let input = first_input(alloc)?;
+    let task = first_speeds(alloc)?;
     if until == Until::Prepared {
         return Some(Verdict::Left);
     }
@@ -159,9 +257,9 @@ fn tried_start<R: Threads + Wait + Clone + Drop + Send + 'static>(
             pool.finish();
             Some(Verdict::Left)
         }
-        Ok(pool) => judged_start(alloc, pool, &input, Verdict::Right),
+        Ok(pool) => judged_start(alloc, pool, &task, Verdict::Right),
         Err(fault) => match started(rt, alloc, is_gated)? {
-            Ok(pool) => judged_start(alloc, pool, &input, after(refusal(fault))),
+            Ok(pool) => judged_start(alloc, pool, &task, after(refusal(fault))),
             Err(_) => Some(Verdict::Wrong("it was refused again")),
         },
     }
@@ -169,10 +267,10 @@ fn tried_start<R: Threads + Wait + Clone + Drop + Send + 'static>(
 
 // Tries the speeds of two threads that are made for the call.
 fn tried_scoped<R: Threads + Wait>(rt: &R, alloc: Global, until: Until) -> Option<Verdict> {
-    let input = first_input(alloc)?;
+    let task = first_speeds(alloc)?;
     let gate = Box::new(alloc, NoGate).ok()?;
     let mut crew = Scoped::new(rt, 2, gate);
-    Some(tried_speeds(alloc, until, &mut crew, &input))
+    Some(tried_task(alloc, until, &mut crew, &task))
 }
 
 /// Tries a crew.
@@ -184,11 +282,12 @@ pub(crate) fn tried<R: Threads + Wait + Clone + Drop + Send + 'static>(
 ) -> Option<Verdict> {
     match case {
         CrewCase::Alone => {
-            let input = first_input(alloc)?;
-            Some(tried_speeds(alloc, until, &mut Alone, &input))
+            let task = first_speeds(alloc)?;
+            Some(tried_task(alloc, until, &mut Alone, &task))
         }
         CrewCase::Scoped => tried_scoped(rt, alloc, until),
-        CrewCase::Pool => tried_pool(rt, alloc, until),
+        CrewCase::Pool => tried_pool(rt, alloc, until, &first_speeds(alloc)?),
+        CrewCase::Run => tried_pool(rt, alloc, until, &Task::Steps(long_run(alloc)?)),
         CrewCase::Start => tried_start(rt, alloc, until, false),
         CrewCase::StartGated => tried_start(rt, alloc, until, true),
     }
