@@ -49,6 +49,7 @@ const BEFORE: u32 = 40;
 const TOGETHER: u32 = 64;
 
 /// Steps that a crew is to run, and what they come to by one thread, step by step.
+#[derive(Drop)]
 struct LongRun {
     span: Span,
     road: Road,
@@ -57,6 +58,7 @@ struct LongRun {
 }
 
 /// What a crew is asked.
+#[derive(Drop)]
 enum Task {
     /// The speeds of the dense road's first step.
     Speeds(Arc<StepInput>),
