@@ -51,7 +51,7 @@ const LONG: Parts = Parts {
     ],
     detectors: &[
         1, 9, 511, 512, 1_023, 1_024, 1_025, 2_047, 2_048, 2_049, 2_730, 2_731, 4_095, 4_096,
-        4_097, 5_460, 5_461, 5_462, 6_143, 6_144, 6_145, 7_168, 8_180, 8_191,
+        4_097, 5_460, 5_461, 5_462, 6_143, 6_144, 6_145, 7_168, 8_180, 8_188,
     ],
     words: WordKind::Seeded(7),
 };
@@ -146,34 +146,45 @@ fn one_by_one(
 }
 
 /// Spans, one after another: the kind of settings and the steps of each.
-const SPANS: &[(u32, u32)] = &[
-    (0, 64),
-    (1, 64),
-    (2, 63),
-    (3, 1),
-    (1, 7),
-    (3, 33),
-    (2, 64),
-    (0, 64),
-    (1, 16),
-];
+const SPANS: &[(u32, u32)] = &[(0, 64), (1, 64), (2, 63), (3, 1), (1, 7), (3, 33), (2, 64)];
 
-// Answers whether a crew runs all these spans, from a queue on so many cells, as they are one by one.
+// What these spans come to one by one, from a queue.
+#[derive(Drop)]
+struct Course {
+    queue: Road,
+    spans: Vec<Ran>,
+}
+
+// Runs them one by one, from a queue on so many cells.
+fn worked(alloc: Global, plan: &Arc<Plan>, cells: u32) -> Result<Course, Fail> {
+    let queue = queue(alloc, cells)?;
+    let mut road = queue.copied()?;
+    let mut spans = Vec::new(alloc);
+    let mut step = 0_u32;
+    for (kind, steps) in SPANS {
+        let ran = one_by_one(alloc, plan, *kind, step, *steps, &road)?;
+        road = ran.road.copied()?;
+        spans.push(ran)?;
+        step = step.saturating_add(*steps);
+    }
+    Ok(Course { queue, spans })
+}
+
+// Compares what a crew makes of these spans.
 fn runs_as_one_by_one<C: Crew>(
     rt: &impl Abort,
     alloc: Global,
     crew: &mut C,
-    cells: u32,
+    plan: &Arc<Plan>,
+    course: &Course,
 ) -> Result<(), Fail> {
-    let plan = shared_plan(alloc, &LONG)?;
-    let mut road = queue(alloc, cells)?;
+    let mut road = course.queue.copied()?;
     let mut step = 0_u32;
-    for (kind, steps) in SPANS {
-        let span = span_of(alloc, &plan, *kind, step, *steps)?;
+    for ((kind, steps), wanted) in SPANS.iter().zip(course.spans.iter()) {
+        let span = span_of(alloc, plan, *kind, step, *steps)?;
         let Some(ran) = crew.run(alloc, &span, &road)? else {
             return Err(Fail::new("a crew that runs no spans"));
         };
-        let wanted = one_by_one(alloc, &plan, *kind, step, *steps, &road)?;
         assert!(rt;
             ran.road.cars() == wanted.road.cars(),
             "the road of {steps} steps from {step}"
@@ -182,37 +193,45 @@ fn runs_as_one_by_one<C: Crew>(
             ran.totals == wanted.totals,
             "the counts of {steps} steps from {step}"
         );
-        road = wanted.road;
+        road = ran.road;
         step = step.saturating_add(*steps);
     }
     Ok(())
 }
 
-/// How many cells are taken at first: none, a few, and so many that each worker has a stretch.
-const QUEUES: &[u32] = &[0, 200, 3_000, 8_192];
-
-// Compares them by so many lasting workers.
+// Compares them by so many lasting workers, from all these queues.
 fn pool_runs<R: Threads + Wait + Abort + Clone + Drop + Send + 'static>(
     rt: &R,
     alloc: Global,
     workers: u32,
+    plan: &Arc<Plan>,
+    courses: &[Course],
 ) -> Result<(), Fail>
     requires some { 0 < workers }
     requires few { workers ≤ 16 }
 {
     let mut crew = Pool::start(rt.clone()?, alloc, workers)?;
-    for cells in QUEUES {
-        runs_as_one_by_one(rt, alloc, &mut crew, *cells)?;
+    for course in courses {
+        runs_as_one_by_one(rt, alloc, &mut crew, plan, course)?;
     }
     crew.finish();
     Ok(())
 }
 
+/// How many cells are taken at first: none, a few, and so many that each worker has a stretch.
+const QUEUES: &[u32] = &[0, 200, 3_000];
+
 #[test]
 fn lasting_workers_run_spans_as_they_are_one_by_one(rt: HostRuntime) -> Result<(), Fail> {
-    pool_runs(&rt, rt.alloc(), 1)?;
-    pool_runs(&rt, rt.alloc(), 2)?;
-    pool_runs(&rt, rt.alloc(), 3)?;
-    pool_runs(&rt, rt.alloc(), 7)?;
-    pool_runs(&rt, rt.alloc(), 16)
+    let alloc = rt.alloc();
+    let plan = shared_plan(alloc, &LONG)?;
+    let mut courses = Vec::new(alloc);
+    for cells in QUEUES {
+        courses.push(worked(alloc, &plan, *cells)?)?;
+    }
+    pool_runs(&rt, alloc, 1, &plan, &courses)?;
+    pool_runs(&rt, alloc, 2, &plan, &courses)?;
+    pool_runs(&rt, alloc, 3, &plan, &courses)?;
+    pool_runs(&rt, alloc, 7, &plan, &courses)?;
+    pool_runs(&rt, alloc, 16, &plan, &courses)
 }
