@@ -6,7 +6,7 @@ use crate::roads::shared_plan;
 use crate::verdict::{Refusal, Until, Verdict};
 use road_cells::Road;
 use road_detector::{Totals, passes};
-use road_ends::{Meter, Span, StepInput, Stepped, enter, step_alone};
+use road_ends::{Meter, Span, StepInput, enter, step_alone};
 use road_plan::{Plan, Settings, WordKind};
 use road_workers::{Alone, Crew, CrewFault, NoGate, Pool, Scoped};
 use std::alloc::Global;
@@ -106,14 +106,20 @@ pub(crate) fn refusal(fault: CrewFault) -> Refusal {
     }
 }
 
-// Computes a step of a road alone.
-fn stepped(alloc: Global, plan: &Arc<Plan>, step: u32, road: &Road) -> Option<Stepped> {
-    let settings = Settings::of_plan(alloc, plan).ok()?;
-    step_alone(alloc, plan, settings, step, road, &mut Meter::new()).ok()
-}
-
-// Adds what the detectors count in a step.
-fn count(totals: &mut Vec<Totals>, done: &Stepped) {
+// Computes a step of a road alone, and adds what the detectors count in it. Returns the road after it.
+fn stepped(
+    alloc: Global,
+    plan: &Arc<Plan>,
+    step: u32,
+    road: &Road,
+    totals: &mut Vec<Totals>,
+) -> Option<Road> {
+    let Ok(settings) = Settings::of_plan(alloc, plan) else {
+        return None;
+    };
+    let Ok(done) = step_alone(alloc, plan, settings, step, road, &mut Meter::new()) else {
+        return None;
+    };
     for detector in 0..done.input.plan().detectors().len() {
         let counted = passes(&done.input, &done.speeds, detector as u32);
         if let Some(total) = totals.get_mut(detector) {
@@ -121,23 +127,33 @@ fn count(totals: &mut Vec<Totals>, done: &Stepped) {
             total.speeds = total.speeds.saturating_add(counted.speeds);
         }
     }
+    Some(done.road)
+}
+
+// Makes totals of nothing for each detector.
+fn nothing(alloc: Global, plan: &Plan) -> Option<Vec<Totals>> {
+    vec![in alloc; Totals { cars: 0, speeds: 0 }; plan.detectors().len()].ok()
 }
 
 // Runs the long road up to where workers share it, and from there by one thread, step by step.
 fn long_run(alloc: Global) -> Option<LongRun> {
     let plan = shared_plan(alloc, &LONG)?;
     let mut road = Road::empty(alloc);
+    let mut totals = nothing(alloc, &plan)?;
     for step in 0..BEFORE {
-        road = stepped(alloc, &plan, step, &road)?.road;
+        road = stepped(alloc, &plan, step, &road, &mut totals)?;
     }
     let mut after = road.copied().ok()?;
-    let mut totals = vec![in alloc; Totals { cars: 0, speeds: 0 }; plan.detectors().len()].ok()?;
+    let mut totals = nothing(alloc, &plan)?;
     for step in BEFORE..BEFORE + TOGETHER {
-        let done = stepped(alloc, &plan, step, &after)?;
-        count(&mut totals, &done);
-        after = done.road;
+        after = stepped(alloc, &plan, step, &after, &mut totals)?;
     }
-    let settings = Arc::new(alloc, Settings::of_plan(alloc, &plan).ok()?).ok()?;
+    let Ok(settings) = Settings::of_plan(alloc, &plan) else {
+        return None;
+    };
+    let Ok(settings) = Arc::new(alloc, settings) else {
+        return None;
+    };
     let span = Span::new(plan, settings, BEFORE, TOGETHER);
     Some(LongRun {
         span,
