@@ -13,11 +13,12 @@ use Rattle.road_cells.specs.Cars.{cars_of, cars_from, vehicle_of}
 use Rattle.road_cells.specs.declared.car.TheConstants.{GREATEST_SPEED}
 use Rattle.road_ends.specs.Entries.{road_with_entries}
 use Rattle.road_ends.specs.Speed.{speed}
+use Rattle.road_ends.specs.Input.{StepInput, input_speeds}
 use Rattle.road_ends.specs.Laws.{AgreeBetween}
 use Rattle.road_ends.proofs.NoCollision.{speed-most}
-use Rattle.road_ends.proofs.CellsNearby.{entries-here, speed-ahead}
+use Rattle.road_ends.proofs.CellsNearby.{entries-nearby, speed-ahead}
 use Rattle.road_detector.specs.Laws.{CountCellsNearby}
-use Rattle.road_detector.specs.Passes.{Drive, drives, is_passing, passing_speeds, no_totals}
+use Rattle.road_detector.specs.Passes.{Drive, drives, is_passing, passing_speeds, no_totals, passes_at}
 
 -- what the cells of an array give, one behind the other
 abbrev walk : (ℕ → Option Vehicle → List ℕ) → Array → List ℕ
@@ -63,6 +64,11 @@ passing_cars site drive k (Some v ∷ places) =
     front rest true = refl
     front rest false = refl
 
+-- the input of a step whose road before the motion is this
+abbrev pub before_motion : Plan → Settings → ℕ → Array → StepInput
+before_motion p s t a = record { plan = p; settings = s; step = t; road = a }
+
+-- two roads before their motion
 module _ (p : Plan) (s : Settings) (t site : ℕ) (x y : Array) (agree : AgreeBetween (site - GREATEST_SPEED) (site + GREATEST_SPEED) x y) where
   late : (c v : ℕ) → site ≤ c → is_passing site (record { cell = c; speed = v }) ≡ false
   late c v le = ap (λ b. b && nat_le site (c + v)) (behind c site le)
@@ -85,46 +91,48 @@ module _ (p : Plan) (s : Settings) (t site : ℕ) (x y : Array) (agree : AgreeBe
   nobody a c None far = refl
   nobody a c (Some car) far = ap (λ b. cond b (speed p s t a c car ∷ []) []) (far (speed p s t a c car) (speed-most p s t a c car))
 
-  -- the road with the cars that enter
-  abbrev entered : Array → Array
-  entered a = road_with_entries p s t a
-
   -- what passes from a cell
   abbrev from : Array → ℕ → Option Vehicle → List ℕ
-  from a c = passing site c (speed p s t (entered a) c)
+  from a c = passing site c (speed p s t a c)
 
-  near : (c : ℕ) → site - GREATEST_SPEED ≤ c → c < site → from x c (vehicle_at (entered x) c) ≡ from y c (vehicle_at (entered y) c)
+  near : (c : ℕ) → site - GREATEST_SPEED ≤ c → c < site → from x c (vehicle_at x c) ≡ from y c (vehicle_at y c)
   near c above below = λ i. passing site c
-      (λ car. speed-ahead p s t (entered x) (entered y) c car (λ d over under. entries-here p s t x y d (agree.same d (omega arith) (omega arith))) i)
-      (entries-here p s t x y c (agree.same c above (omega arith)) i)
+      (λ car. speed-ahead p s t x y c car (λ d over under. agree.same d (omega arith) (omega arith)) i)
+      (agree.same c above (omega arith) i)
 
-  same_from : (c : ℕ) → from x c (vehicle_at (entered x) c) ≡ from y c (vehicle_at (entered y) c)
-  same_from c = elim (cases_lt c site) as (λ _. from x c (vehicle_at (entered x) c) ≡ from y c (vehicle_at (entered y) c)) [
-    | inl before ↦ elim (cases_lt (c + GREATEST_SPEED) site) as (λ _. from x c (vehicle_at (entered x) c) ≡ from y c (vehicle_at (entered y) c)) [
+  same_from : (c : ℕ) → from x c (vehicle_at x c) ≡ from y c (vehicle_at y c)
+  same_from c = elim (cases_lt c site) as (λ _. from x c (vehicle_at x c) ≡ from y c (vehicle_at y c)) [
+    | inl before ↦ elim (cases_lt (c + GREATEST_SPEED) site) as (λ _. from x c (vehicle_at x c) ≡ from y c (vehicle_at y c)) [
       | inl out ↦
           let far : (v : ℕ) → v ≤ GREATEST_SPEED → is_passing site (record { cell = c; speed = v }) ≡ false = λ v le. early c v (omega arith) in
-          nobody (entered x) c (vehicle_at (entered x) c) far ∙ sym (nobody (entered y) c (vehicle_at (entered y) c) far)
+          nobody x c (vehicle_at x c) far ∙ sym (nobody y c (vehicle_at y c) far)
       | inr within ↦ near c (omega arith) before
     ]
     | inr past ↦
         let far : (v : ℕ) → v ≤ GREATEST_SPEED → is_passing site (record { cell = c; speed = v }) ≡ false = λ v le. late c v past in
-        nobody (entered x) c (vehicle_at (entered x) c) far ∙ sym (nobody (entered y) c (vehicle_at (entered y) c) far)
+        nobody x c (vehicle_at x c) far ∙ sym (nobody y c (vehicle_at y c) far)
   ]
 
   -- the speeds of the cars that pass
   abbrev passed : Array → List ℕ
-  passed a = passing_speeds site (drives (cars_of (entered a)) (map (λ car. speed p s t (entered a) car.cell (vehicle_of car)) (cars_of (entered a))))
+  passed a = passing_speeds site (drives (cars_of a) (map (λ car. speed p s t a car.cell (vehicle_of car)) (cars_of a)))
 
-  by_cells : (a : Array) → passed a ≡ walk (from a) (entered a)
-  by_cells a = passing_cars site (speed p s t (entered a)) 0 (entered a) ∙ (λ i. walk (λ c. passing site (none c i) (speed p s t (entered a) (none c i))) (entered a))
+  by_cells : (a : Array) → passed a ≡ walk (from a) a
+  by_cells a = passing_cars site (speed p s t a) 0 a ∙ (λ i. walk (λ c. passing site (none c i) (speed p s t a (none c i))) a)
     where
       none : (c : ℕ) → 0 + c ≡ c
       none c = omega arith
 
   pub passed-nearby : passed x ≡ passed y
-  passed-nearby = by_cells x ∙ same_walk (from x) (from y) (λ _. refl) (λ _. refl) (entered x) (entered y) same_from ∙ sym (by_cells y)
+  passed-nearby = by_cells x ∙ same_walk (from x) (from y) (λ _. refl) (λ _. refl) x y same_from ∙ sym (by_cells y)
 
 -- the totals are those of the speeds
-pub count_cells_nearby : (p : Plan) → CountCellsNearby p
-count_cells_nearby p s t d x y agree =
+pub passes-nearby : (p : Plan) (s : Settings) (t d : ℕ) (x y : Array) → AgreeBetween (slice_index p.detectors d - GREATEST_SPEED) (slice_index p.detectors d + GREATEST_SPEED) x y
+    → passes_at (before_motion p s t x) (input_speeds (before_motion p s t x)) d ≡ passes_at (before_motion p s t y) (input_speeds (before_motion p s t y)) d
+passes-nearby p s t d x y agree =
     ap (λ speeds. cond (slice_index_or s.watched d false) (record { cars = length speeds; speeds = sum speeds }) no_totals) (passed-nearby p s t (slice_index p.detectors d) x y agree)
+
+-- so do those of roads before their entries
+pub count_cells_nearby : (p : Plan) → CountCellsNearby p
+count_cells_nearby p s t d x y agree = passes-nearby p s t d (road_with_entries p s t x) (road_with_entries p s t y)
+    (entries-nearby p s t (slice_index p.detectors d - GREATEST_SPEED) (slice_index p.detectors d + GREATEST_SPEED) x y agree)

@@ -18,7 +18,7 @@ use Rattle.road_rules.specs.Motion.{first_some, arrival_from, arrival_at}
 use Rattle.road_rules.specs.Speeds.{wanted_speed, slowed_speed}
 use Rattle.road_ends.specs.Entries.{entry_at, road_with_entries}
 use Rattle.road_ends.specs.Speed.{is_taken_on_road, gap, speed, is_slowed}
-use Rattle.road_ends.specs.Run.{road_after_step, road_after_steps}
+use Rattle.road_ends.specs.Run.{road_after_motion, road_after_step, road_after_steps}
 use Rattle.road_ends.specs.Laws.{AgreeBetween, DependOnCellsNearby}
 use Rattle.road_ends.proofs.NoCollision.{speed-most}
 
@@ -104,12 +104,19 @@ module _ (p : Plan) (s : Settings) (t : ℕ) (x y : Array) (j : ℕ) (same : (c 
       ∙ swapped (length x) (length y)
       ∙ sym (all_of y (length x))
 
+-- roads agree after the entries where they did before
+pub entries-nearby : (p : Plan) (s : Settings) (t lo hi : ℕ) (x y : Array) → AgreeBetween lo hi x y → AgreeBetween lo hi (road_with_entries p s t x) (road_with_entries p s t y)
+entries-nearby p s t lo hi x y agree = record { same = λ c above below. entries-here p s t x y c (agree.same c above below) }
+
+-- the motion of one step
+pub motion-nearby : (p : Plan) (s : Settings) (t lo hi : ℕ) (x y : Array) → AgreeBetween (lo - GREATEST_SPEED) (hi + GREATEST_SPEED) x y → AgreeBetween lo hi (road_after_motion p s t x) (road_after_motion p s t y)
+motion-nearby p s t lo hi x y agree = record {
+  same = λ j from to. same_place (exit_start p) _ _ j (arrival-nearby p s t x y j (λ c above below. agree.same c (omega arith) (omega arith)));
+}
+
 -- one step
 step-nearby : (p : Plan) (s : Settings) (t lo hi : ℕ) (x y : Array) → AgreeBetween (lo - GREATEST_SPEED) (hi + GREATEST_SPEED) x y → AgreeBetween lo hi (road_after_step p s t x) (road_after_step p s t y)
-step-nearby p s t lo hi x y agree = record {
-  same = λ j from to. same_place (exit_start p) _ _ j
-      (arrival-nearby p s t (road_with_entries p s t x) (road_with_entries p s t y) j (λ c above below. entries-here p s t x y c (agree.same c (omega arith) (omega arith))));
-}
+step-nearby p s t lo hi x y agree = motion-nearby p s t lo hi (road_with_entries p s t x) (road_with_entries p s t y) (entries-nearby p s t (lo - GREATEST_SPEED) (hi + GREATEST_SPEED) x y agree)
 
 -- so many steps
 pub depend_on_cells_nearby : (p : Plan) → DependOnCellsNearby p

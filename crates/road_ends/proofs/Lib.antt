@@ -10,4 +10,5 @@ pub mod ChanceEvents
 pub mod PassOverCars
 pub mod SameInputs
 pub mod CellsBetweenInlets
+pub mod EntriesBetween
 pub mod CachedColumns

@@ -80,9 +80,13 @@ DependOnEarlierSettings p = (f g : Course) (s : ℕ) → ((u : ℕ) → u < s �
 pub record AgreeBetween (a b : ℕ) (x y : Array) : Type 0 where
   pub same : (c : ℕ) → a ≤ c → c < b → vehicle_at x c ≡ vehicle_at y c
 
+-- roads agree wherever it may matter on a stretch within k steps: 9 cells farther behind it and ahead of it for each step
+abbrev pub AgreeNear : ℕ → ℕ → ℕ → Array → Array → Type 0
+AgreeNear k lo hi x y = AgreeBetween (lo - GREATEST_SPEED * k) (hi + GREATEST_SPEED * k) x y
+
 -- locality in space: roads that agree on a stretch, and for each step 9 cells farther behind it and ahead of it, agree
 -- on the stretch after these steps, by the same settings
 abbrev pub DependOnCellsNearby : Plan → Type 0
 DependOnCellsNearby p = (course : Course) (t k lo hi : ℕ) (x y : Array)
-    → AgreeBetween (lo - GREATEST_SPEED * k) (hi + GREATEST_SPEED * k) x y
+    → AgreeNear k lo hi x y
     → AgreeBetween lo hi (road_after_steps p course t k x) (road_after_steps p course t k y)

@@ -2,3 +2,4 @@
 pub mod PassPlaces
 pub mod WordBatches
 pub mod StepColumns
+pub mod EntriesBetween

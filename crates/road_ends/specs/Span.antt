@@ -1,8 +1,11 @@
 -- Several steps under the same settings.
-use Rattle.std.specs.Prelude.{ℕ}
+use Rattle.std.specs.Prelude.{◌≡◌, ℕ, ◌+◌, ◌-◌}
 use Rattle.road_plan.specs.Plan.{Plan}
 use Rattle.road_plan.specs.Settings.{Settings}
 use Rattle.road_cells.specs.Array.{Array}
+use Rattle.road_ends.specs.Entries.{road_with_entries}
+use Rattle.road_ends.specs.Input.{StepInput}
+use Rattle.road_ends.specs.Laws.{AgreeNear}
 use Rattle.road_ends.specs.Run.{road_after_steps}
 
 -- steps of a plan, one after another, under the same settings: the first of them, and how many
@@ -15,3 +18,15 @@ pub record Span : Type 0 where
 -- the road after the steps of a span, from the road before them
 abbrev pub span_road : Span → Array → Array
 span_road span a = road_after_steps span.plan (λ _. span.settings) span.step span.steps a
+
+-- an input is of a span's plan and settings
+pub record IsOfSpan (span : Span) (input : StepInput) : Type 0 where
+  pub plan : input.plan ≡ span.plan
+  pub settings : input.settings ≡ span.settings
+
+-- an input is that of the step after k of a span, from a road, wherever it may matter on the cells from lo to before hi in
+-- the steps that are left
+pub record IsInputNear (lo hi : ℕ) (span : Span) (k : ℕ) (a : Array) (input : StepInput) : Type 0 where
+  pub of_span : IsOfSpan span input
+  pub step : input.step ≡ span.step + k
+  pub road : AgreeNear (span.steps - k) lo hi input.road (road_with_entries span.plan span.settings (span.step + k) a)

@@ -7,19 +7,57 @@ ghost use Rattle.road_plan.specs.Plan.{IsWithinLimits};
 ghost use Rattle.road_cells.specs.Array.{vehicle_at};
 ghost use Rattle.road_cells.specs.Cars.{car_of, cars_from};
 ghost use Rattle.road_ends.specs.Entries.{entry_at, road_with_entries};
+ghost use Rattle.road_ends.specs.Private.EntriesBetween.{entries_between};
 
 use crate::OutOfMemory;
 use crate::chance::has_inflow;
 use crate::step_settings::StepSettings;
+use crate::stretch::Stretch;
 use crate::word_cache::WordCache;
 use road_cells::{Car, Road, is_blocked};
 use road_plan::limits::MOST_INLETS;
 use std::alloc::Global;
 
 // Makes the road with the cars that enter at a step: at each inlet whose cell is empty and not blocked, and whose word
-// has its event under the inflow chance. Cars past the road's end are left out. The cars between two inlets are copied
-// as they are, in one allocation for all, or in the memory of a road before.
+// has its event under the inflow chance. Only the cars on a stretch are there, and none past the road's end. The cars
+// between two inlets are copied as they are, in one allocation for all, or in the memory of a road before.
 #[inline(never)]
+pub(crate) fn entered_between(
+    alloc: Global,
+    at: StepSettings,
+    road: &Road,
+    stretch: Stretch,
+    words: &mut WordCache,
+) -> Result<Road, OutOfMemory>
+    requires words { words.old ≡ at.plan.now.words }
+    requires within { stretch.end ≤ at.plan.now.cells }
+    ensures moving { IfOk result (λ moving. moving ≡ entries_between
+        stretch.first stretch.end at.entry.plan.now at.entry.settings.now at.entry.step road.now) }
+    ensures on_road { IfOk result (λ moving. length moving ≤ at.entry.plan.now.cells) }
+    ensures within { IfOk result (λ _. IsWithinLimits at.entry.plan.now) }
+    ensures unchanged { words.new ≡ words.old }
+{
+    let plan = at.plan;
+    words.resize_slots(road.cars().len())?;
+    words.drop_slots(road, stretch.first);
+    let mut cars = words.list(alloc);
+    cars.reserve(road.cars().len() + plan.inlets().len())?;
+    let mut cell = stretch.first;
+    while cell < stretch.end {
+        let inlet = next_inlet(plan.inlets(), cell, stretch.end);
+        copy_between(road, cell, inlet, &mut cars)?;
+        if inlet < stretch.end {
+            match standing_or_entering(at, road, inlet, cars.len(), words)? {
+                Some(car) => cars.push(car)?,
+                None => {}
+            }
+        }
+        cell = inlet + 1;
+    }
+    Ok(Road::of(cars))
+}
+
+// Makes the whole road with the cars that enter at a step, as [`entered_between`].
 pub(crate) fn entered(
     alloc: Global,
     at: StepSettings,
@@ -33,23 +71,7 @@ pub(crate) fn entered(
     ensures within { IfOk result (λ _. IsWithinLimits at.entry.plan.now) }
     ensures unchanged { words.new ≡ words.old }
 {
-    let plan = at.plan;
-    words.resize_slots(road.cars().len())?;
-    let mut cars = words.list(alloc);
-    cars.reserve(road.cars().len() + plan.inlets().len())?;
-    let mut cell = 0;
-    while cell < plan.length() {
-        let inlet = next_inlet(plan.inlets(), cell, plan.length());
-        copy_between(road, cell, inlet, &mut cars)?;
-        if inlet < plan.length() {
-            match standing_or_entering(at, road, inlet, cars.len(), words)? {
-                Some(car) => cars.push(car)?,
-                None => {}
-            }
-        }
-        cell = inlet + 1;
-    }
-    Ok(Road::of(cars))
+    entered_between(alloc, at, road, Stretch::whole(at.plan), words)
 }
 
 // Copies the cars of a road at the cells from one up to another. Where that is no cell, none are looked for.

@@ -8,17 +8,20 @@ ghost use Rattle.road_plan.specs.declared.limits.TheConstants.{GREATEST_LENGTH};
 ghost use Rattle.road_plan.specs.Settings.{Fits};
 ghost use Rattle.road_words.specs.Words.{word};
 ghost use Rattle.road_ends.specs.Input.{input_of, input_speeds};
+ghost use Rattle.road_ends.specs.Private.EntriesBetween.{input_between};
 ghost use Rattle.road_ends.specs.Private.StepColumns.{AreColumns, AreHigh16s};
 
+mod near;
 mod pieces;
 pub(crate) mod sameness;
 
 use crate::OutOfMemory;
 use crate::chance::is_any_open;
 use crate::columns::{Columns, write_cells_and_speeds};
-use crate::entries::entered;
+use crate::entries::{entered, entered_between};
 use crate::pass::speeds;
 use crate::step_settings::StepSettings;
+use crate::stretch::Stretch;
 use crate::word_cache::WordCache;
 use road_cells::Road;
 use road_plan::{Plan, Settings};
@@ -86,16 +89,19 @@ impl StepInput {
         (road, columns)
     }
 
-    // Makes of this input that of another step of its plan by its settings.
+    // Makes of this input that of another step of its plan by its settings, on a stretch.
     fn turn_to(
         &mut self,
         alloc: Global,
         step: u32,
         road: &Road,
+        stretch: Stretch,
         words: &mut WordCache,
     ) -> Result<(), OutOfMemory>
-        requires { words.old ≡ self.old.plan.words }
-        ensures input { OnOk result (self.new ≡ input_of self.old.plan self.old.settings step road.now) }
+        requires within { stretch.end ≤ self.old.plan.cells }
+        requires words { words.old ≡ self.old.plan.words }
+        ensures input { OnOk result (self.new
+            ≡ input_between stretch.first stretch.end self.old.plan self.old.settings step road.now) }
         ensures kept { OnErr result (self.new ≡ self.old) }
         ensures unchanged { words.new ≡ words.old }
     {
@@ -105,7 +111,7 @@ impl StepInput {
             settings: &self.settings,
             step,
         };
-        let road = entered(alloc, at, road, words)?;
+        let road = entered_between(alloc, at, road, stretch, words)?;
         let columns = columns_of(alloc, &self.settings, step, &road, words)?;
         words.reuse(mem::replace(&mut self.road, road));
         self.columns = columns;
@@ -238,12 +244,32 @@ impl WordCache {
             ≡ input_of (arc_value plan.now) (arc_value settings) step road.now) }
         ensures unchanged { self.new ≡ self.old }
     {
+        self.enter_between(alloc, plan, settings, step, road, Stretch::whole(plan))
+    }
+
+    // Makes the input of a step, of the cars on a stretch and those that enter there.
+    fn enter_between(
+        &mut self,
+        alloc: Global,
+        plan: &Arc<Plan>,
+        settings: Arc<Settings>,
+        step: u32,
+        road: &Road,
+        stretch: Stretch,
+    ) -> Result<Arc<StepInput>, OutOfMemory>
+        requires fits { Fits (arc_value plan.now) (arc_value settings) }
+        requires within { stretch.end ≤ (arc_value plan.now).cells }
+        requires words { self.old ≡ (arc_value plan.now).words }
+        ensures input { IfOk result (λ input. arc_value input
+            ≡ input_between stretch.first stretch.end (arc_value plan.now) (arc_value settings) step road.now) }
+        ensures unchanged { self.new ≡ self.old }
+    {
         let at = StepSettings {
             plan,
             settings: &settings,
             step,
         };
-        let road = entered(alloc, at, road, self)?;
+        let road = entered_between(alloc, at, road, stretch, self)?;
         let columns = columns_of(alloc, &settings, step, &road, self)?;
         let plan = Arc::try_clone(plan)?;
         let input = StepInput {
@@ -280,7 +306,8 @@ impl WordCache {
     {
         match Arc::get_mut(input) {
             Some(own) => {
-                own.turn_to(alloc, step, road, self)?;
+                let whole = Stretch::whole(&own.plan);
+                own.turn_to(alloc, step, road, whole, self)?;
                 Ok(true)
             }
             None => Ok(false),

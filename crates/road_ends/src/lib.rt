@@ -28,6 +28,7 @@ mod pass;
 mod span;
 mod step;
 mod step_settings;
+mod stretch;
 mod word_batches;
 mod word_cache;
 
@@ -41,3 +42,4 @@ pub use word_cache::WordCache;
 /// Out of memory: an allocation failed.
 pub use std::alloc::AllocError as OutOfMemory;
 pub use step::{finish, leave};
+pub use stretch::Stretch;

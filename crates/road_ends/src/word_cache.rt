@@ -139,6 +139,19 @@ impl WordCache {
         self.slots.resize(cars, NO_BATCH)
     }
 
+    // Drops the slots of a road's cars before a cell. It takes no memory.
+    pub(crate) fn drop_slots(&mut self, road: &Road, cell: u32)
+        ensures { self.new ≡ self.old }
+    {
+        if cell == 0 {
+            return;
+        }
+        let kept = self.slots.len().saturating_sub(road.cars_before(cell));
+        let first = self.slots.len() - kept;
+        self.slots.copy_within(first.., 0);
+        self.slots.truncate(kept);
+    }
+
     // Inserts a slot for a car that enters at a place of the list of cars.
     pub(crate) fn insert_slot(&mut self, place: usize) -> Result<(), OutOfMemory>
         ensures { self.new ≡ self.old }

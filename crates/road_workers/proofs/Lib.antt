@@ -2,6 +2,7 @@
 pub mod PiecesInOrder
 pub mod OneMore
 pub mod StretchTotals
+pub mod NearSteps
 pub mod Cuts
 pub mod StretchCars
 pub mod SideBySide

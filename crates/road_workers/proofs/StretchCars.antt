@@ -9,7 +9,7 @@ use Rattle.road_cells.specs.Cars.{AreRising, AreRisingFrom, array_of, cars_from,
 use Rattle.road_cells.specs.declared.car.Car.{Car}
 use Rattle.road_cells.specs.declared.car.TheConstants.{GREATEST_SPEED}
 use Rattle.road_cells.proofs.CarLists.{vehicle_at-array_of, vehicle_among-cars_from, rise-cars_from}
-use Rattle.road_ends.specs.Laws.{AgreeBetween}
+use Rattle.road_ends.specs.Laws.{AgreeBetween, AgreeNear}
 use Rattle.road_ends.specs.Span.{Span, span_road}
 use Rattle.road_ends.proofs.CellsNearby.{depend_on_cells_nearby}
 use Rattle.road_detector.specs.Passes.{no_totals, total_from}
@@ -45,17 +45,18 @@ same_places : (f g : ℕ → Option Vehicle) (n a : ℕ) → ((c : ℕ) → a �
 same_places f g zero a same = refl
 same_places f g (suc n) a same = λ i. same a (omega arith) (omega arith) i ∷ same_places f g n (a + 1) (λ c le lt. same c (omega arith) (omega arith)) i
 
-same_cars : (lo hi : ℕ) (x y : Array) → lo ≤ hi → AgreeBetween lo hi x y → cars_between lo hi x ≡ cars_between lo hi y
+-- roads that agree on a stretch have the same cars there
+pub same_cars : (lo hi : ℕ) (x y : Array) → lo ≤ hi → AgreeBetween lo hi x y → cars_between lo hi x ≡ cars_between lo hi y
 same_cars lo hi x y order agree = ap (cars_from lo) (same_places (vehicle_at x) (vehicle_at y) (hi - lo) lo (λ c le lt. agree.same c le (omega arith)))
 
 -- what is near a stretch gives its cars after the steps of a span
-pub stretch_cars : (lo hi : ℕ) (span : Span) (near a : Array) → lo ≤ hi → AgreeBetween (lo - GREATEST_SPEED * span.steps) (hi + GREATEST_SPEED * span.steps) near a
+pub stretch_cars : (lo hi : ℕ) (span : Span) (near a : Array) → lo ≤ hi → AgreeNear span.steps lo hi near a
     → cars_between lo hi (span_road span near) ≡ cars_between lo hi (span_road span a)
 stretch_cars lo hi span near a order agree = same_cars lo hi (span_road span near) (span_road span a) order
     (depend_on_cells_nearby span.plan (λ _. span.settings) span.step span.steps lo hi near a agree)
 
 -- and the totals of its detectors
-pub stretch_totals : (lo hi : ℕ) (span : Span) (near a : Array) (totals : List Totals) → AgreeBetween (lo - GREATEST_SPEED * span.steps) (hi + GREATEST_SPEED * span.steps) near a
+pub stretch_totals : (lo hi : ℕ) (span : Span) (near a : Array) (totals : List Totals) → AgreeNear span.steps lo hi near a
     → AreTotalsOn lo hi span span.steps near totals → AreTotalsOn lo hi span span.steps a totals
 stretch_totals lo hi span near a totals agree are = record {
   each = are.each;
@@ -74,7 +75,7 @@ stretch_totals lo hi span near a totals agree are = record {
     by d false is = refl
 
 -- so a stretch that was run from what is near it was run
-pub run-nearby : (lo hi : ℕ) (span : Span) (near a : Array) (done : StretchRun) → lo ≤ hi → AgreeBetween (lo - GREATEST_SPEED * span.steps) (hi + GREATEST_SPEED * span.steps) near a
+pub run-nearby : (lo hi : ℕ) (span : Span) (near a : Array) (done : StretchRun) → lo ≤ hi → AgreeNear span.steps lo hi near a
     → IsRunOf lo hi span near done → IsRunOf lo hi span a done
 run-nearby lo hi span near a done order agree run = record {
   cars = run.cars ∙ stretch_cars lo hi span near a order agree;

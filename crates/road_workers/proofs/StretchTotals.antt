@@ -77,27 +77,31 @@ none_at lo hi span a totals none = record {
   counted = λ d below. ap (λ xs. slice_index_or xs d no_totals) none ∙ get_or-replicate (length span.plan.detectors) d no_totals no_totals (let long = ap length none ∙ length-replicate (length span.plan.detectors) no_totals in omega arith) ∙ sym (none_on lo hi span a d);
 }
 
+-- each detector on these cells counts in an input's step what it counts in the step after k of a span
+abbrev pub IsCountedLike : ℕ → ℕ → Span → ℕ → Array → StepInput → Type 0
+IsCountedLike lo hi span k a input = (d : ℕ) → passes_on lo hi input (input_speeds input) d ≡ passes_on lo hi (step_input span k a) (input_speeds (step_input span k a)) d
+
 abbrev Fit : Totals → Totals → Type 0
 Fit before more = (before.cars + more.cars < 2 ^ 32) × (before.speeds + more.speeds < 2 ^ 32)
 
-pub fit_at : (lo hi : ℕ) (span : Span) (k : ℕ) (a : Array) (totals : List Totals) (input : StepInput) → input ≡ step_input span k a → AreTotalsOn lo hi span k a totals → k < span.steps → span.step + span.steps ≤ GREATEST_HORIZON
+pub fit_at : (lo hi : ℕ) (span : Span) (k : ℕ) (a : Array) (totals : List Totals) (input : StepInput) → IsCountedLike lo hi span k a input → AreTotalsOn lo hi span k a totals → k < span.steps → span.step + span.steps ≤ GREATEST_HORIZON
     → (d : ℕ) → d < length totals → Fit (slice_index_or totals d no_totals) (passes_on lo hi input (input_speeds input) d)
-fit_at lo hi span k a totals input is are early within d below =
+fit_at lo hi span k a totals input like are early within d below =
     subst (λ b. Fit b (passes_on lo hi input (input_speeds input) d)) (sym (are.counted d below))
-    (subst (λ x. Fit (total_on lo hi span k a d) (passes_on lo hi x (input_speeds x) d)) (sym is)
+    (subst (Fit (total_on lo hi span k a d)) (sym (like d))
     (sums_fit span k (total_on lo hi span k a d) (passes_on lo hi (step_input span k a) (input_speeds (step_input span k a)) d) early within
     (total_on-bounded lo hi span k a d) (passes_on-bounded lo hi span k a d)))
 
 -- the totals after one more step
-pub totals_after : (lo hi : ℕ) (span : Span) (k : ℕ) (a : Array) (before after : List Totals) (input : StepInput) → input ≡ step_input span k a → AreTotalsOn lo hi span k a before → length after ≡ length before
+pub totals_after : (lo hi : ℕ) (span : Span) (k : ℕ) (a : Array) (before after : List Totals) (input : StepInput) → IsCountedLike lo hi span k a input → AreTotalsOn lo hi span k a before → length after ≡ length before
     → ((d : ℕ) → d < length before → slice_index_or after d no_totals ≡ plus (slice_index_or before d no_totals) (passes_on lo hi input (input_speeds input) d))
     → AreTotalsOn lo hi span (k + 1) a after
-totals_after lo hi span k a before after input is are long counts = record {
+totals_after lo hi span k a before after input like are long counts = record {
   each = long ∙ are.each;
   counted = λ d below.
       let early : d < length before = omega arith in
       counts d early ∙ ap (λ b. plus b (passes_on lo hi input (input_speeds input) d)) (are.counted d early)
-      ∙ ap (λ x. plus (total_on lo hi span k a d) (passes_on lo hi x (input_speeds x) d)) is ∙ total_on-more lo hi span k a d;
+      ∙ ap (plus (total_on lo hi span k a d)) (like d) ∙ total_on-more lo hi span k a d;
 }
 
 -- a site on the cells from lo to before hi

@@ -5,7 +5,7 @@ ghost use Rattle.std.specs.Prelude.{◌≡◌, ◌<◌, ◌≤◌, ◌+◌, ◌-
 ghost use Rattle.road_plan.specs.declared.limits.TheConstants.{GREATEST_HORIZON, GREATEST_LENGTH};
 ghost use Rattle.road_cells.specs.Cars.{cars_of, cell_at};
 ghost use Rattle.road_cells.specs.declared.car.TheConstants.{GREATEST_SPEED};
-ghost use Rattle.road_ends.specs.Laws.{AgreeBetween};
+ghost use Rattle.road_ends.specs.Laws.{AgreeNear};
 ghost use Rattle.road_ends.specs.Span.{span_road};
 ghost use Rattle.road_detector.specs.Passes.{span_totals};
 ghost use Rattle.road_workers.specs.Private.Stretches.{IsRunOf, cars_between, cut, has_site};
@@ -14,20 +14,14 @@ pub(crate) mod counting;
 pub(crate) mod joining;
 pub(crate) mod running;
 
+use crate::stretch::joining::road_of;
 use crate::stretch::running::{RunMemory, ran};
 use road_cells::{Car, GREATEST_SPEED, Road};
 use road_detector::{Ran, Totals};
-use road_ends::{OutOfMemory, Span, are_same_cars};
+use road_ends::{OutOfMemory, Span, Stretch, are_same_cars};
 use road_plan::Plan;
 use std::alloc::Global;
 use std::mem;
-
-// A stretch of road: the cells from `first` to before `end`.
-#[derive(Clone, Copy, Debug, PartialEq, Eq)]
-pub(crate) struct Stretch {
-    pub first: u32,
-    pub end: u32,
-}
 
 // What the steps of a span come to on a stretch: its cars after them, and what each detector has counted, those outside
 // it nothing.
@@ -37,29 +31,27 @@ pub(crate) struct StretchRun {
     pub totals: Vec<Totals>,
 }
 
-impl Stretch {
-    // Returns the stretch at a place of so many side by side, of a road of so many cells: they have about as many cars each.
-    pub fn of(road: &Road, cells: u32, count: u32, place: u32) -> Stretch
-        requires there { place < count }
-        ensures first { result.first ≡ cut cells (cars_of road.now) count place }
-        ensures end { result.end ≡ cut cells (cars_of road.now) count (place + 1) }
-        ensures order { result.first ≤ result.end }
-        ensures within { result.end ≤ cells }
-    {
-        Stretch {
-            first: cut(road.cars(), cells, count, place),
-            end: cut(road.cars(), cells, count, place + 1),
-        }
+// Returns the stretch at a place of so many side by side, of a road of so many cells: they have about as many cars each.
+pub(crate) fn stretch_at(road: &Road, cells: u32, count: u32, place: u32) -> Stretch
+    requires there { place < count }
+    ensures first { result.first ≡ cut cells (cars_of road.now) count place }
+    ensures end { result.end ≡ cut cells (cars_of road.now) count (place + 1) }
+    ensures order { result.first ≤ result.end }
+    ensures within { result.end ≤ cells }
+{
+    Stretch {
+        first: cut(road.cars(), cells, count, place),
+        end: cut(road.cars(), cells, count, place + 1),
     }
+}
 
-    // Answers whether a detector's site is on it.
-    pub fn has(self, plan: &Plan, detector: usize) -> bool
-        requires { detector < length plan.now.detectors }
-        ensures { result ≡ has_site self.first self.end plan.now detector }
-    {
-        let site = plan.detectors()[detector];
-        self.first <= site && site < self.end
-    }
+// Answers whether a detector's site is on a stretch.
+pub(crate) fn has_site(stretch: Stretch, plan: &Plan, detector: usize) -> bool
+    requires { detector < length plan.now.detectors }
+    ensures { result ≡ has_site stretch.first stretch.end plan.now detector }
+{
+    let site = plan.detectors()[detector];
+    stretch.first <= site && site < stretch.end
 }
 
 // Runs a stretch for all steps of a span, from the cars on it, and for each step 9 cells farther behind it and ahead.
@@ -112,8 +104,7 @@ pub(crate) fn road_near(
 ) -> Result<Road, OutOfMemory>
     requires order { stretch.first ≤ stretch.end }
     requires short { stretch.end ≤ GREATEST_LENGTH }
-    ensures { IfOk result (λ near. AgreeBetween (stretch.first - GREATEST_SPEED * span.now.steps)
-        (stretch.end + GREATEST_SPEED * span.now.steps) near road.now) }
+    ensures { IfOk result (λ near. AgreeNear span.now.steps stretch.first stretch.end near road.now) }
 {
     let mut cars = Vec::new(alloc);
     cars.extend_from_slice(cars_near(span, road, stretch))?;
@@ -124,8 +115,7 @@ pub(crate) fn road_near(
 pub(crate) fn is_near(near: &Road, span: &Span, road: &Road, stretch: Stretch) -> bool
     requires order { stretch.first ≤ stretch.end }
     requires short { stretch.end ≤ GREATEST_LENGTH }
-    ensures { IsTrue result → AgreeBetween (stretch.first - GREATEST_SPEED * span.now.steps)
-        (stretch.end + GREATEST_SPEED * span.now.steps) near.now road.now }
+    ensures { IsTrue result → AgreeNear span.now.steps stretch.first stretch.end near.now road.now }
 {
     are_same_cars(near.cars(), cars_near(span, road, stretch))
 }
@@ -175,20 +165,21 @@ fn margin_of(span: &Span) -> u32
     u32::from(GREATEST_SPEED) * span.steps()
 }
 
-// Runs the whole road for all steps of a span.
+// Runs the whole road for all steps of a span, of which it has some.
 pub(crate) fn run_whole(
     alloc: Global,
     span: &Span,
     road: &Road,
     kept: &mut Option<RunMemory>,
 ) -> Result<Ran, OutOfMemory>
+    requires { 0 < span.now.steps }
     ensures road { IfOk result (λ ran. ran.road ≡ span_road span.now road.now) }
     ensures totals { IfOk result (λ ran. ran.totals.items ≡ span_totals span.now road.now) }
 {
     let mut memory = RunMemory::ready(alloc, mem::replace(kept, None), span);
     let end = span.plan().length();
-    let ran = ran(alloc, span, road, Stretch { first: 0, end }, &mut memory);
+    let run = run_near(alloc, span, road, Stretch { first: 0, end }, &mut memory);
     memory.note(span.step() + span.steps());
     *kept = Some(memory);
-    ran
+    Ok(road_of(span, road, end, run?))
 }

@@ -9,9 +9,9 @@ ghost use Rattle.road_workers.specs.Private.Stretches.{IsRunOf};
 
 use crate::piece::{Piece, PieceAnswer};
 use crate::stretch::running::RunMemory;
-use crate::stretch::{Stretch, StretchRun, run_near};
+use crate::stretch::{StretchRun, run_near};
 use road_cells::Road;
-use road_ends::{OutOfMemory, Span, StepInput};
+use road_ends::{OutOfMemory, Span, StepInput, Stretch};
 use std::alloc::Global;
 use std::mem;
 use std::sync::Arc;

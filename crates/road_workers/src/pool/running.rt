@@ -13,11 +13,11 @@ use crate::pool::spin::Lookout;
 use crate::pool::{Pool, sent};
 use crate::stretch::joining::{beside, road_of};
 use crate::stretch::running::RunMemory;
-use crate::stretch::{Stretch, is_near, road_near, run_stretch, run_whole};
+use crate::stretch::{is_near, road_near, run_stretch, run_whole, stretch_at};
 use crossbeam_channel::{Receiver, Sender};
 use road_cells::Road;
 use road_detector::Ran;
-use road_ends::Span;
+use road_ends::{Span, Stretch};
 use std::alloc::Global;
 use std::mem;
 use std::sync::Wait;
@@ -33,11 +33,7 @@ const MARGINS: u64 = 18;
 pub(super) fn stretches(cars: usize, cells: u32, steps: u32, workers: u32) -> u32
     ensures some { 0 < result }
     ensures few { 1 < result → result ≤ workers }
-    ensures steps { 1 < result → 0 < steps }
 {
-    if steps == 0 {
-        return 1;
-    }
     let alone = u64::from(steps).saturating_mul(cars as u64);
     for fewer in 0..workers.saturating_sub(1) {
         let count = workers - fewer;
@@ -52,7 +48,7 @@ pub(super) fn stretches(cars: usize, cells: u32, steps: u32, workers: u32) -> u3
 }
 
 impl<R: Wait> Pool<R> {
-    // Runs a span: by the caller alone where nobody would gain by workers.
+    // Runs a span, where it has steps: by the caller alone where nobody would gain by workers.
     pub(super) fn run_spans(
         &mut self,
         alloc: Global,
@@ -63,6 +59,9 @@ impl<R: Wait> Pool<R> {
         ensures totals { IfOk result (λ done. IfSome done (λ ran. ran.totals.items ≡ span_totals span.now road.now)) }
         ensures unchanged { self.new ≡ self.old }
     {
+        if span.steps() == 0 {
+            return Ok(None);
+        }
         let (cars, cells) = (road.cars().len(), span.plan().length());
         let count = stretches(cars, cells, span.steps(), self.workers.len() as u32);
         if count > 1 {
@@ -88,7 +87,7 @@ impl<R: Wait> Pool<R> {
     {
         let cells = span.plan().length();
         let (sent, all) = self.send_stretches(alloc, span, road, count);
-        let first = Stretch::of(road, cells, count, 0);
+        let first = stretch_at(road, cells, count, 0);
         let front = run_own(alloc, span, road, first, &mut self.kept);
         let whole = self.gathered(span, road, count, sent, front)?;
         all?;
@@ -110,7 +109,7 @@ impl<R: Wait> Pool<R> {
     {
         let cells = span.plan().length();
         for place in 1..count {
-            let stretch = Stretch::of(road, cells, count, place);
+            let stretch = stretch_at(road, cells, count, place);
             let jobs = &self.workers[(place - 1) as usize].jobs;
             if let Err(fault) = send_stretch(&self.rt, alloc, span, road, stretch, jobs) {
                 return (place - 1, Err(fault));
@@ -138,7 +137,7 @@ impl<R: Wait> Pool<R> {
         let cells = span.plan().length();
         let mut whole = front;
         for worker in 0..sent {
-            let stretch = Stretch::of(road, cells, count, worker + 1);
+            let stretch = stretch_at(road, cells, count, worker + 1);
             let results = &self.workers[worker as usize].stretches;
             let next = take_stretch(&self.rt, results, &mut self.lookout, span, road, stretch)?;
             whole = put_behind(span, road, stretch, whole, next);

@@ -5,9 +5,9 @@ ghost use Rattle.road_cells.specs.Cars.{cars_of};
 ghost use Rattle.road_detector.specs.Passes.{no_totals, plus};
 ghost use Rattle.road_workers.specs.Private.Stretches.{passes_on};
 
-use crate::stretch::Stretch;
+use crate::stretch::has_site;
 use road_detector::{Passed, Totals, greatest_speed, passes_from};
-use road_ends::StepInput;
+use road_ends::{StepInput, Stretch};
 use road_plan::limits::MOST_DETECTORS;
 
 // Counts one more step. `places` has for each detector how many cars stood before its site in the last step, near which
@@ -56,7 +56,7 @@ fn passed(
     requires greatest { (i : ℕ) → slice_index speeds.now i ≤ greatest }
     ensures { result.totals ≡ passes_on stretch.first stretch.end input.now speeds.now detector }
 {
-    if !stretch.has(input.plan(), detector) {
+    if !has_site(stretch, input.plan(), detector) {
         return Passed {
             totals: Totals { cars: 0, speeds: 0 },
             before: near,

@@ -7,10 +7,10 @@ ghost use Rattle.road_ends.specs.Span.{span_road};
 ghost use Rattle.road_detector.specs.Passes.{no_totals, plus, span_totals};
 ghost use Rattle.road_workers.specs.Private.Stretches.{IsRunOf};
 
-use crate::stretch::{Stretch, StretchRun};
+use crate::stretch::StretchRun;
 use road_cells::Road;
 use road_detector::{Ran, Totals};
-use road_ends::{OutOfMemory, Span};
+use road_ends::{OutOfMemory, Span, Stretch};
 
 // Puts what a stretch comes to behind what those before it, which begin at the cell `first`, come to.
 pub(crate) fn beside(

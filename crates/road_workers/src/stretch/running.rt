@@ -5,17 +5,17 @@ ghost use Rattle.std.specs.Option.{unwrap_or};
 ghost use Rattle.std.specs.Arc.{arc_value};
 ghost use Rattle.road_plan.specs.declared.limits.TheConstants.{GREATEST_HORIZON};
 ghost use Rattle.road_cells.specs.Array.{Array};
-ghost use Rattle.road_ends.specs.Input.{input_next, input_of, input_speeds};
+ghost use Rattle.road_ends.specs.Input.{input_next, input_speeds};
+ghost use Rattle.road_ends.specs.Laws.{AgreeBetween};
 ghost use Rattle.road_ends.specs.Span.{span_road};
 ghost use Rattle.road_detector.specs.Passes.{no_totals, plus};
 ghost use Rattle.road_workers.specs.Private.Stretches.{AreTotalsOn, passes_on};
-ghost use Rattle.road_workers.specs.Private.RunsUnderWay.{IsAfter, IsOfSpan};
+ghost use Rattle.road_workers.specs.Private.RunsUnderWay.{IsAfter};
 
-use crate::stretch::Stretch;
 use crate::stretch::counting::count;
 use road_cells::Road;
 use road_detector::{Ran, Totals};
-use road_ends::{OutOfMemory, Span, StepInput, WordCache};
+use road_ends::{OutOfMemory, Span, StepInput, Stretch, WordCache};
 use road_plan::limits::MOST_DETECTORS;
 use std::alloc::Global;
 use std::mem;
@@ -112,7 +112,9 @@ impl Running {
         ensures unchanged { memory.new.words ≡ memory.old.words }
     {
         let last = mem::replace(&mut self.last, None);
-        let input = entered(alloc, span, done, so_far(&self.road, road), last, memory)?;
+        let before = so_far(&self.road, road);
+        let words = &mut memory.words;
+        let input = words.enter_near(alloc, span, done, before, stretch, last)?;
         let next = self.moved(alloc, &input, stretch, memory)?;
         if let Some(old) = mem::replace(&mut self.road, Some(next)) {
             memory.words.reuse(old);
@@ -185,34 +187,7 @@ fn so_far<'a>(later: &'a Option<Road>, road: &'a Road) -> &'a Road
     }
 }
 
-// Makes the input of a step of a span, out of the last one's where there is one.
-fn entered(
-    alloc: Global,
-    span: &Span,
-    done: u32,
-    road: &Road,
-    last: Option<Arc<StepInput>>,
-    memory: &mut RunMemory,
-) -> Result<Arc<StepInput>, OutOfMemory>
-    requires within_limit { span.now.step + done < GREATEST_HORIZON }
-    requires words { memory.old.words ≡ span.now.plan.words }
-    requires last { IfSome last (λ input. IsOfSpan span.now (arc_value input)) }
-    ensures input { IfOk result (λ input. arc_value input
-        ≡ input_of span.now.plan span.now.settings (span.now.step + done) road.now) }
-    ensures unchanged { memory.new.words ≡ memory.old.words }
-{
-    let step = span.step() + done;
-    if let Some(last) = last {
-        let mut input = last;
-        if memory.words.enter_again(alloc, &mut input, step, road)? {
-            return Ok(input);
-        }
-    }
-    let settings = Arc::try_clone(span.settings())?;
-    memory.words.enter(alloc, span.plan(), settings, step, road)
-}
-
-// Runs the steps of a span from a road, and counts what the detectors on a stretch count.
+// Runs the steps of a span from a road, as far as a stretch needs them, and counts what the detectors there count.
 pub(crate) fn ran(
     alloc: Global,
     span: &Span,
@@ -221,7 +196,8 @@ pub(crate) fn ran(
     memory: &mut RunMemory,
 ) -> Result<Ran, OutOfMemory>
     requires words { memory.old.words ≡ span.now.plan.words }
-    ensures road { IfOk result (λ ran. ran.road ≡ span_road span.now road.now) }
+    ensures road { IfOk result (λ ran.
+        AgreeBetween stretch.first stretch.end ran.road (span_road span.now road.now)) }
     ensures totals { IfOk result (λ ran. AreTotalsOn stretch.first stretch.end span.now span.now.steps road.now
         ran.totals.items) }
     ensures unchanged { memory.new.words ≡ memory.old.words }

@@ -1,0 +1,17 @@
+-- The walk over the cells, from inlet to inlet.
+use Rattle.std.proofs.Common.{◌≡◌, ◌-◌, ◌++◌, map}
+use Rattle.std.specs.List.{range_with_len}
+use Rattle.road_cells.specs.Cars.{cars_from}
+use Rattle.road_ends.specs.Private.EntriesBetween.{with_entry}
+use Rattle.road_ends.proofs.StepByCars.{cars_left}
+use Rattle.road_ends.proofs.entries.entered_between.Given as goal
+
+abbrev pub invariant-loop-cell : goal.invariant-loop-cell
+invariant-loop-cell l = record {
+  cars : l.cars.items ++ cars_left (with_entry l.at.plan.now l.at.settings.now l.at.step l.road) l.stretch.end l.cell
+      ≡ cars_from l.stretch.first (map (with_entry l.at.plan.now l.at.settings.now l.at.step l.road) (range_with_len l.stretch.first (l.stretch.end - l.stretch.first)));
+  words : l.words ≡ l.fn.words;
+}
+
+abbrev pub decreases-loop-cell : goal.decreases-loop-cell
+decreases-loop-cell l = l.stretch.end - l.cell
