@@ -47,8 +47,9 @@ struct Worker {
     thread: JoinHandle<()>,
 }
 
-/// The crew whose workers are threads that live as long as the crew. Each call gives every worker its piece of the cars,
-/// which may be empty, and waits for them. After the first answer `WorkersGone` every call answers so. Contracts see it
+/// The crew whose workers are threads that live as long as the crew. A call for the speeds of a step gives every worker
+/// its piece of the cars, which may be empty; a call for a run gives a stretch of road to as many workers as pay. Each
+/// waits for their answers. After the first answer `WorkersGone` every call answers so. Contracts see it
 /// as how many workers it has, and its count of these answers.
 #[derive(Drop)]
 pub struct Pool<R> {
@@ -129,7 +130,7 @@ impl<R: Threads + Wait + Clone + Drop + Send + 'static> Pool<R> {
         let mut started = Vec::with_capacity(alloc, workers as usize)?;
         let (done, results) = bounded(alloc, workers as usize)?;
         let lookout = Lookout::of(&rt, workers);
-        let fault = start_workers(&rt, alloc, workers, lookout, &gate, &done, &mut started);
+        let fault = start_workers(&rt, alloc, workers, &gate, &done, &mut started);
         drop(done);
         if started.len() < workers as usize {
             finish_workers(&rt, started);
@@ -228,7 +229,6 @@ fn start_workers<
     rt: &R,
     alloc: Global,
     workers: u32,
-    lookout: Lookout,
     gate: &Arc<G>,
     results: &Sender<Done>,
     started: &mut Vec<Worker>,
@@ -236,6 +236,7 @@ fn start_workers<
     requires { vec_len started.old ≡ 0 }
     ensures { vec_len started.new ≤ workers }
 {
+    let lookout = Lookout::of(rt, workers);
     for worker in 0..workers {
         match start_worker(rt, alloc, worker, lookout, gate, results) {
             Ok(new) => {

@@ -25,8 +25,9 @@ use std::sync::Wait;
 // What it takes to hand a stretch to a worker and to have it back, in steps of one car.
 const HAND_OVER: u64 = 2_000;
 
-// How many cells behind a stretch and ahead of it are run with it, for each step.
-const MARGINS: u64 = 18;
+// How many cells behind a stretch and ahead of it are run with it, for each step of the span: 18 for each step that is
+// left, so half of that on the average.
+const MARGINS: u64 = 9;
 
 // Finds by how many stretches a span is run: the most, one for each worker, by which it takes four fifths at most of what
 // one thread takes alone; one where there is no such number. What is near a stretch is run with it.

@@ -3,7 +3,7 @@ use Rattle.std.proofs.Common.{◌≤◌, ◌+◌, ap, sym, subst, ◌∙◌, ari
 use Rattle.road_cells.specs.Cars.{cars_of}
 use Rattle.road_workers.specs.Private.Stretches.{cut}
 use Rattle.road_workers.proofs.Cuts.{cut-rise, cut-within}
-use Rattle.road_workers.proofs.stretch.Stretch.of.Goals as goal
+use Rattle.road_workers.proofs.stretch.stretch_at.Goals as goal
 
 pub returns-clause-order : goal.returns-clause-order
 returns-clause-order c =
