@@ -1,7 +1,8 @@
 -- The order of objects, as it is derived, is that by kind and index, and it tells objects apart.
 use Rattle.std.specs.Prelude.{◌≡◌, ℕ, zero, suc, refl}
 use Rattle.std.specs.Ordering.{nat_cmp}
-use Rattle.std.proofs.Common.{sym, ap, ◌∙◌}
+use Rattle.std.proofs.Common.{sym, ap, ◌∙◌, rules}
+use Rattle.std.specs.Cmp.Rules.{comparing}
 use Rattle.lattice_core.specs.Exact.{IsExact, pair_cmp}
 use Rattle.lattice_core.specs.Instances.ExactOrders.{exact_by, exact_nat, exact_pair}
 use Rattle.road_plan.specs.Objects.{object_order, order_key}
@@ -11,42 +12,7 @@ use Rattle.road_plan.specs.contracts.object.ObjectOrd.TheImpl as derived
 
 -- the derived order of objects is that of their keys
 pub ordered : (x y : Object) → derived.ghosts.cmp x y ≡ object_order x y
-ordered (Limit i) (Limit j) = refl
-ordered (Limit i) (Slow j) = refl
-ordered (Limit i) (Block j) = refl
-ordered (Limit i) (Inflow j) = refl
-ordered (Limit i) (Watch j) = refl
-ordered (Limit i) (Start j) = refl
-ordered (Slow i) (Limit j) = refl
-ordered (Slow i) (Slow j) = refl
-ordered (Slow i) (Block j) = refl
-ordered (Slow i) (Inflow j) = refl
-ordered (Slow i) (Watch j) = refl
-ordered (Slow i) (Start j) = refl
-ordered (Block i) (Limit j) = refl
-ordered (Block i) (Slow j) = refl
-ordered (Block i) (Block j) = refl
-ordered (Block i) (Inflow j) = refl
-ordered (Block i) (Watch j) = refl
-ordered (Block i) (Start j) = refl
-ordered (Inflow i) (Limit j) = refl
-ordered (Inflow i) (Slow j) = refl
-ordered (Inflow i) (Block j) = refl
-ordered (Inflow i) (Inflow j) = refl
-ordered (Inflow i) (Watch j) = refl
-ordered (Inflow i) (Start j) = refl
-ordered (Watch i) (Limit j) = refl
-ordered (Watch i) (Slow j) = refl
-ordered (Watch i) (Block j) = refl
-ordered (Watch i) (Inflow j) = refl
-ordered (Watch i) (Watch j) = refl
-ordered (Watch i) (Start j) = refl
-ordered (Start i) (Limit j) = refl
-ordered (Start i) (Slow j) = refl
-ordered (Start i) (Block j) = refl
-ordered (Start i) (Inflow j) = refl
-ordered (Start i) (Watch j) = refl
-ordered (Start i) (Start j) = refl
+ordered x y = search (comparing, rules)
 
 -- the object of a key
 abbrev pub object_of : ℕ × ℕ → Object
