@@ -11,7 +11,10 @@ ghost use Rattle.road_scenario.specs.Edits.{Edits, edit_cmp, is_exceeded_by, edi
 ghost use Rattle.road_plan.specs.declared.object.Object.TheVariants.{Slow, Start};
 ghost use Rattle.road_scenario.specs.Settings.{number_in, setting_in, settings_in, settings_of};
 ghost use Rattle.road_scenario.specs.Touched.{IsBefore, first_touched_step};
-ghost use Rattle.road_scenario.specs.Winners.{winners, winners_in};
+ghost use Rattle.road_scenario.specs.Winners.{AreWinners, winners, winners_in};
+
+use crate::scenario::Scenario;
+use lattice_core::lattice::Lattice;
 
 /// Who wins.
 pub fn winners_agree()
@@ -27,6 +30,13 @@ pub fn winners_agree()
     // The winners of a list are those of its set.
     ensures listed { (edits : List Edit) → from_list {R = edit_cmp} (winners_in edits) ≡ winners (from_list edits) }
 {}
+
+/// The edits of a scenario are winners: none of them exceeds another.
+pub fn edits_are_winners(scenario: &Scenario)
+    ensures { AreWinners scenario.now }
+{
+    let _ = scenario.is_bottom();
+}
 
 /// Settings, what is touched and the greatest count are the same by all edits and by their winners.
 pub fn winners_decide()

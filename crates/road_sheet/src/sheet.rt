@@ -36,7 +36,7 @@ use road_ends::{Span, StepInput};
 use road_plan::limits::MOST_DETECTORS;
 use road_plan::{OutOfMemory, Plan};
 use road_scenario::Scenario;
-use road_scenario::laws::settings_stay_before_touched;
+use road_scenario::laws::{edits_are_winners, settings_stay_before_touched};
 use std::alloc::Global;
 use std::marker::Model;
 use std::mem;
@@ -260,7 +260,7 @@ impl Sheet {
           horizon = draft_start self.now.horizon keep;
         }) }
     {
-        let _ = joined.is_bottom();
+        edits_are_winners(&joined);
         settings_stay_before_touched();
         runs_depend_on_earlier_settings(&self.plan);
         let sheet = if keep == self.horizon() {
