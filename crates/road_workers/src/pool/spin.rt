@@ -25,11 +25,11 @@ pub(crate) struct Lookout {
 }
 
 impl Lookout {
-    // Returns how each thread of a crew of so many workers looks: not at all where the workers and their caller have no
-    // processor each, for a spinning thread would keep another one from its work.
+    // Returns how each thread of a crew of so many workers looks: not at all where these have no processor each, for a
+    // spinning thread would keep another one from its work. Of a run the caller takes the share of one worker.
     pub fn of<R: Threads>(rt: &R, workers: u32) -> Lookout {
         let looks = match available_parallelism(rt) {
-            Ok(processors) if processors.get() > workers as usize => LOOKS,
+            Ok(processors) if processors.get() >= workers as usize => LOOKS,
             _ => 0,
         };
         Lookout {
