@@ -80,8 +80,7 @@ DependOnEarlierSettings p = (f g : Course) (s : ℕ) → ((u : ℕ) → u < s �
 pub record AgreeBetween (a b : ℕ) (x y : Array) : Type 0 where
   pub same : (c : ℕ) → a ≤ c → c < b → vehicle_at x c ≡ vehicle_at y c
 
--- roads agree wherever it may matter on a stretch within k steps: 9 cells farther behind it and ahead of it for each
--- step
+-- roads agree near a stretch: wherever it may matter there within k steps, 9 cells farther for each behind it and ahead
 abbrev pub AgreeNear : ℕ → ℕ → ℕ → Array → Array → Type 0
 AgreeNear k lo hi x y = AgreeBetween (lo - GREATEST_SPEED * k) (hi + GREATEST_SPEED * k) x y
 

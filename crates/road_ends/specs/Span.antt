@@ -19,13 +19,13 @@ pub record Span : Type 0 where
 abbrev pub span_road : Span → Array → Array
 span_road span a = road_after_steps span.plan (λ _. span.settings) span.step span.steps a
 
--- an input is of a span's plan and settings
+-- an input of a span: of its plan and settings
 pub record IsOfSpan (span : Span) (input : StepInput) : Type 0 where
   pub plan : input.plan ≡ span.plan
   pub settings : input.settings ≡ span.settings
 
--- an input is that of the step after k of a span, from a road, wherever it may matter on the cells from lo to before hi
--- in the steps that are left
+-- an input near a stretch: that of the step after k of a span, from a road, wherever it may matter on the cells from lo
+-- to before hi in the steps that are left
 pub record IsInputNear (lo hi : ℕ) (span : Span) (k : ℕ) (a : Array) (input : StepInput) : Type 0 where
   pub of_span : IsOfSpan span input
   pub step : input.step ≡ span.step + k
