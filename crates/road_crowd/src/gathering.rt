@@ -10,7 +10,7 @@ ghost use Rattle.road_replica.specs.declared.crowds.TheConstants.{MOST_CROWD_WRI
 ghost use Rattle.road_sessions.specs.Journals.{replica_of_plan};
 
 use crate::permit::Permit;
-use crate::threads::in_threads;
+use crate::threads::{Task, in_threads};
 use road_plan::Plan;
 use road_replica::{Crowd, write_count};
 use road_scenario::Edit;
@@ -57,39 +57,36 @@ pub fn crowd<W: Threads + Wait, G: Gate + Sync>(
     let Ok(prepared) = prepare(Permit::of(rt), alloc, plan_of_store, 0, count, writes) else {
         return Err(CrewFault::OutOfMemory);
     };
-    left::<Brand, _, W, G>(rt, alloc, prepared, plan, shares, to, gate)
+    let task = Task { alloc, gate, to };
+    left::<Brand, _, W, G>(rt, prepared, plan, shares, &task)
 }
 
 // Returns what is left of a store that was just prepared, once its sessions have worked.
 fn left<J: Naming + Send + Sync, R: Wait + Drop + Send, W: Threads + Wait, G: Gate + Sync>(
     rt: &W,
-    alloc: Global,
     prepared: Prepared<R>,
     plan: &Arc<Plan>,
     shares: &[Vec<Edit>],
-    to: u32,
-    gate: &G,
+    task: &Task<'_, G>,
 ) -> Result<Crowd, CrewFault>
-    requires book { prepared.book ≡ J.book }
-    requires replica { prepared.replica ≡ J.replica }
-    requires ledger { (prepared.ledger.name ≡ J.name) × (prepared.ledger.parts ≡ J.parts) }
-    requires limit { prepared.limit ≡ J.limit }
-    requires room { prepared.limit ≡ crowd_writes (shares_of shares.now) }
+    // It is what the name was picked with.
+    requires named { (prepared.book ≡ J.book) × (prepared.replica ≡ J.replica)
+        × (prepared.ledger.name ≡ J.name) × (prepared.ledger.parts ≡ J.parts) × (prepared.limit ≡ J.limit) }
     requires opening { prepared.replica ≡ replica_of_plan (arc_value plan.now) 0 }
-    requires some { 0 < length shares.now }
     requires one_each { prepared.sessions ≡ length shares.now }
+    requires some { 0 < length shares.now }
     requires within { crowd_writes (shares_of shares.now) ≤ MOST_CROWD_WRITES }
     ensures edits { IfOk result (λ crowd. crowd.edits.items ≡ items (crowd_winners (shares_of shares.now))) }
     ensures journal { IfOk result (λ crowd. crowd.journal ≡ crowd_writes (shares_of shares.now)) }
     ensures row { IfOk result (λ crowd. string_bytes crowd.row
-        ≡ row_at (arc_value plan.now) (crowd_winners (shares_of shares.now)) to) }
+        ≡ row_at (arc_value plan.now) (crowd_winners (shares_of shares.now)) task.now.to) }
 {
     let Ok((shared, sessions)) = open::<J, R>(prepared) else {
         return Err(CrewFault::OutOfMemory);
     };
-    let sessions = in_threads(rt, alloc, &shared, sessions, shares, to, gate)?;
+    let sessions = in_threads(rt, &shared, sessions, shares, task)?;
     match close(shared, sessions) {
-        Ok(closed) => shown(alloc, &closed, to),
+        Ok(closed) => shown(task.alloc, &closed, task.to),
         Err(_fault) => Err(CrewFault::OutOfMemory),
     }
 }

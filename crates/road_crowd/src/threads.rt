@@ -34,25 +34,33 @@ impl<J: Naming> Promise<Worked<J>> for WritesShare {
         ≡ (promise.number, share_entries promise.number promise.share.value.items promise.to)) };
 }
 
+// What each session of a crowd has to do beside its share: it arrives at the gate first, and at last advances to the
+// step.
+#[derive(Drop)]
+pub(crate) struct Task<'g, G> {
+    pub alloc: Global,
+    pub gate: &'g G,
+    pub to: u32,
+}
+
 // A session's thread.
 type Worker<J> = PromisedHandle<Worked<J>, WritesShare>;
 
 // Does what a thread has to: its session arrives at the gate, and then makes its writes.
 fn worked<J: Naming, R: Wait + Drop, W: Wait, G: Gate>(
     rt: &W,
-    alloc: Global,
     shared: &Shared<J, R>,
     session: Session<J>,
     share: &[Edit],
-    to: u32,
-    gate: &G,
+    task: &Task<'_, G>,
 ) -> Worked<J>
     requires { session.view.own ≡ [] }
-    ensures { IfOk result (λ after. work_of after ≡ (session.number, share_entries session.number share.now to)) }
+    ensures { IfOk result
+        (λ after. work_of after ≡ (session.number, share_entries session.number share.now task.now.to)) }
 {
     let mut session = session;
-    gate.arrive(session.number());
-    work(rt, alloc, shared, &mut session, share, to)?;
+    task.gate.arrive(session.number());
+    work(rt, task.alloc, shared, &mut session, share, task.to)?;
     Ok(session)
 }
 
@@ -67,30 +75,28 @@ fn start<
 >(
     scope: &Scope<'s, E>,
     permit: Permit<W>,
-    alloc: Global,
     shared: &'s Shared<J, R>,
     session: Session<J>,
     share: &'s Vec<Edit>,
-    to: u32,
-    gate: &'s G,
+    task: &'s Task<'s, G>,
 ) -> Option<Worker<J>>
     requires { session.view.own ≡ [] }
     ensures number { IfSome result (λ worker. worker.promise.number ≡ session.number) }
     ensures share { IfSome result (λ worker. worker.promise.share.value.items ≡ share.now.items) }
-    ensures to { IfSome result (λ worker. worker.promise.to ≡ to) }
+    ensures to { IfSome result (λ worker. worker.promise.to ≡ task.now.to) }
 {
     let promise = WritesShare {
         number: session.number(),
         share: Snapshot::of(share),
-        to,
+        to: task.to,
     };
     let started = scope.spawn_with(
         promise,
         move || -> Worked<J>
             requires { session.view.own ≡ [] }
             ensures { IfOk result (λ after. work_of after
-                ≡ (session.number, share_entries session.number share.entry.now.items to)) }
-        { worked(&permit, alloc, shared, session, share.as_slice(), to, gate) },
+                ≡ (session.number, share_entries session.number share.entry.now.items task.entry.now.to)) }
+        { worked(&permit, shared, session, share.as_slice(), task) },
     );
     started.ok()
 }
@@ -107,16 +113,14 @@ fn all_worked<
 >(
     scope: &Scope<'s, E>,
     rt: &W,
-    alloc: Global,
     shared: &'s Shared<J, R>,
     mut sessions: Vec<Session<J>>,
     shares: &'s [Vec<Edit>],
-    to: u32,
-    gate: &'s G,
+    task: &'s Task<'s, G>,
 ) -> Result<Vec<Session<J>>, CrewFault>
     requires new { AreNewSessions 0 sessions.items }
     requires one_each { length sessions.items ≡ length shares.now }
-    ensures { IfOk result (λ after. map work_of after.items ≡ works_from 0 (shares_of shares.now) to) }
+    ensures { IfOk result (λ after. map work_of after.items ≡ works_from 0 (shares_of shares.now) task.now.to) }
 {
     let Some((share, others)) = shares.split_last() else {
         return Ok(sessions);
@@ -125,10 +129,10 @@ fn all_worked<
         return Ok(sessions);
     };
     let permit = Permit::of(rt);
-    let Some(worker) = start(scope, permit, alloc, shared, session, share, to, gate) else {
+    let Some(worker) = start(scope, permit, shared, session, share, task) else {
         return Err(CrewFault::WorkersGone);
     };
-    let mut after = all_worked(scope, rt, alloc, shared, sessions, others, to, gate)?;
+    let mut after = all_worked(scope, rt, shared, sessions, others, task)?;
     let last = worker.join(rt)?;
     let Ok(()) = after.push(last) else {
         return Err(CrewFault::OutOfMemory);
@@ -145,23 +149,22 @@ pub(crate) fn in_threads<
     G: Gate + Sync,
 >(
     rt: &W,
-    alloc: Global,
     shared: &Shared<J, R>,
     sessions: Vec<Session<J>>,
     shares: &[Vec<Edit>],
-    to: u32,
-    gate: &G,
+    task: &Task<'_, G>,
 ) -> Result<Vec<Session<J>>, CrewFault>
     requires new { AreNewSessions 0 sessions.items }
     requires one_each { length sessions.items ≡ length shares.now }
-    ensures { IfOk result (λ after. map work_of after.items ≡ works_from 0 (shares_of shares.now) to) }
+    ensures { IfOk result (λ after. map work_of after.items ≡ works_from 0 (shares_of shares.now) task.now.to) }
 {
     thread::scope(
         thread::scope_env(),
         rt,
         |scope| -> Result<Vec<Session<J>>, CrewFault>
             requires { AreNewSessions 0 sessions.items × (length sessions.items ≡ length shares.now) }
-            ensures { IfOk result (λ after. map work_of after.items ≡ works_from 0 (shares_of shares.entry.now) to) }
-        { all_worked(scope, rt, alloc, shared, sessions, shares, to, gate) },
+            ensures { IfOk result (λ after. map work_of after.items
+                ≡ works_from 0 (shares_of shares.entry.now) task.entry.now.to) }
+        { all_worked(scope, rt, shared, sessions, shares, task) },
     )
 }

@@ -15,11 +15,13 @@
 
 mod crowds;
 mod faults;
+mod local_edit;
 mod replica;
 mod reply;
 
 pub use crowds::{Crowd, Crowds, MOST_CROWD_WRITES, write_count};
 pub use faults::ReplicaFault;
+pub use local_edit::LocalEdit;
 pub use replica::{Replica, shares_fault};
 pub use reply::Reply;
 /// Out of memory: an allocation failed.

@@ -23,6 +23,7 @@ ghost use Rattle.road_replica.specs.Replicas.{edit_made, single_edit};
 ghost use Rattle.road_replica.specs.Writes.{IsWrite};
 
 use crate::faults::{ReplicaFault, arrived_fault, made_fault};
+use crate::local_edit::LocalEdit;
 use road_cells::Road;
 use road_delta::{Heads, beyond, heads_of};
 use road_detector::Totals;
@@ -174,7 +175,12 @@ impl Replica {
             (refusals.edit_fault self.old object step (Put value)) result self.old self.new meter.old meter.new }
         ensures gone { CountsGone result (C.times_gone crew.old) (C.times_gone crew.new) }
     {
-        self.put(alloc, object, step, Value::Put(value), crew, meter)
+        let local = LocalEdit {
+            object,
+            step,
+            value: Value::Put(value),
+        };
+        self.put(alloc, local, crew, meter)
     }
 
     /// Withdraws what is put for an object at a step: from there on the latest earlier number is in force, or the
@@ -199,11 +205,16 @@ impl Replica {
             (refusals.edit_fault self.old object step Withdrawn) result self.old self.new meter.old meter.new }
         ensures gone { CountsGone result (C.times_gone crew.old) (C.times_gone crew.new) }
     {
-        self.put(alloc, object, step, Value::Withdrawn, crew, meter)
+        let local = LocalEdit {
+            object,
+            step,
+            value: Value::Withdrawn,
+        };
+        self.put(alloc, local, crew, meter)
     }
 
-    /// Makes an edit of an object from a step on: it puts a number, as [`Replica::edit`], or withdraws what is put, as
-    /// [`Replica::withdraw`], and answers as these do.
+    /// Makes an edit: it puts a number, as [`Replica::edit`], or withdraws what is put, as [`Replica::withdraw`], and
+    /// answers as these do.
     ///
     /// # Errors
     ///
@@ -211,21 +222,20 @@ impl Replica {
     pub fn put<C: Crew>(
         &mut self,
         alloc: Global,
-        object: Object,
-        step: u32,
-        value: Value,
+        local: LocalEdit,
         crew: &mut C,
         meter: &mut Meter,
     ) -> Result<Stamp, ReplicaFault>
-        ensures stamp { IfOk result (λ stamp. stamp ≡ (edit_made self.old object step value).stamp) }
+        ensures stamp { IfOk result (λ stamp. stamp ≡ (edit_made self.old local.object local.step local.value).stamp) }
         // It is greater than each stamp that the replica held.
         ensures fresh { IfOk result (λ stamp. (e : edit.Edit) → contains self.old.sheet.edits e ≡ true →
             number_pair_cmp (stamp_key e.stamp) (stamp_key stamp) ≡ Less) }
-        ensures write { IsWrite (Take (single_edit (edit_made self.old object step value)))
-            (refusals.edit_fault self.old object step value) result self.old self.new meter.old meter.new }
+        ensures write { IsWrite (Take (single_edit (edit_made self.old local.object local.step local.value)))
+            (refusals.edit_fault self.old local.object local.step local.value) result self.old self.new
+            meter.old meter.new }
         ensures gone { CountsGone result (C.times_gone crew.old) (C.times_gone crew.new) }
     {
-        let (stamp, taken) = self.new_edit(alloc, object, step, value)?;
+        let (stamp, taken) = self.new_edit(alloc, local.object, local.step, local.value)?;
         self.join(alloc, &taken, crew, meter)?;
         Ok(stamp)
     }
@@ -379,8 +389,7 @@ impl Replica {
         crew: &mut C,
         meter: &mut Meter,
     ) -> Result<Option<u32>, ReplicaFault>
-        requires fits { AreInRange self.old.sheet.plan scenario.now }
-        requires within_limit { to ≤ GREATEST_HORIZON }
+        requires { AreInRange self.old.sheet.plan scenario.now × (to ≤ GREATEST_HORIZON) }
         ensures touched { IfOk result (λ touched. touched ≡ touched_step self.old.sheet scenario.now) }
         ensures sheet { OnOk result (self.new
             ≡ record self.old { sheet = grown_sheet self.old.sheet scenario.now to }) }

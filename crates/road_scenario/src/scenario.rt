@@ -247,6 +247,13 @@ impl Scenario {
     }
 }
 
+/// A scenario holds winners alone: none of its edits exceeds another.
+pub fn scenarios_hold_winners(scenario: &Scenario)
+    ensures { AreWinners scenario.now }
+{
+    let _ = &scenario.registers;
+}
+
 /// Scenarios under `joined`, from the one without edits up: merges agree in any order, grouping and repetition.
 impl Lattice for Scenario {
     ghost use Rattle.road_scenario.specs.Winners.{AreWinners, has_no_edit, join};

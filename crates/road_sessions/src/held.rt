@@ -11,18 +11,18 @@ ghost use Rattle.road_replica.specs.Writes.{IsAccepted as IsDone, most_steps_of_
 ghost use Rattle.road_replica.specs.declared.faults.ReplicaFault.TheVariants as replica_faults;
 ghost use Rattle.road_sessions.specs.declared.entry.TheConstants.{MOST_WRITES};
 ghost use Rattle.road_sessions.specs.Journals.{entry_command, entry, replay};
-ghost use Rattle.road_sessions.specs.Private.Errands.{reply_to_command};
+ghost use Rattle.road_sessions.specs.Private.Errands.{IsNext, reply_to_command};
 ghost use Rattle.road_sessions.specs.Sessions.{AreNewSessions, IsAcceptedWrite, IsRefusedWrite, new_view, session_of};
 ghost use Rattle.road_sessions.specs.Writes.{CountsGone, IsAccepted, IsRefused, reply_to, wish_command};
 ghost use Rattle.road_sessions.specs.declared.faults.OpenFault.TheVariants as openings;
 
 use crate::entry::{Entry, SheetCommand};
 use crate::faults::{OpenFault, WriteFault};
-use crate::history::{Head, Prefix, Whole};
+use crate::history::{Head, Whole};
 use crate::naming::Naming;
 use crate::perform::{Errand, errand_of, perform, reply_of};
 use crate::reading::enter_after_write_here;
-use crate::session::Session;
+use crate::session::{Membership, Session};
 use crate::store::{Published, StoreReader, StoreWriter, publish_here};
 use crate::wish::Wish;
 use left_right::Absorb;
@@ -42,8 +42,8 @@ pub struct Held<J: Naming, R: Wait + Drop>
 where
     Published<J>: Absorb<Published<J>>,
 {
-    rt: R,
-    alloc: Global,
+    pub(crate) rt: R,
+    pub(crate) alloc: Global,
     /// The store's writer.
     pub writer: StoreWriter<J>,
     pub(crate) head: Head<J>,
@@ -119,45 +119,6 @@ fn append_entry<J: Naming>(
 }
 
 impl<J: Naming, R: Wait + Drop> Held<J, R> {
-    // Makes it with an empty journal; the opening sheet is published.
-    pub(crate) fn new(
-        rt: R,
-        alloc: Global,
-        writer: StoreWriter<J>,
-        head: Head<J>,
-        history: Whole<J>,
-        replica: Replica,
-        limit: u64,
-        sessions: u32,
-        accepted: Book<J>,
-        spare: Share<J>,
-    ) -> Held<J, R>
-        requires replica { replica ≡ J.replica }
-        requires history { history ≡ [] }
-        requires published { writer.desk.shown.value ≡ [] }
-        requires accepted { accepted.total ≡ 0 }
-        requires few { limit ≤ MOST_WRITES }
-        requires room { limit ≡ J.limit }
-        requires parts { J.parts ≡ sessions }
-        requires spared { (spare.parts ≡ 0) × (spare.amount ≡ 0) }
-        ensures journal { result.journal.items ≡ [] }
-        ensures limit { result.limit ≡ limit }
-    {
-        Held {
-            rt,
-            alloc,
-            writer,
-            head,
-            history,
-            replica,
-            journal: Vec::new(alloc),
-            limit,
-            sessions,
-            accepted,
-            spare,
-        }
-    }
-
     // Reserves the memory of the writer's queue, so that no write has to wait for it. What it is given is published
     // already.
     pub(crate) fn reserve_queue(&mut self, published: Published<J>) -> Result<(), OutOfMemory>
@@ -244,8 +205,7 @@ impl<J: Naming, R: Wait + Drop> Held<J, R> {
     ) -> Result<(), ReplicaFault>
         requires part { 0 < mine.old.parts }
         requires room { length self.old.journal.items < self.old.limit }
-        requires allowed { IsAllowed self.old.replica.sheet.plan (entry_command entry.command) }
-        requires after { replica ≡ replica_after (entry_command entry.command) self.old.replica }
+        requires next { IsNext self.old.replica entry replica }
         ensures journal { OnOk result (self.new.journal.items ≡ self.old.journal.items ++ entry ∷ []) }
         ensures unchanged { OnErr result ((self.new.journal.items ≡ self.old.journal.items)
             × (self.new.replica ≡ self.old.replica)
@@ -269,32 +229,33 @@ impl<J: Naming, R: Wait + Drop> Held<J, R> {
         Ok(())
     }
 
-    // Does the write of a session, of which `seen` is what it has seen and `reader` its reader of the store. Where it is
-    // accepted, the session has seen the history that it ends, and has found it in the store.
+    // Does the write of a session, of this number and this membership. Where it is accepted, the session has seen the
+    // history that it ends, and has found it in the store.
     pub(crate) fn serve<C: Crew>(
         &mut self,
         session: u32,
         wish: &Wish<'_>,
         crew: &mut C,
         meter: &mut Meter,
-        seen: &mut Prefix<J>,
-        reader: &mut StoreReader<J>,
-        mine: &mut Share<J>,
+        membership: &mut Membership<J>,
     ) -> Result<(u64, Reply), WriteFault>
-        requires { 0 < mine.old.parts }
+        requires { 0 < membership.old.share.parts }
         ensures write { MatchResult result
-            (λ wrote. IsAcceptedWrite J.limit J.replica wish.now (session_of session seen.old (view reader.old.place))
-            wrote.0 wrote.1 (session_of session seen.new (view reader.new.place)) meter.old meter.new)
-            (λ fault. IsRefusedWrite J.limit J.replica wish.now (session_of session seen.old (view reader.old.place))
-            fault (session_of session seen.new (view reader.new.place)) meter.old meter.new) }
-        ensures share { (mine.new.parts ≡ mine.old.parts) × MatchResult result
-            (λ _. mine.new.amount ≡ mine.old.amount + 1) (λ _. mine.new.amount ≡ mine.old.amount) }
+            (λ wrote. IsAcceptedWrite J.limit J.replica wish.now
+            (session_of session membership.old.seen (view membership.old.reader.place)) wrote.0 wrote.1
+            (session_of session membership.new.seen (view membership.new.reader.place)) meter.old meter.new)
+            (λ fault. IsRefusedWrite J.limit J.replica wish.now
+            (session_of session membership.old.seen (view membership.old.reader.place)) fault
+            (session_of session membership.new.seen (view membership.new.reader.place)) meter.old meter.new) }
+        ensures share { (membership.new.share.parts ≡ membership.old.share.parts) × MatchResult result
+            (λ _. membership.new.share.amount ≡ membership.old.share.amount + 1)
+            (λ _. membership.new.share.amount ≡ membership.old.share.amount) }
         ensures gone { CountsGone result (C.times_gone crew.old) (C.times_gone crew.new) }
     {
-        self.history.know(&self.head, seen);
-        let (place, reply) = self.write(session, wish, crew, meter, mine)?;
-        *seen = self.history.seen();
-        enter_after_write_here(&self.rt, reader, seen);
+        self.history.know(&self.head, &membership.seen);
+        let (place, reply) = self.write(session, wish, crew, meter, &mut membership.share)?;
+        membership.seen = self.history.seen();
+        enter_after_write_here(&self.rt, &mut membership.reader, &membership.seen);
         Ok((place, reply))
     }
 
@@ -321,7 +282,12 @@ impl<J: Naming, R: Wait + Drop> Held<J, R> {
             let reader = self.reader()?;
             let seen = self.history.seen();
             let share = whole.split_off(1, 0);
-            let Ok(()) = sessions.push(Session::new(number, seen, reader, share)) else {
+            let membership = Membership {
+                seen,
+                reader,
+                share,
+            };
+            let Ok(()) = sessions.push(Session::new(number, membership)) else {
                 return Err(OpenFault::OutOfMemory);
             };
         }

@@ -65,9 +65,18 @@ pub struct Wrote<J: Naming> {
 #[derive(Drop)]
 pub struct Session<J: Naming> {
     number: u32,
-    seen: Prefix<J>,
-    reader: StoreReader<J>,
-    share: Share<J>,
+    membership: Membership<J>,
+}
+
+// What a session has of its store.
+#[derive(Drop)]
+pub(crate) struct Membership<J: Naming> {
+    // The history of all that it has seen, heard of or written.
+    pub(crate) seen: Prefix<J>,
+    // Its reader.
+    pub(crate) reader: StoreReader<J>,
+    // Its share of the ledger, which counts its writes.
+    pub(crate) share: Share<J>,
 }
 
 impl<J: Naming> Model for Session<J> {
@@ -81,30 +90,22 @@ impl<J: Naming> Model for Session<J> {
 
     ghost coded = { Prim.hlevel (codes, edits_code) };
 
-    ghost view = { λ s. session_of s.number s.seen (view_at s.reader.place) };
+    ghost view = { λ s. session_of s.number s.membership.seen (view_at s.membership.reader.place) };
 
-    ghost invariant = { λ s. IsSession J.replica (session_of s.number s.seen (view_at s.reader.place))
-        × (s.share.parts ≡ 1) × (s.share.amount ≡ length (view_at s.reader.place).own) };
+    ghost invariant = { λ s.
+        IsSession J.replica (session_of s.number s.membership.seen (view_at s.membership.reader.place))
+        × (s.membership.share.parts ≡ 1)
+        × (s.membership.share.amount ≡ length (view_at s.membership.reader.place).own) };
 }
 
 impl<J: Naming> Session<J> {
     // Makes a session that has seen and written nothing.
-    pub(crate) fn new(
-        number: u32,
-        seen: Prefix<J>,
-        reader: StoreReader<J>,
-        share: Share<J>,
-    ) -> Session<J>
-        requires fresh { (seen ≡ []) × (view_at reader.place ≡ new_view) }
-        requires share { (share.parts ≡ 1) × (share.amount ≡ 0) }
+    pub(crate) fn new(number: u32, membership: Membership<J>) -> Session<J>
+        requires fresh { (membership.seen ≡ []) × (view_at membership.reader.place ≡ new_view) }
+        requires share { (membership.share.parts ≡ 1) × (membership.share.amount ≡ 0) }
         ensures { result ≡ session_of number [] new_view }
     {
-        Session {
-            number,
-            seen,
-            reader,
-            share,
-        }
+        Session { number, membership }
     }
 
     /// Returns its number, from 0.
@@ -235,17 +236,12 @@ impl<J: Naming> Session<J> {
         ensures gone { CountsGone result (C.times_gone crew.old) (C.times_gone crew.new) }
     {
         let number = self.number;
-        let (place, reply) = shared.held.lock(rt).serve(
-            number,
-            wish,
-            crew,
-            meter,
-            &mut self.seen,
-            &mut self.reader,
-            &mut self.share,
-        )?;
+        let (place, reply) = shared
+            .held
+            .lock(rt)
+            .serve(number, wish, crew, meter, &mut self.membership)?;
         let receipt = Receipt {
-            history: self.seen.again(),
+            history: self.membership.seen.again(),
         };
         Ok(Wrote {
             place,
@@ -268,7 +264,8 @@ impl<J: Naming> Session<J> {
             (λ sheet. HasLooked J.replica self.old self.new × (arc_value sheet ≡ sheet_seen J.replica self.new))
             (λ fault. IsLookRefusal J.replica fault self.old self.new) }
     {
-        reading::look(self.number, &mut self.seen, &mut self.reader)
+        let Membership { seen, reader, .. } = &mut self.membership;
+        reading::look(self.number, seen, reader)
     }
 
     /// Returns the road at a step, by a look.
@@ -328,8 +325,8 @@ impl<J: Naming> Session<J> {
         ensures told { IsPrefix receipt self.new.seen }
         ensures same { (self.new.number ≡ self.old.number) × (self.new.view ≡ self.old.view) }
     {
-        if self.seen.is_prefix_of(&receipt.history) {
-            self.seen = receipt.history.again();
+        if self.membership.seen.is_prefix_of(&receipt.history) {
+            self.membership.seen = receipt.history.again();
         }
     }
 
@@ -340,7 +337,7 @@ impl<J: Naming> Session<J> {
         ensures of { IsSessionOf history.old self.now }
         ensures same { history.new ≡ history.old }
     {
-        history.know(head, &self.seen);
+        history.know(head, &self.membership.seen);
     }
 
     // Returns its share of the ledger, which counts its writes.
@@ -349,10 +346,13 @@ impl<J: Naming> Session<J> {
     {
         let Session {
             number: _,
+            membership,
+        } = self;
+        let Membership {
             seen: _seen,
             reader: _reader,
             share,
-        } = self;
+        } = membership;
         share
     }
 }

@@ -143,9 +143,19 @@ pub fn opened<J: Naming, R: Wait + Drop>(
     let (writer, published) = store_of(alloc, replica.sheet(), &history.seen(), sessions)?;
     let (accepted, mut whole) = ledger.open::<J>();
     let spare = whole.empty();
-    let mut held = Held::new(
-        rt, alloc, writer, head, history, replica, limit, sessions, accepted, spare,
-    );
+    let mut held = Held {
+        rt,
+        alloc,
+        writer,
+        head,
+        history,
+        replica,
+        journal: Vec::new(alloc),
+        limit,
+        sessions,
+        accepted,
+        spare,
+    };
     let sessions = held.opening_sessions(published, whole)?;
     Ok((held, sessions))
 }

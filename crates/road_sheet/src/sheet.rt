@@ -27,7 +27,6 @@ use crate::shared_intervals::SharedIntervals;
 use crate::simulation::State;
 use lattice_core::both::Both;
 use lattice_core::greatest::Greatest;
-use lattice_core::lattice::Lattice;
 use road_cells::Road;
 use road_detector::laws::{cars_pass_one_by_one, totals_are_bounded};
 use road_detector::{Ran, Totals};
@@ -36,7 +35,7 @@ use road_ends::{Span, StepInput};
 use road_plan::limits::MOST_DETECTORS;
 use road_plan::{OutOfMemory, Plan};
 use road_scenario::Scenario;
-use road_scenario::laws::{edits_are_winners, settings_stay_before_touched};
+use road_scenario::laws::{scenarios_hold_winners, settings_stay_before_touched};
 use std::alloc::Global;
 use std::marker::Model;
 use std::mem;
@@ -260,7 +259,7 @@ impl Sheet {
           horizon = draft_start self.now.horizon keep;
         }) }
     {
-        edits_are_winners(&joined);
+        scenarios_hold_winners(&joined);
         settings_stay_before_touched();
         runs_depend_on_earlier_settings(&self.plan);
         let sheet = if keep == self.horizon() {

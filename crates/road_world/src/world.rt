@@ -30,8 +30,8 @@ use road_cells::Road;
 use road_delta::Heads;
 use road_detector::Totals;
 use road_ends::Meter;
-use road_plan::{Object, OutOfMemory, Plan};
-use road_replica::{Replica, Reply};
+use road_plan::{OutOfMemory, Plan};
+use road_replica::{LocalEdit, Replica, Reply};
 use road_scenario::{Edit, Scenario, Value};
 use road_workers::Crew;
 use std::alloc::Global;
@@ -268,9 +268,21 @@ impl World {
                 object,
                 step,
                 value,
-            } => self.put(alloc, *at, *object, *step, Value::Put(*value), crew, meter),
+            } => {
+                let local = LocalEdit {
+                    object: *object,
+                    step: *step,
+                    value: Value::Put(*value),
+                };
+                self.put(alloc, *at, local, crew, meter)
+            }
             Event::Withdraw { at, object, step } => {
-                self.put(alloc, *at, *object, *step, Value::Withdrawn, crew, meter)
+                let local = LocalEdit {
+                    object: *object,
+                    step: *step,
+                    value: Value::Withdrawn,
+                };
+                self.put(alloc, *at, local, crew, meter)
             }
             Event::Import { at, edits } => self.import(alloc, *at, edits, crew, meter),
             Event::Send { at } => self.send(*at),
@@ -288,18 +300,17 @@ impl World {
         &mut self,
         alloc: Global,
         at: u32,
-        object: Object,
-        step: u32,
-        value: Value,
+        local: LocalEdit,
         crew: &mut C,
         meter: &mut Meter,
     ) -> Result<Reply, WorldFault>
         requires { at < length self.old.replicas }
-        ensures applied { IsApplied (local_event at object step value) result self.old self.new meter.old meter.new }
+        ensures applied { IsApplied (local_event at local.object local.step local.value) result self.old self.new
+            meter.old meter.new }
         ensures gone { C.times_gone crew.new ≡ gone_after_answer result (C.times_gone crew.old) }
     {
         let replica = &mut self.replicas[at as usize];
-        let stamp = replica.put(alloc, object, step, value, crew, meter)?;
+        let stamp = replica.put(alloc, local, crew, meter)?;
         Ok(Reply::Stamped(stamp))
     }
 

@@ -1,12 +1,15 @@
--- What a command is answered, and what a session is replied that wished it.
-use Rattle.std.specs.Prelude.{max}
+-- What a command is answered, what it leaves of a replica, and what a session is replied that wished it.
+use Rattle.std.specs.Prelude.{◌≡◌, max}
 use Rattle.std.specs.declared.option.Option.{Option}
 use Rattle.std.specs.declared.option.Option.TheVariants.{None, Some}
 use Rattle.road_rewind.specs.Growth.{touched_step}
-use Rattle.road_replica.specs.Replicas.{Replica}
+use Rattle.road_replica.specs.Replicas.{Replica, replica_after}
 use Rattle.road_replica.specs.declared.reply.Reply.{Reply}
 use Rattle.road_replica.specs.declared.reply.Reply.TheVariants.{Stamped, Touched, Horizon}
 use Rattle.road_scenario.specs.declared.edit.Stamp.{Stamp}
+use Rattle.road_sheet.specs.Commands.{IsAllowed}
+use Rattle.road_sessions.specs.Journals.{entry_command}
+use Rattle.road_sessions.specs.declared.entry.Entry.{Entry}
 use Rattle.road_sessions.specs.declared.entry.SheetCommand.{SheetCommand}
 use Rattle.road_sessions.specs.declared.entry.SheetCommand.TheVariants.{Take, Advance}
 
@@ -19,3 +22,7 @@ reply_to_command (Advance to) r = Horizon (max r.sheet.horizon to)
 abbrev pub reply_with : Option Stamp → Reply → Reply
 reply_with (Some stamp) answer = Stamped stamp
 reply_with None answer = answer
+
+-- the replica that an entry leaves, whose command its plan allows
+abbrev pub IsNext : Replica → Entry → Replica → Type 0
+IsNext r e next = IsAllowed r.sheet.plan (entry_command e.command) × (next ≡ replica_after (entry_command e.command) r)

@@ -20,7 +20,7 @@ all_worked-requires-clause-new g t c κs within =
 pub returns : goal.returns
 returns g t c =
     let promise = c.in-Some-start.worker.promise in
-    let to = c.args.to in
+    let to = c.args.task.now.to in
     let left : List Session = c.pop.new.self.items in
     let last : Session = c.in_ok-last.last in
     let share : List Edit = c.in-Some.share.now.items in

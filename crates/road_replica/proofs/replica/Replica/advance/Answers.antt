@@ -6,8 +6,8 @@ use Rattle.road_replica.specs.Replicas.{Replica}
 use Rattle.road_replica.proofs.Writes.{advanced_accepted, advanced_refused, handed_on}
 use Rattle.road_replica.proofs.replica.Replica.advance.Goals as goal
 
-pub grow-requires-clause-fits : goal.grow-requires-clause-fits
-grow-requires-clause-fits g c = c.empty.ensures.fits c.args.self.now.sheet.plan
+pub grow-requires : goal.grow-requires
+grow-requires g c = (c.empty.ensures.fits c.args.self.now.sheet.plan, search rules)
 
 pub returns-in_err-grow-clause-write : goal.returns-in_err-grow-clause-write
 returns-in_err-grow-clause-write g c =

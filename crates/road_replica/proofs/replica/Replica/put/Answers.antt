@@ -4,4 +4,4 @@ use Rattle.road_replica.proofs.replica.Replica.put.Goals as goal
 
 pub returns-clause-fresh : goal.returns-clause-fresh
 returns-clause-fresh g c =
-    made_stamp_is_fresh c.args.self.now c.args.object c.args.step c.args.value c.in_ok-stamp.stamp c.in_ok-stamp.ensures.stamp
+    made_stamp_is_fresh c.args.self.now c.args.local.object c.args.local.step c.args.local.value c.in_ok-stamp.stamp c.in_ok-stamp.ensures.stamp

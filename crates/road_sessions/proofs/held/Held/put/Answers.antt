@@ -11,4 +11,4 @@ pub append_entry-requires-clause-allowed : goal.append_entry-requires-clause-all
 append_entry-requires-clause-allowed g c =
     let r = g.J.Naming.replica in
     let plan : c.args.self.now.replica.sheet.plan ≡ r.sheet.plan = ap (λ (q : Replica). q.sheet.plan) c.args.self.now.replayed ∙ plan_kept r c.args.self.now.journal.items in
-    subst (λ (p : Plan). IsAllowed p (entry_command c.args.entry.command)) plan c.requires.allowed
+    subst (λ (p : Plan). IsAllowed p (entry_command c.args.entry.command)) plan c.requires.next.0

@@ -8,8 +8,8 @@ use Rattle.road_sessions.proofs.session.Session.write.Goals as goal
 pub invariant_of-self-2 : goal.invariant_of-self-2
 invariant_of-self-2 g c =
     let r = g.J.Naming.replica in
-    let s : Session = session_of c.self.inside.number c.self.inside.seen (view_at c.self.inside.reader.place) in
-    let t : Session = session_of c.self.inside.number c.serve.new.seen (view_at c.serve.new.reader.place) in
+    let s : Session = session_of c.self.inside.number c.self.inside.membership.seen (view_at c.self.inside.membership.reader.place) in
+    let t : Session = session_of c.self.inside.number c.serve.new.membership.seen (view_at c.serve.new.membership.reader.place) in
     let wrote = c.in_ok-place.ensures.write in
     let wish = c.args.wish.now in (
       session_after_write g.J.Naming.limit r wish s t c.in_ok-place.place c.in_ok-place.reply c.args.meter.now c.serve.new.meter wrote c.self.invariant.0,
