@@ -170,6 +170,8 @@ fn line_end(bytes: &[u8]) -> Option<usize>
 /// At most 64 KiB of replies wait to be written.
 #[derive(Drop)]
 pub struct Dialogue<S: BuildHasher> {
+    /// What allocates the replies.
+    pub alloc: Global,
     /// What makes the hashes of names.
     pub hasher: S,
     /// The laboratory, once the plan line is accepted.
@@ -195,6 +197,7 @@ impl<S: BuildHasher + Copy> Dialogue<S> {
         ensures none_wait { result.waiting.items ≡ [] }
     {
         Dialogue {
+            alloc,
             hasher,
             laboratory: None,
             held: Vec::new(alloc),
@@ -236,12 +239,7 @@ impl<S: BuildHasher + Copy> Dialogue<S> {
     }
 
     // Returns the reply to the line that is held, which has ended.
-    fn reply<C: Crew, K: Crowds>(
-        &mut self,
-        alloc: Global,
-        crew: &mut C,
-        crowds: &K,
-    ) -> Result<String, CrewFault>
+    fn reply<C: Crew, K: Crowds>(&mut self, crew: &mut C, crowds: &K) -> Result<String, CrewFault>
         requires { self.old.over ≡ None }
         ensures answered { (lines : ℕ) (bytes : List ℕ) → GoesOn lines bytes self.old
             → has_more_lines lines (bytes ++ newline ∷ []) ≡ false
@@ -254,13 +252,18 @@ impl<S: BuildHasher + Copy> Dialogue<S> {
     {
         if let Some(laboratory) = &mut self.laboratory {
             let held = self.held.as_slice();
-            let reply = later_reply(alloc, laboratory, held, self.long, crew, crowds)?;
+            let reply = later_reply(self.alloc, laboratory, held, self.long, crew, crowds)?;
             self.left = self.left.saturating_sub(1);
             self.held.clear();
             self.long = false;
             return Ok(reply);
         }
-        let (reply, laboratory) = opening(alloc, self.held.as_slice(), self.long, self.hasher)?;
+        let (reply, laboratory) = opening(
+            self.alloc,
+            self.held.as_slice(),
+            self.long,
+            self.hasher,
+        )?;
         self.laboratory = laboratory;
         if self.laboratory.is_none() {
             self.over = Some(EarlyEnd::BadPlan);
@@ -274,7 +277,6 @@ impl<S: BuildHasher + Copy> Dialogue<S> {
     // Answers the line that is held, which has ended.
     fn answer<W: Sink, C: Crew, K: Crowds>(
         &mut self,
-        alloc: Global,
         writer: &mut W,
         crew: &mut C,
         crowds: &K,
@@ -289,14 +291,13 @@ impl<S: BuildHasher + Copy> Dialogue<S> {
             (C.times_gone crew.old) (C.times_gone crew.new)) }
         ensures kept { OnOk result (C.times_gone crew.new ≡ C.times_gone crew.old) }
     {
-        let reply = self.reply(alloc, crew, crowds)?;
+        let reply = self.reply(crew, crowds)?;
         put(&mut self.waiting, writer, reply.as_bytes())
     }
 
     // Takes the next of these bytes, up to the end of a line where one of them ends it, and gives how many.
     fn take_line<W: Sink, C: Crew, K: Crowds>(
         &mut self,
-        alloc: Global,
         writer: &mut W,
         bytes: &[u8],
         crew: &mut C,
@@ -322,7 +323,7 @@ impl<S: BuildHasher + Copy> Dialogue<S> {
         match line_end(bytes) {
             Some(end) => {
                 self.hold(&bytes[..end])?;
-                self.answer(alloc, writer, crew, crowds)?;
+                self.answer(writer, crew, crowds)?;
                 Ok(end + 1)
             }
             None => {
@@ -342,7 +343,6 @@ impl<S: BuildHasher + Copy> Dialogue<S> {
     /// held may have been answered or not, so it must not be called again.
     pub fn take<W: Sink, C: Crew, K: Crowds>(
         &mut self,
-        alloc: Global,
         writer: &mut W,
         bytes: &[u8],
         crew: &mut C,
@@ -360,7 +360,7 @@ impl<S: BuildHasher + Copy> Dialogue<S> {
     {
         let mut done = 0;
         while done < bytes.len() {
-            done += self.take_line(alloc, writer, &bytes[done..], crew, crowds)?;
+            done += self.take_line(writer, &bytes[done..], crew, crowds)?;
         }
         flush(&mut self.waiting, writer)?;
         Ok(())
@@ -369,7 +369,6 @@ impl<S: BuildHasher + Copy> Dialogue<S> {
     // Answers a last line without a newline, or an input without a line, where the input has ended.
     fn answer_last<W: Sink, C: Crew, K: Crowds>(
         &mut self,
-        alloc: Global,
         writer: &mut W,
         crew: &mut C,
         crowds: &K,
@@ -384,12 +383,12 @@ impl<S: BuildHasher + Copy> Dialogue<S> {
         ensures kept { OnOk result (C.times_gone crew.new ≡ C.times_gone crew.old) }
     {
         if !self.is_clear() {
-            return self.answer(alloc, writer, crew, crowds);
+            return self.answer(writer, crew, crowds);
         }
         if self.laboratory.is_some() {
             return Ok(());
         }
-        let reply = refusal_reply(alloc, Refusal::NoPlan)?;
+        let reply = refusal_reply(self.alloc, Refusal::NoPlan)?;
         self.over = Some(EarlyEnd::BadPlan);
         put(&mut self.waiting, writer, reply.as_bytes())
     }
@@ -402,7 +401,6 @@ impl<S: BuildHasher + Copy> Dialogue<S> {
     /// As for `take`.
     pub fn finish<W: Sink, C: Crew, K: Crowds>(
         &mut self,
-        alloc: Global,
         writer: &mut W,
         crew: &mut C,
         crowds: &K,
@@ -418,7 +416,7 @@ impl<S: BuildHasher + Copy> Dialogue<S> {
         ensures flushed { OnOk result (W.flushed writer.new ≡ true) }
         ensures kept { OnOk result (C.times_gone crew.new ≡ C.times_gone crew.old) }
     {
-        self.answer_last(alloc, writer, crew, crowds)?;
+        self.answer_last(writer, crew, crowds)?;
         flush(&mut self.waiting, writer)?;
         Ok(())
     }

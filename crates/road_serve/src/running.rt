@@ -87,7 +87,7 @@ pub fn run<
 {
     match arguments_in(rt.alloc(), words) {
         Ok(asked) => match asked.script {
-            None => run_with(rt, asked.workers, reader, writer),
+            None => run_reader(rt, asked.workers, reader, writer),
             Some(path) => run_script(rt, path, asked.workers, writer),
         },
         Err(ArgumentFault::Refused) => Ended::bad_arguments(),
@@ -124,7 +124,7 @@ fn run_opened<
     match opened {
         Some(file) => {
             let mut reader = StdSource::new(file);
-            run_with(rt, workers, &mut reader, writer)
+            run_reader(rt, workers, &mut reader, writer)
         }
         None => after_fault(&ServeFault::Read),
     }
@@ -132,7 +132,7 @@ fn run_opened<
 
 // Runs the program with so many workers, or alone, from a reader to a writer. Names are found by hashes with random keys:
 // where the system has no random bytes for these, that is a read that fails.
-fn run_with<
+fn run_reader<
     F: Threads + Wait + RandomSource + AllocGlobal + Clone + Drop + Send + 'static,
     R: Source,
     W: Sink,

@@ -90,7 +90,7 @@ pub fn serve_within<R: Source, W: Sink, C: Crew, K: Crowds, S: BuildHasher + Cop
 {
     let limits = Limits { lines, bytes };
     let mut dialogue = Dialogue::new(alloc, lines, hasher);
-    answer_input(alloc, reader, writer, crew, crowds, &mut dialogue, limits)
+    answer_input(reader, writer, crew, crowds, &mut dialogue, limits)
 }
 
 // Reads an input to its end into a dialogue to which nothing has come, and writes the replies.
@@ -98,7 +98,6 @@ pub fn serve_within<R: Source, W: Sink, C: Crew, K: Crowds, S: BuildHasher + Cop
 // The dialogue is lent: each way out of the function that owns it drops it, and for each such drop the prover goes
 // through all that a laboratory holds.
 fn answer_input<R: Source, W: Sink, C: Crew, K: Crowds, S: BuildHasher + Copy>(
-    alloc: Global,
     reader: &mut R,
     writer: &mut W,
     crew: &mut C,
@@ -126,7 +125,7 @@ fn answer_input<R: Source, W: Sink, C: Crew, K: Crowds, S: BuildHasher + Copy>(
     loop {
         let count = reader.read(&mut buffer)?;
         if count == 0 {
-            dialogue.finish(alloc, writer, crew, crowds)?;
+            dialogue.finish(writer, crew, crowds)?;
             if let Some(end) = dialogue.over {
                 return Err(end.fault());
             }
@@ -135,7 +134,7 @@ fn answer_input<R: Source, W: Sink, C: Crew, K: Crowds, S: BuildHasher + Copy>(
             });
         }
         let within = fitting(room, count);
-        dialogue.take(alloc, writer, &buffer[..within], crew, crowds)?;
+        dialogue.take(writer, &buffer[..within], crew, crowds)?;
         if let Some(end) = dialogue.over {
             return Err(end.fault());
         }

@@ -9,7 +9,7 @@ use Rattle.road_serve.proofs.running.run_opened.Goals as goal
 
 pub returns-in-Some-clause-script : goal.returns-in-Some-clause-script
 returns-in-Some-clause-script g c =
-    let ran = c.run_with.ensures in
+    let ran = c.run_reader.ensures in
     rw (c.in-Some.is)
     (ran.0, ran.1, ran.2, _, ran.3, (ran.4.ends, source_is _ _ c.new-reader.ensures.remaining c.new-reader.ensures.going c.new-reader.ensures.failures))
 

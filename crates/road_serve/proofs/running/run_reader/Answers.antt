@@ -5,7 +5,7 @@ use Rattle.road_serve.specs.Statuses.{after_failed_read}
 use Rattle.road_serve.specs.StreamViews.{source_view, sink_view}
 use Rattle.road_serve.specs.declared.faults.ServeFault.TheVariants.{Read}
 use Rattle.road_serve.proofs.RunEnds.{first_read_failed}
-use Rattle.road_serve.proofs.running.run_with.Goals as goal
+use Rattle.road_serve.proofs.running.run_reader.Goals as goal
 
 pub returns-in-Ok : goal.returns-in-Ok
 returns-in-Ok g c =
