@@ -1,11 +1,38 @@
-//! Plans, their worked rows, and cars, objects and edits that the crates of tests share.
+//! Plans, their worked rows, cars, objects, edits, events and crews that the crates of tests share.
 #![tactic(auto)]
 
 ghost use Rattle.std.specs.Prelude.{◌≡◌};
 
 use road_cells::Car;
+use road_ends::StepInput;
 use road_plan::{Object, OutOfMemory, Plan, PlanFault, PlanParts, WordKind};
+use road_workers::{Crew, CrewFault};
 use std::alloc::Global;
+use std::sync::Arc;
+
+/// Lists pairs: what is given, and what is wanted of it.
+#[macro_export]
+macro_rules! pairs {
+    ($($given:expr => $wanted:expr),* $(,)?) => {
+        &[$(($given, $wanted)),*]
+    };
+}
+
+/// Writes the parts of a plan, of which some differ from the free road's. It wants `Parts` and `FREE` in scope.
+#[macro_export]
+macro_rules! parts {
+    ($($field:ident: $value:expr),* $(,)?) => {
+        Parts { $($field: $value,)* ..FREE }
+    };
+}
+
+/// Lists such parts, each with what is wanted of it.
+#[macro_export]
+macro_rules! parts_pairs {
+    ($({ $($field:ident: $value:expr),* } => $wanted:expr),* $(,)?) => {
+        &[$(($crate::parts!($($field: $value),*), $wanted)),*]
+    };
+}
 
 /// Lists cars, each by its number, cell and speed. It wants `Car` of `road_cells` in scope.
 #[macro_export]
@@ -42,6 +69,31 @@ macro_rules! edit {
             stamp: Stamp { count: $count, number: $number },
             value: Value::Put($value),
         }
+    };
+}
+
+/// Writes an event of a world: what happens, at which replica, and of what. It wants `Event` of `road_world` in scope.
+#[macro_export]
+macro_rules! event {
+    (edit($at:expr, $object:expr, $step:expr, $value:expr)) => {
+        Event::Edit { at: $at, object: $object, step: $step, value: $value }
+    };
+    (withdraw($at:expr, $object:expr, $step:expr)) => {
+        Event::Withdraw { at: $at, object: $object, step: $step }
+    };
+    (send($at:expr)) => { Event::Send { at: $at } };
+    (heads($at:expr)) => { Event::Heads { at: $at } };
+    (beyond($at:expr, $message:expr)) => { Event::Beyond { at: $at, message: $message } };
+    (take($at:expr, $message:expr)) => { Event::Take { at: $at, message: $message } };
+    (advance($at:expr, $to:expr)) => { Event::Advance { at: $at, to: $to } };
+}
+
+/// Lists events, each written as in [`event`] with its answer: all events, and all answers. It wants `Event` of
+/// `road_world` in scope.
+#[macro_export]
+macro_rules! answered_events {
+    ($($kind:ident($($part:expr),*) => $answer:expr),* $(,)?) => {
+        ([$($crate::event!($kind($($part),*))),*], [$($answer),*])
     };
 }
 
@@ -240,5 +292,55 @@ pub fn car(number: u64, cell: u32, speed: u8) -> Car
         number,
         cell,
         speed,
+    }
+}
+
+/// Answers `WorkersGone` once, after some calls, and computes all other speeds by itself.
+#[derive(Clone, Copy, Debug)]
+pub struct Leaving {
+    /// The calls that are answered before.
+    pub calls_left: u64,
+    /// How often it has answered `WorkersGone`.
+    pub gone: u64,
+}
+
+impl Leaving {
+    /// Makes a crew that leaves after so many calls.
+    pub fn after(calls: u64) -> Leaving
+        ensures { result ≡ record { calls_left = calls; gone = 0 } }
+    {
+        Leaving {
+            calls_left: calls,
+            gone: 0,
+        }
+    }
+}
+
+impl Crew for Leaving {
+    ghost times_gone = { λ crew. crew.gone };
+
+    fn speeds(&mut self, alloc: Global, input: &Arc<StepInput>) -> Result<Vec<u8>, CrewFault> {
+        if self.gone == 0 && self.calls_left == 0 {
+            self.gone = 1;
+            return Err(CrewFault::WorkersGone);
+        }
+        self.calls_left = self.calls_left.saturating_sub(1);
+        Ok(input.speeds(alloc)?)
+    }
+}
+
+/// Computes all speeds by itself and counts its calls.
+#[derive(Clone, Copy, Debug)]
+pub struct Counting {
+    /// The calls so far.
+    pub calls: u64,
+}
+
+impl Crew for Counting {
+    ghost times_gone = { λ _. 0 };
+
+    fn speeds(&mut self, alloc: Global, input: &Arc<StepInput>) -> Result<Vec<u8>, CrewFault> {
+        self.calls = self.calls.saturating_add(1);
+        Ok(input.speeds(alloc)?)
     }
 }

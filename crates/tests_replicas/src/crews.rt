@@ -1,41 +1,20 @@
 //! A crew that fails, and what it leaves.
 
-use crate::replicas::{BLOCK, Entry, LIMIT, Write, holds, opened, replica_after, shows, written};
+use crate::replicas::{Write, holds, opened, replica_after, shows, written};
 use road_detector::Totals;
-use road_ends::{Meter, StepInput};
+use road_ends::Meter;
 use road_replica::{Replica, ReplicaFault, Reply};
-use road_scenario::{Stamp, Value};
-use road_workers::{Crew, CrewFault};
+use road_scenario::{Edit, Stamp, Value};
 use std::alloc::Global;
-use std::sync::Arc;
 use std::test::Fail;
-
-/// Answers `WorkersGone` once, after some calls, and computes all other speeds by itself.
-#[derive(Clone, Copy)]
-struct Failing {
-    calls_left: u64,
-    gone: u64,
-}
-
-impl Crew for Failing {
-    ghost times_gone = { λ crew. crew.gone };
-
-    fn speeds(&mut self, alloc: Global, input: &Arc<StepInput>) -> Result<Vec<u8>, CrewFault> {
-        if self.gone == 0 && self.calls_left == 0 {
-            self.gone = 1;
-            return Err(CrewFault::WorkersGone);
-        }
-        self.calls_left = self.calls_left.saturating_sub(1);
-        Ok(input.speeds(alloc)?)
-    }
-}
+use tests_plans::{BLOCK, BLOCKED_ROWS, FREE_ROWS, LIMIT, Leaving, Row, edit, stamp};
 
 /// What is put before the crew fails: the limit is 1 from step 2 on.
 const BEFORE: &[Write] = &[Write::Edit(LIMIT, 2, 1), Write::Advance(6)];
 
-const HELD: &[Entry] = &[(LIMIT, 2, (1, 0), Value::Put(1))];
+const HELD: &[Edit] = &[edit!(LIMIT, 2, (1, 0), 1)];
 
-const BLOCKED: &[Entry] = &[(BLOCK, 4, (1, 64), Value::Put(1))];
+const BLOCKED: &[Edit] = &[edit!(BLOCK, 4, (1, 64), 1)];
 
 /// Each computes six steps.
 const WRITES: &[Write] = &[
@@ -48,10 +27,7 @@ const WRITES: &[Write] = &[
 
 // Tells whether a replica is left as it was by a write whose crew fails after some calls.
 fn is_left(alloc: Global, replica: &mut Replica, write: Write, calls: u64) -> Result<bool, Fail> {
-    let mut crew = Failing {
-        calls_left: calls,
-        gone: 0,
-    };
+    let mut crew = Leaving::after(calls);
     let mut meter = Meter::new();
     let answer = written(alloc, replica, write, &mut crew, &mut meter);
     Ok(
@@ -81,18 +57,14 @@ fn lost_workers_leave_the_replica(rt: HostRuntime) -> Result<(), Fail> {
 /// A run to step 6, and then the late edit that closes a cell of it. Each computes six steps.
 const RUN: &[(Write, Reply)] = &[
     (Write::Advance(6), Reply::Horizon(6)),
-    (Write::Edit(BLOCK, 4, 1), Reply::Stamped(FIRST_STAMP)),
+    (Write::Edit(BLOCK, 4, 1), Reply::Stamped(stamp!(1, 0))),
 ];
 
-const FIRST_STAMP: Stamp = Stamp {
-    count: 1,
-    number: 0,
-};
-
-/// What a replica holds and shows: its edits, its rows from step 0 to its horizon, and what its detector counted.
+/// What a replica holds and shows: its edits, its horizon, rows, and what its detector counted.
 struct Shown {
-    held: &'static [Entry],
-    rows: &'static [&'static str],
+    held: &'static [Edit],
+    horizon: u32,
+    rows: &'static [Row],
     totals: Totals,
 }
 
@@ -100,50 +72,34 @@ struct Shown {
 const STAGES: &[Shown] = &[
     Shown {
         held: &[],
-        rows: &["............"],
+        horizon: 0,
+        rows: &[(0, "............")],
         totals: Totals { cars: 0, speeds: 0 },
     },
     Shown {
         held: &[],
-        rows: &[
-            "............",
-            ".1..........",
-            "0..2........",
-            ".1...2......",
-            "0..2...2....",
-            ".1...2...2..",
-            "0..2...2....",
-        ],
+        horizon: 6,
+        rows: FREE_ROWS,
         totals: Totals { cars: 2, speeds: 4 },
     },
 ];
 
 /// What it is after the last one.
 const LAST_STAGE: Shown = Shown {
-    held: &[(BLOCK, 4, (1, 0), Value::Put(1))],
-    rows: &[
-        "............",
-        ".1..........",
-        "0..2........",
-        ".1...2......",
-        "0..2...2#...",
-        ".1...2.0#...",
-        "0..2..10#...",
-    ],
+    held: &[edit!(BLOCK, 4, (1, 0), 1)],
+    horizon: 6,
+    rows: BLOCKED_ROWS,
     totals: Totals { cars: 2, speeds: 4 },
 };
 
 // Tells whether a replica holds and shows just this.
 fn is_at(alloc: Global, replica: &Replica, stage: &Shown) -> Result<bool, Fail> {
     let horizon = replica.sheet().horizon();
-    let rows = replica.rows(alloc, 0, horizon)?;
-    Ok(
-        rows.iter()
-            .map(String::as_str)
-            .eq(stage.rows.iter().copied())
-            && replica.totals(alloc, 0, 0, horizon)? == stage.totals
-            && holds(alloc, replica, stage.held)?,
-    )
+    let mut is = horizon == stage.horizon && holds(alloc, replica, stage.held)?;
+    for (step, row) in stage.rows {
+        is = is && shows(alloc, replica, *step, row)?;
+    }
+    Ok(is && replica.totals(alloc, 0, 0, horizon)? == stage.totals)
 }
 
 // Tells whether a write is answered so, where the crew may fail once before it: the replica is then as it was, and the
@@ -151,7 +107,7 @@ fn is_at(alloc: Global, replica: &Replica, stage: &Shown) -> Result<bool, Fail> 
 fn is_answered(
     alloc: Global,
     replica: &mut Replica,
-    crew: &mut Failing,
+    crew: &mut Leaving,
     (write, wanted): (Write, Reply),
     stage: &Shown,
 ) -> Result<bool, Fail> {
@@ -169,7 +125,7 @@ fn is_answered(
 }
 
 // Tells whether the run of a replica is answered as ever by a crew that fails once.
-fn is_run_by(alloc: Global, replica: &mut Replica, crew: &mut Failing) -> Result<bool, Fail> {
+fn is_run_by(alloc: Global, replica: &mut Replica, crew: &mut Leaving) -> Result<bool, Fail> {
     for (step, stage) in RUN.iter().zip(STAGES) {
         if !is_answered(alloc, replica, crew, *step, stage)? {
             return Ok(false);
@@ -181,10 +137,7 @@ fn is_run_by(alloc: Global, replica: &mut Replica, crew: &mut Failing) -> Result
 // Tells whether that of a new replica is, by a crew that fails after some calls.
 fn is_run(alloc: Global, calls: u64) -> Result<bool, Fail> {
     let mut replica = opened(alloc, 0)?;
-    let mut crew = Failing {
-        calls_left: calls,
-        gone: 0,
-    };
+    let mut crew = Leaving::after(calls);
     is_run_by(alloc, &mut replica, &mut crew)
 }
 

@@ -1,19 +1,17 @@
 //! Messages, heads and answers to them.
 
-use crate::replicas::{BLOCK, Entry, LIMIT, Write, holds, opened, replica_after};
+use crate::replicas::{Write, holds, opened, replica_after};
 use road_delta::Head;
 use road_ends::Meter;
 use road_replica::{OutOfMemory, Replica, ReplicaFault};
-use road_scenario::{Scenario, Stamp, Value};
+use road_scenario::{Edit, Scenario, Stamp, Value};
 use road_workers::Alone;
 use std::alloc::Global;
 use std::test::Fail;
+use tests_plans::{BLOCK, LIMIT, edit, head};
 
 /// What the second replica took of the first.
-const TAKEN: &[Entry] = &[
-    (LIMIT, 3, (1, 0), Value::Put(1)),
-    (BLOCK, 4, (2, 0), Value::Put(1)),
-];
+const TAKEN: &[Edit] = &[edit!(LIMIT, 3, (1, 0), 1), edit!(BLOCK, 4, (2, 0), 1)];
 
 /// The writes of the first replica, and those of the second.
 const FIRST: &[Write] = &[
@@ -25,36 +23,16 @@ const FIRST: &[Write] = &[
 const SECOND: &[Write] = &[Write::Take(TAKEN), Write::Edit(LIMIT, 3, 0)];
 
 /// What the second replica asks by.
-const ASKED: &[Head] = &[
-    Head {
-        object: LIMIT,
-        step: 3,
-        stamp: Stamp {
-            count: 3,
-            number: 1,
-        },
-    },
-    Head {
-        object: BLOCK,
-        step: 4,
-        stamp: Stamp {
-            count: 2,
-            number: 0,
-        },
-    },
-];
+const ASKED: &[Head] = &[head!(LIMIT, 3, (3, 1)), head!(BLOCK, 4, (2, 0))];
 
 /// What the first answers: its edit that lost stays away.
-const SENT: &[Entry] = &[
-    (LIMIT, 5, (3, 0), Value::Put(0)),
-    (BLOCK, 4, (2, 0), Value::Put(1)),
-];
+const SENT: &[Edit] = &[edit!(LIMIT, 5, (3, 0), 0), edit!(BLOCK, 4, (2, 0), 1)];
 
 /// What the second holds then.
-const JOINED: &[Entry] = &[
-    (LIMIT, 3, (3, 1), Value::Put(0)),
-    (LIMIT, 5, (3, 0), Value::Put(0)),
-    (BLOCK, 4, (2, 0), Value::Put(1)),
+const JOINED: &[Edit] = &[
+    edit!(LIMIT, 3, (3, 1), 0),
+    edit!(LIMIT, 5, (3, 0), 0),
+    edit!(BLOCK, 4, (2, 0), 1),
 ];
 
 // Tells whether a replica asks by these heads.
@@ -74,7 +52,7 @@ fn takes(
     replica: &mut Replica,
     sent: &Scenario,
     touched: &[Option<u32>],
-    held: &[Entry],
+    held: &[Edit],
 ) -> Result<bool, OutOfMemory> {
     for step in touched {
         if replica.take(alloc, sent, &mut Alone, &mut Meter::new()) != Ok(*step) {

@@ -1,31 +1,13 @@
 //! Cars, counts and diagrams, and the cache of queries.
 
-use crate::replicas::{BLOCK, Write, replica_after};
+use crate::replicas::{Write, replica_after};
 use road_cells::Car;
 use road_plan::Object;
 use road_replica::{Replica, ReplicaFault};
 use road_sheet::{QueryCache, Sheet};
 use std::alloc::Global;
 use std::test::Fail;
-
-/// The cars at step 6.
-const CARS: &[Car] = &[
-    Car {
-        number: 80,
-        cell: 0,
-        speed: 0,
-    },
-    Car {
-        number: 48,
-        cell: 3,
-        speed: 2,
-    },
-    Car {
-        number: 16,
-        cell: 7,
-        speed: 2,
-    },
-];
+use tests_plans::{BLOCK, CARS_AT_SIX, cars};
 
 /// A detector and some steps, and the cars and speeds that are counted.
 type Count = ((u32, u32, u32), Result<(u32, u32), ReplicaFault>);
@@ -85,7 +67,7 @@ fn at_six(alloc: Global) -> Result<Replica, Fail> {
 // Tells whether it shows the worked cars, and none of a step that was not simulated.
 fn has_worked_cars(alloc: Global, replica: &Replica) -> Result<bool, ReplicaFault> {
     Ok(
-        has_cars(alloc, replica, 6, CARS)?
+        has_cars(alloc, replica, 6, CARS_AT_SIX)?
             && replica.state(alloc, 7).err() == Some(ReplicaFault::NotSimulated),
     )
 }
@@ -105,11 +87,7 @@ const OPENED_LAST: &[Write] = &[
 ];
 
 /// Its number is 16 times the last step.
-const LAST_CAR: &[Car] = &[Car {
-    number: 16_777_200,
-    cell: 1,
-    speed: 1,
-}];
+const LAST_CAR: &[Car] = cars![(16_777_200, 1, 1)];
 
 #[test]
 fn shows_the_last_car_of_the_longest_run(rt: HostRuntime) -> Result<(), Fail> {

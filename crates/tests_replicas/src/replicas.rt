@@ -3,29 +3,20 @@
 use road_ends::Meter;
 use road_plan::Object;
 use road_replica::{OutOfMemory, Replica, ReplicaFault, Reply};
-use road_scenario::{Edit, Scenario, Stamp, Value};
+use road_scenario::{Edit, Scenario};
 use road_workers::{Alone, Crew};
 use std::alloc::Global;
 use std::sync::Arc;
 use std::test::Fail;
 use tests_plans::{FREE, Parts, plan_of};
 
-pub(crate) const LIMIT: Object = Object::Limit(0);
-
-pub(crate) const BLOCK: Object = Object::Block(8);
-
-pub(crate) const START: Object = Object::Start(0);
-
-/// An edit: its object and step, the count and number of its stamp, and its value.
-pub(crate) type Entry = (Object, u32, (u64, u16), Value);
-
 /// A write to a replica.
 #[derive(Clone, Copy)]
 pub(crate) enum Write {
     Edit(Object, u32, u32),
     Withdraw(Object, u32),
-    Import(&'static [Entry]),
-    Take(&'static [Entry]),
+    Import(&'static [Edit]),
+    Take(&'static [Edit]),
     Advance(u32),
 }
 
@@ -40,45 +31,15 @@ pub(crate) fn opened(alloc: Global, number: u8) -> Result<Replica, Fail> {
     opened_on(alloc, &FREE, number)
 }
 
-/// Returns the edits of a table.
-pub(crate) fn edits_of(alloc: Global, entries: &[Entry]) -> Result<Vec<Edit>, OutOfMemory> {
-    let mut edits = Vec::new(alloc);
-    for (object, step, (count, number), value) in entries {
-        let stamp = Stamp {
-            count: *count,
-            number: *number,
-        };
-        edits.push(Edit {
-            object: *object,
-            step: *step,
-            stamp,
-            value: *value,
-        })?;
-    }
-    Ok(edits)
-}
-
-// Returns what an import is answered.
-fn imported<C: Crew>(
-    alloc: Global,
-    replica: &mut Replica,
-    entries: &[Entry],
-    crew: &mut C,
-    meter: &mut Meter,
-) -> Result<Reply, ReplicaFault> {
-    let edits = edits_of(alloc, entries)?;
-    Ok(Reply::Touched(replica.import(alloc, &edits, crew, meter)?))
-}
-
 // Returns what a replica is answered that takes edits.
 fn taken<C: Crew>(
     alloc: Global,
     replica: &mut Replica,
-    entries: &[Entry],
+    edits: &[Edit],
     crew: &mut C,
     meter: &mut Meter,
 ) -> Result<Reply, ReplicaFault> {
-    let scenario = Scenario::of_edits(alloc, &edits_of(alloc, entries)?)?;
+    let scenario = Scenario::of_edits(alloc, edits)?;
     Ok(Reply::Touched(replica.take(alloc, &scenario, crew, meter)?))
 }
 
@@ -97,8 +58,8 @@ pub(crate) fn written<C: Crew>(
         Write::Withdraw(object, step) => Ok(Reply::Stamped(replica.withdraw(
             alloc, object, step, crew, meter,
         )?)),
-        Write::Import(entries) => imported(alloc, replica, entries, crew, meter),
-        Write::Take(entries) => taken(alloc, replica, entries, crew, meter),
+        Write::Import(edits) => Ok(Reply::Touched(replica.import(alloc, edits, crew, meter)?)),
+        Write::Take(edits) => taken(alloc, replica, edits, crew, meter),
         Write::Advance(to) => Ok(Reply::Horizon(replica.advance(alloc, to, crew, meter)?)),
     }
 }
@@ -113,13 +74,9 @@ pub(crate) fn replica_after(alloc: Global, number: u8, writes: &[Write]) -> Resu
 }
 
 /// Tells whether a replica holds just these edits, by object and step.
-pub(crate) fn holds(
-    alloc: Global,
-    replica: &Replica,
-    entries: &[Entry],
-) -> Result<bool, OutOfMemory> {
+pub(crate) fn holds(alloc: Global, replica: &Replica, edits: &[Edit]) -> Result<bool, OutOfMemory> {
     let held = replica.scenario().edits(alloc)?;
-    Ok(held.as_slice() == edits_of(alloc, entries)?.as_slice())
+    Ok(held.as_slice() == edits)
 }
 
 /// Tells whether a replica shows just this row at a step.

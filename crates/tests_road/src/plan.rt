@@ -4,412 +4,77 @@ use road_plan::{Object, OutOfMemory, Plan, PlanFault as Fault, Settings, WordKin
 use std::alloc::Global;
 use std::process::Abort;
 use std::test::Fail;
-use tests_plans::{FREE, Parts, parts_of, plan_of, reads};
+use tests_plans::{FREE, Parts, pairs, parts_of, parts_pairs, plan_of, reads};
 
 /// Parts, and the fault that they are refused by, none where they are accepted.
 type Judged = (Parts, Option<Fault>);
 
 /// Lengths of the road, of its deleted zone and of its zones.
-const LENGTHS: &[Judged] = &[
-    (
-        Parts {
-            road: (12, 1, 12),
-            ..FREE
-        },
-        None,
-    ),
-    (
-        Parts {
-            road: (8, 1, 12),
-            ..FREE
-        },
-        None,
-    ),
-    (
-        Parts {
-            road: (7, 1, 12),
-            ..FREE
-        },
-        Some(Fault::Length),
-    ),
-    (
-        Parts {
-            road: (0, 1, 12),
-            ..FREE
-        },
-        Some(Fault::Length),
-    ),
-    (
-        Parts {
-            road: (8_192, 1, 8_193),
-            ..FREE
-        },
-        None,
-    ),
-    (
-        Parts {
-            road: (8_193, 1, 8_193),
-            ..FREE
-        },
-        Some(Fault::Length),
-    ),
-    (
-        Parts {
-            road: (4_294_967_295, 1, 12),
-            ..FREE
-        },
-        Some(Fault::Length),
-    ),
-    (
-        Parts {
-            road: (12, 3, 12),
-            ..FREE
-        },
-        None,
-    ),
-    (
-        Parts {
-            road: (12, 0, 12),
-            ..FREE
-        },
-        Some(Fault::Exit),
-    ),
-    (
-        Parts {
-            road: (12, 12, 12),
-            ..FREE
-        },
-        Some(Fault::Exit),
-    ),
-    (
-        Parts {
-            road: (100, 64, 100),
-            ..FREE
-        },
-        None,
-    ),
-    (
-        Parts {
-            road: (100, 65, 100),
-            ..FREE
-        },
-        Some(Fault::Exit),
-    ),
-    (
-        Parts {
-            road: (12, 4_294_967_295, 12),
-            ..FREE
-        },
-        Some(Fault::Exit),
-    ),
+const LENGTHS: &[Judged] = parts_pairs![
+    { road: (12, 1, 12) } => None,
+    { road: (8, 1, 12) } => None,
+    { road: (7, 1, 12) } => Some(Fault::Length),
+    { road: (0, 1, 12) } => Some(Fault::Length),
+    { road: (8_192, 1, 8_193) } => None,
+    { road: (8_193, 1, 8_193) } => Some(Fault::Length),
+    { road: (4_294_967_295, 1, 12) } => Some(Fault::Length),
+    { road: (12, 3, 12) } => None,
+    { road: (12, 0, 12) } => Some(Fault::Exit),
+    { road: (12, 12, 12) } => Some(Fault::Exit),
+    { road: (100, 64, 100) } => None,
+    { road: (100, 65, 100) } => Some(Fault::Exit),
+    { road: (12, 4_294_967_295, 12) } => Some(Fault::Exit),
     // the last zone may have one cell, or be wider than the road
-    (
-        Parts {
-            road: (12, 1, 11),
-            ..FREE
-        },
-        Some(Fault::Zones),
-    ),
-    (
-        Parts {
-            road: (12, 1, 11),
-            zones: &[(2, 0); 2],
-            ..FREE
-        },
-        None,
-    ),
-    (
-        Parts {
-            road: (12, 1, 6),
-            zones: &[(2, 0); 2],
-            ..FREE
-        },
-        None,
-    ),
-    (
-        Parts {
-            road: (12, 1, 6),
-            zones: &[(2, 0); 3],
-            ..FREE
-        },
-        Some(Fault::Zones),
-    ),
-    (
-        Parts {
-            road: (12, 1, 12),
-            zones: &[],
-            ..FREE
-        },
-        Some(Fault::Zones),
-    ),
-    (
-        Parts {
-            road: (12, 1, 0),
-            ..FREE
-        },
-        Some(Fault::Zones),
-    ),
-    (
-        Parts {
-            road: (12, 1, 4_294_967_295),
-            ..FREE
-        },
-        None,
-    ),
-    (
-        Parts {
-            road: (64, 1, 1),
-            zones: &[(2, 0); 64],
-            ..FREE
-        },
-        None,
-    ),
-    (
-        Parts {
-            road: (65, 1, 1),
-            zones: &[(2, 0); 65],
-            ..FREE
-        },
-        Some(Fault::Zones),
-    ),
-    (
-        Parts {
-            road: (8_192, 64, 128),
-            zones: &[(2, 0); 64],
-            ..FREE
-        },
-        None,
-    ),
+    { road: (12, 1, 11) } => Some(Fault::Zones),
+    { road: (12, 1, 11), zones: &[(2, 0); 2] } => None,
+    { road: (12, 1, 6), zones: &[(2, 0); 2] } => None,
+    { road: (12, 1, 6), zones: &[(2, 0); 3] } => Some(Fault::Zones),
+    { road: (12, 1, 12), zones: &[] } => Some(Fault::Zones),
+    { road: (12, 1, 0) } => Some(Fault::Zones),
+    { road: (12, 1, 4_294_967_295) } => None,
+    { road: (64, 1, 1), zones: &[(2, 0); 64] } => None,
+    { road: (65, 1, 1), zones: &[(2, 0); 65] } => Some(Fault::Zones),
+    { road: (8_192, 64, 128), zones: &[(2, 0); 64] } => None,
 ];
 
 /// Sixteen inlets at different cells.
-const INLETS: &[(u32, u32)] = &[
-    (0, 0),
-    (1, 0),
-    (2, 0),
-    (3, 0),
-    (4, 0),
-    (5, 0),
-    (6, 0),
-    (7, 0),
-    (8, 0),
-    (9, 0),
-    (10, 0),
-    (11, 0),
-    (12, 0),
-    (13, 0),
-    (14, 0),
-    (15, 0),
+const INLETS: &[(u32, u32)] = pairs![
+    0 => 0, 1 => 0, 2 => 0, 3 => 0, 4 => 0, 5 => 0, 6 => 0, 7 => 0,
+    8 => 0, 9 => 0, 10 => 0, 11 => 0, 12 => 0, 13 => 0, 14 => 0, 15 => 0,
 ];
 
 /// Inlets, detectors, limits and chances.
-const LISTS: &[Judged] = &[
-    (
-        Parts {
-            inlets: &[(10, 0)],
-            ..FREE
-        },
-        None,
-    ),
-    (
-        Parts {
-            inlets: &[(11, 0)],
-            ..FREE
-        },
-        Some(Fault::Inlets),
-    ),
-    (
-        Parts {
-            inlets: &[(4_294_967_295, 0)],
-            ..FREE
-        },
-        Some(Fault::Inlets),
-    ),
-    (
-        Parts {
-            inlets: &[],
-            ..FREE
-        },
-        Some(Fault::Inlets),
-    ),
-    (
-        Parts {
-            inlets: &[(3, 0), (0, 0)],
-            ..FREE
-        },
-        None,
-    ),
-    (
-        Parts {
-            inlets: &[(3, 1), (3, 0)],
-            ..FREE
-        },
-        Some(Fault::Inlets),
-    ),
-    (
-        Parts {
-            inlets: &[(0, 0), (1, 0), (2, 0), (1, 0)],
-            ..FREE
-        },
-        Some(Fault::Inlets),
-    ),
-    (
-        Parts {
-            road: (32, 1, 32),
-            inlets: INLETS,
-            ..FREE
-        },
-        None,
-    ),
-    (
-        Parts {
-            road: (32, 1, 32),
-            inlets: &[(0, 0); 17],
-            ..FREE
-        },
-        Some(Fault::Inlets),
-    ),
-    (
-        Parts {
-            detectors: &[],
-            ..FREE
-        },
-        None,
-    ),
-    (
-        Parts {
-            detectors: &[10, 1, 1, 10],
-            ..FREE
-        },
-        None,
-    ),
-    (
-        Parts {
-            detectors: &[0],
-            ..FREE
-        },
-        Some(Fault::Detectors),
-    ),
-    (
-        Parts {
-            detectors: &[5, 11],
-            ..FREE
-        },
-        Some(Fault::Detectors),
-    ),
-    (
-        Parts {
-            detectors: &[5; 64],
-            ..FREE
-        },
-        None,
-    ),
-    (
-        Parts {
-            detectors: &[5; 65],
-            ..FREE
-        },
-        Some(Fault::Detectors),
-    ),
-    (
-        Parts {
-            zones: &[(9, 65_536)],
-            ..FREE
-        },
-        None,
-    ),
-    (
-        Parts {
-            zones: &[(0, 0)],
-            ..FREE
-        },
-        None,
-    ),
-    (
-        Parts {
-            zones: &[(10, 0)],
-            ..FREE
-        },
-        Some(Fault::Default),
-    ),
-    (
-        Parts {
-            zones: &[(2, 65_537)],
-            ..FREE
-        },
-        Some(Fault::Default),
-    ),
-    (
-        Parts {
-            inlets: &[(0, 65_537)],
-            ..FREE
-        },
-        Some(Fault::Default),
-    ),
+const LISTS: &[Judged] = parts_pairs![
+    { inlets: &[(10, 0)] } => None,
+    { inlets: &[(11, 0)] } => Some(Fault::Inlets),
+    { inlets: &[(4_294_967_295, 0)] } => Some(Fault::Inlets),
+    { inlets: &[] } => Some(Fault::Inlets),
+    { inlets: &[(3, 0), (0, 0)] } => None,
+    { inlets: &[(3, 1), (3, 0)] } => Some(Fault::Inlets),
+    { inlets: &[(0, 0), (1, 0), (2, 0), (1, 0)] } => Some(Fault::Inlets),
+    { road: (32, 1, 32), inlets: INLETS } => None,
+    { road: (32, 1, 32), inlets: &[(0, 0); 17] } => Some(Fault::Inlets),
+    { detectors: &[] } => None,
+    { detectors: &[10, 1, 1, 10] } => None,
+    { detectors: &[0] } => Some(Fault::Detectors),
+    { detectors: &[5, 11] } => Some(Fault::Detectors),
+    { detectors: &[5; 64] } => None,
+    { detectors: &[5; 65] } => Some(Fault::Detectors),
+    { zones: &[(9, 65_536)] } => None,
+    { zones: &[(0, 0)] } => None,
+    { zones: &[(10, 0)] } => Some(Fault::Default),
+    { zones: &[(2, 65_537)] } => Some(Fault::Default),
+    { inlets: &[(0, 65_537)] } => Some(Fault::Default),
 ];
 
 /// Of two faults the earlier is named: each row goes wrong at one place later than the row before.
-const FAULTS: &[Judged] = &[
-    (
-        Parts {
-            road: (7, 12, 0),
-            zones: &[(10, 0)],
-            inlets: &[(11, 0)],
-            detectors: &[0],
-            ..FREE
-        },
-        Some(Fault::Length),
-    ),
-    (
-        Parts {
-            road: (12, 12, 0),
-            zones: &[(10, 0)],
-            inlets: &[(11, 0)],
-            detectors: &[0],
-            ..FREE
-        },
-        Some(Fault::Exit),
-    ),
-    (
-        Parts {
-            road: (12, 1, 0),
-            zones: &[(10, 0)],
-            inlets: &[(11, 0)],
-            detectors: &[0],
-            ..FREE
-        },
-        Some(Fault::Zones),
-    ),
-    (
-        Parts {
-            road: (12, 1, 12),
-            zones: &[(10, 0)],
-            inlets: &[(11, 0)],
-            detectors: &[0],
-            ..FREE
-        },
-        Some(Fault::Inlets),
-    ),
-    (
-        Parts {
-            road: (12, 1, 12),
-            zones: &[(10, 0)],
-            inlets: &[(0, 0)],
-            detectors: &[0],
-            ..FREE
-        },
-        Some(Fault::Detectors),
-    ),
-    (
-        Parts {
-            road: (12, 1, 12),
-            zones: &[(10, 0)],
-            inlets: &[(0, 0)],
-            detectors: &[5],
-            ..FREE
-        },
-        Some(Fault::Default),
-    ),
+const FAULTS: &[Judged] = parts_pairs![
+    { road: (7, 12, 0), zones: &[(10, 0)], inlets: &[(11, 0)], detectors: &[0] } => Some(Fault::Length),
+    { road: (12, 12, 0), zones: &[(10, 0)], inlets: &[(11, 0)], detectors: &[0] } => Some(Fault::Exit),
+    { road: (12, 1, 0), zones: &[(10, 0)], inlets: &[(11, 0)], detectors: &[0] } => Some(Fault::Zones),
+    { road: (12, 1, 12), zones: &[(10, 0)], inlets: &[(11, 0)], detectors: &[0] } => Some(Fault::Inlets),
+    { road: (12, 1, 12), zones: &[(10, 0)], inlets: &[(0, 0)], detectors: &[0] } => Some(Fault::Detectors),
+    { road: (12, 1, 12), zones: &[(10, 0)], inlets: &[(0, 0)], detectors: &[5] } => Some(Fault::Default),
 ];
 
 // Each of these parts is refused by its fault, or accepted.
@@ -473,32 +138,22 @@ type Numbers = (
 const OWN: Numbers = (&[2, 1], &[10, 20], &[30], &[], 2, &[10, 20]);
 
 /// Settings, and whether they fit the plan of two zones.
-const FITTING: &[(Numbers, bool)] = &[
-    (OWN, true),
-    (
-        (
-            &[9, 0],
-            &[65_536, 0],
-            &[65_536],
-            &[0, 5, 11],
-            2,
-            &[0, 65_536],
-        ),
-        true,
-    ),
-    ((&[2], &[10, 20], &[30], &[], 2, &[10, 20]), false),
-    ((&[2, 1], &[10, 20, 0], &[30], &[], 2, &[10, 20]), false),
-    ((&[2, 1], &[10, 20], &[], &[], 2, &[10, 20]), false),
-    ((&[2, 1], &[10, 20], &[30], &[], 1, &[10, 20]), false),
-    ((&[2, 1], &[10, 20], &[30], &[], 2, &[10]), false),
-    ((&[2, 10], &[10, 20], &[30], &[], 2, &[10, 20]), false),
-    ((&[2, 1], &[65_537, 20], &[30], &[], 2, &[10, 20]), false),
-    ((&[2, 1], &[10, 20], &[65_537], &[], 2, &[10, 20]), false),
-    ((&[2, 1], &[10, 20], &[30], &[], 2, &[10, 65_537]), false),
-    ((&[2, 1], &[10, 20], &[30], &[12], 2, &[10, 20]), false),
-    ((&[2, 1], &[10, 20], &[30], &[5, 3], 2, &[10, 20]), false),
-    ((&[2, 1], &[10, 20], &[30], &[3, 3], 2, &[10, 20]), false),
-    ((&[2, 1], &[10, 20], &[30], &[3, 4], 2, &[10, 20]), true),
+const FITTING: &[(Numbers, bool)] = pairs![
+    OWN => true,
+    (&[9, 0], &[65_536, 0], &[65_536], &[0, 5, 11], 2, &[0, 65_536]) => true,
+    (&[2], &[10, 20], &[30], &[], 2, &[10, 20]) => false,
+    (&[2, 1], &[10, 20, 0], &[30], &[], 2, &[10, 20]) => false,
+    (&[2, 1], &[10, 20], &[], &[], 2, &[10, 20]) => false,
+    (&[2, 1], &[10, 20], &[30], &[], 1, &[10, 20]) => false,
+    (&[2, 1], &[10, 20], &[30], &[], 2, &[10]) => false,
+    (&[2, 10], &[10, 20], &[30], &[], 2, &[10, 20]) => false,
+    (&[2, 1], &[65_537, 20], &[30], &[], 2, &[10, 20]) => false,
+    (&[2, 1], &[10, 20], &[65_537], &[], 2, &[10, 20]) => false,
+    (&[2, 1], &[10, 20], &[30], &[], 2, &[10, 65_537]) => false,
+    (&[2, 1], &[10, 20], &[30], &[12], 2, &[10, 20]) => false,
+    (&[2, 1], &[10, 20], &[30], &[5, 3], 2, &[10, 20]) => false,
+    (&[2, 1], &[10, 20], &[30], &[3, 3], 2, &[10, 20]) => false,
+    (&[2, 1], &[10, 20], &[30], &[3, 4], 2, &[10, 20]) => true,
 ];
 
 // Tells whether settings have these numbers, and all detectors are on.

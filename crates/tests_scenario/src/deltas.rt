@@ -6,7 +6,7 @@ use road_scenario::{Edit, OutOfMemory, Scenario, Stamp, Value};
 use std::alloc::Global;
 use std::process::Abort;
 use std::test::Fail;
-use tests_plans::{BLOCK, FREE, LIMIT, edit, head, plan_of};
+use tests_plans::{BLOCK, FREE, LIMIT, edit, head, pairs, plan_of};
 
 /// A limit that A put, and the one that B put later at the same step.
 const FIRST_LIMIT: Edit = edit!(LIMIT, 3, (1, 0), 1);
@@ -31,62 +31,25 @@ const HEADS_OF_A: &[Head] = &[
 ];
 
 /// What one replica holds and tells by heads, what another holds, and what it sends: the edits beyond those heads.
-#[derive(Clone, Copy)]
-struct Exchange {
-    asking: &'static [Edit],
-    heads: &'static [Head],
-    asked: &'static [Edit],
-    sent: &'static [Edit],
-}
+type Exchange = (
+    (&'static [Edit], &'static [Head]),
+    (&'static [Edit], &'static [Edit]),
+);
 
-const EXCHANGES: &[Exchange] = &[
+const EXCHANGES: &[Exchange] = pairs![
     // B's limit is newer than A's; the block has the same stamp and is sent again.
-    Exchange {
-        asking: &[LIMIT_OF_B, BLOCKED],
-        heads: &[head!(LIMIT, 3, (3, 1)), head!(BLOCK, 4, (2, 0))],
-        asked: HELD_BY_A,
-        sent: &[LATER_LIMIT, BLOCKED],
-    },
+    (&[LIMIT_OF_B, BLOCKED], &[head!(LIMIT, 3, (3, 1)), head!(BLOCK, 4, (2, 0))]) =>
+        (HELD_BY_A, &[LATER_LIMIT, BLOCKED]),
     // B's limit is newer than the head.
-    Exchange {
-        asking: HELD_BY_A,
-        heads: HEADS_OF_A,
-        asked: &[LIMIT_OF_B, BLOCKED],
-        sent: &[LIMIT_OF_B, BLOCKED],
-    },
+    (HELD_BY_A, HEADS_OF_A) => (&[LIMIT_OF_B, BLOCKED], &[LIMIT_OF_B, BLOCKED]),
     // Beyond one's own heads is all that one holds.
-    Exchange {
-        asking: HELD_BY_A,
-        heads: HEADS_OF_A,
-        asked: HELD_BY_A,
-        sent: HELD_BY_A,
-    },
+    (HELD_BY_A, HEADS_OF_A) => (HELD_BY_A, HELD_BY_A),
     // Of equal counts the number decides.
-    Exchange {
-        asking: &[LIMIT_OF_B],
-        heads: &[head!(LIMIT, 3, (3, 1))],
-        asked: &[LIMIT_OF_A, LATER_LIMIT],
-        sent: &[LATER_LIMIT],
-    },
-    Exchange {
-        asking: &[LIMIT_OF_A],
-        heads: &[head!(LIMIT, 3, (3, 0))],
-        asked: &[LIMIT_OF_B],
-        sent: &[LIMIT_OF_B],
-    },
+    (&[LIMIT_OF_B], &[head!(LIMIT, 3, (3, 1))]) => (&[LIMIT_OF_A, LATER_LIMIT], &[LATER_LIMIT]),
+    (&[LIMIT_OF_A], &[head!(LIMIT, 3, (3, 0))]) => (&[LIMIT_OF_B], &[LIMIT_OF_B]),
     // Nothing is told, or nothing is held.
-    Exchange {
-        asking: &[],
-        heads: &[],
-        asked: HELD_BY_A,
-        sent: HELD_BY_A,
-    },
-    Exchange {
-        asking: HELD_BY_A,
-        heads: HEADS_OF_A,
-        asked: &[],
-        sent: &[],
-    },
+    (&[], &[]) => (HELD_BY_A, HELD_BY_A),
+    (HELD_BY_A, HEADS_OF_A) => (&[], &[]),
 ];
 
 // Returns what one replica sends another that tells its heads.
@@ -136,12 +99,10 @@ fn sends(
 
 // Tells whether an exchange goes as it should.
 fn goes(alloc: Global, plan: &Plan, exchange: &Exchange) -> Result<bool, OutOfMemory> {
-    let asking = Scenario::of_edits(alloc, exchange.asking)?;
-    let asked = Scenario::of_edits(alloc, exchange.asked)?;
-    Ok(
-        tells(alloc, &asking, exchange.heads)?
-            && sends(alloc, plan, &asking, &asked, exchange.sent)?,
-    )
+    let ((asking, heads), (asked, sent)) = *exchange;
+    let asking = Scenario::of_edits(alloc, asking)?;
+    let asked = Scenario::of_edits(alloc, asked)?;
+    Ok(tells(alloc, &asking, heads)? && sends(alloc, plan, &asking, &asked, sent)?)
 }
 
 #[test]
@@ -156,22 +117,12 @@ fn replicas_exchange_edits(rt: HostRuntime) -> Result<(), Fail> {
 /// The limits that are put, one at each step.
 const LIMITS: u32 = 2_900;
 
-// Returns the limit that is put at a step, with this count.
-fn limit_at(step: u32, count: u64) -> Edit {
-    Edit {
-        object: LIMIT,
-        step,
-        stamp: Stamp { count, number: 0 },
-        value: Value::Put(1),
-    }
-}
-
 // Makes a limit put at each step, the last step first: at even steps with one count and at odd steps with another.
 fn limits(alloc: Global, even: u64, odd: u64) -> Result<Vec<Edit>, OutOfMemory> {
     let mut edits = Vec::new(alloc);
     for step in (0..LIMITS).rev() {
         let count = if step % 2 == 0 { even } else { odd };
-        edits.push(limit_at(step, count))?;
+        edits.push(edit!(LIMIT, step, (count, 0), 1))?;
     }
     Ok(edits)
 }

@@ -6,7 +6,7 @@ use road_scenario::{Edit, EditFault, OutOfMemory, Scenario, Stamp, Value};
 use std::alloc::Global;
 use std::process::Abort;
 use std::test::Fail;
-use tests_plans::{BLOCK, FREE, INFLOW, LIMIT, START, edit, plan_of};
+use tests_plans::{BLOCK, FREE, INFLOW, LIMIT, START, edit, pairs, plan_of};
 
 mod plain;
 mod stretches;
@@ -24,11 +24,8 @@ fn scenario(alloc: Global, edits: &[Edit]) -> Result<Scenario, OutOfMemory> {
 
 /// Edits that a replica holds, and others that come to it: what is listed then, the touched step, the greatest count.
 type Merge = (
-    &'static [Edit],
-    &'static [Edit],
-    &'static [Edit],
-    Option<u32>,
-    u64,
+    (&'static [Edit], &'static [Edit]),
+    (&'static [Edit], Option<u32>, u64),
 );
 
 /// Two imports with one stamp: the greater number wins at both replicas, whichever came first.
@@ -67,63 +64,27 @@ const STARTED_LATER: Edit = edit!(START, 4, (1, 64), 0);
 
 const NO_START: Edit = edit!(START, 2, (4, 0), withdrawn);
 
-const MERGES: &[Merge] = &[
-    (&[], &[], &[], None, 0),
-    (&[], &[TWO], &[TWO], Some(0), 7),
-    (&[TWO], &[THREE], &[THREE], Some(0), 7),
-    (&[], &[THREE], &[THREE], Some(0), 7),
-    (&[THREE], &[TWO], &[THREE], None, 7),
-    (&[], &[ONE], &[ONE], Some(3), 1),
-    (&[ONE], &[NEXT], &[NEXT], Some(3), 2),
-    (&[], &[ONE, NEXT], &[NEXT], Some(3), 2),
-    (&[ONE, NEXT], &[ONE], &[NEXT], None, 2),
-    (&[BLOCKED], &[FREED], &[FREED], Some(4), 2),
-    (&[BLOCKED, FREED], &[BLOCKED], &[FREED], None, 2),
-    (&[NO_LIMIT], &[NO_SLOW], &[NO_LIMIT, NO_SLOW], None, 3),
-    (&[], &[NO_SLOW, FREED], &[NO_SLOW, FREED], None, 3),
-    (&[BLOCKED, LATE], &[ONE], &[ONE, LATE, BLOCKED], Some(3), 3),
-    (
-        &[BLOCKED, LATE, ONE],
-        &[NO_SLOW, EARLY],
-        &[EARLY, LATE, NO_SLOW, BLOCKED],
-        Some(3),
-        3,
-    ),
-    (
-        &[NO_SLOW, EARLY],
-        &[BLOCKED, LATE, ONE],
-        &[EARLY, LATE, NO_SLOW, BLOCKED],
-        Some(4),
-        3,
-    ),
-    (
-        &[SLOWED, SLOWED_LATER],
-        &[STARTED_LATER],
-        &[SLOWED, SLOWED_LATER, STARTED_LATER],
-        Some(4),
-        1,
-    ),
-    (
-        &[STARTED, BLOCKED],
-        &[SLOWED],
-        &[SLOWED, BLOCKED, STARTED],
-        Some(3),
-        1,
-    ),
-    (
-        &[STARTED, SLOWED_LATER],
-        &[NO_START],
-        &[SLOWED_LATER, NO_START],
-        Some(2),
-        4,
-    ),
-    (
-        &[STARTED_LATER, NO_START, STARTED],
-        &[STARTED, NO_SLOW],
-        &[NO_SLOW, NO_START, STARTED_LATER],
-        None,
-        4,
-    ),
+const MERGES: &[Merge] = pairs![
+    (&[], &[]) => (&[], None, 0),
+    (&[], &[TWO]) => (&[TWO], Some(0), 7),
+    (&[TWO], &[THREE]) => (&[THREE], Some(0), 7),
+    (&[], &[THREE]) => (&[THREE], Some(0), 7),
+    (&[THREE], &[TWO]) => (&[THREE], None, 7),
+    (&[], &[ONE]) => (&[ONE], Some(3), 1),
+    (&[ONE], &[NEXT]) => (&[NEXT], Some(3), 2),
+    (&[], &[ONE, NEXT]) => (&[NEXT], Some(3), 2),
+    (&[ONE, NEXT], &[ONE]) => (&[NEXT], None, 2),
+    (&[BLOCKED], &[FREED]) => (&[FREED], Some(4), 2),
+    (&[BLOCKED, FREED], &[BLOCKED]) => (&[FREED], None, 2),
+    (&[NO_LIMIT], &[NO_SLOW]) => (&[NO_LIMIT, NO_SLOW], None, 3),
+    (&[], &[NO_SLOW, FREED]) => (&[NO_SLOW, FREED], None, 3),
+    (&[BLOCKED, LATE], &[ONE]) => (&[ONE, LATE, BLOCKED], Some(3), 3),
+    (&[BLOCKED, LATE, ONE], &[NO_SLOW, EARLY]) => (&[EARLY, LATE, NO_SLOW, BLOCKED], Some(3), 3),
+    (&[NO_SLOW, EARLY], &[BLOCKED, LATE, ONE]) => (&[EARLY, LATE, NO_SLOW, BLOCKED], Some(4), 3),
+    (&[SLOWED, SLOWED_LATER], &[STARTED_LATER]) => (&[SLOWED, SLOWED_LATER, STARTED_LATER], Some(4), 1),
+    (&[STARTED, BLOCKED], &[SLOWED]) => (&[SLOWED, BLOCKED, STARTED], Some(3), 1),
+    (&[STARTED, SLOWED_LATER], &[NO_START]) => (&[SLOWED_LATER, NO_START], Some(2), 4),
+    (&[STARTED_LATER, NO_START, STARTED], &[STARTED, NO_SLOW]) => (&[NO_SLOW, NO_START, STARTED_LATER], None, 4),
 ];
 
 // Tells whether a copy of a scenario lists just these edits, in this order.
@@ -139,7 +100,7 @@ fn is_left(
     before: &Scenario,
     after: &Scenario,
 ) -> Result<bool, OutOfMemory> {
-    let (_, _, listed, touched, count) = *merge;
+    let (listed, touched, count) = merge.1;
     Ok(
         lists(alloc, after, listed)?
             && before.at_most(after)
@@ -161,13 +122,13 @@ fn joins(
 
 // Tells whether it is by the edits of the row.
 fn comes_to(alloc: Global, merge: &Merge, before: &Scenario) -> Result<bool, OutOfMemory> {
-    let come = scenario(alloc, merge.1)?;
+    let come = scenario(alloc, merge.0.1)?;
     joins(alloc, merge, before, &come)
 }
 
 // Tells whether the edits of a row come to a replica as they should.
 fn comes(alloc: Global, merge: &Merge) -> Result<bool, OutOfMemory> {
-    let before = scenario(alloc, merge.0)?;
+    let before = scenario(alloc, merge.0.0)?;
     comes_to(alloc, merge, &before)
 }
 
@@ -180,20 +141,14 @@ fn edits_come_to_a_replica(rt: HostRuntime) -> Result<(), Fail> {
 }
 
 /// Lists of edits in some order, and what is listed of the scenario that they make.
-const LISTS: &[(&[Edit], &[Edit])] = &[
-    (&[], &[]),
-    (&[TWO], &[TWO]),
-    (&[TWO, THREE], &[THREE]),
-    (&[THREE, TWO], &[THREE]),
-    (&[ONE, LATE, ONE], &[ONE, LATE]),
-    (
-        &[BLOCKED, LATE, ONE, NO_SLOW, EARLY],
-        &[EARLY, LATE, NO_SLOW, BLOCKED],
-    ),
-    (
-        &[FREED, NEXT, BLOCKED, NO_SLOW, ONE, LATE],
-        &[NEXT, LATE, NO_SLOW, FREED],
-    ),
+const LISTS: &[(&[Edit], &[Edit])] = pairs![
+    &[] => &[],
+    &[TWO] => &[TWO],
+    &[TWO, THREE] => &[THREE],
+    &[THREE, TWO] => &[THREE],
+    &[ONE, LATE, ONE] => &[ONE, LATE],
+    &[BLOCKED, LATE, ONE, NO_SLOW, EARLY] => &[EARLY, LATE, NO_SLOW, BLOCKED],
+    &[FREED, NEXT, BLOCKED, NO_SLOW, ONE, LATE] => &[NEXT, LATE, NO_SLOW, FREED],
 ];
 
 // Tells whether a list makes a scenario that lists these edits.
@@ -212,51 +167,29 @@ fn lists_make_scenarios(rt: HostRuntime) -> Result<(), Fail> {
 
 /// Edits, and the limit of the first zone at the steps 2, 4, 5 and 1,048,575: where a later put is withdrawn, the
 /// earlier one is in force on.
-const LIMITS: &[(&[Edit], [u32; 4])] = &[
-    (&[], [2, 2, 2, 2]),
-    (&[ONE], [2, 1, 1, 1]),
-    (&[ONE, edit!(LIMIT, 5, (2, 0), 0)], [2, 1, 0, 0]),
-    (
-        &[
-            ONE,
-            edit!(LIMIT, 5, (2, 0), 0),
-            edit!(LIMIT, 5, (3, 0), withdrawn),
-        ],
-        [2, 1, 1, 1],
-    ),
+const LIMITS: &[(&[Edit], [u32; 4])] = pairs![
+    &[] => [2, 2, 2, 2],
+    &[ONE] => [2, 1, 1, 1],
+    &[ONE, edit!(LIMIT, 5, (2, 0), 0)] => [2, 1, 0, 0],
+    &[ONE, edit!(LIMIT, 5, (2, 0), 0), edit!(LIMIT, 5, (3, 0), withdrawn)] => [2, 1, 1, 1],
 ];
 
 /// Edits, and the slowing chance of standing cars at the steps 2, 4, 5 and 1,048,575: where none is put for them it is
 /// that of all cars at that step, however late that is put.
-const STARTS: &[(&[Edit], [u32; 4])] = &[
-    (&[], [0, 0, 0, 0]),
-    (&[SLOWED], [0, 9, 9, 9]),
-    (&[SLOWED_LATER, SLOWED], [0, 9, 8, 8]),
-    (&[STARTED], [7, 7, 7, 7]),
-    (&[STARTED, SLOWED], [7, 7, 7, 7]),
-    (&[SLOWED, SLOWED_LATER, STARTED], [7, 7, 7, 7]),
-    (&[SLOWED, SLOWED_LATER, STARTED_LATER], [0, 0, 0, 0]),
-    (&[STARTED, STARTED_LATER], [7, 0, 0, 0]),
-    (&[STARTED, SLOWED, NO_START], [0, 9, 9, 9]),
-    (&[NO_START, SLOWED, STARTED, SLOWED_LATER], [0, 9, 8, 8]),
-    (&[NO_SLOW, SLOWED], [0, 9, 9, 9]),
-    (
-        &[
-            STARTED,
-            SLOWED,
-            STARTED_LATER,
-            edit!(START, 4, (4, 0), withdrawn),
-        ],
-        [7, 7, 7, 7],
-    ),
-    (
-        &[
-            STARTED_LATER,
-            SLOWED_LATER,
-            edit!(START, 4, (4, 0), withdrawn),
-        ],
-        [0, 0, 8, 8],
-    ),
+const STARTS: &[(&[Edit], [u32; 4])] = pairs![
+    &[] => [0, 0, 0, 0],
+    &[SLOWED] => [0, 9, 9, 9],
+    &[SLOWED_LATER, SLOWED] => [0, 9, 8, 8],
+    &[STARTED] => [7, 7, 7, 7],
+    &[STARTED, SLOWED] => [7, 7, 7, 7],
+    &[SLOWED, SLOWED_LATER, STARTED] => [7, 7, 7, 7],
+    &[SLOWED, SLOWED_LATER, STARTED_LATER] => [0, 0, 0, 0],
+    &[STARTED, STARTED_LATER] => [7, 0, 0, 0],
+    &[STARTED, SLOWED, NO_START] => [0, 9, 9, 9],
+    &[NO_START, SLOWED, STARTED, SLOWED_LATER] => [0, 9, 8, 8],
+    &[NO_SLOW, SLOWED] => [0, 9, 9, 9],
+    &[STARTED, SLOWED, STARTED_LATER, edit!(START, 4, (4, 0), withdrawn)] => [7, 7, 7, 7],
+    &[STARTED_LATER, SLOWED_LATER, edit!(START, 4, (4, 0), withdrawn)] => [0, 0, 8, 8],
 ];
 
 // Returns the number of an object at a step.
@@ -325,61 +258,33 @@ const ALL_KINDS: &[Edit] = &[
 ];
 
 /// Limits, slowing chances, inflows and blocked cells, whether the detector is on, and the chances of standing cars.
-#[derive(Clone, Copy)]
-struct Numbers {
-    limits: &'static [u32],
-    chances: &'static [u32],
-    inflows: &'static [u32],
-    blocks: &'static [u32],
-    watched: &'static [bool],
-    starts: &'static [u32],
-}
+type Numbers = (
+    &'static [u32],
+    &'static [u32],
+    &'static [u32],
+    &'static [u32],
+    &'static [bool],
+    &'static [u32],
+);
 
 /// Steps, and the settings of the free road that these edits give.
-const SETTINGS: &[(u32, Numbers)] = &[
-    (
-        1,
-        Numbers {
-            limits: &[2],
-            chances: &[0],
-            inflows: &[65_536],
-            blocks: &[],
-            watched: &[true],
-            starts: &[0],
-        },
-    ),
-    (
-        2,
-        Numbers {
-            limits: &[0],
-            chances: &[65_536],
-            inflows: &[9],
-            blocks: &[3, 8],
-            watched: &[false],
-            starts: &[65_536],
-        },
-    ),
-    (
-        1_048_576,
-        Numbers {
-            limits: &[9],
-            chances: &[65_536],
-            inflows: &[9],
-            blocks: &[3, 8],
-            watched: &[false],
-            starts: &[7],
-        },
-    ),
+const SETTINGS: &[(u32, Numbers)] = pairs![
+    1 => (&[2], &[0], &[65_536], &[], &[true], &[0]),
+    2 => (&[0], &[65_536], &[9], &[3, 8], &[false], &[65_536]),
+    1_048_576 => (&[9], &[65_536], &[9], &[3, 8], &[false], &[7]),
 ];
 
 // Tells whether settings have these numbers.
-fn have(settings: &Settings, numbers: &Numbers) -> bool {
-    settings.limits() == numbers.limits
-        && settings.chances() == numbers.chances
-        && settings.inflows() == numbers.inflows
-        && settings.blocks() == numbers.blocks
-        && settings.watched() == numbers.watched
-        && settings.starts() == numbers.starts
+fn have(
+    settings: &Settings,
+    (limits, chances, inflows, blocks, watched, starts): &Numbers,
+) -> bool {
+    settings.limits() == *limits
+        && settings.chances() == *chances
+        && settings.inflows() == *inflows
+        && settings.blocks() == *blocks
+        && settings.watched() == *watched
+        && settings.starts() == *starts
 }
 
 // Tells whether a scenario acts so at a step.
@@ -423,81 +328,35 @@ fn edits_of_all_kinds_act(rt: HostRuntime) -> Result<(), Fail> {
 }
 
 /// An edit, and how the plan of the free road refuses it. A count is 1 to 2^48.
-const FAULTS: &[(Edit, Option<EditFault>)] = &[
-    (
-        edit!(Object::Limit(1), 0, (1, 0), 1),
-        Some(EditFault::NoObject),
-    ),
-    (
-        edit!(Object::Block(12), 0, (1, 0), 1),
-        Some(EditFault::NoObject),
-    ),
-    (
-        edit!(Object::Limit(1), 1_048_576, (0, 0), 10),
-        Some(EditFault::NoObject),
-    ),
-    (edit!(LIMIT, 1_048_576, (1, 0), 1), Some(EditFault::Step)),
-    (
-        edit!(LIMIT, 1_048_575, (1, 0), 10),
-        Some(EditFault::ValueOutOfRange),
-    ),
-    (
-        edit!(LIMIT, 1_048_575, (0, 0), 10),
-        Some(EditFault::ValueOutOfRange),
-    ),
-    (edit!(LIMIT, 0, (0, 64), 1), Some(EditFault::Count)),
-    (
-        edit!(LIMIT, 0, (281_474_976_710_657, 64), 1),
-        Some(EditFault::Count),
-    ),
-    (edit!(LIMIT, 0, (0, 64), withdrawn), Some(EditFault::Count)),
-    (edit!(LIMIT, 0, (281_474_976_710_656, 64), 1), None),
-    (edit!(LIMIT, 1_048_575, (1, 0), 9), None),
-    (edit!(LIMIT, 1_048_575, (1, 0), withdrawn), None),
-    (edit!(LIMIT, 65_536, (1, 0), 1), None),
-    (
-        edit!(Object::Start(1), 1_048_576, (0, 0), 65_537),
-        Some(EditFault::NoObject),
-    ),
-    (
-        edit!(START, 1_048_576, (1, 64), 65_537),
-        Some(EditFault::Step),
-    ),
-    (
-        edit!(START, 2, (1, 64), 65_537),
-        Some(EditFault::ValueOutOfRange),
-    ),
-    (edit!(START, 1_048_575, (1, 64), 65_536), None),
-    (NO_START, None),
+const FAULTS: &[(Edit, Option<EditFault>)] = pairs![
+    edit!(Object::Limit(1), 0, (1, 0), 1) => Some(EditFault::NoObject),
+    edit!(Object::Block(12), 0, (1, 0), 1) => Some(EditFault::NoObject),
+    edit!(Object::Limit(1), 1_048_576, (0, 0), 10) => Some(EditFault::NoObject),
+    edit!(LIMIT, 1_048_576, (1, 0), 1) => Some(EditFault::Step),
+    edit!(LIMIT, 1_048_575, (1, 0), 10) => Some(EditFault::ValueOutOfRange),
+    edit!(LIMIT, 1_048_575, (0, 0), 10) => Some(EditFault::ValueOutOfRange),
+    edit!(LIMIT, 0, (0, 64), 1) => Some(EditFault::Count),
+    edit!(LIMIT, 0, (281_474_976_710_657, 64), 1) => Some(EditFault::Count),
+    edit!(LIMIT, 0, (0, 64), withdrawn) => Some(EditFault::Count),
+    edit!(LIMIT, 0, (281_474_976_710_656, 64), 1) => None,
+    edit!(LIMIT, 1_048_575, (1, 0), 9) => None,
+    edit!(LIMIT, 1_048_575, (1, 0), withdrawn) => None,
+    edit!(LIMIT, 65_536, (1, 0), 1) => None,
+    edit!(Object::Start(1), 1_048_576, (0, 0), 65_537) => Some(EditFault::NoObject),
+    edit!(START, 1_048_576, (1, 64), 65_537) => Some(EditFault::Step),
+    edit!(START, 2, (1, 64), 65_537) => Some(EditFault::ValueOutOfRange),
+    edit!(START, 1_048_575, (1, 64), 65_536) => None,
+    NO_START => None,
 ];
 
 /// Edits, and the fault of the first faulty one by object and step, whichever came first.
-const FIRST_FAULTS: &[(&[Edit], Option<EditFault>)] = &[
-    (&[], None),
-    (&[edit!(LIMIT, 8, (3, 0), 1)], None),
-    (
-        &[
-            edit!(BLOCK, 4, (1, 0), 2),
-            edit!(LIMIT, 1_048_576, (2, 0), 1),
-        ],
-        Some(EditFault::Step),
-    ),
-    (
-        &[
-            edit!(BLOCK, 4, (1, 0), 2),
-            edit!(LIMIT, 1_048_576, (2, 0), 1),
-            edit!(LIMIT, 9, (2, 0), 10),
-            edit!(LIMIT, 8, (3, 0), 1),
-        ],
+const FIRST_FAULTS: &[(&[Edit], Option<EditFault>)] = pairs![
+    &[] => None,
+    &[edit!(LIMIT, 8, (3, 0), 1)] => None,
+    &[edit!(BLOCK, 4, (1, 0), 2), edit!(LIMIT, 1_048_576, (2, 0), 1)] => Some(EditFault::Step),
+    &[edit!(BLOCK, 4, (1, 0), 2), edit!(LIMIT, 1_048_576, (2, 0), 1), edit!(LIMIT, 9, (2, 0), 10), edit!(LIMIT, 8, (3, 0), 1)] =>
         Some(EditFault::ValueOutOfRange),
-    ),
-    (
-        &[
-            edit!(START, 0, (1, 64), 65_537),
-            edit!(Object::Watch(0), 1_048_576, (1, 64), 9),
-        ],
-        Some(EditFault::Step),
-    ),
+    &[edit!(START, 0, (1, 64), 65_537), edit!(Object::Watch(0), 1_048_576, (1, 64), 9)] => Some(EditFault::Step),
 ];
 
 #[test]
@@ -546,22 +405,12 @@ fn scenarios_are_a_lattice(rt: HostRuntime) -> Result<(), Fail> {
     Ok(())
 }
 
-// Makes an edit of the first zone's limit.
-fn limit_edit(step: u32, count: u64, value: Value) -> Edit {
-    Edit {
-        object: LIMIT,
-        step,
-        stamp: Stamp { count, number: 0 },
-        value,
-    }
-}
-
 #[test]
 fn edits_are_ordered_by_step_then_stamp_then_value(rt: HostRuntime) -> Result<(), Fail> {
-    let later = limit_edit(5, 1, Value::Put(1));
-    assert!(rt; later > limit_edit(3, 2, Value::Put(1)));
-    assert!(rt; later < limit_edit(5, 2, Value::Withdrawn));
-    assert!(rt; later > limit_edit(5, 1, Value::Withdrawn));
-    assert!(rt; later < limit_edit(5, 1, Value::Put(2)));
+    let later = edit!(LIMIT, 5, (1, 0), 1);
+    assert!(rt; later > edit!(LIMIT, 3, (2, 0), 1));
+    assert!(rt; later < edit!(LIMIT, 5, (2, 0), withdrawn));
+    assert!(rt; later > edit!(LIMIT, 5, (1, 0), withdrawn));
+    assert!(rt; later < edit!(LIMIT, 5, (1, 0), 2));
     Ok(())
 }

@@ -9,7 +9,7 @@ use std::alloc::Global;
 use std::process::Abort;
 use std::sync::Arc;
 use std::test::Fail;
-use tests_plans::{FREE, Parts, cars, plan_of};
+use tests_plans::{FREE, Parts, cars, pairs, plan_of};
 
 // Makes the input of a step on a road, where the first detector is on or off.
 fn input_of(
@@ -35,54 +35,18 @@ fn counted(rt: &impl Abort, input: &StepInput, speeds: &[u8], detector: u32) -> 
     passes(input, speeds, detector)
 }
 
-/// Steps of the free road, counted from the first to before the last.
-#[derive(Clone, Copy)]
-struct Count {
-    /// The steps between which the detector is off.
-    off: (u32, u32),
-    steps: (u32, u32),
-    cars: u32,
-    speeds: u32,
-}
+/// The steps of the free road between which the detector is off, the steps that are counted, from the first to before the
+/// last, and the cars and speeds.
+type Count = (((u32, u32), (u32, u32)), (u32, u32));
 
 /// The first car drives from cell 3 to 5 in step 2, the second one in step 4.
-const COUNTS: &[Count] = &[
-    Count {
-        off: (9, 9),
-        steps: (0, 3),
-        cars: 1,
-        speeds: 2,
-    },
-    Count {
-        off: (9, 9),
-        steps: (0, 6),
-        cars: 2,
-        speeds: 4,
-    },
-    Count {
-        off: (9, 9),
-        steps: (2, 2),
-        cars: 0,
-        speeds: 0,
-    },
-    Count {
-        off: (9, 9),
-        steps: (3, 4),
-        cars: 0,
-        speeds: 0,
-    },
-    Count {
-        off: (2, 9),
-        steps: (0, 6),
-        cars: 0,
-        speeds: 0,
-    },
-    Count {
-        off: (2, 4),
-        steps: (0, 6),
-        cars: 1,
-        speeds: 2,
-    },
+const COUNTS: &[Count] = pairs![
+    ((9, 9), (0, 3)) => (1, 2),
+    ((9, 9), (0, 6)) => (2, 4),
+    ((9, 9), (2, 2)) => (0, 0),
+    ((9, 9), (3, 4)) => (0, 0),
+    ((2, 9), (0, 6)) => (0, 0),
+    ((2, 4), (0, 6)) => (1, 2),
 ];
 
 // Returns what the first detector counts in a step, and the road after it.
@@ -106,14 +70,14 @@ fn total(
     rt: &impl Abort,
     alloc: Global,
     plan: &Arc<Plan>,
-    count: &Count,
+    (off, steps): ((u32, u32), (u32, u32)),
 ) -> Result<Totals, OutOfMemory> {
     let mut road = Road::empty(alloc);
     let mut totals = Totals { cars: 0, speeds: 0 };
-    for step in 0..count.steps.1 {
-        let on = step < count.off.0 || count.off.1 <= step;
+    for step in 0..steps.1 {
+        let on = step < off.0 || off.1 <= step;
         let (counts, later) = step_counted(rt, alloc, plan, step, &road, on)?;
-        if count.steps.0 <= step {
+        if steps.0 <= step {
             totals.cars = totals.cars.saturating_add(counts.cars);
             totals.speeds = totals.speeds.saturating_add(counts.speeds);
         }
@@ -124,10 +88,10 @@ fn total(
 
 // Checks that the detector of the free road counts as each row says.
 fn totals_are_counted(rt: &impl Abort, alloc: Global, plan: &Arc<Plan>) -> Result<(), Fail> {
-    for (row, count) in COUNTS.iter().enumerate() {
-        let totals = total(rt, alloc, plan, count)?;
+    for (row, (count, (cars, speeds))) in COUNTS.iter().enumerate() {
+        let totals = total(rt, alloc, plan, *count)?;
         assert!(rt;
-            totals.cars == count.cars && totals.speeds == count.speeds,
+            totals.cars == *cars && totals.speeds == *speeds,
             "row {row}"
         );
     }

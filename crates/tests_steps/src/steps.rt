@@ -12,7 +12,7 @@ use std::sync::Arc;
 use std::test::Fail;
 use tests_plans::{
     BLOCKED_ROWS, CARS_AT_SIX, DENSE, DENSE_START, FREE, FREE_ROWS, HALF_SLOWED, Parts,
-    QUICK_TO_START_ROWS, SLOW_TO_START_ROWS, SLOWED_ROWS, cars, plan_of,
+    QUICK_TO_START_ROWS, SLOW_TO_START_ROWS, SLOWED_ROWS, cars, pairs, parts, parts_of, plan_of,
 };
 
 /// A road and its rows at rising steps. From a step on the only zone has another limit, from a step on a cell is
@@ -37,10 +37,7 @@ const FREE_ROAD: Example = Example {
 
 /// Every car is slowed by chance at every step.
 const ALWAYS_SLOWED: Example = Example {
-    parts: Parts {
-        zones: &[(2, 65_536)],
-        ..FREE
-    },
+    parts: parts!(zones: &[(2, 65_536)]),
     rows: SLOWED_ROWS,
     ..FREE_ROAD
 };
@@ -61,32 +58,20 @@ const SLOWED: Example = Example {
 
 /// The inlet's steady word at step 1 is 30,011 above its lower bits: not below an inflow of as much, below one more.
 const NOT_LET_IN: Example = Example {
-    parts: Parts {
-        inlets: &[(0, 30_011)],
-        words: WordKind::Steady,
-        ..FREE
-    },
+    parts: parts!(inlets: &[(0, 30_011)], words: WordKind::Steady),
     rows: &[(2, "...2........")],
     ..FREE_ROAD
 };
 
 const LET_IN: Example = Example {
-    parts: Parts {
-        inlets: &[(0, 30_012)],
-        words: WordKind::Steady,
-        ..FREE
-    },
+    parts: parts!(inlets: &[(0, 30_012)], words: WordKind::Steady),
     rows: &[(2, "0..2........")],
     ..FREE_ROAD
 };
 
 /// A deleted zone of 3 cells, and a limit of 1 in the second zone.
 const TWO_ZONES: Example = Example {
-    parts: Parts {
-        road: (12, 3, 6),
-        zones: &[(2, 0), (1, 0)],
-        ..FREE
-    },
+    parts: parts!(road: (12, 3, 6), zones: &[(2, 0), (1, 0)]),
     rows: &[(5, ".1...2..1..."), (6, "0..2...2....")],
     ..FREE_ROAD
 };
@@ -488,9 +473,17 @@ fn cars_after(alloc: Global, input: &Arc<StepInput>) -> Result<Vec<Car>, OutOfMe
     Ok(finish(alloc, input, &speeds)?.into_cars())
 }
 
-// Computes the cars after step 1 of a road with one car, or with none.
-fn after_step_one(alloc: Global, parts: &Parts, car: Option<Car>) -> Result<Vec<Car>, Fail> {
-    let plan = Arc::new(alloc, plan_of(alloc, parts)?)?;
+// Computes the cars after step 1 of the steady road with these inlets and zones, and one car or none.
+fn after_step_one(
+    alloc: Global,
+    inlets: &[(u32, u32)],
+    zones: &[(u32, u32)],
+    car: Option<Car>,
+) -> Result<Vec<Car>, Fail> {
+    let mut parts = parts_of(alloc, &STEADY)?;
+    parts.inlets = inlets.to_vec(alloc)?;
+    parts.zones = zones.to_vec(alloc)?;
+    let plan = Arc::new(alloc, Plan::new(parts)?)?;
     let road = match car {
         None => Road::empty(alloc),
         Some(car) => Road::of(vec![in alloc; car]?),
@@ -513,81 +506,26 @@ const NOT_SLOWED: &[Car] = cars![(16, 11, 4)];
 
 const ONCE_SLOWED: &[Car] = cars![(16, 10, 3)];
 
-/// Parts of a plan, the car on its road, if there is one, and the cars after step 1.
-const FIRST_STEPS: &[(Parts, Option<Car>, &[Car])] = &[
-    // inlet 3, at step 1: (3 * 40,503 + 30,011) mod 65,536 is 20,448, not below a chance of as much
-    (
-        Parts {
-            inlets: &[(20, 0), (5, 0), (10, 0), (0, 0)],
-            ..STEADY
-        },
-        None,
-        &[],
-    ),
-    (
-        Parts {
-            inlets: &[(20, 0), (5, 0), (10, 0), (0, 20_448)],
-            ..STEADY
-        },
-        None,
-        &[],
-    ),
-    (
-        Parts {
-            inlets: &[(20, 0), (5, 0), (10, 0), (0, 20_449)],
-            ..STEADY
-        },
-        None,
-        ENTERED,
-    ),
-    (
-        Parts {
-            inlets: &[(20, 0), (5, 0), (10, 0), (0, 65_536)],
-            ..STEADY
-        },
-        None,
-        ENTERED,
-    ),
-    // car 16 at step 1: (16 * 40,503 + 30,011) mod 65,536 is 22,699; the limit 5 and a free road let it come to 4
-    (
-        Parts {
-            zones: &[(5, 0)],
-            ..STEADY
-        },
-        Some(DRIVER),
-        NOT_SLOWED,
-    ),
-    (
-        Parts {
-            zones: &[(5, 22_699)],
-            ..STEADY
-        },
-        Some(DRIVER),
-        NOT_SLOWED,
-    ),
-    (
-        Parts {
-            zones: &[(5, 22_700)],
-            ..STEADY
-        },
-        Some(DRIVER),
-        ONCE_SLOWED,
-    ),
-    (
-        Parts {
-            zones: &[(5, 65_536)],
-            ..STEADY
-        },
-        Some(DRIVER),
-        ONCE_SLOWED,
-    ),
-];
+/// An inlet's chance, and the cars after step 1 of the empty road. Inlet 3, at step 1: (3 * 40,503 + 30,011) mod 65,536 is
+/// 20,448, not below a chance of as much.
+const ENTRIES: &[(u32, &[Car])] =
+    pairs![0 => &[], 20_448 => &[], 20_449 => ENTERED, 65_536 => ENTERED];
+
+/// A slowing chance, and the cars after step 1 of a road with that car. Car 16 at step 1: (16 * 40,503 + 30,011) mod 65,536
+/// is 22,699; the limit 5 and a free road let it come to 4.
+const SLOWINGS: &[(u32, &[Car])] =
+    pairs![0 => NOT_SLOWED, 22_699 => NOT_SLOWED, 22_700 => ONCE_SLOWED, 65_536 => ONCE_SLOWED];
 
 #[test]
 fn goes_by_the_words_of_each_inlet_and_car(rt: HostRuntime) -> Result<(), Fail> {
-    for (row, (parts, car, want)) in FIRST_STEPS.iter().enumerate() {
-        let cars = after_step_one(rt.alloc(), parts, *car)?;
-        assert!(rt; cars.as_slice() == *want, "row {row}");
+    for (chance, want) in ENTRIES {
+        let inlets = [(20, 0), (5, 0), (10, 0), (0, *chance)];
+        let cars = after_step_one(rt.alloc(), &inlets, &[(2, 0)], None)?;
+        assert!(rt; cars.as_slice() == *want, "inflow {chance}");
+    }
+    for (chance, want) in SLOWINGS {
+        let cars = after_step_one(rt.alloc(), &[(0, 0)], &[(5, *chance)], Some(DRIVER))?;
+        assert!(rt; cars.as_slice() == *want, "slowing {chance}");
     }
     Ok(())
 }

@@ -1,11 +1,12 @@
 //! Replicas that the same edits reach, in whatever order and however often.
 
-use crate::worlds::{B1, BLOCK, C1, LIMIT, holds, played, shows};
-use road_scenario::{Edit, Value};
+use crate::worlds::{holds, played, shows};
+use road_scenario::{Edit, Stamp, Value};
 use road_world::{Event, World};
 use std::alloc::Global;
 use std::process::Abort;
 use std::test::Fail;
+use tests_plans::{BLOCK, LIMIT, edit, event};
 
 /// Every order of three messages, twice.
 const ORDERS: [[u64; 6]; 6] = [
@@ -18,20 +19,7 @@ const ORDERS: [[u64; 6]; 6] = [
 ];
 
 /// What they agree on: of the two edits of the limit, with one count, that of the greater number.
-const AGREED: &[Edit] = &[
-    Edit {
-        object: LIMIT,
-        step: 3,
-        stamp: B1,
-        value: Value::Put(0),
-    },
-    Edit {
-        object: BLOCK,
-        step: 4,
-        stamp: C1,
-        value: Value::Put(1),
-    },
-];
+const AGREED: &[Edit] = &[edit!(LIMIT, 3, (1, 1), 0), edit!(BLOCK, 4, (1, 2), 1)];
 
 /// No car moves from step 3 on.
 const ROWS: &[(u32, &str)] = &[
@@ -47,12 +35,7 @@ fn apart(alloc: Global) -> Result<Vec<Event>, Fail> {
         events.push(Event::Advance { at, to: 6 })?;
     }
     for (at, object, step, value) in [(0, LIMIT, 3, 1), (1, LIMIT, 3, 0), (2, BLOCK, 4, 1)] {
-        events.push(Event::Edit {
-            at,
-            object,
-            step,
-            value,
-        })?;
+        events.push(event!(edit(at, object, step, value)))?;
         events.push(Event::Send { at })?;
     }
     Ok(events)

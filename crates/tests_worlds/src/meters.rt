@@ -1,6 +1,6 @@
 //! How many steps a meter counts for events, and what a world shows of its replicas by their numbers.
 
-use crate::worlds::{Answer, B1, BLOCK, answers};
+use crate::worlds::{Answer, B1, answers};
 use road_ends::Meter;
 use road_plan::Object;
 use road_replica::{ReplicaFault, Reply};
@@ -9,54 +9,30 @@ use road_world::{Event, Played, World, WorldFault, play};
 use std::alloc::Global;
 use std::sync::Arc;
 use std::test::Fail;
-use tests_plans::{FREE, plan_of};
+use tests_plans::{BLOCK, FREE, answered_events, plan_of};
 
-const EVENTS: [Event; 8] = [
-    Event::Advance { at: 0, to: 6 },
-    Event::Advance { at: 7, to: 1 },
-    Event::Edit {
-        at: 0,
-        object: Object::Limit(1),
-        step: 2,
-        value: 1,
-    },
-    Event::Advance {
-        at: 1,
-        to: 1_048_577,
-    },
-    Event::Edit {
-        at: 1,
-        object: BLOCK,
-        step: 4,
-        value: 1,
-    },
-    Event::Send { at: 1 },
-    Event::Take { at: 0, message: 0 },
-    Event::Take { at: 0, message: 0 },
-];
-
-const ANSWERED: [Answer; 8] = [
-    Ok(Reply::Horizon(6)),
-    Err(WorldFault::NoReplica),
-    Err(WorldFault::Replica(ReplicaFault::NoObject)),
-    Err(WorldFault::Replica(ReplicaFault::Horizon)),
-    Ok(Reply::Stamped(B1)),
-    Ok(Reply::Message(0)),
-    Ok(Reply::Touched(Some(4))),
-    Ok(Reply::Touched(None)),
+const EVENTS: ([Event; 8], [Answer; 8]) = answered_events![
+    advance(0, 6) => Ok(Reply::Horizon(6)),
+    advance(7, 1) => Err(WorldFault::NoReplica),
+    edit(0, Object::Limit(1), 2, 1) => Err(WorldFault::Replica(ReplicaFault::NoObject)),
+    advance(1, 1_048_577) => Err(WorldFault::Replica(ReplicaFault::Horizon)),
+    edit(1, BLOCK, 4, 1) => Ok(Reply::Stamped(B1)),
+    send(1) => Ok(Reply::Message(0)),
+    take(0, 0) => Ok(Reply::Touched(Some(4))),
+    take(0, 0) => Ok(Reply::Touched(None)),
 ];
 
 // Returns the world of two replicas after the events.
 fn played(alloc: Global, meter: &mut Meter) -> Result<Played, Fail> {
     let plan = Arc::new(alloc, plan_of(alloc, &FREE)?)?;
-    Ok(play(alloc, plan, 2, &EVENTS, &mut Alone, meter)?)
+    Ok(play(alloc, plan, 2, &EVENTS.0, &mut Alone, meter)?)
 }
 
 #[test]
 fn refused_events_and_messages_compute_nothing(rt: HostRuntime) -> Result<(), Fail> {
     let mut meter = Meter::new();
     let played = played(rt.alloc(), &mut meter)?;
-    answers(&rt, &played, &ANSWERED);
+    answers(&rt, &played, &EVENTS.1);
     // Six steps of the first advance, and as many again once the block comes.
     assert_eq!(&rt; meter.ticks(), 12);
     Ok(())

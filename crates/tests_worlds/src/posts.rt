@@ -1,37 +1,26 @@
 //! Messages that are made already: posted for their event, they are what the event would have made.
 
-use crate::worlds::{A1, BLOCK, holds};
+use crate::worlds::{Answer, holds};
 use road_ends::Meter;
 use road_replica::Reply;
-use road_scenario::{Edit, Value};
+use road_scenario::{Edit, Stamp, Value};
 use road_workers::Alone;
 use road_world::{Event, Message, World, WorldFault};
 use std::alloc::Global;
 use std::sync::Arc;
 use std::test::Fail;
-use tests_plans::{FREE, plan_of};
+use tests_plans::{BLOCK, FREE, edit, event, plan_of};
 
-const CLOSED: Edit = Edit {
-    object: BLOCK,
-    step: 4,
-    stamp: A1,
-    value: Value::Put(1),
-};
+const CLOSED: Edit = edit!(BLOCK, 4, (1, 0), 1);
 
 // Returns the world of three replicas of the free road, of which replica 0 has closed a cell, and 2 has run to step 6.
 fn opened(alloc: Global) -> Result<World, Fail> {
     let plan = Arc::new(alloc, plan_of(alloc, &FREE)?)?;
     let mut world = World::open(alloc, plan, 3)?;
     let mut meter = Meter::new();
-    let closed = Event::Edit {
-        at: 0,
-        object: BLOCK,
-        step: 4,
-        value: 1,
-    };
-    world.apply(alloc, &closed, &mut Alone, &mut meter)?;
-    let advanced = Event::Advance { at: 2, to: 6 };
-    world.apply(alloc, &advanced, &mut Alone, &mut meter)?;
+    for event in [event!(edit(0, BLOCK, 4, 1)), event!(advance(2, 6))] {
+        world.apply(alloc, &event, &mut Alone, &mut meter)?;
+    }
     Ok(world)
 }
 
@@ -65,6 +54,13 @@ fn post_answer(alloc: Global, world: &mut World, at: u32, message: u64) -> Resul
     Ok(world.post(&Event::Beyond { at, message }, answer)?)
 }
 
+/// Replicas that take these messages, and what that is answered: the first are heads.
+const TAKEN: &[(u32, u64, Answer)] = &[
+    (1, 0, Err(WorldFault::NoMessage)),
+    (1, 1, Ok(Reply::Touched(Some(4)))),
+    (2, 2, Ok(Reply::Touched(Some(4)))),
+];
+
 #[test]
 fn a_posted_message_is_that_of_its_event(rt: HostRuntime) -> Result<(), Fail> {
     let alloc = rt.alloc();
@@ -73,15 +69,11 @@ fn a_posted_message_is_that_of_its_event(rt: HostRuntime) -> Result<(), Fail> {
     assert_eq!(&rt; post_heads(alloc, &mut world, 1)?, 0);
     assert_eq!(&rt; post_answer(alloc, &mut world, 0, 0)?, 1);
     assert_eq!(&rt; post_whole(&mut world, 0)?, 2);
-    let wrong = Event::Take { at: 1, message: 0 };
-    let reply = world.apply(alloc, &wrong, &mut Alone, &mut meter);
-    assert!(&rt; reply == Err(WorldFault::NoMessage));
-    let answered = Event::Take { at: 1, message: 1 };
-    let reply = world.apply(alloc, &answered, &mut Alone, &mut meter);
-    assert!(&rt; reply == Ok(Reply::Touched(Some(4))));
-    let sent = Event::Take { at: 2, message: 2 };
-    let reply = world.apply(alloc, &sent, &mut Alone, &mut meter);
-    assert!(&rt; reply == Ok(Reply::Touched(Some(4))));
+    for (at, message, answer) in TAKEN {
+        let event = event!(take(*at, *message));
+        let reply = world.apply(alloc, &event, &mut Alone, &mut meter);
+        assert!(&rt; reply == *answer);
+    }
     holds(&rt, alloc, &world, 1, &[CLOSED])?;
     holds(&rt, alloc, &world, 2, &[CLOSED])
 }

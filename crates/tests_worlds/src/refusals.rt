@@ -1,77 +1,48 @@
 //! Refused events: each leaves the world as it was.
 
-use crate::worlds::{Answer, BLOCK, LIMIT, all_hold, answers, holds, played, shows};
+use crate::worlds::{Answer, all_hold, answered, holds, shows};
 use road_plan::Object;
 use road_replica::{ReplicaFault, Reply};
 use road_scenario::{Edit, Stamp, Value};
 use road_world::{Event, Message, WorldFault};
 use std::alloc::Global;
 use std::test::Fail;
+use tests_plans::{BLOCK, LIMIT, answered_events, edit, pairs};
 
 /// Of each kind one, at a replica that the world has not.
-const NOWHERE: [Event; 7] = [
-    Event::Edit {
-        at: 3,
-        object: Object::Limit(1),
-        step: 1_048_576,
-        value: 10,
-    },
-    Event::Withdraw {
-        at: 3,
-        object: Object::Limit(1),
-        step: 1_048_576,
-    },
-    Event::Send { at: 3 },
-    Event::Heads { at: 4_294_967_295 },
-    Event::Beyond { at: 64, message: 0 },
-    Event::Take { at: 3, message: 0 },
-    Event::Advance {
-        at: 3,
-        to: 1_048_577,
-    },
+const NOWHERE: ([Event; 7], [Answer; 7]) = answered_events![
+    edit(3, Object::Limit(1), 1_048_576, 10) => Err(WorldFault::NoReplica),
+    withdraw(3, Object::Limit(1), 1_048_576) => Err(WorldFault::NoReplica),
+    send(3) => Err(WorldFault::NoReplica),
+    heads(4_294_967_295) => Err(WorldFault::NoReplica),
+    beyond(64, 0) => Err(WorldFault::NoReplica),
+    take(3, 0) => Err(WorldFault::NoReplica),
+    advance(3, 1_048_577) => Err(WorldFault::NoReplica),
 ];
-
-const NO_REPLICA: [Answer; 7] = [Err(WorldFault::NoReplica); 7];
 
 #[test]
 fn a_replica_that_is_not_there_is_asked_for_first(rt: HostRuntime) -> Result<(), Fail> {
-    let played = played(rt.alloc(), &NOWHERE)?;
-    answers(&rt, &played, &NO_REPLICA);
+    let played = answered(&rt, rt.alloc(), &NOWHERE.0, &NOWHERE.1)?;
     assert!(&rt; played.world.replica(2).is_some());
     assert!(&rt; played.world.replica(3).is_none());
     assert!(&rt; played.world.message(0).is_none());
     Ok(())
 }
 
-const WRONG: [Event; 8] = [
-    Event::Heads { at: 0 },
-    Event::Take { at: 0, message: 0 },
-    Event::Send { at: 1 },
-    Event::Beyond { at: 0, message: 1 },
-    Event::Beyond { at: 0, message: 0 },
-    Event::Beyond { at: 0, message: 2 },
-    Event::Beyond { at: 0, message: 9 },
-    Event::Take {
-        at: 0,
-        message: 18_446_744_073_709_551_615,
-    },
-];
-
-const WRONG_ANSWERED: [Answer; 8] = [
-    Ok(Reply::Message(0)),
-    Err(WorldFault::NoMessage),
-    Ok(Reply::Message(1)),
-    Err(WorldFault::NoMessage),
-    Ok(Reply::Message(2)),
-    Err(WorldFault::NoMessage),
-    Err(WorldFault::NoMessage),
-    Err(WorldFault::NoMessage),
+const WRONG: ([Event; 8], [Answer; 8]) = answered_events![
+    heads(0) => Ok(Reply::Message(0)),
+    take(0, 0) => Err(WorldFault::NoMessage),
+    send(1) => Ok(Reply::Message(1)),
+    beyond(0, 1) => Err(WorldFault::NoMessage),
+    beyond(0, 0) => Ok(Reply::Message(2)),
+    beyond(0, 2) => Err(WorldFault::NoMessage),
+    beyond(0, 9) => Err(WorldFault::NoMessage),
+    take(0, 18_446_744_073_709_551_615) => Err(WorldFault::NoMessage),
 ];
 
 #[test]
 fn messages_are_of_the_kind_that_is_wanted(rt: HostRuntime) -> Result<(), Fail> {
-    let played = played(rt.alloc(), &WRONG)?;
-    answers(&rt, &played, &WRONG_ANSWERED);
+    let played = answered(&rt, rt.alloc(), &WRONG.0, &WRONG.1)?;
     assert!(&rt; matches!(played.world.message(0), Some(Message::Asked(_))));
     assert!(&rt; matches!(played.world.message(1), Some(Message::Whole(_))));
     assert!(&rt; matches!(played.world.message(2), Some(Message::Answer(_))));
@@ -79,101 +50,50 @@ fn messages_are_of_the_kind_that_is_wanted(rt: HostRuntime) -> Result<(), Fail> 
     Ok(())
 }
 
-const FAULTY: [Event; 5] = [
-    Event::Edit {
-        at: 0,
-        object: Object::Limit(1),
-        step: 0,
-        value: 1,
-    },
-    Event::Edit {
-        at: 0,
-        object: LIMIT,
-        step: 0,
-        value: 10,
-    },
-    Event::Withdraw {
-        at: 0,
-        object: BLOCK,
-        step: 1_048_576,
-    },
-    Event::Advance {
-        at: 0,
-        to: 1_048_577,
-    },
-    Event::Advance { at: 0, to: 0 },
-];
-
-const FAULTY_ANSWERED: [Answer; 5] = [
-    Err(WorldFault::Replica(ReplicaFault::NoObject)),
-    Err(WorldFault::Replica(ReplicaFault::ValueOutOfRange)),
-    Err(WorldFault::Replica(ReplicaFault::Step)),
-    Err(WorldFault::Replica(ReplicaFault::Horizon)),
-    Ok(Reply::Horizon(0)),
+const FAULTY: ([Event; 5], [Answer; 5]) = answered_events![
+    edit(0, Object::Limit(1), 0, 1) => Err(WorldFault::Replica(ReplicaFault::NoObject)),
+    edit(0, LIMIT, 0, 10) => Err(WorldFault::Replica(ReplicaFault::ValueOutOfRange)),
+    withdraw(0, BLOCK, 1_048_576) => Err(WorldFault::Replica(ReplicaFault::Step)),
+    advance(0, 1_048_577) => Err(WorldFault::Replica(ReplicaFault::Horizon)),
+    advance(0, 0) => Ok(Reply::Horizon(0)),
 ];
 
 #[test]
 fn a_replica_refuses_what_does_not_fit(rt: HostRuntime) -> Result<(), Fail> {
-    let played = played(rt.alloc(), &FAULTY)?;
-    answers(&rt, &played, &FAULTY_ANSWERED);
+    let played = answered(&rt, rt.alloc(), &FAULTY.0, &FAULTY.1)?;
     holds(&rt, rt.alloc(), &played.world, 0, &[])
 }
 
-const TWO: Edit = Edit {
-    object: LIMIT,
-    step: 0,
-    stamp: Stamp {
-        count: 7,
-        number: 64,
-    },
-    value: Value::Put(2),
-};
+const TWO: Edit = edit!(LIMIT, 0, (7, 64), 2);
 
-const THREE: Edit = Edit {
-    value: Value::Put(3),
-    ..TWO
-};
+const THREE: Edit = edit!(LIMIT, 0, (7, 64), 3);
 
-const INSIDER: Edit = Edit {
-    stamp: Stamp {
-        count: 9,
-        number: 63,
-    },
-    ..TWO
-};
+const INSIDER: Edit = edit!(LIMIT, 0, (9, 63), 2);
 
-/// Replicas, and the edits that reach them from outside.
-const IMPORTS: [(u32, &[Edit]); 5] = [
-    (0, &[TWO]),
-    (0, &[THREE]),
-    (1, &[THREE]),
-    (1, &[TWO]),
-    (2, &[TWO, INSIDER]),
+/// Replicas, the edits that reach them from outside, and what that is answered.
+const IMPORTS: &[((u32, &[Edit]), Answer)] = pairs![
+    (0, &[TWO]) => Ok(Reply::Touched(Some(0))),
+    (0, &[THREE]) => Ok(Reply::Touched(Some(0))),
+    (1, &[THREE]) => Ok(Reply::Touched(Some(0))),
+    (1, &[TWO]) => Ok(Reply::Touched(None)),
+    (2, &[TWO, INSIDER]) => Err(WorldFault::Replica(ReplicaFault::Insider)),
 ];
 
-const IMPORTS_ANSWERED: [Answer; 5] = [
-    Ok(Reply::Touched(Some(0))),
-    Ok(Reply::Touched(Some(0))),
-    Ok(Reply::Touched(Some(0))),
-    Ok(Reply::Touched(None)),
-    Err(WorldFault::Replica(ReplicaFault::Insider)),
-];
-
-// These imports, one after another.
-fn imports(alloc: Global) -> Result<Vec<Event>, Fail> {
-    let mut events = Vec::new(alloc);
-    for (at, edits) in IMPORTS {
+// These imports, one after another, and their answers.
+fn imports(alloc: Global) -> Result<(Vec<Event>, Vec<Answer>), Fail> {
+    let (mut events, mut answers) = (Vec::new(alloc), Vec::new(alloc));
+    for ((at, edits), answer) in IMPORTS {
         let edits = edits.to_vec(alloc)?;
-        events.push(Event::Import { at, edits })?;
+        events.push(Event::Import { at: *at, edits })?;
+        answers.push(*answer)?;
     }
-    Ok(events)
+    Ok((events, answers))
 }
 
 #[test]
 fn imports_come_in_any_order_and_all_or_none(rt: HostRuntime) -> Result<(), Fail> {
-    let events = imports(rt.alloc())?;
-    let played = played(rt.alloc(), &events)?;
-    answers(&rt, &played, &IMPORTS_ANSWERED);
+    let (events, answers) = imports(rt.alloc())?;
+    let played = answered(&rt, rt.alloc(), &events, &answers)?;
     shows(&rt, rt.alloc(), &played.world, 2, &[(0, "............")])?;
     all_hold(
         &rt,

@@ -1,7 +1,6 @@
 //! Lists of events on the free road, what they are answered, and what the world then shows.
 
 use road_ends::Meter;
-use road_plan::Object;
 use road_replica::Reply;
 use road_scenario::{Edit, Stamp};
 use road_workers::Alone;
@@ -10,52 +9,23 @@ use std::alloc::Global;
 use std::process::Abort;
 use std::sync::Arc;
 use std::test::Fail;
-use tests_plans::{FREE, plan_of};
-
-pub(crate) const LIMIT: Object = Object::Limit(0);
-
-pub(crate) const BLOCK: Object = Object::Block(8);
-
-pub(crate) const START: Object = Object::Start(0);
+use tests_plans::{FREE, plan_of, stamp};
 
 /// What an event is answered.
 pub(crate) type Answer = Result<Reply, WorldFault>;
 
 /// The stamps of a replica's edits.
-pub(crate) const A1: Stamp = Stamp {
-    count: 1,
-    number: 0,
-};
+pub(crate) const A1: Stamp = stamp!(1, 0);
 
-pub(crate) const A2: Stamp = Stamp {
-    count: 2,
-    number: 0,
-};
+pub(crate) const A2: Stamp = stamp!(2, 0);
 
-pub(crate) const A3: Stamp = Stamp {
-    count: 3,
-    number: 0,
-};
+pub(crate) const A3: Stamp = stamp!(3, 0);
 
-pub(crate) const B1: Stamp = Stamp {
-    count: 1,
-    number: 1,
-};
+pub(crate) const B1: Stamp = stamp!(1, 1);
 
-pub(crate) const B2: Stamp = Stamp {
-    count: 2,
-    number: 1,
-};
+pub(crate) const B2: Stamp = stamp!(2, 1);
 
-pub(crate) const B3: Stamp = Stamp {
-    count: 3,
-    number: 1,
-};
-
-pub(crate) const C1: Stamp = Stamp {
-    count: 1,
-    number: 2,
-};
+pub(crate) const B3: Stamp = stamp!(3, 1);
 
 /// Returns the world of three replicas of the free road after some events.
 pub(crate) fn played(alloc: Global, events: &[Event]) -> Result<Played, Fail> {
@@ -66,6 +36,18 @@ pub(crate) fn played(alloc: Global, events: &[Event]) -> Result<Played, Fail> {
 /// Checks that some events are answered so.
 pub(crate) fn answers(rt: &impl Abort, played: &Played, expected: &[Answer]) {
     assert!(rt; played.replies.as_slice() == expected);
+}
+
+/// Returns that world, where the events are answered so.
+pub(crate) fn answered(
+    rt: &impl Abort,
+    alloc: Global,
+    events: &[Event],
+    expected: &[Answer],
+) -> Result<Played, Fail> {
+    let played = played(alloc, events)?;
+    answers(rt, &played, expected);
+    Ok(played)
 }
 
 /// Checks that a replica of a world shows these rows at these steps.

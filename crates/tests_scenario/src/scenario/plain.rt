@@ -104,7 +104,7 @@ fn looks_at(
     (row, merge): (usize, &Merge),
     after: &[Edit],
 ) -> Result<(), OutOfMemory> {
-    let (held, _, listed, first_touched, _) = *merge;
+    let ((held, _), (listed, first_touched, _)) = *merge;
     let made = scenario(alloc, listed)?;
     compare(rt, plan, row, after, &made);
     assert!(rt; touched(held, after) == first_touched, "row {row}");
@@ -118,8 +118,8 @@ fn comes(
     plan: &Plan,
     (row, merge): (usize, &Merge),
 ) -> Result<(), OutOfMemory> {
-    let mut after = merge.0.to_vec(alloc)?;
-    after.extend_from_slice(merge.1)?;
+    let mut after = merge.0.0.to_vec(alloc)?;
+    after.extend_from_slice(merge.0.1)?;
     looks_at(rt, alloc, plan, (row, merge), &after)
 }
 

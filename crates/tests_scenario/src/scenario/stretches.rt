@@ -1,12 +1,12 @@
 //! Edits of one object on both sides of the steps at which a stretch of registers begins, worked out by hand.
 
-use super::{limit_edit, lists, scenario, setting_at};
+use super::{lists, scenario, setting_at};
 use road_plan::Plan;
-use road_scenario::{Edit, OutOfMemory, Scenario, Value};
+use road_scenario::{Edit, OutOfMemory, Scenario, Stamp, Value};
 use std::alloc::Global;
 use std::process::Abort;
 use std::test::Fail;
-use tests_plans::{FREE, LIMIT, plan_of};
+use tests_plans::{FREE, LIMIT, edit, plan_of};
 
 /// Steps, and the limit that is put from each on.
 const PUTS: &[(u32, u32)] = &[
@@ -40,7 +40,7 @@ fn edits_without(alloc: Global, left_out: Option<u32>) -> Result<Vec<Edit>, OutO
     let mut edits = Vec::new(alloc);
     for (step, limit) in PUTS {
         if left_out != Some(*step) {
-            edits.push(limit_edit(*step, 1, Value::Put(*limit)))?;
+            edits.push(edit!(LIMIT, *step, (1, 0), *limit))?;
         }
     }
     Ok(edits)
@@ -99,7 +99,7 @@ fn past_withdrawals_an_earlier_stretch_acts_on(rt: HostRuntime) -> Result<(), Fa
     let plan = plan_of(rt.alloc(), &FREE)?;
     let mut edits = edits_without(rt.alloc(), None)?;
     for step in [1_024, 2_047, 2_048, 9_000] {
-        edits.push(limit_edit(step, 2, Value::Withdrawn))?;
+        edits.push(edit!(LIMIT, step, (2, 0), withdrawn))?;
     }
     let made = scenario(rt.alloc(), &edits)?;
     assert!(rt; setting_at(&rt, &made, &plan, LIMIT, 1_048_574) == 1);
