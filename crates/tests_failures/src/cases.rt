@@ -3,180 +3,227 @@
 use crate::crews::{self, CrewCase};
 use crate::crowds::{self, CrowdCase};
 use crate::lines::{self, LineCase};
-use crate::replicas::{self, QuestionCase, WriteCase};
-use crate::scenarios::{self, MapCase, ScenarioCase};
-use crate::sessions::{self, SessionCase, Whole};
-use crate::sheets::{self, DraftCase, GrowthCase};
+use crate::replicas::{self, Question, Write, WriteCase};
+use crate::roads::{
+    BLOCKED, BLOCKED_SECOND, CLOSED, CLOSED_ELSEWHERE, GREATER, HELD, HELD_ELSEWHERE, LESS, OPENED,
+    OPENING, SLOW, SLOWED, Shown, TO_SIX, WITH_BLOCK, WITHDRAWN,
+};
+use crate::scenarios::{self, Making, MapCase};
+use crate::sessions::{self, Act, SessionCase};
+use crate::sheets::{self, GrowthCase};
 use crate::steps::{self, StepCase};
 use crate::verdict::{Until, Verdict};
 use crate::worlds;
+use road_cells::Car;
+use road_delta::Head;
+use road_detector::Totals;
+use road_replica::Reply;
+use road_scenario::{Edit, Stamp, Value};
 use std::alloc::Global;
 use std::sync::Wait;
 use std::thread::Threads;
+use tests_plans::{BLOCK, CARS_AT_SIX, LIMIT, cars, edit, head, pairs, stamp};
 
 /// A call that is tried.
 #[derive(Clone, Copy)]
 pub(crate) enum Case {
+    Line(LineCase),
+    Map(MapCase),
+    Step(StepCase),
+    Crew(CrewCase),
+    Scenario(Making),
     ReplicaOpening,
     Write(WriteCase),
-    Question(QuestionCase),
+    /// A question after some writes.
+    Question(&'static [Write], Question),
     SheetOpening,
-    SheetQuestion(sheets::QuestionCase),
-    Draft(DraftCase),
-    /// The input of the step after so many steps.
-    Input(u32),
-    /// That step.
-    Push(u32),
+    /// A question to a sheet of some edits.
+    SheetQuestion(&'static [Edit], sheets::Question),
+    /// A draft whose run is kept up to a step, and what it shows in the end.
+    Draft(u32, Shown),
+    /// The input of the step after so many steps, and its speeds.
+    Input(u32, &'static [u8]),
+    /// That step, and the row after it.
+    Push(u32, &'static str),
     Growth(GrowthCase),
     WorldOpening,
     /// The event of a place in the exchange.
     Event(usize),
     List,
-    /// The opening or closing of a store.
-    Store(Whole),
+    StorePrepare,
+    StoreOpen,
+    /// The closing of a store after a call.
+    StoreClose(SessionCase),
     Session(SessionCase),
-    Crew(CrewCase),
     Crowd(CrowdCase),
-    Line(LineCase),
-    Step(StepCase),
-    Map(MapCase),
-    Scenario(ScenarioCase),
 }
 
+const TO_HORIZON_SIX: Write = Write::Advance(6);
+
+const BLOCKS: Write = Write::Edit(BLOCK, 4, 1);
+
+const OPENS: Write = Write::Withdraw(BLOCK, 4);
+
+/// The writes after which a replica holds what another one has a part of.
+const EXCHANGE: &[Write] = &[Write::Edit(LIMIT, 3, 1), BLOCKS, Write::Edit(LIMIT, 5, 0)];
+
+/// Imports from where all cars are slow, and from where they stand.
+const IMPORTED: &[Edit] = &[edit!(LIMIT, 3, (1, 64), 1), edit!(LIMIT, 5, (2, 64), 0)];
+
+/// The rows of the free road where cars go on as at step 6, and where all are slow in the end.
+const LATE_ROW: &str = "0..2...2....";
+
+const SLOW_ROW: &str = "0.1.1.1.1.1.";
+
+/// The second session blocks a cell.
+const BLOCKING: SessionCase = SessionCase(
+    &[TO_HORIZON_SIX],
+    Act::Write(BLOCKS, 1, Reply::Stamped(stamp!(1, 0))),
+    TO_SIX,
+    WITH_BLOCK,
+    2,
+);
+
+/// Imports that block a cell, and withdraw that with a greater stamp.
+const BLOCK_IMPORTED: Edit = edit!(BLOCK, 4, (1, 64), 1);
+
+const OPENING_IMPORTED: Edit = edit!(BLOCK, 4, (2, 64), withdrawn);
+
 // All calls.
-const CASES: &[(&str, Case)] = &[
-    ("plan-new", Case::Line(LineCase::Plan)),
-    ("map-with", Case::Map(MapCase::With)),
-    ("map-joined", Case::Map(MapCase::Joined)),
-    ("map-copied", Case::Map(MapCase::Copied)),
-    ("road-copied", Case::Step(StepCase::Copied)),
-    ("road-row", Case::Step(StepCase::Row)),
-    ("step-enter", Case::Step(StepCase::Enter)),
-    ("step-finish", Case::Step(StepCase::Finish)),
-    ("step-alone", Case::Step(StepCase::Whole)),
-    ("crew-alone", Case::Crew(CrewCase::Alone)),
-    ("crew-scoped", Case::Crew(CrewCase::Scoped)),
-    ("crew-pool", Case::Crew(CrewCase::Pool)),
-    ("crew-run", Case::Crew(CrewCase::Run)),
-    ("pool-start", Case::Crew(CrewCase::Start)),
-    ("pool-start-gated", Case::Crew(CrewCase::StartGated)),
-    ("scenario-with-edit", Case::Scenario(scenarios::WITH_EDIT)),
-    (
-        "scenario-with-greater",
-        Case::Scenario(scenarios::WITH_GREATER),
-    ),
-    ("scenario-joined", Case::Scenario(scenarios::JOINED)),
-    ("scenario-copied", Case::Scenario(scenarios::COPIED)),
-    (
-        "scenario-pair-joined",
-        Case::Scenario(scenarios::PAIR_JOINED),
-    ),
-    (
-        "scenario-pair-copied",
-        Case::Scenario(scenarios::PAIR_COPIED),
-    ),
-    ("scenario-edits", Case::Scenario(scenarios::LISTED)),
-    (
-        "scenario-settings",
-        Case::Scenario(scenarios::SETTINGS_MADE),
-    ),
-    ("scenario-heads", Case::Scenario(scenarios::HEADS_MADE)),
-    ("scenario-beyond", Case::Scenario(scenarios::BEYOND_HEADS)),
-    ("replica-open", Case::ReplicaOpening),
-    ("replica-edit", Case::Write(replicas::LATE_EDIT)),
-    ("replica-withdraw", Case::Write(replicas::LATE_WITHDRAWAL)),
-    ("replica-take", Case::Write(replicas::LATE_TAKE)),
-    ("replica-take-old", Case::Write(replicas::TAKE_OLD)),
-    ("replica-import", Case::Write(replicas::LATE_IMPORT)),
-    ("replica-import-again", Case::Write(replicas::IMPORT_AGAIN)),
-    ("replica-advance", Case::Write(replicas::FIRST_ADVANCE)),
-    ("replica-advance-less", Case::Write(replicas::ADVANCE_LESS)),
-    ("replica-copied", Case::Question(replicas::SECOND_REPLICA)),
-    ("replica-message", Case::Question(replicas::WHOLE_MESSAGE)),
-    ("replica-heads", Case::Question(replicas::ALL_HEADS)),
-    ("replica-beyond", Case::Question(replicas::BEYOND_HEADS)),
-    (
-        "replica-message-of-none",
-        Case::Question(replicas::MESSAGE_OF_NONE),
-    ),
-    (
-        "replica-heads-of-none",
-        Case::Question(replicas::HEADS_OF_NONE),
-    ),
-    (
-        "replica-beyond-of-none",
-        Case::Question(replicas::BEYOND_OF_NONE),
-    ),
-    ("replica-state", Case::Question(replicas::LAST_STATE)),
-    (
-        "replica-earlier-state",
-        Case::Question(replicas::EARLIER_STATE),
-    ),
-    ("replica-totals", Case::Question(replicas::CUT_TOTALS)),
-    ("replica-kept-totals", Case::Question(replicas::KEPT_TOTALS)),
-    ("replica-rows", Case::Question(replicas::LATE_ROWS)),
-    ("sheet-open", Case::SheetOpening),
-    ("sheet-state", Case::SheetQuestion(sheets::LAST_STATE)),
-    (
-        "sheet-earlier-state",
-        Case::SheetQuestion(sheets::EARLIER_STATE),
-    ),
-    ("sheet-totals", Case::SheetQuestion(sheets::CUT_TOTALS)),
-    (
-        "sheet-kept-totals",
-        Case::SheetQuestion(sheets::KEPT_TOTALS),
-    ),
-    ("sheet-draft", Case::Draft(sheets::REWOUND)),
-    ("sheet-draft-resumed", Case::Draft(sheets::RESUMED)),
-    ("sheet-draft-late", Case::Draft(sheets::REWOUND_LATE)),
-    ("draft-input", Case::Input(5)),
-    ("draft-input-of-interval", Case::Input(64)),
-    ("draft-push", Case::Push(5)),
-    ("draft-push-ends-interval", Case::Push(63)),
-    ("grown-block", Case::Growth(sheets::BLOCKING)),
-    ("grown-from-first", Case::Growth(sheets::FROM_FIRST)),
-    ("grown-from-early", Case::Growth(sheets::FROM_EARLY)),
-    ("grown-from-late", Case::Growth(sheets::FROM_LATE)),
-    ("grown-from-last", Case::Growth(sheets::FROM_LAST)),
-    ("grown-beyond", Case::Growth(sheets::BEYOND_HORIZON)),
-    ("grown-longer", Case::Growth(sheets::LONGER)),
-    ("world-open", Case::WorldOpening),
-    ("world-advance", Case::Event(0)),
-    ("world-edit", Case::Event(1)),
-    ("world-second-edit", Case::Event(2)),
-    ("world-send", Case::Event(3)),
-    ("world-advance-elsewhere", Case::Event(4)),
-    ("world-take", Case::Event(5)),
-    ("world-edit-elsewhere", Case::Event(6)),
-    ("world-third-edit", Case::Event(7)),
-    ("world-heads", Case::Event(8)),
-    ("world-beyond", Case::Event(9)),
-    ("world-take-answer", Case::Event(11)),
-    ("world-take-answer-late", Case::Event(12)),
-    ("world-take-again", Case::Event(13)),
-    ("world-withdraw", Case::Event(14)),
-    ("world-import", Case::Event(15)),
-    ("world-play", Case::List),
-    ("store-prepare", Case::Store(Whole::Prepare)),
-    ("store-open", Case::Store(Whole::Open)),
-    ("store-close", Case::Store(Whole::Close)),
-    ("session-advance", Case::Session(sessions::FIRST_ADVANCE)),
-    ("session-edit", Case::Session(sessions::EDIT_BY_SECOND)),
-    (
-        "session-withdraw",
-        Case::Session(sessions::WITHDRAWAL_BY_SECOND),
-    ),
-    ("session-take", Case::Session(sessions::TAKE_BY_SECOND)),
-    ("session-look", Case::Session(sessions::LOOK_BY_SECOND)),
-    ("session-state", Case::Session(sessions::STATE_BY_SECOND)),
-    ("session-totals", Case::Session(sessions::TOTALS_BY_SECOND)),
-    ("crowd-of-one", Case::Crowd(crowds::EMPTY_SHARE)),
-    ("crowd-of-two", Case::Crowd(crowds::BLOCK_AND_WITHDRAWAL)),
-    ("read-plan", Case::Line(LineCase::PlanLine)),
-    ("read-import", Case::Line(LineCase::Import)),
-    ("read-edit", Case::Line(LineCase::Edit)),
-    ("write-edits", Case::Line(LineCase::Edits)),
-    ("write-rows", Case::Line(LineCase::Rows)),
+const CASES: &[(&str, Case)] = pairs![
+    "plan-new" => Case::Line(LineCase::Plan),
+    "map-with" => Case::Map(MapCase::With),
+    "map-joined" => Case::Map(MapCase::Joined),
+    "map-copied" => Case::Map(MapCase::Copied),
+    "road-copied" => Case::Step(StepCase::Copied),
+    "road-row" => Case::Step(StepCase::Row),
+    "step-enter" => Case::Step(StepCase::Enter),
+    "step-finish" => Case::Step(StepCase::Finish),
+    "step-alone" => Case::Step(StepCase::Whole),
+    "crew-alone" => Case::Crew(CrewCase::Alone),
+    "crew-scoped" => Case::Crew(CrewCase::Scoped),
+    "crew-pool" => Case::Crew(CrewCase::Pool),
+    "crew-run" => Case::Crew(CrewCase::Run),
+    "pool-start" => Case::Crew(CrewCase::Start),
+    "pool-start-gated" => Case::Crew(CrewCase::StartGated),
+    "scenario-with-edit" => Case::Scenario(Making::WithEdit(&[SLOW, BLOCKED], OPENED, &[SLOW, OPENED])),
+    "scenario-with-greater" => Case::Scenario(Making::WithEdit(&[LESS], GREATER, &[GREATER])),
+    "scenario-joined" => Case::Scenario(Making::Joined),
+    "scenario-copied" => Case::Scenario(Making::Copied),
+    "scenario-pair-joined" => Case::Scenario(Making::PairJoined),
+    "scenario-pair-copied" => Case::Scenario(Making::PairCopied),
+    "scenario-edits" => Case::Scenario(Making::Edits),
+    "scenario-settings" => Case::Scenario(Making::Settings),
+    "scenario-heads" => Case::Scenario(Making::Heads),
+    "scenario-beyond" => Case::Scenario(Making::Beyond),
+    "replica-open" => Case::ReplicaOpening,
+    "replica-edit" =>
+        Case::Write(WriteCase(&[TO_HORIZON_SIX], BLOCKS, Reply::Stamped(stamp!(1, 0)), TO_SIX, WITH_BLOCK)),
+    "replica-withdraw" =>
+        Case::Write(WriteCase(&[TO_HORIZON_SIX, BLOCKS], OPENS, Reply::Stamped(stamp!(2, 0)), WITH_BLOCK, WITHDRAWN)),
+    "replica-take" =>
+        Case::Write(WriteCase(&[TO_HORIZON_SIX], Write::Take(&[SLOW]), Reply::Touched(Some(3)), TO_SIX, SLOWED)),
+    // What was blocked and opened again comes back by an older message, and nothing changes.
+    "replica-take-old" => Case::Write(WriteCase(
+        &[TO_HORIZON_SIX, BLOCKS, OPENS], Write::Take(&[BLOCKED]), Reply::Touched(None), WITHDRAWN, WITHDRAWN)),
+    "replica-import" => Case::Write(WriteCase(
+        &[TO_HORIZON_SIX], Write::Import(IMPORTED), Reply::Touched(Some(3)), TO_SIX,
+        Shown(&[(5, ".1.1...1...."), (6, "00.0...0....")], IMPORTED))),
+    "replica-import-again" => Case::Write(WriteCase(
+        &[Write::Import(&[LESS])], Write::Import(&[GREATER]), Reply::Touched(Some(0)),
+        Shown(&[(0, "............")], &[LESS]), Shown(&[(0, "............")], &[GREATER]))),
+    "replica-advance" => Case::Write(WriteCase(&[], TO_HORIZON_SIX, Reply::Horizon(6), OPENING, TO_SIX)),
+    "replica-advance-less" =>
+        Case::Write(WriteCase(&[TO_HORIZON_SIX], Write::Advance(3), Reply::Horizon(6), TO_SIX, TO_SIX)),
+    "replica-copied" => Case::Question(&[TO_HORIZON_SIX], Question::Copied(TO_SIX)),
+    "replica-message" => Case::Question(EXCHANGE, Question::Message(HELD)),
+    "replica-heads" => Case::Question(EXCHANGE, Question::Heads(
+        &[head!(LIMIT, 3, (1, 0)), head!(LIMIT, 5, (3, 0)), head!(BLOCK, 4, (2, 0))])),
+    "replica-beyond" => Case::Question(EXCHANGE, Question::Beyond(HELD_ELSEWHERE, &[CLOSED, BLOCKED_SECOND])),
+    "replica-message-of-none" => Case::Question(&[], Question::Message(&[])),
+    "replica-heads-of-none" => Case::Question(&[], Question::Heads(&[])),
+    "replica-beyond-of-none" => Case::Question(&[], Question::Beyond(&[CLOSED_ELSEWHERE], &[])),
+    "replica-state" => Case::Question(&[TO_HORIZON_SIX], Question::State(6, CARS_AT_SIX)),
+    "replica-earlier-state" =>
+        Case::Question(&[TO_HORIZON_SIX], Question::State(4, cars![(48, 0, 0), (16, 3, 2), (0, 7, 2)])),
+    "replica-totals" =>
+        Case::Question(&[TO_HORIZON_SIX], Question::Totals(0, 3, Totals { cars: 1, speeds: 2 })),
+    // The totals of a whole interval are kept.
+    "replica-kept-totals" =>
+        Case::Question(&[TO_HORIZON_SIX], Question::Totals(0, 6, Totals { cars: 2, speeds: 4 })),
+    "replica-rows" => Case::Question(
+        &[TO_HORIZON_SIX, BLOCKS], Question::Rows(4, 6, &["0..2...2#...", ".1...2.0#...", "0..2..10#..."])),
+    "sheet-open" => Case::SheetOpening,
+    "sheet-state" => Case::SheetQuestion(
+        &[BLOCKED], sheets::Question::State(6, cars![(80, 0, 0), (48, 3, 2), (16, 6, 1), (0, 7, 0)])),
+    // It is computed anew from the first checkpoint.
+    "sheet-earlier-state" => Case::SheetQuestion(&[], sheets::Question::State(3, cars![(16, 1, 1), (0, 5, 2)])),
+    "sheet-totals" => Case::SheetQuestion(&[], sheets::Question::Totals(2, 5, Totals { cars: 2, speeds: 4 })),
+    "sheet-kept-totals" => Case::SheetQuestion(&[], sheets::Question::Totals(0, 6, Totals { cars: 2, speeds: 4 })),
+    "sheet-draft" => Case::Draft(4, WITH_BLOCK),
+    "sheet-draft-resumed" => Case::Draft(6, TO_SIX),
+    // It begins at the second checkpoint.
+    "sheet-draft-late" => Case::Draft(64, Shown(
+        &[(64, LATE_ROW), (66, "0.1..1...1.."), (70, "0.1.1.1..1..")], &[edit!(LIMIT, 64, (1, 0), 1)])),
+    "draft-input" => Case::Input(5, &[0, 2, 2, 2]),
+    "draft-input-of-interval" => Case::Input(64, &[1, 2, 2]),
+    "draft-push" => Case::Push(5, LATE_ROW),
+    "draft-push-ends-interval" => Case::Push(63, LATE_ROW),
+    "grown-block" => Case::Growth(GrowthCase(6, 6, Some(4), WITH_BLOCK)),
+    // Edits at step 0, round the end of an interval, at the last step and at the horizon, in a run of 130 steps.
+    "grown-from-first" => Case::Growth(GrowthCase(130, 0, Some(0), Shown(
+        &[(4, "0.1.1......."), (130, SLOW_ROW)], &[edit!(LIMIT, 0, (1, 0), 1)]))),
+    "grown-from-early" => Case::Growth(GrowthCase(130, 0, Some(63), Shown(
+        &[(63, ".1...2...2.."), (64, "0.1...1...1."), (130, SLOW_ROW)], &[edit!(LIMIT, 63, (1, 0), 1)]))),
+    "grown-from-late" => Case::Growth(GrowthCase(130, 0, Some(64), Shown(
+        &[(64, LATE_ROW), (66, "0.1..1...1.."), (130, SLOW_ROW)], &[edit!(LIMIT, 64, (1, 0), 1)]))),
+    "grown-from-last" => Case::Growth(GrowthCase(130, 0, Some(129), Shown(
+        &[(129, ".1...2...2.."), (130, "0.1...1...1.")], &[edit!(LIMIT, 129, (1, 0), 1)]))),
+    "grown-beyond" => Case::Growth(GrowthCase(130, 0, Some(130), Shown(
+        &[(130, LATE_ROW)], &[edit!(LIMIT, 130, (1, 0), 1)]))),
+    "grown-longer" => Case::Growth(GrowthCase(60, 70, None, Shown(
+        &[(60, LATE_ROW), (65, ".1...2...2.."), (70, LATE_ROW)], &[]))),
+    "world-open" => Case::WorldOpening,
+    "world-advance" => Case::Event(0),
+    "world-edit" => Case::Event(1),
+    "world-second-edit" => Case::Event(2),
+    "world-send" => Case::Event(3),
+    "world-advance-elsewhere" => Case::Event(4),
+    "world-take" => Case::Event(5),
+    "world-edit-elsewhere" => Case::Event(6),
+    "world-third-edit" => Case::Event(7),
+    "world-heads" => Case::Event(8),
+    "world-beyond" => Case::Event(9),
+    "world-take-answer" => Case::Event(11),
+    "world-take-answer-late" => Case::Event(12),
+    "world-take-again" => Case::Event(13),
+    "world-withdraw" => Case::Event(14),
+    "world-import" => Case::Event(15),
+    "world-play" => Case::List,
+    "store-prepare" => Case::StorePrepare,
+    "store-open" => Case::StoreOpen,
+    "store-close" => Case::StoreClose(BLOCKING),
+    "session-advance" =>
+        Case::Session(SessionCase(&[], Act::Write(TO_HORIZON_SIX, 0, Reply::Horizon(6)), OPENING, TO_SIX, 1)),
+    "session-edit" => Case::Session(BLOCKING),
+    "session-withdraw" => Case::Session(SessionCase(
+        &[TO_HORIZON_SIX, BLOCKS], Act::Write(OPENS, 2, Reply::Stamped(stamp!(2, 0))), WITH_BLOCK, WITHDRAWN, 3)),
+    "session-take" => Case::Session(SessionCase(
+        &[TO_HORIZON_SIX], Act::Write(Write::Take(&[SLOW]), 1, Reply::Touched(Some(3))), TO_SIX, SLOWED, 2)),
+    "session-look" => Case::Session(SessionCase(&[TO_HORIZON_SIX], Act::Look, TO_SIX, TO_SIX, 1)),
+    "session-state" => Case::Session(SessionCase(
+        &[TO_HORIZON_SIX], Act::State(3, cars![(16, 1, 1), (0, 5, 2)]), TO_SIX, TO_SIX, 1)),
+    "session-totals" => Case::Session(SessionCase(
+        &[TO_HORIZON_SIX], Act::Totals(0, 3, Totals { cars: 1, speeds: 2 }), TO_SIX, TO_SIX, 1)),
+    // One session, which has only the advance to make; and two.
+    "crowd-of-one" => Case::Crowd(CrowdCase(&[&[]], &[], 1, LATE_ROW)),
+    "crowd-of-two" =>
+        Case::Crowd(CrowdCase(&[&[BLOCK_IMPORTED], &[OPENING_IMPORTED]], &[OPENING_IMPORTED], 4, LATE_ROW)),
+    "read-plan" => Case::Line(LineCase::PlanLine),
+    "read-import" => Case::Line(LineCase::Import),
+    "read-edit" => Case::Line(LineCase::Edit),
+    "write-edits" => Case::Line(LineCase::Edits),
+    "write-rows" => Case::Line(LineCase::Rows),
 ];
 
 /// Returns all calls.
@@ -192,27 +239,31 @@ pub(crate) fn tried<R: Threads + Wait + Clone + Drop + Send + 'static>(
     case: Case,
 ) -> Option<Verdict> {
     match case {
+        Case::Line(case) => lines::tried(alloc, until, case),
+        Case::Map(case) => scenarios::tried_map(alloc, until, case),
+        Case::Step(case) => steps::tried(alloc, until, case),
+        Case::Crew(case) => crews::tried(rt, alloc, until, case),
+        Case::Scenario(making) => scenarios::tried(alloc, until, making),
         Case::ReplicaOpening => replicas::tried_opening(alloc, until),
         Case::Write(case) => replicas::tried_write(alloc, until, &case),
-        Case::Question(case) => replicas::tried_question(alloc, until, &case),
+        Case::Question(writes, question) => {
+            replicas::tried_question(alloc, until, writes, &question)
+        }
         Case::SheetOpening => sheets::tried_opening(alloc, until),
-        Case::SheetQuestion(case) => sheets::tried_question(alloc, until, &case),
-        Case::Draft(case) => sheets::tried_draft(alloc, until, &case),
-        Case::Input(steps) => sheets::tried_input(alloc, until, steps),
-        Case::Push(steps) => sheets::tried_push(alloc, until, steps),
+        Case::SheetQuestion(edits, question) => {
+            sheets::tried_question(alloc, until, edits, &question)
+        }
+        Case::Draft(keep, shown) => sheets::tried_draft(alloc, until, keep, &shown),
+        Case::Input(steps, speeds) => sheets::tried_input(alloc, until, steps, speeds),
+        Case::Push(steps, row) => sheets::tried_push(alloc, until, steps, row),
         Case::Growth(case) => sheets::tried_growth(alloc, until, &case),
         Case::WorldOpening => worlds::tried_opening(alloc, until),
         Case::Event(place) => worlds::tried_event(alloc, until, place),
         Case::List => worlds::tried_list(alloc, until),
-        Case::Store(Whole::Prepare) => sessions::tried_prepare(rt, alloc, until),
-        Case::Store(Whole::Open) => sessions::tried_open(rt, alloc, until),
-        Case::Store(Whole::Close) => sessions::tried_close(rt, alloc, until),
-        Case::Session(case) => sessions::tried_call(rt, alloc, until, &case),
-        Case::Crew(case) => crews::tried(rt, alloc, until, case),
+        Case::StorePrepare => sessions::tried_prepare(rt, alloc, until),
+        Case::StoreOpen => sessions::tried_open(rt, alloc, until),
+        Case::StoreClose(case) => sessions::tried_call(rt, alloc, until, true, &case),
+        Case::Session(case) => sessions::tried_call(rt, alloc, until, false, &case),
         Case::Crowd(case) => crowds::tried(rt, alloc, until, &case),
-        Case::Line(case) => lines::tried(alloc, until, case),
-        Case::Step(case) => steps::tried(alloc, until, case),
-        Case::Map(case) => scenarios::tried_map(alloc, until, case),
-        Case::Scenario(case) => scenarios::tried(alloc, until, &case),
     }
 }

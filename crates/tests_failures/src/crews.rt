@@ -3,59 +3,26 @@
 ghost use Rattle.std.specs.Prelude.{◌≡◌};
 
 use crate::roads::shared_plan;
-use crate::verdict::{Refusal, Until, Verdict};
-use road_cells::Road;
-use road_detector::{Totals, passes};
-use road_ends::{Meter, Span, StepInput, enter, step_alone};
-use road_plan::{Plan, Settings, WordKind};
+use crate::verdict::{Until, Verdict, accepted, judged};
+use road_cells::{Car, Road};
+use road_ends::{Span, StepInput, enter};
+use road_plan::Settings;
 use road_workers::{Alone, Crew, CrewFault, NoGate, Pool, Scoped};
 use std::alloc::Global;
 use std::sync::{Arc, Wait};
 use std::thread::Threads;
-use tests_plans::{DENSE, Parts};
+use tests_plans::{DENSE, FREE, Parts, car};
 
 /// The new speeds of the dense road's first step.
 const SPEEDS: &[u8] = &[0, 1, 0, 1, 0, 0, 1, 0, 1];
 
-/// The longest road, with inlets all along it and detectors on both sides of its middle.
+/// The longest road, where nobody enters, with detectors on both sides of its middle.
 const LONG: Parts = Parts {
     road: (8_192, 1, 8_192),
-    zones: &[(5, 16_384)],
-    inlets: &[
-        (0, 65_536),
-        (512, 65_536),
-        (1_024, 65_536),
-        (1_536, 65_536),
-        (2_048, 65_536),
-        (2_560, 65_536),
-        (3_072, 65_536),
-        (3_584, 65_536),
-        (4_096, 65_536),
-        (4_608, 65_536),
-        (5_120, 65_536),
-        (5_632, 65_536),
-        (6_144, 65_536),
-        (6_656, 65_536),
-        (7_168, 65_536),
-        (7_680, 65_536),
-    ],
+    inlets: &[(0, 0)],
     detectors: &[520, 4_100, 4_110, 7_700],
-    words: WordKind::Seeded(7),
+    ..FREE
 };
-
-/// After so many steps the long road has cars enough for two workers, who then run so many together.
-const BEFORE: u32 = 40;
-
-const TOGETHER: u32 = 64;
-
-/// Steps that a crew is to run, and what they come to by one thread, step by step.
-#[derive(Drop)]
-struct LongRun {
-    span: Span,
-    road: Road,
-    after: Road,
-    totals: Vec<Totals>,
-}
 
 /// What a crew is asked.
 #[derive(Drop)]
@@ -63,7 +30,7 @@ enum Task {
     /// The speeds of the dense road's first step.
     Speeds(Arc<StepInput>),
     /// Steps of the long road.
-    Steps(LongRun),
+    Steps(Span, Road),
 }
 
 /// What is tried of a crew.
@@ -83,135 +50,60 @@ pub(crate) enum CrewCase {
     StartGated,
 }
 
-// Returns the input of the dense road's first step.
-fn first_input(alloc: Global) -> Option<Arc<StepInput>> {
+// Makes the task to give the speeds of the dense road's first step.
+fn first_speeds(alloc: Global) -> Option<Task> {
     let plan = shared_plan(alloc, &DENSE)?;
     let settings = Settings::of_plan(alloc, &plan).ok()?;
     if !settings.fits(&plan) {
         return None;
     }
-    enter(alloc, &plan, settings, 0, &Road::empty(alloc)).ok()
+    let input = enter(alloc, &plan, settings, 0, &Road::empty(alloc)).ok()?;
+    Some(Task::Speeds(input))
 }
 
-// Asks for the speeds of this step.
-fn first_speeds(alloc: Global) -> Option<Task> {
-    Some(Task::Speeds(first_input(alloc)?))
-}
-
-/// Returns why a crew gave no speeds, or a crowd was not gathered.
-pub(crate) fn refusal(fault: CrewFault) -> Refusal {
-    match fault {
-        CrewFault::OutOfMemory => Refusal::Memory,
-        CrewFault::WorkersGone => Refusal::Workers,
-    }
-}
-
-// Computes a step of a road alone, and adds what the detectors count in it. Returns the road after it.
-fn stepped(
-    alloc: Global,
-    plan: &Arc<Plan>,
-    step: u32,
-    road: &Road,
-    totals: &mut Vec<Totals>,
-) -> Option<Road> {
-    let Ok(settings) = Settings::of_plan(alloc, plan) else {
-        return None;
-    };
-    let Ok(done) = step_alone(alloc, plan, settings, step, road, &mut Meter::new()) else {
-        return None;
-    };
-    for detector in 0..done.input.plan().detectors().len() {
-        let counted = passes(&done.input, &done.speeds, detector as u32);
-        if let Some(total) = totals.get_mut(detector) {
-            total.cars = total.cars.saturating_add(counted.cars);
-            total.speeds = total.speeds.saturating_add(counted.speeds);
+// Makes a road with a standing car at each fourth cell: enough for two workers.
+fn standing(alloc: Global) -> Option<Road> {
+    let mut cars = Vec::new(alloc);
+    for cell in 0..8_192 {
+        if cell % 4 == 0 {
+            cars.push(car(u64::from(cell), cell, 0)).ok()?;
         }
     }
-    Some(done.road)
+    Some(Road::of(cars))
 }
 
-// Makes totals of nothing for each detector.
-fn nothing(alloc: Global, plan: &Plan) -> Option<Vec<Totals>> {
-    vec![in alloc; Totals { cars: 0, speeds: 0 }; plan.detectors().len()].ok()
-}
-
-// Runs the long road up to where workers share it, and from there by one thread, step by step.
-fn long_run(alloc: Global) -> Option<LongRun> {
+// Makes the task to run so many steps of the long road from there as a crew runs together.
+fn long_run(alloc: Global) -> Option<Task> {
     let plan = shared_plan(alloc, &LONG)?;
-    let mut road = Road::empty(alloc);
-    let mut totals = nothing(alloc, &plan)?;
-    for step in 0..BEFORE {
-        road = stepped(alloc, &plan, step, &road, &mut totals)?;
-    }
-    let mut after = road.copied().ok()?;
-    let mut totals = nothing(alloc, &plan)?;
-    for step in BEFORE..BEFORE + TOGETHER {
-        after = stepped(alloc, &plan, step, &after, &mut totals)?;
-    }
     let Ok(settings) = Settings::of_plan(alloc, &plan) else {
         return None;
     };
     let Ok(settings) = Arc::new(alloc, settings) else {
         return None;
     };
-    let span = Span::new(plan, settings, BEFORE, TOGETHER);
-    Some(LongRun {
-        span,
-        road,
-        after,
-        totals,
-    })
+    Some(Task::Steps(Span::new(plan, settings, 0, 64), standing(alloc)?))
 }
 
-// Answers whether a crew gives what it is asked; a refusal where it does not answer.
-fn gives<C: Crew>(alloc: Global, crew: &mut C, task: &Task) -> Result<bool, Refusal> {
+// Answers whether a crew gives what it is asked: these speeds; or steps that it runs together, whose road and totals its
+// contract states.
+fn gives<C: Crew>(alloc: Global, crew: &mut C, task: &Task) -> Result<bool, CrewFault> {
     match task {
-        Task::Speeds(input) => match crew.speeds(alloc, input) {
-            Ok(speeds) => Ok(speeds.as_slice() == SPEEDS),
-            Err(fault) => Err(refusal(fault)),
-        },
-        Task::Steps(run) => match crew.run(alloc, &run.span, &run.road) {
-            Ok(Some(ran)) => { Ok(ran.road.cars() == run.after.cars() && ran.totals == run.totals) }
-            Ok(None) => Ok(false),
-            Err(fault) => Err(refusal(fault)),
-        },
+        Task::Speeds(input) => Ok(crew.speeds(alloc, input)?.as_slice() == SPEEDS),
+        Task::Steps(span, road) => Ok(crew.run(alloc, span, road)?.is_some()),
     }
 }
 
-// Judges what was given.
-fn accepted(is_right: bool, verdict: Verdict) -> Verdict {
-    if is_right {
-        verdict
-    } else {
-        Verdict::Wrong("the speeds or the roads are other ones")
-    }
-}
-
-// Returns the verdict on a call that was refused so first.
-fn after(refused: Refusal) -> Verdict {
+/// Returns the verdict on a call that was refused so first, and gave the expected answer when it was made again.
+pub(crate) fn after(refused: CrewFault) -> Verdict {
     match refused {
-        Refusal::Memory => Verdict::Again,
-        Refusal::Workers => Verdict::Restarted,
-        Refusal::Other => Verdict::Wrong("it was refused for another cause"),
+        CrewFault::OutOfMemory => Verdict::Again,
+        CrewFault::WorkersGone => Verdict::Restarted,
     }
 }
 
 // Tries a crew.
-fn tried_task<C: Crew>(alloc: Global, until: Until, crew: &mut C, task: &Task) -> Verdict {
-    if until == Until::Prepared {
-        return Verdict::Left;
-    }
-    let first = gives(alloc, crew, task);
-    if until == Until::Called {
-        return Verdict::Left;
-    }
-    match first {
-        Ok(is_right) => accepted(is_right, Verdict::Right),
-        Err(refused) => match gives(alloc, crew, task) {
-            Ok(is_right) => accepted(is_right, after(refused)),
-            Err(_) => Verdict::Wrong("it was refused again"),
-        },
-    }
+fn tried_task<C: Crew>(alloc: Global, until: Until, crew: &mut C, task: &Task) -> Option<Verdict> {
+    judged!(until, gives(alloc, crew, task), fault => after(fault), true, is_right => is_right)
 }
 
 // Starts two lasting workers, with a gate or without.
@@ -239,21 +131,26 @@ fn tried_pool<R: Threads + Wait + Clone + Drop + Send + 'static>(
     let mut pool = started(rt, alloc, false)?.ok()?;
     let verdict = tried_task(alloc, until, &mut pool, task);
     pool.finish();
-    Some(verdict)
+    verdict
 }
 
 // Judges workers that were started: they give the speeds. None where an allocation failed in that.
 fn judged_start<R: Threads + Wait + Clone + Drop + Send + 'static>(
     alloc: Global,
+    until: Until,
     mut pool: Pool<R>,
     task: &Task,
     verdict: Verdict,
 ) -> Option<Verdict> {
+    if until == Until::Called {
+        pool.finish();
+        return Some(Verdict::Left);
+    }
     let given = gives(alloc, &mut pool, task);
     pool.finish();
     match given {
-        Ok(is_right) => Some(accepted(is_right, verdict)),
-        Err(Refusal::Memory) => None,
+        Ok(is_right) => Some(accepted(verdict, is_right)),
+        Err(CrewFault::OutOfMemory) => None,
         Err(_) => Some(Verdict::Wrong("the workers do not answer")),
     }
 }
@@ -269,15 +166,10 @@ fn tried_start<R: Threads + Wait + Clone + Drop + Send + 'static>(
     if until == Until::Prepared {
         return Some(Verdict::Left);
     }
-    let first = started(rt, alloc, is_gated)?;
-    match first {
-        Ok(pool) if until == Until::Called => {
-            pool.finish();
-            Some(Verdict::Left)
-        }
-        Ok(pool) => judged_start(alloc, pool, &task, Verdict::Right),
+    match started(rt, alloc, is_gated)? {
+        Ok(pool) => judged_start(alloc, until, pool, &task, Verdict::Right),
         Err(fault) => match started(rt, alloc, is_gated)? {
-            Ok(pool) => judged_start(alloc, pool, &task, after(refusal(fault))),
+            Ok(pool) => judged_start(alloc, until, pool, &task, after(fault)),
             Err(_) => Some(Verdict::Wrong("it was refused again")),
         },
     }
@@ -288,7 +180,7 @@ fn tried_scoped<R: Threads + Wait>(rt: &R, alloc: Global, until: Until) -> Optio
     let task = first_speeds(alloc)?;
     let gate = Box::new(alloc, NoGate).ok()?;
     let mut crew = Scoped::new(rt, 2, gate);
-    Some(tried_task(alloc, until, &mut crew, &task))
+    tried_task(alloc, until, &mut crew, &task)
 }
 
 /// Tries a crew.
@@ -299,13 +191,10 @@ pub(crate) fn tried<R: Threads + Wait + Clone + Drop + Send + 'static>(
     case: CrewCase,
 ) -> Option<Verdict> {
     match case {
-        CrewCase::Alone => {
-            let task = first_speeds(alloc)?;
-            Some(tried_task(alloc, until, &mut Alone, &task))
-        }
+        CrewCase::Alone => tried_task(alloc, until, &mut Alone, &first_speeds(alloc)?),
         CrewCase::Scoped => tried_scoped(rt, alloc, until),
         CrewCase::Pool => tried_pool(rt, alloc, until, &first_speeds(alloc)?),
-        CrewCase::Run => tried_pool(rt, alloc, until, &Task::Steps(long_run(alloc)?)),
+        CrewCase::Run => tried_pool(rt, alloc, until, &long_run(alloc)?),
         CrewCase::Start => tried_start(rt, alloc, until, false),
         CrewCase::StartGated => tried_start(rt, alloc, until, true),
     }

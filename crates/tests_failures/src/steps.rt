@@ -4,7 +4,7 @@ ghost use Rattle.std.specs.Prelude.{◌↔◌, IsTrue};
 ghost use Rattle.road_detector.specs.Rows.{HaveDigits};
 
 use crate::roads::shared_plan;
-use crate::verdict::{Call, Refusal, Until, Verdict, judged};
+use crate::verdict::{Until, Verdict, judged};
 use road_cells::{Car, Road};
 use road_detector::row_text;
 use road_ends::{Meter, OutOfMemory, StepInput, Stepped, enter, finish, step_alone};
@@ -26,23 +26,6 @@ pub(crate) enum StepCase {
     Finish,
     /// All of that.
     Whole,
-}
-
-#[derive(Drop)]
-enum Made {
-    Road(Road),
-    Row(String),
-    Input(Arc<StepInput>),
-    Stepped(Stepped),
-}
-
-#[derive(Drop)]
-struct StepCall {
-    plan: Arc<Plan>,
-    // The road after the first step.
-    road: Road,
-    meter: Meter,
-    case: StepCase,
 }
 
 // Answers whether all speeds have digits.
@@ -77,106 +60,42 @@ fn road_after(alloc: Global, input: &StepInput) -> Result<Road, OutOfMemory> {
     finish(alloc, input, &speeds)
 }
 
-// Makes the road after the second step.
-fn second_road(alloc: Global, plan: &Arc<Plan>, road: &Road) -> Result<Road, OutOfMemory> {
-    let input = input_of(alloc, plan, 1, road)?;
-    road_after(alloc, &input)
-}
-
 // Computes the second step.
-fn stepped(
-    alloc: Global,
-    plan: &Arc<Plan>,
-    road: &Road,
-    meter: &mut Meter,
-) -> Result<Stepped, OutOfMemory> {
+fn stepped(alloc: Global, plan: &Arc<Plan>, road: &Road) -> Result<Stepped, OutOfMemory> {
     let settings = Settings::of_plan(alloc, plan)?;
-    step_alone(alloc, plan, settings, 1, road, meter)
+    step_alone(alloc, plan, settings, 1, road, &mut Meter::new())
 }
 
-// Makes what is tried.
-fn make(
-    alloc: Global,
-    plan: &Arc<Plan>,
-    road: &Road,
-    meter: &mut Meter,
-    case: StepCase,
-) -> Result<Made, OutOfMemory> {
-    match case {
-        StepCase::Copied => Ok(Made::Road(road.copied()?)),
-        StepCase::Row => Ok(Made::Row(drawn(alloc, road)?)),
-        StepCase::Enter => Ok(Made::Input(input_of(alloc, plan, 1, road)?)),
-        StepCase::Finish => Ok(Made::Road(second_road(alloc, plan, road)?)),
-        StepCase::Whole => Ok(Made::Stepped(stepped(alloc, plan, road, meter)?)),
-    }
+// Answers whether this is the row of the dense road after this step, counted from 0.
+fn is_row(row: &str, step: usize) -> Option<bool> {
+    Some(row == *DENSE_ROWS.get(step)?)
 }
 
-// Answers whether the dense road is drawn as this row.
-fn is_row(alloc: Global, road: &Road, row: &str) -> Option<bool> {
+// Answers whether the dense road is drawn as after this step.
+fn is_after(alloc: Global, road: &Road, step: usize) -> Option<bool> {
     let text = drawn(alloc, road).ok()?;
-    Some(text.as_str() == row)
+    is_row(text.as_str(), step)
 }
 
-// Returns the row after this step from the first on.
-fn dense_row(step: usize) -> &'static str {
-    match DENSE_ROWS.get(step) {
-        Some(row) => *row,
-        None => "",
-    }
-}
-
-// Answers whether an input is that of the second step.
-fn is_second(alloc: Global, input: &StepInput) -> Option<bool> {
-    let road = road_after(alloc, input).ok()?;
-    is_row(alloc, &road, dense_row(1))
-}
-
-impl Call for StepCall {
-    type Answer = Made;
-
-    fn answer(&mut self, alloc: Global) -> Result<Made, Refusal> {
-        match make(alloc, &self.plan, &self.road, &mut self.meter, self.case) {
-            Ok(made) => Ok(made),
-            Err(_) => Err(Refusal::Memory),
-        }
-    }
-
-    fn is_right(&mut self, alloc: Global, answer: Made) -> Option<bool> {
-        match (answer, self.case) {
-            (Made::Road(road), StepCase::Copied) => is_row(alloc, &road, dense_row(0)),
-            (Made::Road(road), _) => is_row(alloc, &road, dense_row(1)),
-            (Made::Row(row), _) => Some(row.as_str() == dense_row(0)),
-            (Made::Input(input), _) => is_second(alloc, &input),
-            (Made::Stepped(done), _) => {
-                Some(self.meter.ticks() == 1 && is_row(alloc, &done.road, dense_row(1))?)
-            }
-        }
-    }
-
-    fn is_before(&mut self, alloc: Global) -> Option<bool> {
-        Some(self.meter.ticks() == 0 && is_row(alloc, &self.road, dense_row(0))?)
-    }
-
-    fn is_after(&mut self, alloc: Global) -> Option<bool> {
-        is_row(alloc, &self.road, dense_row(0))
-    }
-}
-
-// Returns the road after the first step.
-fn first_road(alloc: Global, plan: &Arc<Plan>) -> Option<Road> {
-    let input = input_of(alloc, plan, 0, &Road::empty(alloc)).ok()?;
-    road_after(alloc, &input).ok()
-}
-
-/// Tries a step, or a part of it.
+/// Tries the second step, or a part of it.
 pub(crate) fn tried(alloc: Global, until: Until, case: StepCase) -> Option<Verdict> {
     let plan = shared_plan(alloc, &DENSE)?;
-    let road = first_road(alloc, &plan)?;
-    let mut call = StepCall {
-        plan,
-        road,
-        meter: Meter::new(),
-        case,
-    };
-    judged(alloc, until, &mut call)
+    let first = input_of(alloc, &plan, 0, &Road::empty(alloc)).ok()?;
+    let road = road_after(alloc, &first).ok()?;
+    match case {
+        StepCase::Copied => judged!(until, road.copied(), _, copy => is_after(alloc, &copy, 0)?),
+        StepCase::Row => judged!(until, drawn(alloc, &road), _, row => is_row(row.as_str(), 0)?),
+        StepCase::Enter => judged!(
+            until, input_of(alloc, &plan, 1, &road), _,
+            input => is_after(alloc, &road_after(alloc, &input).ok()?, 1)?
+        ),
+        StepCase::Finish => {
+            let input = input_of(alloc, &plan, 1, &road).ok()?;
+            judged!(until, road_after(alloc, &input), _, after => is_after(alloc, &after, 1)?)
+        }
+        StepCase::Whole => judged!(
+            until, stepped(alloc, &plan, &road), _,
+            done => is_after(alloc, &done.road, 1)?
+        ),
+    }
 }

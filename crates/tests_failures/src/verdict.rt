@@ -1,7 +1,5 @@
 //! What comes of a call, whether an allocation fails in it or not.
 
-use std::alloc::Global;
-
 /// How far a call is tried, so that the allocations up to there can be counted.
 #[derive(Clone, Copy, PartialEq, Eq)]
 pub(crate) enum Until {
@@ -9,19 +7,8 @@ pub(crate) enum Until {
     Prepared,
     /// It has answered.
     Called,
-    /// Its answer and what it was called on are judged.
+    /// Its answer is judged.
     Judged,
-}
-
-/// Why a call was refused.
-#[derive(Clone, Copy, PartialEq, Eq)]
-pub(crate) enum Refusal {
-    /// Out of memory, or what may be answered in its place.
-    Memory,
-    /// A thread could not be started, or has gone.
-    Workers,
-    /// Another cause.
-    Other,
 }
 
 /// What came of a call.
@@ -39,73 +26,45 @@ pub(crate) enum Verdict {
     Wrong(&'static str),
 }
 
-/// A call on something that was prepared for it. None stands for an allocation that failed in the judging.
-pub(crate) trait Call {
-    type Answer: Drop;
-
-    /// Makes the call.
-    fn answer(&mut self, alloc: Global) -> Result<Self::Answer, Refusal>;
-
-    /// Answers whether an answer is the expected one.
-    fn is_right(&mut self, alloc: Global, answer: Self::Answer) -> Option<bool>;
-
-    /// Answers whether all is as before the call.
-    fn is_before(&mut self, alloc: Global) -> Option<bool>;
-
-    /// Answers whether all is as it must be after the call.
-    fn is_after(&mut self, alloc: Global) -> Option<bool>;
-}
-
-/// Makes a call, and judges it. Where it is refused, all must be as before, and the same call must then give the
-/// expected answer. None where an allocation failed in the judging.
-pub(crate) fn judged<C: Call>(alloc: Global, until: Until, call: &mut C) -> Option<Verdict> {
-    if until == Until::Prepared {
-        return Some(Verdict::Left);
-    }
-    let first = call.answer(alloc);
-    if until == Until::Called {
-        return Some(Verdict::Left);
-    }
-    match first {
-        Ok(answer) => accepted(alloc, call, answer, Verdict::Right),
-        Err(Refusal::Memory) => made_again(alloc, call, Verdict::Again),
-        Err(Refusal::Workers) => made_again(alloc, call, Verdict::Restarted),
-        Err(Refusal::Other) => Some(Verdict::Wrong("it was refused for another cause")),
+/// Returns this verdict where an answer, and what the call left, are the expected ones.
+pub(crate) fn accepted(verdict: Verdict, is_right: bool) -> Verdict {
+    if is_right {
+        verdict
+    } else {
+        Verdict::Wrong("the answer, or what it leaves, is another one")
     }
 }
 
-// Judges what it gave.
-fn accepted<C: Call>(
-    alloc: Global,
-    call: &mut C,
-    answer: C::Answer,
-    verdict: Verdict,
-) -> Option<Verdict> {
-    if !call.is_right(alloc, answer)? {
-        return Some(Verdict::Wrong("the answer is another one"));
-    }
-    if !call.is_after(alloc)? {
-        return Some(Verdict::Wrong("what it leaves is not as expected"));
-    }
-    Some(verdict)
+/// Makes a call, and judges its answer. Where it is refused by a fault for which it may be made again, it is, and its
+/// answer is judged then. It returns from a function that gives a verdict, or none where an allocation failed before
+/// the call or in the judging. It takes how far the call is tried; the call; the fault; the answer, and whether it is
+/// right. Behind the fault there may stand the verdict on a call that was made again, and whether all is as before it.
+macro_rules! judged {
+    ($until:expr, $call:expr, $fault:pat, $answer:pat => $is_right:expr $(,)?) => {
+        judged!($until, $call, $fault => $crate::verdict::Verdict::Again, true, $answer => $is_right)
+    };
+    ($until:expr, $call:expr, $fault:pat => $again:expr, $is_before:expr, $answer:pat => $is_right:expr $(,)?) => {{
+        if $until == $crate::verdict::Until::Prepared {
+            return Some($crate::verdict::Verdict::Left);
+        }
+        let first = $call;
+        if $until == $crate::verdict::Until::Called {
+            return Some($crate::verdict::Verdict::Left);
+        }
+        let (verdict, last) = match first {
+            Err($fault) => {
+                if !$is_before {
+                    return Some($crate::verdict::Verdict::Wrong("the refused call changed something"));
+                }
+                ($again, $call)
+            }
+            other => ($crate::verdict::Verdict::Right, other),
+        };
+        match last {
+            Ok($answer) => Some($crate::verdict::accepted(verdict, $is_right)),
+            Err(_) => Some($crate::verdict::Verdict::Wrong("it was refused for another cause, or again")),
+        }
+    }};
 }
 
-// Judges what a refused call left, and makes it again.
-fn made_again<C: Call>(alloc: Global, call: &mut C, verdict: Verdict) -> Option<Verdict> {
-    if !call.is_before(alloc)? {
-        return Some(Verdict::Wrong("the refused call changed something"));
-    }
-    match call.answer(alloc) {
-        Ok(answer) => accepted(alloc, call, answer, verdict),
-        Err(_) => Some(Verdict::Wrong("it was refused again")),
-    }
-}
-
-/// Judges something else after a call: it stands only where the call was judged.
-pub(crate) fn and_then(verdict: Verdict, is_right: bool, wrong: &'static str) -> Verdict {
-    match verdict {
-        Verdict::Right if !is_right => Verdict::Wrong(wrong),
-        Verdict::Again if !is_right => Verdict::Wrong(wrong),
-        other => other,
-    }
-}
+pub(crate) use judged;

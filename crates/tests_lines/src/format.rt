@@ -12,7 +12,7 @@ use road_scenario::{Edit, Stamp, Value};
 use std::alloc::Global;
 use std::process::Abort;
 use std::test::Fail;
-use tests_plans::{FREE, Parts, cars, edit, head, reads, stamp};
+use tests_plans::{FREE, Parts, cars, edit, head, pairs, parts, reads, stamp};
 
 /// A plan of 12 cells with three replicas.
 const PLAN: &str =
@@ -31,57 +31,21 @@ fn are_named(names: &[String], wanted: &[&str]) -> bool {
 const NAMES: &[&str] = &["A", "B", "C"];
 
 /// What stands in `PLAN`, what stands in its place, and the names and the parts that are read.
-const PLANS: &[(&str, &str, &[&str], Parts)] = &[
-    ("[5]", "[5]", NAMES, FREE),
-    (
-        "[5]",
-        "[]",
-        NAMES,
-        Parts {
-            detectors: &[],
-            ..FREE
-        },
-    ),
-    (
-        "\"words\":7",
-        "\"words\":\"steady\"",
-        NAMES,
-        Parts {
-            words: WordKind::Steady,
-            ..FREE
-        },
-    ),
-    (
-        "\"words\":7",
-        "\"words\":0",
-        NAMES,
-        Parts {
-            words: WordKind::Seeded(0),
-            ..FREE
-        },
-    ),
-    (
-        "\"words\":7",
-        "\"words\":18446744073709551615",
-        NAMES,
-        Parts {
-            words: WordKind::Seeded(18_446_744_073_709_551_615),
-            ..FREE
-        },
-    ),
+const PLANS: &[((&str, &str), (&[&str], Parts))] = pairs![
+    ("[5]", "[5]") => (NAMES, FREE),
+    ("[5]", "[]") => (NAMES, parts!(detectors: &[])),
+    ("\"words\":7", "\"words\":\"steady\"") => (NAMES, parts!(words: WordKind::Steady)),
+    ("\"words\":7", "\"words\":0") => (NAMES, parts!(words: WordKind::Seeded(0))),
+    ("\"words\":7", "\"words\":18446744073709551615") =>
+        (NAMES, parts!(words: WordKind::Seeded(18_446_744_073_709_551_615))),
     // a name may have 64 bytes
-    (
-        "\"B\",\"C\"",
-        "\"éééééééééééééééééééééééééééééééé\"",
-        &["A", "éééééééééééééééééééééééééééééééé"],
-        FREE,
-    ),
+    ("\"B\",\"C\"", "\"éééééééééééééééééééééééééééééééé\"") => (&["A", "éééééééééééééééééééééééééééééééé"], FREE),
 ];
 
 // Returns whether these names and parts are read of `PLAN` with something replaced.
 fn is_plan(
     alloc: Global,
-    (old, new, names, parts): &(&str, &str, &[&str], Parts),
+    ((old, new), (names, parts)): &((&str, &str), (&[&str], Parts)),
 ) -> Result<bool, Fail> {
     let line = PLAN.replacen(alloc, old, new, 1)?;
     let read = read_plan(alloc, line.as_bytes())?;
@@ -91,7 +55,7 @@ fn is_plan(
 #[test]
 fn reads_plan_lines(rt: HostRuntime) -> Result<(), Fail> {
     for row in PLANS {
-        assert!(rt; is_plan(rt.alloc(), row)?, "{}", row.1);
+        assert!(rt; is_plan(rt.alloc(), row)?, "{}", row.0.1);
     }
     Ok(())
 }
@@ -225,150 +189,63 @@ fn bounds_replicas(rt: HostRuntime) -> Result<(), Fail> {
 }
 
 /// Lines, and what is read of each: commands, edits from outside and messages, crowds.
-const COMMANDS: &[(&str, &str)] = &[
-    (
-        r#"{"advance":{"at":"A","to":6}}"#,
-        r#"Ok(Advance { at: "A", to: 6 })"#,
-    ),
-    (
-        r#"{"advance":{"to":6,"at":"A"}}"#,
-        r#"Ok(Advance { at: "A", to: 6 })"#,
-    ),
-    (
-        " \t{\"advance\" : {\"to\":6, \"at\":\"\\u0041\"}} \r",
-        r#"Ok(Advance { at: "A", to: 6 })"#,
-    ),
-    (
-        r#"{"advance":{"at":"B","to":6,"at":"A"}}"#,
-        r#"Ok(Advance { at: "A", to: 6 })"#,
-    ),
-    (
-        r#"{"advance":0,"advance":{"at":"A","to":6}}"#,
-        r#"Ok(Advance { at: "A", to: 6 })"#,
-    ),
-    (
-        r#"{"cells":{"at":"A","step":4294967295}}"#,
-        r#"Ok(Cells { at: "A", step: 4294967295 })"#,
-    ),
-    (
-        r#"{"cars":{"at":"A","step":6}}"#,
-        r#"Ok(Cars { at: "A", step: 6 })"#,
-    ),
-    (
-        r#"{"count":{"to":6,"at":"A","detector":2,"from":4294967295}}"#,
+const COMMANDS: &[(&str, &str)] = pairs![
+    r#"{"advance":{"at":"A","to":6}}"# => r#"Ok(Advance { at: "A", to: 6 })"#,
+    r#"{"advance":{"to":6,"at":"A"}}"# => r#"Ok(Advance { at: "A", to: 6 })"#,
+    " \t{\"advance\" : {\"to\":6, \"at\":\"\\u0041\"}} \r" => r#"Ok(Advance { at: "A", to: 6 })"#,
+    r#"{"advance":{"at":"B","to":6,"at":"A"}}"# => r#"Ok(Advance { at: "A", to: 6 })"#,
+    r#"{"advance":0,"advance":{"at":"A","to":6}}"# => r#"Ok(Advance { at: "A", to: 6 })"#,
+    r#"{"cells":{"at":"A","step":4294967295}}"# => r#"Ok(Cells { at: "A", step: 4294967295 })"#,
+    r#"{"cars":{"at":"A","step":6}}"# => r#"Ok(Cars { at: "A", step: 6 })"#,
+    r#"{"count":{"to":6,"at":"A","detector":2,"from":4294967295}}"# =>
         r#"Ok(Count { at: "A", detector: 2, from: 4294967295, to: 6 })"#,
-    ),
-    (
-        r#"{"diagram":{"at":"B","from":0,"to":60}}"#,
-        r#"Ok(Diagram { at: "B", from: 0, to: 60 })"#,
-    ),
-    (r#"{"scenario":{"at":"A"}}"#, r#"Ok(Scenario { at: "A" })"#),
+    r#"{"diagram":{"at":"B","from":0,"to":60}}"# => r#"Ok(Diagram { at: "B", from: 0, to: 60 })"#,
+    r#"{"scenario":{"at":"A"}}"# => r#"Ok(Scenario { at: "A" })"#,
     // a name may have 64 bytes and no more
-    (
-        r#"{"scenario":{"at":"éééééééééééééééééééééééééééééééé"}}"#,
+    r#"{"scenario":{"at":"éééééééééééééééééééééééééééééééé"}}"# =>
         r#"Ok(Scenario { at: "éééééééééééééééééééééééééééééééé" })"#,
-    ),
-    (
-        r#"{"send":{"at":"A","name":"éééééééééééééééééééééééééééééééé"}}"#,
+    r#"{"send":{"at":"A","name":"éééééééééééééééééééééééééééééééé"}}"# =>
         r#"Ok(Send { at: "A", name: "éééééééééééééééééééééééééééééééé" })"#,
-    ),
-    (
-        r#"{"edit":{"at":"A","object":["limit",2],"step":3,"value":1}}"#,
+    r#"{"edit":{"at":"A","object":["limit",2],"step":3,"value":1}}"# =>
         r#"Ok(Edit { at: "A", object: Limit(2), step: 3, value: 1 })"#,
-    ),
-    (
-        r#"{"withdraw":{"at":"A","object":["limit",2],"step":1048576}}"#,
+    r#"{"withdraw":{"at":"A","object":["limit",2],"step":1048576}}"# =>
         r#"Ok(Withdraw { at: "A", object: Limit(2), step: 1048576 })"#,
-    ),
-    (
-        r#"{"withdraw":{"at":"A","object":["slow",2],"step":1048576}}"#,
+    r#"{"withdraw":{"at":"A","object":["slow",2],"step":1048576}}"# =>
         r#"Ok(Withdraw { at: "A", object: Slow(2), step: 1048576 })"#,
-    ),
-    (
-        r#"{"withdraw":{"at":"A","object":["block",2],"step":1048576}}"#,
+    r#"{"withdraw":{"at":"A","object":["block",2],"step":1048576}}"# =>
         r#"Ok(Withdraw { at: "A", object: Block(2), step: 1048576 })"#,
-    ),
-    (
-        r#"{"withdraw":{"at":"A","object":["inflow",2],"step":1048576}}"#,
+    r#"{"withdraw":{"at":"A","object":["inflow",2],"step":1048576}}"# =>
         r#"Ok(Withdraw { at: "A", object: Inflow(2), step: 1048576 })"#,
-    ),
-    (
-        r#"{"withdraw":{"at":"A","object":["watch",2],"step":1048576}}"#,
+    r#"{"withdraw":{"at":"A","object":["watch",2],"step":1048576}}"# =>
         r#"Ok(Withdraw { at: "A", object: Watch(2), step: 1048576 })"#,
-    ),
-    (
-        r#"{"withdraw":{"at":"A","object":["start",2],"step":1048576}}"#,
+    r#"{"withdraw":{"at":"A","object":["start",2],"step":1048576}}"# =>
         r#"Ok(Withdraw { at: "A", object: Start(2), step: 1048576 })"#,
-    ),
-    (
-        r#"{"edit":{"at":"A","object":["start",63],"step":1048576,"value":65537}}"#,
+    r#"{"edit":{"at":"A","object":["start",63],"step":1048576,"value":65537}}"# =>
         r#"Ok(Edit { at: "A", object: Start(63), step: 1048576, value: 65537 })"#,
-    ),
-    (
-        r#"{"import":{"at":"A","edits":[["limit",0,0,7,64,2]],"form":1}}"#,
+    r#"{"import":{"at":"A","edits":[["limit",0,0,7,64,2]],"form":1}}"# =>
         r#"Ok(Import { at: "A", edits: [Edit { object: Limit(0), step: 0, stamp: Stamp { count: 7, number: 64 }, value: Put(2) }] })"#,
-    ),
-    (
-        r#"{"import":{"form":1,"edits":[["watch",4294967295,4294967295,18446744073709551615,65535,4294967295],["slow",0,0,0,0,null]],"at":"A"}}"#,
+    r#"{"import":{"form":1,"edits":[["watch",4294967295,4294967295,18446744073709551615,65535,4294967295],["slow",0,0,0,0,null]],"at":"A"}}"# =>
         r#"Ok(Import { at: "A", edits: [Edit { object: Watch(4294967295), step: 4294967295, stamp: Stamp { count: 18446744073709551615, number: 65535 }, value: Put(4294967295) }, Edit { object: Slow(0), step: 0, stamp: Stamp { count: 0, number: 0 }, value: Withdrawn }] })"#,
-    ),
-    (
-        r#"{"import":{"at":"A","edits":[],"form":1}}"#,
-        r#"Ok(Import { at: "A", edits: [] })"#,
-    ),
-    (
-        r#"{"import":{"at":"A","edits":[],"form":3,"form":1}}"#,
-        r#"Ok(Import { at: "A", edits: [] })"#,
-    ),
-    (
-        r#"{"import":{"at":"A","edits":[],"form":2}}"#,
-        r#"Ok(Import { at: "A", edits: [] })"#,
-    ),
+    r#"{"import":{"at":"A","edits":[],"form":1}}"# => r#"Ok(Import { at: "A", edits: [] })"#,
+    r#"{"import":{"at":"A","edits":[],"form":3,"form":1}}"# => r#"Ok(Import { at: "A", edits: [] })"#,
+    r#"{"import":{"at":"A","edits":[],"form":2}}"# => r#"Ok(Import { at: "A", edits: [] })"#,
     // slowing chances of standing cars: in the second form, wherever they stand
-    (
-        r#"{"import":{"at":"A","edits":[["start",0,0,1,64,5]],"form":2}}"#,
+    r#"{"import":{"at":"A","edits":[["start",0,0,1,64,5]],"form":2}}"# =>
         r#"Ok(Import { at: "A", edits: [Edit { object: Start(0), step: 0, stamp: Stamp { count: 1, number: 64 }, value: Put(5) }] })"#,
-    ),
-    (
-        r#"{"import":{"at":"A","edits":[["watch",0,0,1,64,0],["start",63,1048576,0,3,null]],"form":2}}"#,
+    r#"{"import":{"at":"A","edits":[["watch",0,0,1,64,0],["start",63,1048576,0,3,null]],"form":2}}"# =>
         r#"Ok(Import { at: "A", edits: [Edit { object: Watch(0), step: 0, stamp: Stamp { count: 1, number: 64 }, value: Put(0) }, Edit { object: Start(63), step: 1048576, stamp: Stamp { count: 0, number: 3 }, value: Withdrawn }] })"#,
-    ),
-    (
-        r#"{"send":{"at":"A","name":"m1"}}"#,
-        r#"Ok(Send { at: "A", name: "m1" })"#,
-    ),
-    (
-        r#"{"heads":{"name":"h","at":"A"}}"#,
-        r#"Ok(Heads { at: "A", name: "h" })"#,
-    ),
-    (
-        r#"{"beyond":{"at":"B","heads":"h","name":"d"}}"#,
-        r#"Ok(Beyond { at: "B", heads: "h", name: "d" })"#,
-    ),
-    (
-        r#"{"take":{"at":"B","message":"m1"}}"#,
-        r#"Ok(Take { at: "B", message: "m1" })"#,
-    ),
-    (
-        r#"{"crowd":{"form":1,"shares":[[["limit",0,0,7,64,2]],[]],"to":6}}"#,
+    r#"{"send":{"at":"A","name":"m1"}}"# => r#"Ok(Send { at: "A", name: "m1" })"#,
+    r#"{"heads":{"name":"h","at":"A"}}"# => r#"Ok(Heads { at: "A", name: "h" })"#,
+    r#"{"beyond":{"at":"B","heads":"h","name":"d"}}"# => r#"Ok(Beyond { at: "B", heads: "h", name: "d" })"#,
+    r#"{"take":{"at":"B","message":"m1"}}"# => r#"Ok(Take { at: "B", message: "m1" })"#,
+    r#"{"crowd":{"form":1,"shares":[[["limit",0,0,7,64,2]],[]],"to":6}}"# =>
         "Ok(Crowd { shares: [[Edit { object: Limit(0), step: 0, stamp: Stamp { count: 7, number: 64 }, value: Put(2) }], []], to: 6 })",
-    ),
-    (
-        r#"{"crowd":{"to":4294967295,"shares":[[["watch",0,1,2,3,null],["limit",0,0,7,64,2]],[["start",1,0,7,64,2]]],"form":2}}"#,
+    r#"{"crowd":{"to":4294967295,"shares":[[["watch",0,1,2,3,null],["limit",0,0,7,64,2]],[["start",1,0,7,64,2]]],"form":2}}"# =>
         "Ok(Crowd { shares: [[Edit { object: Watch(0), step: 1, stamp: Stamp { count: 2, number: 3 }, value: Withdrawn }, Edit { object: Limit(0), step: 0, stamp: Stamp { count: 7, number: 64 }, value: Put(2) }], [Edit { object: Start(1), step: 0, stamp: Stamp { count: 7, number: 64 }, value: Put(2) }]], to: 4294967295 })",
-    ),
-    (
-        r#"{"crowd":{"form":1,"shares":[[]],"to":0}}"#,
-        "Ok(Crowd { shares: [[]], to: 0 })",
-    ),
-    (
-        r#"{"crowd":{"form":1,"shares":[[],[],[],[],[],[],[],[]],"to":6}}"#,
+    r#"{"crowd":{"form":1,"shares":[[]],"to":0}}"# => "Ok(Crowd { shares: [[]], to: 0 })",
+    r#"{"crowd":{"form":1,"shares":[[],[],[],[],[],[],[],[]],"to":6}}"# =>
         "Ok(Crowd { shares: [[], [], [], [], [], [], [], []], to: 6 })",
-    ),
-    (
-        r#"{"crowd":{"form":3,"shares":[],"to":6,"form":1,"shares":[[]]}}"#,
-        "Ok(Crowd { shares: [[]], to: 6 })",
-    ),
+    r#"{"crowd":{"form":3,"shares":[],"to":6,"form":1,"shares":[[]]}}"# => "Ok(Crowd { shares: [[]], to: 6 })",
 ];
 
 /// Lines that are not JSON.
@@ -733,65 +610,36 @@ const HEADS: &[Head] = &[
 const CARS: &[Car] = cars![(0, 3, 1), (18_446_744_073_709_551_615, 1_048_575, 9)];
 
 /// Answers, and how each is written.
-const ANSWERS: &[(Said, &str)] = &[
+const ANSWERS: &[(Said, &str)] = pairs![
     // numbers
-    (Said::Open(3), "{\"open\":3}\n"),
-    (Said::Horizon(1_048_576), "{\"horizon\":1048576}\n"),
-    (
-        Said::Counted(1_048_576, 9_437_184),
-        "{\"cars\":1048576,\"speeds\":9437184}\n",
-    ),
+    Said::Open(3) => "{\"open\":3}\n",
+    Said::Horizon(1_048_576) => "{\"horizon\":1048576}\n",
+    Said::Counted(1_048_576, 9_437_184) => "{\"cars\":1048576,\"speeds\":9437184}\n",
     // empty lists
-    (Said::Cars(&[]), "{\"cars\":[]}\n"),
-    (Said::Rows(&[]), "{\"rows\":[]}\n"),
-    (Said::Edits(&[]), "{\"edits\":[],\"form\":2}\n"),
+    Said::Cars(&[]) => "{\"cars\":[]}\n",
+    Said::Rows(&[]) => "{\"rows\":[]}\n",
+    Said::Edits(&[]) => "{\"edits\":[],\"form\":2}\n",
     // edits
-    (
-        Said::Stamped(stamp!(281_474_976_710_656, 63)),
-        "{\"stamp\":[281474976710656,63]}\n",
-    ),
-    (
-        Said::Edits(EDITS),
+    Said::Stamped(stamp!(281_474_976_710_656, 63)) => "{\"stamp\":[281474976710656,63]}\n",
+    Said::Edits(EDITS) =>
         "{\"edits\":[[\"limit\",0,1048575,281474976710656,65535,4294967295],[\"watch\",63,0,1,0,null],[\"start\",0,0,1,64,65536],[\"start\",63,1048575,2,0,null]],\"form\":2}\n",
-    ),
     // messages
-    (
-        Said::Sent("m\"1", 18_446_744_073_709_551_615),
-        "{\"message\":\"m\\\"1\",\"size\":18446744073709551615}\n",
-    ),
-    (
-        Said::Heads("h", HEADS),
+    Said::Sent("m\"1", 18_446_744_073_709_551_615) => "{\"message\":\"m\\\"1\",\"size\":18446744073709551615}\n",
+    Said::Heads("h", HEADS) =>
         "{\"form\":2,\"heads\":[[\"slow\",0,0,1,0],[\"inflow\",15,1048575,281474976710656,65535],[\"start\",63,0,1,64]],\"message\":\"h\"}\n",
-    ),
-    (
-        Said::Delta("d", EDITS),
+    Said::Delta("d", EDITS) =>
         "{\"edits\":[[\"limit\",0,1048575,281474976710656,65535,4294967295],[\"watch\",63,0,1,0,null],[\"start\",0,0,1,64,65536],[\"start\",63,1048575,2,0,null]],\"form\":2,\"message\":\"d\"}\n",
-    ),
     // crowds
-    (
-        Said::Crowd(EDITS, 4_294_967_295, "0..2..10#..."),
+    Said::Crowd(EDITS, 4_294_967_295, "0..2..10#...") =>
         "{\"edits\":[[\"limit\",0,1048575,281474976710656,65535,4294967295],[\"watch\",63,0,1,0,null],[\"start\",0,0,1,64,65536],[\"start\",63,1048575,2,0,null]],\"form\":2,\"journal\":4294967295,\"row\":\"0..2..10#...\"}\n",
-    ),
-    (
-        Said::Crowd(&[], 1, "............"),
-        "{\"edits\":[],\"form\":2,\"journal\":1,\"row\":\"............\"}\n",
-    ),
+    Said::Crowd(&[], 1, "............") => "{\"edits\":[],\"form\":2,\"journal\":1,\"row\":\"............\"}\n",
     // touched steps
-    (Said::Touched(Some(1_048_575)), "{\"touched\":1048575}\n"),
-    (Said::Touched(None), "{\"touched\":null}\n"),
+    Said::Touched(Some(1_048_575)) => "{\"touched\":1048575}\n",
+    Said::Touched(None) => "{\"touched\":null}\n",
     // rows and cars
-    (
-        Said::Cells("0..2..10#..."),
-        "{\"cells\":\"0..2..10#...\"}\n",
-    ),
-    (
-        Said::Rows(&["0..2..10#...", "............"]),
-        "{\"rows\":[\"0..2..10#...\",\"............\"]}\n",
-    ),
-    (
-        Said::Cars(CARS),
-        "{\"cars\":[[0,3,1],[18446744073709551615,1048575,9]]}\n",
-    ),
+    Said::Cells("0..2..10#...") => "{\"cells\":\"0..2..10#...\"}\n",
+    Said::Rows(&["0..2..10#...", "............"]) => "{\"rows\":[\"0..2..10#...\",\"............\"]}\n",
+    Said::Cars(CARS) => "{\"cars\":[[0,3,1],[18446744073709551615,1048575,9]]}\n",
 ];
 
 /// Refusals, and how each is named.

@@ -1,7 +1,6 @@
 //! Runs over memory that end at a limit or a fault, and runs over streams of std; their ends are worked out by hand.
 
 use road_crowd::OnThreads;
-use road_ends::StepInput;
 use road_plan::{OutOfMemory, Plan};
 use road_replica::{Crowd, Crowds};
 use road_scenario::Edit;
@@ -15,14 +14,15 @@ use std::hash::{BuildHasher, Hasher, RandomState};
 use std::io;
 use std::sync::Arc;
 use std::test::Fail;
+use tests_plans::{Leaving, pairs};
 
 // A road of 12 cells without slowing, and three replicas.
 const FREE_ROAD: &str =
     r#"{"detectors":[5],"exit":1,"inlets":[[0,65536]],"length":12,"replicas":["A","B","C"],"words":7,"zone":12,"zones":[[2,0]]}
 "#;
 
-// Returns a sink with room for 1,000 bytes, so that none of its writes wants memory.
-fn sink(alloc: Global) -> Result<MemorySink, OutOfMemory> {
+/// Returns a sink with room for 1,000 bytes, so that none of its writes wants memory.
+pub(crate) fn sink(alloc: Global) -> Result<MemorySink, OutOfMemory> {
     let bytes = Vec::with_capacity(alloc, 1000)?;
     Ok(MemorySink::new(bytes, 1000, Failing::Never, Failing::Never))
 }
@@ -78,6 +78,16 @@ pub(crate) fn end_of(
     }
 }
 
+/// Serves where no crowd is gathered, and returns how that ended. Out of memory ends the test in its place.
+pub(crate) fn served<R: Source, W: Sink, C: Crew>(
+    alloc: Global,
+    reader: &mut R,
+    writer: &mut W,
+    crew: &mut C,
+) -> Result<Result<Served, ServeFault>, OutOfMemory> {
+    end_of(serve(alloc, reader, writer, crew, &Unmanned, AllAlike))
+}
+
 // Three commands on the free road, in 90 bytes.
 const COMMANDS: &str = r#"{"advance":{"at":"A","to":1}}
 {"advance":{"at":"A","to":1}}
@@ -87,14 +97,11 @@ const COMMANDS: &str = r#"{"advance":{"at":"A","to":1}}
 const REPLIES: &str = "{\"open\":3}\n{\"horizon\":1}\n{\"horizon\":1}\n{\"horizon\":1}\n";
 
 // So many lines and bytes at most; how many bytes a read gives, and which reads fail; how many bytes the writer takes,
-// and which of its writes and flushes fail; how the run ends, and how many bytes of the replies it has written, where
+// and which of its writes and flushes fail. And how the run ends, and how many bytes of the replies it has written, where
 // that is said.
 type Run = (
-    (u32, u64),
-    (usize, Failing),
-    (usize, Failing, Failing),
-    &'static str,
-    Option<usize>,
+    ((u32, u64), (usize, Failing), (usize, Failing, Failing)),
+    (&'static str, Option<usize>),
 );
 
 const ALL: Failing = Failing::Never;
@@ -102,102 +109,32 @@ const ALL: Failing = Failing::Never;
 const WHOLE: &str = "Ok(Served { lines: 3 })";
 
 // The plan line has 121 bytes, and the input 211.
-const RUNS: &[Run] = &[
-    ((3, 1000), (7, ALL), (1000, ALL, ALL), WHOLE, Some(53)),
-    ((3, 211), (7, ALL), (1000, ALL, ALL), WHOLE, Some(53)),
-    (
-        (2, 1000),
-        (7, ALL),
-        (1000, ALL, ALL),
-        "Err(TooMany)",
-        Some(39),
-    ),
-    (
-        (3, 210),
-        (7, ALL),
-        (1000, ALL, ALL),
-        "Err(TooMany)",
-        Some(39),
-    ),
-    ((3, 1000), (7, ALL), (14, ALL, ALL), "Err(Write)", Some(14)),
-    (
-        (3, 1000),
-        (7, ALL),
-        (1000, Failing::Once(1), ALL),
-        "Err(Write)",
-        Some(11),
-    ),
-    (
-        (3, 1000),
-        (7, ALL),
-        (1000, Failing::From(1), ALL),
-        "Err(Write)",
-        Some(11),
-    ),
-    (
-        (3, 1000),
-        (7, ALL),
-        (1000, ALL, Failing::Once(0)),
-        "Err(Write)",
-        None,
-    ),
-    (
-        (3, 1000),
-        (7, ALL),
-        (1000, ALL, Failing::From(0)),
-        "Err(Write)",
-        None,
-    ),
-    (
-        (3, 1000),
-        (121, Failing::Once(1)),
-        (1000, ALL, ALL),
-        "Err(Read)",
-        Some(11),
-    ),
-    (
-        (3, 1000),
-        (121, Failing::From(1)),
-        (1000, ALL, ALL),
-        "Err(Read)",
-        Some(11),
-    ),
-    (
-        (3, 1000),
-        (7, Failing::Once(0)),
-        (1000, ALL, ALL),
-        "Err(Read)",
-        Some(0),
-    ),
+const RUNS: &[Run] = pairs![
+    ((3, 1000), (7, ALL), (1000, ALL, ALL)) => (WHOLE, Some(53)),
+    ((3, 211), (7, ALL), (1000, ALL, ALL)) => (WHOLE, Some(53)),
+    ((2, 1000), (7, ALL), (1000, ALL, ALL)) => ("Err(TooMany)", Some(39)),
+    ((3, 210), (7, ALL), (1000, ALL, ALL)) => ("Err(TooMany)", Some(39)),
+    ((3, 1000), (7, ALL), (14, ALL, ALL)) => ("Err(Write)", Some(14)),
+    ((3, 1000), (7, ALL), (1000, Failing::Once(1), ALL)) => ("Err(Write)", Some(11)),
+    ((3, 1000), (7, ALL), (1000, Failing::From(1), ALL)) => ("Err(Write)", Some(11)),
+    ((3, 1000), (7, ALL), (1000, ALL, Failing::Once(0))) => ("Err(Write)", None),
+    ((3, 1000), (7, ALL), (1000, ALL, Failing::From(0))) => ("Err(Write)", None),
+    ((3, 1000), (121, Failing::Once(1)), (1000, ALL, ALL)) => ("Err(Read)", Some(11)),
+    ((3, 1000), (121, Failing::From(1)), (1000, ALL, ALL)) => ("Err(Read)", Some(11)),
+    ((3, 1000), (7, Failing::Once(0)), (1000, ALL, ALL)) => ("Err(Read)", Some(0)),
     // Nothing is read past a limit: that read would fail.
-    (
-        (2, 1000),
-        (1000, Failing::From(1)),
-        (1000, ALL, ALL),
-        "Err(TooMany)",
-        Some(39),
-    ),
-    (
-        (3, 210),
-        (1000, Failing::From(1)),
-        (1000, ALL, ALL),
-        "Err(TooMany)",
-        Some(39),
-    ),
+    // Nothing is read past a limit: that read would fail.
+    ((2, 1000), (1000, Failing::From(1)), (1000, ALL, ALL)) => ("Err(TooMany)", Some(39)),
+    ((3, 210), (1000, Failing::From(1)), (1000, ALL, ALL)) => ("Err(TooMany)", Some(39)),
     // The read that would give the end of the input.
-    (
-        (3, 1000),
-        (1000, Failing::Once(1)),
-        (1000, ALL, ALL),
-        "Err(Read)",
-        Some(53),
-    ),
+    // The read that would give the end of the input.
+    ((3, 1000), (1000, Failing::Once(1)), (1000, ALL, ALL)) => ("Err(Read)", Some(53)),
 ];
 
 #[test]
 fn limits_and_faults(rt: HostRuntime) -> Result<(), Fail> {
     let input = format!(in rt.alloc(); "{FREE_ROAD}{COMMANDS}")?;
-    for &((lines, bytes), (piece, reads), (room, writes, flushes), end, written) in RUNS {
+    for &(((lines, bytes), (piece, reads), (room, writes, flushes)), (end, written)) in RUNS {
         assert!(rt; piece > 0);
         let mut reader = MemorySource::new(input.as_bytes(), piece, reads);
         let taken = Vec::with_capacity(rt.alloc(), 1000)?;
@@ -228,36 +165,9 @@ fn limits_and_faults(rt: HostRuntime) -> Result<(), Fail> {
 fn a_refused_plan_is_the_end(rt: HostRuntime) -> Result<(), Fail> {
     let mut writer = sink(rt.alloc())?;
     let mut reader = MemorySource::new(b"{}\n", 3, Failing::From(1));
-    let result = end_of(serve(
-        rt.alloc(),
-        &mut reader,
-        &mut writer,
-        &mut Alone,
-        &Unmanned,
-        AllAlike,
-    ))?;
+    let result = served(rt.alloc(), &mut reader, &mut writer, &mut Alone)?;
     assert!(rt; matches!(result, Err(ServeFault::BadPlan)));
     Ok(())
-}
-
-/// Answers `WorkersGone` once, after some calls, and computes all other speeds by itself.
-#[derive(Clone, Copy, Debug)]
-pub(crate) struct Leaving {
-    pub(crate) calls_left: u64,
-    pub(crate) gone: u64,
-}
-
-impl Crew for Leaving {
-    ghost times_gone = { λ crew. crew.gone };
-
-    fn speeds(&mut self, alloc: Global, input: &Arc<StepInput>) -> Result<Vec<u8>, CrewFault> {
-        if self.gone == 0 && self.calls_left == 0 {
-            self.gone = 1;
-            return Err(CrewFault::WorkersGone);
-        }
-        self.calls_left = self.calls_left.saturating_sub(1);
-        Ok(input.speeds(alloc)?)
-    }
 }
 
 // Six steps, an edit for which they are all taken again, and six steps of another replica.
@@ -283,10 +193,7 @@ fn workers_that_leave(rt: HostRuntime) -> Result<(), Fail> {
     let replies = "{\"open\":3}\n{\"horizon\":6}\n{\"stamp\":[1,0]}\n{\"horizon\":6}\n";
     for &(calls_left, status, written) in WORKERS {
         let mut writer = sink(alloc)?;
-        let mut crew = Leaving {
-            calls_left,
-            gone: 0,
-        };
+        let mut crew = Leaving::after(calls_left);
         // Each reply is written before the next line is read.
         let mut reader = MemorySource::new(input.as_bytes(), 1, ALL);
         let ended = run_by(
@@ -322,18 +229,8 @@ fn a_crowd_without_threads(rt: HostRuntime) -> Result<(), Fail> {
     let input = format!(in alloc; "{FREE_ROAD}{CROWDS}")?;
     let mut reader = MemorySource::new(input.as_bytes(), 1, ALL);
     let mut writer = sink(alloc)?;
-    let mut crew = Leaving {
-        calls_left: 0,
-        gone: 0,
-    };
-    let result = end_of(serve(
-        alloc,
-        &mut reader,
-        &mut writer,
-        &mut crew,
-        &Unmanned,
-        AllAlike,
-    ))?;
+    let mut crew = Leaving::after(0);
+    let result = served(alloc, &mut reader, &mut writer, &mut crew)?;
     assert!(rt; matches!(result, Err(ServeFault::WorkersGone)) && crew.gone == 0);
     let replies = "{\"open\":3}\n{\"refused\":\"Insider\"}\n";
     assert!(rt; writer.bytes() == replies.as_bytes());
@@ -443,14 +340,7 @@ fn writers_of_std(rt: HostRuntime) -> Result<(), Fail> {
         };
         let mut writer = StdSink::new(&mut holding);
         let mut reader = MemorySource::new(FREE_ROAD.as_bytes(), usize::MAX, ALL);
-        let result = end_of(serve(
-            rt.alloc(),
-            &mut reader,
-            &mut writer,
-            &mut Alone,
-            &Unmanned,
-            AllAlike,
-        ))?;
+        let result = served(rt.alloc(), &mut reader, &mut writer, &mut Alone)?;
         drop(writer);
         if whole {
             assert!(rt; result.is_ok() && holding.passed_on == 11 && holding.held == 0);
@@ -474,14 +364,7 @@ fn a_failed_write_of_std(rt: HostRuntime) -> Result<(), Fail> {
         };
         let mut writer = StdSink::new(&mut refusing);
         let mut reader = MemorySource::new(FREE_ROAD.as_bytes(), usize::MAX, ALL);
-        let result = end_of(serve(
-            rt.alloc(),
-            &mut reader,
-            &mut writer,
-            &mut Alone,
-            &Unmanned,
-            AllAlike,
-        ))?;
+        let result = served(rt.alloc(), &mut reader, &mut writer, &mut Alone)?;
         drop(writer);
         assert!(rt; matches!(result, Err(ServeFault::Write)) && refusing.writes == 1);
     }

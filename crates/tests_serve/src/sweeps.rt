@@ -3,16 +3,15 @@
 
 ghost use Rattle.std.specs.Prelude.{◌≤◌, length, IfOk};
 
-use crate::runs::{AllAlike, Leaving, Unmanned, end_of};
+use crate::runs::{AllAlike, Unmanned, served, sink};
 use road_plan::OutOfMemory;
-use road_serve::{
-    Failing, MemorySink, MemorySource, ServeFault, StdSink, StdSource, run_by, serve,
-};
+use road_serve::{Failing, MemorySink, MemorySource, ServeFault, StdSink, StdSource, run_by};
 use road_workers::Alone;
 use std::alloc::Global;
 use std::io;
 use std::process::Abort;
 use std::test::Fail;
+use tests_plans::Leaving;
 
 // The stored run: a late edit, its withdrawal, and an older message that brings it back.
 const STORED: &str =
@@ -70,21 +69,10 @@ fn written_after(calls: u64) -> usize {
 // Runs the stored run by a crew that leaves after so many calls. A reader of one byte at a time lets each reply be written
 // before the next line is read.
 fn leaves(rt: &impl Abort, alloc: Global, calls_left: u64) -> Result<(), Fail> {
-    let taken = Vec::with_capacity(alloc, 1000)?;
-    let mut writer = MemorySink::new(taken, 1000, Failing::Never, Failing::Never);
+    let mut writer = sink(alloc)?;
     let mut reader = MemorySource::new(STORED.as_bytes(), 1, Failing::Never);
-    let mut crew = Leaving {
-        calls_left,
-        gone: 0,
-    };
-    let result = end_of(serve(
-        alloc,
-        &mut reader,
-        &mut writer,
-        &mut crew,
-        &Unmanned,
-        AllAlike,
-    ))?;
+    let mut crew = Leaving::after(calls_left);
+    let result = served(alloc, &mut reader, &mut writer, &mut crew)?;
     let front = ANSWERS.as_bytes().get(..written_after(calls_left));
     assert!(rt; matches!(result, Err(ServeFault::WorkersGone)) && crew.gone == 1);
     assert!(rt; front == Some(writer.bytes()), "after {calls_left} calls");
@@ -102,13 +90,9 @@ fn a_crew_leaves_at_each_call(rt: HostRuntime) -> Result<(), Fail> {
 // A crew that would leave at the call behind them is not asked.
 #[test]
 fn a_crew_is_asked_no_more(rt: HostRuntime) -> Result<(), Fail> {
-    let taken = Vec::with_capacity(rt.alloc(), 1000)?;
-    let mut writer = MemorySink::new(taken, 1000, Failing::Never, Failing::Never);
+    let mut writer = sink(rt.alloc())?;
     let mut reader = MemorySource::new(STORED.as_bytes(), 1, Failing::Never);
-    let mut crew = Leaving {
-        calls_left: CALLS,
-        gone: 0,
-    };
+    let mut crew = Leaving::after(CALLS);
     let ended = run_by(
         rt.alloc(),
         &mut reader,
@@ -176,14 +160,7 @@ fn falters(rt: &impl Abort, alloc: Global, fails_at: u64, takes_none: bool) -> R
     };
     let mut writer = StdSink::new(&mut faltering);
     let mut reader = MemorySource::new(STORED.as_bytes(), usize::MAX, Failing::Never);
-    let result = end_of(serve(
-        alloc,
-        &mut reader,
-        &mut writer,
-        &mut Alone,
-        &Unmanned,
-        AllAlike,
-    ))?;
+    let result = served(alloc, &mut reader, &mut writer, &mut Alone)?;
     drop(writer);
     let front = ANSWERS.as_bytes().get(..fails_at as usize);
     assert!(rt; matches!(result, Err(ServeFault::Write)));
@@ -227,14 +204,7 @@ fn a_sink_takes_short(rt: HostRuntime) -> Result<(), Fail> {
     for step in [1, 2, 3, 7, 100] {
         let mut writer = short_sink(rt.alloc(), step, Failing::Never)?;
         let mut reader = MemorySource::new(STORED.as_bytes(), usize::MAX, Failing::Never);
-        let result = end_of(serve(
-            rt.alloc(),
-            &mut reader,
-            &mut writer,
-            &mut Alone,
-            &Unmanned,
-            AllAlike,
-        ))?;
+        let result = served(rt.alloc(), &mut reader, &mut writer, &mut Alone)?;
         assert!(rt; result.is_ok() && writer.bytes() == ANSWERS.as_bytes());
     }
     Ok(())
@@ -244,14 +214,7 @@ fn a_sink_takes_short(rt: HostRuntime) -> Result<(), Fail> {
 fn sink_fails(rt: &impl Abort, alloc: Global, fails_at: u64) -> Result<(), Fail> {
     let mut writer = short_sink(alloc, 1, Failing::Once(fails_at))?;
     let mut reader = MemorySource::new(STORED.as_bytes(), usize::MAX, Failing::Never);
-    let result = end_of(serve(
-        alloc,
-        &mut reader,
-        &mut writer,
-        &mut Alone,
-        &Unmanned,
-        AllAlike,
-    ))?;
+    let result = served(alloc, &mut reader, &mut writer, &mut Alone)?;
     let front = ANSWERS.as_bytes().get(..fails_at as usize);
     assert!(rt; matches!(result, Err(ServeFault::Write)) && front == Some(writer.bytes()));
     Ok(())
@@ -315,17 +278,9 @@ fn stumbles(rt: &impl Abort, alloc: Global, fails_at: u64) -> Result<(), Fail> {
         calls: 0,
         fails_at,
     };
-    let taken = Vec::with_capacity(alloc, 1000)?;
-    let mut writer = MemorySink::new(taken, 1000, Failing::Never, Failing::Never);
+    let mut writer = sink(alloc)?;
     let mut reader = StdSource::new(&mut stumbling);
-    let result = end_of(serve(
-        alloc,
-        &mut reader,
-        &mut writer,
-        &mut Alone,
-        &Unmanned,
-        AllAlike,
-    ))?;
+    let result = served(alloc, &mut reader, &mut writer, &mut Alone)?;
     drop(reader);
     let written = bytes_of_answers(lines_within(fails_at as usize));
     assert!(rt; matches!(result, Err(ServeFault::Read)));

@@ -3,41 +3,18 @@
 ghost use Rattle.std.specs.Prelude.{◌≡◌};
 
 use crate::worked::opened_for;
-use crate::writes::{BLOCK, LIMIT, WANT, Write, wrote_by};
-use road_ends::{Meter, StepInput};
+use crate::writes::{WANT, Write, wrote_by};
+use road_ends::Meter;
 use road_plan::Object;
 use road_scenario::{Edit, Stamp, Value};
 use road_sessions::{Naming, Prepared, open};
-use road_workers::{Crew, CrewFault};
 use std::alloc::Global;
 use std::marker::Brand;
-use std::sync::{Arc, Wait};
-
-/// Computes all speeds by itself and counts its calls.
-#[derive(Clone, Copy)]
-struct Counting {
-    calls: u64,
-}
-
-impl Crew for Counting {
-    ghost times_gone = { λ _. 0 };
-
-    fn speeds(&mut self, alloc: Global, input: &Arc<StepInput>) -> Result<Vec<u8>, CrewFault> {
-        self.calls = self.calls.saturating_add(1);
-        Ok(input.speeds(alloc)?)
-    }
-}
+use std::sync::Wait;
+use tests_plans::{BLOCK, Counting, LIMIT, edit};
 
 /// The limit is 1 from step 99 on, by a replica elsewhere.
-const SLOW: Edit = Edit {
-    object: LIMIT,
-    step: 99,
-    stamp: Stamp {
-        count: 9,
-        number: 1,
-    },
-    value: Value::Put(1),
-};
+const SLOW: Edit = edit!(LIMIT, 99, (9, 1), 1);
 
 /// Writes of one session, whether they are accepted, and the steps that all up to each compute. An edit computes those
 /// from the multiple of 64 before it. The journal takes six.

@@ -3,64 +3,26 @@
 use crate::acts::{Act, Script};
 use crate::closings::Closing;
 use crate::journals::Line;
-use crate::questions::{Cars, Count, Row, Run};
-use crate::writes::{BLOCK, LIMIT, Write};
-use road_cells::Car;
+use crate::questions::{Cars, Count, Run};
+use crate::writes::Write;
 use road_replica::{ReplicaFault, Reply};
 use road_scenario::{Edit, Stamp, Value};
 use road_sessions::{LookFault, WriteFault};
 use road_sheet::SheetFault;
+use tests_plans::{BLOCK, BLOCKED_ROWS, CARS_AT_SIX, FREE_ROWS, LIMIT, edit, pairs, stamp};
 
-const FIRST_STAMP: Stamp = Stamp {
-    count: 1,
-    number: 0,
-};
+/// The cell 8 is blocked from step 4 on; that is withdrawn; the limit is 1 from step 64 on.
+const BLOCKED: Edit = edit!(BLOCK, 4, (1, 0), 1);
 
-const SECOND_STAMP: Stamp = Stamp {
-    count: 2,
-    number: 0,
-};
+const OPENED: Edit = edit!(BLOCK, 4, (2, 0), withdrawn);
 
-/// The cell 8 is blocked from step 4 on.
-const BLOCKED: Edit = Edit {
-    object: BLOCK,
-    step: 4,
-    stamp: FIRST_STAMP,
-    value: Value::Put(1),
-};
-
-/// That is withdrawn.
-const OPENED: Edit = Edit {
-    stamp: SECOND_STAMP,
-    value: Value::Withdrawn,
-    ..BLOCKED
-};
-
-/// The limit is 1 from step 64 on.
-const SLOW: Edit = Edit {
-    object: LIMIT,
-    step: 64,
-    ..BLOCKED
-};
-
-/// The rows of the free road from 4 to 6, and those with the cell blocked.
-const FREE_ROWS: &[Row] = &[
-    (4, "0..2...2...."),
-    (5, ".1...2...2.."),
-    (6, "0..2...2...."),
-];
-
-const BLOCKED_ROWS: &[Row] = &[
-    (4, "0..2...2#..."),
-    (5, ".1...2.0#..."),
-    (6, "0..2..10#..."),
-];
+const SLOW: Edit = edit!(LIMIT, 64, (1, 0), 1);
 
 const TO_SIX: Act = Act::Write(Write::Advance(6), Ok((0, Reply::Horizon(6))));
 
 const BLOCKS: Act = Act::Write(
     Write::Edit(BLOCK, 4, 1),
-    Ok((1, Reply::Stamped(FIRST_STAMP))),
+    Ok((1, Reply::Stamped(stamp!(1, 0)))),
 );
 
 const FULL: Act = Act::Write(Write::Advance(7), Err(WriteFault::JournalFull));
@@ -70,15 +32,15 @@ pub(crate) const TOLD: Script = Script {
     number: 0,
     sessions: 2,
     limit: 2,
-    acts: &[
-        (0, TO_SIX),
-        (0, BLOCKS),
-        (1, Act::Hear),
-        (1, Act::Look(6, BLOCKED_ROWS)),
-        (0, Act::Look(6, BLOCKED_ROWS)),
-        (1, FULL),
-        (0, FULL),
-        (1, Act::Look(6, BLOCKED_ROWS)),
+    acts: pairs![
+        0 => TO_SIX,
+        0 => BLOCKS,
+        1 => Act::Hear,
+        1 => Act::Look(6, BLOCKED_ROWS),
+        0 => Act::Look(6, BLOCKED_ROWS),
+        1 => FULL,
+        0 => FULL,
+        1 => Act::Look(6, BLOCKED_ROWS),
     ],
     closing: Closing::InOrder,
     handed_back: &[],
@@ -99,21 +61,21 @@ pub(crate) const CLOSINGS: [Closing; 4] = [
 pub(crate) const LAST_MISSING: Script = Script {
     sessions: 3,
     limit: 3,
-    acts: &[(0, TO_SIX)],
+    acts: pairs![0 => TO_SIX],
     closing: Closing::WithoutLast,
-    handed_back: &[
-        (0, Act::Look(6, FREE_ROWS)),
-        (1, Act::Look(6, FREE_ROWS)),
-        (1, BLOCKS),
-        (0, Act::Hear),
-        (0, Act::Look(6, BLOCKED_ROWS)),
+    handed_back: pairs![
+        0 => Act::Look(6, FREE_ROWS),
+        1 => Act::Look(6, FREE_ROWS),
+        1 => BLOCKS,
+        0 => Act::Hear,
+        0 => Act::Look(6, BLOCKED_ROWS),
     ],
-    together: &[
-        (2, Act::Look(6, BLOCKED_ROWS)),
-        (2, Act::Write(Write::Advance(7), Ok((2, Reply::Horizon(7))))),
-        (1, Act::Hear),
-        (1, Act::Look(7, BLOCKED_ROWS)),
-        (0, FULL),
+    together: pairs![
+        2 => Act::Look(6, BLOCKED_ROWS),
+        2 => Act::Write(Write::Advance(7), Ok((2, Reply::Horizon(7)))),
+        1 => Act::Hear,
+        1 => Act::Look(7, BLOCKED_ROWS),
+        0 => FULL,
     ],
     journal: &[
         Line::Advanced(0, 6),
@@ -138,10 +100,10 @@ pub(crate) const FIRST_MISSING: Script = Script {
 pub(crate) const ALONE: Script = Script {
     sessions: 1,
     limit: 1,
-    acts: &[
-        (0, Act::Look(0, &[(0, "............")])),
-        (0, TO_SIX),
-        (0, FULL),
+    acts: pairs![
+        0 => Act::Look(0, &[(0, "............")]),
+        0 => TO_SIX,
+        0 => FULL,
     ],
     closing: Closing::WithoutLast,
     journal: &[Line::Advanced(0, 6)],
@@ -149,32 +111,13 @@ pub(crate) const ALONE: Script = Script {
     ..TOLD
 };
 
-/// The cars at step 6.
-const CARS: &[Car] = &[
-    Car {
-        number: 80,
-        cell: 0,
-        speed: 0,
-    },
-    Car {
-        number: 48,
-        cell: 3,
-        speed: 2,
-    },
-    Car {
-        number: 16,
-        cell: 7,
-        speed: 2,
-    },
-];
-
 const NOT_SIMULATED: LookFault = LookFault::Sheet(SheetFault::NotSimulated);
 
 const RANGE: LookFault = LookFault::Sheet(SheetFault::Range);
 
 const NO_DETECTOR: LookFault = LookFault::Sheet(SheetFault::NoDetector);
 
-const ASKED: &[Cars] = &[(6, Ok(CARS)), (0, Ok(&[])), (7, Err(NOT_SIMULATED))];
+const ASKED: &[Cars] = &[(6, Ok(CARS_AT_SIX)), (0, Ok(&[])), (7, Err(NOT_SIMULATED))];
 
 /// The first car drives from cell 3 to 5 in step 2, the second one in step 4.
 const COUNTS: &[Count] = &[
@@ -191,40 +134,19 @@ const COUNTS: &[Count] = &[
 pub(crate) const WITHDRAWN: Script = Script {
     sessions: 1,
     limit: 10,
-    acts: &[
-        (0, TO_SIX),
-        (0, Act::Look(6, FREE_ROWS)),
-        (0, Act::Cars(ASKED)),
-        (0, Act::Counts(COUNTS)),
-        (0, BLOCKS),
-        (0, Act::Look(6, BLOCKED_ROWS)),
-        (
-            0,
-            Act::Write(
-                Write::Edit(LIMIT, 1_048_576, 1),
-                Err(WriteFault::Replica(ReplicaFault::Step)),
-            ),
-        ),
-        (
-            0,
-            Act::Write(
-                Write::Withdraw(BLOCK, 4),
-                Ok((2, Reply::Stamped(SECOND_STAMP))),
-            ),
-        ),
-        (0, Act::Look(6, FREE_ROWS)),
-        (
-            0,
-            Act::Write(Write::Take(&[BLOCKED]), Ok((3, Reply::Touched(None)))),
-        ),
-        (0, Act::Look(6, FREE_ROWS)),
-        (
-            0,
-            Act::Write(
-                Write::Advance(1_048_577),
-                Err(WriteFault::Replica(ReplicaFault::Horizon)),
-            ),
-        ),
+    acts: pairs![
+        0 => TO_SIX,
+        0 => Act::Look(6, FREE_ROWS),
+        0 => Act::Cars(ASKED),
+        0 => Act::Counts(COUNTS),
+        0 => BLOCKS,
+        0 => Act::Look(6, BLOCKED_ROWS),
+        0 => Act::Write(Write::Edit(LIMIT, 1_048_576, 1), Err(WriteFault::Replica(ReplicaFault::Step))),
+        0 => Act::Write(Write::Withdraw(BLOCK, 4), Ok((2, Reply::Stamped(stamp!(2, 0))))),
+        0 => Act::Look(6, FREE_ROWS),
+        0 => Act::Write(Write::Take(&[BLOCKED]), Ok((3, Reply::Touched(None)))),
+        0 => Act::Look(6, FREE_ROWS),
+        0 => Act::Write(Write::Advance(1_048_577), Err(WriteFault::Replica(ReplicaFault::Horizon))),
     ],
     journal: &[
         Line::Advanced(0, 6),
@@ -236,60 +158,25 @@ pub(crate) const WITHDRAWN: Script = Script {
     ..TOLD
 };
 
-/// The stamps of a replica of number 3.
-const THIRD_FIRST: Stamp = Stamp {
-    count: 1,
-    number: 3,
-};
-
-const THIRD_SECOND: Stamp = Stamp {
-    count: 2,
-    number: 3,
-};
-
 /// Three sessions of replica 3 write: each line stands under its session, and the stamps are the replica's.
 pub(crate) const THREE: Script = Script {
     number: 3,
     sessions: 3,
     limit: 3,
-    acts: &[
-        (
-            2,
-            Act::Write(
-                Write::Edit(BLOCK, 4, 1),
-                Ok((0, Reply::Stamped(THIRD_FIRST))),
-            ),
-        ),
-        (0, Act::Write(Write::Advance(6), Ok((1, Reply::Horizon(6))))),
-        (
-            1,
-            Act::Write(
-                Write::Withdraw(BLOCK, 4),
-                Ok((2, Reply::Stamped(THIRD_SECOND))),
-            ),
-        ),
-        (2, FULL),
-        (2, Act::Look(6, FREE_ROWS)),
+    acts: pairs![
+        2 => Act::Write(Write::Edit(BLOCK, 4, 1), Ok((0, Reply::Stamped(stamp!(1, 3))))),
+        0 => Act::Write(Write::Advance(6), Ok((1, Reply::Horizon(6)))),
+        1 => Act::Write(Write::Withdraw(BLOCK, 4), Ok((2, Reply::Stamped(stamp!(2, 3))))),
+        2 => FULL,
+        2 => Act::Look(6, FREE_ROWS),
     ],
     closing: Closing::LastFirst,
     handed_back: &[],
     together: &[],
     journal: &[
-        Line::Took(
-            2,
-            &[Edit {
-                stamp: THIRD_FIRST,
-                ..BLOCKED
-            }],
-        ),
+        Line::Took(2, &[edit!(BLOCK, 4, (1, 3), 1)]),
         Line::Advanced(0, 6),
-        Line::Took(
-            1,
-            &[Edit {
-                stamp: THIRD_SECOND,
-                ..OPENED
-            }],
-        ),
+        Line::Took(1, &[edit!(BLOCK, 4, (2, 3), withdrawn)]),
     ],
     rows: FREE_ROWS,
 };
@@ -307,25 +194,16 @@ const SLOW_RUN: Run = Run {
 /// A session keeps a sheet, which stays as it was while the other one changes its past.
 pub(crate) const KEPT: Script = Script {
     limit: 10,
-    acts: &[
-        (
-            0,
-            Act::Write(Write::Advance(130), Ok((0, Reply::Horizon(130)))),
-        ),
-        (1, Act::Hear),
-        (1, Act::Keep),
-        (1, Act::KeptRun(FREE_RUN)),
-        (
-            0,
-            Act::Write(
-                Write::Edit(LIMIT, 64, 1),
-                Ok((1, Reply::Stamped(FIRST_STAMP))),
-            ),
-        ),
-        (1, Act::KeptRun(FREE_RUN)),
-        (1, Act::Hear),
-        (1, Act::LookRun(SLOW_RUN)),
-        (1, Act::KeptRun(FREE_RUN)),
+    acts: pairs![
+        0 => Act::Write(Write::Advance(130), Ok((0, Reply::Horizon(130)))),
+        1 => Act::Hear,
+        1 => Act::Keep,
+        1 => Act::KeptRun(FREE_RUN),
+        0 => Act::Write(Write::Edit(LIMIT, 64, 1), Ok((1, Reply::Stamped(stamp!(1, 0))))),
+        1 => Act::KeptRun(FREE_RUN),
+        1 => Act::Hear,
+        1 => Act::LookRun(SLOW_RUN),
+        1 => Act::KeptRun(FREE_RUN),
     ],
     closing: Closing::LastFirst,
     journal: &[Line::Advanced(0, 130), Line::Took(0, &[SLOW])],
@@ -341,24 +219,24 @@ const SEES_SIX: Act = Act::Look(6, FREE_ROWS);
 pub(crate) const EIGHT: Script = Script {
     sessions: 8,
     limit: 1,
-    acts: &[
-        (0, OPENS),
-        (1, OPENS),
-        (2, OPENS),
-        (3, OPENS),
-        (4, OPENS),
-        (5, OPENS),
-        (6, OPENS),
-        (7, OPENS),
-        (7, TO_SIX),
-        (0, SEES_SIX),
-        (1, SEES_SIX),
-        (2, SEES_SIX),
-        (3, SEES_SIX),
-        (4, SEES_SIX),
-        (5, SEES_SIX),
-        (6, SEES_SIX),
-        (7, SEES_SIX),
+    acts: pairs![
+        0 => OPENS,
+        1 => OPENS,
+        2 => OPENS,
+        3 => OPENS,
+        4 => OPENS,
+        5 => OPENS,
+        6 => OPENS,
+        7 => OPENS,
+        7 => TO_SIX,
+        0 => SEES_SIX,
+        1 => SEES_SIX,
+        2 => SEES_SIX,
+        3 => SEES_SIX,
+        4 => SEES_SIX,
+        5 => SEES_SIX,
+        6 => SEES_SIX,
+        7 => SEES_SIX,
     ],
     closing: Closing::LastFirst,
     journal: &[Line::Advanced(7, 6)],

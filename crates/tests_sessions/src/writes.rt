@@ -9,10 +9,6 @@ use road_workers::{Alone, Crew};
 use std::alloc::Global;
 use std::sync::Wait;
 
-pub(crate) const LIMIT: Object = Object::Limit(0);
-
-pub(crate) const BLOCK: Object = Object::Block(8);
-
 /// A write of a session.
 #[derive(Clone, Copy)]
 pub(crate) enum Write {

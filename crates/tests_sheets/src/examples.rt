@@ -8,15 +8,10 @@ use road_sheet::simulation::{State, row_of};
 use road_sheet::{Sheet, SheetFault};
 use std::alloc::Global;
 use std::test::Fail;
-use tests_plans::FREE;
+use tests_plans::{BLOCK, CARS_AT_SIX, FREE, LIMIT, cars, edit, pairs};
 
 /// Some edits and an advance: the step that they touch, and how many steps are computed.
-struct Growth {
-    edits: &'static [Edit],
-    to: u32,
-    touched: Option<u32>,
-    steps: u64,
-}
+type Growth = ((&'static [Edit], u32), (Option<u32>, u64));
 
 /// A step, and the row that a sheet shows there.
 pub(crate) type Row = (u32, Result<&'static str, SheetFault>);
@@ -43,24 +38,10 @@ const OPENING: Example = Example {
     ],
 };
 
-const TO_SIX: Growth = Growth {
-    edits: &[],
-    to: 6,
-    touched: None,
-    steps: 6,
-};
-
 /// It is advanced to step 6, and an advance to step 3 changes nothing. The first car drives from cell 3 to 5 in step 2, the
 /// second one in step 4.
 const FREE_ROAD: Example = Example {
-    growths: &[
-        TO_SIX,
-        Growth {
-            to: 3,
-            steps: 0,
-            ..TO_SIX
-        },
-    ],
+    growths: pairs![(&[], 6) => (None, 6), (&[], 3) => (None, 0)],
     rows: &[
         (0, Ok("............")),
         (1, Ok(".1..........")),
@@ -71,23 +52,7 @@ const FREE_ROAD: Example = Example {
         (6, Ok("0..2...2....")),
         (7, Err(SheetFault::NotSimulated)),
     ],
-    cars: &[
-        Car {
-            number: 80,
-            cell: 0,
-            speed: 0,
-        },
-        Car {
-            number: 48,
-            cell: 3,
-            speed: 2,
-        },
-        Car {
-            number: 16,
-            cell: 7,
-            speed: 2,
-        },
-    ],
+    cars: CARS_AT_SIX,
     counts: &[
         ((0, 0, 3), Ok((1, 2))),
         ((0, 0, 6), Ok((2, 4))),
@@ -102,26 +67,8 @@ const FREE_ROAD: Example = Example {
 };
 
 /// Cell 8 is blocked from step 4 on.
-const BLOCKED: Edit = Edit {
-    object: Object::Block(8),
-    step: 4,
-    stamp: Stamp {
-        count: 1,
-        number: 0,
-    },
-    value: Value::Put(1),
-};
-
 const BLOCKED_LATE: Example = Example {
-    growths: &[
-        TO_SIX,
-        Growth {
-            edits: &[BLOCKED],
-            to: 0,
-            touched: Some(4),
-            steps: 6,
-        },
-    ],
+    growths: pairs![(&[], 6) => (None, 6), (&[edit!(BLOCK, 4, (1, 0), 1)], 0) => (Some(4), 6)],
     rows: &[
         (4, Ok("0..2...2#...")),
         (5, Ok(".1...2.0#...")),
@@ -133,28 +80,9 @@ const BLOCKED_LATE: Example = Example {
 
 /// The cell of the only inlet is blocked up to the last step of the longest run; opening it there computes one interval.
 const CLOSED: Example = Example {
-    growths: &[
-        Growth {
-            edits: &[Edit {
-                object: Object::Block(0),
-                step: 0,
-                ..BLOCKED
-            }],
-            to: 1_048_576,
-            touched: Some(0),
-            steps: 1_048_576,
-        },
-        Growth {
-            edits: &[Edit {
-                object: Object::Block(0),
-                step: 1_048_575,
-                value: Value::Put(0),
-                ..BLOCKED
-            }],
-            to: 0,
-            touched: Some(1_048_575),
-            steps: 64,
-        },
+    growths: pairs![
+        (&[edit!(Object::Block(0), 0, (1, 0), 1)], 1_048_576) => (Some(0), 1_048_576),
+        (&[edit!(Object::Block(0), 1_048_575, (1, 0), 0)], 0) => (Some(1_048_575), 64),
     ],
     rows: &[
         (0, Ok("#...........")),
@@ -163,11 +91,7 @@ const CLOSED: Example = Example {
         (1_048_576, Ok(".1..........")),
         (1_048_577, Err(SheetFault::NotSimulated)),
     ],
-    cars: &[Car {
-        number: 16_777_200,
-        cell: 1,
-        speed: 1,
-    }],
+    cars: cars![(16_777_200, 1, 1)],
     counts: &[
         ((0, 0, 1_048_576), Ok((0, 0))),
         ((0, 1, 1_048_575), Ok((0, 0))),
@@ -175,112 +99,35 @@ const CLOSED: Example = Example {
     ],
 };
 
-const TO_130: Growth = Growth {
-    edits: &[],
-    to: 130,
-    touched: None,
-    steps: 130,
-};
+const EXAMPLES: &[Example] = &[OPENING, FREE_ROAD, BLOCKED_LATE];
 
-const LIMIT: Edit = Edit {
-    object: Object::Limit(0),
-    ..BLOCKED
-};
-
-/// A limit edited at step 0 of the run to step 130.
-const LATE: Example = Example {
-    growths: &[
-        TO_130,
-        Growth {
-            edits: &[Edit { step: 0, ..LIMIT }],
-            to: 0,
-            touched: Some(0),
-            steps: 130,
-        },
-    ],
-    rows: &[],
-    cars: &[],
-    counts: &[],
-};
-
-const EXAMPLES: &[Example] = &[
-    OPENING,
-    FREE_ROAD,
-    BLOCKED_LATE,
-    LATE,
-    Example {
-        growths: &[
-            TO_130,
-            Growth {
-                edits: &[Edit { step: 63, ..LIMIT }],
-                to: 0,
-                touched: Some(63),
-                steps: 130,
-            },
-        ],
-        ..LATE
-    },
-    Example {
-        growths: &[
-            TO_130,
-            Growth {
-                edits: &[Edit { step: 64, ..LIMIT }],
-                to: 0,
-                touched: Some(64),
-                steps: 66,
-            },
-        ],
-        ..LATE
-    },
-    Example {
-        growths: &[
-            TO_130,
-            Growth {
-                edits: &[Edit { step: 129, ..LIMIT }],
-                to: 0,
-                touched: Some(129),
-                steps: 2,
-            },
-        ],
-        ..LATE
-    },
-    Example {
-        growths: &[
-            TO_130,
-            Growth {
-                edits: &[Edit { step: 130, ..LIMIT }],
-                to: 0,
-                touched: Some(130),
-                steps: 0,
-            },
-            Growth {
-                to: 200,
-                steps: 70,
-                ..TO_130
-            },
-        ],
-        ..LATE
-    },
+/// Growths of which each comes after a run to step 130: a limit edited at a step of it, or at its horizon.
+const LATE: &[&[Growth]] = &[
+    pairs![(&[edit!(LIMIT, 0, (1, 0), 1)], 0) => (Some(0), 130)],
+    pairs![(&[edit!(LIMIT, 63, (1, 0), 1)], 0) => (Some(63), 130)],
+    pairs![(&[edit!(LIMIT, 64, (1, 0), 1)], 0) => (Some(64), 66)],
+    pairs![(&[edit!(LIMIT, 129, (1, 0), 1)], 0) => (Some(129), 2)],
+    pairs![(&[edit!(LIMIT, 130, (1, 0), 1)], 0) => (Some(130), 0), (&[], 200) => (None, 70)],
 ];
 
 // Returns the sheet that a growth leaves, where it touches that step, and the meter and the crew count those steps.
 fn grown_by(alloc: Global, sheet: &Sheet, growth: &Growth) -> Result<Sheet, Fail> {
+    let ((edits, to), (wanted, counted)) = *growth;
     let Trial {
         sheet,
         touched,
         steps,
         calls,
-    } = grow(alloc, sheet, growth.edits, growth.to)?;
-    if (touched, steps, calls) == (growth.touched, growth.steps, growth.steps) {
+    } = grow(alloc, sheet, edits, to)?;
+    if (touched, steps, calls) == (wanted, counted, counted) {
         Ok(sheet)
     } else {
         Err(Fail::new("another step is touched, or other steps are counted"))
     }
 }
 
-// Returns the sheet of the free road that has grown so.
-fn grown_so(alloc: Global, growths: &[Growth]) -> Result<Sheet, Fail> {
-    let mut sheet = opening(alloc, &FREE)?;
+// Returns the sheet that has grown so.
+fn grown_so(alloc: Global, mut sheet: Sheet, growths: &[Growth]) -> Result<Sheet, Fail> {
     for growth in growths {
         sheet = grown_by(alloc, &sheet, growth)?;
     }
@@ -332,7 +179,7 @@ fn sheet_agrees(alloc: Global, sheet: &Sheet, example: &Example) -> Result<bool,
 
 // Tells whether a sheet grows and shows what an example says.
 fn example_agrees(alloc: Global, example: &Example) -> Result<bool, Fail> {
-    let sheet = grown_so(alloc, example.growths)?;
+    let sheet = grown_so(alloc, opening(alloc, &FREE)?, example.growths)?;
     sheet_agrees(alloc, &sheet, example)
 }
 
@@ -340,6 +187,16 @@ fn example_agrees(alloc: Global, example: &Example) -> Result<bool, Fail> {
 fn sheets_of_the_free_road(rt: HostRuntime) -> Result<(), Fail> {
     for (place, example) in EXAMPLES.iter().enumerate() {
         assert!(rt; example_agrees(rt.alloc(), example)?, "example {place}");
+    }
+    Ok(())
+}
+
+#[test]
+fn late_limits_compute_from_their_interval_on(rt: HostRuntime) -> Result<(), Fail> {
+    for growths in LATE {
+        let sheet = opening(rt.alloc(), &FREE)?;
+        let run = grown_by(rt.alloc(), &sheet, &((&[], 130), (None, 130)))?;
+        let _ = grown_so(rt.alloc(), run, growths)?;
     }
     Ok(())
 }

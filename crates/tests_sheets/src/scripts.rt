@@ -10,7 +10,7 @@ use road_sheet::simulation::State;
 use road_sheet::{QueryCache, Sheet};
 use std::alloc::Global;
 use std::test::Fail;
-use tests_plans::Parts;
+use tests_plans::{Parts, edit};
 
 /// How many scripts are run.
 const SCRIPTS: u64 = 20;
@@ -46,24 +46,8 @@ const LATE_STEPS: &[u32] = &[
 
 /// The inlets are opened at the first of these steps.
 const OPENED: &[Edit] = &[
-    Edit {
-        object: Object::Inflow(0),
-        step: 1_048_384,
-        stamp: Stamp {
-            count: 1,
-            number: 1,
-        },
-        value: Value::Put(40_000),
-    },
-    Edit {
-        object: Object::Inflow(1),
-        step: 1_048_384,
-        stamp: Stamp {
-            count: 1,
-            number: 1,
-        },
-        value: Value::Put(30_000),
-    },
+    edit!(Object::Inflow(0), 1_048_384, (1, 1), 40_000),
+    edit!(Object::Inflow(1), 1_048_384, (1, 1), 30_000),
 ];
 
 /// Numbers that look random, and the steps that a script is about.
