@@ -89,12 +89,9 @@ const BLOCK_IMPORTED: Edit = edit!(BLOCK, 4, (1, 64), 1);
 
 const OPENING_IMPORTED: Edit = edit!(BLOCK, 4, (2, 64), withdrawn);
 
-// All calls.
-const CASES: &[(&str, Case)] = pairs![
+// The calls of plans, roads, steps and crews.
+const ROADS: &[(&str, Case)] = pairs![
     "plan-new" => Case::Line(LineCase::Plan),
-    "map-with" => Case::Map(MapCase::With),
-    "map-joined" => Case::Map(MapCase::Joined),
-    "map-copied" => Case::Map(MapCase::Copied),
     "road-copied" => Case::Step(StepCase::Copied),
     "road-row" => Case::Step(StepCase::Row),
     "step-enter" => Case::Step(StepCase::Enter),
@@ -106,6 +103,13 @@ const CASES: &[(&str, Case)] = pairs![
     "crew-run" => Case::Crew(CrewCase::Run),
     "pool-start" => Case::Crew(CrewCase::Start),
     "pool-start-gated" => Case::Crew(CrewCase::StartGated),
+];
+
+// The calls of maps, scenarios and what is beyond heads.
+const SCENARIOS: &[(&str, Case)] = pairs![
+    "map-with" => Case::Map(MapCase::With),
+    "map-joined" => Case::Map(MapCase::Joined),
+    "map-copied" => Case::Map(MapCase::Copied),
     "scenario-with-edit" => Case::Scenario(Making::WithEdit(&[SLOW, BLOCKED], OPENED, &[SLOW, OPENED])),
     "scenario-with-greater" => Case::Scenario(Making::WithEdit(&[LESS], GREATER, &[GREATER])),
     "scenario-joined" => Case::Scenario(Making::Joined),
@@ -116,6 +120,44 @@ const CASES: &[(&str, Case)] = pairs![
     "scenario-settings" => Case::Scenario(Making::Settings),
     "scenario-heads" => Case::Scenario(Making::Heads),
     "scenario-beyond" => Case::Scenario(Making::Beyond),
+];
+
+// The calls of sheets and drafts.
+const SHEETS: &[(&str, Case)] = pairs![
+    "sheet-open" => Case::SheetOpening,
+    "sheet-state" => Case::SheetQuestion(
+        &[BLOCKED], sheets::Question::State(6, cars![(80, 0, 0), (48, 3, 2), (16, 6, 1), (0, 7, 0)])),
+    // It is computed anew from the first checkpoint.
+    "sheet-earlier-state" => Case::SheetQuestion(&[], sheets::Question::State(3, cars![(16, 1, 1), (0, 5, 2)])),
+    "sheet-totals" => Case::SheetQuestion(&[], sheets::Question::Totals(2, 5, Totals { cars: 2, speeds: 4 })),
+    "sheet-kept-totals" => Case::SheetQuestion(&[], sheets::Question::Totals(0, 6, Totals { cars: 2, speeds: 4 })),
+    "sheet-draft" => Case::Draft(4, WITH_BLOCK),
+    "sheet-draft-resumed" => Case::Draft(6, TO_SIX),
+    // It begins at the second checkpoint.
+    "sheet-draft-late" => Case::Draft(64, Shown(
+        &[(64, LATE_ROW), (66, "0.1..1...1.."), (70, "0.1.1.1..1..")], &[edit!(LIMIT, 64, (1, 0), 1)])),
+    "draft-input" => Case::Input(5, &[0, 2, 2, 2]),
+    "draft-input-of-interval" => Case::Input(64, &[1, 2, 2]),
+    "draft-push" => Case::Push(5, LATE_ROW),
+    "draft-push-ends-interval" => Case::Push(63, LATE_ROW),
+    "grown-block" => Case::Growth(GrowthCase(6, 6, Some(4), WITH_BLOCK)),
+    // Edits at step 0, round the end of an interval, at the last step and at the horizon, in a run of 130 steps.
+    "grown-from-first" => Case::Growth(GrowthCase(130, 0, Some(0), Shown(
+        &[(4, "0.1.1......."), (130, SLOW_ROW)], &[edit!(LIMIT, 0, (1, 0), 1)]))),
+    "grown-from-early" => Case::Growth(GrowthCase(130, 0, Some(63), Shown(
+        &[(63, ".1...2...2.."), (64, "0.1...1...1."), (130, SLOW_ROW)], &[edit!(LIMIT, 63, (1, 0), 1)]))),
+    "grown-from-late" => Case::Growth(GrowthCase(130, 0, Some(64), Shown(
+        &[(64, LATE_ROW), (66, "0.1..1...1.."), (130, SLOW_ROW)], &[edit!(LIMIT, 64, (1, 0), 1)]))),
+    "grown-from-last" => Case::Growth(GrowthCase(130, 0, Some(129), Shown(
+        &[(129, ".1...2...2.."), (130, "0.1...1...1.")], &[edit!(LIMIT, 129, (1, 0), 1)]))),
+    "grown-beyond" => Case::Growth(GrowthCase(130, 0, Some(130), Shown(
+        &[(130, LATE_ROW)], &[edit!(LIMIT, 130, (1, 0), 1)]))),
+    "grown-longer" => Case::Growth(GrowthCase(60, 70, None, Shown(
+        &[(60, LATE_ROW), (65, ".1...2...2.."), (70, LATE_ROW)], &[]))),
+];
+
+// The calls of replicas.
+const REPLICAS: &[(&str, Case)] = pairs![
     "replica-open" => Case::ReplicaOpening,
     "replica-edit" =>
         Case::Write(WriteCase(&[TO_HORIZON_SIX], BLOCKS, Reply::Stamped(stamp!(1, 0)), TO_SIX, WITH_BLOCK)),
@@ -153,36 +195,10 @@ const CASES: &[(&str, Case)] = pairs![
         Case::Question(&[TO_HORIZON_SIX], Question::Totals(0, 6, Totals { cars: 2, speeds: 4 })),
     "replica-rows" => Case::Question(
         &[TO_HORIZON_SIX, BLOCKS], Question::Rows(4, 6, &["0..2...2#...", ".1...2.0#...", "0..2..10#..."])),
-    "sheet-open" => Case::SheetOpening,
-    "sheet-state" => Case::SheetQuestion(
-        &[BLOCKED], sheets::Question::State(6, cars![(80, 0, 0), (48, 3, 2), (16, 6, 1), (0, 7, 0)])),
-    // It is computed anew from the first checkpoint.
-    "sheet-earlier-state" => Case::SheetQuestion(&[], sheets::Question::State(3, cars![(16, 1, 1), (0, 5, 2)])),
-    "sheet-totals" => Case::SheetQuestion(&[], sheets::Question::Totals(2, 5, Totals { cars: 2, speeds: 4 })),
-    "sheet-kept-totals" => Case::SheetQuestion(&[], sheets::Question::Totals(0, 6, Totals { cars: 2, speeds: 4 })),
-    "sheet-draft" => Case::Draft(4, WITH_BLOCK),
-    "sheet-draft-resumed" => Case::Draft(6, TO_SIX),
-    // It begins at the second checkpoint.
-    "sheet-draft-late" => Case::Draft(64, Shown(
-        &[(64, LATE_ROW), (66, "0.1..1...1.."), (70, "0.1.1.1..1..")], &[edit!(LIMIT, 64, (1, 0), 1)])),
-    "draft-input" => Case::Input(5, &[0, 2, 2, 2]),
-    "draft-input-of-interval" => Case::Input(64, &[1, 2, 2]),
-    "draft-push" => Case::Push(5, LATE_ROW),
-    "draft-push-ends-interval" => Case::Push(63, LATE_ROW),
-    "grown-block" => Case::Growth(GrowthCase(6, 6, Some(4), WITH_BLOCK)),
-    // Edits at step 0, round the end of an interval, at the last step and at the horizon, in a run of 130 steps.
-    "grown-from-first" => Case::Growth(GrowthCase(130, 0, Some(0), Shown(
-        &[(4, "0.1.1......."), (130, SLOW_ROW)], &[edit!(LIMIT, 0, (1, 0), 1)]))),
-    "grown-from-early" => Case::Growth(GrowthCase(130, 0, Some(63), Shown(
-        &[(63, ".1...2...2.."), (64, "0.1...1...1."), (130, SLOW_ROW)], &[edit!(LIMIT, 63, (1, 0), 1)]))),
-    "grown-from-late" => Case::Growth(GrowthCase(130, 0, Some(64), Shown(
-        &[(64, LATE_ROW), (66, "0.1..1...1.."), (130, SLOW_ROW)], &[edit!(LIMIT, 64, (1, 0), 1)]))),
-    "grown-from-last" => Case::Growth(GrowthCase(130, 0, Some(129), Shown(
-        &[(129, ".1...2...2.."), (130, "0.1...1...1.")], &[edit!(LIMIT, 129, (1, 0), 1)]))),
-    "grown-beyond" => Case::Growth(GrowthCase(130, 0, Some(130), Shown(
-        &[(130, LATE_ROW)], &[edit!(LIMIT, 130, (1, 0), 1)]))),
-    "grown-longer" => Case::Growth(GrowthCase(60, 70, None, Shown(
-        &[(60, LATE_ROW), (65, ".1...2...2.."), (70, LATE_ROW)], &[]))),
+];
+
+// The calls of worlds.
+const WORLDS: &[(&str, Case)] = pairs![
     "world-open" => Case::WorldOpening,
     "world-advance" => Case::Event(0),
     "world-edit" => Case::Event(1),
@@ -200,6 +216,10 @@ const CASES: &[(&str, Case)] = pairs![
     "world-withdraw" => Case::Event(14),
     "world-import" => Case::Event(15),
     "world-play" => Case::List,
+];
+
+// The calls of stores, sessions and crowds.
+const SESSIONS: &[(&str, Case)] = pairs![
     "store-prepare" => Case::StorePrepare,
     "store-open" => Case::StoreOpen,
     "store-close" => Case::StoreClose(BLOCKING),
@@ -219,6 +239,10 @@ const CASES: &[(&str, Case)] = pairs![
     "crowd-of-one" => Case::Crowd(CrowdCase(&[&[]], &[], 1, LATE_ROW)),
     "crowd-of-two" =>
         Case::Crowd(CrowdCase(&[&[BLOCK_IMPORTED], &[OPENING_IMPORTED]], &[OPENING_IMPORTED], 4, LATE_ROW)),
+];
+
+// The calls of lines of text.
+const LINES: &[(&str, Case)] = pairs![
     "read-plan" => Case::Line(LineCase::PlanLine),
     "read-import" => Case::Line(LineCase::Import),
     "read-edit" => Case::Line(LineCase::Edit),
@@ -226,9 +250,48 @@ const CASES: &[(&str, Case)] = pairs![
     "write-rows" => Case::Line(LineCase::Rows),
 ];
 
-/// Returns all calls.
-pub(crate) fn all_cases() -> &'static [(&'static str, Case)] {
-    CASES
+/// How many layers of calls there are.
+pub(crate) const LAYERS: u32 = 7;
+
+/// Returns the calls of a layer, the lowest of which is layer 0.
+pub(crate) fn cases_of(layer: u32) -> &'static [(&'static str, Case)] {
+    match layer {
+        0 => roads_cases(),
+        1 => scenarios_cases(),
+        2 => sheets_cases(),
+        3 => replicas_cases(),
+        4 => worlds_cases(),
+        5 => sessions_cases(),
+        _ => lines_cases(),
+    }
+}
+
+fn roads_cases() -> &'static [(&'static str, Case)] {
+    ROADS
+}
+
+fn scenarios_cases() -> &'static [(&'static str, Case)] {
+    SCENARIOS
+}
+
+fn sheets_cases() -> &'static [(&'static str, Case)] {
+    SHEETS
+}
+
+fn replicas_cases() -> &'static [(&'static str, Case)] {
+    REPLICAS
+}
+
+fn worlds_cases() -> &'static [(&'static str, Case)] {
+    WORLDS
+}
+
+fn sessions_cases() -> &'static [(&'static str, Case)] {
+    SESSIONS
+}
+
+fn lines_cases() -> &'static [(&'static str, Case)] {
+    LINES
 }
 
 /// Tries a call so far. None where an allocation failed before the call or in the judging.

@@ -23,7 +23,7 @@ mod steps;
 mod verdict;
 mod worlds;
 
-use crate::cases::{Case, all_cases, tried};
+use crate::cases::{Case, LAYERS, cases_of, tried};
 use crate::verdict::{Until, Verdict};
 use std::alloc::Global;
 use std::sync::Wait;
@@ -44,9 +44,11 @@ fn tell<R: Print>(rt: &R, verdict: Option<Verdict>) -> io::Result<()> {
 
 // Returns the case of a name.
 fn named(name: &str) -> Option<Case> {
-    for (other, case) in all_cases() {
-        if *other == name {
-            return Some(*case);
+    for layer in 0..LAYERS {
+        for (other, case) in cases_of(layer) {
+            if *other == name {
+                return Some(*case);
+            }
         }
     }
     None
@@ -76,8 +78,10 @@ fn try_one<R: Print + Threads + Wait + Clone + Drop + Send + 'static>(
 
 // Prints all names.
 fn list<R: Print>(rt: &R) -> io::Result<()> {
-    for (name, _) in all_cases() {
-        println!(rt; "{name}")?;
+    for layer in 0..LAYERS {
+        for (name, _) in cases_of(layer) {
+            println!(rt; "{name}")?;
+        }
     }
     Ok(())
 }
@@ -87,11 +91,13 @@ fn try_all<R: Print + Threads + Wait + Clone + Drop + Send + 'static>(
     rt: &R,
     alloc: Global,
 ) -> io::Result<()> {
-    for (name, case) in all_cases() {
-        let verdict = tried(rt, alloc, Until::Judged, *case);
-        if verdict != Some(Verdict::Right) {
-            println!(rt; "{name}")?;
-            tell(rt, verdict)?;
+    for layer in 0..LAYERS {
+        for (name, case) in cases_of(layer) {
+            let verdict = tried(rt, alloc, Until::Judged, *case);
+            if verdict != Some(Verdict::Right) {
+                println!(rt; "{name}")?;
+                tell(rt, verdict)?;
+            }
         }
     }
     println!(rt; "all calls are tried")
