@@ -4,25 +4,46 @@ ghost use Rattle.std.specs.Prelude.{◌≡◌};
 
 use crate::roads::shared_plan;
 use crate::verdict::{Until, Verdict, accepted, judged};
-use road_cells::{Car, Road};
-use road_ends::{Span, StepInput, enter};
-use road_plan::Settings;
+use road_cells::Road;
+use road_ends::{Meter, Span, StepInput, enter, step_alone};
+use road_plan::{Plan, Settings, WordKind};
 use road_workers::{Alone, Crew, CrewFault, NoGate, Pool, Scoped};
 use std::alloc::Global;
 use std::sync::{Arc, Wait};
 use std::thread::Threads;
-use tests_plans::{DENSE, FREE, Parts, car};
+use tests_plans::{DENSE, Parts};
 
 /// The new speeds of the dense road's first step.
 const SPEEDS: &[u8] = &[0, 1, 0, 1, 0, 0, 1, 0, 1];
 
-/// The longest road, where nobody enters, with detectors on both sides of its middle.
+/// The longest road, with inlets all along it and detectors on both sides of its middle.
 const LONG: Parts = Parts {
     road: (8_192, 1, 8_192),
-    inlets: &[(0, 0)],
+    zones: &[(5, 16_384)],
+    inlets: &[
+        (0, 65_536),
+        (512, 65_536),
+        (1_024, 65_536),
+        (1_536, 65_536),
+        (2_048, 65_536),
+        (2_560, 65_536),
+        (3_072, 65_536),
+        (3_584, 65_536),
+        (4_096, 65_536),
+        (4_608, 65_536),
+        (5_120, 65_536),
+        (5_632, 65_536),
+        (6_144, 65_536),
+        (6_656, 65_536),
+        (7_168, 65_536),
+        (7_680, 65_536),
+    ],
     detectors: &[520, 4_100, 4_110, 7_700],
-    ..FREE
+    words: WordKind::Seeded(7),
 };
+
+/// After so many steps the long road has cars enough for two workers.
+const BEFORE: u32 = 40;
 
 /// What a crew is asked.
 #[derive(Drop)]
@@ -61,27 +82,35 @@ fn first_speeds(alloc: Global) -> Option<Task> {
     Some(Task::Speeds(input))
 }
 
-// Makes a road with a standing car at each fourth cell: enough for two workers.
-fn standing(alloc: Global) -> Option<Road> {
-    let mut cars = Vec::new(alloc);
-    for cell in 0..8_192 {
-        if cell % 4 == 0 {
-            cars.push(car(u64::from(cell), cell, 0)).ok()?;
-        }
+// Computes a step of a road alone. Returns the road after it.
+fn stepped(alloc: Global, plan: &Arc<Plan>, step: u32, road: &Road) -> Option<Road> {
+    let Ok(settings) = Settings::of_plan(alloc, plan) else {
+        return None;
+    };
+    let done = step_alone(alloc, plan, settings, step, road, &mut Meter::new()).ok()?;
+    Some(done.road)
+}
+
+// Runs the long road up to where workers share it.
+fn worked(alloc: Global, plan: &Arc<Plan>) -> Option<Road> {
+    let mut road = Road::empty(alloc);
+    for step in 0..BEFORE {
+        road = stepped(alloc, plan, step, &road)?;
     }
-    Some(Road::of(cars))
+    Some(road)
 }
 
 // Makes the task to run so many steps of the long road from there as a crew runs together.
 fn long_run(alloc: Global) -> Option<Task> {
     let plan = shared_plan(alloc, &LONG)?;
+    let road = worked(alloc, &plan)?;
     let Ok(settings) = Settings::of_plan(alloc, &plan) else {
         return None;
     };
     let Ok(settings) = Arc::new(alloc, settings) else {
         return None;
     };
-    Some(Task::Steps(Span::new(plan, settings, 0, 64), standing(alloc)?))
+    Some(Task::Steps(Span::new(plan, settings, BEFORE, 64), road))
 }
 
 // Answers whether a crew gives what it is asked: these speeds; or steps that it runs together, whose road and totals its
