@@ -80,25 +80,31 @@ function tableLines(lists) {
 }
 
 function writeTable(lists) {
+  const {heads, lines} = tableLines(lists);
+  const figure = (value) => (typeof value === "number" ? short(value) : value ?? "\u2013");
+  const texts = lines.flatMap((list) => list.slice(0, 500).map((line) => line.map(figure)));
+  page.table.replaceChildren(newTable(heads, texts));
+}
+
+function newTable(heads, lines) {
   const table = document.createElement("table");
   const addRow = (name, texts) =>
     table.insertRow().append(...texts.map((text) => withText(name, text)));
-  const {heads, lines} = tableLines(lists);
   addRow("th", heads);
-  const figure = (value) => (value === null ? "\u2013" : short(value));
-  for (const list of lines) {
-    list.slice(0, 500).forEach(([who, from, to, ...values]) =>
-      addRow("td", [who, from, to, ...values.map(figure)]));
-  }
-  page.table.replaceChildren(table);
+  for (const line of lines) addRow("td", line);
+  return table;
 }
 
 function saveCsv() {
   const {heads, lines} = tableLines([0, 1].map(measured));
-  const texts = lines.flat().map((line) =>
+  saveAsCsv(heads, lines.flat(), "counts.csv");
+}
+
+function saveAsCsv(heads, lines, name) {
+  const texts = lines.map((line) =>
     line.map((value) => (typeof value === "number" ? long(value) : value ?? "")).join(","));
   const head = heads.map((text) => `"${text}"`).join(",");
-  download(new Blob([[head, ...texts, ""].join("\n")], {type: "text/csv"}), "counts.csv");
+  download(new Blob([[head, ...texts, ""].join("\n")], {type: "text/csv"}), name);
 }
 
 function download(blob, name) {

@@ -625,12 +625,12 @@ function drawLegendBox(context, left, {colour, cross, frame}) {
 
 // 9. Charts.
 
-const SERIES = [{colour: "#0072b2", dash: [], square: false},
-                {colour: "#b34700", dash: [7, 4], square: true}];
+const SERIES = [{colour: "#0072b2", width: 2, dash: [], square: false},
+                {colour: "#b34700", width: 2, dash: [7, 4], square: true}];
 const MOST_DOTS = 60;
 
-/** Draws a chart with axes: series of points [step, value], each with a colour, the pattern of its
-    line, and squares or dots; the range of steps; a title with the values' unit. */
+/** Draws a chart with axes: series of points [step, value], each with a colour, the width and
+    pattern of its line, and squares or dots; the range of steps; a title with the values' unit. */
 function drawChart(canvas, {title, series, range: [from, to], unit}) {
   const {context, width, height} = cleared(canvas);
   const plot = {left: 56, right: width - 12, top: 24, bottom: height - 40};
@@ -663,8 +663,8 @@ function drawValues(context, plot, most, down) {
   }
 }
 
-function drawCurve(context, {points, colour, dash, square}, across, down) {
-  Object.assign(context, {strokeStyle: colour, fillStyle: colour, lineWidth: 2});
+function drawCurve(context, {points, colour, width, dash, square}, across, down) {
+  Object.assign(context, {strokeStyle: colour, fillStyle: colour, lineWidth: width});
   context.setLineDash(dash);
   context.beginPath();
   for (const [step, value] of points) context.lineTo(across(step), down(value));

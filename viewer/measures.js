@@ -1,9 +1,11 @@
 "use strict";
-// What two pictures of one road say: where they differ, how many cars there are and how fast. It
-// reads no element of the page. Steps `from` to `to - 1` where both are named.
+// What pictures say of their road: where two differ, how many cars there are and how fast, which
+// enter, pass and leave. It reads no element of the page. Steps `from` to `to - 1`, unless said.
 //
-// comparison(one, other)  survey(picture)  meanDensity(picture, from, to)
+// comparison(one, other)  survey(picture)  meanDensity(picture, from, to)  carsInRows(picture, ..)
 // edieSums(picture, from, span, cells)  edieSpans(picture, {cells, span})  equalSpans(counts)
+// passings(picture, site, plan, from, to)  entries(picture, inlet, plan, from, to)
+// carsBetween(picture, step, cells)
 
 /** The cells that differ in the steps that both pictures show: {from, to, cells, step, cell}, with
     the last step they share, and the first cell that differs, null where none does. */
@@ -45,6 +47,11 @@ function meanDensity(picture, from, to) {
   return part.reduce((sum, cars) => sum + cars, 0) / part.length / picture.length;
 }
 
+/** The cars of the rows `from` to `to`, both among them, added. */
+const carsInRows = (picture, from, to) =>
+  picture.cars.slice(from - picture.from, to - picture.from + 1)
+    .reduce((sum, cars) => sum + cars, 0);
+
 /** The cars and their speeds on some cells in some rows: [cars, speeds]. */
 function edieSums(picture, from, span, cells) {
   let [cars, speeds] = [0, 0];
@@ -80,4 +87,61 @@ function equalSpans(counts) {
   const [span] = [...sizes].sort((one, other) => other[1] - one[1])[0] ?? [];
   return counts.filter(({from, to}) => to - from === span)
     .sort((one, other) => one.from - other.from);
+}
+
+// Cars that pass and enter, by two rows one after the other: a car of speed v at cell c stood at
+// c - v before it moved, and no car overtakes another. One that has no such cell was taken off.
+
+const FASTEST = 9;
+
+const isCar = (row, cell) => row.charCodeAt(cell) > 46;   // behind "#" and "."
+const speedAt = (row, cell) => (isCar(row, cell) ? row.charCodeAt(cell) - 48 : null);
+const endOfRoad = (plan) => plan.length - plan.exit;
+
+/** Whether the car of a cell is on the road in the next row. */
+function stays(next, cell, end) {
+  for (let speed = 0; speed <= FASTEST && cell + speed < end; speed++) {
+    if (speedAt(next, cell + speed) === speed) return true;
+  }
+  return false;
+}
+
+/** How many cars move, in each of the steps, from a cell before the site to it or past it, also
+    those that are taken off in the step. At the end of the road these are all that leave. */
+function passings(picture, site, plan, from, to) {
+  const end = endOfRoad(plan);
+  const found = [];
+  for (let step = from; step < to; step++) {
+    const [row, next] = [rowAt(picture, step), rowAt(picture, step + 1)];
+    let cars = 0;
+    for (let cell = site; cell < Math.min(end, site + FASTEST); cell++) {
+      if (isCar(next, cell) && cell - speedAt(next, cell) < site) cars++;
+    }
+    for (let cell = Math.max(0, end - FASTEST); cell < site; cell++) {
+      if (isCar(row, cell) && !stays(next, cell, end)) cars++;
+    }
+    found.push(cars);
+  }
+  return found;
+}
+
+/** How many cars enter at an inlet's cell in the steps: such a car stands there afterwards, or has
+    moved by one. Null where it is at once at the end of the road, and no row has it. */
+function entries(picture, inlet, plan, from, to) {
+  if (inlet + 1 >= endOfRoad(plan)) return null;
+  let cars = 0;
+  for (let step = from; step < to; step++) {
+    const [row, next] = [rowAt(picture, step), rowAt(picture, step + 1)];
+    if (isCar(row, inlet)) continue;
+    if (speedAt(next, inlet) === 0 || speedAt(next, inlet + 1) === 1) cars++;
+  }
+  return cars;
+}
+
+/** The cars of a step on some cells. */
+function carsBetween(picture, step, cells) {
+  const row = rowAt(picture, step);
+  let cars = 0;
+  for (let cell = cells[0]; cell < cells[1]; cell++) cars += isCar(row, cell);
+  return cars;
 }

@@ -7,14 +7,21 @@ const on = (target, name, act, options) => target.addEventListener(name, act, op
 
 const SCALES = [1 / 32, 1 / 16, 1 / 8, 1 / 4, 1 / 2, 1, 2, 3, 4, 6, 8, 10, 12, 14, 16, 20, 24, 32];
 
+/** What is shown of the first and of the second picture, and of both: `comparison` is null where
+    `whyNot` says why they are not compared; `whole` while the whole picture was asked for. */
 const shown = {pictures: [null, null], plans: [null, null], runs: [null, null], greatest: 1,
-               compared: false, first: null, step: 0, pointed: null, saved: false};
+               comparison: null, whyNot: "", many: false, marksHid: false, whole: false, step: 0,
+               pointed: null, saved: false};
 const view = {cell: 0, step: 0, scale: 8, tall: 8};
 const tiles = new Tiles();
 let unit = PLAIN;
 
 const picturesShown = () => shown.pictures.filter(Boolean);
-const marksShown = () => shown.compared && page.marks.checked;
+const marksShown = () => Boolean(shown.comparison) && page.marks.checked;
+const panesShown = () => [0, 1, 2].filter((which) => !panes[which].figure.hidden);
+
+/** The picture of a pane, the third being the second's difference from the first. */
+const pictureOf = (which) => shown.pictures[Math.min(which, 1)];
 
 /** The first and last step of what is shown. */
 function stepsShown() {
@@ -36,6 +43,14 @@ function withText(name, text) {
 const byMeans = () => (page.paint.value === "zoom" ? meansAreSeen(view)
   : page.paint.value === "means");
 
+function paintPane(context, which, part) {
+  if (which < 2) paintPicture(context, which, part);
+  else {
+    paintDifference(context, view, shown.pictures[1], shown.pictures[0], part,
+                    {tiles, name: which, greatest: shown.greatest});
+  }
+}
+
 function paintPicture(context, which, part) {
   const [picture, other] = which ? [...shown.pictures].reverse() : shown.pictures;
   const kept = {tiles, name: which, greatest: shown.greatest};
@@ -51,18 +66,18 @@ function paintPicture(context, which, part) {
 }
 
 function drawDiagram(which, {context, width, height}) {
-  const picture = shown.pictures[which];
-  const part = inView(view, picture, width, height);
+  const part = inView(view, pictureOf(which), width, height);
   clip(context, MARGIN.top, width, height - MARGIN.top - MARGIN.bottom);
   context.fillStyle = shown.saved ? EMPTY : NO_ROW;
   context.fillRect(0, 0, width, height);
-  paintPicture(context, which, part);
+  paintPane(context, which, part);
   if (shown.pointed) drawFrame(context, view, shown.pointed.step, shown.pointed.cell);
   context.restore();
   drawAxes(context, view, part, unit);
-  drawPlan(context, view, shown.plans[which], width);
+  drawPlan(context, view, shown.plans[Math.min(which, 1)], width);
   drawWedge(context, view, shown.step, INK, height);
-  if (shown.first !== null) drawWedge(context, view, shown.first, DIFFERS, height);
+  const first = shown.comparison?.step ?? null;
+  if (first !== null) drawWedge(context, view, first, DIFFERS, height);
 }
 
 /** The road at the slider's step, under the diagram's cells. */
@@ -75,18 +90,20 @@ function drawRoad(which, {context, width}) {
 }
 
 function legendEntries() {
-  return [...speedEntries(shown.greatest, unit), {text: "blocked", colour: BLOCKED, cross: true},
-          {text: "empty", colour: EMPTY},
-          ...(shown.saved ? [] : [{text: "no row", colour: NO_ROW}]),
-          {text: "differs", colour: EMPTY, frame: true},
-          ...(shown.plans.some(Boolean) ? PLAN_ENTRIES : [])];
+  const blocked = {text: "blocked", colour: BLOCKED, cross: true};
+  const noRow = shown.saved ? [] : [{text: "no row", colour: NO_ROW}];
+  const ofPlan = shown.plans.some(Boolean) ? PLAN_ENTRIES : [];
+  if (panesShown().includes(2)) {
+    return ["the second is:", ...DIFFERENCE_ENTRIES, blocked, ...noRow, ...ofPlan];
+  }
+  return [...speedEntries(shown.greatest, unit), blocked, {text: "empty", colour: EMPTY}, ...noRow,
+          {text: "differs", colour: EMPTY, frame: true}, ...ofPlan];
 }
 
 function drawAll() {
-  for (const which of [0, 1]) {
-    if (!shown.pictures[which]) continue;
+  for (const which of panesShown()) {
     drawDiagram(which, cleared(panes[which].diagram));
-    drawRoad(which, cleared(panes[which].strip));
+    if (which < 2) drawRoad(which, cleared(panes[which].strip));
   }
   drawLegend(cleared(page.legend).context, MARGIN.left, legendEntries());
 }
@@ -104,7 +121,7 @@ function askDrawing() {
 // 2. The view.
 
 function plotSize() {
-  const {diagram} = panes.find(({figure}) => !figure.hidden) ?? panes[0];
+  const {diagram} = panes[panesShown()[0] ?? 0];
   return [diagram.clientWidth - MARGIN.left - MARGIN.right,
           diagram.clientHeight - MARGIN.top - MARGIN.bottom];
 }
@@ -137,8 +154,9 @@ function begin() {
   settle();
 }
 
-/** Shows the whole picture: it fills its box. */
+/** Shows the whole picture: it fills its box, also of the pictures that are chosen then. */
 function whole() {
+  shown.whole = true;
   const [width, height] = plotSize();
   const [from, to] = stepsShown();
   Object.assign(view, {cell: 0, step: from, scale: width / cellsShown(),
@@ -159,6 +177,7 @@ function zoom(closer, x, y, side = "both") {
   view.cell += right / view.scale - right / scale;
   view.step += down / view.tall - down / tall;
   Object.assign(view, {scale, tall});
+  shown.whole = false;
   settle();
 }
 
@@ -286,21 +305,34 @@ function newPane() {
   return {figure, caption, diagram, strip};
 }
 
-const panes = [newPane(), newPane()];
+const panes = [newPane(), newPane(), newPane()];
+panes[2].strip.hidden = true;
 
-// 5. Playing.
+// 5. Playing: so many times as fast as the road's own time; a step is a second without units.
 
 let playing = 0;
+let playedFrom = {step: 0, at: 0};
+
+/** The step so many milliseconds after one; behind the last step the first comes again. */
+function stepAfter(step, milliseconds, rate, [from, to]) {
+  const steps = Math.floor(milliseconds / 1000 * rate / (unit.given ? 60 * unit.time : 1));
+  return from + (step - from + steps) % (to - from + 1);
+}
+
+function playFromHere() {
+  playedFrom = {step: shown.step, at: performance.now()};
+}
 
 function play() {
   page.play.textContent = playing ? "Play" : "Stop";
+  clearInterval(playing);
   if (playing) {
-    clearInterval(playing);
     playing = 0;
     return;
   }
+  playFromHere();
   playing = setInterval(() => {
-    const [from, to] = stepsShown();
-    setStep(shown.step >= to ? from : shown.step + 1);
-  }, 125);
+    const passed = performance.now() - playedFrom.at;
+    setStep(stepAfter(playedFrom.step, passed, Number(page.rate.value), stepsShown()));
+  }, 40);
 }

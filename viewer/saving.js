@@ -21,7 +21,7 @@ function drawSaved(which, context, size) {
   context.translate(0, CAPTION_HIGH);
   drawDiagram(which, {context, ...size});
   context.translate(0, size.height);
-  drawRoad(which, {context, ...size});
+  if (which < 2) drawRoad(which, {context, ...size});
 }
 
 /** The pictures as the view has them on one canvas, with captions and legend, cut to their rows. */
@@ -31,7 +31,7 @@ function asOneCanvas(most) {
   const bottom = topOf(view, stepsShown()[1] + 1) + MARGIN.bottom;
   const size = {width: Math.ceil(Math.min(most?.[0] ?? right, right)),
                 height: Math.ceil(Math.min(most?.[1] ?? bottom, bottom))};
-  const pictures = [0, 1].filter((which) => shown.pictures[which]);
+  const pictures = panesShown();
   const tall = CAPTION_HIGH + size.height + STRIP_HIGH;
   const apart = page.layout.value === "stacked" ? [0, tall + BETWEEN] : [size.width + BETWEEN, 0];
   const more = pictures.length - 1;
@@ -53,8 +53,8 @@ function asOneCanvas(most) {
 
 /** Saves what is seen, or all of the pictures; without what is pointed at, and without grey. */
 function save(all) {
-  if (!shown.pictures.some(Boolean)) return;
-  const {diagram} = panes.find(({figure}) => !figure.hidden);
+  if (!panesShown().length) return;
+  const {diagram} = panes[panesShown()[0]];
   const seen = {...view};
   const [from, to] = stepsShown();
   const scale = scaleOfAll(cellsShown(), to - from + 1);

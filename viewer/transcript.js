@@ -48,8 +48,10 @@ function shortReply({rows, cells, cars, speeds, refused, touched, stamp}) {
 
 function shortCommand(value) {
   const [name] = Object.keys(value);
-  const {at, step, from, to, detector} = value[name];
-  return {name, at, from: from ?? step, to: to ?? step, detector};
+  const {at, step, from, to, detector, object, message} = value[name];
+  const what = message ?? (Array.isArray(object) ? object.join(" ") : null);
+  return {name, at, from: from ?? step, to: to ?? step, detector,
+          title: what === null ? name : `${name} of ${what}`};
 }
 
 /** Cuts text that comes in pieces into lines; a line that is too long is left out whole. */
@@ -189,8 +191,17 @@ class Transcript {
     if (told.refused !== undefined) this.tellRefusal(command, told.refused);
     else if (asked.name === "diagram" || asked.name === "cells") this.takeRows(asked, told, reply);
     else if (asked.name === "count") this.takeCount(asked, told, reply);
-    else if (told.changed) this.changes.set(asked.at, (this.changes.get(asked.at) ?? 0) + 1);
+    else if (told.changed) this.change(asked);
     return true;
+  }
+
+  /** Notes a change of a replica's edits: how many there were, and which was the last. */
+  change({at, title}) {
+    this.changes.set(at, {count: this.changesOf(at).count + 1, last: title});
+  }
+
+  changesOf(at) {
+    return this.changes.get(at) ?? {count: 0, last: null};
   }
 
   takePlan(command, reply) {
@@ -218,10 +229,10 @@ class Transcript {
 
   /** The run of a replica as its edits are. */
   runOf(at) {
-    const changes = this.changes.get(at) ?? 0;
+    const {count: changes, last} = this.changesOf(at);
     let run = this.runs.find((one) => one.at === at && one.changes === changes);
     if (!run) {
-      run = {at, changes, pictures: [], counts: new Map()};
+      run = {at, changes, last, pictures: [], counts: new Map()};
       this.runs.push(run);
     }
     return run;
