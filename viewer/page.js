@@ -94,6 +94,11 @@ function openExample(id) {
   exampleShown = true;
 }
 
+function placePanes() {
+  layPanes();
+  fitAgain();
+}
+
 function listenToSlot(slot) {
   const box = page["slot" + slot];
   const choose = (files) => {
@@ -127,7 +132,7 @@ function listen() {
     acts[farther] = () => zoom(false, null, null, side);
   }
   for (const [id, act] of Object.entries(acts)) on(page[id], "click", () => act());
-  const changes = {picture0: showPictures, picture1: showPictures, layout: showPictures,
+  const changes = {picture0: showPictures, picture1: showPictures, layout: placePanes,
                    detector: drawCharts, siteUp: drawSpent, siteDown: drawSpent,
                    marks: askDrawing, paint: askDrawing};
   for (const [id, act] of Object.entries(changes)) on(page[id], "change", act);
@@ -141,8 +146,7 @@ function listen() {
     for (const name of ["stretchFrom", "stretchTo", "span"]) on(page[name], event, drawCharts);
   }
   on(window, "resize", () => {
-    if (shown.whole) whole();
-    else settle();
+    fitAgain();
     drawCharts();
     drawSpent();
   });

@@ -8,9 +8,9 @@ const on = (target, name, act, options) => target.addEventListener(name, act, op
 const SCALES = [1 / 32, 1 / 16, 1 / 8, 1 / 4, 1 / 2, 1, 2, 3, 4, 6, 8, 10, 12, 14, 16, 20, 24, 32];
 
 /** What is shown of the first and of the second picture, and of both: `comparison` is null where
-    `whyNot` says why they are not compared; `whole` while the whole picture was asked for. */
+    `whyNot` says why they are not compared; `fit` is how the view came to be, null after a zoom. */
 const shown = {pictures: [null, null], plans: [null, null], runs: [null, null], greatest: 1,
-               comparison: null, whyNot: "", many: false, marksHid: false, whole: false, step: 0,
+               comparison: null, whyNot: "", many: false, marksHid: false, fit: null, step: 0,
                pointed: null, saved: false};
 const view = {cell: 0, step: 0, scale: 8, tall: 8};
 const tiles = new Tiles();
@@ -96,8 +96,10 @@ function legendEntries() {
   if (panesShown().includes(2)) {
     return ["the second is:", ...DIFFERENCE_ENTRIES, blocked, ...noRow, ...ofPlan];
   }
-  return [...speedEntries(shown.greatest, unit), blocked, {text: "empty", colour: EMPTY}, ...noRow,
-          {text: "differs", colour: EMPTY, frame: true}, ...ofPlan];
+  const [title, ...speeds] = speedEntries(shown.greatest, unit);
+  return [byMeans() ? `mean ${title}` : title, ...speeds, blocked,
+          {text: "empty", colour: EMPTY}, ...noRow, {text: "differs", colour: EMPTY, frame: true},
+          ...ofPlan];
 }
 
 function drawAll() {
@@ -151,18 +153,22 @@ function begin() {
   const most = Math.min(width / cellsShown(), height / (to - from + 1), 20);
   const scale = Math.max(1, SCALES.findLast((one) => one <= most) ?? SCALES[0]);
   Object.assign(view, {cell: 0, step: from, scale, tall: scale});
+  shown.fit = begin;
   settle();
 }
 
-/** Shows the whole picture: it fills its box, also of the pictures that are chosen then. */
+/** Shows the whole picture: it fills its box. */
 function whole() {
-  shown.whole = true;
   const [width, height] = plotSize();
   const [from, to] = stepsShown();
   Object.assign(view, {cell: 0, step: from, scale: width / cellsShown(),
                        tall: height / (to - from + 1)});
+  shown.fit = whole;
   settle();
 }
+
+/** Shows as much as before in a box of another size. */
+const fitAgain = () => (shown.fit ?? settle)();
 
 /** The next scale from one on, greater or less. */
 const nextScale = (scale, greater) => (greater ? SCALES.find((one) => one > scale * 1.001)
@@ -177,11 +183,12 @@ function zoom(closer, x, y, side = "both") {
   view.cell += right / view.scale - right / scale;
   view.step += down / view.tall - down / tall;
   Object.assign(view, {scale, tall});
-  shown.whole = false;
+  shown.fit = null;
   settle();
 }
 
 function move(cells, steps) {
+  if (shown.fit === begin) shown.fit = null;
   view.cell += cells;
   view.step += steps;
   settle();
@@ -218,8 +225,7 @@ function point(step, cell, byKey) {
   page.readout.setAttribute("aria-live", byKey ? "polite" : "off");
   const said = texts.length === 2 ? `first ${texts[0]}, second ${texts[1]}` : texts[0] ?? "no row";
   const {step: at, cell: place} = shown.pointed;
-  const where = unit.given ? `${momentText(at, unit)} min, ${placeText(place, unit)} km`
-    : `Step ${at}, cell ${place}`;
+  const where = `Step ${stepText(at)}, cell ${cellText(place)}`;
   page.readout.textContent = `${where}: ${said}`;
   askDrawing();
 }

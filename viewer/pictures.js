@@ -12,13 +12,12 @@ function offers() {
 }
 
 /** Figures in steps or cells, and in minutes or km too where there are units. */
-const fixed = (value, digits) => String(Number(value.toFixed(digits)));
-const minutes = (step) => fixed(step * unit.time, 2);
+const minutes = (step) => String(Number((step * unit.time).toFixed(2)));
 const withUnit = (plain, figure, name) => (unit.given ? `${plain} (${figure} ${name})` : plain);
 const stepsText = (from, to) =>
   withUnit(`steps ${from} to ${to}`, `${minutes(from)} to ${minutes(to)}`, "min");
 const stepText = (step) => withUnit(step, minutes(step), "min");
-const cellText = (cell) => withUnit(cell, fixed(cell * unit.place, 3), "km");
+const cellText = (cell) => withUnit(cell, placeText(cell, unit), "km");
 
 /** What a picture is called: whose it is, after how many changes, and its steps. */
 function labelOf({slot, run, picture}) {
@@ -39,29 +38,30 @@ const bestOf = (list, better) =>
   list.reduce((best, one) => (best && !better(one, best) ? best : one), null);
 
 /** Of two transcripts the longest picture of the first, and the last of the second that shares most
-    steps with it. Of one the last of a replica that had one before, which has half of that one's
-    steps: before and after what was changed; else the longest, and the last with half its steps. */
+    steps with it. Of one, two that share half of the longest one's steps: the first and the last of
+    a replica, before and after what was changed; else the longest and the last. */
 function choice(all) {
   const longest = bestOf(all.filter(({slot}) => slot === all[0].slot),
                          (one, best) => rowsOf(one) > rowsOf(best));
-  if (all.at(-1).slot > longest.slot) {
-    return [longest, nearest(longest, all.filter(({slot}) => slot > longest.slot))];
-  }
-  return beforeAndAfter(all) ?? [longest, nearest(longest, all.filter((one) =>
-    one !== longest && rowsShared(longest, one) >= rowsOf(longest) / 2))];
+  const second = all.filter(({slot}) => slot > longest.slot);
+  if (second.length) return [longest, nearest(longest, second)];
+  const halves = ([one, other]) => rowsShared(one, other) >= rowsOf(longest) / 2;
+  return beforeAndAfter(all.filter((one) => halves([one, longest])), halves)
+    ?? [longest, nearest(longest, all.filter((one) => one !== longest && halves([one, longest])))];
 }
 
 const nearest = (offer, others) =>
   bestOf(others, (one, best) => rowsShared(offer, one) >= rowsShared(offer, best));
 
-function beforeAndAfter(all) {
-  for (const after of [...all].reverse()) {
-    const before = all.slice(0, all.indexOf(after)).find((one) =>
-      one.run.at === after.run.at && rowsShared(one, after) > 0
-      && rowsShared(one, after) >= rowsOf(one) / 2);
-    if (before) return [before, after];
-  }
-  return null;
+/** The first picture of a replica and the last that shares most steps with it; null of none. */
+function beforeAndAfter(all, halves) {
+  const first = new Map();
+  const pairs = all.flatMap((after) => {
+    const before = first.get(after.run.at);
+    if (!before) first.set(after.run.at, after);
+    return before && halves([before, after]) ? [[before, after]] : [];
+  });
+  return bestOf(pairs, (one, best) => rowsShared(...one) >= rowsShared(...best));
 }
 
 function offerPictures() {
@@ -113,7 +113,7 @@ function showPictures() {
   tiles.clear();
   layPanes();
   setSlider();
-  if (shown.whole) whole();
+  if (shown.fit === whole) whole();
   else begin();
   markWhereSeen();
   tellAll();
