@@ -179,13 +179,16 @@ def started(path: Path | str) -> subprocess.Popen[bytes]:
 
 
 class RoadLab:
-    """A running program. Each method sends one command and gives its reply, or raises `Refused`."""
+    """A running program. Each method sends one command and gives its reply, or raises `Refused`.
 
-    def __init__(self, plan: Plan, program: Path | str | None = None) -> None:
+    The plan may be the object of a script's first line too.
+    """
+
+    def __init__(self, plan: Plan | dict[str, Any], program: Path | str | None = None) -> None:
         self._process = started(program or program_path())
         self._reasons = Reasons()
         try:
-            self._ask(plan.written())
+            self._ask(plan.written() if isinstance(plan, Plan) else plan)
         except BaseException:
             self.close()
             raise
