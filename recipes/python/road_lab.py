@@ -188,7 +188,7 @@ class RoadLab:
         self._process = started(program or program_path())
         self._reasons = Reasons()
         try:
-            self._ask(plan.written() if isinstance(plan, Plan) else plan)
+            self.ask(plan.written() if isinstance(plan, Plan) else plan)
         except BaseException:
             self.close()
             raise
@@ -209,7 +209,8 @@ class RoadLab:
                 pass
         self._process.wait()
 
-    def _ask(self, line: dict[str, Any]) -> dict[str, Any]:
+    def ask(self, line: dict[str, Any]) -> dict[str, Any]:
+        """Any line of a script, and its reply as it is written."""
         text = json.dumps(line, separators=(",", ":"), ensure_ascii=False).encode()
         try:
             self._process.stdin.write(text + b"\n")
@@ -228,7 +229,7 @@ class RoadLab:
 
     def command(self, verb: str, at: str | None = None, /, **fields: Any) -> dict[str, Any]:
         """Any command, with a replica or without, and its reply as it is written."""
-        return self._ask({verb: fields if at is None else {"at": at, **fields}})
+        return self.ask({verb: fields if at is None else {"at": at, **fields}})
 
     # Edits
 
