@@ -32,6 +32,8 @@ FORM = 2
 EMPTY, BLOCKED = -1, -2
 """Cells without a car in an array of rows."""
 
+NO_NUMPY = "numpy is not installed: for the system's python3 Debian's package is python3-numpy, else `pip install numpy`"
+
 STATUSES = {3: "no memory", 4: "its output could not be written", 5: "the script could not be read",
             6: "more lines or bytes than it takes", 7: "a thread could not start, or has gone"}
 
@@ -315,8 +317,11 @@ class RoadLab:
 
 
 def as_array(rows: list[str]) -> numpy.ndarray:
-    """Steps by cells: the speed of a car, EMPTY or BLOCKED. This alone needs numpy."""
-    import numpy
+    """Steps by cells: the speed of a car, EMPTY or BLOCKED. This alone needs numpy, else it is an ImportError."""
+    try:
+        import numpy
+    except ImportError:
+        raise ImportError(NO_NUMPY) from None
     signs = numpy.array([list(row.encode()) for row in rows], dtype=numpy.int16)
     return numpy.select([signs == ord("."), signs == ord("#")], [EMPTY, BLOCKED], signs - ord("0"))
 
