@@ -60,8 +60,9 @@ class NoProgram(Exception):
     """There is no program to start."""
 
     def __init__(self, path: Path | str) -> None:
-        super().__init__(f"no program at {path}: run `rt run < stdin` in crates/road_lab, which takes "
-                         "half an hour the first time, or let ROAD_LAB be the path of a built one")
+        super().__init__(f"no program at {path}: start `rt run < stdin` in crates/road_lab, which proves and builds it in half "
+                         "an hour, or let ROAD_LAB be the path of a built one; until then `rt try < SCRIPT` there runs a "
+                         "script unproved, in a minute or two")
 
 
 class Stamp(NamedTuple):
