@@ -1,2 +1,3 @@
--- What the contracts of private functions say of their loops; no public contract names it.
+-- What the contracts of private functions say; no public contract names it.
 pub mod EntryLists
+pub mod Pages
