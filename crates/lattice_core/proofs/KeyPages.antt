@@ -11,8 +11,7 @@ use Rattle.lattice_core.specs.Instances.TestAnswers.{less_by_T, first_of_both}
 use Rattle.std.specs.Bool.{◌==◌}
 use Rattle.std.proofs.lemmas.Bool.Decides.{nat_tests}
 use Rattle.lattice_core.specs.Map.{is_empty}
-use Rattle.lattice_core.specs.Private.EntryLists.{count_up_to, put_joined}
-use Rattle.lattice_core.specs.Private.Pages.{ArePages, BeginsWith, all_entries}
+use Rattle.lattice_core.specs.Private.Entries.{ArePages, BeginsWith, all_entries, count_up_to, put_joined}
 use Rattle.lattice_core.proofs.KeyPlaces.{IsAbove, above-before, below-back, below-lower, both-hold, find-between, first-below, joined-between, last-of-count, none-up_to, sorted-back}
 use Rattle.lattice_core.proofs.PlacesInLists.{all-at, all-drop, parted, parted-set}
 

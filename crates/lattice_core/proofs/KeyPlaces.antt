@@ -1,7 +1,7 @@
 -- Where a key stands among pairs by rising key, what is found at it, and where a value at it is put.
 use Rattle.std.specs.Prelude.{◌≡◌, ℕ, zero, suc, ◌<◌, ◌≤◌, Bool, true, false, not, cond, ◌&&◌, T, List, [], ◌∷◌, ◌++◌, length, take}
 use Rattle.std.proofs.Common.{arith, refl, sym, ap, subst, drop, ◌∙◌, take-append-drop}
-use Rattle.std.proofs.lemmas.Bool.{true≢false}
+use Rattle.std.proofs.lemmas.Bool.{not-false, not-true, true≢false}
 use Rattle.std.specs.List.{AllByRecursion, insert, slice_index_or, slice_set}
 use Rattle.std.specs.List.Sorted.{IsPartitionedBy, IsPartitionPoint}
 use Rattle.std.specs.declared.cmp.Ordering.{Ordering}
@@ -12,8 +12,9 @@ use Rattle.std.specs.FinMap.Entries.{find, is_sorted, put, by_order, below_all}
 use Rattle.std.specs.Ordering.{is_eq, is_lt, ordering_reverse}
 use Rattle.lattice_core.specs.Exact.{IsExact}
 use Rattle.lattice_core.specs.Instances.TestAnswers.{less, less_by_T, first_of_both, second_of_both}
+use Rattle.lattice_core.specs.Instances.JoinedMaps.{find-below}
 use Rattle.lattice_core.specs.Map.{join_option}
-use Rattle.lattice_core.specs.Private.EntryLists.{count_up_to, put_joined}
+use Rattle.lattice_core.specs.Private.Entries.{count_up_to, put_joined}
 use Rattle.lattice_core.proofs.PlacesInLists.{parted, parted-set}
 
 pub both-hold : (a b : Bool) → T a → T b → T (a && b)
@@ -80,12 +81,8 @@ module _ {K X : Type 0} (cmp : K → K → Ordering) where
   IsAbove k es = AllByRecursion (λ e. cmp k e.0 ≡ Greater) es
 
   -- ---- a key that is above those before it and below those behind it
-  find-behind : (k : K) (ys : List (K × X)) → T (below_all cmp k ys) → find cmp k ys ≡ None
-  find-behind k [] b = refl
-  find-behind k (y ∷ ys) b = ap (λ r. cond (is_eq r) (Some y.1) (find cmp k ys)) (less-first k y ys b) ∙ find-behind k ys (below-others k y ys b)
-
   find-front : (k : K) (mid ys : List (K × X)) → T (below_all cmp k ys) → find cmp k (mid ++ ys) ≡ find cmp k mid
-  find-front k [] ys b = find-behind k ys b
+  find-front k [] ys b = find-below cmp k ys b
   find-front k (e ∷ mid) ys b = ap (cond (is_eq (cmp k e.0)) (Some e.1)) (find-front k mid ys b)
 
   pub find-between : (k : K) (xs mid ys : List (K × X)) → IsAbove k xs → T (below_all cmp k ys) → find cmp k (xs ++ (mid ++ ys)) ≡ find cmp k mid
@@ -127,23 +124,15 @@ module _ {K X : Type 0} (cmp : K → K → Ordering) where
       → IsPartitionPoint (λ e. not (is_lt (cmp k e.0)) ≡ true) (λ e. not (is_lt (cmp k e.0)) ≡ false) es n → n ≡ count_up_to cmp k es
   count-of-partition k [] zero h p = refl
   count-of-partition k [] (suc n) h p = absurd (omega (arith, h))
-  count-of-partition k (e ∷ es) zero h p = ap (λ b. cond b 0 (suc (count_up_to cmp k es))) (sym (was _ (p.1 zero e (omega arith) (omega arith))))
-    where
-      was : (b : Bool) → not b ≡ false → b ≡ true
-      was true h = refl
-      was false h = absurd (true≢false h)
+  count-of-partition k (e ∷ es) zero h p = ap (λ b. cond b 0 (suc (count_up_to cmp k es))) (sym (not-false _ (p.1 zero e (omega arith) (omega arith))))
   count-of-partition k (e ∷ es) (suc n) h p =
       ap suc (count-of-partition k es n (omega (arith, h)) (
         λ i d from below. p.0 (suc i) d (omega arith) (omega (arith, below)),
         λ i d from below. p.1 (suc i) d (omega (arith, from)) (omega (arith, below)),
       ))
-      ∙ ap (λ b. cond b 0 (suc (count_up_to cmp k es))) (sym (was _ (p.0 zero e (omega arith) (omega arith))))
-    where
-      was : (b : Bool) → not b ≡ true → b ≡ false
-      was true h = sym h
-      was false h = refl
+      ∙ ap (λ b. cond b 0 (suc (count_up_to cmp k es))) (sym (not-true _ (p.0 zero e (omega arith) (omega arith))))
 
-  pub count-within : (k : K) (es : List (K × X)) → count_up_to cmp k es ≤ length es
+  count-within : (k : K) (es : List (K × X)) → count_up_to cmp k es ≤ length es
   count-within k [] = omega arith
   count-within k (e ∷ es) = let others = count-within k es in elim (is_lt (cmp k e.0)) as (λ b. cond b 0 (suc (count_up_to cmp k es)) ≤ suc (length es)) [
     | true ↦ omega arith
@@ -197,7 +186,7 @@ module _ {K X : Type 0} (cmp : K → K → Ordering) where
     none-up_to k es s h = subst (λ n. T (below_all cmp k (drop n es))) h (below-behind k es s)
 
     pub find-before-all : (k : K) (es : List (K × X)) → T (is_sorted cmp es) → count_up_to cmp k es ≡ 0 → None ≡ find cmp k es
-    find-before-all k es s h = sym (find-behind k es (none-up_to k es s h))
+    find-before-all k es s h = sym (find-below cmp k es (none-up_to k es s h))
 
     pub insert-before-all : (join : X → X → X) (k : K) (v : X) (es : List (K × X)) → T (is_sorted cmp es) → count_up_to cmp k es ≡ 0 → insert es 0 (k, v) ≡ put_joined cmp join es k v
     insert-before-all join k v es s h = insert-between join k v es 0 tt (none-up_to k es s h)

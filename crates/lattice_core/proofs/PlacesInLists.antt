@@ -1,5 +1,5 @@
 -- What stands at a place of a list, before it and behind it.
-use Rattle.std.specs.Prelude.{◌≡◌, ℕ, zero, suc, ◌<◌, ◌-◌, List, [], ◌∷◌, ◌++◌, length, take}
+use Rattle.std.specs.Prelude.{◌≡◌, ℕ, zero, suc, ◌<◌, ◌≤◌, ◌-◌, List, [], ◌∷◌, ◌++◌, length, take}
 use Rattle.std.proofs.Common.{arith, refl, ap, drop}
 use Rattle.std.specs.List.{AllByRecursion, insert, slice_index_or, slice_set}
 
@@ -54,6 +54,5 @@ pub some-if-not-zero : (n : ℕ) → (n ≡ 0 → ⊥) → 0 < n
 some-if-not-zero zero h = absurd (h refl)
 some-if-not-zero (suc n) h = omega arith
 
-pub zero-if-not-some : (n : ℕ) → (0 < n → ⊥) → n ≡ 0
-zero-if-not-some zero h = refl
-zero-if-not-some (suc n) h = absurd (h (omega arith))
+pub zero-if-not-some : (n : ℕ) → n ≤ 0 → n ≡ 0
+zero-if-not-some n h = omega (arith, h)

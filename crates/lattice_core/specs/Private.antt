@@ -1,3 +1,2 @@
 -- What the contracts of private functions say; no public contract names it.
-pub mod EntryLists
-pub mod Pages
+pub mod Entries

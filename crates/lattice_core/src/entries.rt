@@ -4,7 +4,7 @@ ghost use Rattle.std.specs.Prelude.{◌≡◌, ◌++◌, length};
 ghost use Rattle.std.specs.Iterator.{at_most};
 ghost use Rattle.std.specs.Map.{keys_of};
 ghost use Rattle.std.specs.Map.Iter.{TakesFirst, TakesLast, deref, deref_pair};
-ghost use Rattle.lattice_core.specs.Private.Pages.{all_entries};
+ghost use Rattle.lattice_core.specs.Private.Entries.{all_entries};
 
 use crate::exact::Exact;
 use crate::lattice::Lattice;
@@ -24,7 +24,7 @@ pub struct Entries<'a, K: Exact, V: Lattice> {
 
 impl<'a, K: Exact, V: Lattice> Model for Entries<'a, K, V> {
     ghost use Rattle.std.specs.Prelude.{List, ◌++◌};
-    ghost use Rattle.lattice_core.specs.Private.Pages.{all_entries};
+    ghost use Rattle.lattice_core.specs.Private.Entries.{all_entries};
 
     ghost Value = { List (K × V) };
 
@@ -84,7 +84,7 @@ impl<'a, K: Exact, V: Lattice> DoubleEndedIterator for Entries<'a, K, V> {
 /// Iterates over keys of a map, rising. Contracts see the list of those that are left.
 #[derive(Drop)]
 pub struct Keys<'a, K: Exact, V: Lattice> {
-    entries: Entries<'a, K, V>,
+    pub(crate) entries: Entries<'a, K, V>,
 }
 
 impl<'a, K: Exact, V: Lattice> Model for Keys<'a, K, V> {
@@ -94,14 +94,6 @@ impl<'a, K: Exact, V: Lattice> Model for Keys<'a, K, V> {
     ghost Value = { List K };
 
     ghost view = { λ k. keys_of k.entries };
-}
-
-impl<'a, K: Exact, V: Lattice> Keys<'a, K, V> {
-    pub(crate) fn of(entries: Entries<'a, K, V>) -> Self
-        ensures { result ≡ keys_of entries.entry }
-    {
-        Keys { entries }
-    }
 }
 
 impl<'a, K: Exact, V: Lattice> Iterator for Keys<'a, K, V> {

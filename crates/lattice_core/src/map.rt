@@ -6,8 +6,7 @@ ghost use Rattle.std.specs.FinMap.Entries.{find, is_sorted};
 ghost use Rattle.std.specs.Map.{keys_of};
 ghost use Rattle.lattice_core.specs.Map.{IsHeld, IsProperMap, map_with, map_join, entries_up_to};
 ghost use Rattle.lattice_core.specs.Map.{entries_after};
-ghost use Rattle.lattice_core.specs.Private.EntryLists.{IsAtMostOption};
-ghost use Rattle.lattice_core.specs.Private.Pages.{IsPaged, all_entries};
+ghost use Rattle.lattice_core.specs.Private.Entries.{IsAtMostOption, IsPaged, all_entries};
 
 use crate::OutOfMemory;
 use crate::entries::{Entries, Keys};
@@ -34,7 +33,7 @@ pub struct LatMap<K: Exact, V: Lattice> {
 impl<K: Exact, V: Lattice> Model for LatMap<K, V> {
     ghost use Rattle.std.specs.Prelude.{List, vec_items};
     ghost use Rattle.std.specs.Arc.{arc_value};
-    ghost use Rattle.lattice_core.specs.Private.Pages.{IsPaged, all_entries, items_if_any};
+    ghost use Rattle.lattice_core.specs.Private.Entries.{IsPaged, all_entries, items_if_any};
 
     ghost Value = { List (K × V) };
 
@@ -64,7 +63,9 @@ impl<K: Exact, V: Lattice> LatMap<K, V> {
         ensures all { result ≡ keys_of self.now }
         ensures rising { T (is_sorted K.cmp self.now) }
     {
-        Keys::of(self.iter())
+        Keys {
+            entries: self.iter(),
+        }
     }
 
     /// Iterates over the entries by rising key, none of them a bottom.
@@ -79,26 +80,16 @@ impl<K: Exact, V: Lattice> LatMap<K, V> {
     pub fn up_to(&self, key: K) -> Entries<'_, K, V>
         ensures { result ≡ entries_up_to K.cmp key self.now }
     {
-        let pages = self.pages();
-        let count = count_up_to(pages, key);
-        if count == 0 {
-            return Entries::of(&[], &[], &[]);
-        }
-        let last = pages[count - 1].1.entries();
-        Entries::of(&[], &pages[..count - 1], &last[..count_up_to(last, key)])
+        let (up_to, _) = self.parted(key);
+        up_to
     }
 
     /// Iterates over the entries after a key, by rising key, from either end. It takes one look-up.
     pub fn after(&self, key: K) -> Entries<'_, K, V>
         ensures { result ≡ entries_after K.cmp key self.now }
     {
-        let pages = self.pages();
-        let count = count_up_to(pages, key);
-        if count == 0 {
-            return Entries::of(&[], pages, &[]);
-        }
-        let first = pages[count - 1].1.entries();
-        Entries::of(&first[count_up_to(first, key)..], &pages[count..], &[])
+        let (_, after) = self.parted(key);
+        after
     }
 
     /// Copies the map, with `value` joined in at `key`. A bottom adds nothing.
@@ -129,6 +120,24 @@ impl<K: Exact, V: Lattice> LatMap<K, V> {
             Some(pages) => pages,
             None => &[],
         }
+    }
+
+    // The entries up to a key, and those after it.
+    fn parted(&self, key: K) -> (Entries<'_, K, V>, Entries<'_, K, V>)
+        ensures up_to { result.0 ≡ entries_up_to K.cmp key self.now }
+        ensures after { result.1 ≡ entries_after K.cmp key self.now }
+    {
+        let pages = self.pages();
+        let count = count_up_to(pages, key);
+        if count == 0 {
+            return (Entries::of(&[], &[], &[]), Entries::of(&[], pages, &[]));
+        }
+        let entries = pages[count - 1].1.entries();
+        let (up_to, after) = entries.split_at(count_up_to(entries, key));
+        (
+            Entries::of(&[], &pages[..count - 1], up_to),
+            Entries::of(after, &pages[count..], &[]),
+        )
     }
 
     // Shares the pages, and joins in each entry of `other`.

@@ -2,8 +2,7 @@
 
 ghost use Rattle.std.specs.Prelude.{◌≡◌, ◌<◌, [], ◌∷◌, IfOk, T, length};
 ghost use Rattle.std.specs.FinMap.Entries.{is_sorted};
-ghost use Rattle.lattice_core.specs.Private.EntryLists.{put_joined};
-ghost use Rattle.lattice_core.specs.Private.Pages.{BeginsWith};
+ghost use Rattle.lattice_core.specs.Private.Entries.{BeginsWith, put_joined};
 
 use crate::OutOfMemory;
 use crate::exact::Exact;

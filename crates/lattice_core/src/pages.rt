@@ -3,8 +3,7 @@
 ghost use Rattle.std.specs.Prelude.{◌≡◌, ◌<◌, IfOk, T, length};
 ghost use Rattle.std.specs.Option.{option_copied};
 ghost use Rattle.std.specs.FinMap.Entries.{find, is_sorted};
-ghost use Rattle.lattice_core.specs.Private.EntryLists.{put_joined};
-ghost use Rattle.lattice_core.specs.Private.Pages.{ArePages, BeginsWith, all_entries};
+ghost use Rattle.lattice_core.specs.Private.Entries.{ArePages, BeginsWith, all_entries, put_joined};
 
 use crate::OutOfMemory;
 use crate::exact::Exact;
@@ -52,7 +51,6 @@ pub(crate) fn join_in<K: Exact, V: Lattice>(
     ensures joined { IfOk result (λ _.
         all_entries pages.new.items ≡ put_joined K.cmp V.join (all_entries pages.old.items) key value.now) }
     ensures pages { IfOk result (λ _. ArePages pages.new.items) }
-    ensures some { IfOk result (λ _. 0 < length pages.new.items) }
 {
     if pages.is_empty() {
         pages.push((key, Page::of_one(alloc, key, value)?))?;
@@ -91,7 +89,6 @@ fn split<K: Exact, V: Lattice>(
     requires pages { ArePages pages.old.items }
     ensures same { IfOk result (λ _. all_entries pages.new.items ≡ all_entries pages.old.items) }
     ensures pages { IfOk result (λ _. ArePages pages.new.items) }
-    ensures some { IfOk result (λ _. 0 < length pages.new.items) }
 {
     let entries = pages[at].1.entries();
     if entries.len() <= PAGE_LENGTH {

@@ -4,7 +4,7 @@ ghost use Rattle.std.specs.Prelude.{◌≡◌, ◌≤◌, T, length, not};
 ghost use Rattle.std.specs.Option.{option_copied};
 ghost use Rattle.std.specs.Ordering.{is_lt};
 ghost use Rattle.std.specs.FinMap.Entries.{find, is_sorted};
-ghost use Rattle.lattice_core.specs.Private.EntryLists.{count_up_to};
+ghost use Rattle.lattice_core.specs.Private.Entries.{count_up_to};
 
 use crate::exact::Exact;
 use std::cmp::Ordering;
@@ -42,8 +42,5 @@ pub(crate) fn value_at<K: Exact, X>(pairs: &[(K, X)], key: K) -> Option<&X>
 pub(crate) fn is_before<K: Exact>(key: K, other: K) -> bool
     ensures { result ≡ is_lt (K.cmp key other) }
 {
-    match key.cmp(&other) {
-        Ordering::Less => true,
-        _ => false,
-    }
+    matches!(key.cmp(&other), Ordering::Less)
 }

@@ -2,7 +2,7 @@
 use Rattle.std.proofs.Common.{◌≡◌, ◌+◌, ◌++◌, suc, T, take, drop, arith, ap, sym, subst, ◌∙◌, take-append-drop}
 use Rattle.std.specs.FinMap.Entries.{is_sorted}
 use Rattle.std.specs.List.{insert, slice_index_or, slice_set}
-use Rattle.lattice_core.specs.Private.Pages.{ArePages, BeginsWith, all_entries}
+use Rattle.lattice_core.specs.Private.Entries.{ArePages, BeginsWith, all_entries}
 use Rattle.lattice_core.proofs.KeyPages.{all_entries-split}
 use Rattle.lattice_core.proofs.KeyPlaces.{sorted-back, sorted-front}
 use Rattle.lattice_core.proofs.PlacesInLists.{all-insert, all-set}

@@ -1,6 +1,6 @@
 -- Pages are begun until one has an entry left.
 use Rattle.std.proofs.Common.{◌≡◌, ◌++◌, length}
-use Rattle.lattice_core.specs.Private.Pages.{all_entries}
+use Rattle.lattice_core.specs.Private.Entries.{all_entries}
 use Rattle.lattice_core.proofs.entries.EntriesIterator.next.Given as goal
 
 -- the same entries are left

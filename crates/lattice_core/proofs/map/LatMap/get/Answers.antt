@@ -1,5 +1,5 @@
 -- What is found is no bottom.
-use Rattle.lattice_core.specs.Private.Pages.{all_entries}
+use Rattle.lattice_core.specs.Private.Entries.{all_entries}
 use Rattle.lattice_core.proofs.MapJoins.{held-found}
 use Rattle.lattice_core.proofs.map.LatMap.get.Goals as goal
 

@@ -4,8 +4,7 @@ use Rattle.std.specs.Arc.{arc_value}
 use Rattle.std.specs.Vec.{vec_items}
 use Rattle.lattice_core.specs.Map.{IsProperMap, map_with}
 use Rattle.lattice_core.specs.Instances.JoinedMaps.{proper-map_with}
-use Rattle.lattice_core.specs.Private.EntryLists.{put_joined}
-use Rattle.lattice_core.specs.Private.Pages.{ArePages, all_entries}
+use Rattle.lattice_core.specs.Private.Entries.{ArePages, all_entries, put_joined}
 use Rattle.lattice_core.proofs.map.LatMap.with.Given as given
 use Rattle.lattice_core.proofs.map.LatMap.with.Goals as goal
 

@@ -6,7 +6,7 @@ use Rattle.std.specs.List.{AllByRecursion}
 use Rattle.std.specs.Vec.{vec_items}
 use Rattle.lattice_core.specs.Map.{IsHeld, IsProperMap, join_option, map_join}
 use Rattle.lattice_core.specs.Instances.JoinedMaps.{proper-map_join}
-use Rattle.lattice_core.specs.Private.Pages.{ArePages, all_entries}
+use Rattle.lattice_core.specs.Private.Entries.{ArePages, all_entries}
 use Rattle.lattice_core.proofs.MapJoins.{joined_turn}
 use Rattle.lattice_core.proofs.map.LatMap.with_all.Given as given
 use Rattle.lattice_core.proofs.map.LatMap.with_all.Goals as goal

@@ -3,7 +3,7 @@ use Rattle.std.proofs.Common.{◌≡◌, T}
 use Rattle.std.specs.FinMap.Entries.{is_sorted}
 use Rattle.std.specs.List.{AllByRecursion}
 use Rattle.lattice_core.specs.Map.{IsHeld, map_join}
-use Rattle.lattice_core.specs.Private.Pages.{ArePages, all_entries}
+use Rattle.lattice_core.specs.Private.Entries.{ArePages, all_entries}
 use Rattle.lattice_core.proofs.map.LatMap.with_all.Given as goal
 
 -- the pages so far, with what is left joined in, give the whole
