@@ -1,2 +1,2 @@
--- What the contracts of private functions say of their loops; no public contract names it.
-pub mod EntryLists
+-- What the contracts of private functions say; no public contract names it.
+pub mod Entries

@@ -18,12 +18,15 @@
 #![tactic(auto)]
 
 pub mod both;
+pub mod entries;
 pub mod exact;
 pub mod greatest;
 pub mod lattice;
 pub mod laws;
 pub mod map;
-pub mod shared;
+mod page;
+mod pages;
+mod search;
 
 /// An allocation failed. It is the only error of this crate, and a call that returns it changed nothing.
 pub use std::alloc::AllocError as OutOfMemory;

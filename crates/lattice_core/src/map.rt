@@ -4,40 +4,42 @@ ghost use Rattle.std.specs.Prelude.{◌≡◌, ◌↔◌, [], IfOk, IfSome, IsOk
 ghost use Rattle.std.specs.Option.{option_copied};
 ghost use Rattle.std.specs.FinMap.Entries.{find, is_sorted};
 ghost use Rattle.std.specs.Map.{keys_of};
-ghost use Rattle.lattice_core.specs.Map.{IsHeld, IsProperMap, join_option, map_with, map_join, entries_up_to};
+ghost use Rattle.lattice_core.specs.Map.{IsHeld, IsProperMap, map_with, map_join, entries_up_to};
 ghost use Rattle.lattice_core.specs.Map.{entries_after};
-ghost use Rattle.lattice_core.specs.Private.EntryLists.{IsAtMostOption, put_joined};
+ghost use Rattle.lattice_core.specs.Private.Entries.{IsAtMostOption, IsPaged, all_entries};
 
 use crate::OutOfMemory;
+use crate::entries::{Entries, Keys};
 use crate::exact::Exact;
 use crate::lattice::Lattice;
+use crate::page::Page;
+use crate::pages::{join_in, shared, value_in};
+use crate::search::count_up_to;
 use std::alloc::Global;
-use std::collections::BTreeMap;
-use std::collections::btree_map::{Iter, Keys, Range};
 use std::marker::Model;
-use std::ops::Bound;
-
-// How many entries are copied one by one: they fit into one node of the map.
-const FEW: usize = 8;
+use std::sync::Arc;
 
 /// A map to a lattice, joined key by key. It never holds a bottom, so that two maps which give equal values at every
-/// key are equal. Contracts see the list of its entries by rising key. A copy builds the map anew, in its order. A join
-/// copies the map that has more entries, and takes one look-up and one insertion for each entry of the other.
+/// key are equal. Contracts see the list of its entries by rising key. They lie in pages, which maps share: a copy is
+/// one more owner of all, and a join copies the list of pages of the map that has more of them, and those pages in which
+/// the other map has a key.
 #[derive(Drop)]
 pub struct LatMap<K: Exact, V: Lattice> {
-    map: BTreeMap<K, V>,
+    // Each page with its first key. Where there is no entry, there is no list either.
+    pages: Option<Arc<Vec<(K, Page<K, V>)>>>,
     alloc: Global,
 }
 
 impl<K: Exact, V: Lattice> Model for LatMap<K, V> {
-    ghost use Rattle.std.specs.Prelude.{List};
-    ghost use Rattle.lattice_core.specs.Map.{IsProperMap};
+    ghost use Rattle.std.specs.Prelude.{List, vec_items};
+    ghost use Rattle.std.specs.Arc.{arc_value};
+    ghost use Rattle.lattice_core.specs.Private.Entries.{IsPaged, all_entries, items_if_any};
 
     ghost Value = { List (K × V) };
 
-    ghost view = { λ a. a.map.entries };
+    ghost view = { λ a. all_entries (items_if_any a.pages (λ p. vec_items (arc_value p))) };
 
-    ghost invariant = { λ a. IsProperMap K.cmp V.is_proper V.is_least a.map.entries };
+    ghost invariant = { λ a. IsPaged K.cmp V.is_proper V.is_least (items_if_any a.pages (λ p. vec_items (arc_value p))) };
 }
 
 impl<K: Exact, V: Lattice> LatMap<K, V> {
@@ -45,10 +47,7 @@ impl<K: Exact, V: Lattice> LatMap<K, V> {
     pub fn empty(alloc: Global) -> Self
         ensures { result ≡ [] }
     {
-        LatMap {
-            map: BTreeMap::new(alloc),
-            alloc,
-        }
+        LatMap { pages: None, alloc }
     }
 
     /// Returns the value at a key, never a bottom.
@@ -56,7 +55,7 @@ impl<K: Exact, V: Lattice> LatMap<K, V> {
         ensures value { option_copied result ≡ find K.cmp key self.now }
         ensures held { IfSome result (λ value. IsHeld V.is_proper V.is_least value.now) }
     {
-        self.map.get(&key)
+        value_in(self.pages(), key)
     }
 
     /// Iterates over the keys, rising.
@@ -64,29 +63,33 @@ impl<K: Exact, V: Lattice> LatMap<K, V> {
         ensures all { result ≡ keys_of self.now }
         ensures rising { T (is_sorted K.cmp self.now) }
     {
-        self.map.keys()
+        Keys {
+            entries: self.iter(),
+        }
     }
 
     /// Iterates over the entries by rising key, none of them a bottom.
-    pub fn iter(&self) -> Iter<'_, K, V>
+    pub fn iter(&self) -> Entries<'_, K, V>
         ensures all { result ≡ self.now }
         ensures proper { IsProperMap K.cmp V.is_proper V.is_least self.now }
     {
-        self.map.iter()
+        Entries::of(&[], self.pages(), &[])
     }
 
-    /// Iterates over the entries up to a key, by rising key, from either end. Each end takes one look-up.
-    pub fn up_to(&self, key: K) -> Range<'_, K, V>
+    /// Iterates over the entries up to a key, by rising key, from either end. It takes one look-up.
+    pub fn up_to(&self, key: K) -> Entries<'_, K, V>
         ensures { result ≡ entries_up_to K.cmp key self.now }
     {
-        self.map.range(..=key)
+        let (up_to, _) = self.parted(key);
+        up_to
     }
 
-    /// Iterates over the entries after a key, by rising key, from either end. Each end takes one look-up.
-    pub fn after(&self, key: K) -> Range<'_, K, V>
+    /// Iterates over the entries after a key, by rising key, from either end. It takes one look-up.
+    pub fn after(&self, key: K) -> Entries<'_, K, V>
         ensures { result ≡ entries_after K.cmp key self.now }
     {
-        self.map.range((Bound::Excluded(key), Bound::Unbounded))
+        let (_, after) = self.parted(key);
+        after
     }
 
     /// Copies the map, with `value` joined in at `key`. A bottom adds nothing.
@@ -100,61 +103,54 @@ impl<K: Exact, V: Lattice> LatMap<K, V> {
         if value.is_bottom() {
             return self.copied();
         }
-        let mut map = self.copied_entries()?;
-        join_in(&mut map, key, value)?;
+        let mut pages = shared(self.alloc, self.pages())?;
+        join_in(self.alloc, &mut pages, key, value)?;
+        let pages = Arc::new(self.alloc, pages)?;
         Ok(LatMap {
-            map,
+            pages: Some(pages),
             alloc: self.alloc,
         })
     }
 
-    // Copies the entries in their order.
-    fn copied_entries(&self) -> Result<BTreeMap<K, V>, OutOfMemory>
-        ensures made { IfOk result (λ map. map.entries ≡ self.now) }
-        ensures grows_nothing { self.now ≡ [] → IsOk result }
+    fn pages(&self) -> &[(K, Page<K, V>)]
+        ensures all { all_entries result.now ≡ self.now }
+        ensures paged { IsPaged K.cmp V.is_proper V.is_least result.now }
     {
-        if self.map.is_empty() {
-            return Ok(BTreeMap::new(self.alloc));
+        match &self.pages {
+            Some(pages) => pages,
+            None => &[],
         }
-        if self.map.len() <= FEW {
-            return self.copied_one_by_one();
-        }
-        self.built_anew()
     }
 
-    // Copies the entries one after another: what a few take in look-ups, they spare in allocations.
-    fn copied_one_by_one(&self) -> Result<BTreeMap<K, V>, OutOfMemory>
-        ensures { IfOk result (λ map. map.entries ≡ self.now) }
+    // The entries up to a key, and those after it.
+    fn parted(&self, key: K) -> (Entries<'_, K, V>, Entries<'_, K, V>)
+        ensures up_to { result.0 ≡ entries_up_to K.cmp key self.now }
+        ensures after { result.1 ≡ entries_after K.cmp key self.now }
     {
-        let mut map = BTreeMap::new(self.alloc);
-        for (key, value) in &self.map {
-            map.insert(*key, value.copied()?)?;
+        let pages = self.pages();
+        let count = count_up_to(pages, key);
+        if count == 0 {
+            return (Entries::of(&[], &[], &[]), Entries::of(&[], pages, &[]));
         }
-        Ok(map)
+        let entries = pages[count - 1].1.entries();
+        let (up_to, after) = entries.split_at(count_up_to(entries, key));
+        (
+            Entries::of(&[], &pages[..count - 1], up_to),
+            Entries::of(after, &pages[count..], &[]),
+        )
     }
 
-    // Copies the entries, and builds a map of them in one pass.
-    fn built_anew(&self) -> Result<BTreeMap<K, V>, OutOfMemory>
-        ensures { IfOk result (λ map. map.entries ≡ self.now) }
-    {
-        let mut entries = Vec::with_capacity(self.alloc, self.map.len())?;
-        for (key, value) in &self.map {
-            entries.push((*key, value.copied()?))?;
-        }
-        BTreeMap::from_iter(self.alloc, entries)
-    }
-
-    // Copies the map, and joins in each entry of `other`.
+    // Shares the pages, and joins in each entry of `other`.
     fn with_all(&self, other: &Self) -> Result<Self, OutOfMemory>
-        ensures made { IfOk result (λ new. new ≡ map_join K.cmp V.join V.is_least self.now other.now) }
-        ensures grows_nothing { self.now ≡ [] → other.now ≡ [] → IsOk result }
+        ensures { IfOk result (λ new. new ≡ map_join K.cmp V.join V.is_least self.now other.now) }
     {
-        let mut map = self.copied_entries()?;
-        for (key, value) in &other.map {
-            join_in(&mut map, *key, value)?;
+        let mut pages = shared(self.alloc, self.pages())?;
+        for (key, value) in other.iter() {
+            join_in(self.alloc, &mut pages, *key, value)?;
         }
+        let pages = Arc::new(self.alloc, pages)?;
         Ok(LatMap {
-            map,
+            pages: Some(pages),
             alloc: self.alloc,
         })
     }
@@ -181,35 +177,45 @@ impl<K: Exact, V: Lattice> Lattice for LatMap<K, V> {
         ensures made { IfOk result (λ joined. joined ≡ map_join K.cmp V.join V.is_least self.now other.now) }
         ensures grows_nothing { self.now ≡ [] → other.now ≡ [] → IsOk result }
     {
-        if self.map.len() < other.map.len() {
+        if other.is_bottom() {
+            return self.copied();
+        }
+        if self.pages().len() < other.pages().len() {
             return other.with_all(self);
         }
         self.with_all(other)
     }
 
-    /// Copies each entry. It takes no memory where there is none.
+    /// Shares the pages. It takes no memory.
     ///
     /// # Errors
     ///
-    /// `OutOfMemory` where an allocation failed.
+    /// `OutOfMemory` where the pages can have no more owners.
     fn copied(&self) -> Result<Self, OutOfMemory>
         ensures made { IfOk result (λ copy. copy ≡ self.now) }
         ensures grows_nothing { self.now ≡ [] → IsOk result }
     {
+        if self.is_bottom() {
+            return Ok(LatMap::empty(self.alloc));
+        }
+        let pages = match &self.pages {
+            Some(pages) => Some(Arc::try_clone(pages)?),
+            None => None,
+        };
         Ok(LatMap {
-            map: self.copied_entries()?,
+            pages,
             alloc: self.alloc,
         })
     }
 
     fn is_bottom(&self) -> bool {
-        self.map.is_empty()
+        self.pages().is_empty()
     }
 
     fn at_most(&self, other: &Self) -> bool {
-        let theirs = &other.map;
-        for (key, value) in &self.map {
-            if !is_up_to(value, theirs.get(key)) {
+        let theirs = other.pages();
+        for (key, value) in self.iter() {
+            if !is_up_to(value, value_in(theirs, *key)) {
                 return false;
             }
         }
@@ -224,28 +230,5 @@ fn is_up_to<V: Lattice>(value: &V, other: Option<&V>) -> bool
     match other {
         Some(other) => value.at_most(other),
         None => false,
-    }
-}
-
-// Joins a value with what the map has at its key.
-fn join_in<K: Exact, V: Lattice>(
-    map: &mut BTreeMap<K, V>,
-    key: K,
-    value: &V,
-) -> Result<(), OutOfMemory>
-    ensures { IfOk result (λ _. map.new.entries ≡ put_joined K.cmp V.join map.old.entries key value.now) }
-{
-    let joined = joined_option(map.get(&key), value)?;
-    map.insert(key, joined)?;
-    Ok(())
-}
-
-// Joins a value with what there is.
-fn joined_option<V: Lattice>(present: Option<&V>, value: &V) -> Result<V, OutOfMemory>
-    ensures { IfOk result (λ new. new ≡ join_option V.join (option_copied present.entry) value.now) }
-{
-    match present {
-        Some(present) => present.joined(value),
-        None => value.copied(),
     }
 }

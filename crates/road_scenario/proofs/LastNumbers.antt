@@ -40,7 +40,7 @@ abbrev pub last_number_of : RegistersByStep → Option ℕ
 last_number_of [] = None
 last_number_of (e ∷ es) = option_or (last_number_of es) (register_number e.1)
 
-or_none : (x : Option ℕ) → x ≡ option_or x None
+pub or_none : (x : Option ℕ) → x ≡ option_or x None
 or_none None = refl
 or_none (Some n) = refl
 

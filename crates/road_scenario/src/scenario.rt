@@ -17,12 +17,11 @@ use crate::dates::first_date_after;
 use crate::edit::Edit;
 use crate::faults::EditFault;
 use crate::listing::{all_edits, count_edits, fault_of_first};
-use crate::registers::{RegistersByObject, RegistersByStep};
+use crate::registers::{RegistersByObject, register_of};
 use crate::settings::{number_of, put_all, setting_without};
 use crate::touched::{first_change, first_change_by};
 use lattice_core::lattice::Lattice;
 use lattice_core::map::LatMap;
-use lattice_core::shared::Shared;
 use road_plan::{Object, OutOfMemory, Plan, Settings};
 use std::alloc::Global;
 use std::marker::Model;
@@ -100,8 +99,7 @@ impl Scenario {
         ensures fits { (plan : Plan) → AreInRange plan self.now → fault_of_edit plan edit.now ≡ None →
             IfOk result (λ new. AreInRange plan new) }
     {
-        let one = RegistersByStep::of(self.alloc, edit.step, edit.stamp, edit.value)?;
-        let steps = Shared::of(self.alloc, one)?;
+        let steps = register_of(self.alloc, edit)?;
         Ok(Scenario {
             registers: self.registers.with(edit.object, &steps)?,
             greatest: self.greatest.max(edit.stamp.count),
@@ -126,11 +124,11 @@ impl Scenario {
         })
     }
 
-    /// Makes an equal scenario. Both share the registers of each object.
+    /// Makes an equal scenario. It takes no memory: both share all registers.
     ///
     /// # Errors
     ///
-    /// `OutOfMemory` where an allocation failed; without edits nothing grows.
+    /// `OutOfMemory` where the registers can have no more owners; without edits there are none.
     pub fn copied(&self) -> Result<Self, OutOfMemory>
         ensures copy { IfOk result (λ copy. copy ≡ self.now) }
         ensures grows_nothing { self.now ≡ sets.empty → IsOk result }

@@ -8,8 +8,8 @@ use std::process::Abort;
 use std::test::Fail;
 use tests_plans::{BLOCK, FREE, INFLOW, LIMIT, START, edit, pairs, plan_of};
 
+mod far_steps;
 mod plain;
-mod stretches;
 
 const SLOW: Object = Object::Slow(0);
 
