@@ -8,7 +8,7 @@ use Rattle.road_cells.specs.Array.{Array}
 use Rattle.road_cells.specs.Cars.{cars_of}
 use Rattle.road_ends.specs.Run.{Course, run}
 use Rattle.road_ends.specs.Laws.{AgreeBetween}
-use Rattle.road_detector.specs.Passes.{passes, passes_from, total}
+use Rattle.road_detector.specs.Passes.{passes, passes_from, total, total_from}
 use Rattle.road_detector.specs.declared.counts.Totals.{Totals}
 use Rattle.road_detector.specs.Rows.{HaveDigits}
 
@@ -50,3 +50,9 @@ abbrev pub CountCellsNearby : Plan → Type 0
 CountCellsNearby p = (s : Settings) (t d : ℕ) (x y : Array)
     → AgreeBetween (slice_index p.detectors d - GREATEST_SPEED) (slice_index p.detectors d + GREATEST_SPEED) x y
     → passes_from p s t x d ≡ passes_from p s t y d
+
+-- so do the counts of some steps: on roads that agree, for each step, 9 cells farther behind the site and from it on
+abbrev pub CountCellsNearbyInSteps : Plan → Type 0
+CountCellsNearbyInSteps p = (course : Course) (t k d : ℕ) (x y : Array)
+    → AgreeBetween (slice_index p.detectors d - GREATEST_SPEED * k) (slice_index p.detectors d + GREATEST_SPEED * k) x y
+    → total_from p course t k x d ≡ total_from p course t k y d

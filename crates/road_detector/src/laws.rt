@@ -2,7 +2,7 @@
 //! each law is its function's contract.
 
 ghost use Rattle.road_detector.specs.Laws.{PassOneByOne, BoundTotals, BoundTotalsOfLongestRun, CountCellsNearby};
-ghost use Rattle.road_detector.specs.Laws.{HaveDigitsInRuns};
+ghost use Rattle.road_detector.specs.Laws.{CountCellsNearbyInSteps, HaveDigitsInRuns};
 
 use road_ends::laws::{cars_keep_below_greatest_speed, cars_never_collide, cars_stay_on_road};
 use road_plan::Plan;
@@ -40,6 +40,14 @@ pub fn cars_have_digits(plan: &Plan)
 /// Locality in space: what a detector counts in a step depends on the 9 cells behind its site and as many from it on.
 pub fn counts_depend_on_cells_nearby(plan: &Plan)
     ensures { CountCellsNearby plan.now }
+{
+    let _ = plan;
+}
+
+/// So do its counts of some steps: they depend on the cells that are 9 for each step behind the site, and on as many from
+/// it on.
+pub fn totals_depend_on_cells_nearby(plan: &Plan)
+    ensures { CountCellsNearbyInSteps plan.now }
 {
     let _ = plan;
 }

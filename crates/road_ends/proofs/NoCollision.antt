@@ -119,5 +119,5 @@ blocked-below (block ∷ blocks) n j below blocked = elim (nat_eq j block) as (�
 ] refl
 
 pub stop_at_blocks : (p : Plan) → HoldsInEachStep StopAtBlocks p
-stop_at_blocks p = each_step StopAtBlocks p (λ s t a on_road fits c j x here blocked lt.
-    before_taken p s t a c j x lt (taken-blocked p s a j (blocked-below s.blocks p.cells j fits.blocks_on_road blocked) blocked))
+stop_at_blocks p = each_step StopAtBlocks p (λ s t a on_road c j x here inside blocked lt.
+    before_taken p s t a c j x lt (taken-blocked p s a j inside blocked))

@@ -2,7 +2,7 @@
 use Rattle.std.specs.Prelude.{◌≡◌, ℕ, ◌+◌, ◌-◌, ◌*◌, ◌^◌, ◌<◌, ◌≤◌, true, length}
 use Rattle.std.specs.declared.option.Option.TheVariants.{Some}
 use Rattle.road_plan.specs.Plan.{Plan, exit_start}
-use Rattle.road_plan.specs.Settings.{Settings, Fits}
+use Rattle.road_plan.specs.Settings.{Settings}
 use Rattle.road_plan.specs.declared.limits.TheConstants.{GREATEST_HORIZON, MOST_INLETS}
 use Rattle.road_cells.specs.Array.{Array, Vehicle, vehicle_at}
 use Rattle.road_cells.specs.Gap.{is_blocked}
@@ -42,9 +42,9 @@ abbrev pub KeepOrder : StepLaw
 KeepOrder p s t a = (c d : ℕ) (x y : Vehicle) → vehicle_at a c ≡ Some x → vehicle_at a d ≡ Some y → c < d
     → target p s t a c x < target p s t a d y
 
--- under settings that fit the plan no car drives onto a blocked cell or past it
+-- no car drives onto a blocked cell of the road or past it
 abbrev pub StopAtBlocks : StepLaw
-StopAtBlocks p s t a = Fits p s → (c j : ℕ) (x : Vehicle) → vehicle_at a c ≡ Some x → is_blocked s.blocks j ≡ true
+StopAtBlocks p s t a = (c j : ℕ) (x : Vehicle) → vehicle_at a c ≡ Some x → j < p.cells → is_blocked s.blocks j ≡ true
     → c < j
     → target p s t a c x < j
 

@@ -1,6 +1,6 @@
 //! The columns of a step: what the speeds of many cars at once are computed from, 5 bytes a car.
 
-ghost use Rattle.std.specs.Prelude.{◌≡◌, ℕ, [], ◌<◌, ◌≤◌, length, slice_index, IfOk};
+ghost use Rattle.std.specs.Prelude.{◌≡◌, ℕ, [], ◌<◌, ◌≤◌, length, slice_index, IfOk, OnOk};
 ghost use Rattle.road_cells.specs.Cars.{cell_at};
 ghost use Rattle.road_ends.specs.Speed.{nth_car};
 
@@ -43,6 +43,8 @@ pub(crate) fn write_cells_and_speeds(
         → slice_index cells.new.items k ≡ cell_at cars.now k) }
     ensures speeds { IfOk result (λ _. (k : ℕ) → k < length speeds.new.items
         → slice_index speeds.new.items k ≡ (nth_car cars.now k).speed) }
+    ensures all { OnOk result ((length cells.new.items ≡ length cars.now)
+        × (length speeds.new.items ≡ length cars.now)) }
 {
     cells.resize(cars.len(), 0)?;
     speeds.resize(cars.len(), 0)?;

@@ -9,7 +9,7 @@ ghost use Rattle.road_plan.specs.Settings.{Fits};
 ghost use Rattle.road_words.specs.Words.{word};
 ghost use Rattle.road_ends.specs.Input.{input_of, input_speeds};
 ghost use Rattle.road_ends.specs.Private.EntriesBetween.{input_between};
-ghost use Rattle.road_ends.specs.Private.StepColumns.{AreColumns, AreHigh16s};
+ghost use Rattle.road_ends.specs.Private.StepColumns.{AreColumns, AreHigh16s, AreOfAllCars};
 
 mod near;
 mod pieces;
@@ -50,7 +50,7 @@ impl Model for StepInput {
     ghost use Rattle.road_plan.specs.Plan.{IsWithinLimits};
     ghost use Rattle.road_plan.specs.Settings.{Fits};
     ghost use Rattle.road_ends.specs.Input.{StepInput};
-    ghost use Rattle.road_ends.specs.Private.StepColumns.{AreColumns, AreHigh16s};
+    ghost use Rattle.road_ends.specs.Private.StepColumns.{AreColumns, AreHigh16s, AreOfAllCars};
 
     ghost Value = { StepInput };
 
@@ -62,7 +62,8 @@ impl Model for StepInput {
         × (length input.road ≤ (arc_value input.plan).cells)
         × IfSome input.columns (λ columns.
         AreHigh16s (arc_value input.plan).words input.step input.road (box_value columns).high16s.items
-        × AreColumns input.road (box_value columns).cells.items (box_value columns).speeds.items) };
+        × AreColumns input.road (box_value columns).cells.items (box_value columns).speeds.items
+        × AreOfAllCars input.road (box_value columns).cells.items (box_value columns).speeds.items) };
 }
 
 impl StepInput {
@@ -328,6 +329,8 @@ fn columns_of(
         AreHigh16s words.old step road.now (box_value columns).high16s.items)) }
     ensures columns { IfOk result (λ found. IfSome found (λ columns.
         AreColumns road.now (box_value columns).cells.items (box_value columns).speeds.items)) }
+    ensures all { IfOk result (λ found. IfSome found (λ columns.
+        AreOfAllCars road.now (box_value columns).cells.items (box_value columns).speeds.items)) }
     ensures unchanged { words.new ≡ words.old }
 {
     if !is_any_open(settings.chances()) && !is_any_open(settings.starts()) {

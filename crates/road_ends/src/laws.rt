@@ -54,7 +54,7 @@ pub fn cars_keep_order(plan: &Plan)
     let _ = plan;
 }
 
-/// No car drives onto a blocked cell or past it, where the settings fit the plan.
+/// No car drives onto a blocked cell of the road or past it, whatever the settings.
 pub fn cars_stop_at_blocks(plan: &Plan)
     ensures { HoldsInEachStep StopAtBlocks plan.now }
 {

@@ -107,6 +107,7 @@ impl Span {
             steps: self.steps,
         })
     }
+
     /// Answers whether two spans are the same: in their steps, plan and settings. It takes no memory.
     pub fn same(&self, other: &Span) -> bool
         ensures { IsTrue result ↔ (self.now ≡ other.now) }

@@ -26,7 +26,12 @@ IsHigh16 kind t cars k high16 = ¬ (IsHeldUp cars k) → high16 ≡ word kind (n
 pub record AreHigh16s (kind : WordKind) (t : ℕ) (a : Array) (high16s : List ℕ) : Type 0 where
   pub each : (k : ℕ) → k < length high16s → IsHigh16 kind t (cars_of a) k (slice_index high16s k)
 
--- the cells and the speeds of the first cars of an array: of all of them, or of none
+-- the cells and the speeds of the first cars of an array
 pub record AreColumns (a : Array) (cells speeds : List ℕ) : Type 0 where
   pub cell_each : (k : ℕ) → k < length cells → slice_index cells k ≡ cell_at (cars_of a) k
   pub speed_each : (k : ℕ) → k < length speeds → slice_index speeds k ≡ (nth_car (cars_of a) k).speed
+
+-- columns of cells and of speeds have as many entries as an array has cars
+pub record AreOfAllCars (a : Array) (cells speeds : List ℕ) : Type 0 where
+  pub cell_count : length cells ≡ length (cars_of a)
+  pub speed_count : length speeds ≡ length (cars_of a)

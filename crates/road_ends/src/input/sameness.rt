@@ -2,7 +2,7 @@
 
 ghost use Rattle.std.specs.Prelude.{◌≡◌, ◌↔◌, ℕ, ◌<◌, length, IsTrue};
 ghost use Rattle.road_ends.specs.Speed.{nth_car};
-ghost use Rattle.road_ends.specs.Private.StepColumns.{AreColumns};
+ghost use Rattle.road_ends.specs.Private.StepColumns.{AreColumns, AreOfAllCars};
 
 use crate::columns::Columns;
 use crate::input::StepInput;
@@ -38,14 +38,13 @@ fn have_same_roads(input: &StepInput, other: &StepInput) -> bool
 fn is_same_by_columns(road: &Road, columns: &Columns, other: &Road, others: &Columns) -> bool
     requires ours { AreColumns road.now columns.now.cells.items columns.now.speeds.items }
     requires theirs { AreColumns other.now others.now.cells.items others.now.speeds.items }
+    requires all { AreOfAllCars road.now columns.now.cells.items columns.now.speeds.items }
+    requires all_theirs { AreOfAllCars other.now others.now.cells.items others.now.speeds.items }
     ensures { IsTrue result ↔ (road.now ≡ other.now) }
 {
     let (cars, those) = (road.cars(), other.cars());
-    if cars.len() != those.len()
-        || !are_of_all(columns, cars.len())
-        || !are_of_all(others, cars.len())
-    {
-        return is_same_road(road, other);
+    if cars.len() != those.len() {
+        return false;
     }
     are_alike(cars, columns, those, others)
 }
@@ -64,15 +63,6 @@ fn are_alike(cars: &[Car], columns: &Columns, those: &[Car], others: &Columns) -
     are_same_cells(columns.cells.as_slice(), others.cells.as_slice())
         && are_same_speeds(columns.speeds.as_slice(), others.speeds.as_slice())
         && are_numbered_alike(cars, those)
-}
-
-// Answers whether there are columns of so many cars.
-fn are_of_all(columns: &Columns, cars: usize) -> bool
-    ensures { IsTrue result ↔ (
-        (length columns.now.cells.items ≡ cars) × (length columns.now.speeds.items ≡ cars)
-        ) }
-{
-    columns.cells.len() == cars && columns.speeds.len() == cars
 }
 
 fn is_same_road(road: &Road, other: &Road) -> bool

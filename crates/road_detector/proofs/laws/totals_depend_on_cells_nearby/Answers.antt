@@ -1,0 +1,6 @@
+-- What a detector counts in some steps depends on the cells nearby.
+use Rattle.road_detector.proofs.TotalsFrom.{total-nearby}
+use Rattle.road_detector.proofs.laws.totals_depend_on_cells_nearby.Goals as goal
+
+pub returns : goal.returns
+returns c = total-nearby c.args.plan.now
