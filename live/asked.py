@@ -13,7 +13,7 @@ from typing import Any, Callable
 
 sys.path.append(str(Path(__file__).resolve().parent.parent / "recipes" / "python"))
 from journal import packed  # noqa: E402
-from refusals import GREATEST, Reasons, kind, list_of, put, row_of, shown, whole  # noqa: E402
+from refusals import EDIT, GREATEST, Reasons, kind, list_of, put, row_of, shown, value_of, whole  # noqa: E402
 
 NOT_A_COMMAND = "not a command"
 MOST_EDITS = 1_200  # of a gesture: its line is one import
@@ -48,8 +48,8 @@ def not_a_command(why: str) -> Refused:
 
 def words(value: Any, most: int) -> str:
     """A text that can be shown in a line: no control signs, none that turn its direction, no halves of pairs."""
-    plain = "".join(sign for sign in str(value) if unicodedata.category(sign)[0] != "C")
-    return " ".join(plain.split())[:most]
+    plain = "".join(sign for sign in " ".join(str(value).split()) if unicodedata.category(sign)[0] != "C")
+    return plain.strip()[:most]
 
 
 class Asked:
@@ -79,8 +79,8 @@ class Asked:
 
     def _checked(self, name: str, faults: Callable[[Any], Any]) -> Any:
         value = self.raw(name)
-        told = list(faults(value))
-        if told:
+        if list(faults(value)):
+            told = list(faults(value_of(packed(value).encode())))  # where numbers are as they were written
             raise not_a_command(f"`{name}`: {'; '.join(told[:TOLD])}")
         return value
 

@@ -32,13 +32,11 @@ def acting(state: State, seat: Seat, without: Stamp | None = None) -> list[Gestu
 
 
 def undone(state: State, seat: Seat, stamp: Stamp) -> list[list[Any]]:
-    """The edits that take a gesture back: wherever it wins, what would be there without it; null where nothing
-    would. (A withdrawal alone would not give back what had lost to it.)"""
+    """The edits that take a gesture back: wherever another would win without it, what that one puts; null where
+    nothing would be put. (A withdrawal alone would not give back what had lost to it.)"""
     keys = {edit[:3] for gesture in seat.gestures if gesture.stamp == stamp for edit in gesture.edits}
-    wins = winners(seat.gestures, keys)
-    rest = winners(acting(state, seat, stamp), keys)
-    return [[*key, rest[key].value if key in rest else None] for key in sorted(keys)
-            if wins[key].gesture.stamp == stamp]
+    now, then = winners(acting(state, seat), keys), winners(acting(state, seat, stamp), keys)
+    return [[*key, then[key].value if key in then else None] for key in sorted(keys) if now.get(key) != then.get(key)]
 
 
 def shareable(state: State, seat: Seat, stamps: Collection[Stamp] | None) -> list[Gesture]:

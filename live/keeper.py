@@ -68,7 +68,7 @@ class Keeper:
         if not entries:
             assert plan is not None
             plan = {**plan, "replicas": [seat.at for seat in self.state.seats]}
-            await (await start(command_of(self.path, plan), plan)).close()  # before it is written that this is the plan
+            await (await start(command_of(self.path, plan), packed(plan).encode())).close()  # before it is written that this is the plan
             await self.record({"lab": {"plan": plan, "site": site or 1, "folder": secrets.token_hex(8), "form": FORM}})
         self._since = time.monotonic()
         self._program = await self._start()
@@ -113,7 +113,7 @@ class Keeper:
     # The program
 
     async def _start(self) -> Program:
-        return await start(command_of(self.path, self.state.plan), self.state.plan)
+        return await start(command_of(self.path, self.state.plan), packed(self.state.plan).encode())
 
     @property
     def program(self) -> Program:

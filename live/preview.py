@@ -6,10 +6,11 @@ As a program it reads {plan, before, after, first, last, program} from standard 
 from __future__ import annotations
 
 import asyncio
+import contextlib
 import json
 import sys
 from pathlib import Path
-from typing import TYPE_CHECKING, Any
+from typing import TYPE_CHECKING, Any, AsyncIterator
 
 sys.dont_write_bytecode = True
 sys.path.append(str(Path(__file__).resolve().parent.parent / "recipes" / "python"))
@@ -28,13 +29,25 @@ MOST_CELLS = 6_000_000  # of the rows by which delay is reckoned
 PATIENCE = 60.0
 MOST_TOLD = 200
 RUNNING = asyncio.Semaphore(1)
-WAITING: list[int] = []  # seats whose preview runs or waits
+WAITING: list[int] = []  # seats for which a road is run beside, or will be
+MOST_WAITING = 8
+
+
+@contextlib.asynccontextmanager
+async def alone(index: int) -> AsyncIterator[None]:
+    """What runs a road beside the laboratory: one at a time, and one of each seat."""
+    if index in WAITING or len(WAITING) >= MOST_WAITING:
+        raise Refused("busy", "another road is run for this: ask again later")
+    WAITING.append(index)
+    try:
+        async with RUNNING:
+            yield
+    finally:
+        WAITING.remove(index)
 
 
 async def answer(lab: Lab, seat: Seat, stamps: set[Stamp] | None, first: int, last: int) -> dict[str, Any]:
     """The answer to a seat's `preview` of its changes of these stamps, or all that it has not shared."""
-    if seat.index in WAITING or len(WAITING) >= 8:
-        raise Refused("busy", "a preview runs: ask again later")
     mine = shareable(lab.state, seat, stamps)
     if first >= last:
         raise Refused("Range", f"`from` {first} is not below `to` {last}")
@@ -43,12 +56,8 @@ async def answer(lab: Lab, seat: Seat, stamps: set[Stamp] | None, first: int, la
              "before": [written(key, put) for key, put in winners(lab.state.shared.gestures).items()], "after": edits}
     keys = {edit[:3] for gesture in mine for edit in gesture.edits}
     theirs, ours = winners(lab.state.shared.gestures, keys), winners(mine, keys)
-    WAITING.append(seat.index)
-    try:
-        async with RUNNING:
-            said = await run(packed(asked).encode())
-    finally:
-        WAITING.remove(seat.index)
+    async with alone(seat.index):
+        said = await run(packed(asked).encode())
     return {**said, "from": first, "to": last, "size": len(edits),
             "overrules": against(theirs, ours), "loses": against(ours, theirs)}
 
@@ -89,8 +98,10 @@ def main() -> None:
             counts = [lab.count("road", detector, first, last) for detector in range(len(asked["plan"]["detectors"]))]
             found.append((counts, journeys(lab, asked["plan"]["length"], start, last)))
     (before, drove), (after, drives) = found
-    json.dump({"before": {"detectors": before}, "after": {"detectors": after},
-               "delay": None if drove is None or drives is None else cost(drove, drives)}, sys.stdout)
+    told = {"before": {"detectors": before}, "after": {"detectors": after}, "delay": None}
+    if drove is not None and drives is not None:
+        compare(told, drove, drives)
+    json.dump(told, sys.stdout)
 
 
 def journeys(lab: RoadLab, length: int, first: int, last: int) -> Journeys | None:
@@ -99,15 +110,21 @@ def journeys(lab: RoadLab, length: int, first: int, last: int) -> Journeys | Non
     return None if (last - first + 1) * length > MOST_CELLS else Journeys.of(lab, "road", last, first)
 
 
-def cost(before: Journeys, after: Journeys) -> dict[str, Any]:
-    """The delay in steps of cars, and the cars that entered before and after, inlet by inlet."""
-    from delay import delay
+def compare(told: dict[str, Any], before: Journeys, after: Journeys) -> None:
+    """What the change costs, by the cars of both runs: in steps of cars, and in vehicle hours of steps of a second.
+    Demand that is lost spends no time: so it is told beside."""
+    from delay import delay, vehicle_hours
     found = delay(before, after)
     groups = {name: {"cars": group.cars, "delay": group.delay, "mean": group.mean, "greatest": group.greatest}
               for name, group in (("through", found.through), ("inside", found.inside), ("lost", found.lost),
                                   ("gained", found.gained))}
-    return {"total": found.total, **groups,
-            "inlets": {str(index): entered for index, entered in found.inlets.items()}}
+    told["delay"] = {"total": found.total, **groups,
+                     "inlets": {str(index): entered for index, entered in found.inlets.items()}}
+    told["delay_hours"] = vehicle_hours(found.through.delay + found.inside.delay)
+    told["lost_demand"] = sum(entered.lost - entered.gained for entered in found.inlets.values())
+    for name, run_of, entered in (("before", before, [one.before for one in found.inlets.values()]),
+                                  ("after", after, [one.after for one in found.inlets.values()])):
+        told[name].update(vehicle_hours=vehicle_hours(sum(run_of.rows)), entered=sum(entered))
 
 
 if __name__ == "__main__":

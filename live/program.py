@@ -92,8 +92,8 @@ class Program:
             await self._process.wait()
 
 
-async def start(command: list[str], plan: dict[str, Any]) -> Program:
-    """A program that has the plan, or `Gone`, or `BadPlan` with its refusal."""
+async def start(command: list[str], plan: bytes) -> Program:
+    """A program that has read the plan line, or `Gone`, or `BadPlan` with its refusal."""
     try:
         process = await asyncio.create_subprocess_exec(
             *command, stdin=asyncio.subprocess.PIPE, stdout=asyncio.subprocess.PIPE, limit=LONGEST_REPLY,
@@ -101,7 +101,7 @@ async def start(command: list[str], plan: dict[str, Any]) -> Program:
     except OSError as fault:
         raise Gone(f"the program cannot be started: {fault}") from None
     program = Program(process)
-    reply = json.loads(await program.ask(packed(plan).encode()))
+    reply = json.loads(await program.ask(plan))
     program.lines = 0
     if "open" not in reply:
         await program.close()

@@ -6,6 +6,7 @@ from typing import Any, Iterable, Union
 
 import preview
 import rows
+import saving
 from asked import Asked, Refused
 from gestures import hidden, overruled, told, written
 from journal import packed
@@ -33,7 +34,9 @@ class Questions:
         self._verbs = {"cells": self._plain, "cars": self._plain, "count": self._plain, "scenario": self._plain,
                        "advance": self._advance, "diagram": self._diagram, "means": self._means,
                        "counts": self._counts, "gestures": self._gestures, "changes": self._changes,
-                       "change": self._change, "preview": self._preview}
+                       "change": self._change, "preview": self._preview, "transcript": self._transcript,
+                       "csv": self._csv}
+        self._saved: dict[int, list[str]] = {}  # of each seat that saves: the pieces that it has not fetched
 
     def knows(self, verb: str) -> bool:
         return verb in self._verbs
@@ -210,6 +213,40 @@ class Questions:
         if at == SHARED:
             raise Refused("not a command", "a preview is of the own seat")
         return await preview.answer(self._lab, self._seat(at), stamps, first, last)
+
+    async def _transcript(self, index: int, at: int, asked: Asked, times: Times) -> Reply:
+        with asked:
+            first, last = asked.whole("from", default=0), asked.whole("to", 0, LAST_STEP, self._lab.now())
+            piece = asked.whole("next", default=0)
+        if first > last:
+            raise Refused("Range", f"`from` {first} is above `to` {last}")
+        if piece == 0:
+            async with preview.alone(index):
+                lines = saving.script(self._lab.state.plan, self._seat(at), first, last)
+                self._saved[index] = await saving.transcript(self._lab.path, self._lab.state.plan, lines)
+        pieces = self._saved.get(index, [])
+        if piece >= len(pieces):
+            raise Refused("Range", "there is no such piece: begin anew")
+        is_last = piece + 1 == len(pieces)
+        if is_last:
+            del self._saved[index]
+        return {"lines": pieces[piece], "next": None if is_last else piece + 1}
+
+    async def _csv(self, index: int, at: int, asked: Asked, times: Times) -> Reply:
+        what = asked.raw("what")
+        if what == "changes":
+            with asked:
+                pass
+            return {"csv": saving.table_of_changes(self._seat(at).gestures, self._lab.state.shared.holds)}
+        if what != "counts":
+            raise Refused("not a command", '`what` is "counts" or "changes"')
+        first, last, each = asked.whole("from"), asked.whole("to"), asked.whole("each", 1, LAST_STEP)
+        asked.raw("at")
+        with asked:
+            pass
+        said = await self._counts(index, at, Asked("csv", {"from": first, "to": last, "each": each}), times)
+        assert isinstance(said, dict)
+        return {"csv": saving.table_of_counts(self._lab.state.plan, first, last, each, said["counts"])}
 
 
 def standing(gesture: Gesture, wins: Any) -> dict[str, Any]:

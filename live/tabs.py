@@ -290,7 +290,10 @@ class Tabs:
             with asked:
                 pass
             await self.lab.give_back(index)
-            tab.let_go(4001, "the seat was left")
+            tab.index = None
+            self.lab.here.discard(index)
+            self._seats()
+            asyncio.get_running_loop().call_later(TOLD_EVERY, tab.let_go, 4001, "the seat was left")
             return {}
         if asked.verb not in acts:
             raise not_a_command(f"`{asked.verb}` is no command of a tab")
