@@ -18,10 +18,11 @@ def dead(gestures: Iterable[Gesture]) -> set[Stamp]:
 
 
 def hidden(state: State, seat: Seat, without: Stamp | None = None) -> set[Gesture]:
-    """What the seat took back before anybody else had it, with what took it back: as if it had never been. A gesture
+    """What the seat took back before anybody else had it, with what took it back: as if it had never been. An undoing
     that counts as not there may be left out."""
-    private = [gesture for gesture in state.private(seat) if gesture.stamp != without]
-    gone, own = dead(private), {gesture.stamp for gesture in private}
+    private = state.private(seat)
+    gone = dead(gesture for gesture in private if gesture.stamp != without)
+    own = {gesture.stamp for gesture in private}
     return {gesture for gesture in private if gesture.stamp in gone or gesture.undoes in own}
 
 

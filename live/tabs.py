@@ -237,7 +237,7 @@ class Tabs:
 
     async def socket(self, request: web.Request) -> web.WebSocketResponse:
         """Serves a tab until it goes."""
-        socket = web.WebSocketResponse(max_msg_size=LONGEST_FRAME, heartbeat=20, compress=False)
+        socket = web.WebSocketResponse(max_msg_size=LONGEST_FRAME + 1, heartbeat=20, compress=False)
         await socket.prepare(request)
         keep_little(request)
         tab = Tab(self, socket)
