@@ -61,6 +61,9 @@ def end_all() -> None:
     FOLDERS.clear()
 
 
+signal.signal(signal.SIGTERM, lambda *_: sys.exit(1))  # so that all this is done then, too
+
+
 def new_folder() -> Path:
     FOLDERS.append(Path(tempfile.mkdtemp(prefix="live-test-")))
     return FOLDERS[-1]
@@ -153,8 +156,8 @@ class Broker:
 
     def say(self, topic: str, message: str) -> None:
         """Publishes as somebody else would."""
-        subprocess.run(["mosquitto_pub", "-h", "127.0.0.1", "-p", str(self.port), "-q", "1", "-t", topic, "-s"],
-                       input=message.encode(), check=True, timeout=PATIENCE)
+        subprocess.run(["mosquitto_pub", "-h", "127.0.0.1", "-p", str(self.port), "-q", "1", "-t", topic,
+                        *(["-s"] if message else ["-n"])], input=message.encode(), check=True, timeout=PATIENCE)
 
 
 def mosquitto() -> str:
