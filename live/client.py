@@ -87,11 +87,12 @@ class Seat:
 
     async def reply(self, verb: str, **fields: Any) -> dict[str, Any]:
         """The reply to a command with these fields, a refusal too."""
-        self._number += 1
-        waiting: asyncio.Future[dict[str, Any]] = asyncio.get_running_loop().create_future()
-        self._open[self._number] = waiting
         if self._socket.closed or self._reader.done():
             raise Closed(self._socket.close_code)
+        self._number += 1
+        waiting: asyncio.Future[dict[str, Any]] = asyncio.get_running_loop().create_future()
+        waiting.add_done_callback(lambda one: one.cancelled() or one.exception())  # if the send fails nobody asks
+        self._open[self._number] = waiting
         await self._socket.send_str(json.dumps({"id": self._number, verb: fields}))
         return await waiting
 

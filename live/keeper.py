@@ -16,12 +16,15 @@ from pathlib import Path
 from typing import Any, Callable, Dict
 
 from asked import Refused, why_refused
+from gestures import forgettable
 from journal import Broken, Entry, Journal, packed, read
 from program import PIECE, Gone, Program, command_of, import_line, start
 from state import FORM, State
 from turns import MORE, Job, Turns
 
 MOST_LINES = int(os.environ.get("LIVE_MOST_LINES", "900000"))  # of a program, which ends at 1,000,000
+MOST_UNDONE = int(os.environ.get("LIVE_MOST_UNDONE", "2000"))  # undoings until the oldest are forgotten
+KEPT = 50  # of a seat's gestures that were taken back in private
 LAST_STEP = 1_048_576
 SHARED = 0
 Times = Dict[str, float]
@@ -42,6 +45,7 @@ class Keeper:
         self.here: set[int] = set()  # seats with a tab
         self.turns = Turns(self._around)
         self.changes = 0  # of the program
+        self.undone = 0  # gestures that were taken back since the oldest were forgotten
         self.trouble: str | None = None
         self._since = time.monotonic()
         self._program: Program | None = None
@@ -71,6 +75,7 @@ class Keeper:
             await (await start(command_of(self.path, plan), packed(plan).encode())).close()  # before it is written that this is the plan
             await self.record({"lab": {"plan": plan, "site": site or 1, "folder": secrets.token_hex(8), "form": FORM}})
         self._since = time.monotonic()
+        self.undone = MOST_UNDONE
         self._program = await self._start()
         self._tasks = [asyncio.ensure_future(self.turns.run())]
 
@@ -95,6 +100,7 @@ class Keeper:
     def record(self, entry: Entry) -> asyncio.Future[None]:
         """Makes it so, here at once; the future is done when it is on the disk."""
         self.state.apply(entry)
+        self.undone += "undoes" in entry.get("gesture", {})
         done = self.journal.write(entry)
         if self.trouble is not None:
             done.add_done_callback(self._over)
@@ -113,6 +119,9 @@ class Keeper:
     # The program
 
     async def _start(self) -> Program:
+        """A program that holds nothing yet. What was taken back long ago it need never hold."""
+        if self.undone >= MOST_UNDONE:
+            self._forget()
         return await start(command_of(self.path, self.state.plan), packed(self.state.plan).encode())
 
     @property
@@ -122,16 +131,19 @@ class Keeper:
 
     async def _around(self, job: Job) -> Any:
         """Does a job by a program that lives and holds nothing that is not written."""
-        for _ in range(2):
-            if self.journal.fault is not None:
-                await self._start_over()
-            self._change_in_time()
-            try:
-                return await job()
-            except Gone as fault:
-                logging.warning("%s: another is started", fault)
-                await self._replace()
-        raise Refused("no program", "the program ended twice over this; the server goes on")
+        try:
+            for _ in range(2):
+                if self.journal.fault is not None:
+                    await self._start_over()
+                self._change_in_time()
+                try:
+                    return await job()
+                except Gone as fault:
+                    logging.warning("%s: another is started", fault)
+                    await self._replace()
+        except Gone as fault:
+            logging.error("%s", fault)
+        raise Refused("no program", "the program ended over this, twice; the server's log says why")
 
     async def _start_over(self) -> None:
         """After a failed write: what was not confirmed is forgotten, by the program too."""
@@ -158,6 +170,15 @@ class Keeper:
             old.kill()
         self.on_program()
 
+    def _forget(self) -> None:
+        self.undone = 0
+        for seat in self.state.seats[1:]:
+            gone = forgettable(self.state, seat, KEPT)
+            if gone and self._program is not None:
+                fed = seat.gestures[:self._program.fed.get(seat.index, 0)]
+                self._program.fed[seat.index] = sum(gesture not in gone for gesture in fed)
+            self.state.drop(seat, gone)
+
     def _no_successor(self) -> None:
         if self._next is not None:
             self._next.cancel()
@@ -173,7 +194,7 @@ class Keeper:
                 self.on_program()
             else:
                 logging.warning("no successor: %s", successor.exception())
-        if self._next is None and self.program.lines >= MOST_LINES:
+        if self._next is None and (self.program.lines >= MOST_LINES or self.undone >= MOST_UNDONE):
             self._next = asyncio.ensure_future(self._successor())
 
     async def _successor(self) -> Program:

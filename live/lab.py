@@ -28,6 +28,7 @@ AHEAD = 36_000  # steps that a replica may run past the clock
 FASTEST = 600  # steps a second
 COUNTS_AHEAD = 1 << 20  # so far above all counts known that of an edit from outside may be
 MOST_LOST = 200
+LOOKED_AT = 500
 
 
 def digest(key: str) -> str:
@@ -79,15 +80,17 @@ class Lab(Keeper):
 
     async def _look_after(self) -> None:
         """What is done now and then: the clock is kept, unused seats are freed, a long journal is shortened."""
-        size = MOST_JOURNAL
+        size, rounds = MOST_JOURNAL, 0
         while True:
-            await asyncio.sleep(min(10.0, DAY / 4))
+            await asyncio.sleep(1)
             if self.journal.fault is not None:
                 continue
+            rounds += 1
             if self.state.rate:
                 self.record({"clock": {"rate": self.state.rate, "now": self.now()}})
                 self._since = time.monotonic()
-            self.free_unused()
+            if rounds % 10 == 0 or DAY < 60:
+                self.free_unused()
             if self.journal.size > size:
                 await self.journal.compact(self.state.entries)
                 size = max(MOST_JOURNAL, 2 * self.journal.size)
@@ -308,10 +311,11 @@ class Lab(Keeper):
 
     def news(self, index: int, most: int) -> dict[str, Any]:
         """What was shared by others and this seat has not taken."""
-        seat = self.state.seats[index]
-        fresh = self.state.fresh(seat)
+        seat, log = self.state.seats[index], self.state.shared.gestures
+        begin = max(seat.upto, len(log) - LOOKED_AT)  # of one who never takes not all is gone through for each news
+        fresh = [gesture for gesture in log[begin:] if gesture not in seat.holds]
         shares = [share for share in self.state.shares if share["upto"] > seat.upto]
-        return {"size": len(fresh), "from": sorted({gesture.who for gesture in fresh})[:10],
+        return {"size": len(fresh) + begin - seat.upto, "from": sorted({gesture.who for gesture in fresh})[:10],
                 "shares": [{name: share[name] for name in ("who", "title", "when", "size")} for share in shares[-20:]],
                 "changes": [told(gesture) for gesture in fresh[-most:]]}
 

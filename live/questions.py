@@ -36,7 +36,7 @@ class Questions:
                        "counts": self._counts, "gestures": self._gestures, "changes": self._changes,
                        "change": self._change, "preview": self._preview, "transcript": self._transcript,
                        "csv": self._csv}
-        self._saved: dict[int, list[str]] = {}  # of each seat that saves: the pieces that it has not fetched
+        self._saved: tuple[int, list[str]] = -1, []  # the seat that saved last, and its transcript
 
     def knows(self, verb: str) -> bool:
         return verb in self._verbs
@@ -177,13 +177,14 @@ class Questions:
         seat, shared = self._seat(at), self._lab.state.shared.holds
         lines: list[str] = []
         size = 0
-        for gesture in seat.gestures[first:]:
+        after = seat.arrived
+        for gesture in seat.since(first):
+            if size > PIECE_OF_LIST:
+                after = seat.holds[gesture]
+                break
             lines.append(packed({**gesture.written(), "shared": gesture in shared}))
             size += len(lines[-1])
-            if size > PIECE_OF_LIST:
-                break
-        after = first + len(lines)
-        more = "true" if after < len(seat.gestures) else "false"
+        more = "true" if after < seat.arrived else "false"
         return f'{{"gestures":[{",".join(lines)}],"next":{after},"more":{more}}}'.encode()
 
     async def _changes(self, index: int, at: int, asked: Asked, times: Times) -> Reply:
@@ -223,13 +224,13 @@ class Questions:
         if piece == 0:
             async with preview.alone(index):
                 lines = saving.script(self._lab.state.plan, self._seat(at), first, last)
-                self._saved[index] = await saving.transcript(self._lab.path, self._lab.state.plan, lines)
-        pieces = self._saved.get(index, [])
-        if piece >= len(pieces):
+                self._saved = index, await saving.transcript(self._lab.path, self._lab.state.plan, lines)
+        owner, pieces = self._saved
+        if owner != index or piece >= len(pieces):
             raise Refused("Range", "there is no such piece: begin anew")
         is_last = piece + 1 == len(pieces)
         if is_last:
-            del self._saved[index]
+            self._saved = -1, []
         return {"lines": pieces[piece], "next": None if is_last else piece + 1}
 
     async def _csv(self, index: int, at: int, asked: Asked, times: Times) -> Reply:
@@ -237,7 +238,7 @@ class Questions:
         if what == "changes":
             with asked:
                 pass
-            return {"csv": saving.table_of_changes(self._seat(at).gestures, self._lab.state.shared.holds)}
+            return {"csv": saving.table_of_changes(self._seat(at).gestures, set(self._lab.state.shared.holds))}
         if what != "counts":
             raise Refused("not a command", '`what` is "counts" or "changes"')
         first, last, each = asked.whole("from"), asked.whole("to"), asked.whole("each", 1, LAST_STEP)

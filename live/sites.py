@@ -63,6 +63,7 @@ class Sites:
         self._sent: dict[Gesture, float] = {}
         self._sums: dict[str, tuple[str, str]] = {}  # of a folder: its hash when it was last heard, and ours then
         self._pauses: dict[str, tuple[float, float]] = {}  # of a folder: until when it is told nothing, how long
+        self._counted: tuple[State, int, dict[str, int]] = lab.state, 0, {}
         self._summed: tuple[tuple[State, int], str] | None = None
         self._client = self._new_client()
         self._tasks: list[asyncio.Task[None]] = []
@@ -194,11 +195,16 @@ class Sites:
 
     def _numbers(self) -> dict[str, str]:
         """For each number in stamps a hash of its gestures, so that only those are told that may be missing."""
-        found: dict[int, list[str]] = collections.defaultdict(list)
-        for gesture in self._lab.state.shared.gestures:
-            found[gesture.stamp[1]].append(packed([gesture.stamp, gesture.edits]))
-        return {str(number): hashlib.sha256("".join(sorted(lines)).encode()).hexdigest()[:8]
-                for number, lines in found.items()}
+        state = self._lab.state
+        if self._counted[0] is not state:
+            self._counted = state, 0, {}
+        _, counted, sums = self._counted
+        for gesture in state.shared.gestures[counted:]:
+            number = str(gesture.stamp[1])
+            one = hashlib.sha256(packed([gesture.stamp, sorted(map(str, gesture.edits))]).encode()).hexdigest()
+            sums[number] = (sums.get(number, 0) + int(one[:16], 16)) % (1 << 64)
+        self._counted = state, len(state.shared.gestures), sums
+        return {number: f"{found:x}" for number, found in sums.items()}
 
     # What comes
 

@@ -99,7 +99,8 @@ class Seat:
     upto: int = 0  # so many gestures of what was shared it has taken
     seen: float = 0  # when a tab of it was last here
     gestures: list[Gesture] = field(default_factory=list)
-    holds: set[Gesture] = field(default_factory=set)
+    holds: dict[Gesture, int] = field(default_factory=dict)  # each with the place at which it arrived
+    arrived: int = 0
     done: collections.OrderedDict[str, Stamp] = field(default_factory=collections.OrderedDict)
 
     @property
@@ -108,8 +109,21 @@ class Seat:
 
     def hold(self, gesture: Gesture) -> None:
         self.gestures.append(gesture)
-        self.holds.add(gesture)
+        self.holds[gesture] = self.arrived
+        self.arrived += 1
         self.count = max(self.count, gesture.stamp[0])
+
+    def since(self, place: int) -> list[Gesture]:
+        """The gestures that arrived at this place or later."""
+        first = len(self.gestures)
+        while first and self.holds[self.gestures[first - 1]] >= place:
+            first -= 1
+        return self.gestures[first:]
+
+    def drop(self, gone: Collection[Gesture]) -> None:
+        self.gestures = [gesture for gesture in self.gestures if gesture not in gone]
+        for gesture in gone:
+            self.holds.pop(gesture, None)
 
     def remember(self, key: str, stamp: Stamp) -> None:
         self.done[key] = stamp
@@ -144,6 +158,14 @@ class State:
         number = self.number(seat)
         return [gesture for gesture in seat.gestures
                 if gesture.stamp[1] == number and gesture not in self.shared.holds]
+
+    def drop(self, seat: Seat, gone: Collection[Gesture]) -> None:
+        """Forgets private gestures of a seat."""
+        seat.drop(gone)
+        for gesture in gone:
+            self.by_stamp[gesture.stamp].remove(gesture)
+            if not self.by_stamp[gesture.stamp]:
+                del self.by_stamp[gesture.stamp]
 
     # Entries
 

@@ -27,6 +27,7 @@ from questions import MOST_BYTES, MOST_ROWS, Questions
 LONGEST_FRAME = 65_536
 WAITING = 8  # questions of a tab that may wait
 MOST_FAULTS = 20
+MOST_TABS = 200  # those that have not said hello, too
 PATIENCE = 20.0  # seconds for a tab to read what it was sent
 HELLO = 10.0  # seconds until a tab has said who it is
 BUFFER = 262_144  # bytes of a tab that the kernel keeps
@@ -237,9 +238,11 @@ class Tabs:
 
     async def socket(self, request: web.Request) -> web.WebSocketResponse:
         """Serves a tab until it goes."""
+        if len(self._all) >= MOST_TABS:
+            raise web.HTTPServiceUnavailable(text="too many tabs")
         socket = web.WebSocketResponse(max_msg_size=LONGEST_FRAME + 1, heartbeat=20, compress=False)
         await socket.prepare(request)
-        keep_little(request)
+        socket_of(request).setsockopt(sockets.SOL_SOCKET, sockets.SO_SNDBUF, BUFFER)
         tab = Tab(self, socket)
         self._all.add(tab)
         try:
@@ -256,6 +259,7 @@ class Tabs:
         except (asyncio.TimeoutError, ConnectionError, RuntimeError):
             pass
         if request.transport is not None and code == 1013:
+            socket_of(request).setsockopt(sockets.SOL_SOCKET, sockets.SO_LINGER, struct.pack("ii", 1, 0))
             request.transport.abort()  # a close would wait for ever until what is kept has been read
 
     async def close(self) -> None:
@@ -338,11 +342,10 @@ class Tabs:
                 self._clock()
 
 
-def keep_little(request: web.Request) -> None:
-    """Lets the kernel keep little of a tab that does not read, and nothing once it was let go."""
-    socket = request.transport.get_extra_info("socket") if request.transport else None
-    if socket is not None:
-        socket.setsockopt(sockets.SOL_SOCKET, sockets.SO_SNDBUF, BUFFER)
+def socket_of(request: web.Request) -> sockets.socket:
+    assert request.transport is not None
+    socket: sockets.socket = request.transport.get_extra_info("socket")
+    return socket
 
 
 # The page

@@ -127,6 +127,33 @@ class Acts(Case):
     async def seats(self) -> Any:
         return (await self.ada.say("seats"))["seats"]
 
+    async def test_what_was_taken_back_long_ago_is_forgotten_and_never_comes_back(self) -> None:
+        server = self.server(LIVE_MOST_UNDONE="70")
+        async with server.seat() as ada:
+            await put(ada, "first", [*LIMIT, 1])
+            for count in range(80):
+                stamp = await put(ada, f"g{count}", [*LIMIT, 2], ["limit", 0, count, 2])
+                await ada.ask("undo", key=f"u{count}", stamp=stamp)
+            before = (await ada.ask("gestures"))["next"]
+            await put(ada, "last", ["limit", 1, 7, 3])
+            self.assertEqual([one["stamp"][0] for one in (await ada.ask("gestures", **{"from": before}))["gestures"]], [162])
+            for _ in range(100):
+                if len((await ada.ask("gestures"))["gestures"]) < 150:
+                    break
+                await ada.reply("cells", at=ada.at, step=0)
+                await asyncio.sleep(0.1)
+            held = (await ada.ask("gestures"))["gestures"]
+            self.assertTrue(50 <= len(held) < 150, len(held))
+            self.assertEqual((held[0]["stamp"], held[-1]["stamp"]), ([1, 65], [162, 65]))
+            self.assertEqual((await ada.ask("undo", key="redo", stamp=[161, 65]))["stamp"], [163, 65])
+            self.assertEqual(await limit_at(ada), 2)
+            self.assertEqual((await ada.ask("send", name="shared"))["stamps"], [[1, 65], [160, 65], [162, 65]])
+            key, held = ada.key, (await ada.ask("scenario", at="shared"))["edits"]
+        server.again()
+        async with server.seat(key=key) as ada:
+            self.assertEqual((await ada.ask("scenario", at="shared"))["edits"], held)
+            self.assertEqual(await limit_at(ada), 2)
+
     async def test_put_mine_again(self) -> None:
         await put(self.ada, "1", [*LIMIT, 1], note="mine")
         await put(self.ben, "1", ["limit", 0, 5, 4])
