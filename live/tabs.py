@@ -26,6 +26,7 @@ from questions import MOST_BYTES, MOST_ROWS, Questions
 
 LONGEST_FRAME = 65_536
 WAITING = 8  # questions of a tab that may wait
+PAUSE = 0.01  # seconds that one who floods is not read, for each frame too much
 MOST_FAULTS = 20
 MOST_TABS = 200  # those that have not said hello, too
 PATIENCE = 20.0  # seconds for a tab to read what it was sent
@@ -123,6 +124,7 @@ class Tab:
             self.let_go(1008, "hello comes first")
         elif self._waiting >= WAITING:
             self._send({"id": number, **Refused("busy", f"{WAITING} questions wait: ask again later").reply()})
+            await asyncio.sleep(PAUSE)
         else:
             self._waiting += 1
             asyncio.ensure_future(self._answered(self.index, number, verb, fields, came))
