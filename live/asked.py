@@ -1,0 +1,161 @@
+"""What a tab asks, taken apart field by field; and refusals, each with a sentence for people.
+
+    with Asked(verb, fields) as asked:
+        step = asked.whole("step")
+    .. a field of another shape, or one that nobody asked for, is `Refused`
+"""
+from __future__ import annotations
+
+import sys
+import unicodedata
+from pathlib import Path
+from typing import Any, Callable
+
+sys.path.append(str(Path(__file__).resolve().parent.parent / "recipes" / "python"))
+from journal import packed  # noqa: E402
+from refusals import EDIT, GREATEST, Reasons, kind, list_of, put, row_of, shown, value_of, whole  # noqa: E402
+
+NOT_A_COMMAND = "not a command"
+MOST_EDITS = 1_200  # of a gesture: its line is one import
+LONGEST_NAME, LONGEST_NOTE, LONGEST_KEY = 40, 200, 40
+TOLD = 3  # so many faults of a list are told
+
+
+def whole_or_none(value: Any) -> Any:
+    return iter(()) if value is None else whole(value)
+
+
+EDITS = list_of(row_of(("kind", kind), ("index", whole), ("step", whole), ("value", put)), "edit")
+SHAPE = row_of(("kind", kind), ("first index", whole), ("last index", whole), ("from", whole),
+               ("to", whole_or_none), ("value", whole_or_none))
+STAMP = row_of(("count", lambda value: whole(value, 1 << 48)), ("number", lambda value: whole(value, 65_535)))
+
+
+class Refused(Exception):
+    """A refusal: `text` names it, `why` is a sentence, `more` are further fields of the reply."""
+
+    def __init__(self, text: str, why: str, **more: Any) -> None:
+        super().__init__(text)
+        self.text, self.why, self.more = text, why, more
+
+    def reply(self) -> dict[str, Any]:
+        return {"refused": self.text, "why": self.why, **self.more}
+
+
+def not_a_command(why: str) -> Refused:
+    return Refused(NOT_A_COMMAND, why)
+
+
+def words(value: Any, most: int) -> str:
+    """A text that can be shown in a line: no control signs, none that turn its direction, no halves of pairs."""
+    plain = "".join(sign for sign in " ".join(str(value).split()) if unicodedata.category(sign)[0] != "C")
+    return plain.strip()[:most]
+
+
+class Asked:
+    """The fields of a command; on leaving, those that were not asked for are refused."""
+
+    def __init__(self, verb: str, fields: Any) -> None:
+        if type(fields) is not dict:
+            raise not_a_command(f"`{verb}` has an object of fields")
+        self.verb, self._fields, self._known = verb, fields, set[str]()
+
+    def __enter__(self) -> Asked:
+        return self
+
+    def __exit__(self, kind_of_fault: object, *_: object) -> None:
+        unknown = [name for name in self._fields if name not in self._known]
+        if kind_of_fault is None and unknown:
+            raise not_a_command(f"`{self.verb}` has no field {shown(unknown[0])}")
+
+    def has(self, name: str) -> bool:
+        self._known.add(name)
+        return name in self._fields
+
+    def raw(self, name: str) -> Any:
+        if not self.has(name):
+            raise not_a_command(f"`{self.verb}` lacks `{name}`")
+        return self._fields[name]
+
+    def _checked(self, name: str, faults: Callable[[Any], Any]) -> Any:
+        value = self.raw(name)
+        if list(faults(value)):
+            told = list(faults(value_of(packed(value).encode())))  # where numbers are as they were written
+            raise not_a_command(f"`{name}`: {'; '.join(told[:TOLD])}")
+        return value
+
+    def whole(self, name: str, least: int = 0, most: int = GREATEST, default: int | None = None) -> int:
+        if default is not None and not self.has(name):
+            return default
+        value: int = self._checked(name, whole)
+        if not least <= value <= most:
+            raise Refused("Range", f"`{name}` is {least} to {most}, not {value}")
+        return value
+
+    def number(self, name: str, most: float) -> float:
+        value = self.raw(name)
+        if type(value) not in (int, float) or not 0 <= value <= most:
+            raise Refused("Range", f"`{name}` is 0 to {most}")
+        return float(value)
+
+    def text(self, name: str, most: int, default: str | None = None) -> str:
+        if default is not None and not self.has(name):
+            return default
+        value = self.raw(name)
+        if type(value) is not str:
+            raise not_a_command(f"`{name}`: {shown(value)[:60]} is no text")
+        return words(value, most)
+
+    def key(self) -> str:
+        """By which a gesture that is sent again is known."""
+        value = self.raw("key")
+        if type(value) is not str or not 1 <= len(value) <= LONGEST_KEY or not value.isascii() or not value.isprintable():
+            raise not_a_command(f"`key` is a text of 1 to {LONGEST_KEY} ASCII signs, a new one for each gesture")
+        return value
+
+    def stamp(self) -> tuple[int, int]:
+        count, number = self._checked("stamp", STAMP)
+        return count, number
+
+    def stamps(self) -> set[tuple[int, int]] | None:
+        if not self.has("stamps"):
+            return None
+        return {(count, number) for count, number in self._checked("stamps", list_of(STAMP, "stamp"))}
+
+    def edits(self) -> list[list[Any]]:
+        edits: list[list[Any]] = self._checked("edits", EDITS)
+        if not 1 <= len(edits) <= MOST_EDITS:
+            raise Refused("too many edits" if edits else NOT_A_COMMAND,
+                          f"a gesture has 1 to {MOST_EDITS} edits, not {len(edits)}")
+        if len({tuple(edit[:3]) for edit in edits}) < len(edits):
+            raise not_a_command("an object and step stands twice in a gesture")
+        return edits
+
+    def shape(self) -> list[Any] | None:
+        if not self.has("shape") or self._fields["shape"] is None:
+            return None
+        shape: list[Any] = self._checked("shape", SHAPE)
+        return shape
+
+    def stretch(self, length: int) -> tuple[int, int]:
+        """The cells a to b of `cells`, or all."""
+        if not self.has("cells"):
+            return 0, length - 1
+        first, last = self._checked("cells", row_of(("first cell", whole), ("last cell", whole)))
+        if not first <= last < length:
+            raise Refused("Range", f"the cells are 0 to {length - 1}, the first at most the last")
+        return first, last
+
+    def rest(self) -> dict[str, Any]:
+        """The fields that were not asked for, which now are."""
+        rest = {name: value for name, value in self._fields.items() if name not in self._known}
+        self._known.update(rest)
+        return rest
+
+
+def why_refused(plan: dict[str, Any], at: str, horizon: int, line: bytes, reply: dict[str, Any]) -> str:
+    """The sentence for a line that the program refused."""
+    reasons = Reasons()
+    reasons.hear(packed(plan).encode(), {"open": 1})
+    reasons.hear(packed({"advance": {"at": at, "to": horizon}}).encode(), {"horizon": horizon})
+    return reasons.hear(line, reply) or f"the program refused it: {reply['refused']}"

@@ -1,0 +1,108 @@
+"""A seat without a browser: asks a running server, as a tab does.
+
+    async with Seat(address, name="Robot") as seat:
+        reply = await seat.ask("advance", to=3600)
+"""
+from __future__ import annotations
+
+import asyncio
+import json
+import ssl
+from types import TracebackType
+from typing import Any
+
+import aiohttp
+
+LONGEST_REPLY = 1 << 26
+
+
+class Refused(Exception):
+    """The server refused; `reply` is what it said."""
+
+    def __init__(self, reply: dict[str, Any]) -> None:
+        super().__init__(f"{reply['refused']}: {reply.get('why', '')}")
+        self.reply = reply
+
+
+class Closed(ConnectionError):
+    """The server closed the socket; `code` says why."""
+
+    def __init__(self, code: int | None) -> None:
+        super().__init__(f"the server closed the socket with {code}")
+        self.code = code
+
+
+class Seat:
+    """A socket, and the seat that it has."""
+
+    def __init__(self, address: str, authority: str | None = None, **hello: Any) -> None:
+        """The address with its token; `hello` has name, key or take."""
+        self._base, _, self._token = address.strip().partition("/#")
+        self._ssl = ssl.create_default_context(cafile=authority) if authority else None
+        self._hello = hello
+        self._number = 0
+        self._open: dict[int, asyncio.Future[dict[str, Any]]] = {}
+        self.told: list[dict[str, Any]] = []
+        """All that came without being asked for."""
+        self.welcome: dict[str, Any] = {}
+
+    @property
+    def at(self) -> str:
+        return str(self.welcome["at"])
+
+    @property
+    def key(self) -> str:
+        return str(self.welcome["key"])
+
+    async def __aenter__(self) -> Seat:
+        self._session = aiohttp.ClientSession()
+        try:
+            self._socket = await self._session.ws_connect(
+                self._base + "/live", headers={"Origin": self._base}, max_msg_size=LONGEST_REPLY, ssl=self._ssl)
+            self._reader = asyncio.create_task(self._read())
+            self.welcome = (await self.say("hello", token=self._token, **self._hello))["welcome"]
+        except BaseException:
+            await self._session.close()
+            raise
+        return self
+
+    async def __aexit__(self, kind: type[BaseException] | None, fault: BaseException | None,
+                        trace: TracebackType | None) -> None:
+        await self._socket.close()
+        await self._session.close()
+        self._reader.cancel()
+
+    async def _read(self) -> None:
+        async for message in self._socket:
+            value = json.loads(message.data)
+            waiting = self._open.pop(value.get("id"), None)
+            if waiting is None:
+                self.told.append(value)
+            elif not waiting.done():
+                waiting.set_result(value)
+        for waiting in self._open.values():
+            if not waiting.done():
+                waiting.set_exception(Closed(self._socket.close_code))
+        self._open.clear()
+
+    async def reply(self, verb: str, **fields: Any) -> dict[str, Any]:
+        """The reply to a command with these fields, a refusal too."""
+        if self._socket.closed or self._reader.done():
+            raise Closed(self._socket.close_code)
+        self._number += 1
+        waiting: asyncio.Future[dict[str, Any]] = asyncio.get_running_loop().create_future()
+        waiting.add_done_callback(lambda one: one.cancelled() or one.exception())  # if the send fails nobody asks
+        self._open[self._number] = waiting
+        await self._socket.send_str(json.dumps({"id": self._number, verb: fields}))
+        return await waiting
+
+    async def say(self, verb: str, **fields: Any) -> dict[str, Any]:
+        """The reply to a command, or `Refused`."""
+        reply = await self.reply(verb, **fields)
+        if "refused" in reply:
+            raise Refused(reply)
+        return reply
+
+    async def ask(self, verb: str, **fields: Any) -> dict[str, Any]:
+        """The reply about the own replica, or of `at`."""
+        return await self.say(verb, **{"at": self.at, **fields})

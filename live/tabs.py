@@ -1,0 +1,402 @@
+"""Tabs: sockets, hello, frames, refusals, and what tabs are told without asking.
+
+A tab that does not read is let go, one that floods is answered `busy`, one that lies is closed: none of them is waited for.
+"""
+from __future__ import annotations
+
+import asyncio
+import collections
+import hmac
+import json
+import logging
+import re
+import socket as sockets
+import struct
+import time
+from pathlib import Path
+from typing import Any, Callable, Deque, Mapping, Union
+
+from aiohttp import WSMsgType, web
+
+from asked import LONGEST_NAME, MOST_EDITS, NOT_A_COMMAND, Asked, Refused, not_a_command
+from journal import Broken, packed
+from keeper import SHARED, Times
+from lab import AHEAD, Lab
+from questions import MOST_BYTES, MOST_ROWS, Questions
+
+LONGEST_FRAME = 65_536
+WAITING = 8  # questions of a tab that may wait
+PAUSE = 0.01  # seconds that one who floods is not read, for each frame too much
+MOST_FAULTS = 20
+MOST_TABS = 200  # those that have not said hello, too
+PATIENCE = 20.0  # seconds for a tab to read what it was sent
+HELLO = 10.0  # seconds until a tab has said who it is
+BUFFER = 262_144  # bytes of a tab that the kernel keeps
+TOLD_EVERY = 0.2
+MOST_TOLD = 50
+
+HERE = Path(__file__).resolve().parent
+TYPES = {".html": "text/html", ".js": "text/javascript", ".css": "text/css"}
+
+
+class Tab:
+    """A socket, and what goes to it: replies in their order, and of each kind of news the latest alone."""
+
+    def __init__(self, tabs: Tabs, socket: web.WebSocketResponse) -> None:
+        self._tabs, self._socket = tabs, socket
+        self.index: int | None = None  # of its seat, once it has said hello
+        self._replies: Deque[str] = collections.deque()
+        self._news: dict[str, dict[str, Any]] = {}
+        self._wake, self._read = asyncio.Event(), asyncio.Event()
+        self._waiting = self._faults = 0
+        self._tasks: list[asyncio.Task[None]] = []
+        self.bye = 1000, "ended"
+
+    async def serve(self) -> None:
+        """Reads and writes until the tab goes, or is let go."""
+        self._tasks = [asyncio.create_task(part) for part in (self._reader(), self._writer(), self._hello_in_time())]
+        try:
+            await asyncio.wait(self._tasks[:2], return_when=asyncio.FIRST_COMPLETED)
+        finally:
+            for task in self._tasks:
+                task.cancel()
+            for result in await asyncio.gather(*self._tasks, return_exceptions=True):
+                if isinstance(result, Exception):
+                    logging.error("a tab ended by %r", result)
+
+    def let_go(self, code: int, why: str) -> None:
+        """Ends the tab; its own handler closes the socket, since a close from another task is lost."""
+        self.bye = code, why
+        for task in self._tasks[:2]:
+            task.cancel()
+
+    def tell(self, kind: str, value: Any) -> None:
+        self._news[kind] = {kind: value}
+        self._wake.set()
+
+    def untold(self, kind: str) -> Any:
+        """What the tab was not told yet of a kind."""
+        return self._news.get(kind, {}).get(kind)
+
+    async def _hello_in_time(self) -> None:
+        await asyncio.sleep(HELLO)
+        if self.index is None:
+            self.let_go(1008, "no hello")
+
+    async def _writer(self) -> None:
+        while True:
+            await self._wake.wait()
+            self._wake.clear()
+            while self._replies or self._news:
+                text = self._replies.popleft() if self._replies else packed(self._news.pop(next(iter(self._news))))
+                self._read.set()
+                try:
+                    await asyncio.wait_for(self._socket.send_str(text), PATIENCE)
+                except asyncio.TimeoutError:
+                    self.bye = 1013, "too slow"
+                    return
+                except (ConnectionError, RuntimeError):
+                    return
+
+    async def _reader(self) -> None:
+        async for message in self._socket:
+            if message.type != WSMsgType.TEXT:
+                self.bye = 1003, "frames are text"
+                return
+            await self._line(message.data)
+            while len(self._replies) > WAITING:  # who does not read is not read
+                self._read.clear()
+                await self._read.wait()
+
+    async def _line(self, text: str) -> None:
+        came = time.perf_counter()
+        try:
+            number, verb, fields = taken_apart(text)
+        except (ValueError, RecursionError):
+            self._faults += 1
+            if self._faults >= MOST_FAULTS:
+                self.let_go(1008, "too many faults")
+            self._send(not_a_command('a frame is {"id":number,"command":{..}}').reply())
+            return
+        if verb == "hello" or verb == "seats" and self.index is None:
+            await self._enter(number, verb, fields)
+        elif self.index is None:
+            self.let_go(1008, "hello comes first")
+        elif self._waiting >= WAITING:
+            self._send({"id": number, **Refused("busy", f"{WAITING} questions wait: ask again later").reply()})
+            await asyncio.sleep(PAUSE)
+        else:
+            self._waiting += 1
+            asyncio.ensure_future(self._answered(self.index, number, verb, fields, came))
+            await asyncio.sleep(0)  # so that what a tab asks is done in its order
+
+    async def _enter(self, number: int, verb: str, fields: Any) -> None:
+        try:
+            asked = Asked(verb, fields)
+            if not hmac.compare_digest(str(asked.raw("token")).encode("utf-8", "replace"), self._tabs.token.encode()):
+                self.let_go(1008, "the token in the address is wrong")
+                return
+            if verb == "seats":
+                self._send({"id": number, "seats": self._tabs.lab.seats()})
+            elif self.index is not None:
+                raise not_a_command("hello was said before")
+            else:
+                self._send({"id": number, "welcome": await self._tabs.welcome(self, asked)})
+                self._tabs.arrived(self)
+        except Refused as fault:
+            self._send({"id": number, **fault.reply()})
+
+    async def _answered(self, index: int, number: int, verb: str, fields: Any, came: float) -> None:
+        times: Times = {}
+        reply: Union[bytes, dict[str, Any]]
+        try:
+            reply = await self._tabs.answer(self, index, verb, fields, times)
+        except Refused as fault:
+            reply = fault.reply()
+        except Exception:  # pylint: disable=broad-except
+            logging.exception("`%s` failed", verb)
+            reply = Refused("failed", "the server could not do this, and says why in its log").reply()
+        finally:
+            self._waiting -= 1
+        times["server"] = time.perf_counter() - came
+        us = packed({name: round(1e6 * value) for name, value in times.items()})
+        text = reply.decode() if isinstance(reply, bytes) else packed(reply)
+        self._replies.append(f'{{"id":{number},"us":{us}{"," if len(text) > 2 else ""}{text[1:]}')
+        self._wake.set()
+
+    def _send(self, value: dict[str, Any]) -> None:
+        self._replies.append(packed(value))
+        self._wake.set()
+
+
+def taken_apart(text: str) -> tuple[int, str, Any]:
+    """Number, command and fields of a frame; a ValueError where it is none, or no text of UTF-8."""
+    text.encode()
+    value = json.loads(text, parse_constant=no_number, parse_float=finite)
+    if type(value) is not dict or type(value.get("id")) is not int or len(value) != 2:
+        raise ValueError("no command")
+    json.dumps(value, ensure_ascii=False).encode()  # half of a surrogate pair is none
+    number = value.pop("id")
+    if not 0 <= number < 1 << 53:
+        raise ValueError("no number")
+    (verb, fields), = value.items()
+    return number, verb, fields
+
+
+def no_number(text: str) -> None:
+    raise ValueError(f"{text} is no number of JSON")
+
+
+def finite(text: str) -> float:
+    if abs(float(text)) == float("inf"):
+        raise ValueError(f"{text} is too great")
+    return float(text)
+
+
+class Tabs:
+    """All tabs of a lab."""
+
+    def __init__(self, lab: Lab, token: str) -> None:
+        self.lab, self.token = lab, token
+        self._questions = Questions(lab)
+        self._all: set[Tab] = set()
+        self.broker: Callable[[], Any] = lambda: None  # what is told of it
+        lab.on_shared, lab.on_seats, lab.on_clock = self._news, self._seats, self._clock
+        lab.on_trouble = lambda: self._tell_all("trouble", lab.trouble)
+        lab.on_program = lambda: self._tell_all("program", {"changes": lab.changes})
+        self._ticks = asyncio.ensure_future(self._tick())
+
+    # Coming and going
+
+    async def welcome(self, tab: Tab, asked: Asked) -> dict[str, Any]:
+        """Gives a tab its seat."""
+        with asked:
+            name, key = asked.text("name", LONGEST_NAME, ""), asked.text("key", 100, "")
+            take = asked.whole("take") if asked.has("take") else None
+        index, key = await self.lab.join(name, key, take)
+        for other in self._all:
+            if other.index == index:
+                other.index = None
+                other.let_go(4000, "this seat is open in another tab")
+        tab.index = index
+        self.lab.here.add(index)
+        state = self.lab.state
+        seat = state.seats[index]
+        return {"at": seat.at, "seat": index, "name": seat.name, "key": key, "number": state.number(seat),
+                "site": state.site, "plan": {**state.plan, "replicas": []}, "horizon": self.lab.wanted.get(index, 0),
+                "now": self.lab.now(), "rate": state.rate, "ahead": AHEAD, "time": round(time.time(), 3),
+                "most": {"edits": MOST_EDITS, "rows": MOST_ROWS, "bytes": MOST_BYTES}, "broker": self.broker(),
+                "trouble": self.lab.trouble}
+
+    def arrived(self, tab: Tab) -> None:
+        self._tell_news(tab, None)
+        self._seats()
+
+    def _gone(self, tab: Tab) -> None:
+        self._all.discard(tab)
+        if tab.index is not None:
+            self.lab.leave(tab.index)
+            self._seats()
+
+    async def socket(self, request: web.Request) -> web.WebSocketResponse:
+        """Serves a tab until it goes."""
+        if len(self._all) >= MOST_TABS:
+            raise web.HTTPServiceUnavailable(text="too many tabs")
+        socket = web.WebSocketResponse(max_msg_size=LONGEST_FRAME + 1, heartbeat=20, compress=False)
+        await socket.prepare(request)
+        socket_of(request).setsockopt(sockets.SOL_SOCKET, sockets.SO_SNDBUF, BUFFER)
+        tab = Tab(self, socket)
+        self._all.add(tab)
+        try:
+            await tab.serve()
+        finally:
+            self._gone(tab)
+        await self._closed(request, socket, tab)
+        return socket
+
+    async def _closed(self, request: web.Request, socket: web.WebSocketResponse, tab: Tab) -> None:
+        code, why = tab.bye
+        try:
+            await asyncio.wait_for(socket.close(code=code, message=why.encode()), 1)
+        except (asyncio.TimeoutError, ConnectionError, RuntimeError):
+            pass
+        if request.transport is not None and code == 1013:
+            socket_of(request).setsockopt(sockets.SOL_SOCKET, sockets.SO_LINGER, struct.pack("ii", 1, 0))
+            request.transport.abort()  # a close would wait for ever until what is kept has been read
+
+    async def close(self) -> None:
+        self._ticks.cancel()
+        for tab in list(self._all):
+            tab.let_go(1012, "the server stops")
+        await asyncio.sleep(0)
+
+    # Answers
+
+    async def answer(self, tab: Tab, index: int, verb: str, fields: Any, times: Times) -> bytes | dict[str, Any]:
+        """The answer to a seat; `Refused` says why there is none."""
+        if verb == "ping":
+            return {"pong": fields}
+        if verb == "seats":
+            return {"seats": self.lab.seats()}
+        asked = Asked(verb, fields)
+        if verb == "clock":
+            return await self.lab.set_clock(asked)
+        own, at = self.lab.state.seats[index].at, asked.raw("at")
+        if self._questions.knows(verb) and at in (own, "shared"):
+            return await self._questions.answer(index, index if at == own else SHARED, asked, times)
+        if at != own:
+            raise Refused("not your replica", "a tab asks about its own replica or the shared one, and changes its own")
+        return await self._act(tab, index, asked, times)
+
+    async def _act(self, tab: Tab, index: int, asked: Asked, times: Times) -> dict[str, Any]:
+        acts: Mapping[str, Callable[[int, Asked, Times], Any]] = {
+            "gesture": self.lab.gesture, "edit": self.lab.single, "withdraw": self.lab.single, "undo": self.lab.undo,
+            "again": self.lab.again, "send": self.lab.share, "take": self.lab.take}
+        if asked.verb == "leave":
+            with asked:
+                pass
+            await self.lab.give_back(index)
+            tab.index = None
+            self.lab.here.discard(index)
+            self._seats()
+            asyncio.get_running_loop().call_later(TOLD_EVERY, tab.let_go, 4001, "the seat was left")
+            return {}
+        if asked.verb not in acts:
+            raise not_a_command(f"`{asked.verb}` is no command of a tab")
+        reply: dict[str, Any] = await acts[asked.verb](index, asked, times)
+        if asked.verb == "take":
+            self._tell_news(tab, None)
+        return reply
+
+    # What is told
+
+    def _tell_all(self, kind: str, value: Any) -> None:
+        for tab in self._all:
+            if tab.index is not None:
+                tab.tell(kind, value)
+
+    def tell_broker(self) -> None:
+        self._tell_all("broker", self.broker())
+
+    def _clock(self) -> None:
+        self._tell_all("clock", {"now": self.lab.now(), "rate": self.lab.state.rate})
+
+    def _seats(self) -> None:
+        if any(tab.index is not None for tab in self._all):
+            self._tell_all("seats", self.lab.seats())
+
+    def _news(self, touched: int | None) -> None:
+        for tab in self._all:
+            self._tell_news(tab, touched)
+
+    def _tell_news(self, tab: Tab, touched: int | None) -> None:
+        """What was shared and the tab's seat has not taken; steps that it was not told of stay in it."""
+        if tab.index is None:
+            return
+        before = tab.untold("news")
+        steps = [step for step in (touched, before and before["touched"]) if step is not None]
+        tab.tell("news", {**self.lab.news(tab.index, MOST_TOLD), "touched": min(steps, default=None)})
+
+    async def _tick(self) -> None:
+        while True:
+            await asyncio.sleep(TOLD_EVERY)
+            if self.lab.state.rate:
+                self._clock()
+
+
+def socket_of(request: web.Request) -> sockets.socket:
+    assert request.transport is not None
+    socket: sockets.socket = request.transport.get_extra_info("socket")
+    return socket
+
+
+# The page
+
+class Page:
+    """The files that are served, and the headers that keep others out."""
+
+    def __init__(self, tabs: Tabs, hosts: set[str], scheme: str) -> None:
+        self._tabs, self._hosts, self._scheme = tabs, hosts, scheme
+
+    def app(self) -> web.Application:
+        app = web.Application()
+        app.add_routes([web.get("/", self._file), web.get("/live", self._live), web.get("/{name}", self._file),
+                        web.get("/page/{part}", self._file)])
+        return app
+
+    def _check(self, request: web.Request) -> str:
+        host = request.headers.get("Host", "")
+        if host not in self._hosts:
+            raise web.HTTPForbidden(text="this host is not the server's")
+        return host
+
+    async def _live(self, request: web.Request) -> web.StreamResponse:
+        host = self._check(request)
+        if request.headers.get("Origin") != f"{self._scheme}://{host}":
+            raise web.HTTPForbidden(text="this origin is not the server's")
+        return await self._tabs.socket(request)
+
+    async def _file(self, request: web.Request) -> web.StreamResponse:
+        host = self._check(request)
+        path = file_of(request.match_info.get("name"), request.match_info.get("part"))
+        if path is None or not path.is_file():
+            raise web.HTTPNotFound()
+        return web.Response(body=path.read_bytes(), content_type=TYPES[path.suffix], charset="utf-8",
+                            headers=self._headers(host))
+
+    def _headers(self, host: str) -> dict[str, str]:
+        socket = f"{'wss' if self._scheme == 'https' else 'ws'}://{host}"
+        policy = {"default-src": "'none'", "script-src": "'self'", "style-src": "'self'",
+                  "img-src": "'self' data: blob:", "connect-src": f"'self' {socket}", "base-uri": "'none'",
+                  "form-action": "'none'", "frame-ancestors": "'none'"}
+        return {"Content-Security-Policy": "; ".join(" ".join(part) for part in policy.items()),
+                "Referrer-Policy": "no-referrer", "X-Content-Type-Options": "nosniff", "Cache-Control": "no-store",
+                "Cross-Origin-Opener-Policy": "same-origin", "Cross-Origin-Resource-Policy": "same-origin"}
+
+
+def file_of(name: str | None, part: str | None) -> Path | None:
+    """The file that a path names; there are no others."""
+    if part is not None:
+        return HERE / "page" / part if re.fullmatch(r"[a-z_]+\.js", part) else None
+    return {None: HERE / "page.html", "page.js": HERE / "page.js", "page.css": HERE / "page.css",
+            "drawing.js": HERE.parent / "viewer" / "drawing.js"}.get(name)

@@ -1,0 +1,182 @@
+"""Two and three servers by a broker that is stopped, killed, keeps nothing, and is told rubbish."""
+from __future__ import annotations
+
+import asyncio
+import json
+import os
+import signal
+from typing import Any, Callable
+
+from client import Seat
+from journal import packed
+from road_lab import Edit, Plan, RoadLab
+from running import SMALL, Broker, Case, Server
+
+TOTALS = {"from": 0, "to": 100}
+
+
+async def put(seat: Seat, *edits: list[Any]) -> list[int]:
+    """A gesture that is shared at once."""
+    stamp: list[int] = (await seat.ask("gesture", key=os.urandom(8).hex(), edits=list(edits)))["stamp"]
+    await seat.ask("send", name="shared")
+    return stamp
+
+
+async def shared(seat: Seat) -> list[Any]:
+    edits: list[Any] = (await seat.ask("scenario", at="shared"))["edits"]
+    return edits
+
+
+async def until(holds: Callable[[], Any], patience: float = 60.0) -> None:
+    for _ in range(int(patience / 0.1)):
+        if await holds():
+            return
+        await asyncio.sleep(0.1)
+    raise AssertionError(f"not within {patience} seconds")
+
+
+def told(seat: Seat) -> list[str]:
+    """What the page shows of the broker."""
+    return next((one["broker"]["told"] for one in reversed(seat.told) if "broker" in one), [])
+
+
+class Brokers(Case):
+    def site(self, broker: Broker, number: int, plan: dict[str, Any] | None = None) -> Server:
+        return self.server("--broker", broker.address, "--site", str(number), plan=plan)
+
+    async def same(self, *seats: Seat, edits: int) -> list[Any]:
+        """Waits until all shared replicas hold the same so many edits; then rows and totals are the same, and those
+        of one program that got the edits in another order."""
+        async def holds() -> bool:
+            held = [await shared(seat) for seat in seats]
+            return len(held[0]) == edits and all(one == held[0] for one in held)
+        await until(holds)
+        seen = []
+        for seat in seats:
+            await seat.say("clock", to=max(100, seat.welcome["now"]))
+            await seat.ask("advance", at="shared", to=100)
+            seen.append(((await seat.ask("diagram", at="shared", **TOTALS))["rows"],
+                         (await seat.ask("counts", at="shared", **TOTALS))["counts"]))
+        self.assertEqual(seen, [seen[0]] * len(seats))
+        scenario = await shared(seats[0])
+        plan = {**SMALL, "replicas": ["A"]}
+        with RoadLab(Plan(**plan)) as lab:
+            lab.advance("A", 100)
+            for edit in reversed(scenario):
+                lab.take_in("A", [Edit.read(edit)])
+            self.assertEqual(seen[0], (lab.diagram("A", 0, 100), [list(lab.count("A", one, 0, 100)) for one in range(3)]))
+        return scenario
+
+    async def test_sites_agree_whatever_happens_to_the_broker(self) -> None:
+        for keeps in (True, False):
+            broker = self.broker(keeps)
+            first, second = self.site(broker, 1), self.site(broker, 2)
+            async with first.seat("Ada") as ada:
+                async with second.seat("Sam") as sam:
+                    await put(ada, ["limit", 2, 80, 1])
+                    await put(sam, ["limit", 2, 80, 2])  # a tie: the greater number wins
+                    self.assertEqual(await self.same(ada, sam, edits=1), [["limit", 2, 80, 1, 129, 2]])
+                    news = next(one["news"] for one in reversed(ada.told) if "news" in one)
+                    self.assertIn("Sam", news["from"])
+                    key = sam.key
+                second.kill()  # a site is away
+                await put(ada, ["limit", 3, 90, 3])
+                await put(ada, ["limit", 4, 91, 3])
+                broker.kill()  # with what it kept for it
+                await put(ada, ["limit", 5, 92, 3])
+                broker.start()
+                second.start()
+                async with second.seat(key=key) as sam:
+                    await self.same(ada, sam, edits=4)
+                    broker.kill(signal.SIGTERM)
+                    await put(sam, ["block", 60, 30, 1], ["block", 60, 50, 0])
+                    first.again()
+                    async with first.seat(key=ada.key) as again:
+                        await put(again, ["block", 61, 30, 1])
+                        broker.start()
+                        third = self.site(broker, 3)  # comes late, and gets all
+                        async with third.seat("Tom") as tom:
+                            await self.same(again, sam, tom, edits=7)
+
+    async def test_rubbish_is_left_out_and_told(self) -> None:
+        broker = self.broker()
+        first, second = self.site(broker, 1), self.site(broker, 2)
+        topic = f"road/{reference(first)}/edits"
+        async with first.seat("Ada") as ada, second.seat("Sam") as sam:
+            await put(ada, ["limit", 1, 8, 1])
+            await self.same(ada, sam, edits=1)
+            for text, why in (
+                    ("good morning", "no message"), ("", "no message"), ("[" * 3_000, "no message"), ("[1]", "an edit of it is none"),
+                    ('{"edits":7}', "no list"), ('{"edits":[],"form":2}', "no list"), ('{"edits":[["limit",1,8,1,70,1]],"form":3}', "no list"),
+                    ('{"edits":[["limit",99,8,1,70,1]],"form":2}', "no zone 99"), ('{"edits":[["limit",1,8,1,3,1]],"form":2}', "is a replica's"),
+                    ('{"edits":[["limit",1,8,281474976710656,70,1]],"form":2}', "spend the counts"), ('["limit",1,8,99999999999,70,1]', "spend the counts"),
+                    ('{"edits":[[{},1]],"form":2}', "is none"), ('{"edits":[["limit",1,8,"1",70,1]],"form":2}', "is none"),
+                    ('{"edits":[["limit",1,8,1,70,1]],"form":2,"note":"\\ud800"}', "no message"), (" " * 140_000, "bytes"),
+                    (json.dumps({"edits": [["block", 1, step, 1, 70, 1] for step in range(1_201)], "form": 2}), "no list")):
+                broker.say(topic, text)
+                await until(lambda: self.is_told(why, ada, sam), 20)
+            await put(sam, ["limit", 1, 5, 3])  # counts are not spent
+            self.assertLess((await put(ada, ["limit", 1, 6, 3]))[0], 10)
+            await self.same(ada, sam, edits=3)
+            broker.say(topic, '["limit",1,9,7,70,1]')  # a lone edit, as a script sends it
+            broker.say(topic, json.dumps({"edits": [["limit", 1, 10, 8, 70, 1]], "form": 2, "who": "x\u202e\n" * 99, "note": 7, "shape": [1],
+                                          "undoes": "x", "when": "now"}))
+            await self.same(ada, sam, edits=5)
+            came = (await ada.ask("gestures", at="shared"))["gestures"][-1]
+            self.assertLessEqual(len(came["who"]), 40)
+            self.assertTrue(came["who"].isprintable())
+
+    async def is_told(self, why: str, *seats: Seat) -> bool:
+        return all(any(why in sentence for sentence in told(seat)) for seat in seats)
+
+    async def test_one_number_twice_is_told_and_nothing_is_mixed(self) -> None:
+        broker = self.broker()
+        first, second = self.site(broker, 7), self.site(broker, 7)
+        async with first.seat("Ada") as ada, second.seat("Sam") as sam:
+            await until(lambda: self.is_told("has this site's number, 7", ada, sam))
+            await put(ada, ["limit", 2, 80, 1])
+            await put(sam, ["limit", 2, 80, 2])
+            await asyncio.sleep(4)
+            self.assertEqual([(await shared(seat))[0][5] for seat in (ada, sam)], [1, 2])
+        second.kill()
+        third = self.site(broker, 8)
+        async with third.seat("Tom") as tom, first.seat(key=ada.key) as ada:  # once the other is gone it goes on
+            await self.same(ada, tom, edits=1)
+
+    async def test_another_seed_is_told(self) -> None:
+        broker = self.broker()
+        first, second = self.site(broker, 1), self.site(broker, 2, {**SMALL, "words": 2})
+        async with first.seat("Ada") as ada, second.seat("Sam") as sam:
+            await until(lambda: self.is_told("has another road", ada, sam))
+            await put(ada, ["limit", 2, 80, 1])
+            await asyncio.sleep(1)
+            self.assertEqual(await shared(sam), [])
+
+    async def test_what_has_not_come_back_is_seen(self) -> None:
+        broker = self.broker()
+        first = self.site(broker, 1)
+        async with first.seat("Ada") as ada:
+            await until(lambda: self.broker_is(ada, "connected", 0))
+            broker.kill()
+            await put(ada, ["limit", 2, 80, 1])
+            await until(lambda: self.broker_is(ada, "away", 1))
+            first.again()
+        async with first.seat(key=ada.key) as ada:
+            self.assertEqual(ada.welcome["broker"]["unsent"], 1)
+            broker.start()
+            await until(lambda: self.broker_is(ada, "connected", 0))
+
+    async def broker_is(self, seat: Seat, state: str, unsent: int) -> bool:
+        now = next((one["broker"] for one in reversed(seat.told) if "broker" in one), seat.welcome["broker"])
+        return (now["state"], now["unsent"]) == (state, unsent)
+
+    async def test_a_broker_elsewhere_wants_a_password(self) -> None:
+        with self.assertRaisesRegex(RuntimeError, "wants --broker-user and --broker-password"):
+            self.server("--broker", "192.0.2.1:8883")
+
+
+def reference(server: Server) -> str:
+    """By which sites know that they have the same road."""
+    import hashlib
+    plan = server.journal()[0]["lab"]["plan"]
+    return hashlib.sha256(packed({**plan, "replicas": 0}).encode()).hexdigest()[:16]

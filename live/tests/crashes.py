@@ -1,0 +1,170 @@
+"""kill -9 in bursts of three seats: each gesture that was confirmed is there afterwards, and none twice."""
+from __future__ import annotations
+
+import asyncio
+import os
+import random
+import signal
+import time
+from typing import Any
+
+from aiohttp import ClientError
+
+from client import Seat
+from running import PATIENCE, SMALL, Case, Server
+
+ROUNDS = 10
+LAST = 60
+PLAN = {**SMALL, "length": 60, "zones": [[5, 6_554]] * 3, "inlets": [[0, 27_918]], "detectors": [30]}
+
+
+class Engineer:
+    """A seat that puts gestures without a pause, and knows which were confirmed."""
+
+    def __init__(self, name: str, chance: random.Random) -> None:
+        self.name, self.key, self._chance = name, "", chance
+        self.sent: dict[str, list[Any]] = {}
+        self.confirmed: dict[str, list[int]] = {}
+        self.shared: set[tuple[int, ...]] = set()
+
+    def seat(self, server: Server) -> Seat:
+        return server.seat(key=self.key) if self.key else server.seat(self.name)
+
+    async def burst(self, seat: Seat) -> None:
+        """Until the server is gone."""
+        try:
+            while True:
+                key = f"{self.name}-{self._chance.getrandbits(60):x}"
+                step = self._chance.randrange(LAST)
+                self.sent[key] = [["block", self._chance.randrange(5, 55), step, 1], ["limit", self._chance.randrange(3), step, 3]]
+                self.confirmed[key] = (await seat.ask("gesture", key=key, edits=self.sent[key]))["stamp"]
+                if self._chance.random() < 0.2:
+                    self.shared.update(map(tuple, (await seat.ask("send", name="shared"))["stamps"]))
+                if self._chance.random() < 0.1:
+                    await seat.ask("take", message="shared")
+        except (ConnectionError, ClientError):
+            pass
+
+
+class Crashes(Case):
+    async def rounds(self, server: Server, engineers: list[Engineer], kill: Any) -> None:
+        chance = random.Random(1)
+        for number in range(ROUNDS):
+            seats = []
+            for engineer in engineers:
+                seat = engineer.seat(server)
+                seats.append(await seat.__aenter__())
+                engineer.key = seat.key
+            if not number:
+                await seats[0].say("clock", to=LAST)
+            for seat in seats:
+                await seat.ask("advance", to=LAST)
+            tasks = [asyncio.create_task(one.burst(seat)) for one, seat in zip(engineers, seats)]
+            await asyncio.sleep(chance.uniform(0.2, 0.6))
+            before = sum(len(one.confirmed) for one in engineers)
+            await kill(tasks)
+            for seat in seats:
+                await seat.__aexit__(None, None, None)
+            self.assertGreater(before, 0)
+            await self.look(server, engineers)
+
+    async def look(self, server: Server, engineers: list[Engineer]) -> None:
+        """Every confirmed gesture is there with its edits; what was not confirmed goes out again, and is there once."""
+        for engineer in engineers:
+            async with engineer.seat(server) as seat:
+                for key in engineer.sent.keys() - engineer.confirmed.keys():
+                    said = await seat.ask("gesture", key=key, edits=engineer.sent[key])
+                    engineer.confirmed[key] = said["stamp"]
+                held = {tuple(one["stamp"]): one for one in (await seat.ask("gestures"))["gestures"]}
+                shared = {tuple(one["stamp"]) for one in (await seat.ask("gestures", at="shared"))["gestures"]}
+                for key, stamp in engineer.confirmed.items():
+                    self.assertEqual(held[tuple(stamp)]["edits"], engineer.sent[key])
+                own = [stamp for stamp in held if stamp[1] == seat.welcome["number"]]
+                self.assertEqual(len(own), len(engineer.confirmed))
+                self.assertLessEqual(engineer.shared, shared)
+                scenario = {tuple(edit[:3]): tuple(edit[3:5]) for edit in (await seat.ask("scenario"))["edits"]}
+                for stamp, gesture in held.items():
+                    for edit in gesture["edits"]:
+                        self.assertGreaterEqual(scenario[tuple(edit[:3])], stamp)
+
+    def engineers(self) -> list[Engineer]:
+        return [Engineer(f"e{number}", random.Random(number)) for number in range(3)]
+
+    async def test_the_server_is_killed(self) -> None:
+        server = self.server(plan=PLAN)
+
+        async def kill(tasks: list[asyncio.Task[None]]) -> None:
+            server.kill()
+            await asyncio.gather(*tasks)
+            server.start()
+        await self.rounds(server, self.engineers(), kill)
+
+    async def test_the_program_is_killed(self) -> None:
+        server = self.server(plan=PLAN)
+
+        async def kill(tasks: list[asyncio.Task[None]]) -> None:
+            os.kill(server.program, signal.SIGKILL)
+            await asyncio.sleep(0.5)
+            self.assertFalse(any(task.done() for task in tasks), "a tab was let go with the program")
+            for task in tasks:
+                task.cancel()
+            await asyncio.gather(*tasks, return_exceptions=True)
+        await self.rounds(server, self.engineers(), kill)
+
+    async def test_the_broker_is_killed(self) -> None:
+        """What was shared meanwhile comes to the other site all the same."""
+        broker = self.broker()
+        server = self.server("--broker", broker.address, plan=PLAN)
+        other = self.server("--broker", broker.address, "--site", "2", plan=PLAN)
+
+        async def kill(tasks: list[asyncio.Task[None]]) -> None:
+            broker.kill()
+            await asyncio.sleep(0.2)
+            for task in tasks:
+                task.cancel()
+            await asyncio.gather(*tasks, return_exceptions=True)
+            broker.start()
+        engineers = self.engineers()
+        await self.rounds(server, engineers, kill)
+        async with engineers[0].seat(server) as here, other.seat("Sam") as there:
+            for _ in range(600):
+                held = [(await seat.ask("scenario", at="shared"))["edits"] for seat in (here, there)]
+                if held[0] == held[1]:
+                    break
+                await asyncio.sleep(0.1)
+            self.assertEqual(*held)
+            self.assertGreater(len(held[0]), ROUNDS)
+
+    async def test_a_change_of_program_is_not_felt(self) -> None:
+        """Near its limit of lines the program gets a successor: no question is refused, and rows stay what they are."""
+        server = self.server(plan=PLAN, LIVE_MOST_LINES="60")
+        async with server.seat("Ada") as ada, server.seat("Ben") as ben:
+            await ada.say("clock", to=LAST)
+            for seat in (ada, ben):
+                await seat.ask("gesture", key="1", edits=[["block", 30, 10, 1], ["block", 30, 40, 0]])
+                await seat.ask("send", name="shared")
+                await seat.ask("advance", to=LAST)
+            rows = await ada.ask("diagram", **{"from": 0, "to": LAST})
+            number = made = 0
+            until = time.monotonic() + PATIENCE
+            while number < 300 or self.changes(ada) < 3 and time.monotonic() < until:
+                number += 1
+                if number % 50 == 49:
+                    made += 1
+                    await ben.ask("gesture", key=f"k{number}", edits=[["limit", 2, made % LAST, 2]])
+                said = await (ada, ben)[number % 2].ask("cells", step=number % 10)
+                self.assertEqual(said["cells"], rows["rows"][number % 10] if number % 2 == 0 else said["cells"])
+            self.assertEqual((await ada.ask("diagram", **{"from": 0, "to": LAST}))["rows"], rows["rows"])
+            self.assertGreaterEqual(self.changes(ada), 3)
+            self.assertEqual(len((await ben.ask("scenario"))["edits"]), 2 + min(made, LAST))
+
+    def changes(self, seat: Seat) -> int:
+        return max((one["program"]["changes"] for one in seat.told if "program" in one), default=0)
+
+    async def test_a_program_that_cannot_go_on_is_told(self) -> None:
+        server = self.server(plan=PLAN)
+        async with server.seat("Ada") as ada:
+            await ada.ask("gesture", key="1", edits=[["block", 30, 10, 1]])
+            for _ in range(3):
+                os.kill(server.program, signal.SIGKILL)
+                self.assertEqual(len((await ada.ask("scenario"))["edits"]), 1)

@@ -1,0 +1,199 @@
+"""Frames, tabs and addresses that mean harm: each gets a refusal, and nobody else is the slower for it."""
+from __future__ import annotations
+
+import asyncio
+import json
+import statistics
+import time
+from typing import Any
+
+import aiohttp
+
+from client import Seat
+from running import Case, Server
+
+
+class Frames(Case):
+    """What comes back for frames that are sent as they are."""
+
+    async def asyncSetUp(self) -> None:
+        self.a6 = self.server()
+        self.base, _, self.token = self.a6.address.partition("/#")
+        self.session = await self.enterAsyncContext(aiohttp.ClientSession())
+
+    async def raw(self, *frames: str | bytes, **headers: str) -> list[Any]:
+        """The replies, and at last the code by which the socket was closed, or None."""
+        socket = await self.session.ws_connect(self.base + "/live", headers={"Origin": self.base, **headers})
+        replies: list[Any] = []
+        for frame in frames:
+            await (socket.send_str(frame) if isinstance(frame, str) else socket.send_bytes(frame))
+            while True:
+                message = await asyncio.wait_for(socket.receive(), 30)
+                if message.type != aiohttp.WSMsgType.TEXT:
+                    await socket.close()
+                    return [*replies, socket.close_code]
+                value = json.loads(message.data)
+                if "id" in value or "refused" in value:
+                    replies.append(value)
+                    break
+        await socket.close()
+        return [*replies, None]
+
+    def hello(self, name: str) -> str:
+        return json.dumps({"id": 0, "hello": {"token": self.token, "name": name}})
+
+    async def status(self, path: str, **headers: str) -> int:
+        async with self.session.get(self.base + path, headers=headers) as reply:
+            return reply.status
+
+    async def test_origin_and_host_are_the_servers_own(self) -> None:
+        for headers in ({"Origin": "http://evil.example"}, {"Origin": "null"}, {"Origin": self.base.replace("http", "https")},
+                        {"Host": "evil.example"}, {"Host": "evil.example", "Origin": "http://evil.example"}):
+            with self.assertRaises(aiohttp.WSServerHandshakeError) as caught:
+                await self.raw("x", **headers)
+            self.assertEqual(caught.exception.status, 403, headers)
+        with self.assertRaises(aiohttp.WSServerHandshakeError):
+            await self.session.ws_connect(self.base + "/live")
+        self.assertEqual(await self.status("/", Host="evil.example"), 403)
+
+    async def test_no_other_files_are_served(self) -> None:
+        for path in ("/serve", "/lab.py", "/token", "/plan.json", "/../token", "/%2e%2e/token", "/page/..%2f..%2ftoken",
+                     "/page/%2e%2e", "/page/../lab.py", "/page/a.py", "/tests/hostile.py", "/drawing.js/", "//etc/passwd"):
+            reader, writer = await asyncio.open_connection("127.0.0.1", int(self.base.rpartition(":")[2]))
+            writer.write(f"GET {path} HTTP/1.1\r\nHost: {self.base[7:]}\r\nConnection: close\r\n\r\n".encode())
+            self.assertIn(b" 404 ", await reader.readline(), path)
+            writer.close()
+
+    async def test_the_page_is_told_to_load_nothing_from_elsewhere(self) -> None:
+        async with self.session.get(self.base + "/drawing.js") as one, self.session.get(self.base + "/") as other:
+            for reply in (one, other):
+                if reply.status == 200:
+                    policy = reply.headers["Content-Security-Policy"]
+                    for part in ("default-src 'none'", "script-src 'self'", "frame-ancestors 'none'", "base-uri 'none'"):
+                        self.assertIn(part, policy)
+                    self.assertNotIn("unsafe", policy)
+                    self.assertEqual(reply.headers["Referrer-Policy"], "no-referrer")
+
+    async def test_the_token_lets_in(self) -> None:
+        for token in ("", "wrong", self.token[:-1], self.token + "x", "\u00e9", 7, None, [self.token]):
+            frame = json.dumps({"id": 1, "hello": {"token": token, "name": "x"}})
+            self.assertEqual(await self.raw(frame), [1008], token)
+            self.assertEqual(await self.raw(json.dumps({"id": 1, "seats": {"token": token}})), [1008], token)
+        self.assertEqual(await self.raw('{"id":1,"advance":{"at":"seat1","to":5}}'), [1008])
+        self.assertEqual((await self.raw('{"id":1,"hello":{"name":"x"}}'))[0]["refused"], "not a command")
+
+    async def test_frames_that_are_none(self) -> None:
+        for number, frame in enumerate((
+                "", "x", "[]", "7", "null", "[" * 60_000, '{"id":1}', '{"id":"1","ping":{}}', '{"id":1.5,"ping":{}}', '{"id":true,"ping":{}}',
+                '{"id":-1,"ping":{}}', '{"id":' + "9" * 5_000 + ',"ping":{}}', '{"id":1,"ping":{},"pong":{}}', '{"ping":{}}',
+                '{"id":1,"ping":NaN}', '{"id":1,"ping":1e999}', '{"id":1,"ping":"\\ud800"}', '{"id":1,"\\udfff":{}}')):
+            replies = await self.raw(self.hello(f"f{number}"), frame, '{"id":2,"ping":5}')
+            self.assertEqual(replies[1]["refused"], "not a command", frame[:40])
+            self.assertEqual(replies[2]["pong"], 5)
+
+    async def test_frames_beyond_the_limit_close_the_socket(self) -> None:
+        fits = json.dumps({"id": 2, "ping": ""})
+        most = fits[:-2] + "x" * (65_536 - len(fits)) + fits[-2:]
+        self.assertEqual(len((await self.raw(self.hello("a"), most))[1]["pong"]), 65_536 - len(fits))
+        self.assertEqual((await self.raw(self.hello("b"), most[:-2] + "x" + most[-2:]))[1:], [1009])
+        self.assertEqual((await self.raw(self.hello("c"), b"\x00binary"))[1:], [1003])
+        self.assertEqual((await self.raw(self.hello("d"), *["x"] * 40))[-1], 1008)
+
+    async def test_commands_that_are_refused_or_changed_nothing(self) -> None:
+        async with self.a6.seat("good") as good, self.a6.seat("bad") as bad:
+            edits = [["limit", 1, 5, 1]]
+            for verb, fields, refusal in (
+                    ("diagram", {"at": good.at, "from": 0, "to": 5}, "not your replica"),
+                    ("gesture", {"at": good.at, "edits": edits, "key": "k"}, "not your replica"),
+                    ("gesture", {"at": "shared", "edits": edits, "key": "k"}, "not your replica"),
+                    ("take", {"at": good.at, "message": "shared"}, "not your replica"),
+                    ("undo", {"at": "shared", "stamp": [1, 65], "key": "k"}, "not your replica"),
+                    ("import", {"at": bad.at, "edits": [], "form": 2}, "not a command"),
+                    ("crowd", {"form": 2, "shares": [[]], "to": 1_000_000}, "not a command"),
+                    ("heads", {"at": bad.at, "name": "x"}, "not a command"), ("beyond", {"at": bad.at}, "not a command"),
+                    ("send", {"at": bad.at, "name": "other"}, "not a command"), ("take", {"at": bad.at, "message": "x"}, "not a command"),
+                    ("eval", {}, "not a command"), ("__class__", {"at": bad.at}, "not a command"), ("hello", {}, "not a command"),
+                    ("advance", {"at": bad.at, "to": 1_048_577}, "Horizon"), ("advance", {"at": bad.at, "to": 36_001}, "too far ahead"),
+                    ("advance", {"at": bad.at, "to": True}, "not a command"), ("advance", {"at": bad.at, "to": "5"}, "not a command"),
+                    ("advance", {"at": bad.at}, "not a command"), ("clock", {"rate": 1e9}, "Range"), ("clock", {"rate": -1}, "Range"),
+                    ("clock", {"rate": "1"}, "Range"), ("clock", {"to": 36_001}, "Range"), ("clock", {"what": 1}, "not a command"),
+                    ("clock", 7, "not a command"), ("diagram", {"at": bad.at, "from": 0, "to": 4_000_000}, "Range"),
+                    ("diagram", {"at": bad.at, "from": 5, "to": 0}, "Range"), ("diagram", {"at": bad.at, "from": 0, "to": 5}, "NotSimulated"),
+                    ("diagram", {"at": bad.at, "from": 0, "to": 0, "every": 0}, "Range"),
+                    ("diagram", {"at": bad.at, "from": 0, "to": 0, "cells": [0, 120]}, "Range"),
+                    ("means", {"at": bad.at, "from": 0, "to": 70_000, "every": 9, "wide": 9}, "Range"),
+                    ("counts", {"at": bad.at, "from": 0, "to": 4_000_000, "each": 1}, "Range"),
+                    ("cells", {"at": bad.at, "step": 0, "x\n{\"crowd\":1}": "\n"}, "not a command"),
+                    ("cells", {"at": bad.at, "step": 1.5}, "not a command"), ("count", {"at": bad.at, "detector": 9, "from": 0, "to": 0}, "NoDetector"),
+                    ("gesture", {"at": bad.at, "edits": edits}, "not a command"), ("gesture", {"at": bad.at, "edits": edits, "key": ""}, "not a command"),
+                    ("gesture", {"at": bad.at, "edits": edits, "key": "k" * 41}, "not a command"),
+                    ("gesture", {"at": bad.at, "edits": edits, "key": "k", "stamp": [9, 65]}, "not a command"),
+                    ("gesture", {"at": bad.at, "edits": edits, "key": "k", "note": 7}, "not a command"),
+                    ("gesture", {"at": bad.at, "edits": edits, "key": "k", "shape": ["x"]}, "not a command"),
+                    ("undo", {"at": bad.at, "stamp": [1 << 49, 65], "key": "k"}, "not a command")):
+                said = await bad.reply(verb, **fields) if isinstance(fields, dict) else await self.other(bad, verb, fields)
+                self.assertEqual(said.get("refused"), refusal, (verb, fields, said))
+                self.assertGreater(len(said["why"]), 10)
+            for seat, at in ((bad, bad.at), (good, good.at), (bad, "shared")):
+                self.assertEqual((await seat.ask("scenario", at=at))["edits"], [])
+            self.assertEqual({kind for entry in self.a6.journal() for kind in entry} - {"left"}, {"lab", "seat"})
+
+    async def other(self, seat: Seat, verb: str, fields: Any) -> Any:
+        replies = await self.raw(self.hello("other"), json.dumps({"id": 9, verb: fields}))
+        return replies[1]
+
+
+class Neighbours(Case):
+    """A tab's gesture and rows beside one that floods, one that never reads, one that edits the first step."""
+
+    async def median(self, seat: Seat, count: int = 15) -> float:
+        took = []
+        for number in range(count):
+            began = time.perf_counter()
+            await seat.ask("gesture", key=f"{began}", edits=[["limit", 3, 150, number % 5]])
+            await seat.ask("diagram", **{"from": 140, "to": 200})
+            took.append(time.perf_counter() - began)
+        return statistics.median(took)
+
+    async def ready(self, server: Server, name: str) -> Seat:
+        seat = await self.enterAsyncContext(server.seat(name))
+        await seat.ask("advance", to=200)
+        return seat
+
+    async def test_nobody_waits_for_a_tab_that_floods_or_never_reads(self) -> None:
+        server = self.server()
+        good = await self.ready(server, "good")
+        alone = await self.median(good)
+        flood, deaf = await self.ready(server, "flood"), await self.ready(server, "deaf")
+        transport = deaf._socket._response.connection.transport
+        transport.pause_reading()
+
+        async def floods() -> None:
+            while True:
+                said = await asyncio.gather(*(flood.reply("scenario", at="shared") for _ in range(50)))
+                self.assertIn("busy", {one.get("refused") for one in said})
+
+        async def never_reads() -> None:
+            with self.assertRaises((ConnectionError, aiohttp.ClientError, asyncio.TimeoutError)):
+                for number in range(1_000_000):
+                    frame = json.dumps({"id": number, "diagram": {"at": deaf.at, "from": 0, "to": 200}})
+                    await asyncio.wait_for(deaf._socket.send_str(frame), 60)
+        tasks = [asyncio.create_task(floods()), asyncio.create_task(never_reads())]
+        await asyncio.sleep(0.5)
+        beside = await self.median(good)
+        self.assertFalse(tasks[0].done(), "the flood ended")
+        tasks[0].cancel()
+        # (How many times alone is measured by live/measure; here only that nobody waits without end.)
+        self.assertLess(beside, 10 * alone + 0.5)
+        await asyncio.wait_for(tasks[1], 60)  # the server lets it go
+        transport.resume_reading()
+        with self.assertRaises(ConnectionError):
+            await deaf.reply("ping")
+        await good.reply("ping")
+        self.assertLess(memory(server), 200)
+
+
+def memory(server: Server) -> float:
+    """Megabytes that the server has in memory."""
+    with open(f"/proc/{server.process.pid}/status", encoding="ascii") as file:
+        return int(next(line for line in file if line.startswith("VmRSS")).split()[1]) / 1_024

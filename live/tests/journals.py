@@ -1,0 +1,223 @@
+"""The journal: cuts, broken lines, a full disk, one server a folder, compaction."""
+from __future__ import annotations
+
+import asyncio
+import json
+import resource
+import subprocess
+import sys
+import unittest
+from typing import Any
+
+import running
+from client import Refused, Seat
+from journal import Broken, Journal, NotWritten, lock, read
+from running import LIVE, Case, Server
+from state import State
+
+GESTURES = [{"gesture": {"seat": 1, "key": f"k{count}", "stamp": [count, 65], "who": "Ada", "when": 1,
+                         "note": "Closed é €", "edits": [["block", 60, 20 * count, 1], ["block", 60, 20 * count + 9, 0]]}}
+            for count in range(1, 4)]
+
+
+def line_of(entry: dict[str, Any]) -> bytes:
+    return json.dumps(entry, ensure_ascii=False, separators=(",", ":")).encode() + b"\n"
+
+
+class Reading(unittest.TestCase):
+    def setUp(self) -> None:
+        self.path = running.new_folder() / "journal.jsonl"
+        self.lines = [line_of(entry) for entry in GESTURES]
+
+    def test_each_cut_of_the_last_two_lines_leaves_whole_lines(self) -> None:
+        """What was confirmed before the cut is there, and nothing else."""
+        data = b"".join(self.lines)
+        for cut in range(len(self.lines[0]), len(data) + 1):
+            self.path.write_bytes(data[:cut])
+            whole = sum(cut >= end for end in (len(self.lines[0]), len(data) - len(self.lines[2]), len(data)))
+            entries, size = read(self.path)
+            self.assertEqual(entries, GESTURES[:whole], cut)
+            self.assertEqual(size, sum(map(len, self.lines[:whole])), cut)
+
+    def test_a_broken_line_is_named(self) -> None:
+        for broken in (b"{\n", b"7\n", b'{"a":{},"b":{}}\n', b'{"gesture":[]}\n', b"\xff\n", b"[" * 3_000 + b"\n", b"\n"):
+            self.path.write_bytes(self.lines[0] + broken + self.lines[1])
+            with self.assertRaisesRegex(Broken, "line 2"):
+                read(self.path)
+
+    def test_a_folder_is_held_by_one(self) -> None:
+        with lock(self.path.parent), self.assertRaisesRegex(Broken, "another server"), lock(self.path.parent):
+            self.fail("held twice")
+        with lock(self.path.parent):
+            pass
+
+
+class Writing(unittest.IsolatedAsyncioTestCase):
+    def setUp(self) -> None:
+        self.path = running.new_folder() / "journal.jsonl"
+
+    async def test_an_entry_is_on_the_disk_when_it_is_confirmed(self) -> None:
+        journal = Journal(self.path, 0)
+        for count, entry in enumerate(GESTURES, 1):
+            await journal.write(entry)
+            self.assertEqual(read(self.path)[0], GESTURES[:count])
+
+    async def test_after_a_failed_write_all_that_wait_are_refused_and_it_is_cut_back(self) -> None:
+        journal = Journal(self.path, 0)
+        await journal.write(GESTURES[0])
+        old = resource.getrlimit(resource.RLIMIT_FSIZE)
+        resource.setrlimit(resource.RLIMIT_FSIZE, (journal.size + 20, old[1]))
+        try:
+            waiting = [journal.write(entry) for entry in GESTURES[1:]]
+            results = await asyncio.gather(*waiting, return_exceptions=True)
+        finally:
+            resource.setrlimit(resource.RLIMIT_FSIZE, old)
+        self.assertEqual([type(one) for one in results], [NotWritten] * 2)
+        self.assertEqual(self.path.read_bytes(), line_of(GESTURES[0]))
+        with self.assertRaises(NotWritten):  # what it stands on may not be there
+            await journal.write(GESTURES[1])
+        self.assertEqual(journal.mend(), GESTURES[:1])
+        await journal.write(GESTURES[2])
+        self.assertEqual(read(self.path)[0], [GESTURES[0], GESTURES[2]])
+
+    async def test_compaction_loses_nothing_that_is_written_meanwhile(self) -> None:
+        journal = Journal(self.path, 0)
+        await journal.write(GESTURES[0])
+        short = asyncio.ensure_future(journal.compact(lambda: [GESTURES[1]]))
+        await asyncio.sleep(0)
+        await journal.write(GESTURES[2])
+        await short
+        self.assertEqual(read(self.path)[0], GESTURES[1:])
+        self.assertEqual(journal.size, self.path.stat().st_size)
+
+
+def seen(state: State) -> Any:
+    """What a state says, in a form that can be compared."""
+    return (state.plan, state.site, state.folder, state.rate, state.now, sorted(one.stamp for one in state.unsent),
+            [(seat.name, seat.key, seat.count, seat.upto, dict(seat.done),
+              sorted((one.stamp, one.edits, one.who, one.note, one.undoes) for one in seat.gestures))
+             for seat in state.seats])
+
+
+class Folders(Case):
+    """Servers on folders that were killed, cut, filled."""
+
+    async def shared(self, seat: Seat, number: int) -> None:
+        await seat.ask("gesture", key=f"g{number}", edits=[["limit", number % 6, 10 + number, number % 5]])
+
+    async def test_twenty_cuts_by_a_server(self) -> None:
+        """A server starts from each, and has all lines that are whole."""
+        server = self.server()
+        async with server.seat() as seat:
+            for number in range(4):
+                await self.shared(seat, number)
+            key = seat.key
+        server.kill()
+        path = server.folder / "journal.jsonl"
+        data = path.read_bytes()
+        gestures = [at for at in range(len(data)) if data.startswith(b'{"gesture"', at)]
+        ends = [data.index(b"\n", at) + 1 for at in gestures]
+        for cut in range(gestures[-2], ends[-1] + 1, (ends[-1] - gestures[-2]) // 19):
+            path.write_bytes(data[:cut])
+            server.again()
+            async with server.seat(key=key) as seat:
+                held = (await seat.ask("gestures"))["gestures"]
+                self.assertEqual([one["stamp"][0] for one in held], list(range(1, 1 + sum(cut >= end for end in ends))))
+                await self.shared(seat, 9)
+                await seat.ask("undo", stamp=[len(held) + 1, 65], key="u")
+            server.kill()
+
+    async def test_a_broken_line_keeps_a_server_from_starting_and_is_named(self) -> None:
+        server = self.server()
+        server.kill()
+        path = server.folder / "journal.jsonl"
+        good = path.read_bytes()
+        for broken in (b"good morning\n", b'{"gesture":{"seat":99}}\n', b'{"what":{}}\n'):
+            path.write_bytes(good + broken + line_of({"clock": {"rate": 0, "now": 5}}))
+            with self.assertRaisesRegex(RuntimeError, "line 2"):
+                server.start()
+            self.assertEqual(path.read_bytes(), good + broken + line_of({"clock": {"rate": 0, "now": 5}}))
+
+    async def test_a_second_server_in_a_folder_says_so(self) -> None:
+        server = self.server()
+        ran = subprocess.run([sys.executable, LIVE / "serve", "--folder", server.folder, "--port", "0"],
+                             capture_output=True, text=True, timeout=running.PATIENCE, check=False)
+        self.assertEqual((ran.returncode, ran.stdout), (1, ""))
+        self.assertIn("another server runs in", ran.stderr)
+        self.assertNotIn("Traceback", ran.stderr)
+
+    async def test_a_full_disk_is_told_and_what_was_not_written_is_nowhere(self) -> None:
+        server = self.server()
+        async with server.seat() as ada, server.seat("Ben") as ben:
+            await ada.say("clock", to=100)
+            for seat in (ada, ben):
+                await seat.ask("advance", to=60)
+            await self.shared(ada, 1)
+            size = (server.folder / "journal.jsonl").stat().st_size
+            before = await ada.ask("diagram", **{"from": 0, "to": 60}), await ada.ask("scenario")
+            resource.prlimit(server.process.pid, resource.RLIMIT_FSIZE, (size + 30, resource.RLIM_INFINITY))
+            said = await asyncio.gather(*(seat.reply("gesture", at=seat.at, key=f"full {step}",
+                                                     edits=[["block", 60, step, 1], ["limit", 0, step, 0]])
+                                          for step in range(10, 13) for seat in (ada, ben)))
+            self.assertEqual({one.get("refused") for one in said}, {"not written"})
+            self.assertTrue(all("could not be kept" in one["why"] for one in said))
+            self.assertEqual((server.folder / "journal.jsonl").stat().st_size, size)
+            after = await ada.ask("diagram", **{"from": 0, "to": 60}), await ada.ask("scenario")
+            self.assertEqual([one["rows" if "rows" in one else "edits"] for one in before],
+                             [one["rows" if "rows" in one else "edits"] for one in after])
+            self.assertEqual((await ben.ask("scenario"))["edits"], [])
+            resource.prlimit(server.process.pid, resource.RLIMIT_FSIZE, (resource.RLIM_INFINITY, resource.RLIM_INFINITY))
+            self.assertEqual((await ada.ask("gesture", key="full 10", edits=[["block", 60, 10, 1]]))["stamp"], [2, 65])
+            troubles = [one["trouble"] for one in ada.told if "trouble" in one]
+            self.assertEqual([bool(one) for one in troubles][-2:], [True, False])
+            held = (await ada.ask("scenario"))["edits"]
+        server.again()
+        async with server.seat(key=ada.key) as ada:
+            self.assertEqual((await ada.ask("scenario"))["edits"], held)
+
+    async def test_a_long_journal_is_shortened_and_says_the_same(self) -> None:
+        server = self.server(LIVE_MOST_JOURNAL="6000", LIVE_DAY="4")
+        async with server.seat() as ada, server.seat("Ben") as ben:
+            path = server.folder / "journal.jsonl"
+            first = path.stat().st_ino
+            for number in range(30):
+                await self.shared(ada, number)
+                await self.shared(ben, number + 3)
+                if number % 10 == 5:
+                    await ada.ask("send", name="shared", title="so far")
+                    await ben.ask("take", message="shared")
+                    await ada.ask("undo", stamp=[number + 1, 65], key=f"u{number}")
+            for number in range(100, 400):
+                if path.stat().st_ino != first:
+                    break
+                await self.shared(ada, number)
+                await asyncio.sleep(0.1)
+            self.assertNotEqual(path.stat().st_ino, first, "it was never shortened")
+            await self.shared(ben, 77)
+            held = [await seat.ask("scenario", at=at) for seat, at in ((ada, ada.at), (ben, ben.at), (ada, "shared"))]
+            again = await ada.ask("gesture", key="g29", edits=[["limit", 0, 1, 1]])
+            self.assertTrue(again["again"])
+        server.again()
+        async with server.seat(key=ada.key) as ada, server.seat(key=ben.key) as ben:
+            now = [await seat.ask("scenario", at=at) for seat, at in ((ada, ada.at), (ben, ben.at), (ada, "shared"))]
+            self.assertEqual([one["edits"] for one in held], [one["edits"] for one in now])
+            self.assertEqual((await ada.ask("gesture", key="g29", edits=[["limit", 0, 1, 1]]))["stamp"], again["stamp"])
+
+    async def test_the_shortened_journal_gives_the_same_state(self) -> None:
+        server = self.server()
+        async with server.seat() as ada, server.seat("Ben") as ben:
+            for number in range(6):
+                await self.shared(ada, number)
+                await self.shared(ben, number + 1)
+            await ada.ask("send", name="shared", stamps=[[1, 65], [3, 65]])
+            await ben.ask("take", message="shared")
+            await ben.ask("undo", stamp=[1, 65], key="u")
+            await ben.ask("send", name="shared")
+            await ada.say("clock", rate=7)
+        server.kill()
+        first, second = State(), State()
+        for entry in server.journal():
+            first.apply(entry)
+        for entry in json.loads(json.dumps(list(first.entries()))):
+            second.apply(entry)
+        self.assertEqual(seen(first), seen(second))

@@ -1,0 +1,106 @@
+"""Rows, mean speeds, counts and what is saved, beside the same by plain questions."""
+from __future__ import annotations
+
+import csv
+import io
+import json
+import random
+import subprocess
+import unittest
+from typing import Any
+
+import rows
+import saving
+from program import LONG_ROAD, command_of
+from client import Refused
+from running import SMALL, Case, program
+
+LAST = 150
+
+
+def plain_mean(cells: str) -> str:
+    """The sign of a block, said as plainly as can be."""
+    speeds, is_closed = [int(cell) for cell in cells if cell.isdigit()], "#" in cells
+    if not speeds:
+        return "#" if is_closed else "."
+    return "!" if is_closed else rows.SIGNS.decode()[int(7 * sum(speeds) / len(speeds) + 0.5)]
+
+
+def plain_means(picture: list[str], every: int, wide: int) -> list[str]:
+    return ["".join(plain_mean("".join(row[left:left + wide] for row in picture[top:top + every]))
+                    for left in range(0, len(picture[0]), wide)) for top in range(0, len(picture), every)]
+
+
+class Means(unittest.TestCase):
+    def test_blocks_of_random_rows(self) -> None:
+        chance = random.Random(3)
+        for count, width, wide in ((1, 8, 3), (25, 50, 7), (26, 50, 50), (60, 33, 1), (7, 100, 99)):
+            picture = ["".join(chance.choice("..#012349" if chance.random() < 0.5 else ".") for _ in range(width)) for _ in range(count)]
+            self.assertEqual([rows.means([row.encode() for row in picture], wide).decode()], plain_means(picture, count, wide))
+        self.assertEqual(rows.means([b"9" * 40] * 300, 40), b"_")  # no sum is too great
+
+    def test_threads_are_for_long_roads(self) -> None:
+        self.assertEqual(command_of("p", {"length": LONG_ROAD - 1}), ["p"])
+        self.assertIn(command_of("p", {"length": LONG_ROAD})[1:2], ([], ["--workers"]))
+
+
+class Pictures(Case):
+    async def asyncSetUp(self) -> None:
+        self.a6 = self.server()
+        self.ada = await self.enterAsyncContext(self.a6.seat("Ada"))
+        await self.ada.say("clock", to=LAST)
+        await self.ada.ask("gesture", key="1", note="=1+1", edits=[["block", 60, 30, 1], ["block", 60, 80, 0], ["limit", 1, 40, 2]])
+        await self.ada.ask("advance", to=LAST)
+        self.picture = [(await self.ada.ask("cells", step=step))["cells"] for step in range(LAST + 1)]
+
+    async def diagram(self, **fields: Any) -> list[str]:
+        found: list[str] = (await self.ada.ask("diagram", **fields))["rows"]
+        return found
+
+    async def test_every_so_manieth_row_and_stretches(self) -> None:
+        self.assertEqual(await self.diagram(**{"from": 0, "to": LAST}), self.picture)
+        for every, first, last in ((2, 0, LAST), (3, 10, 99), (7, 5, 5), (8, 0, LAST), (100, 3, LAST)):
+            for left, right in ((0, 119), (50, 70), (119, 119)):
+                found = await self.diagram(**{"from": first, "to": last, "every": every, "cells": [left, right]})
+                self.assertEqual(found, [row[left:right + 1] for row in self.picture[first:last + 1:every]], (every, first))
+
+    async def test_mean_speeds(self) -> None:
+        for every, wide, first, last, left, right in ((10, 10, 0, 149, 0, 119), (7, 9, 3, 100, 50, 118), (151, 120, 0, 150, 0, 119)):
+            fields = {"from": first, "to": last, "every": every, "wide": wide, "cells": [left, right]}
+            cut = [row[left:right + 1] for row in self.picture[first:last + 1]]
+            self.assertEqual((await self.ada.ask("means", **fields))["means"], plain_means(cut, every, wide))
+
+    async def test_counts(self) -> None:
+        found = (await self.ada.ask("counts", **{"from": 10, "to": 130, "each": 50}))["counts"]
+        for span, (first, last) in zip(found, ((10, 60), (60, 110), (110, 130))):
+            for detector, pair in enumerate(span):
+                one = await self.ada.ask("count", detector=detector, **{"from": first, "to": last})
+                self.assertEqual(pair, [one["cars"], one["speeds"]])
+        whole = (await self.ada.ask("counts", **{"from": 10, "to": 130}))["counts"]
+        self.assertEqual(whole, [[sum(part) for part in zip(*pairs)] for pairs in zip(*found)])
+
+    async def test_a_transcript_is_run_again_by_the_program(self) -> None:
+        text, piece = "", 0
+        while piece is not None:
+            said = await self.ada.ask("transcript", **{"from": 20, "to": LAST, "next": piece})
+            text, piece = text + said["lines"], said["next"]
+        lines = text.splitlines()
+        ran = subprocess.run([program()], input="\n".join(lines[::2]) + "\n", capture_output=True, text=True, check=True)
+        self.assertEqual(ran.stdout.splitlines(), lines[1::2])
+        shown = [row for line in lines[1::2] for row in json.loads(line).get("rows", [])]
+        self.assertEqual(shown, self.picture[20:])
+
+    async def test_tables(self) -> None:
+        table = list(csv.reader(io.StringIO((await self.ada.ask("csv", what="counts", each=50, **{"from": 0, "to": 100}))["csv"])))
+        counts = (await self.ada.ask("counts", **{"from": 0, "to": 100, "each": 50}))["counts"]
+        self.assertEqual(table[0], ["from", "to", "detector", "cell", "cars", "speeds"])
+        self.assertEqual(table[1:], [[str(cell) for cell in (50 * span, 50 * span + 50, detector, SMALL["detectors"][detector], *pair)]
+                                     for span, pairs in enumerate(counts) for detector, pair in enumerate(pairs)])
+        table = list(csv.reader(io.StringIO((await self.ada.ask("csv", what="changes"))["csv"])))
+        self.assertEqual(table[1][:4], ["1", "65", "Ada", "'=1+1"])
+        self.assertEqual(table[1][5:], ["False", "3", "30", "80"])
+        for text in ("=a", "+a", "-a", "@a", " =a", "\t=a"):
+            self.assertEqual(saving.harmless(text), "'" + text)
+        self.assertEqual([saving.harmless(cell) for cell in ("a=", 7, "")], ["a=", 7, ""])
+        with self.assertRaises(Refused):
+            await self.ada.ask("csv", what="all")

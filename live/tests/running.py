@@ -1,0 +1,197 @@
+"""Servers, brokers and tabs for the tests, which end with them whatever happens."""
+from __future__ import annotations
+
+import atexit
+import contextlib
+import ctypes
+import json
+import logging
+import os
+import shutil
+import signal
+import subprocess
+import sys
+import tempfile
+import time
+import unittest
+from pathlib import Path
+from typing import Any, Iterator
+
+from client import Seat
+from road_lab import program_path
+
+LIVE = Path(__file__).resolve().parent.parent
+PATIENCE = 60.0
+SMALL: dict[str, Any] = {
+    "length": 120, "exit": 1, "zone": 20, "zones": [[5, 6_554]] * 6, "inlets": [[0, 27_918], [40, 9_000]],
+    "detectors": [30, 70, 110], "words": 1, "replicas": ["road"]}
+STARTED: list[subprocess.Popen[Any]] = []
+FOLDERS: list[Path] = []
+logging.getLogger("asyncio").setLevel(logging.ERROR)  # it warns where the machine is slow
+DIES_WITH_PARENT = 1  # PR_SET_PDEATHSIG
+
+
+def dies_with_us() -> None:
+    ctypes.CDLL(None).prctl(DIES_WITH_PARENT, signal.SIGKILL)
+
+
+def started(command: list[str], **more: Any) -> subprocess.Popen[Any]:
+    process = subprocess.Popen(command, preexec_fn=dies_with_us, **more)
+    STARTED.append(process)
+    return process
+
+
+def end(process: subprocess.Popen[Any]) -> None:
+    if process.poll() is None:
+        process.kill()
+    process.wait()
+    for stream in (process.stdin, process.stdout, process.stderr):
+        if stream is not None:
+            stream.close()
+
+
+@atexit.register
+def end_all() -> None:
+    """Ends what was started, and takes the folders away."""
+    for process in STARTED:
+        end(process)
+    STARTED.clear()
+    for folder in FOLDERS:
+        shutil.rmtree(folder, ignore_errors=True)
+    FOLDERS.clear()
+
+
+signal.signal(signal.SIGTERM, lambda *_: sys.exit(1))  # so that all this is done then, too
+
+
+def new_folder() -> Path:
+    FOLDERS.append(Path(tempfile.mkdtemp(prefix="live-test-")))
+    return FOLDERS[-1]
+
+
+class Server:
+    """A server in a folder, at a port of its own."""
+
+    def __init__(self, folder: Path | None = None, plan: dict[str, Any] | None = None, *more: str, **environment: str):
+        self.folder = folder or new_folder()
+        self.arguments, self.environment = list(more), environment
+        self.log = self.folder / "server.log"
+        (self.folder / "plan.json").write_text(json.dumps(plan or SMALL))
+        self.start()
+
+    def start(self) -> None:
+        """Starts it, and waits until it answers."""
+        with open(self.log, "ab") as log:
+            self.process = started(
+                [sys.executable, str(LIVE / "serve"), "--folder", str(self.folder), "--port", "0", *self.arguments,
+                 str(self.folder / "plan.json")], stdout=subprocess.PIPE, stderr=log, text=True,
+                env={**os.environ, **self.environment})
+        assert self.process.stdout is not None
+        self.address = self.process.stdout.readline().strip()
+        if not self.address:
+            self.process.wait()
+            raise RuntimeError(f"no server: {self.said()}")
+
+    def said(self) -> str:
+        return self.log.read_text()
+
+    def kill(self) -> None:
+        self.process.send_signal(signal.SIGKILL)
+        end(self.process)
+
+    def stop(self) -> int:
+        """Ends it as by Ctrl-C."""
+        self.process.send_signal(signal.SIGINT)
+        return self.process.wait(PATIENCE)
+
+    def again(self) -> None:
+        """After a kill: the same command."""
+        self.kill()
+        self.start()
+
+    @property
+    def program(self) -> int:
+        """The process of the program behind it."""
+        path = Path(f"/proc/{self.process.pid}/task/{self.process.pid}/children")
+        return int(path.read_text().split()[0])
+
+    def journal(self) -> list[dict[str, Any]]:
+        return [json.loads(line) for line in (self.folder / "journal.jsonl").read_bytes().splitlines()]
+
+    def seat(self, name: str = "Ada", **hello: Any) -> Seat:
+        return Seat(self.address, **(hello or {"name": name}))
+
+
+class Broker:
+    """A mosquitto at a port that stays the same."""
+
+    def __init__(self, keeps: bool = True) -> None:
+        self.folder = new_folder()
+        self.port = free_port()
+        kept = self.folder / "kept"
+        kept.mkdir()
+        lines = [f"listener {self.port} 127.0.0.1", "allow_anonymous true", f"persistence {str(keeps).lower()}",
+                 f"persistence_location {kept}/", "max_queued_messages 10000"]
+        lines += ["user root"] if os.geteuid() == 0 else []
+        (self.folder / "conf").write_text("\n".join(lines) + "\n")
+        self.start()
+
+    def start(self) -> None:
+        self.process = started([mosquitto(), "-c", str(self.folder / "conf")], stdout=subprocess.DEVNULL,
+                               stderr=subprocess.DEVNULL)
+        until = time.monotonic() + PATIENCE
+        while time.monotonic() < until:
+            with contextlib.suppress(OSError), socket_to(self.port):
+                return
+            time.sleep(0.02)
+        raise RuntimeError("no broker")
+
+    def kill(self, by: int = signal.SIGKILL) -> None:
+        self.process.send_signal(by)
+        self.process.wait()
+
+    @property
+    def address(self) -> str:
+        return f"127.0.0.1:{self.port}"
+
+    def say(self, topic: str, message: str) -> None:
+        """Publishes as somebody else would."""
+        subprocess.run(["mosquitto_pub", "-h", "127.0.0.1", "-p", str(self.port), "-q", "1", "-t", topic,
+                        *(["-s"] if message else ["-n"])], input=message.encode(), check=True, timeout=PATIENCE)
+
+
+def mosquitto() -> str:
+    return shutil.which("mosquitto") or "/usr/sbin/mosquitto"
+
+
+@contextlib.contextmanager
+def socket_to(port: int) -> Iterator[None]:
+    import socket
+    with socket.create_connection(("127.0.0.1", port), 1):
+        yield
+
+
+def free_port() -> int:
+    import socket
+    with socket.socket() as one:
+        one.bind(("127.0.0.1", 0))
+        return int(one.getsockname()[1])
+
+
+class Case(unittest.IsolatedAsyncioTestCase):
+    """A test with servers."""
+
+    def server(self, *more: str, plan: dict[str, Any] | None = None, **environment: str) -> Server:
+        server = Server(None, plan, *more, **environment)
+        self.addCleanup(end, server.process)
+        self.addCleanup(lambda: end(server.process))  # the one that runs at last
+        return server
+
+    def broker(self, keeps: bool = True) -> Broker:
+        broker = Broker(keeps)
+        self.addCleanup(lambda: end(broker.process))
+        return broker
+
+
+def program() -> Path:
+    return program_path()
