@@ -388,6 +388,7 @@ function listen() {
   on("hour", "click", () => live.ask({clock: {to: live.now() + HOUR}}));
   on("shareAll", "click", () => openBefore("share", unshared()));
   on("saveTranscript", "click", saveTranscript);
+  on("saveScript", "click", saveScript);
   on("saveCounts", "click", saveCounts);
   on("saveChanges", "click", saveChanges);
   on("asTable", "toggle", () => { if (live.plan) showFigures(); });

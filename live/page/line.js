@@ -8,6 +8,11 @@ const CLOSED_FOR_GOOD = [1008, 4000];
 
 class Away extends Error {}
 
+/** A frame's value; a plan's seed has up to 64 bits, more than a number of JavaScript, and is kept as
+    text. */
+const parsed = (text) => JSON.parse(text.startsWith('{"id":') && text.includes('"welcome"')
+  ? text.replace(/"words":(\d+)/, '"words":"$1"') : text);
+
 class Line {
   /** Calls `greet` when the line stands, `hear` with what is told, `lost` when it breaks. */
   constructor({greet, hear, lost}) {
@@ -19,7 +24,7 @@ class Line {
   connect() {
     this.socket = new WebSocket(location.origin.replace(/^http/, "ws") + "/live");
     this.socket.onopen = () => this.greet();
-    this.socket.onmessage = ({data}) => this.take(JSON.parse(data));
+    this.socket.onmessage = ({data}) => this.take(parsed(data));
     this.socket.onclose = ({code, reason}) => this.broke(code, reason);
   }
 

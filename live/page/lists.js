@@ -201,19 +201,26 @@ async function showPreview(place, gestures) {
   place.replaceChildren(said.refused ? element("p", said.why ?? said.refused) : previewTable(said));
 }
 
-function previewTable({before, after, from, to}) {
-  const number = (value, digits) => value.toLocaleString("en",
-    {minimumFractionDigits: digits, maximumFractionDigits: digits});
-  const line = (name, one, other, digits) => row(headCell(name, "row"), element("td", number(one, digits)),
-    element("td", number(other, digits)), element("td", signedText(other - one, digits)));
+/** The table of a preview: flows at detectors and inlets before and after, and what the change costs
+    in vehicle hours, beside the demand that would be lost. */
+function previewTable({before, after, from, to, delay}) {
+  const line = (name, one, other) => row(headCell(name, "row"), element("td", whole(one)),
+    element("td", whole(other)), element("td", signedText(other - one)));
   const perHour = ([cars]) => cars * HOUR / Math.max(1, to - from);
   const detectors = live.plan.detectors.map((cell, index) => line(`Cars an hour at ${kmText(cell)} km`,
-    perHour(before.detectors[index]), perHour(after.detectors[index]), 0));
-  const sums = [["vehicle_hours", "Vehicle hours", 1], ["lost_demand", "Lost demand, cars", 0],
-                ["delay_hours", "Delay, vehicle hours", 1]]
-    .filter(([name]) => typeof before[name] === "number" && typeof after[name] === "number")
-    .map(([name, text, digits]) => line(text, before[name], after[name], digits));
-  return element("table", "", {}, element("caption", `${timeText(from)} to ${timeText(to)}`),
+    perHour(before.detectors[index]), perHour(after.detectors[index])));
+  const inlets = Object.entries(delay?.inlets ?? {}).map(([index, [one, other]]) =>
+    line(`Cars let in at ${kmText(live.plan.inlets[index][0])} km`, one, other));
+  const change = (name, text) => row(headCell(name, "row"), element("td"), element("td"), element("td", text));
+  const costs = delay ? [
+    change("Vehicle hours", signedText(delay.total / HOUR, 1)),
+    change("Cars that would not enter (lost demand)", whole(delay.lost.cars)),
+    change(`Delay of the ${plural(delay.through.cars, "car")} that get through in both, vehicle hours`,
+           signedText(delay.through.delay / HOUR, 1)),
+  ] : [];
+  return element("div", "", {}, element("table", "", {}, element("caption", `${timeText(from)} to ${timeText(to)}`),
     element("thead", "", {}, row(element("td"), headCell("now"), headCell("then"), headCell("change"))),
-    element("tbody", "", {}, ...sums, ...detectors));
+    element("tbody", "", {}, ...costs, ...inlets, ...detectors)),
+    element("p", delay ? "A car that does not enter spends no vehicle hours: read these with the lost demand."
+      : "The run is too long for vehicle hours: show a shorter time.", {className: "hint"}));
 }
