@@ -78,10 +78,14 @@ class Scenario {
     return this.all(kind, index).find((one) => one.step === step);
   }
 
+  /** The number that is put for an object at a step; null where none is. */
+  putAt(kind, index, step) {
+    return this.puts(kind, index).findLast((one) => one.step <= step)?.value ?? null;
+  }
+
   /** The value that an object has at a step; null where nobody says. */
   valueAt(kind, index, step) {
-    const put = this.puts(kind, index).findLast((one) => one.step <= step);
-    return put ? put.value : planned(this.plan, kind, index);
+    return this.putAt(kind, index, step) ?? planned(this.plan, kind, index);
   }
 }
 

@@ -22,7 +22,7 @@ function touchedBy(before, after) {
     const [kind, index] = [object.split(",")[0], Number(object.split(",")[1])];
     const steps = new Set([...before.all(kind, index), ...after.all(kind, index)].map(({step}) => step));
     for (const step of steps) {
-      const same = before.valueAt(kind, index, step) === after.valueAt(kind, index, step);
+      const same = before.putAt(kind, index, step) === after.putAt(kind, index, step);
       if (!same && (least === null || step < least)) least = step;
     }
   }
