@@ -70,7 +70,7 @@ const live = {
   },
 
   withdraw(gesture) {
-    const note = (TAKEN_BACK + noteOf(gesture)).slice(0, 200);
+    const note = `Withdrew: ${noteOf(gesture)}`.slice(0, 200);
     act({undo: {stamp: gesture.stamp, note}}, {note, first: Math.min(...gesture.edits.map((edit) => edit[2]))});
   },
 
@@ -303,8 +303,9 @@ function showLine(text, away) {
   $("line").className = away ? "away" : "";
 }
 
-function lost(again, reason) {
+function lost(again, reason, code) {
   asking = 0;
+  if (code === TAKEN_OVER) sessionStorage.removeItem("key");
   for (const road of [live.mine, live.shared]) if (road) road.advancing = false;
   const text = again ? "connection lost, trying again" : reason || "connection closed";
   showLine(text, true);

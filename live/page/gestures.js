@@ -1,7 +1,8 @@
 "use strict";
 // Gestures and what they put. A gesture has one stamp [count, number], an author and edits
 // [kind, index, step, value]; most have a shape [kind, first, last, from, to, value] too: the
-// objects first to last have the value from one step to another (to null: from there on).
+// objects first to last have the value from one step to another (to null: from there on). One that
+// takes another back has that one's stamp as undoes.
 // An edit acts until the next one of its object does, so a shape is more than its first edits.
 
 const MOST_EDITS = 1200;        // of a gesture
@@ -175,10 +176,8 @@ function restoresShared(scenario, common, gesture) {
 function isSeen(scenario, common, gesture) {
   if (standing(scenario, gesture).replaced) return false;
   if (!gesture.shared) return !restoresShared(scenario, common, gesture);
-  return gesture.edits.some(([, , , value]) => value !== null) && !gesture.note.startsWith(TAKEN_BACK);
+  return !gesture.undoes && gesture.edits.some(([, , , value]) => value !== null);
 }
-
-const TAKEN_BACK = "Withdrew: ";
 
 /** Why one stamp wins over another, in a sentence. */
 function whyGreater(winner, loser) {

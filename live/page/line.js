@@ -4,14 +4,10 @@
 const MOST_OPEN = 6;            // the server refuses a ninth question that waits
 const FIRST_WAIT = 200;         // milliseconds before the line is tried again, doubled up to the last
 const LAST_WAIT = 5000;
-const CLOSED_FOR_GOOD = [1008, 4000];
+const TAKEN_OVER = 4001;        // somebody took the seat over
+const CLOSED_FOR_GOOD = [1008, 4000, TAKEN_OVER];
 
 class Away extends Error {}
-
-/** A frame's value; a plan's seed has up to 64 bits, more than a number of JavaScript, and is kept as
-    text. */
-const parsed = (text) => JSON.parse(text.startsWith('{"id":') && text.includes('"welcome"')
-  ? text.replace(/"words":(\d+)/, '"words":"$1"') : text);
 
 class Line {
   /** Calls `greet` when the line stands, `hear` with what is told, `lost` when it breaks. */
@@ -24,7 +20,7 @@ class Line {
   connect() {
     this.socket = new WebSocket(location.origin.replace(/^http/, "ws") + "/live");
     this.socket.onopen = () => this.greet();
-    this.socket.onmessage = ({data}) => this.take(parsed(data));
+    this.socket.onmessage = ({data}) => this.take(JSON.parse(data));
     this.socket.onclose = ({code, reason}) => this.broke(code, reason);
   }
 
@@ -66,7 +62,7 @@ class Line {
     this.queue = [];
     for (const {fail} of asked) fail(new Away("the line broke"));
     const again = !CLOSED_FOR_GOOD.includes(code);
-    this.lost(again, reason);
+    this.lost(again, reason, code);
     if (again) setTimeout(() => this.connect(), Math.min(LAST_WAIT, FIRST_WAIT * 2 ** this.tries++));
   }
 }

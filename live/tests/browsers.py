@@ -7,14 +7,14 @@ from __future__ import annotations
 import json
 import os
 import shutil
-import signal
 import subprocess
-import sys
 import tempfile
 import time
 import unittest
 from pathlib import Path
+from typing import Any, Callable
 
+from running import Server, free_port, program
 from selenium import webdriver
 from selenium.webdriver.chrome.service import Service
 from selenium.webdriver.common.action_chains import ActionChains
@@ -43,46 +43,17 @@ def example_rows(which: int) -> list[str]:
         return [reply["rows"] for reply in map(json.loads, replies) if "rows" in reply][which]
 
 
-class Server:
-    """live/serve in a folder of its own, on a port of its own."""
-
-    def __init__(self, plan: dict) -> None:
-        self.folder = Path(tempfile.mkdtemp(prefix="live-browsers-"))
-        self.plan = self.folder / "plan.json"
-        self.plan.write_text(json.dumps(plan), encoding="utf-8")
-        self.port, self.process, self.address = 0, None, ""
-
-    def start(self) -> None:
-        program = ["--program", os.environ["ROAD_LAB"]] if os.environ.get("ROAD_LAB") else []
-        self.process = subprocess.Popen(
-            [sys.executable, str(LIVE / "serve"), "--folder", str(self.folder / "road"), "--port", str(self.port),
-             *program, str(self.plan)], stdout=subprocess.PIPE, text=True, start_new_session=True)
-        self.address = self.process.stdout.readline().strip()
-        assert self.address.startswith("http"), f"the server did not start: {self.address}"
-        self.port = int(self.address.split("#")[0].rstrip("/").rsplit(":", 1)[1])
-
-    def kill(self) -> None:
-        """Ends it and all that it started, at once."""
-        if self.process is not None:
-            try:
-                os.killpg(self.process.pid, signal.SIGKILL)
-            except ProcessLookupError:
-                pass
-            self.process.wait()
-            self.process.stdout.close()
-            self.process = None
-
-    def close(self) -> None:
-        self.kill()
-        shutil.rmtree(self.folder, ignore_errors=True)
-
-    def gestures(self) -> list[dict]:
-        """The gestures in its journal, in their order."""
-        lines = (self.folder / "road" / "journal.jsonl").read_text(encoding="utf-8").splitlines()
-        return [entry["gesture"] for entry in map(json.loads, lines) if "gesture" in entry]
+def free_server(plan: dict[str, Any]) -> Server:
+    """A server at a port that stays the same when it is started again."""
+    return Server(None, plan, "--port", str(free_port()))
 
 
-def edits_of(gesture: dict) -> list[list]:
+def gestures_of(server: Server) -> list[dict[str, Any]]:
+    """The gestures in its journal, in their order."""
+    return [entry["gesture"] for entry in server.journal() if "gesture" in entry]
+
+
+def edits_of(gesture: dict[str, Any]) -> list[list[Any]]:
     """Its edits as [kind, index, step, value]."""
     return [[*edit[:3], edit[-1]] for edit in gesture["edits"]]
 
@@ -110,16 +81,16 @@ class Tab:
 
     # What there is
 
-    def script(self, text: str, *words):
+    def script(self, text: str, *words: Any) -> Any:
         return self.driver.execute_script(text, *words)
 
-    def part(self, ident: str):
+    def part(self, ident: str) -> Any:
         return self.driver.find_element(By.ID, ident)
 
     def text(self, ident: str) -> str:
         return " ".join(self.part(ident).get_attribute("textContent").split())
 
-    def until(self, holds, what: str) -> None:
+    def until(self, holds: Callable[[], Any], what: str) -> None:
         """Waits until something holds."""
         end = time.monotonic() + PATIENCE
         while time.monotonic() < end:
@@ -259,11 +230,10 @@ class BrowserCase(unittest.TestCase):
             cls.tabs.append(Tab(cls.downloads))
             cls.addClassCleanup(cls.tabs[-1].driver.quit)
 
-    def open(self, plan: dict, names: tuple[str, ...] | None = None) -> list[Tab]:
+    def open(self, plan: dict[str, Any], names: tuple[str, ...] | None = None) -> list[Tab]:
         """A server with this plan, and a tab for each name."""
-        self.server = Server(plan)
-        self.addCleanup(self.server.close)
-        self.server.start()
+        self.server = free_server(plan)
+        self.addCleanup(self.server.kill)
         return [tab.join(self.server, name) for tab, name in zip(self.tabs, names or self.names)]
 
     def tearDown(self) -> None:
@@ -289,7 +259,7 @@ class OnePicture(BrowserCase):
 
     def test_a_drag_closes_a_cell_in_the_past(self) -> None:
         tab = self.closed_by_a_drag()
-        self.assertEqual(edits_of(self.server.gestures()[0]), [["block", 24, 12, 1], ["block", 24, 24, 0]])
+        self.assertEqual(edits_of(gestures_of(self.server)[0]), [["block", 24, 12, 1], ["block", 24, 24, 0]])
         tab.tool("look")
         tab.script("live.held.frames = []; draw()")  # the frame lies over the pixels of its edges
         tab.settled()
@@ -306,7 +276,7 @@ class OnePicture(BrowserCase):
         tab = self.closed_by_a_drag()
         tab.tool("look")
         tab.drag((24.5, 24), (24.5, 30.1))
-        first, second = self.server.gestures()
+        first, second = gestures_of(self.server)
         self.assertEqual(len(first["edits"]), 2)
         self.assertEqual(sorted(edits_of(second), key=str),
                          sorted([["block", 24, 12, 1], ["block", 24, 24, None], ["block", 24, 30, 0]], key=str))
@@ -366,7 +336,7 @@ class OneFreeway(BrowserCase):
         tab.tool("watch")
         Select(tab.part("site")).select_by_value("2")
         tab.in_figures(timeFrom="0:30", timeTo="0:40")
-        gestures = self.server.gestures()
+        gestures = gestures_of(self.server)
         # The demand by README's table for p = 0.1: 0.588 of 65,536; the plan's p is 6,554 of 65,536.
         demand = edits_of(gestures[1])[0]
         self.assertAlmostEqual(demand[3], 38535, delta=2)
@@ -390,7 +360,7 @@ class OneFreeway(BrowserCase):
             Select(tab.part("limit")).select_by_value(limit)
             tab.in_figures(kmFrom="0", kmTo="0.3", timeFrom=begin, timeTo=end)
         # The later one has all of its rectangle: the end of the earlier one is withdrawn, and comes back as its own.
-        self.assertEqual(edits_of(self.server.gestures()[1]),
+        self.assertEqual(edits_of(gestures_of(self.server)[1]),
                          [["limit", 0, 1200, 3], ["limit", 0, 1800, None], ["limit", 0, 2400, 5]])
 
     def test_wrong_figures_are_told_and_change_nothing(self) -> None:
@@ -405,7 +375,7 @@ class OneFreeway(BrowserCase):
         tab.tool("inflow")
         tab.in_figures(demand="1710", timeFrom="0:05", timeTo="0:10")
         self.assertEqual(tab.text("said"), "This inlet lets in 0 to 1,703 cars an hour, at a slowing chance of 10 %.")
-        self.assertEqual(self.server.gestures(), [])
+        self.assertEqual(gestures_of(self.server), [])
 
     def test_too_great_a_closure_is_refused_before_it_is_let_go(self) -> None:
         tab, = self.open(FREEWAY)
@@ -415,7 +385,7 @@ class OneFreeway(BrowserCase):
         # 1,200 edits are two for each of 600 cells, 4.5 km.
         self.assertIn("at most 1,200. At most 4.5 km at once.", tab.text("said"))
         tab.drop()
-        self.assertEqual(self.server.gestures(), [])
+        self.assertEqual(gestures_of(self.server), [])
 
     def test_a_look_ahead_is_private(self) -> None:
         tab, = self.open(FREEWAY)
@@ -484,10 +454,7 @@ class OneFreeway(BrowserCase):
         tab.until(transcript.exists, "the transcript")
         tab.press("Script")
         tab.until(script.exists, "the script")
-        sys.path.append(str(TOP / "recipes" / "python"))
-        from road_lab import program_path
-        program = os.environ.get("ROAD_LAB") or program_path()
-        ran = subprocess.run([program], input=script.read_bytes(), stdout=subprocess.PIPE, check=True)
+        ran = subprocess.run([program()], input=script.read_bytes(), stdout=subprocess.PIPE, check=True)
         lines = transcript.read_text(encoding="utf-8").splitlines()
         self.assertEqual(lines[0::2], script.read_text(encoding="utf-8").splitlines())
         self.assertEqual(lines[1::2], ran.stdout.decode().splitlines())
@@ -652,7 +619,7 @@ class TwoTabs(BrowserCase):
         ada.settled()
         self.assertEqual(ada.lines("own"), ["30 km/h, 0–0.3 km, 0:20:00–0:30:00 private"])
         self.assertEqual(ada.lines("lost"), [])
-        again = self.server.gestures()[-1]
+        again = gestures_of(self.server)[-1]
         self.assertEqual(again["stamp"][0] if "stamp" in again else again["edits"][0][3], 2)
         ada.press("Share all")
         self.assertIn("Ben: 50 km/h, 0–0.3 km, 0:20:00–0:40:00 – 1 of 2 edits lost to you: 30 km/h", ada.text("beforeBody"))
@@ -739,7 +706,7 @@ class TwoTabs(BrowserCase):
         ada.until(lambda: ada.lines("own") == ["50 km/h, 0–0.3 km, from 0:20:00 on pending"], "pending")
         self.server.start()
         ada.until(lambda: ada.lines("own") == ["50 km/h, 0–0.3 km, from 0:20:00 on private"], "confirmed")
-        self.assertEqual(len(self.server.gestures()), 1)
+        self.assertEqual(len(gestures_of(self.server)), 1)
 
 
 class ThreeTabs(BrowserCase):
@@ -766,7 +733,7 @@ class ThreeTabs(BrowserCase):
                            "[one.step, one.value, ...one.gesture.stamp])]).sort()") for tab in tabs]
         self.assertEqual(held[0], held[1])
         self.assertEqual(held[0], held[2])
-        self.assertEqual(len(self.server.gestures()), 3)
+        self.assertEqual(len(gestures_of(self.server)), 3)
         rows = [tab.script("return live.mine.level(everyShown()).rows.filter(Boolean)") for tab in tabs]
         self.assertEqual(rows[0], rows[1])
         self.assertEqual(rows[0], rows[2])
