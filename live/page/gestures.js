@@ -1,0 +1,254 @@
+"use strict";
+// Gestures and what they put. A gesture has one stamp [count, number], an author and edits
+// [kind, index, step, value]; most have a shape [kind, first, last, from, to, value] too: the
+// objects first to last have the value from one step to another (to null: from there on). One that
+// takes another back has that one's stamp as undoes.
+// An edit acts until the next one of its object does, so a shape is more than its first edits.
+
+const MOST_EDITS = 1200;        // of a gesture
+
+const byStamp = ([count, number], [otherCount, otherNumber]) =>
+  count - otherCount || number - otherNumber;
+const sameStamp = (one, other) => byStamp(one, other) === 0;
+const keyOf = (stamp) => stamp.join();
+
+/** What an object is by the plan alone; null where the plan says nothing (slow to start). */
+function planned(plan, kind, index) {
+  return {limit: () => plan.zones[index][0], slow: () => plan.zones[index][1], block: () => 0,
+          inflow: () => plan.inlets[index][1], watch: () => 1, start: () => null}[kind]();
+}
+
+const OF_ZONES = ["limit", "slow", "start"];
+
+/** The cells of the objects first to last of a kind, the end excluded. */
+function cellsOf(plan, kind, first, last) {
+  if (OF_ZONES.includes(kind)) {
+    return [first * plan.zone, Math.min(plan.length, (last + 1) * plan.zone)];
+  }
+  if (kind === "block") return [first, last + 1];
+  const cell = kind === "inflow" ? plan.inlets[first][0] : plan.detectors[first];
+  return [cell, cell + 1];
+}
+
+function nearest(places, cell) {
+  const far = places.map((place) => Math.abs(place - cell));
+  return far.indexOf(Math.min(...far));
+}
+
+/** The first and last object of a kind in a stretch of cells; of inlets and detectors the one
+    nearest to its beginning. */
+function objectsIn(plan, kind, [from, to], begun = from) {
+  if (OF_ZONES.includes(kind)) {
+    return [Math.floor(from / plan.zone), Math.ceil(Math.max(from + 1, to) / plan.zone) - 1];
+  }
+  if (kind === "block") return [from, Math.max(from, to - 1)];
+  const places = kind === "inflow" ? plan.inlets.map(([cell]) => cell) : plan.detectors;
+  const index = nearest(places, begun);
+  return [index, index];
+}
+
+/** What some gestures put, by object: for each step the gesture that wins. */
+class Scenario {
+  constructor(plan, gestures) {
+    this.plan = plan;
+    this.objects = new Map();
+    for (const gesture of gestures) for (const edit of gesture.edits) this.put(gesture, edit);
+    for (const list of this.objects.values()) list.sort((one, other) => one.step - other.step);
+  }
+
+  put(gesture, [kind, index, step, value]) {
+    const object = `${kind},${index}`;
+    if (!this.objects.has(object)) this.objects.set(object, []);
+    const list = this.objects.get(object);
+    const there = list.find((one) => one.step === step);
+    if (!there) list.push({step, value, gesture});
+    else if (byStamp(there.gesture.stamp, gesture.stamp) < 0) Object.assign(there, {value, gesture});
+  }
+
+  /** All that is put for an object, withdrawals too, by rising steps: {step, value, gesture}. */
+  all(kind, index) {
+    return this.objects.get(`${kind},${index}`) ?? [];
+  }
+
+  /** What acts on an object, by rising steps. */
+  puts(kind, index) {
+    return this.all(kind, index).filter(({value}) => value !== null);
+  }
+
+  winner(kind, index, step) {
+    return this.all(kind, index).find((one) => one.step === step);
+  }
+
+  /** The number that is put for an object at a step; null where none is. */
+  putAt(kind, index, step) {
+    return this.puts(kind, index).findLast((one) => one.step <= step)?.value ?? null;
+  }
+
+  /** The value that an object has at a step; null where nobody says. */
+  valueAt(kind, index, step) {
+    return this.putAt(kind, index, step) ?? planned(this.plan, kind, index);
+  }
+}
+
+/** The edits by which an object has a shape's value, and at its end what it had there. */
+function editsOfObject(scenario, kind, index, [from, to, value]) {
+  const edits = [[kind, index, from, value]];
+  if (to === null) return edits;
+  const puts = scenario.puts(kind, index);
+  for (const {step} of puts) if (step > from && step < to) edits.push([kind, index, step, null]);
+  const then = puts.findLast(({step}) => step <= to);
+  if (then?.step === to) return edits;
+  // Where nothing was put for cars that start, a withdrawal does not reach behind the shape: the
+  // zone's slowing chance of that step is written instead.
+  const before = then ? then.value : planned(scenario.plan, kind, index)
+    ?? scenario.valueAt("slow", index, to);
+  return [...edits, [kind, index, to, before]];
+}
+
+/** The edits of a shape, given what else is put. */
+function editsOfShape(scenario, [kind, first, last, ...rest]) {
+  const edits = [];
+  for (let index = first; index <= last; index++) {
+    edits.push(...editsOfObject(scenario, kind, index, rest));
+  }
+  return edits;
+}
+
+/** The edits that put a shape in the place of an older gesture, as one gesture. */
+function editsInPlaceOf(plan, held, old, shape) {
+  const rest = new Scenario(plan, held.filter(({stamp}) => !sameStamp(stamp, old.stamp)));
+  const edits = new Map();
+  for (const [kind, index, step] of old.edits) {
+    const other = rest.winner(kind, index, step);
+    edits.set([kind, index, step].join(), [kind, index, step, other ? other.value : null]);
+  }
+  for (const edit of editsOfShape(rest, shape)) edits.set(edit.slice(0, 3).join(), edit);
+  return [...edits.values()];
+}
+
+/** The greatest number of objects of which each has so many edits. */
+const mostObjects = (edits, objects) => Math.floor(MOST_EDITS / Math.max(1, edits / objects));
+
+/** The earliest place at which somebody else's put cuts a shape short that began: {step, by}, or
+    null. */
+function cutOf(scenario, {shape, stamp}) {
+  if (!shape) return null;
+  const [kind, first, last, from, to, value] = shape;
+  let found = null;
+  for (let index = first; index <= last; index++) {
+    if (scenario.valueAt(kind, index, from) !== value) continue;
+    const cut = scenario.puts(kind, index).find((one) => one.step > from
+      && (to === null || one.step < to) && one.value !== value
+      && one.gesture.stamp[1] !== stamp[1]);
+    if (cut && (!found || cut.step < found.step)) found = {step: cut.step, by: cut.gesture};
+  }
+  return found;
+}
+
+/** How a gesture stands: how many of its edits hold, to whom the others lost, and where somebody
+    cuts it short. */
+function standing(scenario, gesture) {
+  const lost = new Map();
+  let holds = 0;
+  for (const [kind, index, step, value] of gesture.edits) {
+    const winner = scenario.winner(kind, index, step);
+    const by = winner?.gesture.stamp ?? gesture.stamp;
+    if (sameStamp(by, gesture.stamp) || (winner.value === value && by[1] !== gesture.stamp[1])) holds++;
+    else {
+      const key = keyOf(winner.gesture.stamp);
+      lost.set(key, {by: winner.gesture, edits: (lost.get(key)?.edits ?? 0) + 1});
+    }
+  }
+  const toOthers = [...lost.values()].filter(({by}) => by.stamp[1] !== gesture.stamp[1]);
+  return {holds, all: gesture.edits.length, toOthers, replaced: holds === 0 && !toOthers.length,
+          cut: holds ? cutOf(scenario, gesture) : null};
+}
+
+/** Whether a private gesture leaves all as it is shared: such a one needs no line. */
+function restoresShared(scenario, common, gesture) {
+  return gesture.edits.every(([kind, index, step, value]) => {
+    const there = common.winner(kind, index, step);
+    return value === (there ? there.value : null);
+  });
+}
+
+/** Whether a gesture is worth a line: it acts, or it takes back what is shared. */
+function isSeen(scenario, common, gesture) {
+  if (standing(scenario, gesture).replaced) return false;
+  if (!gesture.shared) return !restoresShared(scenario, common, gesture);
+  return !gesture.undoes && gesture.edits.some(([, , , value]) => value !== null);
+}
+
+/** Why one stamp wins over another, in a sentence. */
+function whyGreater(winner, loser) {
+  return winner[0] === loser[0]
+    ? `Both are change number ${winner[0]}; at equal numbers the greater site and seat wins.`
+    : `Change number ${winner[0]} wins over number ${loser[0]}: who had heard or made more.`;
+}
+
+// Frames: rectangles of what is in force, from the winners.
+
+/** Stretches of time in which an object has something put: {kind, index, value, from, to, by}. */
+function stretches(scenario) {
+  const found = [];
+  for (const object of scenario.objects.keys()) {
+    const [kind, text] = object.split(",");
+    const index = Number(text);
+    const puts = scenario.puts(kind, index);
+    puts.forEach(({step, value, gesture}, at) => {
+      if (value === planned(scenario.plan, kind, index)) return;
+      found.push({kind, index, value, from: step, to: puts[at + 1]?.step ?? null, by: gesture});
+    });
+  }
+  return found;
+}
+
+/** The frames of a scenario: neighbours with one value, time and gesture are one. */
+function framesOf(scenario) {
+  const frames = new Map();
+  const all = stretches(scenario).sort((one, other) => one.index - other.index);
+  for (const {kind, index, value, from, to, by} of all) {
+    const key = [kind, value, from, to, ...by.stamp].join();
+    const list = frames.get(key) ?? [];
+    frames.set(key, list);
+    const last = list.at(-1);
+    if (last && last.last === index - 1) last.last = index;
+    else list.push({kind, first: index, last: index, value, from, to, by});
+  }
+  return [...frames.values()].flat();
+}
+
+// Texts.
+
+function placesText(plan, kind, first, last) {
+  const [from, to] = cellsOf(plan, kind, first, last);
+  if (kind === "inflow" || kind === "watch") return `at ${kmText(from)} km`;
+  return `${kmText(from)}\u2013${kmText(to)} km`;
+}
+
+const spanText = (from, to) => (to === null ? `from ${timeText(from)} on`
+  : `${timeText(from)}\u2013${timeText(to)}`);
+
+/** What a value of a kind is, in a few words. */
+function valueText(plan, kind, value, index, slow) {
+  if (kind === "block") return value ? "Whole road closed" : "Open";
+  if (kind === "limit") return limitText(value);
+  if (kind === "watch") return value ? "Detector on" : "Detector off";
+  if (kind === "slow") return `Slowing ${chanceText(value)}`;
+  if (kind === "start") return `Slow to start ${chanceText(value)}`;
+  const cars = demandOfChance(value / ALWAYS, slow / ALWAYS);
+  return `Demand ${Number.isNaN(cars) ? chanceText(value) : whole(cars) + " cars/h"}`;
+}
+
+/** The slowing chance at an inlet, by which a chance is cars an hour. */
+function slowAt(scenario, inlet, step) {
+  const zone = Math.floor(scenario.plan.inlets[inlet][0] / scenario.plan.zone);
+  return scenario.valueAt("slow", zone, step);
+}
+
+/** A shape in a sentence, which becomes the gesture's note. */
+function shapeText(scenario, [kind, first, last, from, to, value]) {
+  const slow = kind === "inflow" ? slowAt(scenario, first, from) : 0;
+  const what = valueText(scenario.plan, kind, value, first, slow);
+  return `${what}${kind === "block" ? "" : ","} ${placesText(scenario.plan, kind, first, last)}, ${spanText(from, to)}`;
+}

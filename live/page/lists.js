@@ -1,0 +1,226 @@
+"use strict";
+// The lists of changes (not shared yet, shared, overruled), the news of what others shared, and
+// what sharing or taking would change before it is done.
+
+const isOwn = ({stamp}) => stamp[1] === live.me.number;
+const nameOf = (gesture) => (isOwn(gesture) ? "you" : gesture.who || "somebody");
+const noteOf = (gesture) => gesture.note || plural(gesture.edits.length, "edit");
+
+/** What a gesture lost, whole or in part, and to whom; [] where nothing. */
+function lossesOf(stands) {
+  const lost = stands.toOthers.map(({by, edits}) => {
+    const how = edits === stands.all ? "lost to" : `${edits} of ${stands.all} edits lost to`;
+    return {text: `${how} ${nameOf(by)}: ${noteOf(by)}`, by};
+  });
+  const {cut} = stands;
+  return cut ? [...lost, {text: `holds only until ${timeText(cut.step)}, then ${nameOf(cut.by)}: ${noteOf(cut.by)}`,
+                          by: cut.by}] : lost;
+}
+
+function stateOf(gesture, stands) {
+  if (!stands.holds && stands.toOthers.length) return "overruled";
+  if (stands.toOthers.length || stands.cut) return "in part";
+  return gesture.shared ? "shared" : "private";
+}
+
+/** The lines of all lists, newest first, each with the list where it stands. */
+function linesNow() {
+  const {list, scenario} = live.held;
+  const lines = list.filter((gesture) => isSeen(scenario, live.common.scenario, gesture)).map((gesture) => {
+    const stands = standing(scenario, gesture);
+    const state = stateOf(gesture, stands);
+    const losses = isOwn(gesture) ? lossesOf(stands) : [];
+    const where = losses.length ? "lost" : !gesture.shared && isOwn(gesture) ? "own" : "held";
+    return {gesture, state, losses, where};
+  });
+  return lines.sort((one, other) => byStamp(other.gesture.stamp, one.gesture.stamp));
+}
+
+function meta({who, stamp, when}) {
+  return `${stamp[1] === live.me.number ? "you" : who || "somebody"}${when ? ", " + dayText(when) : ""}`;
+}
+
+function lineButtons({gesture, losses}) {
+  const about = noteOf(gesture);
+  const buttons = [button("Show", () => showGesture(gesture), about)];
+  if (isOwn(gesture) && gesture.shape) buttons.push(button("Change", () => beginChange(gesture), about));
+  buttons.push(button("Withdraw", () => live.withdraw(gesture), about));
+  if (isOwn(gesture) && !gesture.shared) buttons.push(button("Share…", () => openBefore("share", [gesture]), about));
+  if (losses.length && gesture.shape) buttons.push(button("Put mine again", () => live.putAgain(gesture), about));
+  return buttons;
+}
+
+function lineElement(line) {
+  const {gesture, state, losses} = line;
+  const tag = element("span", state, {className: `state ${state.replace(" ", "-")}`});
+  const lost = losses.map(({text, by}) => element("p", text, {className: "loss"},
+    element("span", " " + whyGreater(by.stamp, gesture.stamp), {className: "hint"})));
+  return element("li", "", {}, element("p", noteOf(gesture) + " ", {className: "note"}, tag),
+    element("p", meta(gesture), {className: "hint"}), ...lost,
+    element("p", "", {className: "buttons"}, ...lineButtons(line)));
+}
+
+const itemOf = (line) => ({
+  key: keyOf(line.gesture.stamp),
+  sign: JSON.stringify([line.state, line.gesture.shared, line.losses.map(({text}) => text), meta(line.gesture)]),
+  make: () => lineElement(line),
+});
+
+const pendingItem = ([key, {note}]) => ({key, sign: note, make: () => element("li", "", {},
+  element("p", note + " ", {className: "note"}, element("span", "pending", {className: "state pending"})))});
+
+function showLists() {
+  const lines = linesNow();
+  const of = (where) => lines.filter((line) => line.where === where).map(itemOf);
+  const own = [...[...live.pending].map(pendingItem), ...of("own")];
+  showList($("own"), own);
+  showList($("held"), of("held"));
+  showList($("lost"), of("lost"));
+  for (const id of ["own", "held", "lost"]) $(id).parentElement.hidden = !$(id).children.length;
+  $("hint").hidden = lines.length > 0 || live.pending.size > 0;
+  $("undo").disabled = !undoable();
+}
+
+/** The newest own gesture that still acts, and is no withdrawal of a shared one. */
+function undoable() {
+  return linesNow().find(({gesture, where}) => isOwn(gesture) && where !== "lost")?.gesture;
+}
+
+const unshared = () => linesNow().filter(({gesture}) => isOwn(gesture) && !gesture.shared).map(({gesture}) => gesture);
+
+/** Moves the diagram to a gesture. */
+function showGesture(gesture) {
+  const steps = gesture.edits.map((edit) => edit[2]);
+  stopFollowing();
+  look.step = Math.max(0, Math.min(...steps) - look.span / 4);
+  if (gesture.shape) {
+    const [from, to] = cellsOf(live.plan, ...gesture.shape.slice(0, 3));
+    if (from < look.cell || to > look.cell + look.cells) look.cell = (from + to - look.cells) / 2;
+  }
+  settle();
+  live.look();
+}
+
+// News: what others have shared and this tab has not taken.
+
+/** The gestures at the shared road that the own one does not hold. */
+function untaken() {
+  const held = new Set(live.held.list.map(({stamp}) => keyOf(stamp)));
+  return live.common.list.filter((gesture) => !held.has(keyOf(gesture.stamp)));
+}
+
+function showNews({size, from}) {
+  const section = $("news");
+  const had = section.contains(document.activeElement);
+  section.hidden = !size;
+  if (!size) {
+    section.replaceChildren();
+    if (had) $("held").focus();
+    return;
+  }
+  const text = `${from.join(", ") || "Somebody"} shared ${plural(size, "change")}.`;
+  if (section.dataset.text === text && section.children.length) return;
+  section.dataset.text = text;
+  tell(text);
+  section.replaceChildren(element("p", text), element("p", "", {className: "buttons"},
+    button("Take", () => live.take()), button("Look first", () => openBefore("take", untaken()))));
+  if (had) section.querySelector("button").focus();
+}
+
+// Before sharing or taking.
+
+/** How the standing of gestures changes from one scenario to another, as sentences. */
+function changesOfStanding(gestures, before, after) {
+  return gestures.flatMap((gesture) => {
+    const was = before ? lossesOf(standing(before, gesture)).map(({text}) => text) : [];
+    return lossesOf(standing(after, gesture)).filter(({text}) => !was.includes(text))
+      .map(({text, by}) => ({text: `${nameOf(gesture)}: ${noteOf(gesture)} \u2013 ${text}`,
+                             why: whyGreater(by.stamp, gesture.stamp)}));
+  });
+}
+
+/** Who would lose to whom, were these gestures added to those. */
+function lossesByAdding(gestures, target) {
+  const after = new Scenario(live.plan, [...target.list, ...gestures]);
+  return [...changesOfStanding(gestures, null, after),
+          ...changesOfStanding(target.list, target.scenario, after)];
+}
+
+function lossList(losses) {
+  if (!losses.length) return element("p", "Nobody would lose anything.");
+  return element("ul", "", {}, ...losses.map(({text, why}) =>
+    element("li", text, {}, element("span", " " + why, {className: "hint"}))));
+}
+
+const gestureList = (gestures) => element("ul", "", {}, ...gestures.map((gesture) =>
+  element("li", noteOf(gesture), {}, element("span", ` ${meta(gesture)}`, {className: "hint"}))));
+
+/** Opens what sharing these gestures (or taking those) would change. */
+function openBefore(what, gestures) {
+  if (!gestures.length) return;
+  const shares = what === "share";
+  $("beforeTitle").textContent = shares ? `Share ${plural(gestures.length, "change")}?`
+    : `Take ${plural(gestures.length, "change")}?`;
+  const figuresOf = element("div", "");
+  const done = () => {
+    closeBefore();
+    if (shares) live.share(gestures); else live.take();
+  };
+  $("beforeBody").replaceChildren(gestureList(gestures),
+    element("h3", "Who would lose to whom"), lossList(lossesByAdding(gestures, shares ? live.common : live.held)),
+    element("h3", shares ? "What it would change on the shared road" : "What it would change: see the difference"),
+    figuresOf, element("p", "", {className: "buttons"},
+      button(shares ? "Share now" : "Take now", done), button("Not now", closeBefore)));
+  $("before").hidden = false;
+  $("before").focus();
+  live.beforeOpen = {what, whose: chosen("whose")};
+  choose("whose", "both");
+  live.look();
+  if (shares) showPreview(figuresOf, gestures); else figuresOf.replaceChildren(element("p",
+    "The diagram shows the difference, and the figures below it have both roads beside each other."));
+}
+
+function closeBefore() {
+  if (!live.beforeOpen) return;
+  const had = $("before").contains(document.activeElement);
+  $("before").hidden = true;
+  choose("whose", live.beforeOpen.whose);
+  live.beforeOpen = null;
+  live.look();
+  if (had) $($("own").children.length ? "own" : "held").focus();
+}
+
+/** Asks what sharing would change, over the period that is shown. */
+async function showPreview(place, gestures) {
+  place.replaceChildren(element("p", "Computing …"));
+  const [from, to] = periodShown();
+  const all = gestures.length === unshared().length;
+  const stamps = gestures.map(({stamp}) => stamp);
+  const said = await live.ask({preview: {at: live.me.at, from, to, ...(all ? {} : {stamps})}});
+  if (!said) return;
+  place.replaceChildren(said.refused ? element("p", said.why ?? said.refused) : previewTable(said));
+}
+
+/** The table of a preview: flows at detectors and inlets before and after, and what the change costs
+    in vehicle hours, beside the demand that would be lost. */
+function previewTable({before, after, from, to, delay}) {
+  const line = (name, one, other) => row(headCell(name, "row"), element("td", whole(one)),
+    element("td", whole(other)), element("td", signedText(other - one)));
+  const perHour = ([cars]) => cars * HOUR / Math.max(1, to - from);
+  const detectors = live.plan.detectors.map((cell, index) => line(`Cars an hour at ${kmText(cell)} km`,
+    perHour(before.detectors[index]), perHour(after.detectors[index])));
+  const inlets = Object.entries(delay?.inlets ?? {}).map(([index, [one, other]]) =>
+    line(`Cars let in at ${kmText(live.plan.inlets[index][0])} km`, one, other));
+  const change = (name, text) => row(headCell(name, "row"), element("td"), element("td"), element("td", text));
+  const costs = delay ? [
+    change("Vehicle hours", signedText(delay.total / HOUR, 1)),
+    change("Cars that would not enter (lost demand)", whole(delay.lost.cars)),
+    change(`Delay of the ${plural(delay.through.cars, "car")} that get through in both, vehicle hours`,
+           signedText(delay.through.delay / HOUR, 1)),
+  ] : [];
+  return element("div", "", {}, element("table", "", {}, element("caption", `${timeText(from)} to ${timeText(to)}`),
+    element("thead", "", {}, row(element("td"), headCell("now"), headCell("then"), headCell("change"))),
+    element("tbody", "", {}, ...costs, ...inlets, ...detectors)),
+    element("p", delay ? "A car that does not enter spends no vehicle hours: read these with the lost demand."
+      : "The run is too long for vehicle hours: show a shorter time.", {className: "hint"}));
+}

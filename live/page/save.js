@@ -1,0 +1,76 @@
+"use strict";
+// Saving: what the viewer opens and road_lab runs again, and tables for a spreadsheet.
+
+const SPAN_OF_COUNTS = 300;     // steps
+
+/** The road that is shown; of a difference the own one. */
+const roadShown = () => (chosen("whose") === "shared" ? "shared" : live.me.at);
+
+/** The lines that show the road of the period that is shown, each command before its reply; null
+    where something was refused. */
+async function transcriptLines() {
+  tell("Saving …");
+  const [from, to] = periodShown();
+  const pieces = [];
+  let next = 0;
+  do {
+    const said = await live.ask({transcript: {at: roadShown(), from, to, ...(next ? {next} : {})}});
+    if (!said || said.refused) return null;
+    pieces.push(said.lines);
+    next = said.next;
+  } while (next !== null);
+  return pieces.join("").split("\n").filter(Boolean).map((line) => line + "\n");
+}
+
+/** Saves commands and replies by turns, as the viewer opens them. */
+async function saveTranscript() {
+  const lines = await transcriptLines();
+  if (!lines) return;
+  download(lines, "transcript.jsonl", "application/jsonl");
+  tell("Saved transcript.jsonl: choose it in the viewer.");
+}
+
+/** Saves the commands alone; road_lab answers them as the transcript has it. */
+async function saveScript() {
+  const lines = await transcriptLines();
+  if (!lines) return;
+  download(lines.filter((_, index) => index % 2 === 0), "script.jsonl", "application/jsonl");
+  tell("Saved script.jsonl: run road_lab < script.jsonl.");
+}
+
+/** A cell of a table that a spreadsheet does not run as a formula. */
+function tableCell(value) {
+  const text = String(value);
+  const tame = typeof value === "string" && /^[=+\-@\t\r\n]/.test(text) ? "'" + text : text;
+  return /["',;\n\r\t]/.test(tame) ? `"${tame.replaceAll('"', '""')}"` : tame;
+}
+
+const csvOf = (rows) => rows.map((cells) => cells.map(tableCell).join(",") + "\r\n");
+
+/** Saves the changes that are held: who made them and when, and how they stand. */
+function saveChanges() {
+  const lines = linesNow().map(({gesture, state, losses}) => [
+    gesture.when ? new Date(gesture.when * 1000).toISOString() : "", gesture.who, noteOf(gesture), state,
+    losses.map(({text}) => text).join("; ")]);
+  download(csvOf([["made", "by", "change", "state", "lost"], ...lines]), "changes.csv", "text/csv");
+  tell("Saved changes.csv.");
+}
+
+/** Saves the counts of both roads, five minutes a line, over the period that is shown. */
+async function saveCounts() {
+  const [from, to] = periodShown();
+  const each = SPAN_OF_COUNTS;
+  if (to <= from) return tell("Nothing is computed yet.", true);
+  const said = await Promise.all([live.me.at, "shared"].map((at) => live.ask({counts: {at, from, to, each}})));
+  if (said.some((one) => !one || one.refused)) return;
+  const lines = said[0].counts.flatMap((detectors, span) => detectors.map(([cars, speeds], index) => {
+    const [begin, end] = [from + span * each, Math.min(to, from + (span + 1) * each)];
+    const [otherCars, otherSpeeds] = said[1].counts[span][index];
+    const speed = (all, sum) => (all ? Math.round(sum / all * KMH_A_CELL * 10) / 10 : "");
+    return [timeText(begin), timeText(end), kmText(live.plan.detectors[index]), cars, speed(cars, speeds),
+            otherCars, speed(otherCars, otherSpeeds)];
+  }));
+  download(csvOf([["from", "to", "detector km", "my cars", "my mean km/h", "shared cars", "shared mean km/h"],
+                  ...lines]), "counts.csv", "text/csv");
+  tell("Saved counts.csv.");
+}
