@@ -4,12 +4,12 @@
 """
 import sys
 
-from road_lab import Plan, RoadLab, as_array
+from road_lab import NO_NUMPY, Plan, RoadLab, as_array
 
 try:
     import numpy
 except ImportError:
-    print("left out: the jam in an array (numpy is not installed)")
+    print(f"left out: the jam in an array ({NO_NUMPY})")
     sys.exit(0)
 
 

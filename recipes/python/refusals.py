@@ -1,15 +1,15 @@
 """Says what is wrong with a line that road_lab refused.
 
-    reasons = Reasons()
-    for line, reply in zip(script, replies):     # from the plan line on, in their order
-        sentence = reasons.hear(line, reply)     # None where the line was not refused
+    reasons = Reasons(Units(metres=7.5, seconds=1))     # Reasons() says no km, minutes and km/h
+    for line, reply in zip(script, replies):            # from the plan line on, in their order
+        sentence = reasons.hear(line, reply)            # None where the line was not refused
 """
 from __future__ import annotations
 
 import difflib
 import json
 import re
-from typing import Any, Callable, Iterable, Iterator
+from typing import Any, Callable, Iterable, Iterator, NamedTuple
 
 LONGEST_LINE, DEEPEST = 65_536, 127
 GREATEST, GREATEST_LONG, GREATEST_NUMBER = 2 ** 32 - 1, 2 ** 64 - 1, 65_535
@@ -23,6 +23,34 @@ Faults = Iterator[str]
 
 class NotWhole(str):
     """How a number is written that has a sign, a point or an exponent."""
+
+
+class Units(NamedTuple):
+    """How long a cell and a step are, where it is known."""
+
+    metres: float | None = None
+    seconds: float | None = None
+
+    def km(self, cells: int) -> str:
+        """Cells in km, in brackets behind their number; nothing where a cell's length is unknown."""
+        return f" ({plain(cells * self.metres / 1_000)} km)" if self.metres else ""
+
+    def minutes(self, steps: int) -> str:
+        return f" (minute {plain(steps * self.seconds / 60)})" if self.seconds else ""
+
+    def kmh(self, limit: int) -> str:
+        """A limit in km/h; by the usual cells of 7.5 m and steps of 1 s where they are unknown."""
+        known = f" at {self.metres or 7.5:g} m a cell and {self.seconds or 1:g} s a step"
+        return f"{plain(limit * self.pace())} km/h" + ("" if self.metres and self.seconds else known)
+
+    def pace(self) -> float:
+        """A cell a step in km/h."""
+        return (self.metres or 7.5) / (self.seconds or 1) * 3.6
+
+
+def plain(number: float) -> str:
+    """Up to four digits behind the point, without zeros at the end."""
+    return f"{number:.4f}".rstrip("0").rstrip(".")
 
 
 # Reading
@@ -57,6 +85,9 @@ def value_of(line: bytes) -> Any:
 
 def decoded_badly(text: str, fault: json.JSONDecodeError) -> str:
     rest = text[fault.pos:].strip()
+    zeros = re.search(r"(?<![\w.])-?0\d+$", text[:fault.pos] + re.match(r"\d*", text[fault.pos:])[0])
+    if zeros:
+        return f"{zeros[0]} has a leading zero, at byte {len(text[:zeros.start()].encode())}: JSON writes {int(zeros[0])}"
     if not rest:
         return "it ends too early: a command is one line"
     said = {"Extra data": "there is more behind the value"}.get(fault.msg, fault.msg)
@@ -245,7 +276,7 @@ def fields(value: Any, parts: dict[str, Callable[[Any], Faults]], what: str) -> 
 
 # The faults of a plan that is one by its fields
 
-def names_faults(plan: dict[str, Any]) -> Faults:
+def names_faults(plan: dict[str, Any], units: Units) -> Faults:
     names = plan["replicas"]
     if not 1 <= len(names) <= 64:
         yield f"there are 1 to 64 replicas, not {len(names)}"
@@ -255,43 +286,54 @@ def names_faults(plan: dict[str, Any]) -> Faults:
         yield f"two replicas are named {shown(one)}"
 
 
-def zones_faults(plan: dict[str, Any]) -> Faults:
+def length_faults(plan: dict[str, Any], units: Units) -> Faults:
+    yield f"a road has 8 to 8,192 cells{units.km(8_192)}, not {plan['length']}{units.km(plan['length'])}"
+
+
+def exit_faults(plan: dict[str, Any], units: Units) -> Faults:
+    yield f"the deleted zone has 1 to {min(64, plan['length'] - 1)} cells, not {plan['exit']}{units.km(plan['exit'])}"
+
+
+def zones_faults(plan: dict[str, Any], units: Units) -> Faults:
     count, width, length = len(plan["zones"]), plan["zone"], plan["length"]
     if not 1 <= count <= 64:
         yield f"there are 1 to 64 zones, not {count}"
     elif width == 0:
         yield "a zone of 0 cells"
     else:
-        yield (f"{count} zones of {width} cells make a road of {(count - 1) * width + 1} to "
-               f"{count * width} cells, not {length}: `zone` is at the least {-(-length // count)}")
+        least = -(-length // count)
+        yield (f"{count} zones of {width} cells{units.km(width)} make a road of {(count - 1) * width + 1} to "
+               f"{count * width} cells{units.km(count * width)}, not {length}{units.km(length)}: `zone` is at the "
+               f"least {least}{units.km(least)}")
 
 
-def places_faults(cells: list[int], first: int, plan: dict[str, Any], what: str) -> Faults:
+def places_faults(cells: list[int], first: int, plan: dict[str, Any], what: str, units: Units) -> Faults:
     last = plan["length"] - plan["exit"] - 1
     for index, cell in enumerate(cells):
         if not first <= cell <= last:
-            yield f"{what} {index} is at cell {cell}: the cells before the deleted zone are {first} to {last}"
+            yield (f"{what} {index} is at cell {cell}{units.km(cell)}: the cells before the deleted zone are {first} to "
+                   f"{last}{units.km(last)}")
 
 
-def inlets_faults(plan: dict[str, Any]) -> Faults:
+def inlets_faults(plan: dict[str, Any], units: Units) -> Faults:
     cells = [cell for cell, _ in plan["inlets"]]
     if not 1 <= len(cells) <= 16:
         yield f"there are 1 to 16 inlets, not {len(cells)}"
     for cell in sorted({cell for cell in cells if cells.count(cell) > 1}):
-        yield f"two inlets are at cell {cell}"
-    yield from places_faults(cells, 0, plan, "inlet")
+        yield f"two inlets are at cell {cell}{units.km(cell)}"
+    yield from places_faults(cells, 0, plan, "inlet", units)
 
 
-def detectors_faults(plan: dict[str, Any]) -> Faults:
+def detectors_faults(plan: dict[str, Any], units: Units) -> Faults:
     if len(plan["detectors"]) > 64:
         yield f"there are 0 to 64 detectors, not {len(plan['detectors'])}"
-    yield from places_faults(plan["detectors"], 1, plan, "detector")
+    yield from places_faults(plan["detectors"], 1, plan, "detector", units)
 
 
-def default_faults(plan: dict[str, Any]) -> Faults:
+def default_faults(plan: dict[str, Any], units: Units) -> Faults:
     for index, (limit, slow) in enumerate(plan["zones"]):
         if limit > 9:
-            yield f"zone {index}: the limit is 0 to 9 cells a step, not {limit}"
+            yield f"zone {index}: the limit is 0 to 9 cells a step, not {limit}{looks_like_kmh(limit, units)}"
         if slow > CHANCE:
             yield f"zone {index}: the slowing chance is 0 to {CHANCE}, not {slow}"
     for index, (_, inflow) in enumerate(plan["inlets"]):
@@ -299,12 +341,15 @@ def default_faults(plan: dict[str, Any]) -> Faults:
             yield f"inlet {index}: the inflow chance is 0 to {CHANCE}, not {inflow}"
 
 
-PLAN_FAULTS: dict[str, Callable[[dict[str, Any]], Faults]] = {
-    "Names": names_faults, "Zones": zones_faults, "Inlets": inlets_faults,
-    "Detectors": detectors_faults, "Default": default_faults,
-    "Length": lambda plan: iter([f"a road has 8 to 8,192 cells, not {plan['length']}"]),
-    "Exit": lambda plan: iter([f"the deleted zone has 1 to {min(64, plan['length'] - 1)} cells, "
-                               f"not {plan['exit']}"]),
+def looks_like_kmh(limit: int, units: Units) -> str:
+    """What a limit would be that is too great in cells a step, where it looks like one in km/h."""
+    nearest = round(limit / units.pace())
+    return f"; {limit} km/h are limit {nearest}, which is {units.kmh(nearest)}" if limit >= 20 and 1 <= nearest <= 9 else ""
+
+
+PLAN_FAULTS: dict[str, Callable[[dict[str, Any], Units], Faults]] = {
+    "Names": names_faults, "Length": length_faults, "Exit": exit_faults, "Zones": zones_faults,
+    "Inlets": inlets_faults, "Detectors": detectors_faults, "Default": default_faults,
 }
 
 
@@ -322,10 +367,16 @@ def listed(verb: str, given: dict[str, Any]) -> list[tuple[str, list[Any]]]:
     return []
 
 
+def first_of(faults: list[str]) -> str:
+    more = f"; and {len(faults) - TOLD} more" if len(faults) > TOLD else ""
+    return "; ".join(faults[:TOLD]) + more
+
+
 class Reasons:
     """What a script has said so far, as far as it tells why a later line is refused."""
 
-    def __init__(self) -> None:
+    def __init__(self, units: Units = Units()) -> None:
+        self._units = units
         self._plan: dict[str, Any] | None = None
         self._is_first = True
         self._horizons: dict[str, int] = {}
@@ -342,8 +393,7 @@ class Reasons:
             faults = list(self._faults(is_plan, line, refusal))
         except (ValueError, RecursionError) as fault:
             faults = [str(fault)]
-        more = f"; and {len(faults) - TOLD} more" if len(faults) > TOLD else ""
-        return "; ".join(faults[:TOLD]) + more
+        return first_of(faults)
 
     def _note(self, is_plan: bool, value: Any, reply: dict[str, Any]) -> None:
         if is_plan:
@@ -363,7 +413,7 @@ class Reasons:
         value = value_of(line)
         if is_plan:
             wrong = PLAN_FAULTS.get(refusal)
-            return wrong(value) if wrong else fields(value, PLAN, "the plan")
+            return wrong(value, self._units) if wrong else fields(value, PLAN, "the plan")
         return self._command_faults(value, refusal)
 
     def _command_faults(self, value: Any, refusal: str) -> Faults:
@@ -391,8 +441,8 @@ class Reasons:
                 yield called + fault[1]
                 return
         said = {"NoReplica": self._no_replica, "NoMessage": self._no_message,
-                "NameTaken": self._name_taken, "CountsSpent": counts_spent, "Horizon": past_horizon,
-                "NoDetector": self._no_detector, "Range": bad_range,
+                "NameTaken": self._name_taken, "CountsSpent": counts_spent, "Horizon": self._past_horizon,
+                "NoDetector": self._no_detector, "Range": self._bad_range,
                 "NotSimulated": self._not_simulated}.get(refusal)
         if said:
             yield said(verb, given)
@@ -405,12 +455,14 @@ class Reasons:
                        "watch": ("detector", len(plan["detectors"]))}.get(
                            kind, ("zone", len(plan["zones"])))
         if index >= there:
-            return "NoObject", f"the plan has no {what} {index}: {there_are(what, there)}"
+            km = self._units.km if kind == "block" else lambda cells: ""
+            return "NoObject", f"the plan has no {what} {index}{km(index)}: {there_are(what, there)}{km(there)}"
         if step > LAST_STEP:
-            return "Step", f"the step of an edit is at most {LAST_STEP}, not {step}"
+            minutes = self._units.minutes
+            return "Step", f"the step of an edit is at most {LAST_STEP}{minutes(LAST_STEP)}, not {step}{minutes(step)}"
         if value is not None and value > KINDS[kind]:
-            unit = " cells a step" if kind == "limit" else ""
-            return "ValueOutOfRange", f"the value of `{kind}` is 0 to {KINDS[kind]}{unit}, not {value}"
+            unit, meant = (" cells a step", looks_like_kmh(value, self._units)) if kind == "limit" else ("", "")
+            return "ValueOutOfRange", f"the value of `{kind}` is 0 to {KINDS[kind]}{unit}, not {value}{meant}"
         if count is not None and not 1 <= count <= GREATEST_COUNT:
             return "Count", f"the count is 1 to {GREATEST_COUNT}, not {count}"
         if number is not None and number < 64:
@@ -439,7 +491,19 @@ class Reasons:
 
     def _not_simulated(self, verb: str, given: dict[str, Any]) -> str:
         reached, asked = self._horizons.get(given["at"], 0), given.get("to", given.get("step"))
-        return f"{shown(given['at'])} is simulated to step {reached}, not to {asked}: `advance` it"
+        minutes = self._units.minutes
+        return (f"{shown(given['at'])} is simulated to step {reached}{minutes(reached)}, not to {asked}{minutes(asked)}: "
+                "`advance` it")
+
+    def _past_horizon(self, verb: str, given: dict[str, Any]) -> str:
+        minutes = self._units.minutes
+        return f"`to` is at most {LAST_HORIZON}{minutes(LAST_HORIZON)}, not {given['to']}{minutes(given['to'])}"
+
+    def _bad_range(self, verb: str, given: dict[str, Any]) -> str:
+        first, to, minutes = given["from"], given["to"], self._units.minutes
+        if first > to:
+            return f"`from` {first}{minutes(first)} is above `to` {to}{minutes(to)}"
+        return f"a diagram has at most {MOST_ROWS} rows, not {to - first + 1}"
 
 
 def there_are(what: str, count: int) -> str:
@@ -448,13 +512,3 @@ def there_are(what: str, count: int) -> str:
 
 def counts_spent(verb: str, given: dict[str, Any]) -> str:
     return f"an import brought the greatest count, {GREATEST_COUNT}, and none is left above it"
-
-
-def past_horizon(verb: str, given: dict[str, Any]) -> str:
-    return f"`to` is at most {LAST_HORIZON}, not {given['to']}"
-
-
-def bad_range(verb: str, given: dict[str, Any]) -> str:
-    if given["from"] > given["to"]:
-        return f"`from` {given['from']} is above `to` {given['to']}"
-    return f"a diagram has at most {MOST_ROWS} rows, not {given['to'] - given['from'] + 1}"

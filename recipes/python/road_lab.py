@@ -32,6 +32,8 @@ FORM = 2
 EMPTY, BLOCKED = -1, -2
 """Cells without a car in an array of rows."""
 
+NO_NUMPY = "numpy is not installed: for the system's python3 Debian's package is python3-numpy, else `pip install numpy`"
+
 STATUSES = {3: "no memory", 4: "its output could not be written", 5: "the script could not be read",
             6: "more lines or bytes than it takes", 7: "a thread could not start, or has gone"}
 
@@ -58,8 +60,9 @@ class NoProgram(Exception):
     """There is no program to start."""
 
     def __init__(self, path: Path | str) -> None:
-        super().__init__(f"no program at {path}: run `rt run < stdin` in crates/road_lab, which takes "
-                         "half an hour the first time, or let ROAD_LAB be the path of a built one")
+        super().__init__(f"no program at {path}: start `rt run < stdin` in crates/road_lab, which proves and builds it in half "
+                         "an hour, or let ROAD_LAB be the path of a built one; until then `rt try < SCRIPT` there runs a "
+                         "script unproved, in a minute or two")
 
 
 class Stamp(NamedTuple):
@@ -179,13 +182,16 @@ def started(path: Path | str) -> subprocess.Popen[bytes]:
 
 
 class RoadLab:
-    """A running program. Each method sends one command and gives its reply, or raises `Refused`."""
+    """A running program. Each method sends one command and gives its reply, or raises `Refused`.
 
-    def __init__(self, plan: Plan, program: Path | str | None = None) -> None:
+    The plan may be the object of a script's first line too.
+    """
+
+    def __init__(self, plan: Plan | dict[str, Any], program: Path | str | None = None) -> None:
         self._process = started(program or program_path())
         self._reasons = Reasons()
         try:
-            self._ask(plan.written())
+            self.ask(plan.written() if isinstance(plan, Plan) else plan)
         except BaseException:
             self.close()
             raise
@@ -206,7 +212,8 @@ class RoadLab:
                 pass
         self._process.wait()
 
-    def _ask(self, line: dict[str, Any]) -> dict[str, Any]:
+    def ask(self, line: dict[str, Any]) -> dict[str, Any]:
+        """Any line of a script, and its reply as it is written."""
         text = json.dumps(line, separators=(",", ":"), ensure_ascii=False).encode()
         try:
             self._process.stdin.write(text + b"\n")
@@ -225,7 +232,7 @@ class RoadLab:
 
     def command(self, verb: str, at: str | None = None, /, **fields: Any) -> dict[str, Any]:
         """Any command, with a replica or without, and its reply as it is written."""
-        return self._ask({verb: fields if at is None else {"at": at, **fields}})
+        return self.ask({verb: fields if at is None else {"at": at, **fields}})
 
     # Edits
 
@@ -311,8 +318,11 @@ class RoadLab:
 
 
 def as_array(rows: list[str]) -> numpy.ndarray:
-    """Steps by cells: the speed of a car, EMPTY or BLOCKED. This alone needs numpy."""
-    import numpy
+    """Steps by cells: the speed of a car, EMPTY or BLOCKED. This alone needs numpy, else it is an ImportError."""
+    try:
+        import numpy
+    except ImportError:
+        raise ImportError(NO_NUMPY) from None
     signs = numpy.array([list(row.encode()) for row in rows], dtype=numpy.int16)
     return numpy.select([signs == ord("."), signs == ord("#")], [EMPTY, BLOCKED], signs - ord("0"))
 
