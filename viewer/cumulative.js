@@ -1,0 +1,154 @@
+"use strict";
+// What the road costs in time, and cumulative curves: how many cars have passed two sites. Of two
+// pictures that are compared it is of the steps that both have.
+
+const SITES = ["siteUp", "siteDown"];
+const OF_SITE = [{width: 1.5}, {width: 3.5}];
+
+const endSite = (plan) => plan.length - plan.exit;
+
+/** The inlets from which cars come in between two sites. */
+const inletsBetween = (plan, [up, down]) =>
+  plan.inlets.map(([cell]) => cell).filter((cell) => up <= cell && cell < down);
+
+/** The detectors, and the end of the road; at first those two detectors that are farthest apart
+    without an inlet between them. */
+function offerSites() {
+  const plan = shown.plans.find(Boolean);
+  if (!plan) return;
+  const end = endSite(plan);
+  const options = () => [...plan.detectors.map((site, index) =>
+    new Option(siteName(index, plan), site)), new Option(`road's end, ${cellOrKm(end)}`, end)];
+  const sites = plan.detectors.length > 1 ? plan.detectors : [...plan.detectors, end];
+  const pairs = sites.flatMap((up) => sites.filter((down) => down > up).map((down) => [up, down]));
+  const cost = (pair) => inletsBetween(plan, pair).length * plan.length - (pair[1] - pair[0]);
+  const [up, down] = bestOf(pairs, (one, best) => cost(one) < cost(best)) ?? [end, end];
+  offerIn(page.siteUp, options(), String(up));
+  offerIn(page.siteDown, options(), String(down));
+}
+
+const sitesChosen = () =>
+  SITES.map((name) => Number(page[name].value)).sort((one, other) => one - other);
+
+const cellOrKm = (cell) => (unit.given ? `${placeText(cell, unit)} km` : `cell ${cell}`);
+
+/** The first and last step of a picture that count here. */
+function stepsCounted(picture) {
+  const {from, to} = shown.comparison ?? {from: picture.from, to: lastStep(picture)};
+  return [from, to];
+}
+
+/** The curves of a picture: for each site, from upstream down, how many cars have passed it before
+    each step; the first begins with the cars that are between both. */
+function cumulative(which) {
+  const [picture, plan] = [shown.pictures[which], shown.plans[which]];
+  if (!picture || !plan || (which && shown.whyNot)) return [];
+  const [from, to] = stepsCounted(picture);
+  if (to < from) return [];
+  const sites = sitesChosen();
+  return sites.map((site, index) => {
+    let cars = index ? 0 : carsBetween(picture, from, sites);
+    const points = [[from, cars]];
+    passings(picture, site, plan, from, to).forEach((passed, step) => {
+      cars += passed;
+      points.push([from + step + 1, cars]);
+    });
+    return points;
+  });
+}
+
+function drawSpent() {
+  const curves = [0, 1].map(cumulative);
+  const series = curves.flatMap((both, which) =>
+    both.map((points, site) => ({points, ...SERIES[which], ...OF_SITE[site]})));
+  const steps = curves.flat()[0]?.map(([step]) => step) ?? [0, 1];
+  page.cumulativePart.hidden = !series.length;
+  page.spent.textContent = spentSentence();
+  if (!series.length) return;
+  drawChart(cumulativeChart, {title: "cars that have passed", series, unit,
+                              range: [steps[0], Math.max(...curves.flat().map((points) =>
+                                points.at(-1)[0]))]});
+  writeCumulative(curves);
+  const inlets = inletsBetween(shown.plans.find(Boolean), sitesChosen()).map(cellOrKm).join(", ");
+  page.inletsNote.textContent = inlets
+    && `Cars come in between them (inlet at ${inlets}), and are in the thick curve alone.`;
+}
+
+// The time spent.
+
+const more = (value, figure = String) =>
+  (value ? `${figure(Math.abs(value))} ${value > 0 ? "more" : "fewer"}` : "as many");
+
+/** What the second picture's cars spend on the road beside the first's, and how many entered: what
+    stands before an inlet spends no time on the road. */
+function spentSentence() {
+  if (!shown.comparison) return "";
+  const {from, to} = shown.comparison;
+  if (to < from) return "";
+  const spent = shown.pictures.map((picture) => carsInRows(picture, from, to));
+  const name = unit.given ? "veh\u00b7h" : "car steps";
+  const hours = (steps) =>
+    (unit.given ? String(Number((steps * unit.time / 60).toPrecision(4))) : String(steps));
+  const [one, other] = spent.map(hours);
+  const change = spent[1] - spent[0];
+  const apart = change ? `${hours(Math.abs(change))} ${change > 0 ? "more" : "less"}` : "the same";
+  const both = `first ${one} ${name}, second ${other} ${name}, ${apart}.`;
+  return `Time on the road in the ${stepsText(from, to)}: ${both} ${enteredSentence(from, to)} ` +
+    leftSentence(to);
+}
+
+function enteredSentence(from, to) {
+  const [plan] = shown.plans;
+  if (!plan) return "How many cars entered cannot be said without the script.";
+  const counts = plan.inlets.map(([cell]) => ({cell, cars: shown.pictures.map((picture) =>
+    entries(picture, cell, plan, from, to))}));
+  const seen = counts.filter(({cars}) => cars[0] !== null);
+  const sum = (which) => seen.reduce((total, {cars}) => total + cars[which], 0);
+  const [one, other] = [sum(0), sum(1)];
+  const where = seen.filter(({cars}) => cars[0] !== cars[1])
+    .map(({cell, cars}) => `${more(cars[1] - cars[0])} at ${cellOrKm(cell)}`);
+  const unseen = counts.length - seen.length;
+  return `Entered: first ${one} cars, second ${other}` +
+    (where.length ? `, ${where.join(", ")}. Demand that is lost at an inlet costs no time here.`
+      : ", as many at each inlet.") +
+    (unseen ? ` At ${unseen} inlet before the road's end entries cannot be seen.` : "");
+}
+
+function leftSentence(to) {
+  const [one, other] = shown.pictures.map((picture) => carsInRows(picture, to, to));
+  return `On the road at the end: first ${one} cars, second ${other}.`;
+}
+
+// The curves as a table and as CSV.
+
+function cumulativeLines(curves) {
+  const sites = sitesChosen();
+  const heads = curves.flatMap((both, which) => both.map((_, index) =>
+    `${which ? "second" : "first"}, ${cellOrKm(sites[index])}`));
+  const lines = new Map();
+  curves.flat().forEach((points, column) => {
+    for (const [step, cars] of points) {
+      if (!lines.has(step)) lines.set(step, Array(heads.length).fill(null));
+      lines.get(step)[column] = cars;
+    }
+  });
+  return {heads: [unit.names.time, ...heads],
+          lines: [...lines].sort((one, other) => one[0] - other[0])
+            .map(([step, cars]) => [momentText(step, unit), ...cars])};
+}
+
+function writeCumulative(curves) {
+  const {heads, lines} = cumulativeLines(curves);
+  const apart = Math.ceil(niceAbove(lines.length / 40));
+  const some = lines.filter((_, index) => index % apart === 0 || index === lines.length - 1);
+  page.cumulativeTable.replaceChildren(newTable(heads, some.map((line) =>
+    line.map((value) => String(value ?? "\u2013")))));
+}
+
+function saveCumulative() {
+  const {heads, lines} = cumulativeLines([0, 1].map(cumulative));
+  saveAsCsv(heads, lines, "cumulative.csv");
+}
+
+const cumulativeChart = newCanvas("chart", "Cars that have passed two sites, by steps; the table " +
+  "below has the figures", page.cumulativeFigure);

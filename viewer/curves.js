@@ -1,0 +1,123 @@
+"use strict";
+// The curves below the pictures, their table and their CSV: flow and mean speed by the counts of a
+// detector, density by the rows; or all three of a stretch by the rows alone.
+
+const allCounts = (which) =>
+  shown.runs[which]?.counts.get(Number(page.detector.value)) ?? [];
+const countsShown = (which) => equalSpans(allCounts(which));
+const byRows = () => page.detector.value === "stretch";
+
+/** The cells of the stretch, ends excluded, and the steps of a point: as the fields have them, else
+    the road before its deleted zone, and a round part of the steps. */
+function stretchOf(picture, plan) {
+  const field = (name, factor) =>
+    (page[name].value === "" ? null : Math.round(Number(page[name].value) / factor));
+  const round = Math.ceil(niceAbove(picture.rows.length / 40));
+  const end = picture.length - (plan?.exit ?? 0);
+  const within = (cell) => Math.max(0, Math.min(cell, end));
+  const from = within(field("stretchFrom", unit.place) ?? 0);
+  return {cells: [from, Math.max(from, within(field("stretchTo", unit.place) ?? end))],
+          span: Math.max(1, field("span", unit.time) ?? round)};
+}
+
+/** What the curves show of a picture, each with its steps, flow, speed and density. */
+function measured(which) {
+  const picture = shown.pictures[which];
+  if (byRows()) return (picture ? edieSpans(picture, stretchOf(picture, shown.plans[which])) : []);
+  return countsShown(which).map(({from, to, cars, speeds}) =>
+    ({from, to, flow: cars / (to - from), speed: cars ? speeds / cars : null,
+      density: meanDensity(picture, from, to)}));
+}
+
+function drawCharts() {
+  const lists = [0, 1].map(measured);
+  const points = (list, name) => list.filter((one) => one[name] !== null)
+    .map((one) => [(one.from + one.to) / 2, one[name] * unit[name]]);
+  const rows = shown.pictures.map((picture) => (picture?.cars ?? []).map((cars, index) =>
+    [picture.from + index, cars / picture.length * unit.density]));
+  const seen = shown.pictures.some(Boolean) ? stepsShown() : [];
+  const ends = [...lists.flat().flatMap(({from, to}) => [from, to]), ...seen];
+  const range = ends.length ? [Math.min(...ends), Math.max(...ends)] : [0, 1];
+  ["flow", "speed", "density"].forEach((name, index) => {
+    const both = name === "density" && !byRows() ? rows : lists.map((list) => points(list, name));
+    const title = `${name === "speed" ? "mean speed" : name}, ${unit.names[name]}`;
+    const series = both.map((list, which) => ({points: list, ...SERIES[which]}));
+    drawChart(charts[index], {title, series, range, unit});
+  });
+  writeTable(lists);
+  tellCounts(lists);
+}
+
+function tellCounts(lists) {
+  page.stretch.hidden = !byRows();
+  page.placeUnit.textContent = unit.given ? "km" : "cells";
+  page.timeUnit.textContent = unit.given ? "min" : "steps";
+  const picture = shown.pictures.find(Boolean);
+  if (byRows()) {
+    const {cells, span} = stretchOf(picture, shown.plans[shown.pictures.indexOf(picture)]);
+    page.stretchFrom.placeholder = long(cells[0] * unit.place);
+    page.stretchTo.placeholder = long(cells[1] * unit.place);
+    page.span.placeholder = long(span * unit.time);
+  }
+  const leftOut = [0, 1].flatMap(allCounts).length - lists.flat().length;
+  page.countNote.textContent = !lists.flat().length
+    ? "No counts and no whole span of rows here."
+    : "First picture: dots, drawn through. Second: squares, broken." +
+      (!byRows() && leftOut ? ` Counts of another span left out: ${leftOut}.` : "") +
+      (byRows() ? " The speed is the space-mean one." : "");
+}
+
+/** Lines of the table: heads, and a picture's points with numbers, null where there is none. */
+function tableLines(lists) {
+  const heads = ["picture", `from, ${unit.names.time}`, `to, ${unit.names.time}`,
+                 `flow, ${unit.names.flow}`, `mean speed, ${unit.names.speed}`,
+                 `density, ${unit.names.density}`];
+  const lines = lists.map((list, which) => list.map((one) =>
+    [which ? "second" : "first", long(one.from * unit.time), long(one.to * unit.time),
+     ...["flow", "speed", "density"].map((name) =>
+       (one[name] === null ? null : one[name] * unit[name]))]));
+  return {heads, lines};
+}
+
+function writeTable(lists) {
+  const {heads, lines} = tableLines(lists);
+  const figure = (value) => (typeof value === "number" ? short(value) : value ?? "\u2013");
+  const texts = lines.flatMap((list) => list.slice(0, 500).map((line) => line.map(figure)));
+  page.table.replaceChildren(newTable(heads, texts));
+}
+
+function newTable(heads, lines) {
+  const table = document.createElement("table");
+  const addRow = (name, texts) =>
+    table.insertRow().append(...texts.map((text) => withText(name, text)));
+  addRow("th", heads);
+  for (const line of lines) addRow("td", line);
+  return table;
+}
+
+function saveCsv() {
+  const {heads, lines} = tableLines([0, 1].map(measured));
+  saveAsCsv(heads, lines.flat(), "counts.csv");
+}
+
+function saveAsCsv(heads, lines, name) {
+  const texts = lines.map((line) =>
+    line.map((value) => (typeof value === "number" ? long(value) : value ?? "")).join(","));
+  const head = heads.map((text) => `"${text}"`).join(",");
+  download(new Blob([[head, ...texts, ""].join("\n")], {type: "text/csv"}), name);
+}
+
+function download(blob, name) {
+  const link = document.createElement("a");
+  link.href = URL.createObjectURL(blob);
+  link.download = name;
+  link.click();
+}
+
+function newChart(name) {
+  const figure = document.createElement("figure");
+  page.charts.append(figure);
+  return newCanvas("chart", `${name} by steps; the table below has the figures`, figure);
+}
+
+const charts = ["Flow", "Mean speed", "Density"].map(newChart);

@@ -1,0 +1,147 @@
+"use strict";
+// What pictures say of their road: where two differ, how many cars there are and how fast, which
+// enter, pass and leave. It reads no element of the page. Steps `from` to `to - 1`, unless said.
+//
+// comparison(one, other)  survey(picture)  meanDensity(picture, from, to)  carsInRows(picture, ..)
+// edieSums(picture, from, span, cells)  edieSpans(picture, {cells, span})  equalSpans(counts)
+// passings(picture, site, plan, from, to)  entries(picture, inlet, plan, from, to)
+// carsBetween(picture, step, cells)
+
+/** The cells that differ in the steps that both pictures show: {from, to, cells, step, cell}, with
+    the last step they share, and the first cell that differs, null where none does. */
+function comparison(one, other) {
+  const from = Math.max(one.from, other.from);
+  const to = Math.min(lastStep(one), lastStep(other));
+  const found = {from, to, cells: 0, step: null, cell: null};
+  for (let step = from; step <= to; step++) {
+    const [row, beside] = [rowAt(one, step), rowAt(other, step)];
+    if (row === beside) continue;
+    for (let cell = 0; cell < row.length; cell++) {
+      if (row[cell] === beside[cell]) continue;
+      if (found.step === null) Object.assign(found, {step, cell});
+      found.cells++;
+    }
+  }
+  return found;
+}
+
+/** Notes in a picture the cars of each row and the greatest speed. */
+function survey(picture) {
+  let most = 49;   // the code of speed 1
+  picture.cars = picture.rows.map((row) => {
+    let cars = 0;
+    for (let cell = 0; cell < row.length; cell++) {
+      const code = row.charCodeAt(cell);
+      if (code > 46) cars++;   // behind "#" and "."
+      if (code > most) most = code;
+    }
+    return cars;
+  });
+  picture.greatest = most - 48;
+}
+
+/** The mean density in cars a cell, where the picture has all of the steps. */
+function meanDensity(picture, from, to) {
+  if (!picture || from < picture.from || to - 1 > lastStep(picture)) return null;
+  const part = picture.cars.slice(from - picture.from, to - picture.from);
+  return part.reduce((sum, cars) => sum + cars, 0) / part.length / picture.length;
+}
+
+/** The cars of the rows `from` to `to`, both among them, added. */
+const carsInRows = (picture, from, to) =>
+  picture.cars.slice(from - picture.from, to - picture.from + 1)
+    .reduce((sum, cars) => sum + cars, 0);
+
+/** The cars and their speeds on some cells in some rows: [cars, speeds]. */
+function edieSums(picture, from, span, cells) {
+  let [cars, speeds] = [0, 0];
+  for (let step = from; step < from + span; step++) {
+    const row = rowAt(picture, step);
+    for (let cell = cells[0]; cell < cells[1]; cell++) {
+      const speed = row.charCodeAt(cell) - 48;   // "#" and "." are below it
+      if (speed < 0) continue;
+      cars++;
+      speeds += speed;
+    }
+  }
+  return [cars, speeds];
+}
+
+/** Flow, space-mean speed and density of a stretch by Edie's sums, for each whole span of steps. */
+function edieSpans(picture, {cells, span}) {
+  const found = [];
+  for (let from = Math.ceil(picture.from / span) * span; from + span - 1 <= lastStep(picture);
+       from += span) {
+    const [cars, speeds] = edieSums(picture, from, span, cells);
+    const area = Math.max(1, span * (cells[1] - cells[0]));
+    found.push({from, to: from + span, flow: speeds / area, speed: cars ? speeds / cars : null,
+                density: cars / area});
+  }
+  return found;
+}
+
+/** The counts of the span that is met most often, by rising steps. */
+function equalSpans(counts) {
+  const sizes = new Map();
+  for (const {from, to} of counts) sizes.set(to - from, (sizes.get(to - from) ?? 0) + 1);
+  const [span] = [...sizes].sort((one, other) => other[1] - one[1])[0] ?? [];
+  return counts.filter(({from, to}) => to - from === span)
+    .sort((one, other) => one.from - other.from);
+}
+
+// Cars that pass and enter, by two rows one after the other: a car of speed v at cell c stood at
+// c - v before it moved, and no car overtakes another. One that has no such cell was taken off.
+
+const FASTEST = 9;
+
+const isCar = (row, cell) => row.charCodeAt(cell) > 46;   // behind "#" and "."
+const speedAt = (row, cell) => (isCar(row, cell) ? row.charCodeAt(cell) - 48 : null);
+const endOfRoad = (plan) => plan.length - plan.exit;
+
+/** Whether the car of a cell is on the road in the next row. */
+function stays(next, cell, end) {
+  for (let speed = 0; speed <= FASTEST && cell + speed < end; speed++) {
+    if (speedAt(next, cell + speed) === speed) return true;
+  }
+  return false;
+}
+
+/** How many cars move, in each of the steps, from a cell before the site to it or past it, also
+    those that are taken off in the step. At the end of the road these are all that leave. */
+function passings(picture, site, plan, from, to) {
+  const end = endOfRoad(plan);
+  const found = [];
+  for (let step = from; step < to; step++) {
+    const [row, next] = [rowAt(picture, step), rowAt(picture, step + 1)];
+    let cars = 0;
+    for (let cell = site; cell < Math.min(end, site + FASTEST); cell++) {
+      if (isCar(next, cell) && cell - speedAt(next, cell) < site) cars++;
+    }
+    for (let cell = Math.max(0, end - FASTEST); cell < site; cell++) {
+      if (isCar(row, cell) && !stays(next, cell, end)) cars++;
+    }
+    found.push(cars);
+  }
+  return found;
+}
+
+/** How many cars enter at an inlet's cell in the steps: such a car stands there afterwards, or has
+    moved by one. Null where it is at once at the end of the road, and no row has it. */
+function entries(picture, inlet, plan, from, to) {
+  if (inlet + 1 >= endOfRoad(plan)) return null;
+  let cars = 0;
+  for (let step = from; step < to; step++) {
+    const [row, next] = [rowAt(picture, step), rowAt(picture, step + 1)];
+    if (isCar(row, inlet)) continue;
+    if (speedAt(next, inlet) === 0 || speedAt(next, inlet + 1) === 1) cars++;
+  }
+  return cars;
+}
+
+/** The cars of a step on some cells. */
+function carsBetween(picture, step, cells) {
+  const row = rowAt(picture, step);
+  let cars = 0;
+  for (let cell = cells[0]; cell < cells[1]; cell++) cars += isCar(row, cell);
+  return cars;
+}

@@ -1,0 +1,344 @@
+"use strict";
+// The two pictures of the page: what is shown, where the view is, and how it is moved.
+
+/** The elements of this page, by their ids. */
+const page = Object.fromEntries([...document.querySelectorAll("[id]")].map((one) => [one.id, one]));
+const on = (target, name, act, options) => target.addEventListener(name, act, options);
+
+const SCALES = [1 / 32, 1 / 16, 1 / 8, 1 / 4, 1 / 2, 1, 2, 3, 4, 6, 8, 10, 12, 14, 16, 20, 24, 32];
+
+/** What is shown of the first and of the second picture, and of both: `comparison` is null where
+    `whyNot` says why they are not compared; `fit` is how the view came to be, null after a zoom. */
+const shown = {pictures: [null, null], plans: [null, null], runs: [null, null], greatest: 1,
+               comparison: null, whyNot: "", many: false, marksHid: false, fit: null, step: 0,
+               pointed: null, saved: false};
+const view = {cell: 0, step: 0, scale: 8, tall: 8};
+const tiles = new Tiles();
+let unit = PLAIN;
+
+const picturesShown = () => shown.pictures.filter(Boolean);
+const marksShown = () => Boolean(shown.comparison) && page.marks.checked;
+const panesShown = () => [0, 1, 2].filter((which) => !panes[which].figure.hidden);
+
+/** The picture of a pane, the third being the second's difference from the first. */
+const pictureOf = (which) => shown.pictures[Math.min(which, 1)];
+
+/** The first and last step of what is shown. */
+function stepsShown() {
+  const both = picturesShown();
+  if (!both.length) return [0, 0];
+  return [Math.min(...both.map((one) => one.from)), Math.max(...both.map(lastStep))];
+}
+
+const cellsShown = () => Math.max(1, ...picturesShown().map((one) => one.length));
+
+function withText(name, text) {
+  const made = document.createElement(name);
+  made.textContent = text;
+  return made;
+}
+
+// 1. Drawing.
+
+const byMeans = () => (page.paint.value === "zoom" ? meansAreSeen(view)
+  : page.paint.value === "means");
+
+function paintPane(context, which, part) {
+  if (which < 2) paintPicture(context, which, part);
+  else {
+    paintDifference(context, view, shown.pictures[1], shown.pictures[0], part,
+                    {tiles, name: which, greatest: shown.greatest});
+  }
+}
+
+function paintPicture(context, which, part) {
+  const [picture, other] = which ? [...shown.pictures].reverse() : shown.pictures;
+  const kept = {tiles, name: which, greatest: shown.greatest};
+  const means = byMeans();
+  if (means) paintMeans(context, view, picture, part, kept);
+  else paintCells(context, view, picture, part, kept);
+  if (marksShown() && (means || sizeOfCell(view) < FRAMES_FROM)) {
+    paintMarks(context, view, picture, other, part, kept);
+  }
+  if (means) return;
+  paintClosures(context, view, picture, part, kept);
+  drawDetails(context, view, picture, marksShown() ? other : null, part, shown.greatest);
+}
+
+function drawDiagram(which, {context, width, height}) {
+  const part = inView(view, pictureOf(which), width, height);
+  clip(context, MARGIN.top, width, height - MARGIN.top - MARGIN.bottom);
+  context.fillStyle = shown.saved ? EMPTY : NO_ROW;
+  context.fillRect(0, 0, width, height);
+  paintPane(context, which, part);
+  if (shown.pointed) drawFrame(context, view, shown.pointed.step, shown.pointed.cell);
+  context.restore();
+  drawAxes(context, view, part, unit);
+  drawPlan(context, view, shown.plans[Math.min(which, 1)], width);
+  drawWedge(context, view, shown.step, INK, height);
+  const first = shown.comparison?.step ?? null;
+  if (first !== null) drawWedge(context, view, first, DIFFERS, height);
+}
+
+/** The road at the slider's step, under the diagram's cells. */
+function drawRoad(which, {context, width}) {
+  const picture = shown.pictures[which];
+  pen(context, "right");
+  context.fillText(momentText(shown.step, unit), MARGIN.left - 11, 17);
+  drawStrip(context, view, rowAt(picture, shown.step), inView(view, picture, width, 100), width,
+            {greatest: shown.greatest, figures: !unit.given});
+}
+
+function legendEntries() {
+  const blocked = {text: "blocked", colour: BLOCKED, cross: true};
+  const noRow = shown.saved ? [] : [{text: "no row", colour: NO_ROW}];
+  const ofPlan = shown.plans.some(Boolean) ? PLAN_ENTRIES : [];
+  if (panesShown().includes(2)) {
+    return ["the second is:", ...DIFFERENCE_ENTRIES, blocked, ...noRow, ...ofPlan];
+  }
+  const [title, ...speeds] = speedEntries(shown.greatest, unit);
+  return [byMeans() ? `mean ${title}` : title, ...speeds, blocked,
+          {text: "empty", colour: EMPTY}, ...noRow, {text: "differs", colour: EMPTY, frame: true},
+          ...ofPlan];
+}
+
+function drawAll() {
+  for (const which of panesShown()) {
+    drawDiagram(which, cleared(panes[which].diagram));
+    if (which < 2) drawRoad(which, cleared(panes[which].strip));
+  }
+  drawLegend(cleared(page.legend).context, MARGIN.left, legendEntries());
+}
+
+let drawingAsked = false;
+function askDrawing() {
+  if (drawingAsked) return;
+  drawingAsked = true;
+  requestAnimationFrame(() => {
+    drawingAsked = false;
+    drawAll();
+  });
+}
+
+// 2. The view.
+
+function plotSize() {
+  const {diagram} = panes[panesShown()[0] ?? 0];
+  return [diagram.clientWidth - MARGIN.left - MARGIN.right,
+          diagram.clientHeight - MARGIN.top - MARGIN.bottom];
+}
+
+/** How many cells and steps the plot has room for. */
+function roomOfPlot() {
+  const [width, height] = plotSize();
+  return [width / view.scale, height / view.tall];
+}
+
+/** Keeps the view on the picture, and on whole pixels. */
+function settle() {
+  const [width, height] = roomOfPlot();
+  const [from, to] = stepsShown();
+  const within = (at, low, high) => Math.max(low, Math.min(at, Math.max(low, high)));
+  const onPixel = (at, scale) => Math.round(at * scale) / scale;
+  view.cell = onPixel(within(view.cell, 0, cellsShown() - width), view.scale);
+  view.step = onPixel(within(view.step, from, to + 1 - height), view.tall);
+  askDrawing();
+}
+
+/** Shows the picture from its corner on: the whole of it where a cell then has a pixel or more, and
+    at most 20. */
+function begin() {
+  const [width, height] = plotSize();
+  const [from, to] = stepsShown();
+  const most = Math.min(width / cellsShown(), height / (to - from + 1), 20);
+  const scale = Math.max(1, SCALES.findLast((one) => one <= most) ?? SCALES[0]);
+  Object.assign(view, {cell: 0, step: from, scale, tall: scale});
+  shown.fit = begin;
+  settle();
+}
+
+/** Shows the whole picture: it fills its box. */
+function whole() {
+  const [width, height] = plotSize();
+  const [from, to] = stepsShown();
+  Object.assign(view, {cell: 0, step: from, scale: width / cellsShown(),
+                       tall: height / (to - from + 1)});
+  shown.fit = whole;
+  settle();
+}
+
+/** Shows as much as before in a box of another size. */
+const fitAgain = () => (shown.fit ?? settle)();
+
+/** The next scale from one on, greater or less. */
+const nextScale = (scale, greater) => (greater ? SCALES.find((one) => one > scale * 1.001)
+  : SCALES.findLast((one) => one < scale * 0.999)) ?? scale;
+
+/** Zooms in or out about a place of the plot: the width of cells, the height of rows, or both. */
+function zoom(closer, x, y, side = "both") {
+  const [width, height] = plotSize();
+  const [right, down] = [x ?? width / 2, y ?? height / 2];
+  const scale = side === "height" ? view.scale : nextScale(view.scale, closer);
+  const tall = side === "width" ? view.tall : nextScale(view.tall, closer);
+  view.cell += right / view.scale - right / scale;
+  view.step += down / view.tall - down / tall;
+  Object.assign(view, {scale, tall});
+  shown.fit = null;
+  settle();
+}
+
+function move(cells, steps) {
+  if (shown.fit === begin) shown.fit = null;
+  view.cell += cells;
+  view.step += steps;
+  settle();
+}
+
+// 3. What is pointed at, and the slider's step.
+
+function setSlider() {
+  const [from, to] = stepsShown();
+  Object.assign(page.step, {min: from, max: to});
+  setStep(Math.min(to, Math.max(from, shown.step)));
+}
+
+function setStep(step) {
+  shown.step = step;
+  page.step.value = step;
+  page.stepNumber.textContent = momentText(step, unit) + (unit.given ? " min" : "");
+  askDrawing();
+}
+
+function saidOf(picture, {step, cell}) {
+  const sign = rowAt(picture, step)?.[cell];
+  if (sign === undefined) return "no row";
+  if (sign === "#") return "blocked";
+  if (sign === ".") return "empty";
+  return unit.given ? `car at ${long(sign * unit.speed)} km/h` : `car of speed ${sign}`;
+}
+
+function point(step, cell, byKey) {
+  const [from, to] = stepsShown();
+  shown.pointed = {step: Math.max(from, Math.min(to, step)),
+                   cell: Math.max(0, Math.min(cellsShown() - 1, cell))};
+  const texts = picturesShown().map((picture) => saidOf(picture, shown.pointed));
+  page.readout.setAttribute("aria-live", byKey ? "polite" : "off");
+  const said = texts.length === 2 ? `first ${texts[0]}, second ${texts[1]}` : texts[0] ?? "no row";
+  const {step: at, cell: place} = shown.pointed;
+  const where = `Step ${stepText(at)}, cell ${cellText(place)}`;
+  page.readout.textContent = `${where}: ${said}`;
+  askDrawing();
+}
+
+function movePointed(cells, steps) {
+  const at = shown.pointed ?? {step: Math.ceil(view.step), cell: Math.ceil(view.cell)};
+  point(at.step + steps, at.cell + cells, true);
+  const [width, height] = roomOfPlot();
+  const {step, cell} = shown.pointed;
+  if (cell < view.cell || cell >= view.cell + width) view.cell = cell - width / 2;
+  if (step < view.step || step >= view.step + height) view.step = step - height / 2;
+  settle();
+}
+
+// 4. Keys and mouse.
+
+const ARROWS = {ArrowLeft: [-1, 0], ArrowRight: [1, 0], ArrowUp: [0, -1], ArrowDown: [0, 1]};
+
+function onKey(event) {
+  if (event.ctrlKey || event.altKey || event.metaKey) return;
+  const [width, height] = roomOfPlot();
+  const [from, to] = stepsShown();
+  const arrow = ARROWS[event.key];
+  const acts = {
+    "+": () => zoom(true), "=": () => zoom(true), "-": () => zoom(false), f: whole,
+    PageUp: () => move(0, -height), PageDown: () => move(0, height),
+    Home: () => move(0, from - view.step), End: () => move(0, to - view.step),
+    d: () => page.marks.click(),
+  };
+  if (arrow) {
+    acts[event.key] = event.shiftKey ? () => movePointed(...arrow)
+      : () => move(arrow[0] * width / 10, arrow[1] * height / 10);
+  }
+  const act = acts[event.key.length === 1 ? event.key.toLowerCase() : event.key];
+  if (!act) return;
+  event.preventDefault();
+  act();
+}
+
+function listenTo(diagram) {
+  let dragged = null;
+  let turned = 0;
+  on(diagram, "pointerdown", (event) => {
+    dragged = [event.clientX, event.clientY];
+    diagram.setPointerCapture(event.pointerId);
+  });
+  on(diagram, "pointerup", () => { dragged = null; });
+  on(diagram, "pointercancel", () => { dragged = null; });
+  on(diagram, "pointermove", (event) => {
+    if (dragged) {
+      move((dragged[0] - event.clientX) / view.scale, (dragged[1] - event.clientY) / view.tall);
+      dragged = [event.clientX, event.clientY];
+    }
+    point(Math.floor(stepAt(view, event.offsetY)), Math.floor(cellAt(view, event.offsetX)), false);
+  });
+  on(diagram, "wheel", (event) => {
+    event.preventDefault();
+    turned += (event.deltaY || event.deltaX) * (event.deltaMode ? 40 : 1);
+    if (Math.abs(turned) < 50) return;
+    const side = event.shiftKey ? "width" : event.altKey ? "height" : "both";
+    zoom(turned < 0, event.offsetX - MARGIN.left, event.offsetY - MARGIN.top, side);
+    turned = 0;
+  }, {passive: false});
+  on(diagram, "keydown", onKey);
+}
+
+function newCanvas(className, label, figure) {
+  const canvas = document.createElement("canvas");
+  Object.assign(canvas, {className, role: "img", ariaLabel: label});
+  figure.append(canvas);
+  return canvas;
+}
+
+function newPane() {
+  const figure = document.createElement("figure");
+  const caption = withText("figcaption", "");
+  figure.append(caption);
+  page.panes.append(figure);
+  const diagram = newCanvas("diagram", "Space-time diagram", figure);
+  diagram.tabIndex = 0;
+  listenTo(diagram);
+  const strip = newCanvas("strip", "The road at the slider's step", figure);
+  return {figure, caption, diagram, strip};
+}
+
+const panes = [newPane(), newPane(), newPane()];
+panes[2].strip.hidden = true;
+
+// 5. Playing: so many times as fast as the road's own time; a step is a second without units.
+
+let playing = 0;
+let playedFrom = {step: 0, at: 0};
+
+/** The step so many milliseconds after one; behind the last step the first comes again. */
+function stepAfter(step, milliseconds, rate, [from, to]) {
+  const steps = Math.floor(milliseconds / 1000 * rate / (unit.given ? 60 * unit.time : 1));
+  return from + (step - from + steps) % (to - from + 1);
+}
+
+function playFromHere() {
+  playedFrom = {step: shown.step, at: performance.now()};
+}
+
+function play() {
+  page.play.textContent = playing ? "Play" : "Stop";
+  clearInterval(playing);
+  if (playing) {
+    playing = 0;
+    return;
+  }
+  playFromHere();
+  playing = setInterval(() => {
+    const passed = performance.now() - playedFrom.at;
+    setStep(stepAfter(playedFrom.step, passed, Number(page.rate.value), stepsShown()));
+  }, 40);
+}

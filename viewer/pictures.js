@@ -1,0 +1,197 @@
+"use strict";
+// Which pictures are shown, how they are called, and in what two of them differ.
+
+const transcripts = [null, null];
+
+/** All that can be shown: the pictures of each run, and runs that have counts alone. */
+function offers() {
+  return transcripts.flatMap((transcript, slot) => (transcript?.runs ?? []).flatMap((run) => {
+    const pictures = run.pictures.length ? run.pictures : run.counts.size ? [null] : [];
+    return pictures.map((picture) => ({slot, transcript, run, picture}));
+  }));
+}
+
+/** Figures in steps or cells, and in minutes or km too where there are units. */
+const minutes = (step) => String(Number((step * unit.time).toFixed(2)));
+const withUnit = (plain, figure, name) => (unit.given ? `${plain} (${figure} ${name})` : plain);
+const stepsText = (from, to) =>
+  withUnit(`steps ${from} to ${to}`, `${minutes(from)} to ${minutes(to)}`, "min");
+const stepText = (step) => withUnit(step, minutes(step), "min");
+const cellText = (cell) => withUnit(cell, placeText(cell, unit), "km");
+
+/** What a picture is called: whose it is, after how many changes, and its steps. */
+function labelOf({slot, run, picture}) {
+  const steps = picture ? stepsText(picture.from, lastStep(picture)) : "counts alone";
+  const after = run.changes === 0 ? "before any edit"
+    : `after ${run.changes} change${run.changes > 1 ? "s" : ""}, the last ${run.last}`;
+  const whose = transcripts[1] ? `${slot ? "second" : "first"} transcript, ` : "";
+  return `${whose}${run.at} ${after}: ${steps}`;
+}
+
+const rowsOf = (offer) => offer.picture?.rows.length ?? 0;
+const rowsShared = (one, other) => !one.picture || !other.picture ? 0
+  : Math.min(lastStep(one.picture), lastStep(other.picture))
+    - Math.max(one.picture.from, other.picture.from) + 1;
+
+/** The last of a list that `better` prefers to those before it; null of none. */
+const bestOf = (list, better) =>
+  list.reduce((best, one) => (best && !better(one, best) ? best : one), null);
+
+/** Of two transcripts the longest picture of the first, and the last of the second that shares most
+    steps with it. Of one, two that share half of the longest one's steps: the first and the last of
+    a replica, before and after what was changed; else the longest and the last. */
+function choice(all) {
+  const longest = bestOf(all.filter(({slot}) => slot === all[0].slot),
+                         (one, best) => rowsOf(one) > rowsOf(best));
+  const second = all.filter(({slot}) => slot > longest.slot);
+  if (second.length) return [longest, nearest(longest, second)];
+  const halves = ([one, other]) => rowsShared(one, other) >= rowsOf(longest) / 2;
+  return beforeAndAfter(all.filter((one) => halves([one, longest])), halves)
+    ?? [longest, nearest(longest, all.filter((one) => one !== longest && halves([one, longest])))];
+}
+
+const nearest = (offer, others) =>
+  bestOf(others, (one, best) => rowsShared(offer, one) >= rowsShared(offer, best));
+
+/** The first picture of a replica and the last that shares most steps with it; null of none. */
+function beforeAndAfter(all, halves) {
+  const first = new Map();
+  const pairs = all.flatMap((after) => {
+    const before = first.get(after.run.at);
+    if (!before) first.set(after.run.at, after);
+    return before && halves([before, after]) ? [[before, after]] : [];
+  });
+  return bestOf(pairs, (one, best) => rowsShared(...one) >= rowsShared(...best));
+}
+
+function offerPictures() {
+  const all = offers();
+  choice(all).forEach((offer, which) => {
+    const select = page["picture" + which];
+    offerIn(select, optionsOf(which));
+    select.value = all.indexOf(offer);
+  });
+  for (const name of SITES) page[name].replaceChildren();   // of another road
+  showPictures();
+}
+
+function optionsOf(which) {
+  const options = offers().map((offer, index) => new Option(labelOf(offer), index));
+  return which ? [new Option("none", -1), ...options] : options;
+}
+
+/** Offers choices in a select element, which keeps its choice where it can; the same choices get
+    their new names while it may be open. */
+function offerIn(select, options, wanted) {
+  const values = (list) => [...list].map(({value}) => value).join("\n");
+  if (values(select.options) === values(options)) {
+    options.forEach(({text}, index) => { select.options[index].text = text; });
+    return;
+  }
+  const before = select.value;
+  select.replaceChildren(...options);
+  const has = (value) => options.some((option) => option.value === value);
+  if (has(before)) select.value = before;
+  else if (has(wanted)) select.value = wanted;
+}
+
+const picked = () => {
+  const all = offers();
+  return [0, 1].map((which) => all[Number(page["picture" + which].value)] ?? null);
+};
+
+function showPictures() {
+  const offered = picked();
+  shown.pictures = offered.map((offer) => offer?.picture ?? null);
+  shown.runs = offered.map((offer) => offer?.run ?? null);
+  picturesShown().filter((picture) => !picture.cars).forEach(survey);
+  shown.greatest = Math.max(1, ...picturesShown().map((picture) => picture.greatest));
+  shown.pointed = null;
+  shown.plans = offered.map((offer) => offer?.transcript.plan ?? null);
+  shown.whyNot = whyNotCompared();
+  shown.comparison = shown.whyNot === null ? comparison(...shown.pictures) : null;
+  tiles.clear();
+  layPanes();
+  setSlider();
+  if (shown.fit === whole) whole();
+  else begin();
+  markWhereSeen();
+  tellAll();
+}
+
+/** Writes anew all that has figures in units. */
+function tellAll() {
+  for (const which of [0, 1]) offerIn(page["picture" + which], optionsOf(which));
+  namePanes();
+  page.difference.textContent = comparisonSentence();
+  offerDetectors();
+  offerSites();
+  drawCharts();
+  drawSpent();
+  askDrawing();
+}
+
+/** Why two pictures are not compared, "" where there are not two; else null. */
+function whyNotCompared() {
+  const [one, other] = shown.pictures;
+  if (!one || !other) return "";
+  const part = differentPart(...shown.plans);
+  if (part) return `Not compared: the ${part} of the two plans differ.`;
+  return one.length === other.length ? null
+    : "Not compared: the roads have different lengths.";
+}
+
+/** Small cells are marked whole: where many differ, marks are off at first. */
+function markWhereSeen() {
+  const {cells, from, to} = shown.comparison ?? {cells: 0, from: 0, to: 0};
+  const hide = cells > (to - from + 1) * cellsShown() / 10 && sizeOfCell(view) < FRAMES_FROM;
+  if (hide && page.marks.checked) [shown.marksHid, page.marks.checked] = [true, false];
+  else if (!hide && shown.marksHid) [shown.marksHid, page.marks.checked] = [false, true];
+  shown.many = hide;
+}
+
+function comparisonSentence() {
+  if (!shown.comparison) return shown.whyNot;
+  const {from, to, step, cell, cells} = shown.comparison;
+  if (to < from) return "The pictures have no step in common.";
+  const all = `in the ${stepsText(from, to)}.`;
+  if (step === null) return `No cell differs ${all}`;
+  const many = shown.many
+    ? " They are many, so they are not marked: their difference alone tells more." : "";
+  return `First differing step: ${stepText(step)}, there first at cell ${cellText(cell)}. ` +
+    `${cells} of ${(to - from + 1) * shown.pictures[0].length} cells differ ${all}${many}`;
+}
+
+/** Lays out the panes: both pictures, or their difference alone. */
+function layPanes() {
+  const alone = page.layout.value === "difference" && shown.comparison;
+  const seen = alone ? [2] : [0, 1].filter((which) => shown.pictures[which]);
+  panes.forEach(({figure}, which) => { figure.hidden = !seen.includes(which); });
+  page.panes.className = `${page.layout.value} ${seen.length === 2 ? "two" : "one"}`;
+}
+
+function namePanes() {
+  const names = picked().map((offer) => offer && `${offer.transcript.name}: ${labelOf(offer)}`);
+  names.push("The second picture beside the first: where its cars are slower or faster");
+  names.forEach((text, which) => {
+    const {caption, diagram} = panes[which];
+    caption.textContent = caption.title = text ?? "";
+    diagram.ariaLabel = `Space-time diagram. ${text ?? ""}`;
+  });
+}
+
+/** A detector's name: its index, and where it is. */
+function siteName(index, plan) {
+  const site = plan?.detectors[index];
+  if (site === undefined) return String(index);
+  return unit.given ? `${index}, at ${placeText(site, unit)} km` : `${index}, before cell ${site}`;
+}
+
+function offerDetectors() {
+  const found = new Set(shown.runs.flatMap((run) => [...(run?.counts.keys() ?? [])]));
+  const plan = shown.plans.find(Boolean);
+  const options = [...found].sort((one, other) => one - other)
+    .map((index) => new Option(siteName(index, plan), index));
+  if (picturesShown().length) options.push(new Option("none: a stretch, by its rows", "stretch"));
+  offerIn(page.detector, options);
+}

@@ -1,0 +1,287 @@
+"use strict";
+// A transcript: a script's lines and the replies to them, read from files, as runs with pictures
+// (rows) and counts. It reads no element of the page.
+//
+// linesOf(file, say, goesOn)  exchangesOf(files, say)  roleOf(lines)
+// new Transcript(name, firstStep, say).take(exchange)  differentPart(plan, other)
+
+// 1. Lines. A transcript is a plan line and commands, with a reply to each.
+
+const COMMANDS = ["edit", "withdraw", "import", "send", "heads", "beyond", "take", "advance",
+                  "cells", "cars", "count", "diagram", "scenario", "crowd"];
+const REPLY_FIELDS = ["open", "refused", "horizon", "stamp", "touched", "cells", "cars", "rows",
+                      "edits", "message"];
+const MOST_TEXT = 72e6;                  // of rows is kept: eight of the greatest diagrams
+const LONGEST_LINE = 16 * 1024 * 1024;   // twice the line of the greatest diagram
+const MOST_LINES = 2_000_002;            // those of the longest run: a script's, and its replies
+const MOST_SENTENCES = 12;
+
+const isObject = (value) =>
+  typeof value === "object" && value !== null && !Array.isArray(value);
+
+const isStep = (value) => Number.isInteger(value) && value >= 0 && value < 2 ** 32;
+
+function kindOf(value) {
+  if (!isObject(value)) return "other";
+  if ("length" in value && "zones" in value && "inlets" in value) return "plan";
+  const [name, ...more] = Object.keys(value);
+  if (more.length === 0 && COMMANDS.includes(name) && isObject(value[name])) return "command";
+  return REPLY_FIELDS.some((field) => field in value) ? "reply" : "other";
+}
+
+/** A line of a file as {number, kind, value}; of values only what the page shows is kept. */
+function lineOf(text, number) {
+  try {
+    const value = JSON.parse(text);
+    const kind = kindOf(value);
+    const short = {command: shortCommand, reply: shortReply, plan: (plan) => plan}[kind];
+    return {number, kind, value: short?.(value)};
+  } catch {
+    return {number, kind: "bad"};
+  }
+}
+
+function shortReply({rows, cells, cars, speeds, refused, touched, stamp}) {
+  return {rows: rows ?? (cells && [cells]), cars: Number.isInteger(cars) ? cars : undefined, speeds,
+          refused, changed: Boolean(stamp) || Number.isInteger(touched)};
+}
+
+function shortCommand(value) {
+  const [name] = Object.keys(value);
+  const {at, step, from, to, detector, object, message} = value[name];
+  const what = message ?? (Array.isArray(object) ? object.join(" ") : null);
+  return {name, at, from: from ?? step, to: to ?? step, detector,
+          title: what === null ? name : `${name} of ${what}`};
+}
+
+/** Cuts text that comes in pieces into lines; a line that is too long is left out whole. */
+class LineCutter {
+  constructor(take, tooLong) {
+    Object.assign(this, {take, tooLong, parts: [], size: 0, number: 1});
+  }
+  add(text) {
+    let start = 0;
+    for (let end = text.indexOf("\n"); end >= 0; end = text.indexOf("\n", start)) {
+      this.keep(text.slice(start, end));
+      this.close();
+      start = end + 1;
+    }
+    this.keep(text.slice(start));
+  }
+  keep(part) {
+    this.size += part.length;
+    if (this.size > LONGEST_LINE) this.parts = [];
+    else if (part) this.parts.push(part);
+  }
+  close() {
+    if (this.size > LONGEST_LINE) this.tooLong(this.number);
+    else this.take(this.parts.join(""), this.number);
+    Object.assign(this, {parts: [], size: 0, number: this.number + 1});
+  }
+  end() {
+    if (this.size > 0) this.close();
+  }
+}
+
+const megabytes = (bytes) => Math.ceil(bytes / 1e6);
+
+/** The lines of a file, read piece by piece, so that the page goes on meanwhile; null where
+    another reading has begun. */
+async function linesOf(file, say, goesOn) {
+  const lines = [];
+  let kept = 0;
+  const tell = (number, what) => say(`${file.name}, line ${number}: ${what}`);
+  const cutter = new LineCutter((text, number) => {
+    const line = lineOf(text, number);
+    if (line.value?.rows) kept += text.length;
+    if (line.value?.rows && kept > MOST_TEXT) {
+      tell(number, `rows past the first ${megabytes(MOST_TEXT)} MB of rows are left out.`);
+      line.value.rows = undefined;
+    }
+    if (line.kind === "bad") tell(number, "no JSON.");
+    if (line.kind === "other") tell(number, "neither a plan, a command nor a reply.");
+    lines.push(line);
+  }, (number) => {
+    tell(number, "longer than any reply; it is left out.");
+    lines.push({number, kind: "bad"});
+  });
+  const reader = file.stream().getReader();
+  const decoder = new TextDecoder();
+  for (let read = 0, piece = await reader.read(); !piece.done; piece = await reader.read()) {
+    read += piece.value.length;
+    if (!goesOn(file.name, read, file.size)) return null;
+    cutter.add(decoder.decode(piece.value, {stream: true}));
+    if (lines.length > MOST_LINES) {
+      tell(MOST_LINES, "no run has more lines; what follows is not read.");
+      break;
+    }
+  }
+  cutter.end();
+  return lines;
+}
+
+// 2. Exchanges: each command with its reply, from one file or two.
+
+const isReply = (line) => line.kind === "reply";
+
+/** "script", "replies" or "both": what a file's lines are. */
+function roleOf(lines) {
+  if (!lines.some(isReply)) return "script";
+  return lines.some((line) => line.kind === "plan" || line.kind === "command") ? "both" : "replies";
+}
+
+const zipped = (asked, answered) => asked.map((command, index) => [command, answered[index]]);
+
+/** The exchanges of a file that has commands and replies in turn. */
+function exchangesWithin(lines) {
+  const exchanges = [];
+  let open = null;
+  for (const line of lines) {
+    if (isReply(line) || (open && line.kind === "bad")) {
+      exchanges.push([open, line]);
+      open = null;
+    } else {
+      if (open) exchanges.push([open, undefined]);
+      open = line;
+    }
+  }
+  return open ? [...exchanges, [open, undefined]] : exchanges;
+}
+
+/** The exchanges of the files of one transcript; null where they are none, with a sentence. */
+function exchangesOf(files, say) {
+  const by = (role) => files.filter((file) => file.role === role);
+  const [both, script, replies] = ["both", "script", "replies"].map(by);
+  const used = both.length ? [both[0]] : [script[0], replies[0]].filter(Boolean);
+  for (const {name} of files.filter((file) => !used.includes(file))) {
+    say(`${name} is left out: a transcript is a script and its replies, or one file with both.`);
+  }
+  if (both.length) return exchangesWithin(both[0].lines);
+  if (!replies.length) {
+    say(`${script[0].name} has no replies: choose the file of its replies together with it.`);
+    return null;
+  }
+  if (!script.length) return replies[0].lines.map((line) => [null, line]);
+  if (script[0].lines.length !== replies[0].lines.length) {
+    say(`${script[0].name} has ${script[0].lines.length} lines and ${replies[0].name} has ` +
+        `${replies[0].lines.length}: perhaps they do not belong together.`);
+  }
+  return zipped(script[0].lines, replies[0].lines);
+}
+
+// 3. Transcripts. A run is what a replica shows between two changes of its edits; it has pictures
+// (rows of adjacent steps) and the counts of its detectors.
+
+class Transcript {
+  constructor(name, firstStep, say) {
+    Object.assign(this, {name, firstStep, say, plan: null, length: null, runs: []});
+    this.changes = new Map();
+  }
+
+  tell(line, what) {
+    this.say(`${this.name}, line ${line.number}: ${what}`);
+  }
+
+  /** Takes an exchange; false where nothing behind it can be read. */
+  take([command, reply]) {
+    if (command?.kind === "plan") return this.takePlan(command, reply);
+    const told = reply?.value;
+    if (!told) return true;
+    const asked = command?.value ?? this.guess(told);
+    if (told.refused !== undefined) this.tellRefusal(command, told.refused);
+    else if (asked.name === "diagram" || asked.name === "cells") this.takeRows(asked, told, reply);
+    else if (asked.name === "count") this.takeCount(asked, told, reply);
+    else if (told.changed) this.change(asked);
+    return true;
+  }
+
+  /** Notes a change of a replica's edits: how many there were, and which was the last. */
+  change({at, title}) {
+    this.changes.set(at, {count: this.changesOf(at).count + 1, last: title});
+  }
+
+  changesOf(at) {
+    return this.changes.get(at) ?? {count: 0, last: null};
+  }
+
+  takePlan(command, reply) {
+    const refused = reply?.value?.refused;
+    const fault = this.plan ? "a second plan line; what follows is not read."
+      : refused && `the program refused this plan (${refused}).`;
+    if (fault) this.tell(command, fault);
+    else Object.assign(this, {plan: command.value, length: command.value.length});
+    return !fault;
+  }
+
+  /** The command of a reply without one: rows go on from those before, counts have no steps. */
+  guess(told) {
+    if (!told.rows) return {at: "replies"};
+    const run = this.runOf("replies");
+    const from = run.next ?? this.firstStep;
+    run.next = from + told.rows.length;
+    return {name: "diagram", at: "replies", from, to: run.next - 1};
+  }
+
+  tellRefusal(command, why) {
+    if (!["diagram", "cells", "count"].includes(command?.value?.name)) return;
+    this.tell(command, `this ${command.value.name} was refused (${why}).`);
+  }
+
+  /** The run of a replica as its edits are. */
+  runOf(at) {
+    const {count: changes, last} = this.changesOf(at);
+    let run = this.runs.find((one) => one.at === at && one.changes === changes);
+    if (!run) {
+      run = {at, changes, last, pictures: [], counts: new Map()};
+      this.runs.push(run);
+    }
+    return run;
+  }
+
+  takeRows(asked, told, reply) {
+    const fault = this.faultOfRows(told.rows, asked);
+    if (fault) this.tell(reply, fault);
+    else addRows(this.runOf(asked.at), asked.from, told.rows);
+  }
+
+  faultOfRows(rows, {from, to}) {
+    if (!Array.isArray(rows) || !rows.length) return "no rows; are these this script's replies?";
+    if (!isStep(from)) return "rows of no step that there is.";
+    if (rows.length !== to - from + 1) return `${rows.length} rows for the steps ${from} to ${to}.`;
+    if (!rows.every((row) => typeof row === "string" && /^[0-9.#]+$/.test(row))) {
+      return "a row has other signs than digits, points and #.";
+    }
+    this.length ??= rows[0].length;
+    if (rows.every((row) => row.length === this.length)) return null;
+    return `rows of another length than the road's ${this.length} cells.`;
+  }
+
+  takeCount(asked, told, reply) {
+    if (!Number.isInteger(told.cars) || !Number.isInteger(told.speeds)) {
+      this.tell(reply, "no count; are these this script's replies?");
+      return;
+    }
+    const {counts} = this.runOf(asked.at);
+    if (!counts.has(asked.detector)) counts.set(asked.detector, []);
+    const {from, to} = asked;
+    const {cars, speeds} = told;
+    if (to > from && isStep(to)) counts.get(asked.detector).push({from, to, cars, speeds});
+  }
+}
+
+/** Joins rows to a run: to a picture that they lie in or go on from, or as a new one. */
+function addRows(run, from, rows) {
+  const joined = run.pictures.find((one) => one.from <= from && from <= one.from + one.rows.length);
+  if (!joined) {
+    run.pictures.push({run, from, every: 1, length: rows[0].length, rows: [...rows]});
+    return;
+  }
+  rows.forEach((row, index) => { joined.rows[from - joined.from + index] = row; });
+}
+
+/** The name of the first part in which two plans of one road differ; null where none does. */
+function differentPart(one, other) {
+  if (!one || !other) return null;
+  const parts = ["length", "exit", "zone", "zones", "inlets", "detectors", "words"];
+  return parts.find((part) => JSON.stringify(one[part]) !== JSON.stringify(other[part])) ?? null;
+}
