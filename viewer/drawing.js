@@ -24,7 +24,7 @@
 //            paintCells(context, view, picture, part, {tiles, name, greatest})
 //            paintMarks(context, view, picture, other, part, {tiles, name})
 //            paintMeans(context, view, picture, part, {tiles, name, greatest})
-//            paintDifference(context, view, picture, other, part, {tiles, name, greatest})
+//            paintDifference(context, view, picture, other, part, {tiles, name, greatest, plan})
 //            paintClosures(context, view, picture, part, {tiles, name})
 //            drawDetails(context, view, picture, other, part, greatest)
 // Around it  drawAxes(context, view, part, unit)  drawPlan(context, view, plan, width)
@@ -412,18 +412,24 @@ function paintMeans(context, view, picture, part, {tiles, name, greatest}) {
 const LEAST_BOX = 5;      // cells and steps of a box of the difference: one car alone says little
 const FULL_AT = 0.8;      // the part of the greatest speed that has the full colour
 
+/** The speed of a free car on a cell: its zone's limit, where the plan is known. */
+function freeSpeed(cell, plan, greatest) {
+  const limit = plan?.zones[Math.floor(cell / plan.zone)][0] ?? greatest;
+  return Math.max(1, Math.min(limit, greatest));
+}
+
 /** Paints by how much cars are slower (magenta) or faster (blue) than in another picture of the
     road, over small boxes: a box without a car counts as free, so that free cars that are somewhere
-    else remain pale. A box with a closed cell in either is orange. */
-function paintDifference(context, view, picture, other, part, {tiles, name, greatest}) {
+    else remain pale. A box with a closed cell in either is orange. The plan may be left out. */
+function paintDifference(context, view, picture, other, part, {tiles, name, greatest, plan}) {
   const box = boxOf(view, BOX, LEAST_BOX, picture.every);
   const closed = pixelOf(BLOCKED);
   const sumsOf = (from, to) => {
     const both = [picture, other].map((one) => boxSums(one, from, to, box.wide));
     return both[0].rows && both[1].rows ? both : null;
   };
-  const mean = (sums, index) =>
-    (sums.cars[index] ? sums.speeds[index] / sums.cars[index] : greatest);
+  const mean = (sums, index) => (sums.cars[index] ? sums.speeds[index] / sums.cars[index]
+    : freeSpeed(index * box.wide, plan, greatest));
   const pixelAt = ([one, beside], index) => (one.closed[index] || beside.closed[index] ? closed
     : signedPixel((mean(one, index) - mean(beside, index)) / greatest / FULL_AT));
   paintBoxes(context, view, picture, part, {tiles, name, kind: "difference"}, box, sumsOf, pixelAt);
