@@ -61,13 +61,12 @@ function drawSpent() {
   const curves = [0, 1].map(cumulative);
   const series = curves.flatMap((both, which) =>
     both.map((points, site) => ({points, ...SERIES[which], ...OF_SITE[site]})));
-  const steps = curves.flat()[0]?.map(([step]) => step) ?? [0, 1];
   page.cumulativePart.hidden = !series.length;
   page.spent.textContent = spentSentence();
   if (!series.length) return;
+  const ends = series.flatMap(({points}) => [points[0][0], points.at(-1)[0]]);
   drawChart(cumulativeChart, {title: "cars that have passed", series, unit,
-                              range: [steps[0], Math.max(...curves.flat().map((points) =>
-                                points.at(-1)[0]))]});
+                              range: [Math.min(...ends), Math.max(...ends)]});
   writeCumulative(curves);
   const inlets = inletsBetween(shown.plans.find(Boolean), sitesChosen()).map(cellOrKm).join(", ");
   page.inletsNote.textContent = inlets
@@ -75,9 +74,6 @@ function drawSpent() {
 }
 
 // The time spent.
-
-const more = (value, figure = String) =>
-  (value ? `${figure(Math.abs(value))} ${value > 0 ? "more" : "fewer"}` : "as many");
 
 /** What the second picture's cars spend on the road beside the first's, and how many entered: what
     stands before an inlet spends no time on the road. */
@@ -103,15 +99,15 @@ function enteredSentence(from, to) {
   const counts = plan.inlets.map(([cell]) => ({cell, cars: shown.pictures.map((picture) =>
     entries(picture, cell, plan, from, to))}));
   const seen = counts.filter(({cars}) => cars[0] !== null);
-  const sum = (which) => seen.reduce((total, {cars}) => total + cars[which], 0);
-  const [one, other] = [sum(0), sum(1)];
-  const where = seen.filter(({cars}) => cars[0] !== cars[1])
-    .map(({cell, cars}) => `${more(cars[1] - cars[0])} at ${cellOrKm(cell)}`);
-  const unseen = counts.length - seen.length;
-  return `Entered: first ${one} cars, second ${other}` +
-    (where.length ? `, ${where.join(", ")}. Demand that is lost at an inlet costs no time here.`
+  const sums = [0, 1].map((which) => seen.reduce((sum, {cars}) => sum + cars[which], 0));
+  const apart = seen.map(({cell, cars}) => ({cell, change: cars[1] - cars[0]}))
+    .filter(({change}) => change).map(({cell, change}) =>
+      `${Math.abs(change)} ${change > 0 ? "more" : "fewer"} at ${cellOrKm(cell)}`);
+  const unseen = counts.filter((one) => !seen.includes(one)).map(({cell}) => cellOrKm(cell));
+  return `Entered: first ${sums[0]} cars, second ${sums[1]}` +
+    (apart.length ? `, ${apart.join(", ")}. Demand that is lost at an inlet costs no time here.`
       : ", as many at each inlet.") +
-    (unseen ? ` At ${unseen} inlet before the road's end entries cannot be seen.` : "");
+    (unseen.length ? ` Not counted: the inlet at ${unseen.join(", ")}, next to the end.` : "");
 }
 
 function leftSentence(to) {

@@ -20,11 +20,11 @@
 //            sizeOfCell(view)  inView(view, picture, width, height)  meansAreSeen(view)
 //            boxOf(view, pixels, least, every)
 // Canvas     cleared(canvas)  clip(context, top, width, height)  pen(context, align, baseline)
-// Painting   tiles = new Tiles(most); tiles.forget(name, from, to) where rows have changed
+// Painting   tiles = new Tiles(); tiles.forget(name, from, to) where rows have changed
 //            paintCells(context, view, picture, part, {tiles, name, greatest})
 //            paintMarks(context, view, picture, other, part, {tiles, name})
 //            paintMeans(context, view, picture, part, {tiles, name, greatest})
-//            paintDifference(context, view, picture, other, part, {tiles, name, greatest})
+//            paintDifference(context, view, picture, other, part, {tiles, name, greatest, plan})
 //            paintClosures(context, view, picture, part, {tiles, name})
 //            drawDetails(context, view, picture, other, part, greatest)
 // Around it  drawAxes(context, view, part, unit)  drawPlan(context, view, plan, width)
@@ -246,34 +246,40 @@ function clip(context, top, width, height) {
 
 const TILE_ROWS = 256;    // rows of a tile of cells
 const TILE_BOXES = 16;    // and rows of boxes of a tile of boxes
-const MOST_TILES = 96;
+const MOST_PIXELS = 1e8;
 
-/** Canvases by the name of what they show and their steps; the one that was wanted longest ago
-    makes room. */
+/** Canvases by the name of what they show and their steps, `most` pixels in all; those that were
+    wanted longest ago make room. */
 class Tiles {
-  constructor(most = MOST_TILES) {
-    Object.assign(this, {most, kept: new Map()});
+  constructor(most = MOST_PIXELS) {
+    Object.assign(this, {most, pixels: 0, kept: new Map()});
   }
 
   /** The tile of a name and kind with the steps `from` to `to - 1`, painted if it is not kept. */
   get(name, kind, from, to, paint) {
     const key = `${name} ${kind} ${from}`;
     const tile = this.kept.get(key) ?? {name, from, to, canvas: paint()};
-    this.kept.delete(key);
+    this.drop(key);
     this.kept.set(key, tile);
-    if (this.kept.size > this.most) this.kept.delete(this.kept.keys().next().value);
+    this.pixels += tile.canvas.width * tile.canvas.height;
+    while (this.pixels > this.most && this.kept.size > 1) this.drop(this.kept.keys().next().value);
     return tile.canvas;
+  }
+
+  drop(key) {
+    const tile = this.kept.get(key);
+    if (tile && this.kept.delete(key)) this.pixels -= tile.canvas.width * tile.canvas.height;
   }
 
   /** Forgets the tiles of a name that have one of the steps `from` to `to - 1`. */
   forget(name, from = -Infinity, to = Infinity) {
-    for (const [key, tile] of this.kept) {
-      if (tile.name === name && tile.from < to && from < tile.to) this.kept.delete(key);
+    for (const [key, tile] of [...this.kept]) {
+      if (tile.name === name && tile.from < to && from < tile.to) this.drop(key);
     }
   }
 
   clear() {
-    this.kept.clear();
+    [...this.kept.keys()].forEach((key) => this.drop(key));
   }
 }
 
@@ -412,18 +418,24 @@ function paintMeans(context, view, picture, part, {tiles, name, greatest}) {
 const LEAST_BOX = 5;      // cells and steps of a box of the difference: one car alone says little
 const FULL_AT = 0.8;      // the part of the greatest speed that has the full colour
 
+/** The speed of a free car on a cell: its zone's limit, where the plan is known. */
+function freeSpeed(cell, plan, greatest) {
+  const limit = plan?.zones[Math.floor(cell / plan.zone)][0] ?? greatest;
+  return Math.max(1, Math.min(limit, greatest));
+}
+
 /** Paints by how much cars are slower (magenta) or faster (blue) than in another picture of the
     road, over small boxes: a box without a car counts as free, so that free cars that are somewhere
-    else remain pale. A box with a closed cell in either is orange. */
-function paintDifference(context, view, picture, other, part, {tiles, name, greatest}) {
+    else remain pale. A box with a closed cell in either is orange. The plan may be left out. */
+function paintDifference(context, view, picture, other, part, {tiles, name, greatest, plan}) {
   const box = boxOf(view, BOX, LEAST_BOX, picture.every);
   const closed = pixelOf(BLOCKED);
   const sumsOf = (from, to) => {
     const both = [picture, other].map((one) => boxSums(one, from, to, box.wide));
     return both[0].rows && both[1].rows ? both : null;
   };
-  const mean = (sums, index) =>
-    (sums.cars[index] ? sums.speeds[index] / sums.cars[index] : greatest);
+  const mean = (sums, index) => (sums.cars[index] ? sums.speeds[index] / sums.cars[index]
+    : freeSpeed(index * box.wide, plan, greatest));
   const pixelAt = ([one, beside], index) => (one.closed[index] || beside.closed[index] ? closed
     : signedPixel((mean(one, index) - mean(beside, index)) / greatest / FULL_AT));
   paintBoxes(context, view, picture, part, {tiles, name, kind: "difference"}, box, sumsOf, pixelAt);

@@ -47,7 +47,7 @@ function paintPane(context, which, part) {
   if (which < 2) paintPicture(context, which, part);
   else {
     paintDifference(context, view, shown.pictures[1], shown.pictures[0], part,
-                    {tiles, name: which, greatest: shown.greatest});
+                    {tiles, name: which, greatest: shown.greatest, plan: shown.plans[1]});
   }
 }
 

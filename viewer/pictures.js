@@ -23,7 +23,7 @@ const cellText = (cell) => withUnit(cell, placeText(cell, unit), "km");
 function labelOf({slot, run, picture}) {
   const steps = picture ? stepsText(picture.from, lastStep(picture)) : "counts alone";
   const after = run.changes === 0 ? "before any edit"
-    : `after ${run.changes} change${run.changes > 1 ? "s" : ""}, the last ${run.last}`;
+    : `after ${run.changes} change${run.changes > 1 ? "s" : ""} (last: ${run.last})`;
   const whose = transcripts[1] ? `${slot ? "second" : "first"} transcript, ` : "";
   return `${whose}${run.at} ${after}: ${steps}`;
 }

@@ -51,7 +51,7 @@ function shortCommand(value) {
   const {at, step, from, to, detector, object, message} = value[name];
   const what = message ?? (Array.isArray(object) ? object.join(" ") : null);
   return {name, at, from: from ?? step, to: to ?? step, detector,
-          title: what === null ? name : `${name} of ${what}`};
+          title: what === null ? name : `${name} ${what}`};
 }
 
 /** Cuts text that comes in pieces into lines; a line that is too long is left out whole. */
