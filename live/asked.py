@@ -109,9 +109,10 @@ class Asked:
     def key(self) -> str:
         """By which a gesture that is sent again is known."""
         value = self.raw("key")
-        if type(value) is not str or not 1 <= len(value) <= LONGEST_KEY or not value.isascii() or not value.isprintable():
+        is_key = type(value) is str and 1 <= len(value) <= LONGEST_KEY and value.isascii() and value.isprintable()
+        if not is_key:
             raise not_a_command(f"`key` is a text of 1 to {LONGEST_KEY} ASCII signs, a new one for each gesture")
-        return value
+        return str(value)
 
     def stamp(self) -> tuple[int, int]:
         count, number = self._checked("stamp", STAMP)

@@ -42,16 +42,16 @@ def undone(state: State, seat: Seat, stamp: Stamp) -> list[list[Any]]:
 
 def forgettable(state: State, seat: Seat, kept: int) -> set[Gesture]:
     """What is hidden, but for the newest: a gesture goes together with all that took it back and forth."""
-    left_out = [gesture for gesture in seat.gestures if gesture in hidden(state, seat)] if kept < len(seat.gestures) else []
-    newest = set(left_out[-kept:])
+    left_out = hidden(state, seat)
+    newest = set([gesture for gesture in seat.gestures if gesture in left_out][-kept:])
     families: dict[Stamp, set[Gesture]] = {}
     roots: dict[Stamp, Stamp] = {}
     for gesture in sorted(state.private(seat), key=lambda one: one.stamp):
         root = roots.get(gesture.undoes, gesture.undoes) if gesture.undoes is not None else gesture.stamp
         roots[gesture.stamp] = root
         families.setdefault(root, set()).add(gesture)
-    is_left_out = set(left_out)
-    return {gesture for family in families.values() if family <= is_left_out and not family & newest for gesture in family}
+    gone = [family for family in families.values() if family <= left_out and not family & newest]
+    return {gesture for family in gone for gesture in family}
 
 
 def shareable(state: State, seat: Seat, stamps: Collection[Stamp] | None) -> list[Gesture]:

@@ -72,7 +72,8 @@ class Keeper:
         if not entries:
             assert plan is not None
             plan = {**plan, "replicas": [seat.at for seat in self.state.seats]}
-            await (await start(command_of(self.path, plan), packed(plan).encode())).close()  # before it is written that this is the plan
+            # A program must take it before it is written that this is the plan.
+            await (await start(command_of(self.path, plan), packed(plan).encode())).close()
             await self.record({"lab": {"plan": plan, "site": site or 1, "folder": secrets.token_hex(8), "form": FORM}})
         self._since = time.monotonic()
         self.undone = MOST_UNDONE

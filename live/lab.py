@@ -109,7 +109,8 @@ class Lab(Keeper):
         if key:
             known = [seat for seat in self.state.seats[1:] if seat.key and hmac.compare_digest(seat.key, digest(key))]
             if not known:
-                raise Refused("unknown key", "the seat was taken over, or is free again: choose one", seats=self.seats())
+                raise Refused("unknown key", "the seat was taken over, or is free again: choose one",
+                              seats=self.seats())
             return known[0].index, key
         return await self._new_seat(name)
 
@@ -167,7 +168,8 @@ class Lab(Keeper):
         """Frees the seats that nobody used for a day and that hold nothing private."""
         before = time.time() - DAY
         for seat in self.state.seats[1:]:
-            if seat.key and seat.index not in self.here and seat.seen < before and not shareable(self.state, seat, None):
+            is_unused = seat.key and seat.index not in self.here and seat.seen < before
+            if is_unused and not shareable(self.state, seat, None):
                 logging.info("seat %d of %s is free again", seat.index, seat.name)
                 self._free(seat.index)
                 self.on_seats()
@@ -198,7 +200,8 @@ class Lab(Keeper):
         with asked:
             key, note, stamp = asked.key(), asked.text("note", LONGEST_NOTE, ""), asked.stamp()
         self._held_by(index, stamp)
-        return await self._put(index, key, lambda: undone(self.state, self.state.seats[index], stamp), times, note=note, undoes=stamp)
+        return await self._put(index, key, lambda: undone(self.state, self.state.seats[index], stamp), times,
+                               note=note, undoes=stamp)
 
     async def again(self, index: int, asked: Asked, times: Times) -> dict[str, Any]:
         """Puts a gesture's edits again, so that they win."""
@@ -367,7 +370,8 @@ class Lab(Keeper):
     def _check_count(self, gesture: Gesture) -> None:
         greatest = max(seat.count for seat in self.state.seats)
         if gesture.stamp[0] > greatest + COUNTS_AHEAD:
-            raise Refused("Count", f"its count {gesture.stamp[0]} would spend the counts of all; the greatest known is {greatest}")
+            raise Refused("Count", f"its count {gesture.stamp[0]} would spend the counts of all; the greatest known "
+                          f"is {greatest}")
 
     async def back(self, stamps: list[Stamp]) -> None:
         """These came back from the broker: they need not be sent again."""

@@ -177,7 +177,8 @@ class Sites:
             try:
                 self._present()
                 self._send_unsent()
-                self._sent = {gesture: when for gesture, when in self._sent.items() if gesture in self._lab.state.unsent}
+                unsent = self._lab.state.unsent
+                self._sent = {gesture: when for gesture, when in self._sent.items() if gesture in unsent}
                 self._publish(f"road/{self._road}/sum", {"folder": self._lab.state.folder, "sum": await self._sum(),
                                                          "numbers": self._numbers()}, 0)
                 self._tell()
@@ -228,8 +229,8 @@ class Sites:
         is_new = folder not in self._sites
         self._sites[folder] = Site(number, road, time.time())
         if number == self._lab.state.site:
-            self._say(f"Another folder has this site's number, {number}, too: nothing is sent until one of them is gone. "
-                      f"Start one with another --site, in a new folder")
+            self._say(f"Another folder has this site's number, {number}, too: nothing is sent until one of them is "
+                      f"gone. Start one with another --site, in a new folder")
         elif road != self._road:
             self._say(f"Site {number} has another road (its plan or its seed differs): its changes do not come here")
         if is_new:
@@ -274,8 +275,9 @@ class Sites:
             return
         self._pauses[folder] = time.monotonic() + pause, min(LONGEST_PAUSE, 2 * pause)
         own = self._numbers()
-        lacking = sorted((gesture for gesture in self._lab.state.shared.gestures
-                          if numbers.get(str(gesture.stamp[1])) != own[str(gesture.stamp[1])]), key=lambda one: one.stamp)
+        other = {number for number, found in own.items() if numbers.get(number) != found}
+        lacking = sorted((gesture for gesture in self._lab.state.shared.gestures if str(gesture.stamp[1]) in other),
+                         key=lambda one: one.stamp)
         logging.info("another site holds other edits: telling %d gestures", len(lacking))
         for gesture in lacking:
             self._send(gesture)
@@ -303,16 +305,19 @@ def read(payload: bytes) -> Any:
     return value
 
 
+def fields_of(value: Any, *names: str) -> list[Any]:
+    return [value.get(name) if type(value) is dict else None for name in names]
+
+
 def site_of(value: Any) -> tuple[str, int, str]:
-    folder, number, road = (value.get(name) for name in ("folder", "site", "road")) if type(value) is dict else (None,) * 3
+    folder, number, road = fields_of(value, "folder", "site", "road")
     if type(folder) is not str or type(number) is not int or type(road) is not str:
         raise Bad("it says of no site who it is")
     return words(folder, 40), number, words(road, 40)
 
 
 def sum_of(value: Any) -> tuple[str, str, dict[str, str]]:
-    folder, theirs, numbers = (value.get(name) for name in ("folder", "sum", "numbers")) \
-        if type(value) is dict else (None,) * 3
+    folder, theirs, numbers = fields_of(value, "folder", "sum", "numbers")
     if type(folder) is not str or type(theirs) is not str or type(numbers) is not dict:
         raise Bad("it is no hash of what a site holds")
     return folder, theirs, numbers

@@ -1,6 +1,6 @@
 """Tabs: sockets, hello, frames, refusals, and what tabs are told without asking.
 
-A tab that does not read is let go, one that floods is answered `busy`, one that lies is closed: none of them is waited for.
+A tab that does not read is let go, one that floods is answered `busy`, one that lies is closed: none is waited for.
 """
 from __future__ import annotations
 

@@ -1,6 +1,8 @@
 """Other hosts reach the server by TLS alone."""
 from __future__ import annotations
 
+import asyncio
+import os
 import ssl
 import subprocess
 import sys
@@ -8,7 +10,7 @@ import sys
 import aiohttp
 
 from client import Seat
-from running import LIVE, PATIENCE, Case, new_folder
+from running import LIVE, PATIENCE, Case, end, free_port, mosquitto, new_folder, started
 
 
 class Certificates(Case):
@@ -31,6 +33,31 @@ class Certificates(Case):
             with self.assertRaises((aiohttp.ClientError, ssl.SSLError)):
                 async with Seat(address, self.authority, name="Ben"):
                     pass
+
+    async def test_a_broker_by_tls_and_a_password(self) -> None:
+        folder, port = self.certificate.parent, free_port()
+        subprocess.run(["mosquitto_passwd", "-b", "-c", folder / "passwords", "sites", "secret"], check=True)
+        (folder / "password").write_text("secret\n")
+        (folder / "wrong").write_text("wrong\n")
+        (folder / "conf").write_text(
+            f"listener {port} 127.0.0.1\nallow_anonymous false\npassword_file {folder}/passwords\n"
+            f"certfile {self.certificate}\nkeyfile {folder}/key.pem\n" + ("user root\n" if os.geteuid() == 0 else ""))
+        broker = started([mosquitto(), "-c", str(folder / "conf")], stdout=subprocess.DEVNULL, stderr=subprocess.DEVNULL)
+        self.addCleanup(end, broker)
+        words = ["--broker", f"localhost:{port}", "--broker-user", "sites", "--broker-authority", self.authority]
+        sites = [self.server(*words, "--broker-password", str(folder / "password"), "--site", number) for number in "12"]
+        stranger = self.server(*words, "--broker-password", str(folder / "wrong"), "--site", "3")
+        async with sites[0].seat("Ada") as ada, sites[1].seat("Sam") as sam, stranger.seat("Eve") as eve:
+            await ada.ask("gesture", key="1", edits=[["limit", 1, 5, 1]])
+            await ada.ask("send", name="shared")
+            for _ in range(300):
+                told = [one["broker"] for one in eve.told if "broker" in one and one["broker"]["told"]]
+                if (await sam.ask("scenario", at="shared"))["edits"] and told:
+                    break
+                await asyncio.sleep(0.1)
+            self.assertEqual((await sam.ask("scenario", at="shared"))["edits"], [["limit", 1, 5, 1, 65, 1]])
+            self.assertIn("does not let this site in", told[-1]["told"][0])
+            self.assertEqual((await eve.ask("scenario", at="shared"))["edits"], [])
 
     def test_without_a_certificate_nobody_else_is_let_in(self) -> None:
         for more, why in (([], "--listen wants --certificate"), (["--certificate", str(LIVE / "serve")], "no certificate")):

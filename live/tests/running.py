@@ -1,6 +1,7 @@
 """Servers, brokers and tabs for the tests, which end with them whatever happens."""
 from __future__ import annotations
 
+import asyncio
 import atexit
 import contextlib
 import ctypes
@@ -180,6 +181,9 @@ def free_port() -> int:
 
 class Case(unittest.IsolatedAsyncioTestCase):
     """A test with servers."""
+
+    def _setupAsyncioRunner(self) -> None:
+        self._asyncioRunner = asyncio.Runner()  # without the debug mode, in which 63 tabs take minutes
 
     def server(self, *more: str, plan: dict[str, Any] | None = None, **environment: str) -> Server:
         server = Server(None, plan, *more, **environment)
