@@ -23,8 +23,8 @@ from state import FORM, State
 from turns import MORE, Job, Turns
 
 MOST_LINES = int(os.environ.get("LIVE_MOST_LINES", "900000"))  # of a program, which ends at 1,000,000
-MOST_UNDONE = int(os.environ.get("LIVE_MOST_UNDONE", "2000"))  # undoings until the oldest are forgotten
-KEPT = 50  # of a seat's gestures that were taken back in private
+MOST_UNDONE = int(os.environ.get("LIVE_MOST_UNDONE", "1000"))  # undoings until the oldest are forgotten
+KEPT = 20  # of a seat's gestures that were taken back in private
 LAST_STEP = 1_048_576
 SHARED = 0
 Times = Dict[str, float]
@@ -76,7 +76,7 @@ class Keeper:
             await (await start(command_of(self.path, plan), packed(plan).encode())).close()
             await self.record({"lab": {"plan": plan, "site": site or 1, "folder": secrets.token_hex(8), "form": FORM}})
         self._since = time.monotonic()
-        self.undone = MOST_UNDONE
+        self._forget()
         self._program = await self._start()
         self._tasks = [asyncio.ensure_future(self.turns.run())]
 
@@ -120,9 +120,7 @@ class Keeper:
     # The program
 
     async def _start(self) -> Program:
-        """A program that holds nothing yet. What was taken back long ago it need never hold."""
-        if self.undone >= MOST_UNDONE:
-            self._forget()
+        """A program that holds nothing yet."""
         return await start(command_of(self.path, self.state.plan), packed(self.state.plan).encode())
 
     @property
@@ -172,6 +170,7 @@ class Keeper:
         self.on_program()
 
     def _forget(self) -> None:
+        """What was taken back long ago the next program need never hold. Between jobs: they count what is held."""
         self.undone = 0
         for seat in self.state.seats[1:]:
             gone = forgettable(self.state, seat, KEPT)
@@ -196,6 +195,7 @@ class Keeper:
             else:
                 logging.warning("no successor: %s", successor.exception())
         if self._next is None and (self.program.lines >= MOST_LINES or self.undone >= MOST_UNDONE):
+            self._forget()
             self._next = asyncio.ensure_future(self._successor())
 
     async def _successor(self) -> Program:

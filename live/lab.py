@@ -153,10 +153,20 @@ class Lab(Keeper):
             self.record({"left": {"seat": index, "when": int(time.time())}})
 
     async def give_back(self, index: int) -> None:
-        """Frees a seat that holds nothing private."""
-        if shareable(self.state, self.state.seats[index], None):
-            raise Refused("private edits", "this seat has changes that are not shared: share them, or take them back")
-        await confirmed(self._free(index), {})
+        """Frees a seat that holds nothing private, when what it was asked before is done."""
+        async def body() -> asyncio.Future[None]:
+            if shareable(self.state, self._owned(index), None):
+                raise Refused("private edits", "this seat has changes that are not shared: share them, or undo them")
+            return self._free(index)
+        done: asyncio.Future[None] = await self.turns.ask(index, body)
+        await confirmed(done, {})
+
+    def _owned(self, index: int) -> Seat:
+        """The seat, which may have been left by what was asked before."""
+        seat = self.state.seats[index]
+        if not seat.key:
+            raise Refused("not your replica", "the seat was left")
+        return seat
 
     def _free(self, index: int) -> asyncio.Future[None]:
         self.program.stale.add(index)
@@ -199,17 +209,19 @@ class Lab(Keeper):
         """Takes a gesture back, and gives back what had lost to it."""
         with asked:
             key, note, stamp = asked.key(), asked.text("note", LONGEST_NOTE, ""), asked.stamp()
-        self._held_by(index, stamp)
-        return await self._put(index, key, lambda: undone(self.state, self.state.seats[index], stamp), times,
-                               note=note, undoes=stamp)
+
+        def edits() -> list[list[Any]]:
+            self._held_by(index, stamp)
+            return undone(self.state, self.state.seats[index], stamp)
+        return await self._put(index, key, edits, times, note=note, undoes=stamp)
 
     async def again(self, index: int, asked: Asked, times: Times) -> dict[str, Any]:
         """Puts a gesture's edits again, so that they win."""
         with asked:
             key, stamp = asked.key(), asked.stamp()
-        first = self._held_by(index, stamp)[0]
-        edits = [list(edit) for edit in first.edits]
-        return await self._put(index, key, lambda: edits, times, note=first.note, shape=first.shape)
+        held = self._held_by(index, stamp)
+        edits = [list(edit) for edit in held[0].edits]
+        return await self._put(index, key, lambda: edits, times, note=held[0].note, shape=held[0].shape)
 
     def _held_by(self, index: int, stamp: Stamp) -> list[Gesture]:
         held = [gesture for gesture in self.state.by_stamp.get(stamp, [])
@@ -234,7 +246,7 @@ class Lab(Keeper):
     async def _write(self, index: int, edits: list[list[Any]], times: Times, dones: list[asyncio.Future[None]],
                      **told: Any) -> dict[str, Any]:
         """Stamps edits and gives them to a seat, in a job."""
-        seat = self.state.seats[index]
+        seat = self._owned(index)
         if not edits:
             raise Refused("nothing to take back", "nothing of this change is in force here")
         stamp = seat.count + 1, self.state.number(seat)
@@ -257,7 +269,7 @@ class Lab(Keeper):
         dones: list[asyncio.Future[None]] = []
 
         async def body() -> Any:
-            seat = self.state.seats[index]
+            seat = self._owned(index)
             part = first_piece(shareable(self.state, seat, stamps))
             if not part:
                 return None
@@ -289,7 +301,7 @@ class Lab(Keeper):
         dones: list[asyncio.Future[None]] = []
 
         async def body() -> Any:
-            seat = self.state.seats[index]
+            seat = self._owned(index)
             if seat.upto >= goal:
                 keys = {edit[:3] for gesture in came for edit in gesture.edits}
                 for undoes, mend in mending(self.state, seat, keys).items():

@@ -10,6 +10,7 @@ first so many of them.
 from __future__ import annotations
 
 import collections
+import sys
 from dataclasses import dataclass, field
 from typing import Any, Collection, Iterable, Iterator, NamedTuple
 
@@ -60,7 +61,10 @@ def pair(stamp: Any) -> Stamp:
 
 
 def edits_of(written: Iterable[Any]) -> tuple[Edit, ...]:
-    return tuple((kind, index, step, value) for kind, index, step, value in written)
+    """The edits of a gesture; their words and numbers, most of which are the same, are kept once."""
+    once: dict[Any, Any] = {}
+    return tuple((sys.intern(kind), once.setdefault(index, index), once.setdefault(step, step), value)
+                 for kind, index, step, value in written)
 
 
 def rank(stamp: Stamp, value: int | None) -> Rank:

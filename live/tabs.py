@@ -49,6 +49,7 @@ class Tab:
         self._news: dict[str, dict[str, Any]] = {}
         self._wake, self._read = asyncio.Event(), asyncio.Event()
         self._waiting = self._faults = 0
+        self._is_entering = False
         self._tasks: list[asyncio.Task[None]] = []
         self.bye = 1000, "ended"
 
@@ -80,7 +81,7 @@ class Tab:
 
     async def _hello_in_time(self) -> None:
         await asyncio.sleep(HELLO)
-        if self.index is None:
+        if self.index is None and not self._is_entering:
             self.let_go(1008, "no hello")
 
     async def _writer(self) -> None:
@@ -131,6 +132,7 @@ class Tab:
             await asyncio.sleep(0)  # so that what a tab asks is done in its order
 
     async def _enter(self, number: int, verb: str, fields: Any) -> None:
+        self._is_entering = True
         try:
             asked = Asked(verb, fields)
             if not hmac.compare_digest(str(asked.raw("token")).encode("utf-8", "replace"), self._tabs.token.encode()):
@@ -145,6 +147,8 @@ class Tab:
                 self._tabs.arrived(self)
         except Refused as fault:
             self._send({"id": number, **fault.reply()})
+        finally:
+            self._is_entering = False
 
     async def _answered(self, index: int, number: int, verb: str, fields: Any, came: float) -> None:
         times: Times = {}

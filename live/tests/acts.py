@@ -143,7 +143,7 @@ class Acts(Case):
                 await ada.reply("cells", at=ada.at, step=0)
                 await asyncio.sleep(0.1)
             held = (await ada.ask("gestures"))["gestures"]
-            self.assertTrue(50 <= len(held) < 150, len(held))
+            self.assertTrue(20 <= len(held) < 150, len(held))
             self.assertEqual((held[0]["stamp"], held[-1]["stamp"]), ([1, 65], [162, 65]))
             self.assertEqual((await ada.ask("undo", key="redo", stamp=[161, 65]))["stamp"], [163, 65])
             self.assertEqual(await limit_at(ada), 2)
@@ -289,5 +289,11 @@ class Seats(Case):
             with self.assertRaisesRegex(Refused, "private edits"):
                 await ada.ask("leave")
             await ada.ask("send", name="shared")
-            await ada.reply("leave", at=ada.at)
+            said = await asyncio.gather(ada.reply("gesture", at=ada.at, key="2", edits=[[*LIMIT, 2]]), ada.reply("leave", at=ada.at))
+            self.assertEqual([one.get("refused") for one in said], [None, "private edits"])  # in their order
+            await ada.ask("send", name="shared")
+            await asyncio.gather(ada.reply("leave", at=ada.at), ada.reply("gesture", at=ada.at, key="3", edits=[[*LIMIT, 3]]),
+                                 return_exceptions=True)
+            self.assertEqual((await ben.ask("scenario", at="shared"))["edits"], [[*LIMIT, 2, 65, 2]])
+            self.assertEqual(len([one for one in server.journal() if "gesture" in one]), 2)
             self.assertEqual([one["name"] for one in (await ben.say("seats"))["seats"]], ["Ben"])
