@@ -2,7 +2,9 @@
 // Figures of the part that is shown, mine beside shared: cars and mean speeds at the detectors,
 // vehicle hours with the demand that was lost; what is to be warned of; the diagram as a table.
 
-const LEAST_ROWS = 30;          // rows of a piece of time by which an inlet is judged
+const LEAST_ROWS = 16;          // rows of a piece of time by which an inlet is judged
+const LEAST_TIME = 60;          // and its steps
+const BEHIND = 60;              // cells behind the first inlet on which its flow is measured
 const LETS_IN = 0.5;            // of its free flow: an inlet that lets in less has a queue before it
 
 /** The steps of which figures are given: those shown and computed, [from, to). */
@@ -40,19 +42,39 @@ function vehicleHours(level, rows) {
   return rows.reduce((sum, [step]) => sum + carsOf(level, step), 0) * level.every / HOUR;
 }
 
-/** Pieces of time in which an inlet lets in less than half of its free flow, as cars stand on its
-    cell: {from, to, lost}, in steps and cars. */
+/** The cars a step that come in at the first inlet, by the speeds on the cells behind it. */
+function flowBehind(cell, rows) {
+  const next = live.plan.inlets.map(([at]) => at).filter((at) => at > cell);
+  const end = Math.min(cell + BEHIND, live.plan.length, ...next);
+  let speeds = 0;
+  for (const [, text] of rows) {
+    for (let at = cell; at < end; at++) if (text.charCodeAt(at) > 46) speeds += text.charCodeAt(at) - 48;
+  }
+  return speeds / (end - cell) / rows.length;
+}
+
+/** The cars a step that come in at an inlet: at the first one by their speeds; at another by how
+    often its cell is free, since other cars pass it. */
+function letIn(cell, chance, rows) {
+  if (live.plan.inlets.every(([other]) => other >= cell)) return flowBehind(cell, rows);
+  return chance * rows.filter(([, text]) => text[cell] === ".").length / rows.length;
+}
+
+/** Pieces of time in which an inlet lets in less than half of its free flow: {from, to, lost}, in
+    steps and cars. */
 function queuesAt(scenario, inlet, every, rows) {
   const cell = live.plan.inlets[inlet][0];
+  const count = Math.max(LEAST_ROWS, Math.ceil(LEAST_TIME / every));
   const found = [];
-  for (let first = 0; first + LEAST_ROWS <= rows.length; first += LEAST_ROWS) {
-    const piece = rows.slice(first, first + LEAST_ROWS);
+  for (let first = 0; first + count <= rows.length; first += count) {
+    const piece = rows.slice(first, first + count);
     const [from, to] = [piece[0][0], piece.at(-1)[0] + every];
     const chance = scenario.valueAt("inflow", inlet, from) / ALWAYS;
     const flow = demandOfChance(chance, slowAt(scenario, inlet, from) / ALWAYS) / HOUR;
-    if (!(flow > 0)) continue;
-    const free = piece.filter(([, text]) => text[cell] === ".").length / piece.length;
-    if (free * chance < LETS_IN * flow) found.push({from, to, lost: (flow - free * chance) * (to - from)});
+    // The first cars need their time to drive over the cells behind the inlet.
+    if (!(flow > 0) || from < LEAST_TIME) continue;
+    const came = letIn(cell, chance, piece);
+    if (came < LETS_IN * flow) found.push({from, to, lost: (flow - came) * (to - from)});
   }
   return found;
 }

@@ -201,26 +201,27 @@ async function showPreview(place, gestures) {
   place.replaceChildren(said.refused ? element("p", said.why ?? said.refused) : previewTable(said));
 }
 
-/** The table of a preview: flows at detectors and inlets before and after, and what the change costs
-    in vehicle hours, beside the demand that would be lost. */
-function previewTable({before, after, from, to, delay}) {
-  const line = (name, one, other) => row(headCell(name, "row"), element("td", whole(one)),
-    element("td", whole(other)), element("td", signedText(other - one)));
+/** The table of a preview: vehicle hours beside the demand that would be lost, and flows, before and
+    after. */
+function previewTable({before, after, from, to, lost_demand: lost, delay_hours: delay}) {
+  const known = typeof before.vehicle_hours === "number";
+  const number = (value, digits) => value.toLocaleString("en",
+    {minimumFractionDigits: digits, maximumFractionDigits: digits});
+  const line = (name, one, other, digits = 0) => row(headCell(name, "row"), element("td", number(one, digits)),
+    element("td", number(other, digits)), element("td", signedText(other - one, digits)));
+  const costs = known ? [
+    line("Vehicle hours", before.vehicle_hours, after.vehicle_hours, 1),
+    line("Cars let in", before.entered, after.entered),
+    row(headCell("Lost demand, cars", "row"), element("td"), element("td"), element("td", signedText(lost))),
+    row(headCell("Delay of cars in both, vehicle hours", "row"), element("td"), element("td"),
+        element("td", signedText(delay, 1))),
+  ] : [];
   const perHour = ([cars]) => cars * HOUR / Math.max(1, to - from);
   const detectors = live.plan.detectors.map((cell, index) => line(`Cars an hour at ${kmText(cell)} km`,
     perHour(before.detectors[index]), perHour(after.detectors[index])));
-  const inlets = Object.entries(delay?.inlets ?? {}).map(([index, [one, other]]) =>
-    line(`Cars let in at ${kmText(live.plan.inlets[index][0])} km`, one, other));
-  const change = (name, text) => row(headCell(name, "row"), element("td"), element("td"), element("td", text));
-  const costs = delay ? [
-    change("Vehicle hours", signedText(delay.total / HOUR, 1)),
-    change("Cars that would not enter (lost demand)", whole(delay.lost.cars)),
-    change(`Delay of the ${plural(delay.through.cars, "car")} that get through in both, vehicle hours`,
-           signedText(delay.through.delay / HOUR, 1)),
-  ] : [];
   return element("div", "", {}, element("table", "", {}, element("caption", `${timeText(from)} to ${timeText(to)}`),
     element("thead", "", {}, row(element("td"), headCell("now"), headCell("then"), headCell("change"))),
-    element("tbody", "", {}, ...costs, ...inlets, ...detectors)),
-    element("p", delay ? "A car that does not enter spends no vehicle hours: read these with the lost demand."
-      : "The run is too long for vehicle hours: show a shorter time.", {className: "hint"}));
+    element("tbody", "", {}, ...costs, ...detectors)),
+    element("p", known ? "A car that does not enter spends no vehicle hours: read these with the lost demand."
+      : "This is too long for vehicle hours: show a shorter time.", {className: "hint"}));
 }

@@ -1,0 +1,229 @@
+"""One browser on a road: what is drawn, read out, changed and saved.
+
+The rows that pixels are held against are those of `examples/closed_cell.out`; other values are worked out by hand.
+"""
+from __future__ import annotations
+
+import subprocess
+
+from browsers import FREE_ROAD, FREEWAY, BrowserCase, Tab, edits_of, example_rows, gestures_of
+from running import program
+from selenium.webdriver.common.by import By
+from selenium.webdriver.support.ui import Select
+
+
+class OnePicture(BrowserCase):
+    """One tab: what is drawn and read out."""
+
+    names = ("Ada",)
+
+    def closed_by_a_drag(self) -> Tab:
+        """Cell 24 closed from step 12 to 24, as the example has it."""
+        tab, = self.open(FREE_ROAD)
+        tab.run_an_hour()
+        tab.show(60)
+        tab.tool("block")
+        tab.drag((24.3, 12.1), (25.2, 24.1))
+        return tab
+
+    def test_a_drag_closes_a_cell_in_the_past(self) -> None:
+        tab = self.closed_by_a_drag()
+        self.assertEqual(edits_of(gestures_of(self.server)[0]), [["block", 24, 12, 1], ["block", 24, 24, 0]])
+        tab.tool("look")
+        tab.script("live.held.frames = []; draw()")  # the frame lies over the pixels of its edges
+        tab.settled()
+        wanted = example_rows(0)[:12] + example_rows(1)[-17:]
+        self.assertEqual(tab.signs(12, len(wanted), 40), wanted)
+
+    def test_a_cell_is_read_out(self) -> None:
+        tab = self.closed_by_a_drag()
+        # By the example's rows: at step 20 cell 23 has a standing car, cell 24 is closed, and 25 is empty.
+        for cell, said in ((23, "a car at 0 km/h"), (24, "closed"), (25, "no car")):
+            self.assertEqual(tab.point(cell + 0.5, 20.3), f"{cell * 0.0075:.2f} km, 0:00:20: {said}; limit 80 km/h")
+
+    def test_an_edge_is_dragged(self) -> None:
+        tab = self.closed_by_a_drag()
+        tab.tool("look")
+        tab.drag((24.5, 24), (24.5, 30.1))
+        first, second = gestures_of(self.server)
+        self.assertEqual(len(first["edits"]), 2)
+        self.assertEqual(sorted(edits_of(second), key=str),
+                         sorted([["block", 24, 12, 1], ["block", 24, 24, None], ["block", 24, 30, 0]], key=str))
+        self.assertEqual(tab.lines("own"), ["Whole road closed 0.18–0.188 km, 0:00:12–0:00:30 private"])
+
+    def test_undo_gives_the_picture_back(self) -> None:
+        tab = self.closed_by_a_drag()
+        tab.keys("z")
+        tab.settled()
+        self.assertEqual(tab.lines("own"), [])
+        free = tab.script("return live.mine.level(1).rows[30]")
+        self.assertEqual(tab.signs(30, 1, 40), [free])
+        self.assertNotIn("#", free)
+        self.assertEqual(tab.point(24.5, 20.3), "0.18 km, 0:00:20: no car; limit 80 km/h")
+
+    def test_cars_in_a_closure_are_told(self) -> None:
+        tab, = self.open(FREE_ROAD)
+        tab.run_an_hour()
+        tab.show(60)
+        tab.tool("block")
+        # In the row of step 12 of the free road cars are in the cells 9, 15 and 21 and no other from 8 to 23.
+        self.assertEqual(example_rows(0)[0][8:24], ".3.....3.....3..")
+        tab.drag((8.1, 12.1), (24, 24.1))
+        self.assertIn("3 cars stand in the closure 0.06–0.18 km, until it opens at 0:00:24.", tab.text("warnings"))
+
+    def test_the_table_has_the_mean_speeds(self) -> None:
+        tab = self.closed_by_a_drag()
+        tab.part("asTable").find_element(By.TAG_NAME, "summary").click()
+        tab.settled()
+        cells = [one.text for one in tab.part("speeds").find_elements(By.CSS_SELECTOR, "tbody tr:first-child td")]
+        # Ten stretches of four cells in the first minute, by the rows of the level that is shown.
+        rows = tab.script("return live.mine.level(1).rows.slice(0, 60)")
+        for index, cell in enumerate(cells):
+            signs = "".join(row[4 * index:4 * index + 4] for row in rows)
+            speeds = [int(sign) for sign in signs if sign.isdigit()]
+            wanted = str(round(27 * sum(speeds) / len(speeds) + 1e-9)) + (" (closed in part)" if "#" in signs else "")
+            self.assertEqual(cell, wanted)
+
+
+class OneFreeway(BrowserCase):
+    """One tab on a freeway: tools, figures, saving, and the page for all."""
+
+    names = ("Ada",)
+
+    def test_tools_in_figures(self) -> None:
+        tab, = self.open(FREEWAY)
+        tab.run_an_hour()
+        tab.tool("limit")
+        Select(tab.part("limit")).select_by_value("2")
+        tab.in_figures(kmFrom="1.5", kmTo="2.2", timeFrom="0:18", timeTo="0:36:30")
+        tab.tool("inflow")
+        tab.in_figures(demand="1500", timeFrom="10", timeTo="20")
+        tab.tool("slow")
+        tab.in_figures(slow="25", kmFrom="0", kmTo="0.3", timeFrom="0:05", timeTo="")
+        tab.tool("start")
+        tab.in_figures(start="50", kmFrom="0.4", kmTo="0.5", timeFrom="0:05", timeTo="0:10")
+        tab.tool("watch")
+        Select(tab.part("site")).select_by_value("2")
+        tab.in_figures(timeFrom="0:30", timeTo="0:40")
+        gestures = gestures_of(self.server)
+        # The demand by README's table for p = 0.1: 0.588 of 65,536; the plan's p is 6,554 of 65,536.
+        demand = edits_of(gestures[1])[0]
+        self.assertAlmostEqual(demand[3], 38535, delta=2)
+        # Zones have 50 cells, 375 m; at an end stands what the plan has.
+        wanted = [
+            [["limit", 4, 1080, 2], ["limit", 4, 2190, 5], ["limit", 5, 1080, 2], ["limit", 5, 2190, 5]],
+            [["inflow", 0, 600, demand[3]], ["inflow", 0, 1200, 27918]],
+            [["slow", 0, 300, 16384]],
+            [["start", 1, 300, 32768], ["start", 1, 600, 6554]],
+            [["watch", 2, 1800, 0], ["watch", 2, 2400, 1]]]
+        self.assertEqual([edits_of(one) for one in gestures], wanted)
+        notes = ["50 km/h, 1.5–2.25 km, 0:18:00–0:36:30", "Demand 1,500 cars/h, at 0 km, 0:10:00–0:20:00",
+                 "Slowing 25 %, 0–0.375 km, from 0:05:00 on", "Slow to start 50 %, 0.375–0.75 km, 0:05:00–0:10:00",
+                 "Detector off, at 3.75 km, 0:30:00–0:40:00"]
+        self.assertEqual(tab.lines("own"), [note + " private" for note in reversed(notes)])
+
+    def test_rectangles_may_overlap(self) -> None:
+        tab, = self.open(FREEWAY)
+        tab.tool("limit")
+        for limit, begin, end in (("2", "0:10", "0:30"), ("3", "0:20", "0:40")):
+            Select(tab.part("limit")).select_by_value(limit)
+            tab.in_figures(kmFrom="0", kmTo="0.3", timeFrom=begin, timeTo=end)
+        # The later one has all of its rectangle: the end of the earlier one is withdrawn, and comes back as its own.
+        self.assertEqual(edits_of(gestures_of(self.server)[1]),
+                         [["limit", 0, 1200, 3], ["limit", 0, 1800, None], ["limit", 0, 2400, 5]])
+
+    def test_wrong_figures_are_told_and_change_nothing(self) -> None:
+        tab, = self.open(FREEWAY)
+        tab.tool("block")
+        for fields, said in (
+                ({"kmFrom": "3", "kmTo": "2", "timeFrom": "7", "timeTo": "9"}, "Give two places from 0 to 6 km"),
+                ({"kmFrom": "3", "kmTo": "3.1", "timeFrom": "9", "timeTo": "7"}, "The end must be later"),
+                ({"kmFrom": "3", "kmTo": "3.1", "timeFrom": "soon", "timeTo": "7"}, "A time is written as")):
+            tab.in_figures(**fields)
+            self.assertIn(said, tab.text("said"))
+        tab.tool("inflow")
+        tab.in_figures(demand="1710", timeFrom="0:05", timeTo="0:10")
+        self.assertEqual(tab.text("said"), "This inlet lets in 0 to 1,703 cars an hour, at a slowing chance of 10 %.")
+        self.assertEqual(gestures_of(self.server), [])
+
+    def test_too_great_a_closure_is_refused_before_it_is_let_go(self) -> None:
+        tab, = self.open(FREEWAY)
+        tab.run_an_hour()
+        tab.tool("block")
+        tab.begin_drag((20, 900), (700, 1500))
+        # 1,200 edits are two for each of 600 cells, 4.5 km.
+        self.assertIn("at most 1,200. At most 4.5 km at once.", tab.text("said"))
+        tab.drop()
+        self.assertEqual(gestures_of(self.server), [])
+
+    def test_a_look_ahead_is_private(self) -> None:
+        tab, = self.open(FREEWAY)
+        tab.run_an_hour()
+        tab.press("Look 30 min ahead")
+        tab.until(lambda: tab.script("return live.mine.horizon") == 5400, "the forecast")
+        tab.settled()
+        self.assertEqual(tab.text("clock"), "1:00:00")
+        self.assertNotIn("not computed", tab.point(400, 5000))
+        tab.press("Back to the clock")
+        self.assertFalse(tab.part("back").is_displayed())
+
+    def test_a_queue_at_the_inlet_is_told(self) -> None:
+        tab, = self.open(FREEWAY)
+        tab.run_an_hour()
+        self.assertEqual(tab.lines("warnings") + [tab.text("warnings")], [""])
+        tab.tool("block")
+        tab.in_figures(kmFrom="0.3", kmTo="0.35", timeFrom="0:20", timeTo="0:50")
+        self.assertRegex(tab.text("warnings"), "A queue reaches the inlet at 0 km, about from 0:(19|2[0-2]):")
+        lost = int(tab.part("figures").find_elements(By.CSS_SELECTOR, "tbody tr")[1].find_elements(
+            By.TAG_NAME, "td")[0].text.replace(",", ""))
+        # Some 1,250 cars an hour come, for 30 minutes but those that fill 300 m.
+        self.assertTrue(480 <= lost <= 640, lost)
+
+    def test_the_token_leaves_the_address(self) -> None:
+        tab, = self.open(FREEWAY)
+        self.assertNotIn("#", tab.driver.current_url)
+        self.assertNotIn(self.server.address.split("#")[1], tab.driver.current_url)
+        tab.driver.refresh()
+        tab.until(lambda: tab.text("me") == "Ada (seat 1)", "the same seat")
+
+    def test_names_are_text(self) -> None:
+        name = "<img src=x onerror=alert(1)>=1"
+        tab, = self.open(FREEWAY, (name,))
+        tab.tool("limit")
+        tab.in_figures(kmFrom="0", kmTo="0.3", timeFrom="0:20", timeTo="")
+        self.assertEqual(tab.text("me"), f"{name} (seat 1)")
+        self.assertEqual(tab.driver.find_elements(By.TAG_NAME, "img"), [])
+
+    def test_a_table_has_no_formula(self) -> None:
+        tab, = self.open(FREEWAY, ("=1+1,Ada",))
+        tab.tool("limit")
+        tab.in_figures(kmFrom="0", kmTo="0.3", timeFrom="0:20", timeTo="")
+        tab.part("save").find_element(By.TAG_NAME, "summary").click()
+        tab.press("Changes as CSV")
+        path = self.downloads / "changes.csv"
+        tab.until(path.exists, "the file")
+        line = path.read_text(encoding="utf-8").splitlines()[1]
+        self.assertIn(",\"'=1+1,Ada\",\"50 km/h, 0–0.375 km, from 0:20:00 on\",private,", line)
+
+    def test_the_transcript_runs_again(self) -> None:
+        tab, = self.open(FREE_ROAD)
+        tab.press("Run an hour")
+        tab.show(60)
+        tab.tool("limit")
+        for limit, begin in (("2", "0:00:20"), ("3", "0:00:10"), ("1", "0:00:20")):
+            Select(tab.part("limit")).select_by_value(limit)
+            tab.in_figures(kmFrom="0", kmTo="0.3", timeFrom=begin, timeTo="0:00:40")
+        tab.tool("start")
+        tab.in_figures(kmFrom="0", kmTo="0.3", timeFrom="0:00:20", timeTo="0:00:30")
+        tab.press("Withdraw")
+        tab.settled()
+        tab.part("save").find_element(By.TAG_NAME, "summary").click()
+        transcript, script = self.downloads / "transcript.jsonl", self.downloads / "script.jsonl"
+        tab.press("Transcript")
+        tab.until(transcript.exists, "the transcript")
+        tab.press("Script")
+        tab.until(script.exists, "the script")
+        ran = subprocess.run([program()], input=script.read_bytes(), stdout=subprocess.PIPE, check=True)
+        lines = transcript.read_text(encoding="utf-8").splitlines()
+        self.assertEqual(lines[0::2], script.read_text(encoding="utf-8").splitlines())
+        self.assertEqual(lines[1::2], ran.stdout.decode().splitlines())

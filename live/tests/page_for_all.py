@@ -1,0 +1,117 @@
+"""The page for those who use no mouse, see little, or want less motion; names and tokens as they must be."""
+from __future__ import annotations
+
+import time
+
+from browsers import FREEWAY, BrowserCase
+from selenium.webdriver.common.action_chains import ActionChains
+from selenium.webdriver.common.by import By
+from selenium.webdriver.common.keys import Keys
+from selenium.webdriver.support.ui import Select
+
+
+class ForAll(BrowserCase):
+    """One tab on a freeway."""
+
+    names = ("Ada",)
+
+    def test_roles_and_names(self) -> None:
+        tab, = self.open(FREEWAY)
+        tab.run_an_hour()
+        tab.tool("limit")
+        tab.in_figures(kmFrom="0", kmTo="0.3", timeFrom="0:20", timeTo="0:30")
+        nodes = tab.driver.execute_cdp_cmd("Accessibility.getFullAXTree", {})["nodes"]
+        found = [(node["role"]["value"], node.get("name", {}).get("value", "")) for node in nodes
+                 if not node["ignored"] and "role" in node]
+        nameless = [role for role, name in found if not name.strip() and role in (
+            "button", "radio", "checkbox", "combobox", "textbox", "spinbutton", "application", "table", "region",
+            "complementary", "group", "list", "heading", "DisclosureTriangle", "link")]
+        self.assertEqual(nameless, [])
+        for wanted in (("application", "Space-time diagram"), ("complementary", "Changes"), ("timer", ""),
+                       ("radio", "close C"), ("radio", "difference D"), ("spinbutton", None), ("list", "Not shared yet"),
+                       ("button", "Withdraw: 50 km/h, 0–0.375 km, 0:20:00–0:30:00"), ("checkbox", "follow it"),
+                       ("textbox", "from km"), ("columnheader", "mine − shared"), ("status", ""), ("banner", ""), ("main", "")):
+            role, name = wanted
+            if wanted == ("spinbutton", None):
+                continue
+            self.assertTrue(any(one == role and (not name or other == name) for one, other in found), wanted)
+        live = [one.get_attribute("id") for one in tab.driver.find_elements(
+            By.CSS_SELECTOR, "[role=status], [role=log], [role=alert], [aria-live=polite], [aria-live=assertive], output")]
+        self.assertEqual(live, ["helloSaid", "said"])
+        self.assertEqual(tab.part("clock").get_attribute("aria-live"), "off")
+
+    def test_four_times_as_large(self) -> None:
+        tab, = self.open(FREEWAY)
+        tab.run_an_hour()
+        tab.tool("inflow")
+        tab.in_figures(demand="1000", timeFrom="0:20", timeTo="0:30")
+        self.addCleanup(tab.driver.execute_cdp_cmd, "Emulation.clearDeviceMetricsOverride", {})
+        for width in (320, 700, 1000):
+            tab.driver.execute_cdp_cmd("Emulation.setDeviceMetricsOverride",
+                                       {"width": width, "height": 256, "deviceScaleFactor": 4, "mobile": False})
+            tab.settled()
+            too_wide = tab.script("""
+                const wide = document.documentElement.clientWidth;
+                return [...document.querySelectorAll("body *")].filter((one) => !one.closest(".scrolled, .hidden")
+                  && one.getBoundingClientRect().right > wide + 1).map((one) => one.outerHTML.slice(0, 80));""")
+            self.assertEqual(too_wide, [], width)
+            self.assertLessEqual(tab.script("return document.documentElement.scrollWidth - innerWidth"), 0)
+
+    def test_texts_stand_out(self) -> None:
+        tab, = self.open(FREEWAY)
+        tab.run_an_hour()
+        tab.tool("block")
+        tab.in_figures(kmFrom="0.3", kmTo="0.35", timeFrom="0:20", timeTo="0:50")
+        faint = tab.script("""
+            const parts = (text) => text.match(/[\\d.]+/g).map(Number);
+            const light = (colour) => {
+              const [r, g, b] = parts(colour).slice(0, 3).map((one) => one / 255)
+                .map((one) => (one <= 0.04045 ? one / 12.92 : ((one + 0.055) / 1.055) ** 2.4));
+              return 0.2126 * r + 0.7152 * g + 0.0722 * b;
+            };
+            const ground = (one) => {
+              for (let at = one; at; at = at.parentElement) {
+                const colour = getComputedStyle(at).backgroundColor;
+                if ((parts(colour)[3] ?? 1) > 0.5) return colour;
+              }
+              return "rgb(255, 255, 255)";
+            };
+            const faint = [];
+            for (const one of document.querySelectorAll("body *")) {
+              const own = [...one.childNodes].some((node) => node.nodeType === 3 && node.data.trim());
+              if (!own || !one.checkVisibility() || one.tagName === "SCRIPT") continue;
+              const [text, back] = [light(getComputedStyle(one).color), light(ground(one))];
+              const contrast = (Math.max(text, back) + 0.05) / (Math.min(text, back) + 0.05);
+              if (contrast < 4.5) faint.push([one.outerHTML.slice(0, 80), contrast]);
+            }
+            return faint;""")
+        self.assertEqual(faint, [])
+
+    def test_focus_is_seen(self) -> None:
+        tab, = self.open(FREEWAY)
+        seen = []
+        for _ in range(20):
+            ActionChains(tab.driver, duration=0).send_keys(Keys.TAB).perform()
+            seen.append(tab.script("""
+                const one = document.activeElement;
+                const ring = (of) => getComputedStyle(of).outlineStyle !== "none" && parseFloat(getComputedStyle(of).outlineWidth) >= 2;
+                if (one === document.body) return ["document", false];
+                return [one.id || one.textContent.trim(), ring(one) || (one.nextElementSibling && ring(one.nextElementSibling))];"""))
+        self.assertEqual([name for name, ring in seen if not ring and name != "document"], [])
+        self.assertIn("diagram", [name for name, _ in seen])
+
+    def test_less_motion(self) -> None:
+        tab, = self.open(FREEWAY)
+        tab.driver.execute_cdp_cmd("Emulation.setEmulatedMedia",
+                                   {"features": [{"name": "prefers-reduced-motion", "value": "reduce"}]})
+        self.addCleanup(tab.driver.execute_cdp_cmd, "Emulation.setEmulatedMedia", {"features": []})
+        Select(tab.part("span")).select_by_value("300")
+        tab.press("60×")
+        seen = set()
+        end = time.monotonic() + 4
+        while time.monotonic() < end:
+            seen.add(tab.script("return Math.round(look.step)"))
+            time.sleep(0.05)
+        tab.press("Pause")
+        # 240 seconds of the road go by; the diagram has stood still, or jumped by a quarter of its 300 seconds.
+        self.assertLessEqual(len(seen), 5)

@@ -1,0 +1,184 @@
+"""Two and three browsers on one road: share, look first, take, overruled, put again, undo; a server that died."""
+from __future__ import annotations
+
+from browsers import FREE_ROAD, FREEWAY, BrowserCase, Tab, example_rows, gestures_of
+from selenium.webdriver.common.action_chains import ActionChains
+from selenium.webdriver.common.by import By
+from selenium.webdriver.common.keys import Keys
+from selenium.webdriver.support.ui import Select
+
+
+class TwoTabs(BrowserCase):
+    """Two browsers: share, look first, take, overruled, put again, undo."""
+
+    def test_shared_looked_at_and_taken(self) -> None:
+        ada, ben = self.open(FREE_ROAD)
+        ada.run_an_hour()
+        for tab in (ada, ben):
+            tab.show(60)
+        ada.tool("block")
+        ada.drag((24.3, 12.1), (25.2, 24.1))
+        self.assertFalse(ben.part("news").is_displayed())
+        ada.press("Share all")
+        self.assertIn("Nobody would lose anything.", ada.text("beforeBody"))
+        ada.press("Share now")
+        ben.until(lambda: "Ada shared 1 change." in ben.text("news"), "news")
+        ben.press("Look first")
+        ben.settled()
+        self.assertIn("Whole road closed 0.18–0.188 km, 0:00:12–0:00:24 Ada, ", ben.text("beforeBody"))
+        # In the cells 15 to 19 of the steps 20 to 24 Ada's cars have, by the example's rows, the speeds 3, 1, 3, 0, 3, 0, 0,
+        # 2, 0, 0, 3, 0, 0, 0, and Ben's drive 3: his are faster, by half of the scale, which is a middling blue.
+        red, green, blue = ben.pixel(17.5, 22.5)
+        self.assertTrue(100 <= red <= 160 and red < green < blue, (red, green, blue))
+        ben.press("Take now")
+        ben.until(lambda: ben.text("said") == "Took 1 change of Ada. Nothing of yours lost.", "taken")
+        ben.settled()
+        ben.script("live.held.frames = []; draw()")
+        ben.settled()
+        wanted = example_rows(0)[:12] + example_rows(1)[-17:]
+        self.assertEqual(ben.signs(12, len(wanted), 40), wanted)
+        self.assertEqual(ben.lines("held"), ["Whole road closed 0.18–0.188 km, 0:00:12–0:00:24 shared"])
+
+    def limit(self, tab: Tab, limit: str, begin: str, end: str) -> None:
+        tab.tool("limit")
+        Select(tab.part("limit")).select_by_value(limit)
+        tab.in_figures(kmFrom="0", kmTo="0.3", timeFrom=begin, timeTo=end)
+
+    def test_overruled_and_put_again(self) -> None:
+        ada, ben = self.open(FREE_ROAD)
+        ada.run_an_hour()
+        self.limit(ada, "1", "0:20", "0:30")
+        self.limit(ben, "2", "0:20", "0:40")
+        ada.share_all()
+        ben.share_all()
+        # Both have count 1; Ben's seat is the greater, so that Ada loses at 0:20, and her end cuts Ben's short.
+        ada.take()
+        self.assertEqual(ada.text("said"), "Took 1 change of Ben. 1 change of yours lost to them, whole or in part.")
+        self.assertEqual(ada.lines("lost"), ["30 km/h, 0–0.3 km, 0:20:00–0:30:00 in part"])
+        self.assertIn("1 of 2 edits lost to Ben: 50 km/h, 0–0.3 km, 0:20:00–0:40:00 Both are change number 1; at equal "
+                      "numbers the greater site and seat wins.", ada.text("lost"))
+        ben.take()
+        self.assertEqual(ben.lines("lost"), ["50 km/h, 0–0.3 km, 0:20:00–0:40:00 in part"])
+        self.assertIn("holds only until 0:30:00, then Ada: 30 km/h", ben.text("lost"))
+        ada.press("Put mine again")
+        ada.settled()
+        self.assertEqual(ada.lines("own"), ["30 km/h, 0–0.3 km, 0:20:00–0:30:00 private"])
+        self.assertEqual(ada.lines("lost"), [])
+        again = gestures_of(self.server)[-1]
+        self.assertEqual(again["stamp"][0] if "stamp" in again else again["edits"][0][3], 2)
+        ada.press("Share all")
+        self.assertIn("Ben: 50 km/h, 0–0.3 km, 0:20:00–0:40:00 – 1 of 2 edits lost to you: 30 km/h", ada.text("beforeBody"))
+        ada.press("Share now")
+        ben.take()
+        self.assertIn("1 of 2 edits lost to Ada: 30 km/h", ben.text("lost"))
+
+    def test_undo_gives_back_what_had_lost(self) -> None:
+        ada, ben = self.open(FREE_ROAD)
+        ada.run_an_hour()
+        ben.show(3600)
+        self.limit(ada, "1", "0:20", "")
+        self.limit(ben, "2", "0:20", "")
+        ada.share_all()
+        ben.take()
+        self.assertTrue(ben.point(20, 1500).endswith("limit 50 km/h"))
+        ben.press("Withdraw", "#own")
+        ben.settled()
+        self.assertTrue(ben.point(20, 1500).endswith("limit 30 km/h"))
+
+    def test_figures_stand_beside_each_other(self) -> None:
+        ada, ben = self.open(FREE_ROAD)
+        ada.run_an_hour()
+        ada.show(3600)
+        ada.tool("block")
+        ada.in_figures(kmFrom="0.18", kmTo="0.19", timeFrom="0:10", timeTo="")
+        cells = [one.text for one in ada.part("figures").find_elements(By.CSS_SELECTOR, "tbody tr:last-child > *")]
+        # A car in two steps (0..2...., .1......, by the example's rows), all at 3 cells a step; the first passes cell 28 at
+        # step 10 or so, and the last of mine some steps behind 0:10:00.
+        name, mine, shared, change = cells
+        self.assertEqual(name, "Cars through 0.21 km")
+        self.assertRegex(shared, r"^1,79[4-6] \(1,79[4-6]/h, 81 km/h\)$")
+        self.assertRegex(mine, r"^29[5-7] \(29[5-7]/h, 81 km/h\)$")
+        passed = [int(text.split()[0].replace(",", "")) for text in (mine, shared)]
+        self.assertEqual(change, f"−{passed[1] - passed[0]:,}")
+
+    def test_by_the_keyboard_alone(self) -> None:
+        ada, ben = self.open(FREE_ROAD)
+        active = "const one = document.activeElement; return one.getAttribute('aria-label') || one.textContent.trim() || one.id"
+
+        def tab_to(tab: Tab, name: str, key: str = Keys.TAB) -> None:
+            for _ in range(80):
+                if tab.script(active).startswith(name):
+                    return
+                ActionChains(tab.driver, duration=0).send_keys(key).perform()
+            raise AssertionError(f"no way to {name}")
+
+        def type_in(tab: Tab, *keys: str) -> None:
+            for key in keys:
+                ActionChains(tab.driver, duration=0).send_keys(key).perform()
+
+        tab_to(ada, "Run an hour")
+        type_in(ada, Keys.ENTER)
+        ada.until(lambda: ada.text("clock") == "1:00:00", "the clock")
+        tab_to(ada, "Space-time diagram")
+        type_in(ada, Keys.HOME, "c", " ", *[Keys.ARROW_RIGHT] * 2, *[Keys.ARROW_DOWN] * 3)
+        said = ada.text("readout")
+        self.assertTrue(said.startswith("Whole road closed, "), said)
+        type_in(ada, Keys.ENTER)
+        ada.settled()
+        self.assertEqual(len(ada.lines("own")), 1)
+        tab_to(ada, "Share all")
+        type_in(ada, Keys.ENTER)
+        tab_to(ada, "Share now")
+        type_in(ada, Keys.ENTER)
+        ben.until(lambda: ben.part("news").is_displayed(), "news")
+        tab_to(ben, "Take")
+        type_in(ben, Keys.ENTER)
+        ben.until(lambda: len(ben.lines("held")) == 1, "taken")
+        tab_to(ada, "Space-time diagram")
+        type_in(ada, "z")
+        ada.until(lambda: "Withdrew" in "".join(ada.lines("own")), "undone")
+
+    def test_a_server_that_died(self) -> None:
+        ada, _ = self.open(FREE_ROAD)
+        ada.run_an_hour()
+        self.server.kill()
+        ada.until(lambda: ada.text("line") == "connection lost, trying again", "it is told")
+        ada.tool("limit")
+        ada.part("timeFrom").send_keys("0:20")
+        ada.part("kmFrom").send_keys("0")
+        ada.part("kmTo").send_keys("0.3")
+        ada.part("apply").click()
+        ada.until(lambda: ada.lines("own") == ["50 km/h, 0–0.3 km, from 0:20:00 on pending"], "pending")
+        self.server.start()
+        ada.until(lambda: ada.lines("own") == ["50 km/h, 0–0.3 km, from 0:20:00 on private"], "confirmed")
+        self.assertEqual(len(gestures_of(self.server)), 1)
+
+
+class ThreeTabs(BrowserCase):
+    """Three browsers at once."""
+
+    names = ("Ada", "Ben", "Cleo")
+
+    def test_three_edit_at_once(self) -> None:
+        tabs = self.open(FREEWAY)
+        tabs[0].run_an_hour()
+        for index, tab in enumerate(tabs):
+            tab.tool("limit")
+            Select(tab.part("limit")).select_by_value(str(index + 1))
+            for name, text in (("kmFrom", str(index)), ("kmTo", str(index + 2)), ("timeFrom", "0:20"), ("timeTo", "0:40")):
+                tab.part(name).send_keys(text)
+        for tab in tabs:
+            tab.part("apply").click()
+        for tab in tabs:
+            tab.settled()
+            tab.share_all()
+        for tab in tabs:
+            tab.take()
+        held = [tab.script("return [...live.held.scenario.objects].map(([name, puts]) => [name, puts.map((one) => "
+                           "[one.step, one.value, ...one.gesture.stamp])]).sort()") for tab in tabs]
+        self.assertEqual(held[0], held[1])
+        self.assertEqual(held[0], held[2])
+        self.assertEqual(len(gestures_of(self.server)), 3)
+        rows = [tab.script("return live.mine.level(everyShown()).rows.filter(Boolean)") for tab in tabs]
+        self.assertEqual(rows[0], rows[1])
+        self.assertEqual(rows[0], rows[2])
