@@ -40,6 +40,8 @@ function withText(name, text) {
 
 // 1. Drawing.
 
+/** Whether mean speeds are painted: these are not marked, since each car that is somewhere else
+    would be. */
 const byMeans = () => (page.paint.value === "zoom" ? meansAreSeen(view)
   : page.paint.value === "means");
 
@@ -54,13 +56,14 @@ function paintPane(context, which, part) {
 function paintPicture(context, which, part) {
   const [picture, other] = which ? [...shown.pictures].reverse() : shown.pictures;
   const kept = {tiles, name: which, greatest: shown.greatest};
-  const means = byMeans();
-  if (means) paintMeans(context, view, picture, part, kept);
-  else paintCells(context, view, picture, part, kept);
-  if (marksShown() && (means || sizeOfCell(view) < FRAMES_FROM)) {
+  if (byMeans()) {
+    paintMeans(context, view, picture, part, kept);
+    return;
+  }
+  paintCells(context, view, picture, part, kept);
+  if (marksShown() && sizeOfCell(view) < FRAMES_FROM) {
     paintMarks(context, view, picture, other, part, kept);
   }
-  if (means) return;
   paintClosures(context, view, picture, part, kept);
   drawDetails(context, view, picture, marksShown() ? other : null, part, shown.greatest);
 }
