@@ -20,8 +20,9 @@ const picturesShown = () => shown.pictures.filter(Boolean);
 const marksShown = () => Boolean(shown.comparison) && page.marks.checked;
 const panesShown = () => [0, 1, 2].filter((which) => !panes[which].figure.hidden);
 
-/** The picture of a pane, the third being the second's difference from the first. */
+/** The picture and the plan of a pane, the third being the second's difference from the first. */
 const pictureOf = (which) => shown.pictures[Math.min(which, 1)];
+const planOf = (which) => (which < 2 ? shown.plans[which] : shown.plans.find(Boolean));
 
 /** The first and last step of what is shown. */
 function stepsShown() {
@@ -49,7 +50,7 @@ function paintPane(context, which, part) {
   if (which < 2) paintPicture(context, which, part);
   else {
     paintDifference(context, view, shown.pictures[1], shown.pictures[0], part,
-                    {tiles, name: which, greatest: shown.greatest, plan: shown.plans[1]});
+                    {tiles, name: which, greatest: shown.greatest, plan: planOf(which)});
   }
 }
 
@@ -77,7 +78,7 @@ function drawDiagram(which, {context, width, height}) {
   if (shown.pointed) drawFrame(context, view, shown.pointed.step, shown.pointed.cell);
   context.restore();
   drawAxes(context, view, part, unit);
-  drawPlan(context, view, shown.plans[Math.min(which, 1)], width);
+  drawPlan(context, view, planOf(which), width);
   drawWedge(context, view, shown.step, INK, height);
   const first = shown.comparison?.step ?? null;
   if (first !== null) drawWedge(context, view, first, DIFFERS, height);
