@@ -348,7 +348,7 @@ function paintMarks(context, view, picture, other, part, {tiles, name}) {
     const beside = rowAt(other, step);
     if (!row || !beside || row === beside) return;
     for (let cell = 0; cell < row.length; cell++) {
-      if (row[cell] !== beside[cell]) pixels[cell] = mark;
+      if (row.charCodeAt(cell) !== beside.charCodeAt(cell)) pixels[cell] = mark;
     }
   };
   drawTiles(context, view, picture, part, {tiles, name, kind: "marks"},

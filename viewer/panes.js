@@ -20,8 +20,9 @@ const picturesShown = () => shown.pictures.filter(Boolean);
 const marksShown = () => Boolean(shown.comparison) && page.marks.checked;
 const panesShown = () => [0, 1, 2].filter((which) => !panes[which].figure.hidden);
 
-/** The picture of a pane, the third being the second's difference from the first. */
+/** The picture and the plan of a pane, the third being the second's difference from the first. */
 const pictureOf = (which) => shown.pictures[Math.min(which, 1)];
+const planOf = (which) => (which < 2 ? shown.plans[which] : shown.plans.find(Boolean));
 
 /** The first and last step of what is shown. */
 function stepsShown() {
@@ -40,6 +41,8 @@ function withText(name, text) {
 
 // 1. Drawing.
 
+/** Whether mean speeds are painted: these are not marked, since each car that is somewhere else
+    would be. */
 const byMeans = () => (page.paint.value === "zoom" ? meansAreSeen(view)
   : page.paint.value === "means");
 
@@ -47,20 +50,21 @@ function paintPane(context, which, part) {
   if (which < 2) paintPicture(context, which, part);
   else {
     paintDifference(context, view, shown.pictures[1], shown.pictures[0], part,
-                    {tiles, name: which, greatest: shown.greatest, plan: shown.plans[1]});
+                    {tiles, name: which, greatest: shown.greatest, plan: planOf(which)});
   }
 }
 
 function paintPicture(context, which, part) {
   const [picture, other] = which ? [...shown.pictures].reverse() : shown.pictures;
   const kept = {tiles, name: which, greatest: shown.greatest};
-  const means = byMeans();
-  if (means) paintMeans(context, view, picture, part, kept);
-  else paintCells(context, view, picture, part, kept);
-  if (marksShown() && (means || sizeOfCell(view) < FRAMES_FROM)) {
+  if (byMeans()) {
+    paintMeans(context, view, picture, part, kept);
+    return;
+  }
+  paintCells(context, view, picture, part, kept);
+  if (marksShown() && sizeOfCell(view) < FRAMES_FROM) {
     paintMarks(context, view, picture, other, part, kept);
   }
-  if (means) return;
   paintClosures(context, view, picture, part, kept);
   drawDetails(context, view, picture, marksShown() ? other : null, part, shown.greatest);
 }
@@ -74,7 +78,7 @@ function drawDiagram(which, {context, width, height}) {
   if (shown.pointed) drawFrame(context, view, shown.pointed.step, shown.pointed.cell);
   context.restore();
   drawAxes(context, view, part, unit);
-  drawPlan(context, view, shown.plans[Math.min(which, 1)], width);
+  drawPlan(context, view, planOf(which), width);
   drawWedge(context, view, shown.step, INK, height);
   const first = shown.comparison?.step ?? null;
   if (first !== null) drawWedge(context, view, first, DIFFERS, height);

@@ -156,10 +156,11 @@ function comparisonSentence() {
   if (to < from) return "The pictures have no step in common.";
   const all = `in the ${stepsText(from, to)}.`;
   if (step === null) return `No cell differs ${all}`;
-  const many = shown.many
-    ? " They are many, so they are not marked: their difference alone tells more." : "";
+  const unmarked = shown.many ? " They are many, so they are not marked:"
+    : byMeans() ? " Mean speeds are not marked:" : "";
+  const hint = unmarked && `${unmarked} their difference alone tells more.`;
   return `First differing step: ${stepText(step)}, there first at cell ${cellText(cell)}. ` +
-    `${cells} of ${(to - from + 1) * shown.pictures[0].length} cells differ ${all}${many}`;
+    `${cells} of ${(to - from + 1) * shown.pictures[0].length} cells differ ${all}${hint}`;
 }
 
 /** Lays out the panes: both pictures, or their difference alone. */
