@@ -16,7 +16,8 @@ from running import LIVE, Case, Server
 from state import State
 
 GESTURES = [{"gesture": {"seat": 1, "key": f"k{count}", "stamp": [count, 65], "who": "Ada", "when": 1,
-                         "note": "Closed é €", "edits": [["block", 60, 20 * count, 1], ["block", 60, 20 * count + 9, 0]]}}
+                         "note": "Closed é €",
+                         "edits": [["block", 60, 20 * count, 1], ["block", 60, 20 * count + 9, 0]]}}
             for count in range(1, 4)]
 
 
