@@ -61,7 +61,8 @@ class Program:
         assert stdin is not None and stdout is not None
         try:
             stdin.write(b"\n".join(lines) + b"\n")
-            replies = [await asyncio.wait_for(stdout.readline(), PATIENCE) for _ in lines]
+            async with asyncio.timeout(PATIENCE):
+                replies = [await stdout.readline() for _ in lines]
         except (OSError, ValueError, asyncio.TimeoutError) as fault:
             self.kill()
             raise Gone(f"the program does not answer: {fault!r}") from None
@@ -86,7 +87,8 @@ class Program:
         assert self._process.stdin is not None
         self._process.stdin.close()
         try:
-            await asyncio.wait_for(self._process.wait(), 5)
+            async with asyncio.timeout(5):
+                await self._process.wait()
         except asyncio.TimeoutError:
             self.kill()
             await self._process.wait()
