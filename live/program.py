@@ -19,7 +19,7 @@ LONGEST_REPLY = 1 << 26
 PIECE = 1_200  # edits of an import, so that its line is at most 65,536 bytes
 STEPS = 2_000  # of an advance, so that others get their turn
 PATIENCE = 120.0
-LONG_ROAD = 4_096  # cells from which on threads pay
+LONG_ROAD = 4_096  # cells from which on threads pay; where others work, too, more than two do not
 
 
 class Gone(Exception):
@@ -32,8 +32,8 @@ class BadPlan(Exception):
 
 def command_of(path: str, plan: dict[str, Any]) -> list[str]:
     """How the program is started: with threads where they pay, for one long road."""
-    workers = min(4, (os.cpu_count() or 1) - 1)
-    return [path, "--workers", str(workers)] if plan["length"] >= LONG_ROAD and workers >= 2 else [path]
+    pays = plan["length"] >= LONG_ROAD and (os.cpu_count() or 1) > 2
+    return [path, "--workers", "2"] if pays else [path]
 
 
 def import_line(at: str, edits: Sequence[Any]) -> bytes:
