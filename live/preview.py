@@ -71,7 +71,8 @@ async def run(asked: bytes) -> dict[str, Any]:
     process = await asyncio.create_subprocess_exec(
         sys.executable, __file__, stdin=asyncio.subprocess.PIPE, stdout=asyncio.subprocess.PIPE, start_new_session=True)
     try:
-        out, _ = await asyncio.wait_for(process.communicate(asked), PATIENCE)
+        async with asyncio.timeout(PATIENCE):
+            out, _ = await process.communicate(asked)
     except asyncio.TimeoutError:
         process.kill()
         raise Refused("too long", f"the preview took more than {PATIENCE:.0f} seconds: ask for fewer steps") from None

@@ -19,7 +19,7 @@ LONGEST_REPLY = 1 << 26
 PIECE = 1_200  # edits of an import, so that its line is at most 65,536 bytes
 STEPS = 2_000  # of an advance, so that others get their turn
 PATIENCE = 120.0
-LONG_ROAD = 4_096  # cells from which on threads pay
+LONG_ROAD = 4_096  # cells from which on threads pay; where others work, too, more than two do not
 
 
 class Gone(Exception):
@@ -32,8 +32,8 @@ class BadPlan(Exception):
 
 def command_of(path: str, plan: dict[str, Any]) -> list[str]:
     """How the program is started: with threads where they pay, for one long road."""
-    workers = min(4, (os.cpu_count() or 1) - 1)
-    return [path, "--workers", str(workers)] if plan["length"] >= LONG_ROAD and workers >= 2 else [path]
+    pays = plan["length"] >= LONG_ROAD and (os.cpu_count() or 1) > 2
+    return [path, "--workers", "2"] if pays else [path]
 
 
 def import_line(at: str, edits: Sequence[Any]) -> bytes:
@@ -61,7 +61,8 @@ class Program:
         assert stdin is not None and stdout is not None
         try:
             stdin.write(b"\n".join(lines) + b"\n")
-            replies = [await asyncio.wait_for(stdout.readline(), PATIENCE) for _ in lines]
+            async with asyncio.timeout(PATIENCE):
+                replies = [await stdout.readline() for _ in lines]
         except (OSError, ValueError, asyncio.TimeoutError) as fault:
             self.kill()
             raise Gone(f"the program does not answer: {fault!r}") from None
@@ -86,7 +87,8 @@ class Program:
         assert self._process.stdin is not None
         self._process.stdin.close()
         try:
-            await asyncio.wait_for(self._process.wait(), 5)
+            async with asyncio.timeout(5):
+                await self._process.wait()
         except asyncio.TimeoutError:
             self.kill()
             await self._process.wait()

@@ -12,6 +12,7 @@ from gestures import hidden, overruled, told, written
 from journal import packed
 from keeper import LAST_STEP, SHARED, Times
 from lab import AHEAD, Lab
+from program import LONG_ROAD
 from state import Gesture, Seat, winners
 from turns import MORE
 
@@ -20,7 +21,6 @@ MOST_STEPS = 65_536  # of a question for means
 MOST_COUNTS = 4_096
 MOST_CELLS = 8_000_000  # that a question for means looks at; of a longer one only some rows are
 LINES_AT_ONCE = 128
-LONG_ROAD = 4_096
 PIECE_OF_LIST = 1_000_000  # bytes, about, of a list of gestures
 
 Reply = Union[bytes, "dict[str, Any]"]
@@ -105,7 +105,7 @@ class Questions:
         if every == 1:
             line = packed({"diagram": {"at": name, "from": steps[0], "to": steps[-1]}})
             return rows.of_diagram(await self._lab.say(line.encode(), times))
-        if every >= 8 or every >= 3 and self._lab.state.plan["length"] >= LONG_ROAD:
+        if every >= 8 or every >= 2 and self._lab.state.plan["length"] >= LONG_ROAD:
             lines = [packed({"cells": {"at": name, "step": step}}).encode() for step in steps]
             return [rows.of_cells(reply) for reply in await self._lab.say_all(lines, times)]
         found: list[bytes] = []

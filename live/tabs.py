@@ -92,7 +92,8 @@ class Tab:
                 text = self._replies.popleft() if self._replies else packed(self._news.pop(next(iter(self._news))))
                 self._read.set()
                 try:
-                    await asyncio.wait_for(self._socket.send_str(text), PATIENCE)
+                    async with asyncio.timeout(PATIENCE):  # (`wait_for` may lose that the task was cancelled)
+                        await self._socket.send_str(text)
                 except asyncio.TimeoutError:
                     self.bye = 1013, "too slow"
                     return
@@ -261,7 +262,8 @@ class Tabs:
     async def _closed(self, request: web.Request, socket: web.WebSocketResponse, tab: Tab) -> None:
         code, why = tab.bye
         try:
-            await asyncio.wait_for(socket.close(code=code, message=why.encode()), 1)
+            async with asyncio.timeout(1):
+                await socket.close(code=code, message=why.encode())
         except (asyncio.TimeoutError, ConnectionError, RuntimeError):
             pass
         if request.transport is not None and code == 1013:

@@ -28,7 +28,8 @@ class Acts(Case):
         self.ben = await self.enterAsyncContext(self.a6.seat("Ben"))
 
     async def test_a_gesture_has_one_stamp_and_touches_from_its_first_step(self) -> None:
-        said = await self.ada.ask("gesture", key="1", edits=[["block", 60, 30, 1], ["block", 61, 20, 1], ["block", 61, 40, 0]])
+        edits = [["block", 60, 30, 1], ["block", 61, 20, 1], ["block", 61, 40, 0]]
+        said = await self.ada.ask("gesture", key="1", edits=edits)
         self.assertEqual((said["stamp"], said["touched"]), ([1, 65], 20))
         held = (await self.ada.ask("scenario"))["edits"]
         self.assertEqual(held, [["block", 60, 30, 1, 65, 1], ["block", 61, 20, 1, 65, 1], ["block", 61, 40, 1, 65, 0]])
@@ -184,9 +185,12 @@ class Acts(Case):
                 ("NoObject", "no zone 99", [["limit", 99, 5, 1]]), ("ValueOutOfRange", "0 to 9", [["limit", 1, 5, 10]]),
                 ("Step", "at most 1048575", [["limit", 1, 1_048_576, 1]]),
                 ("not a command", "twice", [["limit", 1, 5, 1], ["limit", 1, 5, 2]]),
-                ("not a command", "is no number", [["limit", {}, 5, 1]]), ("not a command", "in quotes", [["limit", "1", 5, 1]]),
-                ("not a command", "without sign", [["limit", 1, 5.5, 1]]), ("not a command", "is no number", [["limit", 1, True, 1]]),
-                ("not a command", "is no", [["limit", 1, 5]]), ("not a command", "`limit` is meant", [["limt", 1, 5, 1]]),
+                ("not a command", "is no number", [["limit", {}, 5, 1]]),
+                ("not a command", "in quotes", [["limit", "1", 5, 1]]),
+                ("not a command", "without sign", [["limit", 1, 5.5, 1]]),
+                ("not a command", "is no number", [["limit", 1, True, 1]]),
+                ("not a command", "is no", [["limit", 1, 5]]),
+                ("not a command", "`limit` is meant", [["limt", 1, 5, 1]]),
                 ("not a command", "1 to 1200", []), ("too many edits", "not 1201", many)):
             said = await self.ada.reply("gesture", at=self.ada.at, key="k", edits=edits)
             self.assertEqual(said["refused"], refusal, edits[:1])
@@ -230,8 +234,10 @@ class Seats(Case):
         server = self.server()
         async with server.seat("Ada") as ada, server.seat("Ben") as ben:
             await put(ada, "1", [*LIMIT, 1])
-            for hello, refusal in (({"take": 1}, "seat is connected"), ({"name": "Ada"}, "NameTaken"), ({"take": 9}, "no such seat"),
-                                   ({"key": "none"}, "unknown key"), ({"name": " \n"}, "no name"), ({"take": 0}, "no such seat")):
+            for hello, refusal in (({"take": 1}, "seat is connected"), ({"name": "Ada"}, "NameTaken"),
+                                   ({"take": 9}, "no such seat"),
+                                   ({"key": "none"}, "unknown key"), ({"name": " \n"}, "no name"),
+                                   ({"take": 0}, "no such seat")):
                 with self.assertRaisesRegex(Refused, refusal) as caught:
                     async with server.seat(**hello):
                         pass
@@ -289,11 +295,12 @@ class Seats(Case):
             with self.assertRaisesRegex(Refused, "private edits"):
                 await ada.ask("leave")
             await ada.ask("send", name="shared")
-            said = await asyncio.gather(ada.reply("gesture", at=ada.at, key="2", edits=[[*LIMIT, 2]]), ada.reply("leave", at=ada.at))
+            said = await asyncio.gather(ada.reply("gesture", at=ada.at, key="2", edits=[[*LIMIT, 2]]),
+                                        ada.reply("leave", at=ada.at))
             self.assertEqual([one.get("refused") for one in said], [None, "private edits"])  # in their order
             await ada.ask("send", name="shared")
-            await asyncio.gather(ada.reply("leave", at=ada.at), ada.reply("gesture", at=ada.at, key="3", edits=[[*LIMIT, 3]]),
-                                 return_exceptions=True)
+            await asyncio.gather(ada.reply("leave", at=ada.at),
+                                 ada.reply("gesture", at=ada.at, key="3", edits=[[*LIMIT, 3]]), return_exceptions=True)
             self.assertEqual((await ben.ask("scenario", at="shared"))["edits"], [[*LIMIT, 2, 65, 2]])
             self.assertEqual(len([one for one in server.journal() if "gesture" in one]), 2)
             self.assertEqual([one["name"] for one in (await ben.say("seats"))["seats"]], ["Ben"])

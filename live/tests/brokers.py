@@ -106,12 +106,18 @@ class Brokers(Case):
             await put(ada, ["limit", 1, 8, 1])
             await self.same(ada, sam, edits=1)
             for text, why in (
-                    ("good morning", "no message"), ("", "no message"), ("[" * 3_000, "no message"), ("[1]", "an edit of it is none"),
-                    ('{"edits":7}', "no list"), ('{"edits":[],"form":2}', "no list"), ('{"edits":[["limit",1,8,1,70,1]],"form":3}', "no list"),
-                    ('{"edits":[["limit",99,8,1,70,1]],"form":2}', "no zone 99"), ('{"edits":[["limit",1,8,1,3,1]],"form":2}', "is a replica's"),
-                    ('{"edits":[["limit",1,8,281474976710656,70,1]],"form":2}', "spend the counts"), ('["limit",1,8,99999999999,70,1]', "spend the counts"),
-                    ('{"edits":[[{},1]],"form":2}', "is none"), ('{"edits":[["limit",1,8,"1",70,1]],"form":2}', "is none"),
-                    ('{"edits":[["limit",1,8,1,70,1]],"form":2,"note":"\\ud800"}', "no message"), (" " * 140_000, "bytes"),
+                    ("good morning", "no message"), ("", "no message"), ("[" * 3_000, "no message"),
+                    ("[1]", "an edit of it is none"),
+                    ('{"edits":7}', "no list"), ('{"edits":[],"form":2}', "no list"),
+                    ('{"edits":[["limit",1,8,1,70,1]],"form":3}', "no list"),
+                    ('{"edits":[["limit",99,8,1,70,1]],"form":2}', "no zone 99"),
+                    ('{"edits":[["limit",1,8,1,3,1]],"form":2}', "is a replica's"),
+                    ('{"edits":[["limit",1,20,281474976710656,70,1]],"form":2}', "281474976710656 would spend the counts"),
+                    ('["limit",1,21,1048600,70,1]', "1048600 would spend the counts"),
+                    ('{"edits":[[{},1]],"form":2}', "is none"),
+                    ('{"edits":[["limit",1,8,"1",70,1]],"form":2}', "is none"),
+                    ('{"edits":[["limit",1,8,1,70,1]],"form":2,"note":"\\ud800"}', "no message"),
+                    (" " * 140_000, "bytes"),
                     (json.dumps({"edits": [["block", 1, step, 1, 70, 1] for step in range(1_201)], "form": 2}), "no list")):
                 broker.say(topic, text)
                 await until(lambda: self.is_told(why, ada, sam), 20)
@@ -119,8 +125,8 @@ class Brokers(Case):
             self.assertLess((await put(ada, ["limit", 1, 6, 3]))[0], 10)
             await self.same(ada, sam, edits=3)
             broker.say(topic, '["limit",1,9,7,70,1]')  # a lone edit, as a script sends it
-            broker.say(topic, json.dumps({"edits": [["limit", 1, 10, 8, 70, 1]], "form": 2, "who": "x\u202e\n" * 99, "note": 7, "shape": [1],
-                                          "undoes": "x", "when": "now"}))
+            broker.say(topic, json.dumps({"edits": [["limit", 1, 10, 8, 70, 1]], "form": 2, "who": "x\u202e\n" * 99,
+                                          "note": 7, "shape": [1], "undoes": "x", "when": "now"}))
             await self.same(ada, sam, edits=5)
             came = (await ada.ask("gestures", at="shared"))["gestures"][-1]
             self.assertLessEqual(len(came["who"]), 40)

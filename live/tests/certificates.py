@@ -17,7 +17,8 @@ class Certificates(Case):
     def setUp(self) -> None:
         self.certificate = new_folder() / "certificate.pem"
         subprocess.run(["openssl", "req", "-x509", "-newkey", "rsa:2048", "-nodes", "-days", "2", "-subj", "/CN=road.example",
-                        "-addext", "subjectAltName=DNS:localhost,IP:127.0.0.1", "-keyout", self.certificate.parent / "key.pem",
+                        "-addext", "subjectAltName=DNS:localhost,IP:127.0.0.1", "-keyout",
+                        self.certificate.parent / "key.pem",
                         "-out", self.certificate], check=True, capture_output=True)
         self.authority = str(self.certificate)
         both = self.certificate.parent / "both.pem"
@@ -61,8 +62,8 @@ class Certificates(Case):
 
     def test_without_a_certificate_nobody_else_is_let_in(self) -> None:
         for more, why in (([], "--listen wants --certificate"), (["--certificate", str(LIVE / "serve")], "no certificate")):
-            ran = subprocess.run([sys.executable, LIVE / "serve", "--folder", new_folder(), "--port", "0", "--listen", "0.0.0.0", *more],
-                                 capture_output=True, text=True, timeout=PATIENCE, check=False)
+            command = [sys.executable, LIVE / "serve", "--folder", new_folder(), "--port", "0", "--listen", "0.0.0.0"]
+            ran = subprocess.run([*command, *more], capture_output=True, text=True, timeout=PATIENCE, check=False)
             self.assertNotEqual(ran.returncode, 0)
             self.assertEqual(ran.stdout, "")
             self.assertIn(why, ran.stderr)

@@ -36,7 +36,8 @@ class Engineer:
             while True:
                 key = f"{self.name}-{self._chance.getrandbits(60):x}"
                 step = self._chance.randrange(LAST)
-                self.sent[key] = [["block", self._chance.randrange(5, 55), step, 1], ["limit", self._chance.randrange(3), step, 3]]
+                self.sent[key] = [["block", self._chance.randrange(5, 55), step, 1],
+                                  ["limit", self._chance.randrange(3), step, 3]]
                 self.confirmed[key] = (await seat.ask("gesture", key=key, edits=self.sent[key]))["stamp"]
                 if self._chance.random() < 0.2:
                     self.shared.update(map(tuple, (await seat.ask("send", name="shared"))["stamps"]))

@@ -47,7 +47,8 @@ class Frames(Case):
             return reply.status
 
     async def test_origin_and_host_are_the_servers_own(self) -> None:
-        for headers in ({"Origin": "http://evil.example"}, {"Origin": "null"}, {"Origin": self.base.replace("http", "https")},
+        for headers in ({"Origin": "http://evil.example"}, {"Origin": "null"},
+                        {"Origin": self.base.replace("http", "https")},
                         {"Host": "evil.example"}, {"Host": "evil.example", "Origin": "http://evil.example"}):
             with self.assertRaises(aiohttp.WSServerHandshakeError) as caught:
                 await self.raw("x", **headers)
@@ -58,7 +59,8 @@ class Frames(Case):
 
     async def test_no_other_files_are_served(self) -> None:
         for path in ("/serve", "/lab.py", "/token", "/plan.json", "/../token", "/%2e%2e/token", "/page/..%2f..%2ftoken",
-                     "/page/%2e%2e", "/page/../lab.py", "/page/a.py", "/tests/hostile.py", "/drawing.js/", "//etc/passwd"):
+                     "/page/%2e%2e", "/page/../lab.py", "/page/a.py", "/tests/hostile.py", "/drawing.js/",
+                     "//etc/passwd"):
             reader, writer = await asyncio.open_connection("127.0.0.1", int(self.base.rpartition(":")[2]))
             writer.write(f"GET {path} HTTP/1.1\r\nHost: {self.base[7:]}\r\nConnection: close\r\n\r\n".encode())
             self.assertIn(b" 404 ", await reader.readline(), path)
@@ -84,8 +86,10 @@ class Frames(Case):
 
     async def test_frames_that_are_none(self) -> None:
         for number, frame in enumerate((
-                "", "x", "[]", "7", "null", "[" * 60_000, '{"id":1}', '{"id":"1","ping":{}}', '{"id":1.5,"ping":{}}', '{"id":true,"ping":{}}',
-                '{"id":-1,"ping":{}}', '{"id":' + "9" * 5_000 + ',"ping":{}}', '{"id":1,"ping":{},"pong":{}}', '{"ping":{}}',
+                "", "x", "[]", "7", "null", "[" * 60_000, '{"id":1}', '{"id":"1","ping":{}}', '{"id":1.5,"ping":{}}',
+                '{"id":true,"ping":{}}',
+                '{"id":-1,"ping":{}}', '{"id":' + "9" * 5_000 + ',"ping":{}}', '{"id":1,"ping":{},"pong":{}}',
+                '{"ping":{}}',
                 '{"id":1,"ping":NaN}', '{"id":1,"ping":1e999}', '{"id":1,"ping":"\\ud800"}', '{"id":1,"\\udfff":{}}')):
             replies = await self.raw(self.hello(f"f{number}"), frame, '{"id":2,"ping":5}')
             self.assertEqual(replies[1]["refused"], "not a command", frame[:40])
@@ -110,22 +114,32 @@ class Frames(Case):
                     ("undo", {"at": "shared", "stamp": [1, 65], "key": "k"}, "not your replica"),
                     ("import", {"at": bad.at, "edits": [], "form": 2}, "not a command"),
                     ("crowd", {"form": 2, "shares": [[]], "to": 1_000_000}, "not a command"),
-                    ("heads", {"at": bad.at, "name": "x"}, "not a command"), ("beyond", {"at": bad.at}, "not a command"),
-                    ("send", {"at": bad.at, "name": "other"}, "not a command"), ("take", {"at": bad.at, "message": "x"}, "not a command"),
-                    ("eval", {}, "not a command"), ("__class__", {"at": bad.at}, "not a command"), ("hello", {}, "not a command"),
-                    ("advance", {"at": bad.at, "to": 1_048_577}, "Horizon"), ("advance", {"at": bad.at, "to": 36_001}, "too far ahead"),
-                    ("advance", {"at": bad.at, "to": True}, "not a command"), ("advance", {"at": bad.at, "to": "5"}, "not a command"),
-                    ("advance", {"at": bad.at}, "not a command"), ("clock", {"rate": 1e9}, "Range"), ("clock", {"rate": -1}, "Range"),
-                    ("clock", {"rate": "1"}, "Range"), ("clock", {"to": 36_001}, "Range"), ("clock", {"what": 1}, "not a command"),
+                    ("heads", {"at": bad.at, "name": "x"}, "not a command"),
+                    ("beyond", {"at": bad.at}, "not a command"),
+                    ("send", {"at": bad.at, "name": "other"}, "not a command"),
+                    ("take", {"at": bad.at, "message": "x"}, "not a command"),
+                    ("eval", {}, "not a command"), ("__class__", {"at": bad.at}, "not a command"),
+                    ("hello", {}, "not a command"),
+                    ("advance", {"at": bad.at, "to": 1_048_577}, "Horizon"),
+                    ("advance", {"at": bad.at, "to": 36_001}, "too far ahead"),
+                    ("advance", {"at": bad.at, "to": True}, "not a command"),
+                    ("advance", {"at": bad.at, "to": "5"}, "not a command"),
+                    ("advance", {"at": bad.at}, "not a command"), ("clock", {"rate": 1e9}, "Range"),
+                    ("clock", {"rate": -1}, "Range"),
+                    ("clock", {"rate": "1"}, "Range"), ("clock", {"to": 36_001}, "Range"),
+                    ("clock", {"what": 1}, "not a command"),
                     ("clock", 7, "not a command"), ("diagram", {"at": bad.at, "from": 0, "to": 4_000_000}, "Range"),
-                    ("diagram", {"at": bad.at, "from": 5, "to": 0}, "Range"), ("diagram", {"at": bad.at, "from": 0, "to": 5}, "NotSimulated"),
+                    ("diagram", {"at": bad.at, "from": 5, "to": 0}, "Range"),
+                    ("diagram", {"at": bad.at, "from": 0, "to": 5}, "NotSimulated"),
                     ("diagram", {"at": bad.at, "from": 0, "to": 0, "every": 0}, "Range"),
                     ("diagram", {"at": bad.at, "from": 0, "to": 0, "cells": [0, 120]}, "Range"),
                     ("means", {"at": bad.at, "from": 0, "to": 70_000, "every": 9, "wide": 9}, "Range"),
                     ("counts", {"at": bad.at, "from": 0, "to": 4_000_000, "each": 1}, "Range"),
                     ("cells", {"at": bad.at, "step": 0, "x\n{\"crowd\":1}": "\n"}, "not a command"),
-                    ("cells", {"at": bad.at, "step": 1.5}, "not a command"), ("count", {"at": bad.at, "detector": 9, "from": 0, "to": 0}, "NoDetector"),
-                    ("gesture", {"at": bad.at, "edits": edits}, "not a command"), ("gesture", {"at": bad.at, "edits": edits, "key": ""}, "not a command"),
+                    ("cells", {"at": bad.at, "step": 1.5}, "not a command"),
+                    ("count", {"at": bad.at, "detector": 9, "from": 0, "to": 0}, "NoDetector"),
+                    ("gesture", {"at": bad.at, "edits": edits}, "not a command"),
+                    ("gesture", {"at": bad.at, "edits": edits, "key": ""}, "not a command"),
                     ("gesture", {"at": bad.at, "edits": edits, "key": "k" * 41}, "not a command"),
                     ("gesture", {"at": bad.at, "edits": edits, "key": "k", "stamp": [9, 65]}, "not a command"),
                     ("gesture", {"at": bad.at, "edits": edits, "key": "k", "note": 7}, "not a command"),

@@ -16,7 +16,8 @@ from running import LIVE, Case, Server
 from state import State
 
 GESTURES = [{"gesture": {"seat": 1, "key": f"k{count}", "stamp": [count, 65], "who": "Ada", "when": 1,
-                         "note": "Closed é €", "edits": [["block", 60, 20 * count, 1], ["block", 60, 20 * count + 9, 0]]}}
+                         "note": "Closed é €",
+                         "edits": [["block", 60, 20 * count, 1], ["block", 60, 20 * count + 9, 0]]}}
             for count in range(1, 4)]
 
 
@@ -195,13 +196,13 @@ class Folders(Case):
             self.assertNotEqual(path.stat().st_ino, first, "it was never shortened")
             await self.shared(ben, 77)
             held = [await seat.ask("scenario", at=at) for seat, at in ((ada, ada.at), (ben, ben.at), (ada, "shared"))]
-            again = await ada.ask("gesture", key="g29", edits=[["limit", 0, 1, 1]])
-            self.assertTrue(again["again"])
+            again = await ada.ask("gesture", key="g0", edits=[["limit", 0, 1, 1]])
+            self.assertEqual((again["stamp"], again["again"]), ([1, 65], True))
         server.again()
         async with server.seat(key=ada.key) as ada, server.seat(key=ben.key) as ben:
             now = [await seat.ask("scenario", at=at) for seat, at in ((ada, ada.at), (ben, ben.at), (ada, "shared"))]
             self.assertEqual([one["edits"] for one in held], [one["edits"] for one in now])
-            self.assertEqual((await ada.ask("gesture", key="g29", edits=[["limit", 0, 1, 1]]))["stamp"], again["stamp"])
+            self.assertEqual((await ada.ask("gesture", key="g0", edits=[["limit", 0, 1, 1]]))["stamp"], [1, 65])
 
     async def test_the_shortened_journal_gives_the_same_state(self) -> None:
         server = self.server()
@@ -214,10 +215,15 @@ class Folders(Case):
             await ben.ask("undo", stamp=[1, 65], key="u")
             await ben.ask("send", name="shared")
             await ada.say("clock", rate=7)
+            async with server.seat("Cleo") as cleo:  # who leaves before what she shared has come back
+                await self.shared(cleo, 1)
+                await cleo.ask("send", name="shared", title="of one who left")
+                await cleo.reply("leave", at=cleo.at)
         server.kill()
         first, second = State(), State()
         for entry in server.journal():
             first.apply(entry)
         for entry in json.loads(json.dumps(list(first.entries()))):
             second.apply(entry)
+        self.assertEqual(len(first.unsent), 10)
         self.assertEqual(seen(first), seen(second))

@@ -35,8 +35,10 @@ class Means(unittest.TestCase):
     def test_blocks_of_random_rows(self) -> None:
         chance = random.Random(3)
         for count, width, wide in ((1, 8, 3), (25, 50, 7), (26, 50, 50), (60, 33, 1), (7, 100, 99)):
-            picture = ["".join(chance.choice("..#012349" if chance.random() < 0.5 else ".") for _ in range(width)) for _ in range(count)]
-            self.assertEqual([rows.means([row.encode() for row in picture], wide).decode()], plain_means(picture, count, wide))
+            picture = ["".join(chance.choice("..#012349" if chance.random() < 0.5 else ".") for _ in range(width))
+                       for _ in range(count)]
+            found = rows.means([row.encode() for row in picture], wide).decode()
+            self.assertEqual([found], plain_means(picture, count, wide))
         self.assertEqual(rows.means([b"9" * 40] * 300, 40), b"_")  # no sum is too great
 
     def test_threads_are_for_long_roads(self) -> None:
@@ -49,7 +51,8 @@ class Pictures(Case):
         self.a6 = self.server()
         self.ada = await self.enterAsyncContext(self.a6.seat("Ada"))
         await self.ada.say("clock", to=LAST)
-        await self.ada.ask("gesture", key="1", note="=1+1", edits=[["block", 60, 30, 1], ["block", 60, 80, 0], ["limit", 1, 40, 2]])
+        edits = [["block", 60, 30, 1], ["block", 60, 80, 0], ["limit", 1, 40, 2]]
+        await self.ada.ask("gesture", key="1", note="=1+1", edits=edits)
         await self.ada.ask("advance", to=LAST)
         self.picture = [(await self.ada.ask("cells", step=step))["cells"] for step in range(LAST + 1)]
 
@@ -65,7 +68,8 @@ class Pictures(Case):
                 self.assertEqual(found, [row[left:right + 1] for row in self.picture[first:last + 1:every]], (every, first))
 
     async def test_mean_speeds(self) -> None:
-        for every, wide, first, last, left, right in ((10, 10, 0, 149, 0, 119), (7, 9, 3, 100, 50, 118), (151, 120, 0, 150, 0, 119)):
+        for every, wide, first, last, left, right in ((10, 10, 0, 149, 0, 119), (7, 9, 3, 100, 50, 118),
+                                                      (151, 120, 0, 150, 0, 119)):
             fields = {"from": first, "to": last, "every": every, "wide": wide, "cells": [left, right]}
             cut = [row[left:right + 1] for row in self.picture[first:last + 1]]
             self.assertEqual((await self.ada.ask("means", **fields))["means"], plain_means(cut, every, wide))
@@ -91,11 +95,13 @@ class Pictures(Case):
         self.assertEqual(shown, self.picture[20:])
 
     async def test_tables(self) -> None:
-        table = list(csv.reader(io.StringIO((await self.ada.ask("csv", what="counts", each=50, **{"from": 0, "to": 100}))["csv"])))
+        said = await self.ada.ask("csv", what="counts", each=50, **{"from": 0, "to": 100})
+        table = list(csv.reader(io.StringIO(said["csv"])))
         counts = (await self.ada.ask("counts", **{"from": 0, "to": 100, "each": 50}))["counts"]
         self.assertEqual(table[0], ["from", "to", "detector", "cell", "cars", "speeds"])
-        self.assertEqual(table[1:], [[str(cell) for cell in (50 * span, 50 * span + 50, detector, SMALL["detectors"][detector], *pair)]
-                                     for span, pairs in enumerate(counts) for detector, pair in enumerate(pairs)])
+        wanted = [(50 * span, 50 * span + 50, detector, SMALL["detectors"][detector], *pair)
+                  for span, pairs in enumerate(counts) for detector, pair in enumerate(pairs)]
+        self.assertEqual(table[1:], [[str(cell) for cell in line] for line in wanted])
         table = list(csv.reader(io.StringIO((await self.ada.ask("csv", what="changes"))["csv"])))
         self.assertEqual(table[1][:4], ["1", "65", "Ada", "'=1+1"])
         self.assertEqual(table[1][5:], ["False", "3", "30", "80"])

@@ -13,7 +13,8 @@ LAST = 80
 ROBOTS = 4
 RUNS, ACTS = 5, 120
 PLAN = {**SMALL, "length": 60, "zones": [[4, 9_000]] * 3, "inlets": [[0, 30_000], [25, 9_000]], "detectors": [20, 45]}
-OBJECTS = [("limit", 3, 5), ("slow", 3, 40_000), ("block", 60, 1), ("inflow", 2, 65_536), ("watch", 2, 1), ("start", 3, 50_000)]
+OBJECTS = [("limit", 3, 5), ("slow", 3, 40_000), ("block", 60, 1), ("inflow", 2, 65_536), ("watch", 2, 1),
+           ("start", 3, 50_000)]
 
 
 def random_edits(chance: random.Random) -> list[list[Any]]:
@@ -67,7 +68,8 @@ class Robots(Case):
             lab.take_in("A", map(Edit.read, journal_edits(server.journal(), at)))
             lab.advance("A", LAST)
             self.assertEqual((await seat.ask("scenario", at=at))["edits"], [edit_of(one) for one in lab.scenario("A")])
-            self.assertEqual((await seat.ask("diagram", at=at, **{"from": 0, "to": LAST}))["rows"], lab.diagram("A", 0, LAST))
+            rows = (await seat.ask("diagram", at=at, **{"from": 0, "to": LAST}))["rows"]
+            self.assertEqual(rows, lab.diagram("A", 0, LAST))
             counts = (await seat.ask("counts", at=at, **{"from": 0, "to": LAST}))["counts"]
             self.assertEqual(counts, [list(lab.count("A", detector, 0, LAST)) for detector in range(2)])
             cars = (await seat.ask("cars", at=at, step=LAST))["cars"]

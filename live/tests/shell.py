@@ -56,9 +56,12 @@ class Shell(Case):
 
     async def test_faults_are_told(self) -> None:
         for words, status, why in (
-                (("cron", "edit", "limit", "99", "50", "1"), 1, "no zone 99"), (("cron", "edit", "limt", "2", "50", "1"), 1, "`limit` is meant"),
-                (("cron", "edit", "limit", "2", "50"), 2, "wrong words"), (("cron", "edit", "limit", "2", "x", "1"), 2, "no whole number"),
-                (("cron", "ask", "nonsense"), 2, "no command"), (("cron", "ask", '{"crowd":{}}'), 1, "no command of a tab"),
+                (("cron", "edit", "limit", "99", "50", "1"), 1, "no zone 99"),
+                (("cron", "edit", "limt", "2", "50", "1"), 1, "`limit` is meant"),
+                (("cron", "edit", "limit", "2", "50"), 2, "wrong words"),
+                (("cron", "edit", "limit", "2", "x", "1"), 2, "no whole number"),
+                (("cron", "ask", "nonsense"), 2, "no command"),
+                (("cron", "ask", '{"crowd":{}}'), 1, "no command of a tab"),
                 (("cron",), 2, "NAME and a command"), (("cron", "dance"), 2, "wrong words")):
             ended, _, said = await self.road(*words)
             self.assertEqual(ended, status, words)
