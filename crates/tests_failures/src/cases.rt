@@ -108,14 +108,13 @@ const ROADS: &[(&str, Case)] = pairs![
 // The calls of maps, scenarios and what is beyond heads.
 const SCENARIOS: &[(&str, Case)] = pairs![
     "map-with" => Case::Map(MapCase::With),
+    "map-with-split" => Case::Map(MapCase::WithSplit),
     "map-joined" => Case::Map(MapCase::Joined),
-    "map-copied" => Case::Map(MapCase::Copied),
+    "map-pages-joined" => Case::Map(MapCase::PagesJoined),
     "scenario-with-edit" => Case::Scenario(Making::WithEdit(&[SLOW, BLOCKED], OPENED, &[SLOW, OPENED])),
     "scenario-with-greater" => Case::Scenario(Making::WithEdit(&[LESS], GREATER, &[GREATER])),
     "scenario-joined" => Case::Scenario(Making::Joined),
-    "scenario-copied" => Case::Scenario(Making::Copied),
     "scenario-pair-joined" => Case::Scenario(Making::PairJoined),
-    "scenario-pair-copied" => Case::Scenario(Making::PairCopied),
     "scenario-edits" => Case::Scenario(Making::Edits),
     "scenario-settings" => Case::Scenario(Making::Settings),
     "scenario-heads" => Case::Scenario(Making::Heads),

@@ -18,10 +18,8 @@ pub(crate) enum Making {
     /// An edit is added to others, and these come of it.
     WithEdit(&'static [Edit], Edit, &'static [Edit]),
     Joined,
-    Copied,
     /// They are joined, each with a horizon.
     PairJoined,
-    PairCopied,
     Edits,
     /// The settings at step 4, where cell 8 is blocked.
     Settings,
@@ -97,10 +95,8 @@ pub(crate) fn tried(alloc: Global, until: Until, making: Making) -> Option<Verdi
             until, one.first.joined(&other.first), _,
             joined => holds(alloc, &joined, ALL)?
         ),
-        Making::Copied => judged!(until, one.first.copied(), _, copy => holds(alloc, &copy, HELD)?),
         Making::PairJoined =>
             judged!(until, one.joined(&other), _, pair => is_pair(alloc, &pair, ALL)?),
-        Making::PairCopied => judged!(until, one.copied(), _, pair => is_pair(alloc, &pair, HELD)?),
         _ => tried_reading(alloc, until, &one.first, making),
     }
 }
@@ -111,8 +107,11 @@ pub(crate) fn tried(alloc: Global, until: Until, making: Making) -> Option<Verdi
 #[derive(Clone, Copy, PartialEq, Eq)]
 pub(crate) enum MapCase {
     With,
+    /// The page that takes the key becomes two.
+    WithSplit,
     Joined,
-    Copied,
+    /// Both pages take keys, and the first becomes two.
+    PagesJoined,
 }
 
 type Register = Greatest<(u32, u32)>;
@@ -131,29 +130,64 @@ fn has_registers(map: &Registers, registers: &[(u32, Register)]) -> bool {
             .all(|(step, register)| map.get(*step) == Some(register))
 }
 
-// Returns the map of two registers.
-fn map_of(alloc: Global, first: (u32, Register), second: (u32, Register)) -> Option<Registers> {
-    let none = Registers::empty(alloc);
-    let one = none.with(first.0, &first.1).ok()?;
-    one.with(second.0, &second.1).ok()
+// Returns the map of these registers.
+fn map_of(alloc: Global, registers: &[(u32, Register)]) -> Option<Registers> {
+    let mut map = Registers::empty(alloc);
+    for (step, register) in registers {
+        map = map.with(*step, register).ok()?;
+    }
+    Some(map)
+}
+
+// Returns the map of so many even steps from 0 on.
+fn even_steps(alloc: Global, count: u32) -> Option<Registers> {
+    let mut map = Registers::empty(alloc);
+    for place in 0..count {
+        map = map.with(place.saturating_mul(2), &TWO).ok()?;
+    }
+    Some(map)
+}
+
+// Answers whether a map has two at so many even steps from 0 on, but three at some steps, and nothing else.
+fn has_even_and(map: &Registers, count: u32, three: &[u32]) -> bool {
+    let is_three = |step: u32| three.iter().any(|other| *other == step);
+    map.keys().all(|step| step % 2 == 0 && step / 2 < count || is_three(*step))
+        && (0..count).all(|place| map.get(place.saturating_mul(2)).is_some())
+        && map.iter().all(|(step, register)| *register == if is_three(*step) { THREE } else { TWO })
+        && three.iter().all(|step| map.get(*step).is_some())
+}
+
+// Tries what is made of a map in one page.
+fn tried_page(alloc: Global, until: Until, case: MapCase) -> Option<Verdict> {
+    let one = map_of(alloc, &[(5, TWO), (9, THREE)])?;
+    let other = map_of(alloc, &[(3, TWO), (5, THREE)])?;
+    if case == MapCase::With {
+        return judged!(
+            until, one.with(3, &TWO), _,
+            map => has_registers(&map, &[(3, TWO), (5, TWO), (9, THREE)])
+        );
+    }
+    judged!(
+        until, one.joined(&other), _,
+        map => has_registers(&map, &[(3, TWO), (5, THREE), (9, THREE)])
+    )
 }
 
 /// Tries what is made of maps.
 pub(crate) fn tried_map(alloc: Global, until: Until, case: MapCase) -> Option<Verdict> {
-    let one = map_of(alloc, (5, TWO), (9, THREE))?;
-    let other = map_of(alloc, (3, TWO), (5, THREE))?;
     match case {
-        MapCase::With => judged!(
-            until, one.with(3, &TWO), _,
-            map => has_registers(&map, &[(3, TWO), (5, TWO), (9, THREE)])
-        ),
-        MapCase::Joined => judged!(
-            until, one.joined(&other), _,
-            map => has_registers(&map, &[(3, TWO), (5, THREE), (9, THREE)])
-        ),
-        MapCase::Copied => judged!(
-            until, one.copied(), _,
-            map => has_registers(&map, &[(5, TWO), (9, THREE)])
-        ),
+        MapCase::WithSplit => {
+            let one = even_steps(alloc, 512)?;
+            judged!(until, one.with(1, &THREE), _, map => has_even_and(&map, 512, &[1]))
+        }
+        MapCase::PagesJoined => {
+            let one = even_steps(alloc, 600)?;
+            let other = map_of(alloc, &[(1, THREE), (1_100, THREE), (2_000, THREE)])?;
+            judged!(
+                until, one.joined(&other), _,
+                map => has_even_and(&map, 600, &[1, 1_100, 2_000])
+            )
+        }
+        _ => tried_page(alloc, until, case),
     }
 }

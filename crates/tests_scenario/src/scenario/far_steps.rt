@@ -142,7 +142,7 @@ fn an_object_has_edits_at_many_steps(rt: HostRuntime) -> Result<(), Fail> {
     let one_by_one = scenario(rt.alloc(), &edits)?;
     let by_halves = Scenario::of_edits(rt.alloc(), &edits)?;
     for made in [&one_by_one, &by_halves] {
-        assert!(rt; made.len() == 1_200 && made.greatest_count() == 2);
+        assert!(rt; made.edits(rt.alloc())?.len() == 1_200 && made.greatest_count() == 2);
         for step in 0..2_405 {
             assert!(rt;
                 setting_at(&rt, made, &plan, LIMIT, step) == limit_at(step),
