@@ -9,6 +9,7 @@ import collections
 import hmac
 import json
 import logging
+import os
 import re
 import socket as sockets
 import struct
@@ -30,7 +31,8 @@ PAUSE = 0.01  # seconds that one who floods is not read, for each frame too much
 MOST_FAULTS = 20
 MOST_TABS = 200  # those that have not said hello, too
 PATIENCE = 20.0  # seconds for a tab to read what it was sent
-HELLO = 10.0  # seconds until a tab has said who it is
+HELLO = float(os.environ.get("LIVE_HELLO", "10"))  # seconds until a tab has shown the token
+NAMED = 900.0  # seconds until one that has shown it says who it is: a person may type
 BUFFER = 262_144  # bytes of a tab that the kernel keeps
 TOLD_EVERY = 0.2
 MOST_TOLD = 50
@@ -49,7 +51,7 @@ class Tab:
         self._news: dict[str, dict[str, Any]] = {}
         self._wake, self._read = asyncio.Event(), asyncio.Event()
         self._waiting = self._faults = 0
-        self._is_entering = False
+        self._is_entering = self._has_token = False
         self._tasks: list[asyncio.Task[None]] = []
         self.bye = 1000, "ended"
 
@@ -81,6 +83,8 @@ class Tab:
 
     async def _hello_in_time(self) -> None:
         await asyncio.sleep(HELLO)
+        if self._has_token:
+            await asyncio.sleep(NAMED)
         if self.index is None and not self._is_entering:
             self.let_go(1008, "no hello")
 
@@ -139,6 +143,7 @@ class Tab:
             if not hmac.compare_digest(str(asked.raw("token")).encode("utf-8", "replace"), self._tabs.token.encode()):
                 self.let_go(1008, "the token in the address is wrong")
                 return
+            self._has_token = True
             if verb == "seats":
                 self._send({"id": number, "seats": self._tabs.lab.seats()})
             elif self.index is not None:

@@ -84,6 +84,19 @@ class Frames(Case):
         self.assertEqual(await self.raw('{"id":1,"advance":{"at":"seat1","to":5}}'), [1008])
         self.assertEqual((await self.raw('{"id":1,"hello":{"name":"x"}}'))[0]["refused"], "not a command")
 
+    async def test_a_person_may_take_long_to_say_a_name(self) -> None:
+        """Who has shown the token may think; who has not is not waited for."""
+        self.a6 = self.server(LIVE_HELLO="1")
+        self.base, _, self.token = self.a6.address.partition("/#")
+        silent, known = [await self.session.ws_connect(self.base + "/live", headers={"Origin": self.base}) for _ in range(2)]
+        await known.send_json({"id": 1, "seats": {"token": self.token}})
+        self.assertEqual((await known.receive_json())["seats"], [])
+        self.assertEqual((await asyncio.wait_for(silent.receive(), 30)).data, 1008)
+        await asyncio.sleep(2)
+        await known.send_json({"id": 2, "hello": {"token": self.token, "name": "Ada"}})
+        self.assertEqual((await known.receive_json())["welcome"]["name"], "Ada")
+        await known.close()
+
     async def test_frames_that_are_none(self) -> None:
         for number, frame in enumerate((
                 "", "x", "[]", "7", "null", "[" * 60_000, '{"id":1}', '{"id":"1","ping":{}}', '{"id":1.5,"ping":{}}',
