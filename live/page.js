@@ -217,15 +217,12 @@ async function askRows(whose, every, {from, to, count}) {
   fetchRows();
 }
 
-/** All that is seen is there: what was measured has its end at the next frame. */
+/** All rows that are seen are there: gestures that are measured have their picture at the next
+    drawing. */
 function settled() {
-  let waits = false;
-  for (const timing of live.timings) {
-    if (timing.settled || !timing.confirmed) continue;
-    timing.settled = performance.now();
-    waits = true;
-  }
-  if (waits) draw();
+  const waiting = live.timings.filter((timing) => !timing.settled);
+  for (const timing of waiting) timing.settled = performance.now();
+  if (waiting.length) draw();
 }
 
 // The line.

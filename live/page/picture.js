@@ -86,7 +86,8 @@ function drawRows(context, view, width, height) {
   }
   if (byMeans(view)) paintMeans(context, view, picture, part, how);
   else paintCells(context, view, picture, part, how);
-  paintClosures(context, view, picture, part, how);
+  const held = chosen("whose") === "shared" ? live.common : live.held;
+  if (held.frames.some(({kind}) => kind === "block")) paintClosures(context, view, picture, part, how);
   drawDetails(context, view, picture, null, part, GREATEST);
 }
 
