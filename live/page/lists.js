@@ -6,15 +6,15 @@ const isOwn = ({stamp}) => stamp[1] === live.me.number;
 const nameOf = (gesture) => (isOwn(gesture) ? "you" : gesture.who || "somebody");
 const noteOf = (gesture) => gesture.note || plural(gesture.edits.length, "edit");
 
-/** What a gesture lost, whole or in part, and to whom; [] where nothing. */
-function lossesOf(stands) {
+/** What a gesture lost, whole or in part, to whom and why; [] where nothing. */
+function lossesOf(gesture, stands) {
   const lost = stands.toOthers.map(({by, edits}) => {
     const how = edits === stands.all ? "lost to" : `${edits} of ${stands.all} edits lost to`;
-    return {text: `${how} ${nameOf(by)}: ${noteOf(by)}`, by};
+    return {text: `${how} ${nameOf(by)}: ${noteOf(by)}`, why: whyGreater(by.stamp, gesture.stamp)};
   });
   const {cut} = stands;
   return cut ? [...lost, {text: `holds only until ${timeText(cut.step)}, then ${nameOf(cut.by)}: ${noteOf(cut.by)}`,
-                          by: cut.by}] : lost;
+                          why: "What is put for a place acts until the next is put there."}] : lost;
 }
 
 function stateOf(gesture, stands) {
@@ -29,7 +29,7 @@ function linesNow() {
   const lines = list.filter((gesture) => isSeen(scenario, live.common.scenario, gesture)).map((gesture) => {
     const stands = standing(scenario, gesture);
     const state = stateOf(gesture, stands);
-    const losses = isOwn(gesture) ? lossesOf(stands) : [];
+    const losses = isOwn(gesture) ? lossesOf(gesture, stands) : [];
     const where = losses.length ? "lost" : !gesture.shared && isOwn(gesture) ? "own" : "held";
     return {gesture, state, losses, where};
   });
@@ -53,8 +53,8 @@ function lineButtons({gesture, losses}) {
 function lineElement(line) {
   const {gesture, state, losses} = line;
   const tag = element("span", state, {className: `state ${state.replace(" ", "-")}`});
-  const lost = losses.map(({text, by}) => element("p", text, {className: "loss"},
-    element("span", " " + whyGreater(by.stamp, gesture.stamp), {className: "hint"})));
+  const lost = losses.map(({text, why}) => element("p", text, {className: "loss"},
+    element("span", " " + why, {className: "hint"})));
   return element("li", "", {}, element("p", noteOf(gesture) + " ", {className: "note"}, tag),
     element("p", meta(gesture), {className: "hint"}), ...lost,
     element("p", "", {className: "buttons"}, ...lineButtons(line)));
@@ -81,9 +81,9 @@ function showLists() {
   $("undo").disabled = !undoable();
 }
 
-/** The newest own gesture that still acts, and is no withdrawal of a shared one. */
+/** The newest own gesture that still acts. */
 function undoable() {
-  return linesNow().find(({gesture, where}) => isOwn(gesture) && where !== "lost")?.gesture;
+  return linesNow().find(({gesture, state}) => isOwn(gesture) && state !== "overruled")?.gesture;
 }
 
 const unshared = () => linesNow().filter(({gesture}) => isOwn(gesture) && !gesture.shared).map(({gesture}) => gesture);
@@ -132,10 +132,9 @@ function showNews({size, from}) {
 /** How the standing of gestures changes from one scenario to another, as sentences. */
 function changesOfStanding(gestures, before, after) {
   return gestures.flatMap((gesture) => {
-    const was = before ? lossesOf(standing(before, gesture)).map(({text}) => text) : [];
-    return lossesOf(standing(after, gesture)).filter(({text}) => !was.includes(text))
-      .map(({text, by}) => ({text: `${nameOf(gesture)}: ${noteOf(gesture)} \u2013 ${text}`,
-                             why: whyGreater(by.stamp, gesture.stamp)}));
+    const was = before ? lossesOf(gesture, standing(before, gesture)).map(({text}) => text) : [];
+    return lossesOf(gesture, standing(after, gesture)).filter(({text}) => !was.includes(text))
+      .map(({text, why}) => ({text: `${nameOf(gesture)}: ${noteOf(gesture)} \u2013 ${text}`, why}));
   });
 }
 
@@ -198,7 +197,7 @@ function closeBefore() {
 function showOwnPreview() {
   const {place, byOwn} = live.beforeOpen ?? {};
   const [mine, shared] = figures.sums ?? [];
-  if (!byOwn || !mine || !shared || !figures.counts || place.querySelector("table.exact")) return;
+  if (!byOwn || !mine || !shared || !figures.counts || place.querySelector(".exact")) return;
   const [from, to] = figures.period;
   const lines = [["Vehicle hours", shared.hours, mine.hours, 1], ["Lost demand, cars (about)", shared.lost, mine.lost, 0]];
   place.replaceChildren(previewTable([from, to], lines, figures.counts[1], figures.counts[0]),
@@ -223,7 +222,7 @@ function exactPreview({before, after, from, to, lost_demand: lost, delay_hours: 
                          ["Cars let in", before.entered, after.entered, 0], ["Lost demand, cars", null, lost, 0],
                          ["Delay of cars in both, vehicle hours", null, delay, 1]] : [];
   const table = previewTable([from, to], lines, before.detectors, after.detectors);
-  table.className = "exact";
+  table.classList.add("exact");
   return element("div", "", {}, table, element("p", known
     ? "A car that does not enter spends no vehicle hours: read these with the lost demand."
     : "This is too long for vehicle hours: show a shorter time.", {className: "hint"}));
@@ -239,7 +238,8 @@ function previewTable([from, to], lines, before, after) {
   const perHour = ([cars]) => cars * HOUR / Math.max(1, to - from);
   const flows = live.plan.detectors.map((cell, index) =>
     [`Cars an hour at ${kmText(cell)} km`, perHour(before[index]), perHour(after[index]), 0]);
-  return element("table", "", {}, element("caption", `${timeText(from)} to ${timeText(to)}`),
+  const table = element("table", "", {}, element("caption", `${timeText(from)} to ${timeText(to)}`),
     element("thead", "", {}, row(element("td"), headCell("now"), headCell("then"), headCell("change"))),
     element("tbody", "", {}, ...[...lines, ...flows].map(lineOf)));
+  return element("div", "", {className: "scrolled"}, table);
 }
