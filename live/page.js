@@ -54,15 +54,20 @@ const live = {
     if (!live.plan) return;
     if ($("follow").checked) followClock();
     showLegend();
-    fetchRows();
+    fetchRows(!live.clock.rate);
     draw();
   },
 
-  /** After each drawing: measures, and figures once it is quiet. */
+  /** After each drawing: measures, and figures once it is quiet, or each second while the clock runs. */
   drawn() {
     for (const timing of live.timings) if (timing.settled && !timing.painted) timing.painted = performance.now();
+    if (live.idle && live.clock.rate) return;
     clearTimeout(live.idle);
-    live.idle = setTimeout(() => { fetchRows(); showFigures(); }, IDLE);
+    live.idle = setTimeout(() => {
+      live.idle = null;
+      fetchRows(true);
+      showFigures();
+    }, live.clock.rate ? 1000 : IDLE);
   },
 
   put({shape, edits, note}) {
@@ -105,7 +110,7 @@ const live = {
 /** Says what was taken, and which own gestures lost to it. */
 function tellTaken(fresh, before) {
   const lost = [...before].filter(([gesture, was]) =>
-    lossesOf(standing(live.held.scenario, gesture)).length > lossesOf(was).length).map(([gesture]) => gesture);
+    lossesOf(gesture, standing(live.held.scenario, gesture)).length > lossesOf(gesture, was).length).map(([gesture]) => gesture);
   const from = [...new Set(fresh.map(({who}) => who || "somebody"))].join(", ");
   tell(`Took ${plural(fresh.length, "change")}${from ? " of " + from : ""}. ` + (lost.length
     ? `${plural(lost.length, "change")} of yours lost to them, whole or in part.` : "Nothing of yours lost."), lost.length > 0);
@@ -159,14 +164,14 @@ async function refresh(which) {
 
 let asking = 0;
 
-/** Asks for the rows that are seen and not fresh, from above on; then for those of the other road,
-    of which figures are given too. */
-function fetchRows() {
+/** Asks for the rows that are seen and not fresh, from above on; then, if so wished, for those of
+    the other road, of which figures are given too. */
+function fetchRows(both = !live.clock.rate) {
   if (!live.me || !live.line.greeted) return;
   const seen = whoseShown();
   if (!fetchOf(seen)) return;
-  if (!asking) settled();
-  if (!live.clock.rate) fetchOf(["mine", "shared"].filter((whose) => !seen.includes(whose)));
+  settled();
+  if (both) fetchOf(["mine", "shared"].filter((whose) => !seen.includes(whose)));
 }
 
 /** Whether nothing of these roads is to be asked for. */
@@ -217,15 +222,12 @@ async function askRows(whose, every, {from, to, count}) {
   fetchRows();
 }
 
-/** All that is seen is there: what was measured has its end at the next frame. */
+/** All rows that are seen are there: gestures that are measured have their picture at the next
+    drawing. */
 function settled() {
-  let waits = false;
-  for (const timing of live.timings) {
-    if (timing.settled || !timing.confirmed) continue;
-    timing.settled = performance.now();
-    waits = true;
-  }
-  if (waits) draw();
+  const waiting = live.timings.filter((timing) => !timing.settled);
+  for (const timing of waiting) timing.settled = performance.now();
+  if (waiting.length) draw();
 }
 
 // The line.
@@ -270,6 +272,7 @@ async function askName(why = "", seats = null) {
 /** From now on this tab has a seat: all is asked for anew, and what is pending is sent again. */
 async function welcome(said) {
   if ($("hello").open) $("hello").close();
+  const same = live.me?.at === said.at;
   sessionStorage.setItem("key", said.key);
   sessionStorage.setItem("name", said.name);
   Object.assign(live, {me: said, most: said.most ?? {rows: 1024, bytes: 1e6}});
@@ -279,10 +282,13 @@ async function welcome(said) {
   live.shared.horizon = 0;
   live.line.stands();
   showLine("connected", false);
+  HEARD.broker(said.broker);
+  live.away = false;
   $("me").textContent = `${said.name} (seat ${said.seat})`;
   document.title = `${said.name}: a road, live`;
   for (const whose of ["mine", "shared"]) live[whose].stale(0);
-  for (const which of ["held", "common"]) Object.assign(live[which], {list: [], next: 0});
+  for (const which of ["held", "common"]) live[which].next = 0;
+  if (!same) live.held.list = [];
   await Promise.all([...[...live.pending.keys()].map(send), refresh("held"), refresh("common")]);
   hear({clock: live.clock});
 }
@@ -335,12 +341,21 @@ const HEARD = {
     const others = seats.filter(({here, seat}) => here && seat !== live.me?.seat).map(({name}) => name);
     $("others").textContent = others.length ? `, with ${others.join(", ")}` : "";
   },
-  broker({state, told}) {
-    const text = state === "away" ? "The broker is away: what you share reaches the other sites later." : "";
-    if (text || told?.length) tell([text, told?.at(-1)].filter(Boolean).join(" "), true);
+  broker(said) {
+    if (!said) return;
+    const {state, unsent, sites, told} = said;
+    const others = sites?.length ? `, with ${plural(sites.length, "other site")}` : "";
+    const text = state === "away" ? `connected, but the broker is away; ${plural(unsent ?? 0, "change")} to be sent`
+      : `connected${others}`;
+    showLine(text, state === "away");
+    const newest = told?.at(-1) ?? "";
+    if (newest && newest !== live.toldByBroker) tell(newest, true);
+    live.toldByBroker = newest;
   },
   trouble(text) {
-    if (text) tell(text, true); else tell("The server's trouble is over.");
+    if (text) tell(text, true);
+    else if (live.trouble) tell("The server's trouble is over.");
+    live.trouble = text;
   },
 };
 
@@ -399,6 +414,7 @@ function listen() {
 }
 
 takeToken();
+addEventListener("hashchange", () => { takeToken(); location.reload(); });
 makeChoices();
 listen();
 showTool();

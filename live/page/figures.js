@@ -95,7 +95,7 @@ function sumsOf(whose, period) {
 
 // The table.
 
-const figures = {counts: null, key: "", asking: false};
+const figures = {counts: null, sums: null, period: null, key: "", asking: false};
 
 /** Asks for the counts of both roads, where they may be others than those that are shown. */
 async function askCounts(period) {
@@ -146,7 +146,7 @@ function sumRows(mine, shared) {
 function showFigures() {
   const period = periodShown();
   askCounts(period);
-  const [mine, shared] = ["mine", "shared"].map((whose) => sumsOf(whose, period));
+  const [mine, shared] = figures.sums = ["mine", "shared"].map((whose) => sumsOf(whose, period));
   $("period").textContent = period[1] > period[0] ? `${timeText(period[0])} to ${timeText(period[1])}` : "";
   $("figures").replaceChildren(
     element("thead", "", {}, row(element("td"), headCell("mine"), headCell("shared"), headCell("mine \u2212 shared"))),
@@ -154,6 +154,7 @@ function showFigures() {
   $("figuresNote").textContent = "A car that an inlet does not let in spends no vehicle hours, so read these with the "
     + "lost demand beside them. Speeds at detectors are means of the cars that passed; standing cars never do.";
   showWarnings(period);
+  showOwnPreview();
   if ($("asTable").open) showSpeeds(period);
 }
 

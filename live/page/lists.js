@@ -6,15 +6,15 @@ const isOwn = ({stamp}) => stamp[1] === live.me.number;
 const nameOf = (gesture) => (isOwn(gesture) ? "you" : gesture.who || "somebody");
 const noteOf = (gesture) => gesture.note || plural(gesture.edits.length, "edit");
 
-/** What a gesture lost, whole or in part, and to whom; [] where nothing. */
-function lossesOf(stands) {
+/** What a gesture lost, whole or in part, to whom and why; [] where nothing. */
+function lossesOf(gesture, stands) {
   const lost = stands.toOthers.map(({by, edits}) => {
     const how = edits === stands.all ? "lost to" : `${edits} of ${stands.all} edits lost to`;
-    return {text: `${how} ${nameOf(by)}: ${noteOf(by)}`, by};
+    return {text: `${how} ${nameOf(by)}: ${noteOf(by)}`, why: whyGreater(by.stamp, gesture.stamp)};
   });
   const {cut} = stands;
   return cut ? [...lost, {text: `holds only until ${timeText(cut.step)}, then ${nameOf(cut.by)}: ${noteOf(cut.by)}`,
-                          by: cut.by}] : lost;
+                          why: "What is put for a place acts until the next is put there."}] : lost;
 }
 
 function stateOf(gesture, stands) {
@@ -29,7 +29,7 @@ function linesNow() {
   const lines = list.filter((gesture) => isSeen(scenario, live.common.scenario, gesture)).map((gesture) => {
     const stands = standing(scenario, gesture);
     const state = stateOf(gesture, stands);
-    const losses = isOwn(gesture) ? lossesOf(stands) : [];
+    const losses = isOwn(gesture) ? lossesOf(gesture, stands) : [];
     const where = losses.length ? "lost" : !gesture.shared && isOwn(gesture) ? "own" : "held";
     return {gesture, state, losses, where};
   });
@@ -53,8 +53,8 @@ function lineButtons({gesture, losses}) {
 function lineElement(line) {
   const {gesture, state, losses} = line;
   const tag = element("span", state, {className: `state ${state.replace(" ", "-")}`});
-  const lost = losses.map(({text, by}) => element("p", text, {className: "loss"},
-    element("span", " " + whyGreater(by.stamp, gesture.stamp), {className: "hint"})));
+  const lost = losses.map(({text, why}) => element("p", text, {className: "loss"},
+    element("span", " " + why, {className: "hint"})));
   return element("li", "", {}, element("p", noteOf(gesture) + " ", {className: "note"}, tag),
     element("p", meta(gesture), {className: "hint"}), ...lost,
     element("p", "", {className: "buttons"}, ...lineButtons(line)));
@@ -81,9 +81,9 @@ function showLists() {
   $("undo").disabled = !undoable();
 }
 
-/** The newest own gesture that still acts, and is no withdrawal of a shared one. */
+/** The newest own gesture that still acts. */
 function undoable() {
-  return linesNow().find(({gesture, where}) => isOwn(gesture) && where !== "lost")?.gesture;
+  return linesNow().find(({gesture, state}) => isOwn(gesture) && state !== "overruled")?.gesture;
 }
 
 const unshared = () => linesNow().filter(({gesture}) => isOwn(gesture) && !gesture.shared).map(({gesture}) => gesture);
@@ -132,10 +132,9 @@ function showNews({size, from}) {
 /** How the standing of gestures changes from one scenario to another, as sentences. */
 function changesOfStanding(gestures, before, after) {
   return gestures.flatMap((gesture) => {
-    const was = before ? lossesOf(standing(before, gesture)).map(({text}) => text) : [];
-    return lossesOf(standing(after, gesture)).filter(({text}) => !was.includes(text))
-      .map(({text, by}) => ({text: `${nameOf(gesture)}: ${noteOf(gesture)} \u2013 ${text}`,
-                             why: whyGreater(by.stamp, gesture.stamp)}));
+    const was = before ? lossesOf(gesture, standing(before, gesture)).map(({text}) => text) : [];
+    return lossesOf(gesture, standing(after, gesture)).filter(({text}) => !was.includes(text))
+      .map(({text, why}) => ({text: `${nameOf(gesture)}: ${noteOf(gesture)} \u2013 ${text}`, why}));
   });
 }
 
@@ -173,12 +172,16 @@ function openBefore(what, gestures) {
       button(shares ? "Share now" : "Take now", done), button("Not now", closeBefore)));
   $("before").hidden = false;
   $("before").focus();
-  live.beforeOpen = {what, whose: chosen("whose")};
+  live.beforeOpen = {what, whose: chosen("whose"), place: figuresOf, byOwn: shares && givesOwn(gestures)};
   choose("whose", "both");
   live.look();
-  if (shares) showPreview(figuresOf, gestures); else figuresOf.replaceChildren(element("p",
-    "The diagram shows the difference, and the figures below it have both roads beside each other."));
+  if (!shares) figuresOf.append(element("p", "The diagram shows the difference, and the figures below it have both roads."));
+  else if (live.beforeOpen.byOwn) showOwnPreview();
+  else askPreview(figuresOf, gestures);
 }
+
+/** Whether the shared road is as the own one is, once these are shared. */
+const givesOwn = (gestures) => gestures.length === unshared().length && !untaken().length;
 
 function closeBefore() {
   if (!live.beforeOpen) return;
@@ -190,38 +193,53 @@ function closeBefore() {
   if (had) $($("own").children.length ? "own" : "held").focus();
 }
 
-/** Asks what sharing would change, over the period that is shown. */
-async function showPreview(place, gestures) {
-  place.replaceChildren(element("p", "Computing …"));
-  const [from, to] = periodShown();
-  const all = gestures.length === unshared().length;
-  const stamps = gestures.map(({stamp}) => stamp);
-  const said = await live.ask({preview: {at: live.me.at, from, to, ...(all ? {} : {stamps})}});
-  if (!said) return;
-  place.replaceChildren(said.refused ? element("p", said.why ?? said.refused) : previewTable(said));
+/** What sharing all would change: the own road beside the shared one, as far as it is there. */
+function showOwnPreview() {
+  const {place, byOwn} = live.beforeOpen ?? {};
+  const [mine, shared] = figures.sums ?? [];
+  if (!byOwn || !mine || !shared || !figures.counts || place.querySelector(".exact")) return;
+  const [from, to] = figures.period;
+  const lines = [["Vehicle hours", shared.hours, mine.hours, 1], ["Lost demand, cars (about)", shared.lost, mine.lost, 0]];
+  place.replaceChildren(previewTable([from, to], lines, figures.counts[1], figures.counts[0]),
+    element("p", "A car that does not enter spends no vehicle hours: read these with the lost demand.", {className: "hint"}),
+    button("Delay car by car (takes a while)", () => askPreview(place, unshared())));
 }
 
-/** The table of a preview: vehicle hours beside the demand that would be lost, and flows, before and
-    after. */
-function previewTable({before, after, from, to, lost_demand: lost, delay_hours: delay}) {
+/** Asks the server what sharing these would change, over the period that is shown. */
+async function askPreview(place, gestures) {
+  place.replaceChildren(element("p", "This is computed just now: both roads are driven once more, car by car."));
+  const [from, to] = periodShown();
+  const stamps = gestures.map(({stamp}) => stamp);
+  const said = await live.ask({preview: {at: live.me.at, from, to, stamps}});
+  if (!said) return;
+  if (said.refused) place.replaceChildren(element("p", said.why ?? said.refused));
+  else place.replaceChildren(exactPreview(said));
+}
+
+function exactPreview({before, after, from, to, lost_demand: lost, delay_hours: delay}) {
   const known = typeof before.vehicle_hours === "number";
-  const number = (value, digits) => value.toLocaleString("en",
-    {minimumFractionDigits: digits, maximumFractionDigits: digits});
-  const line = (name, one, other, digits = 0) => row(headCell(name, "row"), element("td", number(one, digits)),
-    element("td", number(other, digits)), element("td", signedText(other - one, digits)));
-  const costs = known ? [
-    line("Vehicle hours", before.vehicle_hours, after.vehicle_hours, 1),
-    line("Cars let in", before.entered, after.entered),
-    row(headCell("Lost demand, cars", "row"), element("td"), element("td"), element("td", signedText(lost))),
-    row(headCell("Delay of cars in both, vehicle hours", "row"), element("td"), element("td"),
-        element("td", signedText(delay, 1))),
-  ] : [];
+  const lines = known ? [["Vehicle hours", before.vehicle_hours, after.vehicle_hours, 1],
+                         ["Cars let in", before.entered, after.entered, 0], ["Lost demand, cars", null, lost, 0],
+                         ["Delay of cars in both, vehicle hours", null, delay, 1]] : [];
+  const table = previewTable([from, to], lines, before.detectors, after.detectors);
+  table.classList.add("exact");
+  return element("div", "", {}, table, element("p", known
+    ? "A car that does not enter spends no vehicle hours: read these with the lost demand."
+    : "This is too long for vehicle hours: show a shorter time.", {className: "hint"}));
+}
+
+/** A table of now, then and the change: lines of [name, now, then, digits], where a now of null
+    leaves the change alone; and the flows at the detectors. */
+function previewTable([from, to], lines, before, after) {
+  const number = (value, digits) => (value === null ? "" : value.toLocaleString("en",
+    {minimumFractionDigits: digits, maximumFractionDigits: digits}));
+  const lineOf = ([name, one, other, digits]) => row(headCell(name, "row"), element("td", number(one, digits)),
+    element("td", one === null ? "" : number(other, digits)), element("td", signedText(other - (one ?? 0), digits)));
   const perHour = ([cars]) => cars * HOUR / Math.max(1, to - from);
-  const detectors = live.plan.detectors.map((cell, index) => line(`Cars an hour at ${kmText(cell)} km`,
-    perHour(before.detectors[index]), perHour(after.detectors[index])));
-  return element("div", "", {}, element("table", "", {}, element("caption", `${timeText(from)} to ${timeText(to)}`),
+  const flows = live.plan.detectors.map((cell, index) =>
+    [`Cars an hour at ${kmText(cell)} km`, perHour(before[index]), perHour(after[index]), 0]);
+  const table = element("table", "", {}, element("caption", `${timeText(from)} to ${timeText(to)}`),
     element("thead", "", {}, row(element("td"), headCell("now"), headCell("then"), headCell("change"))),
-    element("tbody", "", {}, ...costs, ...detectors)),
-    element("p", known ? "A car that does not enter spends no vehicle hours: read these with the lost demand."
-      : "This is too long for vehicle hours: show a shorter time.", {className: "hint"}));
+    element("tbody", "", {}, ...[...lines, ...flows].map(lineOf)));
+  return element("div", "", {className: "scrolled"}, table);
 }

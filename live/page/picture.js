@@ -35,11 +35,15 @@ function byMeans(view) {
   return how === "zoom" ? meansAreSeen(view) : how === "means";
 }
 
-/** Each so manieth row is asked for: some four a box of mean speeds, else one a pixel. */
+const powerOfTwo = (steps) => 2 ** Math.max(0, Math.floor(Math.log2(steps)));
+
+/** Each so manieth row is asked for: some eight a box of mean speeds (four, where the road is long),
+    else one a pixel. */
 function everyShown() {
   const view = viewNow();
-  const steps = (byMeans(view) || chosen("whose") === "both" ? BOX / 4 : 1) / view.tall;
-  return 2 ** Math.max(0, Math.floor(Math.log2(steps)));
+  if (!byMeans(view) && chosen("whose") !== "both") return powerOfTwo(1 / view.tall);
+  const every = powerOfTwo(BOX / 8 / view.tall);
+  return every * (look.span / every * live.plan.length > live.most.bytes ? 2 : 1);
 }
 
 const whoseShown = () => ({mine: ["mine"], shared: ["shared"], both: ["mine", "shared"]}[chosen("whose")]);
@@ -86,7 +90,8 @@ function drawRows(context, view, width, height) {
   }
   if (byMeans(view)) paintMeans(context, view, picture, part, how);
   else paintCells(context, view, picture, part, how);
-  paintClosures(context, view, picture, part, how);
+  const held = chosen("whose") === "shared" ? live.common : live.held;
+  if (held.frames.some(({kind}) => kind === "block")) paintClosures(context, view, picture, part, how);
   drawDetails(context, view, picture, null, part, GREATEST);
 }
 
@@ -206,6 +211,8 @@ function legendEntries() {
 }
 
 function showLegend() {
+  if ($("legend").dataset.of === chosen("whose")) return;
+  $("legend").dataset.of = chosen("whose");
   const plan = [{text: "inlet", colour: OF_PLAN.inlet}, {text: "detector", colour: OF_PLAN.detector},
                 {text: "zones by turns", colour: OF_PLAN.zone}];
   $("legend").replaceChildren(...[...legendEntries(), ...plan].map((entry) => {

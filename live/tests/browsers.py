@@ -21,7 +21,7 @@ from selenium.webdriver.support.ui import Select
 LIVE = Path(__file__).resolve().parent.parent
 TOP = LIVE.parent
 SCREENSHOTS = os.environ.get("SCREENSHOTS")
-PATIENCE = 20.0  # seconds
+PATIENCE = 40.0  # seconds
 
 # The road of examples/closed_cell: cars gain speed up to 3, none is slowed.
 FREE_ROAD = {"detectors": [28], "exit": 1, "inlets": [[0, 65536]], "length": 40, "words": "steady", "zone": 40,
@@ -214,8 +214,10 @@ class Tab:
 class BrowserCase(Test):
     """Each test has a server of its own; the browsers stay open."""
 
-    names = ("Ada", "Ben")
-    tabs: list[Tab] = []
+    names: tuple[str, ...] = ("Ada", "Ben")
+    tabs: list[Tab]
+    downloads: Path
+    server: Server
 
     @classmethod
     def setUpClass(cls) -> None:
@@ -233,6 +235,8 @@ class BrowserCase(Test):
         return [tab.join(self.server, name) for tab, name in zip(self.tabs, names or self.names)]
 
     def tearDown(self) -> None:
+        for path in self.downloads.iterdir():
+            path.unlink()
         for name, tab in zip(self.names, self.tabs):
             if SCREENSHOTS:
                 tab.driver.save_screenshot(os.path.join(SCREENSHOTS, f"{self._testMethodName}_{name}.png"))

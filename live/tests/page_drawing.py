@@ -6,7 +6,7 @@ from __future__ import annotations
 
 import subprocess
 
-from browsers import FREE_ROAD, FREEWAY, BrowserCase, Tab, edits_of, example_rows, gestures_of
+from browsers import COLOURS, FREE_ROAD, FREEWAY, TOP, BrowserCase, Tab, edits_of, example_rows, gestures_of
 from running import program
 from selenium.webdriver.common.by import By
 from selenium.webdriver.support.ui import Select
@@ -201,6 +201,7 @@ class OneFreeway(BrowserCase):
         tab.part("save").find_element(By.TAG_NAME, "summary").click()
         tab.press("Changes as CSV")
         path = self.downloads / "changes.csv"
+        path.unlink(missing_ok=True)
         tab.until(path.exists, "the file")
         line = path.read_text(encoding="utf-8").splitlines()[1]
         self.assertIn(",\"'=1+1,Ada\",\"50 km/h, 0–0.375 km, from 0:20:00 on\",private,", line)
@@ -227,3 +228,42 @@ class OneFreeway(BrowserCase):
         lines = transcript.read_text(encoding="utf-8").splitlines()
         self.assertEqual(lines[0::2], script.read_text(encoding="utf-8").splitlines())
         self.assertEqual(lines[1::2], ran.stdout.decode().splitlines())
+
+    def test_the_viewer_opens_the_transcript(self) -> None:
+        tab, = self.open(FREE_ROAD)
+        tab.press("Run an hour")
+        tab.show(60)
+        tab.tool("block")
+        tab.in_figures(kmFrom="0.18", kmTo="0.187", timeFrom="0:00:12", timeTo="0:00:24")
+        tab.part("save").find_element(By.TAG_NAME, "summary").click()
+        tab.press("Transcript")
+        path = self.downloads / "transcript.jsonl"
+        tab.until(path.exists, "the transcript")
+        tab.driver.get((TOP / "viewer" / "index.html").as_uri())
+        tab.part("files0").send_keys(str(path))
+        tab.until(lambda: "Ada: steps 0 to 60" in tab.driver.find_element(By.ID, "picture0").text, "the picture")
+        self.assertEqual(tab.text("messages"), "")
+        rows = tab.script("return shown.pictures[0].rows.slice(12, 41)")
+        self.assertEqual(rows, example_rows(0)[:12] + example_rows(1)[-17:])
+
+    def test_a_click_holds_from_there_on(self) -> None:
+        tab, = self.open(FREEWAY)
+        tab.run_an_hour()
+        tab.tool("limit")
+        tab.drag((430, 1800), (430, 1800))
+        tab.tool("inflow")
+        tab.drag((190, 1800), (190, 1800))
+        limit, demand = (edits_of(one) for one in gestures_of(self.server))
+        # Zone 8 has the cells 400 to 449; the on-ramp, at cell 200, is the inlet nearest to cell 190.
+        self.assertEqual(limit, [["limit", 8, 1800, 2]])
+        self.assertEqual([edit[:3] for edit in demand], [["inflow", 1, 1800]])
+
+    def test_a_road_of_8192_cells(self) -> None:
+        tab, = self.open({**FREEWAY, "length": 8192, "zone": 128, "zones": [[5, 6554]] * 64, "detectors": [4000, 8000]})
+        tab.run_an_hour()
+        tab.tool("block")
+        tab.in_figures(kmFrom="30", kmTo="30.2", timeFrom="0:20", timeTo="0:40")
+        # Behind the closed cells the road is empty for as long as they are closed: white.
+        self.assertEqual(tab.pixel(4013, 2100), COLOURS["#"])
+        self.assertEqual(tab.pixel(4060, 2300), COLOURS["."])
+        self.assertNotIn("not computed", tab.point(8000, 3500))

@@ -115,3 +115,15 @@ class ForAll(BrowserCase):
         tab.press("Pause")
         # 240 seconds of the road go by; the diagram has stood still, or jumped by a quarter of its 300 seconds.
         self.assertLessEqual(len(seen), 5)
+
+    def test_forced_colours(self) -> None:
+        tab, = self.open(FREEWAY)
+        tab.driver.execute_cdp_cmd("Emulation.setEmulatedMedia", {"features": [{"name": "forced-colors", "value": "active"}]})
+        self.addCleanup(tab.driver.execute_cdp_cmd, "Emulation.setEmulatedMedia", {"features": []})
+        colours = tab.script("""
+            return ["look", "block"].map((tool) => getComputedStyle(
+              document.querySelector(`input[value=${tool}] + span`)).backgroundColor);""")
+        self.assertNotEqual(colours[0], colours[1])   # what is chosen is still seen
+        tab.settled()
+        swatches = tab.script("return [...document.querySelectorAll('.swatch')].map((one) => getComputedStyle(one).backgroundColor)")
+        self.assertIn("rgb(230, 97, 0)", swatches)    # and the legend keeps its colours

@@ -154,6 +154,20 @@ class TwoTabs(BrowserCase):
         self.assertEqual(len(gestures_of(self.server)), 1)
 
 
+    def test_a_seat_is_taken_over(self) -> None:
+        ada, ben = self.open(FREE_ROAD)
+        self.limit(ada, "1", "0:20", "0:30")
+        ada.script("sessionStorage.clear()")
+        ada.driver.get("about:blank")
+        ada.driver.get(self.server.address)
+        ada.until(lambda: ada.part("seats").is_displayed(), "the seats")
+        self.assertEqual([one.text for one in ada.part("seatList").find_elements(By.TAG_NAME, "button")],
+                         ["Ada, seat 1, 1 change not shared"])
+        ada.press("Ada, seat 1")
+        ada.until(lambda: ada.lines("own") == ["30 km/h, 0–0.3 km, 0:20:00–0:30:00 private"], "her changes")
+        self.assertEqual(ben.text("others"), ", with Ada")
+
+
 class ThreeTabs(BrowserCase):
     """Three browsers at once."""
 
