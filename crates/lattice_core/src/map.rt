@@ -39,7 +39,8 @@ impl<K: Exact, V: Lattice> Model for LatMap<K, V> {
 
     ghost view = { λ a. all_entries (items_if_any a.pages (λ p. vec_items (arc_value p))) };
 
-    ghost invariant = { λ a. IsPaged K.cmp V.is_proper V.is_least (items_if_any a.pages (λ p. vec_items (arc_value p))) };
+    ghost invariant = { λ a. IsPaged K.cmp V.is_proper V.is_least
+        (items_if_any a.pages (λ p. vec_items (arc_value p))) };
 }
 
 impl<K: Exact, V: Lattice> LatMap<K, V> {
