@@ -36,3 +36,6 @@ pub mod RegionSpeeds
 pub mod RegionPlaces
 pub mod MovedCars
 pub mod CarsStepped
+pub mod CountsStepped
+pub mod StepSites
+pub mod RegionsCut

@@ -31,4 +31,4 @@ pub record AreSitesOf (p : Plan) (regions : List Region) (sites : List ℕ) : Ty
   pub as_many : length sites ≡ length p.inlets + length p.detectors + length regions
   pub inlets : (i : ℕ) → i < length p.inlets → slice_index sites i ≡ (slice_index_or p.inlets i (0, 0)).0
   pub detectors : (d : ℕ) → d < length p.detectors → slice_index sites (length p.inlets + d) ≡ slice_index p.detectors d
-  pub regions : (r : ℕ) → r < length regions → slice_index sites (length p.inlets + length p.detectors + r) ≡ (region_at regions r).first
+  pub firsts : (r : ℕ) → r < length regions → slice_index sites (length p.inlets + length p.detectors + r) ≡ (region_at regions r).first

@@ -103,75 +103,12 @@ fn comes(high16: u16, chance: u32) -> bool
     chance >= CERTAIN || u32::from(high16) < chance
 }
 
-/// Lets the cars of a step enter between two cells, one inlet after another. The cars stand at the places from `head` to
-/// before `tail` of the columns, the one at the far end first; in front of them a cell past the road's end. Of the sites,
-/// whose kept places move on, the first ones are the inlets' cells. Returns the new tail.
+/// Lets the cars of a step enter between two cells, one inlet after another, and keeps the words of each at the steps that
+/// are left of the span. The cars stand at the places from `head` to before `tail` of the columns, the one at the far end
+/// first; in front of them a cell past the road's end. Of the sites, whose kept places move on, the first ones are the
+/// inlets' cells. Returns the new tail, and how many have entered between others in the span.
 #[inline(never)]
 pub fn enter(
-    plan: &Plan,
-    settings: &Settings,
-    step: u32,
-    lo: u32,
-    hi: u32,
-    high16s: &[u16],
-    cells: &mut [u16],
-    speeds: &mut [u8],
-    numbers: &mut [u32],
-    head: usize,
-    tail: usize,
-    sites: &[u16],
-    places: &mut [u32],
-) -> usize
-    requires fits { Fits plan.now settings.now }
-    requires step { step < 2 ^ 27 }
-    requires words { AreWordsOfInlets plan.now settings.now step high16s.now }
-    requires inlets { AreCellsOfInlets plan.now sites.now }
-    requires within { hi ≤ plan.now.cells }
-    requires low { 0 < head }
-    requires order { head ≤ tail }
-    requires room { tail + length plan.now.inlets ≤ length cells.old }
-    requires few { length cells.old < 2 ^ 31 }
-    requires speeds { length speeds.old ≡ length cells.old }
-    requires numbers { length numbers.old ≡ length cells.old }
-    requires front { plan.now.cells ≤ slice_index cells.old (head - 1) }
-    requires places { ArePlacesFrom cells.old head tail sites.now places.old }
-    ensures order { tail ≤ result }
-    ensures few { result ≤ tail + length plan.now.inlets }
-    ensures cells { length cells.new ≡ length cells.old }
-    ensures speeds { length speeds.new ≡ length speeds.old }
-    ensures numbers { length numbers.new ≡ length numbers.old }
-    ensures front { (k : ℕ) → k < head → slice_index cells.new k ≡ slice_index cells.old k }
-    ensures places { ArePlacesFrom cells.new head result sites.now places.new }
-    ensures entries { (a : Array) → ((c : ℕ) → (c < lo) ⊎ (hi ≤ c) → vehicle_at a c ≡ None)
-        → AreColumnsOf a (slice_range cells.old head tail) (slice_range speeds.old head tail) (slice_range numbers.old head tail)
-        → AreColumnsOf (entries_between lo hi plan.now settings.now step a) (slice_range cells.new head result) (slice_range speeds.new head result) (slice_range numbers.new head result) }
-{
-    let mut end = tail;
-    for inlet in 0..plan.inlets().len() {
-        if lets_in(plan, settings, step, inlet, high16s[inlet], lo, hi) {
-            let cell = sites[inlet];
-            let place = places[inlet] as usize;
-            if cells[place - 1] != cell {
-                put(cells, place, end, cell);
-                put(speeds, place, end, 0);
-                put(
-                    numbers,
-                    place,
-                    end,
-                    step * MOST_INLETS as u32 + inlet as u32,
-                );
-                move_places(sites, places, cell);
-                end += 1;
-            }
-        }
-    }
-    end
-}
-
-/// Lets the cars of a step enter as [`enter`], and keeps the words of each at the steps that are left of the span. Returns
-/// the new tail, and how many have entered between others in the span.
-#[inline(never)]
-pub fn enter_drawn(
     plan: &Plan,
     settings: &Settings,
     step: u32,

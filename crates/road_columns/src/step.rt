@@ -14,14 +14,12 @@ ghost use Rattle.road_columns.specs.LooseWords.{HaveLooseWords};
 ghost use Rattle.road_columns.specs.Sites.{IsOfSteps, unpacked};
 ghost use Rattle.road_columns.specs.Step.{AreCarsInColumn, AreRegionsOf, AreSitesOf};
 
+use crate::cutting::NOWHERE;
 use crate::entering::move_on;
 use crate::regions::{Region, advance_regions};
 use crate::sites::count;
 use crate::words::Batch;
 use road_plan::{Plan, Settings};
-
-// A cell past all roads.
-const NOWHERE: u16 = u16::MAX;
 
 /// Moves the cars of a step, which have entered, counts them, and lets the one leave that comes to the exit. The cars stand
 /// at the places from `head` to before `tail` of the columns, the one at the far end first. Their words stand in `rows`, one
@@ -80,9 +78,10 @@ pub fn move_cars(
         (slice_range cells.new result tail) (slice_range speeds.new result tail) (slice_range numbers.now result tail) }
     ensures passes { (b : Array) → length b ≤ plan.now.cells
         → AreColumnsOf b (slice_range cells.old head tail) (slice_range speeds.old head tail) (slice_range numbers.now head tail)
-        → let input = record { plan = plan.now; settings = settings.now; step = step; road = b } in
-        (d : ℕ) → d < length passes.old
-        → unpacked (slice_index passes.new d) ≡ plus (unpacked (slice_index passes.old d)) (passes_at input (input_speeds input) d) }
+        → (d : ℕ) → d < length passes.old
+        → unpacked (slice_index passes.new d) ≡ plus (unpacked (slice_index passes.old d))
+        (passes_at (record { plan = plan.now; settings = settings.now; step = step; road = b })
+        (input_speeds (record { plan = plan.now; settings = settings.now; step = step; road = b })) d) }
 {
     let of_span = (step % 64) as usize;
     let inlets = plan.inlets().len();

@@ -22,6 +22,13 @@ high16_among row index last n beside batches q h few later is = record {
   own = λ i below same. is.own i (omega arith) same;
 }
 
+-- a car's new speed, by its region
+abbrev SpeedIn : List Region → List ℕ → List ℕ → List ℕ → List ℕ → ℕ → ℕ → List ℕ → List (List ℕ) → ℕ → ℕ → ℕ → Type 0
+SpeedIn regions cells speeds new row index n beside batches r q word =
+    (0 < wish_at (region_at regions r).chances.limit (region_at regions r).block cells speeds q → IsHigh16At row index n beside batches q (word / 65536))
+    → slice_index new q ≡ slowed_speed (wish_at (region_at regions r).chances.limit (region_at regions r).block cells speeds q)
+    (comes_about word (chance_at (slice_index speeds q) (region_at regions r).chances.standing (region_at regions r).chances.moving))
+
 of_place : (n place from head q : ℕ) (ends : List ℕ) → length ends ≡ n → place < n → q < slice_index ends place → from ≤ q → (place + 1 < length ends → from ≡ slice_index ends (place + 1)) → IsOfRegion n ends place q
 of_place n place from head q ends long inside below above next = record { within = inside; before_end = below; from = λ some. let is = next (omega arith) in omega arith }
 
@@ -92,22 +99,17 @@ loop-place-preserved c =
         | inl same ↦ from_place_on r q same is low
         | inr other ↦ let done = inv.done_from r q (omega arith) is low in omega arith
       ];
-      speeds_done = λ r q less is low word. elim (cases_eq r c.loop-place.place) as (λ _. SpeedIn r q word) [
+      speeds_done = λ r q less is low word. elim (cases_eq r c.loop-place.place) as (λ _. SpeedIn c.args.regions.now c.args.cells.now c.args.speeds.now c.advance_region.new.speeds c.args.row.now c.args.index c.args.entered c.args.beside.now c.args.batches.now r q word) [
         | inl same ↦
             let ends = ap (slice_index c.args.ends.now) same in
             let before = is.before_end in
-            subst (λ k. SpeedIn k q word) (sym same) (speed_here q (from_place_on r q same is low) (omega arith) word)
+            subst (λ k. SpeedIn c.args.regions.now c.args.cells.now c.args.speeds.now c.advance_region.new.speeds c.args.row.now c.args.index c.args.entered c.args.beside.now c.args.batches.now k q word) (sym same) (speed_here q (from_place_on r q same is low) (omega arith) word)
         | inr other ↦ λ right.
             let done = inv.done_from r q (omega arith) is low in
             ran.other_speeds q (inr done) ∙ inv.speeds_done r q (omega arith) is low word right
       ];
     }
   where
-    abbrev SpeedIn : ℕ → ℕ → ℕ → Type 0
-    SpeedIn r q word = (0 < wish_at (region_at c.args.regions.now r).chances.limit (region_at c.args.regions.now r).block c.args.cells.now c.args.speeds.now q → IsHigh16At c.args.row.now c.args.index c.args.entered c.args.beside.now c.args.batches.now q (word / 65536))
-        → slice_index c.advance_region.new.speeds q ≡ slowed_speed (wish_at (region_at c.args.regions.now r).chances.limit (region_at c.args.regions.now r).block c.args.cells.now c.args.speeds.now q)
-        (comes_about word (chance_at (slice_index c.args.speeds.now q) (region_at c.args.regions.now r).chances.standing (region_at c.args.regions.now r).chances.moving))
-
     from_place_on : (r q : ℕ) → r ≡ c.loop-place.place → IsOfRegion (length c.args.regions.now) c.args.ends.now r q → c.args.head ≤ q → c.region_from-from.result ≤ q
     from_place_on r q same is low =
         let long = c.requires.ends in
@@ -121,7 +123,7 @@ loop-place-preserved c =
           | inr none ↦ let last = at.last none in omega arith
         ]
 
-    speed_here : (q : ℕ) → c.region_from-from.result ≤ q → q < c.loop-place.to → (word : ℕ) → SpeedIn c.loop-place.place q word
+    speed_here : (q : ℕ) → c.region_from-from.result ≤ q → q < c.loop-place.to → (word : ℕ) → SpeedIn c.args.regions.now c.args.cells.now c.args.speeds.now c.advance_region.new.speeds c.args.row.now c.args.index c.args.entered c.args.beside.now c.args.batches.now c.loop-place.place q word
     speed_here q above below word right =
         let inv = c.loop-place.invariant in
         let region : Region = region_at c.args.regions.now c.loop-place.place in
