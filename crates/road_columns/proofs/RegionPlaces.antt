@@ -1,6 +1,6 @@
 -- The region of a car by the kept places of the regions.
 use Rattle.std.specs.Prelude.{◌≡◌, ℕ, zero, suc, ◌+◌, ◌-◌, ◌<◌, ◌≤◌, List, length, slice_index}
-use Rattle.std.proofs.Common.{sym, ap, ◌∙◌, arith, refl, inl, inr}
+use Rattle.std.proofs.Common.{ap, arith, inl, inr}
 use Rattle.std.proofs.lemmas.Bool.{cases_lt}
 use Rattle.road_columns.specs.CarsAt.{IsPlaceAt, from_place}
 use Rattle.road_columns.specs.Regions.{IsInRegion, IsOfRegion, region_at}

@@ -1,6 +1,6 @@
 -- The words that the motion of the regions needs are in the rows or beside them.
-use Rattle.std.specs.Prelude.{◌≡◌, ◌≢◌, ℕ, ◌+◌, ◌-◌, ◌*◌, ◌/◌, ◌%◌, ◌<◌, ◌≤◌, List, length, min, slice_index, slice_range}
-use Rattle.std.proofs.Common.{sym, ap, ◌∙◌, arith, refl, inl, inr}
+use Rattle.std.specs.Prelude.{◌≢◌, ℕ, ◌+◌, ◌-◌, ◌*◌, ◌/◌, ◌%◌, ◌<◌, ◌≤◌, List, min, slice_index, slice_range}
+use Rattle.std.proofs.Common.{ap, ◌∙◌, arith, inl, inr}
 use Rattle.std.proofs.lemmas.Bool.{cases_lt}
 use Rattle.road_plan.specs.declared.parts.WordKind.{WordKind}
 use Rattle.road_words.specs.Words.{word}

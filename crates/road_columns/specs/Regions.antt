@@ -7,7 +7,6 @@ use Rattle.road_cells.specs.Gap.{ArePartedAt}
 use Rattle.road_cells.specs.declared.car.TheConstants.{GREATEST_SPEED}
 use Rattle.road_rules.specs.Speeds.{wanted_speed}
 use Rattle.road_ends.specs.Private.PassPlaces.{AreOfZone}
-use Rattle.road_columns.specs.declared.motion.Chances.{Chances}
 use Rattle.road_columns.specs.declared.regions.Region.{Region}
 
 -- the region at a place of a list of them

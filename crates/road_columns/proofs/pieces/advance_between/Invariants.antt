@@ -1,5 +1,5 @@
 -- The loop over the cars that have entered, from the near end on.
-use Rattle.std.proofs.Common.{◌≡◌, ◌+◌, ◌-◌, ◌/◌, ◌<◌, ◌≤◌, ◌⊎◌, ℕ, length, slice_index}
+use Rattle.std.proofs.Common.{◌≡◌, ◌+◌, ◌/◌, ◌<◌, ◌≤◌, ◌⊎◌, ℕ, length, slice_index}
 use Rattle.road_rules.specs.Speeds.{comes_about, slowed_speed}
 use Rattle.road_columns.specs.Motion.{chance_at}
 use Rattle.road_columns.specs.Pieces.{wanted_at, IsHigh16At}

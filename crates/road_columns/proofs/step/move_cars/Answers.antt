@@ -1,5 +1,5 @@
 -- All of a step but its entries.
-use Rattle.std.proofs.Common.{◌≡◌, ◌∙◌, ◌+◌, ◌-◌, ◌*◌, ◌/◌, ◌%◌, ◌<◌, ◌≤◌, ◌⊎◌, ℕ, List, false, length, slice_index, slice_index_or, sym, ap, subst, arith, refl, inl, inr}
+use Rattle.std.proofs.Common.{◌≡◌, ◌∙◌, ◌+◌, ◌-◌, ◌*◌, ◌/◌, ◌%◌, ◌<◌, ◌≤◌, ℕ, false, length, slice_index, slice_index_or, sym, ap, subst, arith, inr}
 use Rattle.std.specs.Prelude.{slice_range}
 use Rattle.road_plan.specs.Plan.{exit_start}
 use Rattle.road_ends.proofs.StepByCars.{not_falling}
