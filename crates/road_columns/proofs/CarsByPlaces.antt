@@ -11,7 +11,7 @@ use Rattle.road_cells.proofs.CarLists.{cars_from-array_of_places, cars_of-array_
 use Rattle.road_cells.proofs.CarPlaces.{rise-at, vehicle_among-absent, vehicle_among-at}
 use Rattle.road_ends.specs.Speed.{nth_car}
 use Rattle.road_columns.specs.Columns.{AreColumnsOf, mirrored}
-use Rattle.road_columns.specs.CarsAt.{AreCarsAt}
+use Rattle.road_columns.specs.Private.CarsAt.{AreCarsAt}
 
 abbrev nobody : Car
 nobody = record { number = 0; cell = 0; speed = 0 }

@@ -10,7 +10,7 @@ use Rattle.road_ends.specs.Input.{input_speeds}
 use Rattle.road_ends.specs.Speed.{speeds}
 use Rattle.road_detector.specs.Passes.{drives, no_totals, passes_at, plus, totals_of}
 use Rattle.road_columns.specs.Columns.{AreColumnsOf, mirrored}
-use Rattle.road_columns.specs.Sites.{IsOfSteps, IsPlaceOf, counted, is_past, passes_of, unpacked}
+use Rattle.road_columns.specs.Private.Sites.{IsOfSteps, IsPlaceOf, counted, is_past, passes_of, unpacked}
 use Rattle.road_columns.proofs.CountedPasses.{alone, counted_at_place, counted_nowhere}
 
 totals_alone : (hit : Bool) (v : ℕ) → v < 65536 → record { cars = length (alone hit v); speeds = sum (alone hit v) } ≡ unpacked (counted hit true v)

@@ -11,7 +11,7 @@ use Rattle.road_ends.specs.Speed.{speeds}
 use Rattle.road_ends.proofs.StepByCars.{may_move}
 use Rattle.road_detector.specs.Passes.{Drive, drives, is_passing, passing_speeds}
 use Rattle.road_columns.specs.Columns.{AreColumnsOf, mirrored}
-use Rattle.road_columns.specs.Sites.{IsPlaceOf, is_past}
+use Rattle.road_columns.specs.Private.Sites.{IsPlaceOf, is_past}
 use Rattle.road_columns.proofs.KeptPlaces.{passes_nowhere_else, passes_at_place}
 
 -- the drive of a car

@@ -10,9 +10,9 @@ use Rattle.road_cells.specs.Array.{Array}
 use Rattle.road_ends.specs.Input.{input_speeds}
 use Rattle.road_ends.specs.Speed.{speeds}
 use Rattle.road_detector.specs.Passes.{passes_at, plus}
-use Rattle.road_columns.specs.CarsAt.{IsPlaceAt, from_place}
+use Rattle.road_columns.specs.Private.CarsAt.{IsPlaceAt, from_place}
 use Rattle.road_columns.specs.Columns.{AreColumnsOf, mirrored}
-use Rattle.road_columns.specs.Sites.{IsOfSteps, counted, is_past, passes_of, unpacked}
+use Rattle.road_columns.specs.Private.Sites.{IsOfSteps, counted, is_past, passes_of, unpacked}
 use Rattle.road_columns.proofs.ColumnPlaces.{range_at, range_long}
 use Rattle.road_columns.proofs.ColumnTotals.{one_step_more, packed_nowhere, packed_passes, packed_plus}
 use Rattle.road_columns.proofs.WordsNeeded.{place_of_range}

@@ -13,9 +13,9 @@ use Rattle.road_rules.specs.Speeds.{wanted_speed, slowed_speed, comes_about}
 use Rattle.road_ends.specs.Speed.{speeds}
 use Rattle.road_ends.specs.Private.PassPlaces.{AreOfZone, IsNthOrNowhere}
 use Rattle.road_columns.specs.Columns.{AreColumnsOf, mirrored}
-use Rattle.road_columns.specs.Motion.{chance_at}
-use Rattle.road_columns.specs.Pieces.{IsHigh16At}
-use Rattle.road_columns.specs.Regions.{IsInRegion, IsRegionOf, region_at, wish_at}
+use Rattle.road_columns.specs.Private.Motion.{chance_at}
+use Rattle.road_columns.specs.Private.Pieces.{IsHigh16At}
+use Rattle.road_columns.specs.Private.Regions.{IsInRegion, IsRegionOf, region_at, wish_at}
 use Rattle.road_columns.specs.declared.regions.Region.{Region}
 use Rattle.road_columns.proofs.ColumnPlaces.{range_at, range_long}
 use Rattle.road_columns.proofs.ColumnSpeeds.{column_speed}

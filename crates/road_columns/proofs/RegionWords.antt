@@ -4,10 +4,10 @@ use Rattle.std.proofs.Common.{ap, ◌∙◌, arith, inl, inr}
 use Rattle.std.proofs.lemmas.Bool.{cases_lt}
 use Rattle.road_plan.specs.declared.parts.WordKind.{WordKind}
 use Rattle.road_words.specs.Words.{word}
-use Rattle.road_columns.specs.EnteredList.{entered_in, high16_in}
-use Rattle.road_columns.specs.LooseWords.{AreFalling, HaveLooseWords}
-use Rattle.road_columns.specs.Pieces.{IsHigh16At}
-use Rattle.road_columns.specs.Regions.{wish_at}
+use Rattle.road_columns.specs.Private.EnteredList.{entered_in, high16_in}
+use Rattle.road_columns.specs.Private.LooseWords.{AreFalling, HaveLooseWords}
+use Rattle.road_columns.specs.Private.Pieces.{IsHigh16At}
+use Rattle.road_columns.specs.Private.Regions.{wish_at}
 use Rattle.road_columns.proofs.ColumnPlaces.{range_at}
 use Rattle.road_columns.proofs.EnteredLists.{all_of}
 use Rattle.road_columns.proofs.PieceWords.{count_before}

@@ -8,8 +8,8 @@ use Rattle.road_plan.specs.Settings.{Settings}
 use Rattle.road_cells.specs.Gap.{ArePartedAt}
 use Rattle.road_cells.specs.declared.car.TheConstants.{GREATEST_SPEED}
 use Rattle.road_ends.specs.Private.PassPlaces.{AreOfZone}
-use Rattle.road_columns.specs.Regions.{IsRegionOf, region_at}
-use Rattle.road_columns.specs.Step.{AreRegionsOf}
+use Rattle.road_columns.specs.Private.Regions.{IsRegionOf, region_at}
+use Rattle.road_columns.specs.Private.Step.{AreRegionsOf}
 use Rattle.road_columns.specs.declared.regions.Region.{Region}
 
 -- a region whose cells end before `end`

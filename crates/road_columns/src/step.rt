@@ -7,12 +7,12 @@ ghost use Rattle.road_cells.specs.Array.{Array};
 ghost use Rattle.road_ends.specs.Input.{input_next, input_speeds};
 ghost use Rattle.road_detector.specs.Passes.{passes_at, plus};
 ghost use Rattle.road_columns.specs.Columns.{AreColumnsOf};
-ghost use Rattle.road_columns.specs.Entered.{AreInOrder};
-ghost use Rattle.road_columns.specs.EnteredList.{ArePlacesRising, entered_in};
-ghost use Rattle.road_columns.specs.Entering.{ArePlacesFrom};
-ghost use Rattle.road_columns.specs.LooseWords.{HaveLooseWords};
-ghost use Rattle.road_columns.specs.Sites.{IsOfSteps, unpacked};
-ghost use Rattle.road_columns.specs.Step.{AreCarsInColumn, AreRegionsOf, AreSitesOf};
+ghost use Rattle.road_columns.specs.Private.Entered.{AreInOrder};
+ghost use Rattle.road_columns.specs.Private.EnteredList.{ArePlacesRising, entered_in};
+ghost use Rattle.road_columns.specs.Private.Entering.{ArePlacesFrom};
+ghost use Rattle.road_columns.specs.Private.LooseWords.{HaveLooseWords};
+ghost use Rattle.road_columns.specs.Private.Sites.{IsOfSteps, unpacked};
+ghost use Rattle.road_columns.specs.Private.Step.{AreCarsInColumn, AreRegionsOf, AreSitesOf};
 
 use crate::cutting::NOWHERE;
 use crate::entering::move_on;
@@ -21,10 +21,10 @@ use crate::sites::count;
 use crate::words::Batch;
 use road_plan::{Plan, Settings};
 
-/// Moves the cars of a step, which have entered, counts them, and lets the one leave that comes to the exit. The cars stand
-/// at the places from `head` to before `tail` of the columns, the one at the far end first. Their words stand in `rows`, one
-/// row of `width` words for each step of the span, those of the `entered` cars that have entered between others in `batches`.
-/// Returns the new head.
+/// Moves the cars of a step, which have entered, counts them, and lets the one leave that comes to the exit. The cars
+/// stand at the places from `head` to before `tail` of the columns, the one at the far end first. Their words stand in
+/// `rows`, one row of `width` words for each step of the span, those of the `entered` cars that have entered between
+/// others in `batches`. Returns the new head.
 #[inline(never)]
 pub fn move_cars(
     plan: &Plan,
@@ -73,11 +73,13 @@ pub fn move_cars(
         (entered_in entered beside.now batches.now) result tail cells.new (slice_index numbers.now) }
     ensures counted { (d : ℕ) → d < length passes.old → IsOfSteps (step % 64 + 1) (slice_index passes.new d) }
     ensures road { (b : Array) → length b ≤ plan.now.cells
-        → AreColumnsOf b (slice_range cells.old head tail) (slice_range speeds.old head tail) (slice_range numbers.now head tail)
+        → AreColumnsOf b (slice_range cells.old head tail) (slice_range speeds.old head tail)
+        (slice_range numbers.now head tail)
         → AreColumnsOf (input_next (record { plan = plan.now; settings = settings.now; step = step; road = b }))
         (slice_range cells.new result tail) (slice_range speeds.new result tail) (slice_range numbers.now result tail) }
     ensures passes { (b : Array) → length b ≤ plan.now.cells
-        → AreColumnsOf b (slice_range cells.old head tail) (slice_range speeds.old head tail) (slice_range numbers.now head tail)
+        → AreColumnsOf b (slice_range cells.old head tail) (slice_range speeds.old head tail)
+        (slice_range numbers.now head tail)
         → (d : ℕ) → d < length passes.old
         → unpacked (slice_index passes.new d) ≡ plus (unpacked (slice_index passes.old d))
         (passes_at (record { plan = plan.now; settings = settings.now; step = step; road = b })

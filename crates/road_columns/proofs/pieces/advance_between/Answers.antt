@@ -3,8 +3,8 @@ use Rattle.std.proofs.Common.{◌≡◌, ◌∙◌, ◌<◌, ◌≤◌, ◌+◌,
 use Rattle.std.specs.Prelude.{slice_index_or, []}
 use Rattle.std.proofs.lemmas.Bool.{cases_lt, cases_eq}
 use Rattle.road_rules.specs.Speeds.{comes_about, slowed_speed}
-use Rattle.road_columns.specs.Motion.{chance_at}
-use Rattle.road_columns.specs.Pieces.{ahead_at, wanted_at}
+use Rattle.road_columns.specs.Private.Motion.{chance_at}
+use Rattle.road_columns.specs.Private.Pieces.{ahead_at, wanted_at}
 use Rattle.road_columns.proofs.PieceWishes.{at_first, at_later, wish_alone, wish_behind, wish_first}
 use Rattle.road_columns.proofs.pieces.advance_between.Goals as goal
 use Rattle.road_columns.proofs.pieces.advance_between.Goals.{then-place-from, else-place-from}

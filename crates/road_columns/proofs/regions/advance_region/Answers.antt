@@ -2,7 +2,7 @@
 use Rattle.std.proofs.Common.{◌∙◌, ◌<◌, ◌≤◌, ◌-◌, slice_index, subst, arith, inl, inr}
 use Rattle.std.proofs.lemmas.Bool.{cases_lt}
 use Rattle.road_rules.specs.Speeds.{comes_about, slowed_speed}
-use Rattle.road_columns.specs.Motion.{chance_at}
+use Rattle.road_columns.specs.Private.Motion.{chance_at}
 use Rattle.road_columns.proofs.PieceWishes.{ahead_region, wish_region}
 use Rattle.road_columns.proofs.regions.advance_region.Goals as goal
 
