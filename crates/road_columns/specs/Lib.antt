@@ -1,0 +1,3 @@
+-- The road in columns.
+pub mod Columns
+pub mod Private

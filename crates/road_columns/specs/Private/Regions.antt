@@ -1,0 +1,45 @@
+-- Regions of the road, each of cells that are alike for the cars on them.
+use Rattle.std.specs.Prelude.{◌≡◌, ℕ, ◌+◌, ◌-◌, ◌<◌, ◌≤◌, List, length, min, slice_index}
+use Rattle.std.specs.List.{slice_index_or}
+use Rattle.road_plan.specs.Plan.{Plan, exit_start, zone_of}
+use Rattle.road_plan.specs.Settings.{Settings}
+use Rattle.road_cells.specs.Gap.{ArePartedAt}
+use Rattle.road_cells.specs.declared.car.TheConstants.{GREATEST_SPEED}
+use Rattle.road_rules.specs.Speeds.{wanted_speed}
+use Rattle.road_ends.specs.Private.PassPlaces.{AreOfZone}
+use Rattle.road_columns.specs.declared.regions.Region.{Region}
+
+-- the region at a place of a list of them
+abbrev pub region_at : List Region → ℕ → Region
+region_at regions r = slice_index_or regions r
+    (record { first = 0; chances = record { limit = 0; standing = 0; moving = 0 }; block = 0 })
+
+-- the car at this place stands in region r of so many, where `ends` has for each region the place of the first car
+-- before it
+pub record IsOfRegion (count : ℕ) (ends : List ℕ) (r q : ℕ) : Type 0 where
+  pub within : r < count
+  pub before_end : q < slice_index ends r
+  pub from : r + 1 < count → slice_index ends (r + 1) ≤ q
+
+-- what the car at a place wants by rules 1 and 2, where the next blocked cell is at `block`
+abbrev pub wish_at : ℕ → ℕ → List ℕ → List ℕ → ℕ → ℕ
+wish_at limit block cells speeds q =
+    wanted_speed (slice_index speeds q) limit
+    (min GREATEST_SPEED (min (slice_index cells (q - 1)) block - (slice_index cells q + 1)))
+
+-- a cell lies in region r
+pub record IsInRegion (regions : List Region) (r c : ℕ) : Type 0 where
+  pub within : r < length regions
+  pub from : (region_at regions r).first ≤ c
+  pub to : r + 1 < length regions → c < (region_at regions (r + 1)).first
+
+-- the cells of region r are alike under these settings: in their speed limit, their slowing chances and the first
+-- blocked cell in front of them
+pub record IsRegionOf (p : Plan) (s : Settings) (regions : List Region) (r : ℕ) : Type 0 where
+  pub reached : ℕ
+  pub limit_allowed : (region_at regions r).chances.limit ≤ GREATEST_SPEED
+  pub alike : (c : ℕ) → IsInRegion regions r c → c < exit_start p → AreOfZone s.limits s.starts s.chances (zone_of p c)
+      (region_at regions r).chances.limit (region_at regions r).chances.standing (region_at regions r).chances.moving
+  pub parted : (c : ℕ) → IsInRegion regions r c → c < exit_start p → ArePartedAt s.blocks c reached
+  pub block_is : reached < length s.blocks → (region_at regions r).block ≡ slice_index s.blocks reached
+  pub none_is : length s.blocks ≤ reached → (region_at regions r).block ≡ 65535
