@@ -23,13 +23,13 @@ pub same_by_columns : (a b : Array) (cells speeds cells' speeds' : List ℕ)
 same_by_columns a b cells speeds cells' speeds' ours theirs long all all_theirs =
     let cell_count = all.cell_count in let speed_count = all.speed_count in
     let cell_count' = all_theirs.cell_count in let speed_count' = all_theirs.speed_count in (
-  λ same. ext_get_or (record { number = 0; cell = 0; speed = 0 }) (cars_of a) (cars_of b) long (λ k before.
-      let cell = sym (ours.cell_each k (omega arith)) ∙ ap (λ xs. slice_index xs k) same.0 ∙ theirs.cell_each k (omega arith) in
-      let speed = sym (ours.speed_each k (omega arith)) ∙ ap (λ xs. slice_index xs k) same.1 ∙ theirs.speed_each k (omega arith) in
-      λ i. record { number = same.2 k before i; cell = cell i; speed = speed i }),
-  λ same. (
-    ext_get_or 0 cells cells' (omega arith) (λ k before. ours.cell_each k before ∙ ap (λ cars. (nth_car cars k).cell) same ∙ sym (theirs.cell_each k (omega arith))),
-    ext_get_or 0 speeds speeds' (omega arith) (λ k before. ours.speed_each k before ∙ ap (λ cars. (nth_car cars k).speed) same ∙ sym (theirs.speed_each k (omega arith))),
-    λ k before. ap (λ cars. (nth_car cars k).number) same,
-  ),
-)
+      λ same. ext_get_or (record { number = 0; cell = 0; speed = 0 }) (cars_of a) (cars_of b) long (λ k before.
+          let cell = sym (ours.cell_each k (omega arith)) ∙ ap (λ xs. slice_index xs k) same.0 ∙ theirs.cell_each k (omega arith) in
+          let speed = sym (ours.speed_each k (omega arith)) ∙ ap (λ xs. slice_index xs k) same.1 ∙ theirs.speed_each k (omega arith) in
+          λ i. record { number = same.2 k before i; cell = cell i; speed = speed i }),
+      λ same. (
+        ext_get_or 0 cells cells' (omega arith) (λ k before. ours.cell_each k before ∙ ap (λ cars. (nth_car cars k).cell) same ∙ sym (theirs.cell_each k (omega arith))),
+        ext_get_or 0 speeds speeds' (omega arith) (λ k before. ours.speed_each k before ∙ ap (λ cars. (nth_car cars k).speed) same ∙ sym (theirs.speed_each k (omega arith))),
+        λ k before. ap (λ cars. (nth_car cars k).number) same,
+      ),
+    )
