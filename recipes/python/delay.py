@@ -62,7 +62,8 @@ class Journeys:
     @classmethod
     def of(cls, lab: RoadLab, at: str, to: int, first: int = 0) -> Journeys:
         """Asks a replica for its cars and rows up to a step, which it has simulated."""
-        states = ([car.number for car in lab.cars(at, step)] for step in range(first, to + 1))
+        states = ([number for number, _, _ in lab.command("cars", at, step=step)["cars"]]
+                  for step in range(first, to + 1))
         return cls.read(states, lab.diagram(at, first, to), first)
 
     @property

@@ -384,20 +384,21 @@ class Reasons:
 
     def hear(self, line: bytes, reply: dict[str, Any]) -> str | None:
         """The next line with its reply: why it was refused, or None where it was not."""
-        is_plan, self._is_first = self._is_first, False
         refusal = reply.get("refused")
         if refusal is None:
-            self._note(is_plan, value_of(line), reply)
+            self.accept(value_of(line), reply)
             return None
+        is_plan, self._is_first = self._is_first, False
         try:
             faults = list(self._faults(is_plan, line, refusal))
         except (ValueError, RecursionError) as fault:
             faults = [str(fault)]
         return first_of(faults)
 
-    def _note(self, is_plan: bool, value: Any, reply: dict[str, Any]) -> None:
-        if is_plan:
-            self._plan = value
+    def accept(self, value: Any, reply: dict[str, Any]) -> None:
+        """The next line, by its value, which was not refused."""
+        if self._is_first:
+            self._plan, self._is_first = value, False
             return
         (verb, given), = value.items()
         if verb == "advance":

@@ -225,9 +225,9 @@ class RoadLab:
             said = self._process.stderr.read().decode(errors="replace").strip()
             raise Ended(self._process.wait(), said)
         answer = json.loads(reply)
-        why = self._reasons.hear(text, answer)
-        if why is not None:
-            raise Refused(answer["refused"], why, text.decode())
+        if "refused" in answer:
+            raise Refused(answer["refused"], self._reasons.hear(text, answer), text.decode())
+        self._reasons.accept(line, answer)
         return answer
 
     def command(self, verb: str, at: str | None = None, /, **fields: Any) -> dict[str, Any]:
