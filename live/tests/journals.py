@@ -10,9 +10,9 @@ import unittest
 from typing import Any
 
 import running
-from client import Refused, Seat
+from client import Seat
 from journal import Broken, Journal, NotWritten, lock, read
-from running import LIVE, Case, Server
+from running import LIVE, Case
 from state import State
 
 GESTURES = [{"gesture": {"seat": 1, "key": f"k{count}", "stamp": [count, 65], "who": "Ada", "when": 1,
