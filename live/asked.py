@@ -13,7 +13,7 @@ from typing import Any, Callable
 
 sys.path.append(str(Path(__file__).resolve().parent.parent / "recipes" / "python"))
 from journal import packed  # noqa: E402
-from refusals import EDIT, GREATEST, Reasons, kind, list_of, put, row_of, shown, value_of, whole  # noqa: E402
+from refusals import GREATEST, Reasons, kind, list_of, put, row_of, shown, value_of, whole  # noqa: E402
 
 NOT_A_COMMAND = "not a command"
 MOST_EDITS = 1_200  # of a gesture: its line is one import

@@ -14,6 +14,7 @@ from typing import Any
 import aiohttp
 
 LONGEST_REPLY = 1 << 26
+PATIENCE = 120.0
 
 
 class Refused(Exception):
@@ -93,8 +94,12 @@ class Seat:
         waiting: asyncio.Future[dict[str, Any]] = asyncio.get_running_loop().create_future()
         waiting.add_done_callback(lambda one: one.cancelled() or one.exception())  # if the send fails nobody asks
         self._open[self._number] = waiting
-        await self._socket.send_str(json.dumps({"id": self._number, verb: fields}))
-        return await waiting
+        try:
+            async with asyncio.timeout(PATIENCE):
+                await self._socket.send_str(json.dumps({"id": self._number, verb: fields}))
+                return await waiting
+        except TimeoutError:
+            raise ConnectionError(f"the server has not answered `{verb}` for {PATIENCE:.0f} seconds") from None
 
     async def say(self, verb: str, **fields: Any) -> dict[str, Any]:
         """The reply to a command, or `Refused`."""

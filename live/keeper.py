@@ -212,7 +212,7 @@ class Keeper:
     async def _bring(self, program: Program, index: int) -> bool:
         """One piece of what a replica of this program lacks; whether it lacks nothing."""
         seat, fed = self.state.seats[index], program.fed.get(index, 0)
-        if fed == len(seat.gestures):
+        if fed >= len(seat.gestures):
             to = self.wanted.get(index, 0)
             return program.horizons.get(seat.at, 0) >= to or await program.advance(seat.at, to) >= to
         edits: list[Any] = []

@@ -2,13 +2,13 @@
 from __future__ import annotations
 
 import json
-from typing import Any, Iterable, Union
+from typing import Any, Union
 
 import preview
 import rows
 import saving
 from asked import Asked, Refused
-from gestures import hidden, overruled, told, written
+from gestures import hidden, told
 from journal import packed
 from keeper import LAST_STEP, SHARED, Times
 from lab import AHEAD, Lab

@@ -12,7 +12,9 @@ import collections
 import hashlib
 import json
 import logging
+import platform
 import time
+from pathlib import Path
 from types import TracebackType
 from typing import Any, Callable, Deque, Iterable, NamedTuple
 
@@ -56,7 +58,7 @@ class Sites:
 
     def __init__(self, lab: Lab, tell: Callable[[], None], options: argparse.Namespace) -> None:
         self._lab, self._tell, self._options = lab, tell, options
-        self._road = lab.reference
+        self._road, self._id = lab.reference, f"{lab.state.folder}-{place_of(lab.folder)}"
         self._connected = False
         self._sites: dict[str, Site] = {}
         self._told: Deque[str] = collections.deque(maxlen=TOLD)
@@ -90,7 +92,7 @@ class Sites:
 
     def _new_client(self) -> mqtt.Client:
         options = self._options
-        client = mqtt.Client(client_id=f"live-{self._lab.state.folder}", clean_session=False)
+        client = mqtt.Client(client_id=f"live-{self._id}", clean_session=False)
         client.on_message, client.on_connect, client.on_disconnect = self._on_message, self._on_connect, self._on_gone
         client.reconnect_delay_set(1, 5)
         if options.broker_user:
@@ -168,8 +170,7 @@ class Sites:
         self._send_unsent()
 
     def _present(self) -> None:
-        state = self._lab.state
-        self._publish(SITES, {"folder": state.folder, "site": state.site, "road": self._road}, 0)
+        self._publish(SITES, {"folder": self._id, "site": self._lab.state.site, "road": self._road}, 0)
 
     async def _announce(self) -> None:
         while True:
@@ -179,7 +180,7 @@ class Sites:
                 self._send_unsent()
                 unsent = self._lab.state.unsent
                 self._sent = {gesture: when for gesture, when in self._sent.items() if gesture in unsent}
-                self._publish(f"road/{self._road}/sum", {"folder": self._lab.state.folder, "sum": await self._sum(),
+                self._publish(f"road/{self._road}/sum", {"folder": self._id, "sum": await self._sum(),
                                                          "numbers": self._numbers()}, 0)
                 self._tell()
             except Refused as fault:
@@ -224,7 +225,7 @@ class Sites:
 
     def _heard_site(self, value: Any) -> None:
         folder, number, road = site_of(value)
-        if folder == self._lab.state.folder:
+        if folder == self._id:
             return
         is_new = folder not in self._sites
         self._sites[folder] = Site(number, road, time.time())
@@ -259,7 +260,7 @@ class Sites:
 
     async def _heard_sum(self, value: Any) -> None:
         folder, theirs, numbers = sum_of(value)
-        if folder == self._lab.state.folder or self._twin() is not None:
+        if folder == self._id or self._twin() is not None:
             return
         ours = await self._sum()
         pair_now = theirs, ours
@@ -281,6 +282,15 @@ class Sites:
         logging.info("another site holds other edits: telling %d gestures", len(lacking))
         for gesture in lacking:
             self._send(gesture)
+
+
+def place_of(folder: Path) -> str:
+    """Where a folder stands: a copy of it elsewhere is another one."""
+    try:
+        machine = Path("/etc/machine-id").read_text(encoding="ascii")
+    except OSError:
+        machine = platform.node()
+    return hashlib.sha256(f"{machine} {folder.resolve()}".encode("utf-8", "replace")).hexdigest()[:8]
 
 
 def needs_tls(options: argparse.Namespace) -> bool:

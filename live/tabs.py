@@ -19,8 +19,8 @@ from typing import Any, Callable, Deque, Mapping, Union
 
 from aiohttp import WSMsgType, web
 
-from asked import LONGEST_NAME, MOST_EDITS, NOT_A_COMMAND, Asked, Refused, not_a_command
-from journal import Broken, packed
+from asked import LONGEST_NAME, MOST_EDITS, Asked, Refused, not_a_command
+from journal import packed
 from keeper import SHARED, Times
 from lab import AHEAD, Lab
 from questions import MOST_BYTES, MOST_ROWS, Questions

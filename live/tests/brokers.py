@@ -4,13 +4,14 @@ from __future__ import annotations
 import asyncio
 import json
 import os
+import shutil
 import signal
 from typing import Any, Callable
 
 from client import Seat
 from journal import packed
 from road_lab import Edit, Plan, RoadLab
-from running import SMALL, Broker, Case, Server
+from running import SMALL, Broker, Case, Server, end, new_folder
 
 TOTALS = {"from": 0, "to": 100}
 
@@ -148,6 +149,16 @@ class Brokers(Case):
         third = self.site(broker, 8)
         async with third.seat("Tom") as tom, first.seat(key=ada.key) as ada:  # once the other is gone it goes on
             await self.same(ada, tom, edits=1)
+
+    async def test_a_copied_folder_is_told(self) -> None:
+        broker = self.broker()
+        first = self.site(broker, 7)
+        copy = new_folder() / "copy"
+        shutil.copytree(first.folder, copy)
+        second = Server(copy, None, "--broker", broker.address)
+        self.addCleanup(lambda: end(second.process))
+        async with first.seat("Ada") as ada, second.seat("Sam") as sam:
+            await until(lambda: self.is_told("has this site's number, 7", ada, sam))
 
     async def test_another_seed_is_told(self) -> None:
         broker = self.broker()

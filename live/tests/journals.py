@@ -10,9 +10,9 @@ import unittest
 from typing import Any
 
 import running
-from client import Refused, Seat
+from client import Seat
 from journal import Broken, Journal, NotWritten, lock, read
-from running import LIVE, Case, Server
+from running import LIVE, Case
 from state import State
 
 GESTURES = [{"gesture": {"seat": 1, "key": f"k{count}", "stamp": [count, 65], "who": "Ada", "when": 1,
@@ -169,6 +169,7 @@ class Folders(Case):
             self.assertEqual((await ben.ask("scenario"))["edits"], [])
             resource.prlimit(server.process.pid, resource.RLIMIT_FSIZE, (resource.RLIM_INFINITY, resource.RLIM_INFINITY))
             self.assertEqual((await ada.ask("gesture", key="full 10", edits=[["block", 60, 10, 1]]))["stamp"], [2, 65])
+            await ada.reply("ping")  # what is told comes behind the reply
             troubles = [one["trouble"] for one in ada.told if "trouble" in one]
             self.assertEqual([bool(one) for one in troubles][-2:], [True, False])
             held = (await ada.ask("scenario"))["edits"]

@@ -185,6 +185,13 @@ class Case(unittest.IsolatedAsyncioTestCase):
     def _setupAsyncioRunner(self) -> None:
         self._asyncioRunner = asyncio.Runner()  # without the debug mode, in which 63 tabs take minutes
 
+    def assertEqual(self, first: Any, second: Any, msg: Any = None) -> None:
+        """Shows where the two differ; unittest's own search takes minutes for rows."""
+        if first != second:
+            texts = repr(first), repr(second)
+            at = max(0, len(os.path.commonprefix(texts)) - 100)
+            raise self.failureException(f"{texts[0][at:at + 400]}\n  is not {texts[1][at:at + 400]}: {msg}")
+
     def server(self, *more: str, plan: dict[str, Any] | None = None, **environment: str) -> Server:
         server = Server(None, plan, *more, **environment)
         self.addCleanup(end, server.process)
