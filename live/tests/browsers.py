@@ -21,7 +21,7 @@ from selenium.webdriver.support.ui import Select
 LIVE = Path(__file__).resolve().parent.parent
 TOP = LIVE.parent
 SCREENSHOTS = os.environ.get("SCREENSHOTS")
-PATIENCE = 40.0  # seconds
+PATIENCE = 90.0  # seconds
 
 # The road of examples/closed_cell: cars gain speed up to 3, none is slowed.
 FREE_ROAD = {"detectors": [28], "exit": 1, "inlets": [[0, 65536]], "length": 40, "words": "steady", "zone": 40,
