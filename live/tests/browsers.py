@@ -12,6 +12,7 @@ from unittest import TestCase as Test
 
 from running import Server, free_port
 from selenium import webdriver
+from selenium.common.exceptions import StaleElementReferenceException
 from selenium.webdriver.chrome.service import Service
 from selenium.webdriver.common.action_chains import ActionChains
 from selenium.webdriver.common.by import By
@@ -21,7 +22,7 @@ from selenium.webdriver.support.ui import Select
 LIVE = Path(__file__).resolve().parent.parent
 TOP = LIVE.parent
 SCREENSHOTS = os.environ.get("SCREENSHOTS")
-PATIENCE = 40.0  # seconds
+PATIENCE = 90.0  # seconds
 
 # The road of examples/closed_cell: cars gain speed up to 3, none is slowed.
 FREE_ROAD = {"detectors": [28], "exit": 1, "inlets": [[0, 65536]], "length": 40, "words": "steady", "zone": 40,
@@ -114,13 +115,22 @@ class Tab:
     # What is done
 
     def press(self, name: str, within: str = "body") -> None:
-        """Presses the button that is called so."""
-        for one in self.driver.find_elements(By.CSS_SELECTOR, f"{within} button"):
-            if one.is_displayed() and one.accessible_name.startswith(name):
-                self.script("arguments[0].scrollIntoView({block: 'center'})", one)
-                one.click()
-                return
-        raise AssertionError(f"no button {name} in {within}")
+        """Presses the button that is called so, once it is there."""
+        self.until(lambda: self._pressed(name, within), f"a button {name} in {within}")
+
+    def _pressed(self, name: str, within: str) -> bool:
+        one = self.script("""
+            const one = [...document.querySelectorAll(`${arguments[1]} button`)].find((one) => one.checkVisibility()
+              && !one.disabled && (one.ariaLabel || one.textContent.trim()).startsWith(arguments[0]));
+            one?.scrollIntoView({block: "center"});
+            return one ?? null;""", name, within)
+        if one is None:
+            return False
+        try:
+            one.click()
+        except StaleElementReferenceException:  # the list was shown anew just then
+            return False
+        return True
 
     def tool(self, kind: str) -> None:
         self.script("document.querySelector(`input[name=tool][value=${arguments[0]}]`).click()", kind)
