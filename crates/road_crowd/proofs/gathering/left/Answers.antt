@@ -1,4 +1,4 @@
--- The journal is what the sessions wrote, so the sheet is that of the crowd.
+-- All sessions came back, so the store is closed; the journal is what they wrote, so the sheet is that of the crowd.
 use Rattle.std.proofs.Common.{◌≡◌, ◌∙◌, ap, arith, subst, sym}
 use Rattle.std.specs.Prelude.{IfOk, string_bytes, ℕ}
 use Rattle.std.specs.Arc.{arc_value}
@@ -7,6 +7,7 @@ use Rattle.road_sheet.specs.Sheets.{Sheet}
 use Rattle.road_sheet.specs.Shown.{row_at}
 use Rattle.road_replica.specs.Crowds.{shares_of}
 use Rattle.road_crowd.proofs.CrowdJournals.{closed_sheet, length_of_crowd}
+use Rattle.road_crowd.proofs.CrowdSessions.{all_given}
 use Rattle.road_crowd.proofs.gathering.left.Goals as goal
 
 pub shown-requires-clause-simulated : goal.shown-requires-clause-simulated
@@ -21,23 +22,28 @@ shown-requires-clause-few g c =
     let count = length_of_crowd c.in-Ok-close.closed.journal.items c.in_ok-sessions.sessions.items (shares_of c.args.shares.now) c.args.task.now.to c.in-Ok-close.ensures.journal c.in_ok-sessions.ensures in
     let most = c.requires.within in omega arith
 
-pub returns-in-Ok-close-clause-edits : goal.returns-in-Ok-close-clause-edits
-returns-in-Ok-close-clause-edits g c =
+pub returns-clause-edits : goal.returns-clause-edits
+returns-clause-edits g c =
     let closed = c.in-Ok-close.ensures in
     subst (λ (s : Sheet). IfOk c.shown.result (λ crowd. crowd.edits.items ≡ items s.edits))
     (closed_sheet (arc_value c.args.plan.now) _ _ c.in-Ok-close.closed.journal.items c.in_ok-sessions.sessions.items c.args.shares.now c.args.task.now.to
     (sym c.requires.named.1 ∙ c.requires.opening) closed.sheet closed.all.1 closed.journal c.in_ok-sessions.ensures c.requires.some)
     c.shown.ensures.edits
 
-pub returns-in-Ok-close-clause-journal : goal.returns-in-Ok-close-clause-journal
-returns-in-Ok-close-clause-journal g c =
+pub returns-clause-journal : goal.returns-clause-journal
+returns-clause-journal g c =
     let count = length_of_crowd c.in-Ok-close.closed.journal.items c.in_ok-sessions.sessions.items (shares_of c.args.shares.now) c.args.task.now.to c.in-Ok-close.ensures.journal c.in_ok-sessions.ensures in
     subst (λ (n : ℕ). IfOk c.shown.result (λ crowd. crowd.journal ≡ n)) count c.shown.ensures.journal
 
-pub returns-in-Ok-close-clause-row : goal.returns-in-Ok-close-clause-row
-returns-in-Ok-close-clause-row g c =
+pub returns-clause-row : goal.returns-clause-row
+returns-clause-row g c =
     let closed = c.in-Ok-close.ensures in
     subst (λ (s : Sheet). IfOk c.shown.result (λ crowd. string_bytes crowd.row ≡ row_at s.plan s.edits c.args.task.now.to))
     (closed_sheet (arc_value c.args.plan.now) _ _ c.in-Ok-close.closed.journal.items c.in_ok-sessions.sessions.items c.args.shares.now c.args.task.now.to
     (sym c.requires.named.1 ∙ c.requires.opening) closed.sheet closed.all.1 closed.journal c.in_ok-sessions.ensures c.requires.some)
     c.shown.ensures.row
+
+pub unreachable-requires : goal.unreachable-requires
+unreachable-requires g c =
+    c.in-Err.ensures.all.1 (all_given g.J.Ledger.parts c.in_ok-sessions.sessions.items c.args.shares.now c.args.task.now.to
+    (sym c.requires.named.3 ∙ c.args.prepared.parts ∙ c.requires.one_each) c.in_ok-sessions.ensures)
