@@ -162,6 +162,25 @@ class Crashes(Case):
     def changes(self, seat: Seat) -> int:
         return max((one["program"]["changes"] for one in seat.told if "program" in one), default=0)
 
+    async def test_it_ends_by_an_interrupt_with_tabs_open(self) -> None:
+        """One of them does not read."""
+        server = self.server(plan=PLAN)
+        ada, deaf = [await server.seat(name).__aenter__() for name in ("Ada", "deaf")]
+        await ada.ask("gesture", key="1", edits=[["block", 30, 10, 1]])
+        transport = deaf._socket._response.connection.transport
+        transport.pause_reading()
+        began = time.monotonic()
+        self.assertEqual(await asyncio.get_running_loop().run_in_executor(None, server.stop), 0)
+        self.assertLess(time.monotonic() - began, 15)
+        with self.assertRaisesRegex(ConnectionError, "1012"):
+            await ada.reply("ping")
+        transport.resume_reading()
+        for seat in (ada, deaf):
+            await seat.__aexit__(None, None, None)
+        server.start()
+        async with server.seat(key=ada.key) as ada:
+            self.assertEqual(len((await ada.ask("scenario"))["edits"]), 1)
+
     async def test_a_program_that_cannot_go_on_is_told(self) -> None:
         server = self.server(plan=PLAN)
         async with server.seat("Ada") as ada:
