@@ -15,7 +15,7 @@ car that enters in step 5 and leaves in step 105 stands in rows 6 to 105, and ta
 from __future__ import annotations
 
 from dataclasses import dataclass
-from typing import TYPE_CHECKING, Iterable, NamedTuple
+from typing import TYPE_CHECKING, Callable, Iterable, NamedTuple
 
 if TYPE_CHECKING:
     from road_lab import RoadLab
@@ -184,7 +184,7 @@ def delay(before: Journeys, after: Journeys, period: int = 60) -> Delay:
     return cost
 
 
-def parted(numbers: Iterable[int], key) -> dict[int, list[int]]:
+def parted(numbers: Iterable[int], key: Callable[[int], int]) -> dict[int, list[int]]:
     """The numbers by their keys, in rising keys."""
     parts: dict[int, list[int]] = {}
     for number in numbers:
