@@ -31,6 +31,7 @@ class Held {
 const live = {
   me: null, plan: null, line: null, mine: null, shared: null, held: null, common: null,
   pending: new Map(),           // gestures that are not confirmed, by key: sent again after a break
+  wishes: null,                 // as whom to join
   ahead: 0, changing: null, beforeOpen: null, timings: [],
   clock: {now: 0, rate: 0},
 
@@ -242,14 +243,15 @@ function takeToken() {
 }
 
 function greet() {
-  if (stored("key")) hello({key: stored("key")});
-  else if (stored("name")) hello({name: stored("name")});
+  if (live.wishes) hello(live.wishes);
+  else if (stored("key")) hello({key: stored("key")});
   else askName();
 }
 
 async function hello(fields) {
   const said = await live.line.ask({hello: {token: stored("token"), ...fields}}).catch(() => null);
   if (!said) return;
+  live.wishes = null;
   if (said.welcome) welcome(said.welcome);
   else {
     sessionStorage.removeItem("key");
@@ -257,14 +259,22 @@ async function hello(fields) {
   }
 }
 
+/** Joins with a name, or as a seat that nobody has open. */
+function join(fields) {
+  live.wishes = fields;
+  live.line.connect();
+}
+
 /** Asks who this is: a new name, or a seat that nobody has open. */
 async function askName(why = "", seats = null) {
   $("helloSaid").textContent = why;
   const found = seats ?? (await live.line.ask({seats: {token: stored("token")}}).catch(() => ({}))).seats ?? [];
+  live.line.rest();
   const free = found.filter(({here, name}) => !here && name);
   $("seats").hidden = !free.length;
   $("seatList").replaceChildren(...free.map(({seat, name, private: own}) => element("li", "", {},
-    button(`${name}, seat ${seat}${own ? `, ${plural(own, "change")} not shared` : ""}`, () => hello({take: seat})))));
+    button(`${name}, seat ${seat}${own ? `, ${plural(own, "change")} not shared` : ""}`, () => join({take: seat})))));
+  if (!$("name").value) $("name").value = stored("name");
   if (!$("hello").open) $("hello").showModal();
   $("name").focus();
 }
@@ -409,7 +419,7 @@ function listen() {
   on("saveChanges", "click", saveChanges);
   on("asTable", "toggle", () => { if (live.plan) showFigures(); });
   on("hello", "cancel", (event) => event.preventDefault());
-  on("helloForm", "submit", (event) => { event.preventDefault(); hello({name: $("name").value.trim()}); });
+  on("helloForm", "submit", (event) => { event.preventDefault(); join({name: $("name").value.trim()}); });
   new ResizeObserver(() => live.look()).observe($("diagram"));
 }
 
