@@ -110,11 +110,13 @@ const live = {
 
 /** Says what was taken, and which own gestures lost to it. */
 function tellTaken(fresh, before) {
+  const now = (gesture) => standing(live.held.scenario, gesture);
   const lost = [...before].filter(([gesture, was]) =>
-    lossesOf(gesture, standing(live.held.scenario, gesture)).length > lossesOf(gesture, was).length).map(([gesture]) => gesture);
+    lossesOf(gesture, now(gesture)).length > lossesOf(gesture, was).length);
   const from = [...new Set(fresh.map(({who}) => who || "somebody"))].join(", ");
-  tell(`Took ${plural(fresh.length, "change")}${from ? " of " + from : ""}. ` + (lost.length
-    ? `${plural(lost.length, "change")} of yours lost to them, whole or in part.` : "Nothing of yours lost."), lost.length > 0);
+  const losses = lost.length ? `${plural(lost.length, "change")} of yours lost to them, whole or in part.`
+    : "Nothing of yours lost.";
+  tell(`Took ${plural(fresh.length, "change")}${from ? " of " + from : ""}. ${losses}`, lost.length > 0);
 }
 
 // Gestures on their way.
@@ -308,7 +310,8 @@ function layRoad(plan) {
   Object.assign(live, {plan, mine: new Road("", plan.length), shared: new Road("shared", plan.length),
                        held: new Held(plan), common: new Held(plan)});
   look.cells = plan.length;
-  for (let limit = 0; limit <= 9; limit++) $("limit").append(new Option(limitName(limit), limit, limit === 2, limit === 2));
+  for (let limit = 0; limit <= 9; limit++) $("limit").append(new Option(limitName(limit), limit));
+  $("limit").value = 2;
   plan.inlets.forEach(([cell], index) => $("inlet").append(new Option(`the inlet at ${kmText(cell)} km`, index)));
   plan.detectors.forEach((cell, index) => $("site").append(new Option(`the detector at ${kmText(cell)} km`, index)));
   document.querySelector("[value=watch]").disabled = !plan.detectors.length;
@@ -335,7 +338,9 @@ const HEARD = {
     const ran = live.clock.rate;
     Object.assign(live.clock, {now, rate});
     $("clock").textContent = timeText(now);
-    for (const one of $("rates").children) one.setAttribute("aria-pressed", String(Number(one.dataset.rate) === rate));
+    for (const one of $("rates").children) {
+      one.setAttribute("aria-pressed", String(Number(one.dataset.rate) === rate));
+    }
     $("back").hidden = live.ahead <= now;
     if (ran && !rate) live.shared.version++;
     live.look();

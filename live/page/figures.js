@@ -148,11 +148,12 @@ function showFigures() {
   askCounts(period);
   const [mine, shared] = figures.sums = ["mine", "shared"].map((whose) => sumsOf(whose, period));
   $("period").textContent = period[1] > period[0] ? `${timeText(period[0])} to ${timeText(period[1])}` : "";
+  const heads = ["mine", "shared", "mine \u2212 shared"].map((name) => headCell(name));
   $("figures").replaceChildren(
-    element("thead", "", {}, row(element("td"), ...["mine", "shared", "mine \u2212 shared"].map((name) => headCell(name)))),
+    element("thead", "", {}, row(element("td"), ...heads)),
     element("tbody", "", {}, ...sumRows(mine, shared), ...detectorRows()));
-  $("figuresNote").textContent = "A car that an inlet does not let in spends no vehicle hours, so read these with the "
-    + "lost demand beside them. Speeds at detectors are means of the cars that passed; standing cars never do.";
+  $("figuresNote").textContent = "A car that an inlet does not let in spends no vehicle hours, so read these "
+    + "with the lost demand beside them. Speeds at detectors are means of the cars that passed; standing cars never do.";
   showWarnings(period);
   showOwnPreview();
   if ($("asTable").open) showSpeeds(period);

@@ -44,12 +44,13 @@ function meta({who, stamp, when}) {
 
 function lineButtons({gesture, losses}) {
   const about = noteOf(gesture);
-  const buttons = [button("Show", () => showGesture(gesture), about)];
-  if (isOwn(gesture) && gesture.shape) buttons.push(button("Change", () => beginChange(gesture), about));
-  buttons.push(button("Withdraw", () => live.withdraw(gesture), about));
-  if (isOwn(gesture) && !gesture.shared) buttons.push(button("Share…", () => openBefore("share", [gesture]), about));
-  if (losses.length && gesture.shape) buttons.push(button("Put mine again", () => live.putAgain(gesture), about));
-  return buttons;
+  const own = isOwn(gesture);
+  return [[true, "Show", () => showGesture(gesture)],
+          [own && gesture.shape, "Change", () => beginChange(gesture)],
+          [true, "Withdraw", () => live.withdraw(gesture)],
+          [own && !gesture.shared, "Share…", () => openBefore("share", [gesture])],
+          [losses.length && gesture.shape, "Put mine again", () => live.putAgain(gesture)]]
+    .filter(([offered]) => offered).map(([, text, does]) => button(text, does, about));
 }
 
 function lineElement(line) {
