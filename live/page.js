@@ -31,6 +31,7 @@ class Held {
 const live = {
   me: null, plan: null, line: null, mine: null, shared: null, held: null, common: null,
   pending: new Map(),           // gestures that are not confirmed, by key: sent again after a break
+  wishes: null,                 // as whom to join
   ahead: 0, changing: null, beforeOpen: null, timings: [],
   clock: {now: 0, rate: 0},
 
@@ -109,11 +110,13 @@ const live = {
 
 /** Says what was taken, and which own gestures lost to it. */
 function tellTaken(fresh, before) {
+  const now = (gesture) => standing(live.held.scenario, gesture);
   const lost = [...before].filter(([gesture, was]) =>
-    lossesOf(gesture, standing(live.held.scenario, gesture)).length > lossesOf(gesture, was).length).map(([gesture]) => gesture);
+    lossesOf(gesture, now(gesture)).length > lossesOf(gesture, was).length);
   const from = [...new Set(fresh.map(({who}) => who || "somebody"))].join(", ");
-  tell(`Took ${plural(fresh.length, "change")}${from ? " of " + from : ""}. ` + (lost.length
-    ? `${plural(lost.length, "change")} of yours lost to them, whole or in part.` : "Nothing of yours lost."), lost.length > 0);
+  const losses = lost.length ? `${plural(lost.length, "change")} of yours lost to them, whole or in part.`
+    : "Nothing of yours lost.";
+  tell(`Took ${plural(fresh.length, "change")}${from ? " of " + from : ""}. ${losses}`, lost.length > 0);
 }
 
 // Gestures on their way.
@@ -242,14 +245,15 @@ function takeToken() {
 }
 
 function greet() {
-  if (stored("key")) hello({key: stored("key")});
-  else if (stored("name")) hello({name: stored("name")});
+  if (live.wishes) hello(live.wishes);
+  else if (stored("key")) hello({key: stored("key")});
   else askName();
 }
 
 async function hello(fields) {
   const said = await live.line.ask({hello: {token: stored("token"), ...fields}}).catch(() => null);
   if (!said) return;
+  live.wishes = null;
   if (said.welcome) welcome(said.welcome);
   else {
     sessionStorage.removeItem("key");
@@ -257,14 +261,22 @@ async function hello(fields) {
   }
 }
 
+/** Joins with a name, or as a seat that nobody has open. */
+function join(fields) {
+  live.wishes = fields;
+  live.line.connect();
+}
+
 /** Asks who this is: a new name, or a seat that nobody has open. */
 async function askName(why = "", seats = null) {
   $("helloSaid").textContent = why;
   const found = seats ?? (await live.line.ask({seats: {token: stored("token")}}).catch(() => ({}))).seats ?? [];
+  live.line.rest();
   const free = found.filter(({here, name}) => !here && name);
   $("seats").hidden = !free.length;
   $("seatList").replaceChildren(...free.map(({seat, name, private: own}) => element("li", "", {},
-    button(`${name}, seat ${seat}${own ? `, ${plural(own, "change")} not shared` : ""}`, () => hello({take: seat})))));
+    button(`${name}, seat ${seat}${own ? `, ${plural(own, "change")} not shared` : ""}`, () => join({take: seat})))));
+  if (!$("name").value) $("name").value = stored("name");
   if (!$("hello").open) $("hello").showModal();
   $("name").focus();
 }
@@ -298,7 +310,8 @@ function layRoad(plan) {
   Object.assign(live, {plan, mine: new Road("", plan.length), shared: new Road("shared", plan.length),
                        held: new Held(plan), common: new Held(plan)});
   look.cells = plan.length;
-  for (let limit = 0; limit <= 9; limit++) $("limit").append(new Option(limitName(limit), limit, limit === 2, limit === 2));
+  for (let limit = 0; limit <= 9; limit++) $("limit").append(new Option(limitName(limit), limit));
+  $("limit").value = 2;
   plan.inlets.forEach(([cell], index) => $("inlet").append(new Option(`the inlet at ${kmText(cell)} km`, index)));
   plan.detectors.forEach((cell, index) => $("site").append(new Option(`the detector at ${kmText(cell)} km`, index)));
   document.querySelector("[value=watch]").disabled = !plan.detectors.length;
@@ -325,7 +338,9 @@ const HEARD = {
     const ran = live.clock.rate;
     Object.assign(live.clock, {now, rate});
     $("clock").textContent = timeText(now);
-    for (const one of $("rates").children) one.setAttribute("aria-pressed", String(Number(one.dataset.rate) === rate));
+    for (const one of $("rates").children) {
+      one.setAttribute("aria-pressed", String(Number(one.dataset.rate) === rate));
+    }
     $("back").hidden = live.ahead <= now;
     if (ran && !rate) live.shared.version++;
     live.look();
@@ -409,7 +424,7 @@ function listen() {
   on("saveChanges", "click", saveChanges);
   on("asTable", "toggle", () => { if (live.plan) showFigures(); });
   on("hello", "cancel", (event) => event.preventDefault());
-  on("helloForm", "submit", (event) => { event.preventDefault(); hello({name: $("name").value.trim()}); });
+  on("helloForm", "submit", (event) => { event.preventDefault(); join({name: $("name").value.trim()}); });
   new ResizeObserver(() => live.look()).observe($("diagram"));
 }
 

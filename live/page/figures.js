@@ -148,11 +148,12 @@ function showFigures() {
   askCounts(period);
   const [mine, shared] = figures.sums = ["mine", "shared"].map((whose) => sumsOf(whose, period));
   $("period").textContent = period[1] > period[0] ? `${timeText(period[0])} to ${timeText(period[1])}` : "";
+  const heads = ["mine", "shared", "mine \u2212 shared"].map((name) => headCell(name));
   $("figures").replaceChildren(
-    element("thead", "", {}, row(element("td"), headCell("mine"), headCell("shared"), headCell("mine \u2212 shared"))),
+    element("thead", "", {}, row(element("td"), ...heads)),
     element("tbody", "", {}, ...sumRows(mine, shared), ...detectorRows()));
-  $("figuresNote").textContent = "A car that an inlet does not let in spends no vehicle hours, so read these with the "
-    + "lost demand beside them. Speeds at detectors are means of the cars that passed; standing cars never do.";
+  $("figuresNote").textContent = "A car that an inlet does not let in spends no vehicle hours, so read these "
+    + "with the lost demand beside them. Speeds at detectors are means of the cars that passed; standing cars never do.";
   showWarnings(period);
   showOwnPreview();
   if ($("asTable").open) showSpeeds(period);
@@ -168,8 +169,9 @@ function queueWarnings(period) {
     const queues = queuesAt(live.held.scenario, inlet, level.every, rows);
     if (!queues.length) return [];
     const lost = queues.reduce((sum, one) => sum + one.lost, 0);
-    return [`A queue reaches the inlet at ${kmText(cell)} km, about from ${timeText(queues[0].from)} to `
-      + `${timeText(queues.at(-1).to)}: some ${plural(lost, "car")} cannot enter, so counts and vehicle hours flatter.`];
+    const span = `${timeText(queues[0].from)} to ${timeText(queues.at(-1).to)}`;
+    return [`A queue reaches the inlet at ${kmText(cell)} km, about from ${span}: `
+      + `some ${plural(lost, "car")} cannot enter, so counts and vehicle hours flatter.`];
   });
 }
 
@@ -210,7 +212,8 @@ function speedText(sums, other, box) {
   const [one, beside] = [mean(sums), other ? mean(other) : null];
   const closed = sums.closed[box] ? " (closed in part)" : "";
   if (!other) return (one === null ? "no car" : String(Math.round(one))) + closed;
-  if (one === null || beside === null) return one === beside ? "no car" : one === null ? "no car of mine" : "no car of theirs";
+  if (one === null && beside === null) return "no car";
+  if (one === null || beside === null) return one === null ? "no car of mine" : "no car of theirs";
   return signedText(one - beside) + closed;
 }
 

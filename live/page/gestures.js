@@ -250,5 +250,6 @@ function slowAt(scenario, inlet, step) {
 function shapeText(scenario, [kind, first, last, from, to, value]) {
   const slow = kind === "inflow" ? slowAt(scenario, first, from) : 0;
   const what = valueText(scenario.plan, kind, value, first, slow);
-  return `${what}${kind === "block" ? "" : ","} ${placesText(scenario.plan, kind, first, last)}, ${spanText(from, to)}`;
+  const where = placesText(scenario.plan, kind, first, last);
+  return `${what}${kind === "block" ? "" : ","} ${where}, ${spanText(from, to)}`;
 }

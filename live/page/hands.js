@@ -33,8 +33,8 @@ function areaOfShape(shape, old = null) {
   const known = !Number.isNaN(value);
   const note = known ? shapeText(live.held.scenario, shape) : "";
   const slow = kind === "inflow" ? slowAt(live.held.scenario, first, from) : 0;
-  const lines = [known ? valueText(live.plan, kind, value, first, slow) : "", placesText(live.plan, kind, first, last),
-                 spanText(from, to)].filter(Boolean);
+  const what = known ? valueText(live.plan, kind, value, first, slow) : "";
+  const lines = [what, placesText(live.plan, kind, first, last), spanText(from, to)].filter(Boolean);
   let fault = known ? "" : faultOfValue(kind, first, from);
   if (edits.length > MOST_EDITS) fault = tooGreat(shape, edits.length);
   if (from > LAST_STEP || (to ?? 0) > LAST_STEP) fault = `The road's clock ends at ${timeText(LAST_STEP)}.`;
@@ -304,8 +304,9 @@ function showDemandNote() {
   const inlet = Number($("inlet").value);
   const from = Math.min(LAST_STEP, stepOfText($("timeFrom").value) || live.now());
   const value = valueOfTool("inflow", inlet, from);
+  const slow = chanceText(slowAt(live.held.scenario, inlet, from));
   $("demandNote").textContent = Number.isNaN(value) ? faultOfValue("inflow", inlet, from)
-    : `inflow chance ${(value / ALWAYS).toFixed(3)} at slowing ${chanceText(slowAt(live.held.scenario, inlet, from))}`;
+    : `inflow chance ${(value / ALWAYS).toFixed(3)} at slowing ${slow}`;
 }
 
 /** The shape that the form has, or a sentence of what is wrong with it. */

@@ -50,6 +50,14 @@ class Line {
     this.send();
   }
 
+  /** Closes the line until it is connected again: a line without a name is closed by the server soon. */
+  rest() {
+    this.socket.onclose = null;
+    this.socket.close();
+    this.open.clear();
+    this.queue = [];
+  }
+
   /** From now on all may be asked. */
   stands() {
     Object.assign(this, {greeted: true, tries: 0});

@@ -23,6 +23,8 @@ function stateOf(gesture, stands) {
   return gesture.shared ? "shared" : "private";
 }
 
+let linesShown = [];
+
 /** The lines of all lists, newest first, each with the list where it stands. */
 function linesNow() {
   const {list, scenario} = live.held;
@@ -42,12 +44,13 @@ function meta({who, stamp, when}) {
 
 function lineButtons({gesture, losses}) {
   const about = noteOf(gesture);
-  const buttons = [button("Show", () => showGesture(gesture), about)];
-  if (isOwn(gesture) && gesture.shape) buttons.push(button("Change", () => beginChange(gesture), about));
-  buttons.push(button("Withdraw", () => live.withdraw(gesture), about));
-  if (isOwn(gesture) && !gesture.shared) buttons.push(button("Share…", () => openBefore("share", [gesture]), about));
-  if (losses.length && gesture.shape) buttons.push(button("Put mine again", () => live.putAgain(gesture), about));
-  return buttons;
+  const own = isOwn(gesture);
+  return [[true, "Show", () => showGesture(gesture)],
+          [own && gesture.shape, "Change", () => beginChange(gesture)],
+          [true, "Withdraw", () => live.withdraw(gesture)],
+          [own && !gesture.shared, "Share…", () => openBefore("share", [gesture])],
+          [losses.length && gesture.shape, "Put mine again", () => live.putAgain(gesture)]]
+    .filter(([offered]) => offered).map(([, text, does]) => button(text, does, about));
 }
 
 function lineElement(line) {
@@ -70,7 +73,7 @@ const pendingItem = ([key, {note}]) => ({key, sign: note, make: () => element("l
   element("p", note + " ", {className: "note"}, element("span", "pending", {className: "state pending"})))});
 
 function showLists() {
-  const lines = linesNow();
+  const lines = linesShown = linesNow();
   const of = (where) => lines.filter((line) => line.where === where).map(itemOf);
   const own = [...[...live.pending].map(pendingItem), ...of("own")];
   showList($("own"), own);
@@ -83,10 +86,11 @@ function showLists() {
 
 /** The newest own gesture that still acts. */
 function undoable() {
-  return linesNow().find(({gesture, state}) => isOwn(gesture) && state !== "overruled")?.gesture;
+  return linesShown.find(({gesture, state}) => isOwn(gesture) && state !== "overruled")?.gesture;
 }
 
-const unshared = () => linesNow().filter(({gesture}) => isOwn(gesture) && !gesture.shared).map(({gesture}) => gesture);
+const unshared = () => linesShown.map(({gesture}) => gesture)
+  .filter((gesture) => isOwn(gesture) && !gesture.shared);
 
 /** Moves the diagram to a gesture. */
 function showGesture(gesture) {
@@ -175,7 +179,8 @@ function openBefore(what, gestures) {
   live.beforeOpen = {what, whose: chosen("whose"), place: figuresOf, byOwn: shares && givesOwn(gestures)};
   choose("whose", "both");
   live.look();
-  if (!shares) figuresOf.append(element("p", "The diagram shows the difference, and the figures below it have both roads."));
+  const seeDiagram = "The diagram shows the difference, and the figures below it have both roads.";
+  if (!shares) figuresOf.append(element("p", seeDiagram));
   else if (live.beforeOpen.byOwn) showOwnPreview();
   else askPreview(figuresOf, gestures);
 }
@@ -193,15 +198,18 @@ function closeBefore() {
   if (had) $($("own").children.length ? "own" : "held").focus();
 }
 
+const READ_BOTH = "A car that does not enter spends no vehicle hours: read these with the lost demand.";
+
 /** What sharing all would change: the own road beside the shared one, as far as it is there. */
 function showOwnPreview() {
   const {place, byOwn} = live.beforeOpen ?? {};
   const [mine, shared] = figures.sums ?? [];
   if (!byOwn || !mine || !shared || !figures.counts || place.querySelector(".exact")) return;
   const [from, to] = figures.period;
-  const lines = [["Vehicle hours", shared.hours, mine.hours, 1], ["Lost demand, cars (about)", shared.lost, mine.lost, 0]];
+  const lines = [["Vehicle hours", shared.hours, mine.hours, 1],
+                 ["Lost demand, cars (about)", shared.lost, mine.lost, 0]];
   place.replaceChildren(previewTable([from, to], lines, figures.counts[1], figures.counts[0]),
-    element("p", "A car that does not enter spends no vehicle hours: read these with the lost demand.", {className: "hint"}),
+    element("p", READ_BOTH, {className: "hint"}),
     button("Delay car by car (takes a while)", () => askPreview(place, unshared())));
 }
 
@@ -223,8 +231,7 @@ function exactPreview({before, after, from, to, lost_demand: lost, delay_hours: 
                          ["Delay of cars in both, vehicle hours", null, delay, 1]] : [];
   const table = previewTable([from, to], lines, before.detectors, after.detectors);
   table.classList.add("exact");
-  return element("div", "", {}, table, element("p", known
-    ? "A car that does not enter spends no vehicle hours: read these with the lost demand."
+  return element("div", "", {}, table, element("p", known ? READ_BOTH
     : "This is too long for vehicle hours: show a shorter time.", {className: "hint"}));
 }
 

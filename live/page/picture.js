@@ -88,10 +88,12 @@ function drawRows(context, view, width, height) {
     paintDifference(context, view, picture, other, part, how);
     return;
   }
-  if (byMeans(view)) paintMeans(context, view, picture, part, how);
-  else paintCells(context, view, picture, part, how);
-  const held = chosen("whose") === "shared" ? live.common : live.held;
-  if (held.frames.some(({kind}) => kind === "block")) paintClosures(context, view, picture, part, how);
+  if (byMeans(view)) {
+    paintMeans(context, view, picture, part, how);
+    return;
+  }
+  paintCells(context, view, picture, part, how);
+  paintClosures(context, view, picture, part, how);
   drawDetails(context, view, picture, null, part, GREATEST);
 }
 
@@ -149,8 +151,10 @@ function drawEdges(context, view, frame) {
   if (bottom < MARGIN.top || top > height) return null;
   const own = frame.by.stamp[1] === live.me.number;
   const rectangle = [left, Math.max(-10, top), right - left, Math.min(height + 10, bottom) - Math.max(-10, top)];
-  Object.assign(context, {strokeStyle: "rgba(255, 255, 255, 0.85)", lineWidth: 4});
-  context.strokeRect(...rectangle);
+  if (right - left > 8) {
+    Object.assign(context, {strokeStyle: "rgba(255, 255, 255, 0.85)", lineWidth: 4});
+    context.strokeRect(...rectangle);
+  }
   context.setLineDash(frame.pending ? [2, 2] : own ? [] : [7, 4]);
   Object.assign(context, {strokeStyle: FRAME[frame.kind], lineWidth: 2});
   context.strokeRect(...rectangle);

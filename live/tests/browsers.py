@@ -94,12 +94,14 @@ class Tab:
             if holds():
                 return
             time.sleep(0.03)
-        raise AssertionError(f"waited in vain: {what}; the page says: {self.text('said')}")
+        said = self.driver.find_element(By.TAG_NAME, "body").text[:400]
+        raise AssertionError(f"waited in vain: {what}; the page says: {said}")
 
     def settled(self) -> None:
         """Waits until all is confirmed, asked for and drawn."""
-        self.until(lambda: self.script("return live.pending.size === 0 && asking === 0 && live.line.open.size === 0 "
-                                       "&& !live.line.queue.length && !drawingAsked"), "quiet")
+        self.until(lambda: self.script("return live.pending.size === 0 && asking === 0 && !live.line.queue.length && "
+                                       "[...live.line.open.values()].every(({command}) => command.preview) && "
+                                       "!drawingAsked"), "quiet")
         self.driver.execute_async_script("const done = arguments[0];"
                                          "setTimeout(() => requestAnimationFrame(() => done()), 200)")
 

@@ -241,7 +241,7 @@ class OneFreeway(BrowserCase):
         tab.until(path.exists, "the transcript")
         tab.driver.get((TOP / "viewer" / "index.html").as_uri())
         tab.part("files0").send_keys(str(path))
-        tab.until(lambda: "Ada: steps 0 to 60" in tab.driver.find_element(By.ID, "picture0").text, "the picture")
+        tab.until(lambda: tab.script("return shown.pictures[0]?.rows.length") == 61, "the picture")
         self.assertEqual(tab.text("messages"), "")
         rows = tab.script("return shown.pictures[0].rows.slice(12, 41)")
         self.assertEqual(rows, example_rows(0)[:12] + example_rows(1)[-17:])
@@ -264,6 +264,8 @@ class OneFreeway(BrowserCase):
         tab.tool("block")
         tab.in_figures(kmFrom="30", kmTo="30.2", timeFrom="0:20", timeTo="0:40")
         # Behind the closed cells the road is empty for as long as they are closed: white.
+        tab.script("live.held.frames = []; draw()")
+        tab.settled()
         self.assertEqual(tab.pixel(4013, 2100), COLOURS["#"])
         self.assertEqual(tab.pixel(4060, 2300), COLOURS["."])
         self.assertNotIn("not computed", tab.point(8000, 3500))

@@ -1,6 +1,8 @@
 """Two and three browsers on one road: share, look first, take, overruled, put again, undo; a server that died."""
 from __future__ import annotations
 
+import time
+
 from browsers import FREE_ROAD, FREEWAY, BrowserCase, Tab, example_rows, gestures_of
 from selenium.webdriver.common.action_chains import ActionChains
 from selenium.webdriver.common.by import By
@@ -161,6 +163,7 @@ class TwoTabs(BrowserCase):
         ada.driver.get("about:blank")
         ada.driver.get(self.server.address)
         ada.until(lambda: ada.part("seats").is_displayed(), "the seats")
+        time.sleep(11)   # who takes long to say a name is let in all the same
         self.assertEqual([one.text for one in ada.part("seatList").find_elements(By.TAG_NAME, "button")],
                          ["Ada, seat 1, 1 change not shared"])
         ada.press("Ada, seat 1")
