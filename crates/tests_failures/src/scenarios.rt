@@ -122,12 +122,15 @@ const TWO: Register = Greatest::Of((7, 2));
 
 const THREE: Register = Greatest::Of((7, 3));
 
-// Answers whether a map has just these registers.
+// Answers whether a map has just these registers, in this order.
 fn has_registers(map: &Registers, registers: &[(u32, Register)]) -> bool {
-    map.keys().count() == registers.len()
-        && registers
-            .iter()
-            .all(|(step, register)| map.get(*step) == Some(register))
+    let mut steps = map.keys();
+    for (step, register) in registers {
+        if steps.next() != Some(step) || map.get(*step) != Some(register) {
+            return false;
+        }
+    }
+    steps.next().is_none()
 }
 
 // Returns the map of these registers.
@@ -150,11 +153,23 @@ fn even_steps(alloc: Global, count: u32) -> Option<Registers> {
 
 // Answers whether a map has two at so many even steps from 0 on, but three at some steps, and nothing else.
 fn has_even_and(map: &Registers, count: u32, three: &[u32]) -> bool {
-    let is_three = |step: u32| three.iter().any(|other| *other == step);
-    map.keys().all(|step| step % 2 == 0 && step / 2 < count || is_three(*step))
-        && (0..count).all(|place| map.get(place.saturating_mul(2)).is_some())
-        && map.iter().all(|(step, register)| *register == if is_three(*step) { THREE } else { TWO })
-        && three.iter().all(|step| map.get(*step).is_some())
+    for place in 0..count {
+        if map.get(place.saturating_mul(2)).is_none() {
+            return false;
+        }
+    }
+    for step in three {
+        if map.get(*step) != Some(&THREE) {
+            return false;
+        }
+    }
+    for (step, register) in map.iter() {
+        let is_two = *register == TWO && step % 2 == 0 && step / 2 < count;
+        if !is_two && !three.contains(step) {
+            return false;
+        }
+    }
+    true
 }
 
 // Tries what is made of a map in one page.

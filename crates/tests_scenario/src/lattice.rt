@@ -83,6 +83,17 @@ fn found(alloc: Global, map: &LatMap<u32, Register>) -> Result<Vec<Entry>, OutOf
     Ok(all)
 }
 
+// Tells whether a map has the keys of these entries, in this order.
+fn has_keys(map: &LatMap<u32, Register>, entries: &[Entry]) -> bool {
+    let mut keys = map.keys();
+    for (step, _) in entries {
+        if keys.next() != Some(step) {
+            return false;
+        }
+    }
+    keys.next().is_none()
+}
+
 // Tells whether a map has these entries and no other, by rising keys, each found by its key too.
 fn holds(
     alloc: Global,
@@ -90,7 +101,7 @@ fn holds(
     entries: &[Entry],
 ) -> Result<bool, OutOfMemory> {
     let all = found(alloc, map)?;
-    Ok(all.as_slice() == entries && map.keys().count() == entries.len())
+    Ok(all.as_slice() == entries && has_keys(map, entries))
 }
 
 // Returns what two maps of these puts join to.
