@@ -176,20 +176,29 @@ function openBefore(what, gestures) {
       button(shares ? "Share now" : "Take now", done), button("Not now", closeBefore)));
   $("before").hidden = false;
   $("before").focus();
-  live.beforeOpen = {what, whose: chosen("whose"), place: figuresOf, byOwn: shares && givesOwn(gestures)};
+  clearTimeout(live.beforeOpen?.soon);
+  live.beforeOpen = {whose: live.beforeOpen?.whose ?? chosen("whose"), place: figuresOf,
+                     byOwn: shares && givesOwn(gestures)};
   choose("whose", "both");
   live.look();
   const seeDiagram = "The diagram shows the difference, and the figures below it have both roads.";
   if (!shares) figuresOf.append(element("p", seeDiagram));
   else if (live.beforeOpen.byOwn) showOwnPreview();
-  else askPreview(figuresOf, gestures);
+  else {
+    figuresOf.append(element("p", IS_COMPUTED));
+    live.beforeOpen.soon = setTimeout(() => askPreview(figuresOf, gestures), LOOKS);
+  }
 }
+
+const LOOKS = 1000;             // milliseconds: who shares sooner wants no figures
+const IS_COMPUTED = "This is computed just now: both roads are driven once more, car by car.";
 
 /** Whether the shared road is as the own one is, once these are shared. */
 const givesOwn = (gestures) => gestures.length === unshared().length && !untaken().length;
 
 function closeBefore() {
   if (!live.beforeOpen) return;
+  clearTimeout(live.beforeOpen.soon);
   const had = $("before").contains(document.activeElement);
   $("before").hidden = true;
   choose("whose", live.beforeOpen.whose);
@@ -215,7 +224,7 @@ function showOwnPreview() {
 
 /** Asks the server what sharing these would change, over the period that is shown. */
 async function askPreview(place, gestures) {
-  place.replaceChildren(element("p", "This is computed just now: both roads are driven once more, car by car."));
+  place.replaceChildren(element("p", IS_COMPUTED));
   const [from, to] = periodShown();
   const stamps = gestures.map(({stamp}) => stamp);
   const said = await live.ask({preview: {at: live.me.at, from, to, stamps}});
