@@ -67,5 +67,5 @@ function refocus(list, key, place, text) {
 function download(lines, name, type) {
   const link = element("a", "", {href: URL.createObjectURL(new Blob(lines, {type})), download: name});
   link.click();
-  setTimeout(() => URL.revokeObjectURL(link.href), 10000);
+  setTimeout(() => URL.revokeObjectURL(link.href), 60000);
 }

@@ -85,7 +85,7 @@ class Tab:
         return self.driver.find_element(By.ID, ident)
 
     def text(self, ident: str) -> str:
-        return " ".join(self.part(ident).get_attribute("textContent").split())
+        return " ".join(str(self.script("return document.getElementById(arguments[0]).textContent", ident)).split())
 
     def until(self, holds: Callable[[], Any], what: str) -> None:
         """Waits until something holds."""
@@ -107,8 +107,9 @@ class Tab:
 
     def lines(self, ident: str) -> list[str]:
         """The lines of a list: what was done, and its state."""
-        return [" ".join(one.get_attribute("textContent").split())
-                for one in self.part(ident).find_elements(By.CSS_SELECTOR, "li > .note")]
+        found = self.script("return [...document.querySelectorAll(`#${arguments[0]} > li > .note`)]"
+                            ".map((one) => one.textContent)", ident)
+        return [" ".join(one.split()) for one in found]
 
     def faults(self) -> list[str]:
         return [entry["message"] for entry in self.driver.get_log("browser")

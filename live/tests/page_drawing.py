@@ -201,7 +201,6 @@ class OneFreeway(BrowserCase):
         tab.part("save").find_element(By.TAG_NAME, "summary").click()
         tab.press("Changes as CSV")
         path = self.downloads / "changes.csv"
-        path.unlink(missing_ok=True)
         tab.until(path.exists, "the file")
         line = path.read_text(encoding="utf-8").splitlines()[1]
         self.assertIn(",\"'=1+1,Ada\",\"50 km/h, 0–0.375 km, from 0:20:00 on\",private,", line)
