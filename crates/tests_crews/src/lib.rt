@@ -4,9 +4,9 @@
 #[cfg(test)]
 mod alone;
 #[cfg(test)]
-mod ended;
+mod asked;
 #[cfg(test)]
-mod gates;
+mod ended;
 #[cfg(test)]
 mod meetings;
 #[cfg(test)]

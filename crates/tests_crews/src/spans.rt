@@ -19,7 +19,7 @@ use std::thread::Threads;
 use tests_plans::Parts;
 
 /// The longest road: zones of all kinds, inlets all along it, and detectors on both sides of where it may be cut.
-const LONG: Parts = Parts {
+pub(crate) const LONG: Parts = Parts {
     road: (8_192, 3, 1_024),
     zones: &[
         (9, 0),
@@ -85,8 +85,8 @@ fn settings_of(alloc: Global, plan: &Plan, kind: u32) -> Result<Settings, Fail>
     Ok(settings)
 }
 
-// Makes a span of so many steps by settings of this kind.
-fn span_of(
+/// Makes a span of so many steps by settings of this kind.
+pub(crate) fn span_of(
     alloc: Global,
     plan: &Arc<Plan>,
     kind: u32,

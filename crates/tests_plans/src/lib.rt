@@ -1,14 +1,16 @@
-//! Plans, their worked rows, cars, objects, edits, events and crews that the crates of tests share.
+//! Plans, their worked rows, cars, objects, edits, events, crews and gates that the crates of tests share.
 #![tactic(auto)]
 
 ghost use Rattle.std.specs.Prelude.{◌≡◌};
 
+mod crews;
+mod gates;
+
+pub use crews::{Counting, Leaving, Running, StepByStep};
+pub use gates::{Counter, Meeting};
 use road_cells::Car;
-use road_ends::StepInput;
 use road_plan::{Object, OutOfMemory, Plan, PlanFault, PlanParts, WordKind};
-use road_workers::{Crew, CrewFault};
 use std::alloc::Global;
-use std::sync::Arc;
 
 /// Lists pairs: what is given, and what is wanted of it.
 #[macro_export]
@@ -292,55 +294,5 @@ pub fn car(number: u64, cell: u32, speed: u8) -> Car
         number,
         cell,
         speed,
-    }
-}
-
-/// Answers `WorkersGone` once, after some calls, and computes all other speeds by itself.
-#[derive(Clone, Copy, Debug)]
-pub struct Leaving {
-    /// The calls that are answered before.
-    pub calls_left: u64,
-    /// How often it has answered `WorkersGone`.
-    pub gone: u64,
-}
-
-impl Leaving {
-    /// Makes a crew that leaves after so many calls.
-    pub fn after(calls: u64) -> Leaving
-        ensures { result ≡ record { calls_left = calls; gone = 0 } }
-    {
-        Leaving {
-            calls_left: calls,
-            gone: 0,
-        }
-    }
-}
-
-impl Crew for Leaving {
-    ghost times_gone = { λ crew. crew.gone };
-
-    fn speeds(&mut self, alloc: Global, input: &Arc<StepInput>) -> Result<Vec<u8>, CrewFault> {
-        if self.gone == 0 && self.calls_left == 0 {
-            self.gone = 1;
-            return Err(CrewFault::WorkersGone);
-        }
-        self.calls_left = self.calls_left.saturating_sub(1);
-        Ok(input.speeds(alloc)?)
-    }
-}
-
-/// Computes all speeds by itself and counts its calls.
-#[derive(Clone, Copy, Debug)]
-pub struct Counting {
-    /// The calls so far.
-    pub calls: u64,
-}
-
-impl Crew for Counting {
-    ghost times_gone = { λ _. 0 };
-
-    fn speeds(&mut self, alloc: Global, input: &Arc<StepInput>) -> Result<Vec<u8>, CrewFault> {
-        self.calls = self.calls.saturating_add(1);
-        Ok(input.speeds(alloc)?)
     }
 }
