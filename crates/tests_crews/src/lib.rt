@@ -10,6 +10,8 @@ mod ended;
 #[cfg(test)]
 mod meetings;
 #[cfg(test)]
+mod roads;
+#[cfg(test)]
 mod rows;
 #[cfg(test)]
 mod sameness;

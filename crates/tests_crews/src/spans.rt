@@ -4,6 +4,7 @@ ghost use Rattle.std.specs.Prelude.{◌<◌, ◌≤◌, IfOk};
 ghost use Rattle.std.specs.Arc.{arc_value};
 ghost use Rattle.road_plan.specs.Settings.{Fits};
 
+use crate::roads::random_settings;
 use crate::rows::shared_plan;
 use crate::sizes::queue;
 use road_cells::Road;
@@ -61,8 +62,8 @@ const BLOCKS: &[u32] = &[
     1_024, 2_047, 2_048, 2_731, 4_095, 4_097, 5_461, 6_143, 6_145,
 ];
 
-// Makes settings of one of four kinds: the plan's own; cells blocked; other limits and chances of standing cars; other
-// inflows, with detectors off.
+// Makes settings of a kind: the plan's own; cells blocked; other limits and chances of standing cars; other inflows, with
+// detectors off; each other kind is a seed of random ones.
 fn settings_of(alloc: Global, plan: &Plan, kind: u32) -> Result<Settings, Fail>
     ensures { IfOk result (λ settings. Fits plan.now settings) }
 {
@@ -74,10 +75,11 @@ fn settings_of(alloc: Global, plan: &Plan, kind: u32) -> Result<Settings, Fail>
             settings.limits = vec![in alloc; 9; plan.zones().len()]?;
             settings.starts = vec![in alloc; 45_000; plan.zones().len()]?;
         }
-        _ => {
+        3 => {
             settings.inflows = vec![in alloc; 65_536; plan.inlets().len()]?;
             settings.watched = vec![in alloc; false; plan.detectors().len()]?;
         }
+        seed => settings = random_settings(alloc, plan, seed)?,
     }
     if !settings.fits(plan) {
         return Err(Fail::new("settings that do not fit the plan"));
@@ -148,26 +150,36 @@ fn one_by_one(
 /// Spans, one after another: the kind of settings and the steps of each.
 const SPANS: &[(u32, u32)] = &[(0, 64), (1, 64), (2, 63), (3, 1), (1, 7), (3, 33), (2, 64)];
 
-// What these spans come to one by one, from a queue.
+/// What spans come to one by one, from a queue.
 #[derive(Drop)]
-struct Course {
+pub(crate) struct Course<'a> {
+    spans: &'a [(u32, u32)],
     queue: Road,
-    spans: Vec<Ran>,
+    ran: Vec<Ran>,
 }
 
-// Runs them one by one, from a queue on so many cells.
-fn worked(alloc: Global, plan: &Arc<Plan>, cells: u32) -> Result<Course, Fail> {
+/// Runs spans one by one, from a queue on so many cells.
+pub(crate) fn worked<'a>(
+    alloc: Global,
+    plan: &Arc<Plan>,
+    cells: u32,
+    spans: &'a [(u32, u32)],
+) -> Result<Course<'a>, Fail> {
     let queue = queue(alloc, cells)?;
     let mut road = queue.copied()?;
-    let mut spans = Vec::new(alloc);
+    let mut all = Vec::new(alloc);
     let mut step = 0_u32;
-    for (kind, steps) in SPANS {
+    for (kind, steps) in spans {
         let ran = one_by_one(alloc, plan, *kind, step, *steps, &road)?;
         road = ran.road.copied()?;
-        spans.push(ran)?;
+        all.push(ran)?;
         step = step.saturating_add(*steps);
     }
-    Ok(Course { queue, spans })
+    Ok(Course {
+        spans,
+        queue,
+        ran: all,
+    })
 }
 
 // Compares what a crew makes of these spans.
@@ -176,11 +188,11 @@ fn runs_as_one_by_one<C: Crew>(
     alloc: Global,
     crew: &mut C,
     plan: &Arc<Plan>,
-    course: &Course,
+    course: &Course<'_>,
 ) -> Result<(), Fail> {
     let mut road = course.queue.copied()?;
     let mut step = 0_u32;
-    for ((kind, steps), wanted) in SPANS.iter().zip(course.spans.iter()) {
+    for ((kind, steps), wanted) in course.spans.iter().zip(course.ran.iter()) {
         let span = span_of(alloc, plan, *kind, step, *steps)?;
         let Some(ran) = crew.run(alloc, &span, &road)? else {
             return Err(Fail::new("a crew that runs no spans"));
@@ -199,13 +211,13 @@ fn runs_as_one_by_one<C: Crew>(
     Ok(())
 }
 
-// Compares them by so many lasting workers, from all these queues.
-fn pool_runs<R: Threads + Wait + Abort + Clone + Drop + Send + 'static>(
+/// Compares what so many lasting workers make of them.
+pub(crate) fn pool_runs<R: Threads + Wait + Abort + Clone + Drop + Send + 'static>(
     rt: &R,
     alloc: Global,
     workers: u32,
     plan: &Arc<Plan>,
-    courses: &[Course],
+    courses: &[Course<'_>],
 ) -> Result<(), Fail>
     requires some { 0 < workers }
     requires few { workers ≤ 16 }
@@ -227,7 +239,7 @@ fn lasting_workers_run_spans_as_they_are_one_by_one(rt: HostRuntime) -> Result<(
     let plan = shared_plan(alloc, &LONG)?;
     let mut courses = Vec::new(alloc);
     for cells in QUEUES {
-        courses.push(worked(alloc, &plan, *cells)?)?;
+        courses.push(worked(alloc, &plan, *cells, SPANS)?)?;
     }
     pool_runs(&rt, alloc, 1, &plan, &courses)?;
     pool_runs(&rt, alloc, 2, &plan, &courses)?;
