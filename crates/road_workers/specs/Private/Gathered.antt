@@ -1,5 +1,6 @@
 -- Results that have come from the workers of a pool.
-use Rattle.std.specs.Prelude.{◌≡◌, ℕ, ◌+◌, ◌<◌, List, length, slice_index_or, slice_set, Vec, Result, IfOk, IfSome, IsSome}
+use Rattle.std.specs.Prelude.{◌≡◌, ℕ, ◌+◌, ◌<◌, List, length, slice_index_or, slice_set, Vec, Result}
+use Rattle.std.specs.Prelude.{IfOk, IfSome, IsSome}
 use Rattle.std.specs.declared.option.Option.{Option}
 use Rattle.std.specs.declared.option.Option.TheVariants.{Some, None}
 use Rattle.std.specs.declared.alloc.Global.{Global}
@@ -50,8 +51,9 @@ StretchAnswer = Result StretchRun AllocError
 
 -- it is what the stretch at place w of n comes to, where there is something
 abbrev pub IsRunAt : Span → Array → ℕ → ℕ → StretchAnswer → Type 0
-IsRunAt span a n w answer = IfOk answer (IsRunOf (cut span.plan.cells (cars_of a) n w) (cut span.plan.cells (cars_of a) n (w + 1)) span a)
+IsRunAt span a n w answer = IfOk answer
+    (IsRunOf (cut span.plan.cells (cars_of a) n w) (cut span.plan.cells (cars_of a) n (w + 1)) span a)
 
--- one place for each worker, with its answer where that has come; their stretches are behind so many of the caller's own
+-- one place for each worker, with its answer where that has come; so many stretches before theirs are the caller's own
 abbrev pub AreRun : Span → Array → ℕ → List (Option StretchAnswer) → Type 0
 AreRun span a own places = AreRight (λ w. IsRunAt span a (own + length places) (own + w)) places
