@@ -38,7 +38,7 @@ pub(crate) fn crowd_refusal(plan: &Plan, shares: &[Vec<Edit>], to: u32) -> Optio
         return Some(Refusal::NotACommand);
     }
     let fault = shares_fault(plan, shares, to)?;
-    replica_refusal(fault)
+    replica_refusal(fault).ok()
 }
 
 // Returns whether shares are gathered.

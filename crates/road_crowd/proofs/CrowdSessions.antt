@@ -1,6 +1,11 @@
 -- The sessions of a crowd, with one more at their end.
-use Rattle.std.proofs.Common.{◌≡◌, ◌∙◌, ℕ, ◌+◌, List, [], ◌∷◌, ◌++◌, length, map, sym, ap, arith}
-use Rattle.std.proofs.lemmas.List.{map_push}
+use Rattle.std.proofs.Common.{◌≡◌, ◌∙◌, ℕ, ◌+◌, ◌≤◌, List, [], ◌∷◌, ◌++◌, length, map, refl, sym, subst, ap, arith}
+use Rattle.std.specs.Prelude.{◌≢◌, Vec}
+use Rattle.std.specs.List.{AllByRecursion}
+use Rattle.std.specs.declared.alloc.Global.{Global}
+use Rattle.std.proofs.lemmas.List.{length-map, map_push}
+use Rattle.road_replica.specs.Crowds.{shares_of}
+use Rattle.road_sessions.specs.Closings.{AreAll}
 use Rattle.road_scenario.specs.declared.edit.Edit.{Edit}
 use Rattle.road_sessions.specs.Sessions.{AreNewSessions, Session, new_view, session_of}
 use Rattle.road_sessions.specs.declared.entry.Entry.{Entry}
@@ -27,3 +32,40 @@ all_with_last after last n others share to before at work =
     let here : n ≡ 0 + length others = omega arith in
     map_push work_of after last ∙ (λ i. before i ++ work i ∷ [])
     ∙ ap (λ (k : ℕ). works_from 0 others to ++ (k, share_entries k share to) ∷ []) here ∙ sym (works_last 0 others share to)
+
+first_number : List (ℕ × List Entry) → ℕ
+first_number [] = 0
+first_number (work ∷ works) = work.0
+
+works_behind : List (ℕ × List Entry) → List (ℕ × List Entry)
+works_behind [] = []
+works_behind (work ∷ works) = works
+
+-- sessions above a number do not bear it
+others : (n : ℕ) (s : Session) (ss : List Session) → s.number ≡ n → AllByRecursion (λ (t : Session). n + 1 ≤ t.number) ss → AllByRecursion (λ (t : Session). s.number ≢ t.number) ss
+others n s [] is above = tt
+others n s (t ∷ ss) is above = ((λ same. let up = above.0 in omega arith), others n s ss is above.1)
+
+above_less : (n : ℕ) (ss : List Session) → AllByRecursion (λ (t : Session). n + 1 ≤ t.number) ss → AllByRecursion (λ (t : Session). n ≤ t.number) ss
+above_less n [] above = tt
+above_less n (t ∷ ss) above = ((let up = above.0 in omega arith), above_less n ss above.1)
+
+all_from : (n : ℕ) (ss : List Session) (shares : List (List Edit)) (to : ℕ) → map work_of ss ≡ works_from n shares to
+    → AreAll (length shares) ss × AllByRecursion (λ (t : Session). n ≤ t.number) ss
+all_from n [] [] to work = ((refl, tt), tt)
+all_from n [] (share ∷ shares) to work = let count = ap (λ (works : List (ℕ × List Entry)). length works) work in absurd (omega arith)
+all_from n (s ∷ ss) [] to work = let count = ap (λ (works : List (ℕ × List Entry)). length works) work in absurd (omega arith)
+all_from n (s ∷ ss) (share ∷ shares) to work =
+    let is : s.number ≡ n = ap first_number work in
+    let rest = all_from (n + 1) ss shares to (ap works_behind work) in
+    let count = rest.0.0 in (
+      ((omega arith), (others n s ss is rest.1, rest.0.1)),
+      ((omega arith), above_less n ss rest.1),
+    )
+
+-- sessions that have done the work of all shares are all that a store of so many has
+pub all_given : (parts : ℕ) (ss : List Session) (vecs : List (Vec Edit Global)) (to : ℕ) → parts ≡ length vecs
+    → map work_of ss ≡ works_from 0 (shares_of vecs) to → AreAll parts ss
+all_given parts ss vecs to is work =
+    let same : length (shares_of vecs) ≡ parts = length-map vecs (λ (v : Vec Edit Global). v.items) ∙ sym is in
+    subst (λ (n : ℕ). AreAll n ss) same (all_from 0 ss (shares_of vecs) to work).0

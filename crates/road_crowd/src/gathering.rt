@@ -74,6 +74,8 @@ fn left<J: Naming + Send + Sync, R: Wait + Drop + Send, W: Threads + Wait, G: Ga
         × (prepared.ledger.name ≡ J.name) × (prepared.ledger.parts ≡ J.parts) × (prepared.limit ≡ J.limit) }
     requires opening { prepared.replica ≡ replica_of_plan (arc_value plan.now) 0 }
     requires one_each { prepared.sessions ≡ length shares.now }
+    // The journal has room for each edit and each advance.
+    requires room { crowd_writes (shares_of shares.now) ≤ prepared.limit }
     requires some { 0 < length shares.now }
     requires within { crowd_writes (shares_of shares.now) ≤ MOST_CROWD_WRITES }
     ensures edits { IfOk result (λ crowd. crowd.edits.items ≡ items (crowd_winners (shares_of shares.now))) }
@@ -87,7 +89,8 @@ fn left<J: Naming + Send + Sync, R: Wait + Drop + Send, W: Threads + Wait, G: Ga
     let sessions = in_threads(rt, &shared, sessions, shares, task)?;
     match close(shared, sessions) {
         Ok(closed) => shown(task.alloc, &closed, task.to),
-        Err(_fault) => Err(CrewFault::OutOfMemory),
+        // All its sessions came back.
+        Err(_fault) => unreachable!(),
     }
 }
 

@@ -126,7 +126,7 @@ fn all_worked<
         return Ok(sessions);
     };
     let Some(session) = sessions.pop() else {
-        return Ok(sessions);
+        unreachable!()
     };
     let permit = Permit::of(rt);
     let Some(worker) = start(scope, permit, shared, session, share, task) else {

@@ -53,7 +53,7 @@ fn take<J: Naming, R: Wait + Drop, W: Wait>(
     let scenario = single(alloc, edit)?;
     match session.take(rt, shared, &scenario, &mut Alone, meter) {
         Ok(_wrote) => Ok(()),
-        // The edit fits, the journal has room, and the crew of one loses no worker: there was no memory.
+        // The edit fits, the journal was opened with room for all, and the crew of one loses no worker: there was no memory.
         Err(_fault) => Err(OutOfMemory),
     }
 }

@@ -48,10 +48,10 @@ where
 ///
 /// # Errors
 ///
-/// `Missing` where these are not all sessions of the store, and for no other cause. All that was given is handed back, as
-/// it was.
+/// `Missing` where these are not all sessions of the store, and for no other cause. What the sessions share and the
+/// sessions are handed back as they were: their lock is not opened.
 pub fn close<J: Naming, R: Wait + Drop>(
-    mut shared: Shared<J, R>,
+    shared: Shared<J, R>,
     sessions: Vec<Session<J>>,
 ) -> Result<Closed, CloseFault<J, R>>
     ensures journal { IfOk result (λ closed. IsWrittenBy closed.journal.items sessions.items) }
@@ -59,17 +59,16 @@ pub fn close<J: Naming, R: Wait + Drop>(
         (λ closed. arc_value closed.sheet ≡ (replay J.replica closed.journal.items).sheet) }
     ensures all { MatchResult result (λ _. AreAll J.parts sessions.items)
         (λ fault. (fault.cause ≡ causes.Missing) × ¬ AreAll J.parts sessions.items) }
-    ensures unchanged { IfErr result (λ fault. fault.sessions.items ≡ sessions.items) }
+    ensures unchanged { IfErr result (λ fault. (fault.shared ≡ shared) × (fault.sessions.items ≡ sessions.items)) }
 {
-    let opened = shared.held.get_mut().sessions;
-    if sessions.len() != opened as usize || !are_apart(sessions.as_slice()) {
+    if sessions.len() != shared.sessions as usize || !are_apart(sessions.as_slice()) {
         return Err(CloseFault {
             cause: CloseCause::Missing,
             shared,
             sessions,
         });
     }
-    let Shared { held } = shared;
+    let Shared { held, .. } = shared;
     let mut held = held.into_inner();
     let open = &mut held;
     know_all(sessions.as_slice(), &open.head, &mut open.history);

@@ -55,8 +55,6 @@ where
     pub journal: Vec<Entry>,
     /// How many writes it has room for.
     pub limit: u64,
-    /// How many sessions were opened.
-    pub sessions: u32,
     /// The ledger's book, which counts the accepted writes.
     pub accepted: Book<J>,
     /// A share of no session.
@@ -67,7 +65,6 @@ where
     pub ghost counted: { accepted.total ≡ length journal.items },
     pub ghost few: { limit ≤ MOST_WRITES },
     pub ghost room: { limit ≡ J.limit },
-    pub ghost parts: { J.parts ≡ sessions },
     pub ghost spared: { (spare.parts ≡ 0) × (spare.amount ≡ 0) },
 }
 
@@ -82,7 +79,6 @@ impl<J: Naming, R: Wait + Drop> Drop for Held<J, R> {
             replica: _replica,
             journal: _journal,
             limit: _,
-            sessions: _,
             accepted: _accepted,
             spare: _spare,
         } = self;
@@ -270,15 +266,18 @@ impl<J: Naming, R: Wait + Drop> Held<J, R> {
         }
     }
 
-    // Makes the sessions of a store that was just opened, numbered from 0.
-    pub(crate) fn new_sessions(&self, mut whole: Share<J>) -> Result<Vec<Session<J>>, OpenFault>
+    // Makes so many sessions of a store that was just opened, numbered from 0.
+    pub(crate) fn new_sessions(
+        &self,
+        count: u32,
+        mut whole: Share<J>,
+    ) -> Result<Vec<Session<J>>, OpenFault>
         requires empty { self.now.journal.items ≡ [] }
-        requires whole { (whole.parts ≡ self.now.sessions) × (whole.amount ≡ 0) }
-        ensures { IfOk result
-            (λ sessions. (length sessions.items ≡ self.now.sessions) × AreNewSessions 0 sessions.items) }
+        requires whole { (whole.parts ≡ count) × (whole.amount ≡ 0) }
+        ensures { IfOk result (λ sessions. (length sessions.items ≡ count) × AreNewSessions 0 sessions.items) }
     {
         let mut sessions = Vec::new(self.alloc);
-        for number in 0..self.sessions {
+        for number in 0..count {
             let reader = self.reader()?;
             let seen = self.history.seen();
             let share = whole.split_off(1, 0);
@@ -294,21 +293,21 @@ impl<J: Naming, R: Wait + Drop> Held<J, R> {
         Ok(sessions)
     }
 
-    // Makes the sessions of a store that was just opened, once the writer's queue has its memory.
+    // Makes so many sessions of a store that was just opened, once the writer's queue has its memory.
     pub(crate) fn opening_sessions(
         &mut self,
         published: Published<J>,
+        count: u32,
         whole: Share<J>,
     ) -> Result<Vec<Session<J>>, OpenFault>
         requires empty { self.old.journal.items ≡ [] }
-        requires whole { (whole.parts ≡ J.parts) × (whole.amount ≡ 0) }
-        ensures sessions { IfOk result
-            (λ sessions. (length sessions.items ≡ J.parts) × AreNewSessions 0 sessions.items) }
+        requires whole { (whole.parts ≡ count) × (whole.amount ≡ 0) }
+        ensures sessions { IfOk result (λ sessions. (length sessions.items ≡ count) × AreNewSessions 0 sessions.items) }
         ensures journal { self.new.journal ≡ self.old.journal }
         ensures limit { self.new.limit ≡ self.old.limit }
     {
         self.reserve_queue(published)?;
-        self.new_sessions(whole)
+        self.new_sessions(count, whole)
     }
 
     // Returns the sheet and the journal, and ends the store.
@@ -325,7 +324,6 @@ impl<J: Naming, R: Wait + Drop> Held<J, R> {
             replica,
             journal,
             limit: _,
-            sessions: _,
             accepted: _accepted,
             spare: _spare,
         } = self;

@@ -29,6 +29,9 @@ where
     Published<J>: Absorb<Published<J>>,
 {
     pub(crate) held: Mutex<Held<J, R>>,
+    /// How many sessions were opened.
+    pub(crate) sessions: u32,
+    pub ghost opened: { sessions ≡ J.parts },
 }
 
 /// That something is what the sessions named by `J` share. It says nothing of waiting, and so a look can't wait.
@@ -106,9 +109,11 @@ pub fn open<J: Naming, R: Wait + Drop>(
     requires limit { prepared.limit ≡ J.limit }
     ensures { IfOk result (λ opened. (length opened.1.items ≡ prepared.sessions) × AreNewSessions 0 opened.1.items) }
 {
+    let count = prepared.sessions;
     let (held, sessions) = opened::<J, R>(prepared)?;
     let shared = Shared {
         held: Mutex::new(held),
+        sessions: count,
     };
     Ok((shared, sessions))
 }
@@ -152,11 +157,10 @@ pub fn opened<J: Naming, R: Wait + Drop>(
         replica,
         journal: Vec::new(alloc),
         limit,
-        sessions,
         accepted,
         spare,
     };
-    let sessions = held.opening_sessions(published, whole)?;
+    let sessions = held.opening_sessions(published, sessions, whole)?;
     Ok((held, sessions))
 }
 

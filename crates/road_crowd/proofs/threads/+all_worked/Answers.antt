@@ -38,8 +38,8 @@ returns g t c =
     ap (map work_of) c.in-Ok.ensures.items ∙ all_with_last c.in_ok-after.after.items last promise.number others share to c.in_ok-after.ensures at work
     ∙ ap (λ (l : List (List Edit)). works_from 0 l to) shares
 
-pub returns-in_default-pop : goal.returns-in_default-pop
-returns-in_default-pop g t c =
+pub unreachable-requires : goal.unreachable-requires
+unreachable-requires g t c κs within =
     let whole = c.args.sessions.ok.0 in
     let none = c.in_default-pop.ensures.cases.0 in
     let one = c.requires.one_each in

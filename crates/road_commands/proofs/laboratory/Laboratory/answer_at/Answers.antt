@@ -11,10 +11,10 @@ returns-in-Import g c =
     rw c.in-Import.is (subst Done (import_is c.args.self.now c.args.at c.in-Import.edits) c.change-in-Import.ensures)
 
 pub returns-in-Send : goal.returns-in-Send
-returns-in-Send g c = rw c.in-Send.is (c.send.ensures (g.C.Crew.times_gone c.args.crew.now))
+returns-in-Send g c = rw c.in-Send.is (c.make.ensures (g.C.Crew.times_gone c.args.crew.now))
 
 pub returns-in-Heads : goal.returns-in-Heads
-returns-in-Heads g c = rw c.in-Heads.is (c.heads.ensures (g.C.Crew.times_gone c.args.crew.now))
+returns-in-Heads g c = rw c.in-Heads.is (c.make-in-Heads.ensures (g.C.Crew.times_gone c.args.crew.now))
 
 pub returns-in-Beyond : goal.returns-in-Beyond
 returns-in-Beyond g c = rw c.in-Beyond.is (rw c.deref.ensures at (c.beyond.ensures (g.C.Crew.times_gone c.args.crew.now)))

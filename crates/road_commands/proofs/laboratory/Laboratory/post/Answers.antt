@@ -1,21 +1,16 @@
 -- An event that makes a message is one of the world, and leaves all caches as they were.
-use Rattle.std.proofs.Common.{◌∙◌, ◌≡◌, ◌<◌, ◌++◌, ◌∷◌, [], List, ℕ, ap, arith, length, rules, subst, sym, take}
+use Rattle.std.proofs.Common.{◌∙◌, ◌≡◌, ◌++◌, ◌∷◌, [], List, ℕ, ap, length, rules, string_bytes, subst, sym, take}
 use Rattle.std.proofs.Math.Seq.{take-append_seam}
 use Rattle.road_commands.proofs.QueryCaches.{cached_on, laboratory_with, made_keeps}
 use Rattle.road_commands.specs.Laboratory.{Laboratory, laboratory_of_winners}
 use Rattle.road_commands.specs.Private.Caching.{IsCached}
-use Rattle.road_world.specs.Answers.{fault_at_replica, replica_number}
+use Rattle.road_world.specs.Answers.{fault_of_event}
 use Rattle.road_world.specs.Events.{World, message_of_event, world_after_event, world_of_winners}
-use Rattle.road_world.proofs.EventAnswers.{fault_there}
 use Rattle.road_commands.proofs.laboratory.Laboratory.post.Goals as goal
 
 pub post-requires-clause-accepted : goal.post-requires-clause-accepted
 post-requires-clause-accepted g c =
-    let e = c.args.event.now in
-    let world = ap (λ (l : Laboratory). l.world) c.self.view_is in
-    let names = ap (λ (l : Laboratory). length l.replica_names) c.self.view_is in
-    let below : replica_number e < length c.self.inside.world.replicas = omega (arith, c.self.invariant.replicas, names, c.requires.there) in
-    fault_there c.self.inside.world e below ∙ ap (λ (w : World). fault_at_replica w e) world ∙ c.requires.accepted
+    ap (λ (w : World). fault_of_event w c.args.event.now) (ap (λ (l : Laboratory). l.world) c.self.view_is) ∙ c.requires.accepted
 
 pub post-requires-clause-made : goal.post-requires-clause-made
 post-requires-clause-made g c =
@@ -33,7 +28,7 @@ invariant_of-self-in-Err g c =
 pub returns-in-Ok-clause-after : goal.returns-in-Ok-clause-after
 returns-in-Ok-clause-after g c =
     let e = c.args.event.now in
-    let name = c.args.name.now in
+    let name = string_bytes c.args.name in
     let r = c.self.inside.replicas in
     let m = c.self.inside.messages in
     let w = c.self.inside.world in
@@ -46,7 +41,7 @@ pub returns-in-Err-clause-unchanged : goal.returns-in-Err-clause-unchanged
 returns-in-Err-clause-unchanged g c =
     let r = c.self.inside.replicas in
     let m = c.self.inside.messages in
-    let name = c.args.name.now in
+    let name = string_bytes c.args.name in
     let named : c.put.new.self ≡ m ++ name ∷ [] = search rules in
     let count : c.len-count.result ≡ length m = search rules in
     let cut = c.cut.ensures ∙ ap (λ n. take n c.put.new.self) count ∙ ap (take (length m)) named ∙ take-append_seam m (name ∷ []) in

@@ -4,4 +4,4 @@ use Rattle.road_sessions.specs.Sessions.{AreNewSessions}
 use Rattle.road_sessions.proofs.held.Held.new_sessions.Given as goal
 
 abbrev pub invariant-loop-number : goal.invariant-loop-number
-invariant-loop-number g l = (length l.sessions.items ≡ l.number) × AreNewSessions 0 l.sessions.items × (l.whole.parts + l.number ≡ l.self.sessions) × (l.whole.amount ≡ 0)
+invariant-loop-number g l = (length l.sessions.items ≡ l.number) × AreNewSessions 0 l.sessions.items × (l.whole.parts + l.number ≡ l.count) × (l.whole.amount ≡ 0)

@@ -12,9 +12,9 @@ returns-in-Send-clause-applied g c =
 pub returns-in-Heads-clause-applied : goal.returns-in-Heads-clause-applied
 returns-in-Heads-clause-applied g c =
     let n = c.args.meter.now in
-    subst (λ (e : Event). IsApplied e c.heads.result c.args.self.now c.heads.new.self n n) (sym c.in-Heads.is) (c.heads.ensures.applied n)
+    subst (λ (e : Event). IsApplied e c.send-in-Heads.result c.args.self.now c.send-in-Heads.new.self n n) (sym c.in-Heads.is) (c.send-in-Heads.ensures.applied n)
 
 pub returns-in-Beyond-clause-applied : goal.returns-in-Beyond-clause-applied
 returns-in-Beyond-clause-applied g c =
     let n = c.args.meter.now in
-    subst (λ (e : Event). IsApplied e c.beyond.result c.args.self.now c.beyond.new.self n n) (sym c.in-Beyond.is) (c.beyond.ensures.applied n)
+    subst (λ (e : Event). IsApplied e c.send-in-Beyond.result c.args.self.now c.send-in-Beyond.new.self n n) (sym c.in-Beyond.is) (c.send-in-Beyond.ensures.applied n)
