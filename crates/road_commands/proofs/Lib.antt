@@ -7,3 +7,4 @@ pub mod QueryCaches
 pub mod NameNumbers
 pub mod Outcomes
 pub mod QueryRefusals
+pub mod NamedReplicas

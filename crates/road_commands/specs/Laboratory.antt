@@ -254,21 +254,21 @@ crowd_outcome lab shares to =
 -- ---- commands
 
 -- the name of a command's replica; a crowd names none
-abbrev pub replica_name : Command → List ℕ
-replica_name (commands.Edit at object step number) = at
-replica_name (commands.Withdraw at object step) = at
-replica_name (commands.Import at edits) = at
-replica_name (commands.Send at name) = at
-replica_name (commands.Heads at name) = at
-replica_name (commands.Beyond at asked name) = at
-replica_name (commands.Take at message) = at
-replica_name (commands.Advance at to) = at
-replica_name (commands.Cells at step) = at
-replica_name (commands.Cars at step) = at
-replica_name (commands.Count at detector from to) = at
-replica_name (commands.Diagram at from to) = at
-replica_name (commands.Scenario at) = at
-replica_name (commands.Crowd shares to) = []
+abbrev pub replica_name : Command → Option (List ℕ)
+replica_name (commands.Edit at object step number) = Some at
+replica_name (commands.Withdraw at object step) = Some at
+replica_name (commands.Import at edits) = Some at
+replica_name (commands.Send at name) = Some at
+replica_name (commands.Heads at name) = Some at
+replica_name (commands.Beyond at asked name) = Some at
+replica_name (commands.Take at message) = Some at
+replica_name (commands.Advance at to) = Some at
+replica_name (commands.Cells at step) = Some at
+replica_name (commands.Cars at step) = Some at
+replica_name (commands.Count at detector from to) = Some at
+replica_name (commands.Diagram at from to) = Some at
+replica_name (commands.Scenario at) = Some at
+replica_name (commands.Crowd shares to) = None
 
 -- what a command to replica r comes to
 abbrev pub outcome_at : Laboratory → ℕ → Command → Outcome
@@ -294,7 +294,8 @@ outcome_at lab r (commands.Crowd shares to) = crowd_outcome lab shares to
 -- what a command comes to where its replica is asked for first
 abbrev pub outcome_by_name : Laboratory → Command → Outcome
 outcome_by_name lab command =
-    outcome_by_number lab refusals.NoReplica (number_of lab.replica_names (replica_name command)) (λ r.
+    outcome_by_number lab refusals.NoReplica
+    (option_and_then (number_of lab.replica_names) (replica_name command)) (λ r.
     outcome_at lab r command)
 
 -- the shares and the step of a command that is a crowd

@@ -1,30 +1,18 @@
 //! Crowds among the commands, and why they are refused.
 
 ghost use Rattle.std.specs.Prelude.{◌≡◌, ◌<◌, ◌≤◌, IfNone, IsTrue, None, length};
-ghost use Rattle.std.specs.Option.{option_map};
 ghost use Rattle.road_plan.specs.declared.limits.TheConstants.{MOST_SESSIONS};
 ghost use Rattle.road_replica.specs.Crowds.{crowd_writes, shares_fault, shares_of};
 ghost use Rattle.road_replica.specs.declared.crowds.TheConstants.{MOST_CROWD_WRITES};
-ghost use Rattle.road_format.specs.Views.{command_view, shares_view};
+ghost use Rattle.road_format.specs.Views.{shares_view};
 ghost use Rattle.road_commands.specs.Laboratory as laboratory;
 
 use crate::translation::replica_refusal;
-use road_format::{Command, Refusal};
+use road_format::Refusal;
 use road_plan::Plan;
 use road_plan::limits::MOST_SESSIONS;
 use road_replica::{MOST_CROWD_WRITES, shares_fault, write_count};
 use road_scenario::Edit;
-
-// Returns the shares and the step of a command that is a crowd.
-pub(crate) fn crowd_of(command: &Command) -> Option<(&[Vec<Edit>], u32)>
-    ensures { option_map (λ crowd. (shares_view crowd.0.now, crowd.1)) result
-        ≡ laboratory.crowd_of (command_view command.now) }
-{
-    match command {
-        Command::Crowd { shares, to } => Some((shares.as_slice(), *to)),
-        _ => None,
-    }
-}
 
 // Returns why a crowd is refused, if so. Where it is not, it may be gathered.
 pub(crate) fn crowd_refusal(plan: &Plan, shares: &[Vec<Edit>], to: u32) -> Option<Refusal>

@@ -17,13 +17,13 @@ ghost use Rattle.road_format.specs.Views.{answer_view, command_view, plan_line_v
 ghost use Rattle.road_commands.specs.Laboratory.{answer_to, beyond_outcome, change_outcome, crowd_outcome};
 ghost use Rattle.road_commands.specs.Laboratory.{gone_after_command, is_gathered, laboratory_after};
 ghost use Rattle.road_commands.specs.Laboratory.{laboratory_of_winners, message_outcome, number_of, opening_laboratory};
-ghost use Rattle.road_commands.specs.Laboratory.{outcome_at, outcome_by_name, query_outcome, take_outcome};
+ghost use Rattle.road_commands.specs.Laboratory.{outcome_at, query_outcome, take_outcome};
 ghost use Rattle.road_commands.specs.Laboratory as laboratory;
 ghost use Rattle.road_commands.specs.Private.Changes.{made_answer, reply_answer};
-ghost use Rattle.road_commands.specs.Private.Outcomes.{IsOutcome};
+ghost use Rattle.road_commands.specs.Private.Outcomes.{IsAnswered, IsOutcome};
 ghost use Rattle.road_commands.specs.Private.Queries.{answer_to_query};
 
-use crate::crowds::{crowd_of, crowd_refusal};
+use crate::crowds::crowd_refusal;
 use crate::names::Names;
 use crate::queries::{Query, ask_sheet};
 use crate::translation::{answer_of, answer_of_message, keeps_edits, name_of, told, told_by_replica};
@@ -118,10 +118,7 @@ impl<S: BuildHasher + Copy> Laboratory<S> {
         ensures gone { C.times_gone crew.new ≡ gone_after_command result
             (is_gathered self.old.world.plan (command_view command)) (C.times_gone crew.old) }
     {
-        if let Some((shares, to)) = crowd_of(&command) {
-            return self.gather(alloc, shares, to, crowds);
-        }
-        self.answer_by_name(alloc, command, crew)
+        self.answer_by_name(alloc, command, crew, crowds)
     }
 
     // Answers a crowd.
@@ -154,21 +151,25 @@ impl<S: BuildHasher + Copy> Laboratory<S> {
         })
     }
 
-    // Answers a command that is no crowd: its replica is asked for first.
-    fn answer_by_name<C: Crew>(
+    // Answers a command: its replica is asked for first. A crowd writes to a replica of its own.
+    fn answer_by_name<C: Crew, K: Crowds>(
         &mut self,
         alloc: Global,
         command: Command,
         crew: &mut C,
+        crowds: &K,
     ) -> Result<Answer, CrewFault>
-        requires { laboratory.crowd_of (command_view command) ≡ None }
-        ensures { IsOutcome (outcome_by_name self.old (command_view command)) result self.old self.new
+        ensures { IsAnswered (is_gathered self.old.world.plan (command_view command))
+            (laboratory.outcome self.old (command_view command)) result self.old self.new
             (C.times_gone crew.old) (C.times_gone crew.new) }
     {
-        let Some(at) = self.replica_of(name_of(&command)) else {
+        let Some(name) = name_of(&command) else {
+            return self.answer_at(alloc, 0, command, crew, crowds);
+        };
+        let Some(at) = self.replica_of(name) else {
             return Ok(Answer::Refused(Refusal::NoReplica));
         };
-        self.answer_at(alloc, at, command, crew)
+        self.answer_at(alloc, at, command, crew, crowds)
     }
 
     // Returns the number of a replica's name.
@@ -181,17 +182,18 @@ impl<S: BuildHasher + Copy> Laboratory<S> {
         Some(number as u32)
     }
 
-    // Answers a command to a replica.
-    fn answer_at<C: Crew>(
+    // Answers a command to a replica. Which one that is does not matter to a crowd.
+    fn answer_at<C: Crew, K: Crowds>(
         &mut self,
         alloc: Global,
         at: u32,
         command: Command,
         crew: &mut C,
+        crowds: &K,
     ) -> Result<Answer, CrewFault>
-        requires there { at < length self.old.replica_names }
-        requires no_crowd { laboratory.crowd_of (command_view command) ≡ None }
-        ensures { IsOutcome (outcome_at self.old at (command_view command)) result self.old self.new
+        requires there { laboratory.crowd_of (command_view command) ≡ None → at < length self.old.replica_names }
+        ensures { IsAnswered (is_gathered self.old.world.plan (command_view command))
+            (outcome_at self.old at (command_view command)) result self.old self.new
             (C.times_gone crew.old) (C.times_gone crew.new) }
     {
         match command {
@@ -229,7 +231,7 @@ impl<S: BuildHasher + Copy> Laboratory<S> {
             } => self.ask(alloc, at, Query::Count { detector, from, to }),
             Command::Diagram { from, to, .. } => self.ask(alloc, at, Query::Diagram { from, to }),
             Command::Scenario { .. } => self.ask(alloc, at, Query::Scenario),
-            Command::Crowd { .. } => unreachable!(),
+            Command::Crowd { shares, to } => self.gather(alloc, shares.as_slice(), to, crowds),
         }
     }
 
@@ -241,7 +243,7 @@ impl<S: BuildHasher + Copy> Laboratory<S> {
             result self.old self.new gone gone }
     {
         let Some(replica) = self.world.replica(at) else {
-            unreachable!()
+            return Ok(Answer::Refused(Refusal::NoReplica));
         };
         let cache = &mut self.caches[at as usize];
         match ask_sheet(alloc, replica.sheet(), cache, query) {

@@ -1,6 +1,7 @@
 //! Translates the world's replies and faults to the program's, and commands to the replica that they name.
 
 ghost use Rattle.std.specs.Prelude.{◌≡◌, IfErr, IfOk, Some, false, result_ok, string_bytes};
+ghost use Rattle.std.specs.Option.{option_map};
 ghost use Rattle.road_scenario.specs.Faults.{FitsSomePlan};
 ghost use Rattle.road_replica.specs.Refusals.{growth_fault};
 ghost use Rattle.road_world.specs.Events.{carried_edits};
@@ -17,24 +18,24 @@ use road_world::{Event, Message, WorldFault};
 use std::alloc::Global;
 
 // Returns the name of a command's replica. A crowd names none.
-pub(crate) fn name_of(command: &Command) -> &str
-    ensures { result.now ≡ laboratory.replica_name (command_view command.now) }
+pub(crate) fn name_of(command: &Command) -> Option<&str>
+    ensures { option_map (λ name. name.now) result ≡ laboratory.replica_name (command_view command.now) }
 {
     match command {
-        Command::Edit { at, .. } => at,
-        Command::Withdraw { at, .. } => at,
-        Command::Import { at, .. } => at,
-        Command::Send { at, .. } => at,
-        Command::Heads { at, .. } => at,
-        Command::Beyond { at, .. } => at,
-        Command::Take { at, .. } => at,
-        Command::Advance { at, .. } => at,
-        Command::Cells { at, .. } => at,
-        Command::Cars { at, .. } => at,
-        Command::Count { at, .. } => at,
-        Command::Diagram { at, .. } => at,
-        Command::Scenario { at } => at,
-        Command::Crowd { .. } => "",
+        Command::Edit { at, .. } => Some(at),
+        Command::Withdraw { at, .. } => Some(at),
+        Command::Import { at, .. } => Some(at),
+        Command::Send { at, .. } => Some(at),
+        Command::Heads { at, .. } => Some(at),
+        Command::Beyond { at, .. } => Some(at),
+        Command::Take { at, .. } => Some(at),
+        Command::Advance { at, .. } => Some(at),
+        Command::Cells { at, .. } => Some(at),
+        Command::Cars { at, .. } => Some(at),
+        Command::Count { at, .. } => Some(at),
+        Command::Diagram { at, .. } => Some(at),
+        Command::Scenario { at } => Some(at),
+        Command::Crowd { .. } => None,
     }
 }
 
