@@ -4,7 +4,7 @@ use Rattle.road_world.proofs.world.World.send.Goals as goal
 
 pub returns-in_err-message-clause-applied : goal.returns-in_err-message-clause-applied
 returns-in_err-message-clause-applied c meter =
-    made_handed_on c.args.event.now c.from_residual-in_err-message.result c.args.self.now meter c.in_err-message.fault c.from_residual-in_err-message.ensures.1 c.in_err-message.ensures.made
+    made_handed_on c.args.event.now c.from_residual.result c.args.self.now meter c.in_err-message.fault c.from_residual.ensures.1 c.in_err-message.ensures.made
 
 pub returns-in_err-number-clause-applied : goal.returns-in_err-number-clause-applied
 returns-in_err-number-clause-applied c meter =
