@@ -26,7 +26,9 @@ ghost use Rattle.road_commands.specs.Private.Queries.{answer_to_query};
 use crate::crowds::crowd_refusal;
 use crate::names::Names;
 use crate::queries::{Query, ask_sheet};
-use crate::translation::{answer_of, answer_of_message, keeps_edits, name_of, told, told_by_replica};
+use crate::translation::{
+    answer_of, answer_of_message, keeps_edits, name_of, told, told_by_replica,
+};
 use road_ends::Meter;
 use road_format::{Answer, Command, PlanLine, Refusal};
 use road_plan::{OutOfMemory, Plan};

@@ -5,4 +5,3 @@ use Rattle.road_commands.specs.Laboratory.{Outcome, is_gathered, outcome_at, rep
 use Rattle.road_commands.specs.Private.Outcomes.{IsAnswered}
 use Rattle.road_commands.proofs.NamedReplicas.{at_no_replica, at_none, at_some, nameless}
 use Rattle.road_commands.proofs.laboratory.Laboratory.answer_by_name.Goals as goal
-
