@@ -174,6 +174,31 @@ answer_is w (events.Beyond r n) m name won made =
 answer_is w (events.Take r n) m name won made = absurd (none_is_no_item m made)
 answer_is w (events.Advance r to) m name won made = absurd (none_is_no_item m made)
 
+-- a message whose name is taken is refused
+pub taken_outcome : (lab new : Laboratory) (e : Event) (name : List ℕ) (answer : Answer) (told : declared.Answer) (gone : ℕ) → fault_of_event lab.world e ≡ None → is_some (number_of lab.message_names name) ≡ true
+    → answer_view told ≡ Refused refusals.NameTaken → new ≡ lab → laboratory_of_winners lab ≡ lab → IsOutcome (message_outcome lab e name answer) (Ok told) lab new gone gone
+taken_outcome lab new e name answer told gone accepted taken said same won =
+    let refused = name_taken lab e name answer accepted taken in record {
+      answer = said ∙ sym (ap (λ (o : Outcome). o.answer) refused);
+      after = same ∙ sym won ∙ sym (ap (λ (o : Outcome). laboratory_of_winners o.after) refused);
+      unchanged = tt;
+      gone = refl;
+    }
+
+-- one that is made and named is answered
+pub made_outcome : (lab new : Laboratory) (e : Event) (m : Message) (name : List ℕ) (told : declared.Answer) (gone : ℕ) → fault_of_event lab.world e ≡ None → message_of_event lab.world e ≡ Some m
+    → is_some (number_of lab.message_names name) ≡ false → answer_view told ≡ message_answer name m → laboratory_of_winners lab ≡ lab
+    → new ≡ laboratory_of_winners (record lab { message_names = lab.message_names ++ name ∷ []; world = world_after_event e lab.world })
+    → IsOutcome (message_outcome lab e name (made_answer lab.world e name)) (Ok told) lab new gone gone
+made_outcome lab new e m name told gone accepted made free said won after =
+    let is = name_free lab e name (made_answer lab.world e name) accepted free in
+    let wins = ap (λ (l : Laboratory). l.world) won in record {
+      answer = said ∙ answer_is lab.world e m name wins made ∙ sym (ap (λ (o : Outcome). o.answer) is);
+      after = after ∙ sym (ap (λ (o : Outcome). laboratory_of_winners o.after) is);
+      unchanged = tt;
+      gone = refl;
+    }
+
 -- ---- imports
 
 -- a replica's cause is answered as the world's

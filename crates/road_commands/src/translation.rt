@@ -1,6 +1,7 @@
 //! Translates the world's replies and faults to the program's, and commands to the replica that they name.
 
-ghost use Rattle.std.specs.Prelude.{◌≡◌, IfErr, IfOk, Some, false, result_ok, string_bytes};
+ghost use Rattle.std.specs.Prelude.{◌≡◌, IfErr, IfOk, Some, false, string_bytes};
+ghost use Rattle.std.specs.Result.{result_ok};
 ghost use Rattle.std.specs.Option.{option_map};
 ghost use Rattle.road_scenario.specs.Faults.{FitsSomePlan};
 ghost use Rattle.road_replica.specs.Refusals.{growth_fault};

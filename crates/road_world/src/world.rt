@@ -137,7 +137,7 @@ impl World {
         ensures fits { IfOk result (λ message. FitsSomePlan (carried_edits (Some message))) }
         ensures no_crew { IfErr result (λ fault. (n : ℕ) → gone_after_answer (Err fault) n ≡ n) }
     {
-        if event.replica() as usize >= self.replicas.len() {
+        if event.replica() >= self.replica_count() {
             return Err(WorldFault::NoReplica);
         }
         match event {
