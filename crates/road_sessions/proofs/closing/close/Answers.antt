@@ -17,6 +17,6 @@ returns-clause-journal g c =
     let apart : AreApart sessions = subst (λ (ss : List Session). AreApart ss) c.as_slice.ensures.value c.if-not-are_apart.ensures in
     let known : AllByRecursion (IsSessionOf journal) c.as_slice-2.result.now = subst (λ (l : List Entry). AllByRecursion (IsSessionOf l) c.as_slice-2.result.now) held.journalled c.know_all.ensures.all in
     let all : AllByRecursion (IsSessionOf journal) sessions = subst (λ (ss : List Session). AllByRecursion (IsSessionOf journal) ss) c.as_slice-2.ensures.value known in
-    let whole : c.shares-all.result.parts ≡ g.J.Ledger.parts = (let shares = c.shares-all.ensures.0 in let none = c.empty-all.ensures.parts in let len = c.len.ensures in let is = c.if-len-opened.false in let parts = c.args.shared.opened in omega arith) in
+    let whole : c.shares-all.result.parts ≡ g.J.Ledger.parts = (let shares = c.shares-all.ensures.0 in let none = c.empty-all.ensures.parts in let len = c.len.ensures in let is = c.if-len-shared.false in let parts = c.args.shared.opened in omega arith) in
     let count : length journal ≡ write_count sessions = (let audited = c.audit.ensures.whole whole in let shares = c.shares-all.ensures.1 in let none = c.empty-all.ensures.amount in let counted = held.counted in omega arith) in
     subst (λ (l : List Entry). IsWrittenBy l sessions) (sym same) (written_by journal sessions apart all count)
