@@ -39,3 +39,4 @@ pub mod CarsStepped
 pub mod CountsStepped
 pub mod StepSites
 pub mod RegionsCut
+pub mod CarsEntered

@@ -163,6 +163,9 @@ pub fn enter(
     ensures front { (k : ℕ) → k < head → slice_index cells.new k ≡ slice_index cells.old k }
     ensures places { ArePlacesFrom cells.new head result.0 sites.now places.new }
     ensures falling { AreFalling cells.new head result.0 }
+    ensures below { (bound : ℕ) → ((i : ℕ) → head ≤ i → i < tail → slice_index cells.old i < bound)
+        → ((i : ℕ) → i < length plan.now.inlets → slice_index sites.now i < bound)
+        → (i : ℕ) → head ≤ i → i < result.0 → slice_index cells.new i < bound }
     ensures rising { ArePlacesRising result.1 beside.new }
     ensures in_order { AreInOrder (entered_in result.1 beside.new batches.new) result.0 }
     ensures entries { (a : Array) → ((c : ℕ) → (c < lo) ⊎ (hi ≤ c) → vehicle_at a c ≡ None)

@@ -21,5 +21,5 @@ pub use entering::{enter, move_on};
 pub use motion::Chances;
 pub use regions::{Region, advance_regions};
 pub use sites::count;
-pub use step::move_cars;
+pub use step::{Extent, step_in_columns};
 pub use words::{Batch, SPAN, Source};
