@@ -1,10 +1,9 @@
 -- Columns are those of an array exactly where they have what stands at each of its cells.
 use Rattle.std.specs.Prelude.{◌≡◌, ◌≢◌, ℕ, zero, suc, ◌+◌, ◌-◌, ◌<◌, ◌≤◌, ◌⊎◌, List, [], ◌∷◌, length, slice_index}
-use Rattle.std.proofs.Common.{sym, ap, ◌∙◌, arith, refl, inl, inr, subst}
+use Rattle.std.proofs.Common.{sym, ap, ◌∙◌, arith, refl, inl, inr}
 use Rattle.std.proofs.lemmas.Bool.{cases_lt, cases_eq}
-use Rattle.std.specs.declared.option.Option.{Option}
-use Rattle.std.specs.declared.option.Option.TheVariants.{None, Some}
-use Rattle.road_cells.specs.Array.{Array, Vehicle, vehicle_at, array_of_places}
+use Rattle.std.specs.declared.option.Option.TheVariants.{Some}
+use Rattle.road_cells.specs.Array.{Array, vehicle_at}
 use Rattle.road_cells.specs.Cars.{cars_of, cars_from, cell_at, array_of, vehicle_among, AreRising, AreRisingFrom}
 use Rattle.road_cells.specs.declared.car.Car.{Car}
 use Rattle.road_cells.proofs.ArrayPlaces.{array_of_places-same}
@@ -12,7 +11,7 @@ use Rattle.road_cells.proofs.CarLists.{cars_from-array_of_places, cars_of-array_
 use Rattle.road_cells.proofs.CarPlaces.{rise-at, vehicle_among-absent, vehicle_among-at}
 use Rattle.road_ends.specs.Speed.{nth_car}
 use Rattle.road_columns.specs.Columns.{AreColumnsOf, mirrored}
-use Rattle.road_columns.specs.CarsAt.{AreCarsAt}
+use Rattle.road_columns.specs.Private.CarsAt.{AreCarsAt}
 
 abbrev nobody : Car
 nobody = record { number = 0; cell = 0; speed = 0 }

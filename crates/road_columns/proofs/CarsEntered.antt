@@ -3,9 +3,9 @@ use Rattle.std.specs.Prelude.{◌≡◌, ◌≢◌, ℕ, ◌+◌, ◌-◌, ◌<�
 use Rattle.std.proofs.Common.{sym, ap, ◌∙◌, arith, refl}
 use Rattle.std.specs.List.{slice_index_or}
 use Rattle.road_plan.specs.Plan.{Plan, IsWithinLimits, exit_start}
-use Rattle.road_columns.specs.Entering.{AreCellsOfInlets}
-use Rattle.road_columns.specs.LooseWords.{AreFalling}
-use Rattle.road_columns.specs.Step.{AreCarsInColumn, AreSitesOf}
+use Rattle.road_columns.specs.Private.Entering.{AreCellsOfInlets}
+use Rattle.road_columns.specs.Private.LooseWords.{AreFalling}
+use Rattle.road_columns.specs.Private.Step.{AreCarsInColumn, AreSitesOf}
 use Rattle.road_columns.specs.declared.regions.Region.{Region}
 
 -- the first sites are the inlets' cells

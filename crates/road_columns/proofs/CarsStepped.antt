@@ -1,5 +1,5 @@
 -- The columns once a step's cars have moved, and the first has left where it came to the exit.
-use Rattle.std.specs.Prelude.{◌≡◌, ℕ, ◌+◌, ◌-◌, ◌*◌, ◌/◌, ◌<◌, ◌≤◌, ◌⊎◌, List, length, slice_index, slice_range}
+use Rattle.std.specs.Prelude.{◌≡◌, ℕ, ◌+◌, ◌-◌, ◌<◌, ◌≤◌, ◌⊎◌, List, length, slice_index, slice_range}
 use Rattle.std.proofs.Common.{sym, ap, ◌∙◌, arith, refl, inl, inr, subst}
 use Rattle.std.proofs.lemmas.Bool.{cases_lt}
 use Rattle.road_plan.specs.Plan.{Plan, exit_start}
@@ -8,12 +8,12 @@ use Rattle.road_plan.specs.declared.parts.WordKind.{WordKind}
 use Rattle.road_cells.specs.Array.{Array, vehicle_at}
 use Rattle.road_ends.specs.Input.{input_next}
 use Rattle.road_ends.specs.Speed.{speeds}
-use Rattle.road_columns.specs.CarsAt.{from_place}
+use Rattle.road_columns.specs.Private.CarsAt.{from_place}
 use Rattle.road_columns.specs.Columns.{AreColumnsOf, mirrored}
-use Rattle.road_columns.specs.Entered.{EnteredCar}
-use Rattle.road_columns.specs.Entering.{ArePlacesFrom, place_on}
-use Rattle.road_columns.specs.LooseWords.{AreFalling, HaveLooseWords, IsPackedFrom}
-use Rattle.road_columns.specs.Step.{AreCarsInColumn}
+use Rattle.road_columns.specs.Private.Entered.{EnteredCar}
+use Rattle.road_columns.specs.Private.Entering.{ArePlacesFrom, place_on}
+use Rattle.road_columns.specs.Private.LooseWords.{HaveLooseWords, IsPackedFrom}
+use Rattle.road_columns.specs.Private.Step.{AreCarsInColumn}
 use Rattle.road_columns.proofs.ColumnEntries.{same_columns}
 use Rattle.road_columns.proofs.ColumnPlaces.{cars_of_ranges, ranges_of_cars, same_place}
 use Rattle.road_columns.proofs.LooseWords.{loose_moved}

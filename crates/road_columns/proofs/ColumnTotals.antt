@@ -1,17 +1,16 @@
 -- What columns count in packed numbers is what the detectors count.
-use Rattle.std.specs.Prelude.{◌≡◌, ℕ, zero, suc, ◌+◌, ◌-◌, ◌*◌, ◌/◌, ◌%◌, ◌<◌, ◌≤◌, ◌&&◌, Bool, true, false, cond, List, [], ◌∷◌, length, sum, slice_index, if◌then◌else◌}
-use Rattle.std.proofs.Common.{sym, ap, ◌∙◌, arith, refl}
+use Rattle.std.specs.Prelude.{◌≡◌, ℕ, ◌+◌, ◌/◌, ◌%◌, ◌<◌, ◌≤◌, Bool, true, false, cond, List, length, sum, slice_index}
+use Rattle.std.proofs.Common.{ap, ◌∙◌, arith, refl}
 use Rattle.std.specs.List.{slice_index_or}
 use Rattle.road_plan.specs.Plan.{Plan}
 use Rattle.road_plan.specs.Settings.{Settings}
 use Rattle.road_cells.specs.Array.{Array}
 use Rattle.road_cells.specs.Cars.{cars_of}
-use Rattle.road_ends.specs.Input.{StepInput, input_speeds}
+use Rattle.road_ends.specs.Input.{input_speeds}
 use Rattle.road_ends.specs.Speed.{speeds}
-use Rattle.road_detector.specs.Passes.{drives, no_totals, passes_at, passing_speeds, plus, totals_of}
-use Rattle.road_detector.specs.declared.counts.Totals.{Totals}
+use Rattle.road_detector.specs.Passes.{drives, no_totals, passes_at, plus, totals_of}
 use Rattle.road_columns.specs.Columns.{AreColumnsOf, mirrored}
-use Rattle.road_columns.specs.Sites.{IsOfSteps, IsPlaceOf, counted, is_past, passes_of, unpacked}
+use Rattle.road_columns.specs.Private.Sites.{IsOfSteps, IsPlaceOf, counted, is_past, passes_of, unpacked}
 use Rattle.road_columns.proofs.CountedPasses.{alone, counted_at_place, counted_nowhere}
 
 totals_alone : (hit : Bool) (v : ℕ) → v < 65536 → record { cars = length (alone hit v); speeds = sum (alone hit v) } ≡ unpacked (counted hit true v)

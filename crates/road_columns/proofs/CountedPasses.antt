@@ -1,6 +1,6 @@
 -- What columns count at a site is what its detector counts.
-use Rattle.std.specs.Prelude.{◌≡◌, ◌≢◌, ℕ, zero, suc, ◌+◌, ◌-◌, ◌<◌, ◌≤◌, Bool, true, false, cond, List, [], ◌∷◌, length, map, sum, slice_index, if◌then◌else◌}
-use Rattle.std.proofs.Common.{sym, ap, ◌∙◌, arith, refl, inl, inr, subst}
+use Rattle.std.specs.Prelude.{◌≡◌, ◌≢◌, ℕ, zero, suc, ◌+◌, ◌<◌, ◌≤◌, Bool, true, false, cond, List, [], ◌∷◌, length, map, slice_index}
+use Rattle.std.proofs.Common.{sym, ap, ◌∙◌, arith, refl}
 use Rattle.std.specs.List.{filter, slice_index_or}
 use Rattle.road_plan.specs.Plan.{Plan}
 use Rattle.road_plan.specs.Settings.{Settings}
@@ -9,10 +9,9 @@ use Rattle.road_cells.specs.Cars.{cars_of, cell_at}
 use Rattle.road_cells.specs.declared.car.Car.{Car}
 use Rattle.road_ends.specs.Speed.{speeds}
 use Rattle.road_ends.proofs.StepByCars.{may_move}
-use Rattle.road_detector.specs.Passes.{Drive, drives, is_passing, passing_speeds, totals_of, no_totals}
-use Rattle.road_detector.specs.declared.counts.Totals.{Totals}
+use Rattle.road_detector.specs.Passes.{Drive, drives, is_passing, passing_speeds}
 use Rattle.road_columns.specs.Columns.{AreColumnsOf, mirrored}
-use Rattle.road_columns.specs.Sites.{IsPlaceOf, is_past}
+use Rattle.road_columns.specs.Private.Sites.{IsPlaceOf, is_past}
 use Rattle.road_columns.proofs.KeptPlaces.{passes_nowhere_else, passes_at_place}
 
 -- the drive of a car

@@ -1,6 +1,6 @@
 -- One step more is counted at each detector, by the kept places.
-use Rattle.std.specs.Prelude.{◌≡◌, ℕ, ◌+◌, ◌-◌, ◌*◌, ◌/◌, ◌%◌, ◌<◌, ◌≤◌, ◌&&◌, Bool, true, false, List, length, nat_le, slice_index, slice_range, if◌then◌else◌}
-use Rattle.std.proofs.Common.{sym, ap, ◌∙◌, arith, refl, inl, inr}
+use Rattle.std.specs.Prelude.{◌≡◌, ℕ, ◌+◌, ◌-◌, ◌%◌, ◌<◌, ◌≤◌, Bool, true, false, List, length, nat_le, slice_index, slice_range}
+use Rattle.std.proofs.Common.{sym, ap, ◌∙◌, arith, inl, inr}
 use Rattle.std.proofs.lemmas.Bool.{cases_lt}
 use Rattle.std.proofs.lemmas.Bool.Decides.{nat_tests}
 use Rattle.std.specs.List.{slice_index_or}
@@ -9,10 +9,10 @@ use Rattle.road_plan.specs.Settings.{Settings}
 use Rattle.road_cells.specs.Array.{Array}
 use Rattle.road_ends.specs.Input.{input_speeds}
 use Rattle.road_ends.specs.Speed.{speeds}
-use Rattle.road_detector.specs.Passes.{no_totals, passes_at, plus}
-use Rattle.road_columns.specs.CarsAt.{IsPlaceAt, from_place}
+use Rattle.road_detector.specs.Passes.{passes_at, plus}
+use Rattle.road_columns.specs.Private.CarsAt.{IsPlaceAt, from_place}
 use Rattle.road_columns.specs.Columns.{AreColumnsOf, mirrored}
-use Rattle.road_columns.specs.Sites.{IsOfSteps, IsPlaceOf, counted, is_past, passes_of, unpacked}
+use Rattle.road_columns.specs.Private.Sites.{IsOfSteps, counted, is_past, passes_of, unpacked}
 use Rattle.road_columns.proofs.ColumnPlaces.{range_at, range_long}
 use Rattle.road_columns.proofs.ColumnTotals.{one_step_more, packed_nowhere, packed_passes, packed_plus}
 use Rattle.road_columns.proofs.WordsNeeded.{place_of_range}

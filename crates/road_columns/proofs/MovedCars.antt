@@ -1,6 +1,6 @@
 -- The cars of all regions move by the speeds of the definition, and none comes to the car in front of it.
 use Rattle.std.specs.Prelude.{◌≡◌, ℕ, ◌+◌, ◌-◌, ◌*◌, ◌/◌, ◌%◌, ◌<◌, ◌≤◌, Bool, true, false, List, length, min, slice_index, slice_range}
-use Rattle.std.proofs.Common.{sym, ap, ◌∙◌, arith, refl, inl, inr, subst}
+use Rattle.std.proofs.Common.{ap, ◌∙◌, arith, inl, inr, subst}
 use Rattle.std.proofs.lemmas.Bool.{cases_lt}
 use Rattle.std.specs.List.Sorted.{IsNonDecreasing}
 use Rattle.road_plan.specs.Plan.{Plan, exit_start}
@@ -10,14 +10,14 @@ use Rattle.road_cells.specs.Array.{Array}
 use Rattle.road_cells.specs.declared.car.TheConstants.{GREATEST_SPEED}
 use Rattle.road_rules.specs.Speeds.{comes_about, slowed_speed}
 use Rattle.road_ends.specs.Speed.{speeds}
-use Rattle.road_columns.specs.CarsAt.{IsPlaceAt, from_place}
+use Rattle.road_columns.specs.Private.CarsAt.{IsPlaceAt, from_place}
 use Rattle.road_columns.specs.Columns.{AreColumnsOf, mirrored}
-use Rattle.road_columns.specs.EnteredList.{entered_in}
-use Rattle.road_columns.specs.LooseWords.{HaveLooseWords}
-use Rattle.road_columns.specs.Motion.{chance_at}
-use Rattle.road_columns.specs.Pieces.{IsHigh16At}
-use Rattle.road_columns.specs.Regions.{IsInRegion, IsOfRegion, region_at, wish_at}
-use Rattle.road_columns.specs.Step.{AreCarsInColumn, AreRegionsOf}
+use Rattle.road_columns.specs.Private.EnteredList.{entered_in}
+use Rattle.road_columns.specs.Private.LooseWords.{HaveLooseWords}
+use Rattle.road_columns.specs.Private.Motion.{chance_at}
+use Rattle.road_columns.specs.Private.Pieces.{IsHigh16At}
+use Rattle.road_columns.specs.Private.Regions.{IsInRegion, IsOfRegion, region_at, wish_at}
+use Rattle.road_columns.specs.Private.Step.{AreCarsInColumn, AreRegionsOf}
 use Rattle.road_columns.specs.declared.regions.Region.{Region}
 use Rattle.road_columns.proofs.ColumnPlaces.{range_long}
 use Rattle.road_columns.proofs.PieceWishes.{falls}

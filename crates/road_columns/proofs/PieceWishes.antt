@@ -1,13 +1,13 @@
 -- What the cars of a piece want is what they want among all the cars that have not moved.
 use Rattle.std.specs.Prelude.{◌≡◌, ◌≢◌, ℕ, ◌+◌, ◌-◌, ◌<◌, ◌≤◌, List, min, nat_eq, slice_index, if◌then◌else◌}
-use Rattle.std.proofs.Common.{sym, ap, ◌∙◌, arith, refl, inl, inr, subst}
+use Rattle.std.proofs.Common.{sym, ap, ◌∙◌, arith, inl, inr, subst}
 use Rattle.std.proofs.lemmas.Bool.{cases_eq}
 use Rattle.std.proofs.lemmas.Bool.Decides.{nat_tests}
 use Rattle.road_cells.specs.declared.car.TheConstants.{GREATEST_SPEED}
 use Rattle.road_rules.specs.Speeds.{wanted_speed}
-use Rattle.road_columns.specs.LooseWords.{AreFalling}
-use Rattle.road_columns.specs.Pieces.{ahead_at, wanted_at}
-use Rattle.road_columns.specs.Regions.{wish_at}
+use Rattle.road_columns.specs.Private.LooseWords.{AreFalling}
+use Rattle.road_columns.specs.Private.Pieces.{ahead_at, wanted_at}
+use Rattle.road_columns.specs.Private.Regions.{wish_at}
 
 pub at_first : (from front q c : ℕ) → q ≡ from → (if nat_eq q from then front else c) ≡ front
 at_first from front q c same = grind (arith, nat_tests)

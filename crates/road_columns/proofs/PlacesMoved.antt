@@ -1,11 +1,11 @@
 -- Kept places and the order of the columns after the motion, also where the first car has left.
-use Rattle.std.specs.Prelude.{◌≡◌, ◌≢◌, ℕ, zero, suc, ◌+◌, ◌-◌, ◌<◌, ◌≤◌, ◌&&◌, List, length, nat_le, nat_lt, slice_index, if◌then◌else◌}
-use Rattle.std.proofs.Common.{sym, ap, ◌∙◌, arith, refl, inl, inr, subst}
-use Rattle.std.proofs.lemmas.Bool.{cases_lt, cases_eq, cases_order}
+use Rattle.std.specs.Prelude.{◌≡◌, ℕ, ◌+◌, ◌-◌, ◌<◌, ◌≤◌, ◌&&◌, List, length, nat_le, nat_lt, slice_index, if◌then◌else◌}
+use Rattle.std.proofs.Common.{ap, arith, inl, inr}
+use Rattle.std.proofs.lemmas.Bool.{cases_lt, cases_eq}
 use Rattle.std.proofs.lemmas.Bool.Decides.{nat_tests}
-use Rattle.road_columns.specs.CarsAt.{IsPlaceAt, from_place}
-use Rattle.road_columns.specs.Entering.{ArePlacesFrom, place_on}
-use Rattle.road_columns.specs.LooseWords.{AreFalling}
+use Rattle.road_columns.specs.Private.CarsAt.{IsPlaceAt, from_place}
+use Rattle.road_columns.specs.Private.Entering.{ArePlacesFrom, place_on}
+use Rattle.road_columns.specs.Private.LooseWords.{AreFalling}
 
 module _ (cells speeds new : List ℕ) (head head' tail : ℕ) (order : head' ≤ tail) (from : head ≤ head') (one : head' ≤ head + 1)
     (moved : (k : ℕ) → head ≤ k → k < tail → slice_index new k ≡ slice_index cells k + slice_index speeds k)

@@ -1,9 +1,9 @@
 -- The region of a car by the kept places of the regions.
 use Rattle.std.specs.Prelude.{◌≡◌, ℕ, zero, suc, ◌+◌, ◌-◌, ◌<◌, ◌≤◌, List, length, slice_index}
-use Rattle.std.proofs.Common.{sym, ap, ◌∙◌, arith, refl, inl, inr}
+use Rattle.std.proofs.Common.{ap, arith, inl, inr}
 use Rattle.std.proofs.lemmas.Bool.{cases_lt}
-use Rattle.road_columns.specs.CarsAt.{IsPlaceAt, from_place}
-use Rattle.road_columns.specs.Regions.{IsInRegion, IsOfRegion, region_at}
+use Rattle.road_columns.specs.Private.CarsAt.{IsPlaceAt, from_place}
+use Rattle.road_columns.specs.Private.Regions.{IsInRegion, IsOfRegion, region_at}
 use Rattle.road_columns.specs.declared.regions.Region.{Region}
 
 -- one of the first regions, in which a cell lies, or behind all of these

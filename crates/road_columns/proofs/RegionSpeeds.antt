@@ -1,5 +1,5 @@
 -- The speeds that the motion of the regions gives are those of the cars.
-use Rattle.std.specs.Prelude.{◌≡◌, ℕ, ◌+◌, ◌-◌, ◌*◌, ◌/◌, ◌%◌, ◌<◌, ◌≤◌, ◌⊎◌, List, length, min, slice_index, slice_range}
+use Rattle.std.specs.Prelude.{◌≡◌, ℕ, ◌+◌, ◌-◌, ◌/◌, ◌<◌, ◌≤◌, ◌⊎◌, List, length, min, slice_index, slice_range}
 use Rattle.std.proofs.Common.{sym, ap, ◌∙◌, arith, refl, inl, inr, subst}
 use Rattle.std.proofs.lemmas.Bool.{cases_lt}
 use Rattle.std.specs.List.Sorted.{IsNonDecreasing}
@@ -12,11 +12,10 @@ use Rattle.road_cells.specs.declared.car.TheConstants.{GREATEST_SPEED}
 use Rattle.road_rules.specs.Speeds.{wanted_speed, slowed_speed, comes_about}
 use Rattle.road_ends.specs.Speed.{speeds}
 use Rattle.road_ends.specs.Private.PassPlaces.{AreOfZone, IsNthOrNowhere}
-use Rattle.road_columns.specs.CarsAt.{IsPlaceAt, from_place}
 use Rattle.road_columns.specs.Columns.{AreColumnsOf, mirrored}
-use Rattle.road_columns.specs.Motion.{chance_at}
-use Rattle.road_columns.specs.Pieces.{IsHigh16At}
-use Rattle.road_columns.specs.Regions.{IsInRegion, IsOfRegion, IsRegionOf, region_at, wish_at}
+use Rattle.road_columns.specs.Private.Motion.{chance_at}
+use Rattle.road_columns.specs.Private.Pieces.{IsHigh16At}
+use Rattle.road_columns.specs.Private.Regions.{IsInRegion, IsRegionOf, region_at, wish_at}
 use Rattle.road_columns.specs.declared.regions.Region.{Region}
 use Rattle.road_columns.proofs.ColumnPlaces.{range_at, range_long}
 use Rattle.road_columns.proofs.ColumnSpeeds.{column_speed}

@@ -1,13 +1,13 @@
 -- The words that the motion of the regions needs are in the rows or beside them.
-use Rattle.std.specs.Prelude.{◌≡◌, ◌≢◌, ℕ, ◌+◌, ◌-◌, ◌*◌, ◌/◌, ◌%◌, ◌<◌, ◌≤◌, List, length, min, slice_index, slice_range}
-use Rattle.std.proofs.Common.{sym, ap, ◌∙◌, arith, refl, inl, inr}
+use Rattle.std.specs.Prelude.{◌≢◌, ℕ, ◌+◌, ◌-◌, ◌*◌, ◌/◌, ◌%◌, ◌<◌, ◌≤◌, List, min, slice_index, slice_range}
+use Rattle.std.proofs.Common.{ap, ◌∙◌, arith, inl, inr}
 use Rattle.std.proofs.lemmas.Bool.{cases_lt}
 use Rattle.road_plan.specs.declared.parts.WordKind.{WordKind}
 use Rattle.road_words.specs.Words.{word}
-use Rattle.road_columns.specs.EnteredList.{entered_in, high16_in}
-use Rattle.road_columns.specs.LooseWords.{AreFalling, HaveLooseWords}
-use Rattle.road_columns.specs.Pieces.{IsHigh16At}
-use Rattle.road_columns.specs.Regions.{wish_at}
+use Rattle.road_columns.specs.Private.EnteredList.{entered_in, high16_in}
+use Rattle.road_columns.specs.Private.LooseWords.{AreFalling, HaveLooseWords}
+use Rattle.road_columns.specs.Private.Pieces.{IsHigh16At}
+use Rattle.road_columns.specs.Private.Regions.{wish_at}
 use Rattle.road_columns.proofs.ColumnPlaces.{range_at}
 use Rattle.road_columns.proofs.EnteredLists.{all_of}
 use Rattle.road_columns.proofs.PieceWords.{count_before}

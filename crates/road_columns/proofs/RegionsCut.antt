@@ -1,5 +1,5 @@
 -- Regions, one after another, from the first cell on.
-use Rattle.std.specs.Prelude.{◌≡◌, ◌≢◌, ℕ, zero, suc, ◌+◌, ◌-◌, ◌<◌, ◌≤◌, ◌⊎◌, List, [], ◌∷◌, ◌++◌, length, slice_index}
+use Rattle.std.specs.Prelude.{◌≡◌, ℕ, zero, suc, ◌+◌, ◌<◌, ◌≤◌, List, [], ◌∷◌, ◌++◌, length, slice_index}
 use Rattle.std.proofs.Common.{sym, ap, ◌∙◌, arith, refl, inl, inr, subst}
 use Rattle.std.proofs.lemmas.Bool.{cases_lt, cases_eq}
 use Rattle.std.specs.List.{slice_index_or}
@@ -8,8 +8,8 @@ use Rattle.road_plan.specs.Settings.{Settings}
 use Rattle.road_cells.specs.Gap.{ArePartedAt}
 use Rattle.road_cells.specs.declared.car.TheConstants.{GREATEST_SPEED}
 use Rattle.road_ends.specs.Private.PassPlaces.{AreOfZone}
-use Rattle.road_columns.specs.Regions.{IsInRegion, IsRegionOf, region_at}
-use Rattle.road_columns.specs.Step.{AreRegionsOf}
+use Rattle.road_columns.specs.Private.Regions.{IsRegionOf, region_at}
+use Rattle.road_columns.specs.Private.Step.{AreRegionsOf}
 use Rattle.road_columns.specs.declared.regions.Region.{Region}
 
 -- a region whose cells end before `end`

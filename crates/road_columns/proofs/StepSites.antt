@@ -1,16 +1,16 @@
 -- The sites of a step: where each kind of them stands in the list, and that all are before the exit.
 use Rattle.std.specs.Prelude.{◌≡◌, ℕ, zero, suc, ◌+◌, ◌-◌, ◌<◌, ◌≤◌, List, length, slice_index, slice_range}
-use Rattle.std.proofs.Common.{sym, ap, ◌∙◌, arith, refl, inl, inr, subst}
+use Rattle.std.proofs.Common.{ap, ◌∙◌, arith, refl, inl, inr, subst}
 use Rattle.std.proofs.lemmas.Bool.{cases_lt}
 use Rattle.std.specs.List.{slice_index_or}
 use Rattle.road_plan.specs.Plan.{Plan, IsWithinLimits, exit_start}
 use Rattle.road_plan.specs.Settings.{Settings}
-use Rattle.road_columns.specs.CarsAt.{IsPlaceAt, from_place}
-use Rattle.road_columns.specs.Entered.{AreInOrder}
-use Rattle.road_columns.specs.EnteredList.{ArePlacesRising, entered_in, high16_in}
-use Rattle.road_columns.specs.Entering.{ArePlacesFrom}
-use Rattle.road_columns.specs.Regions.{region_at}
-use Rattle.road_columns.specs.Step.{AreRegionsOf, AreSitesOf}
+use Rattle.road_columns.specs.Private.CarsAt.{IsPlaceAt, from_place}
+use Rattle.road_columns.specs.Private.Entered.{AreInOrder}
+use Rattle.road_columns.specs.Private.EnteredList.{ArePlacesRising, entered_in, high16_in}
+use Rattle.road_columns.specs.Private.Entering.{ArePlacesFrom}
+use Rattle.road_columns.specs.Private.Regions.{region_at}
+use Rattle.road_columns.specs.Private.Step.{AreRegionsOf, AreSitesOf}
 use Rattle.road_columns.specs.declared.regions.Region.{Region}
 use Rattle.road_columns.proofs.ColumnPlaces.{range_at, range_long, same_place}
 use Rattle.road_columns.proofs.EnteredLists.{all_at}

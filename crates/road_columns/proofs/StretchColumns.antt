@@ -1,5 +1,5 @@
 -- Columns of the whole road, and of a stretch: cars past its end are left out, one at most in a step.
-use Rattle.std.specs.Prelude.{◌≡◌, ◌≢◌, ℕ, zero, suc, ◌+◌, ◌-◌, ◌<◌, ◌≤◌, ◌⊎◌, List, ◌∷◌, length, map, slice_index, slice_range}
+use Rattle.std.specs.Prelude.{◌≡◌, ℕ, zero, suc, ◌+◌, ◌-◌, ◌<◌, ◌≤◌, ◌⊎◌, List, ◌∷◌, length, map, slice_index, slice_range}
 use Rattle.std.proofs.Common.{sym, ap, ◌∙◌, arith, refl, inl, inr, subst}
 use Rattle.std.specs.List.{range_with_len}
 use Rattle.std.specs.Option.{option_or}
@@ -15,7 +15,7 @@ use Rattle.road_ends.specs.Entries.{entry_at, road_with_entries}
 use Rattle.road_ends.specs.Private.EntriesBetween.{entries_between, with_entry}
 use Rattle.road_ends.proofs.EntriesBetween.{whole-entries}
 use Rattle.road_columns.specs.Columns.{AreColumnsOf}
-use Rattle.road_columns.specs.CarsAt.{AreCarsAt, from_place}
+use Rattle.road_columns.specs.Private.CarsAt.{AreCarsAt, from_place}
 use Rattle.road_columns.proofs.ColumnPlaces.{cars_of_ranges, ranges_of_cars}
 
 -- on the whole road nobody stands elsewhere, and its entries are those of the road

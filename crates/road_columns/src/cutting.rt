@@ -6,7 +6,7 @@ ghost use Rattle.road_plan.specs.Settings.{Fits};
 ghost use Rattle.road_cells.specs.Gap.{ArePartedAt};
 ghost use Rattle.road_cells.specs.declared.car.TheConstants.{GREATEST_SPEED};
 ghost use Rattle.road_ends.specs.Private.PassPlaces.{AreOfZone};
-ghost use Rattle.road_columns.specs.Step.{AreRegionsOf};
+ghost use Rattle.road_columns.specs.Private.Step.{AreRegionsOf};
 
 use crate::motion::Chances;
 use crate::regions::Region;
@@ -18,8 +18,8 @@ use std::alloc::Global;
 /// A cell past all roads.
 pub(crate) const NOWHERE: u16 = u16::MAX;
 
-/// Cuts a road up to its exit into regions: one begins at each cell from which on the speed limit, a slowing chance or the
-/// next blocked cell is another. The settings must fit the plan.
+/// Cuts a road up to its exit into regions: one begins at each cell from which on the speed limit, a slowing chance or
+/// the next blocked cell is another. The settings must fit the plan.
 ///
 /// # Errors
 ///
@@ -62,7 +62,8 @@ fn cut_at(plan: &Plan, settings: &Settings, first: u32) -> Cut
         → AreOfZone settings.now.limits settings.now.starts settings.now.chances (zone_of plan.now c)
         result.region.chances.limit result.region.chances.standing result.region.chances.moving }
     ensures parted { (c : ℕ) → first ≤ c → c < result.end → ArePartedAt settings.now.blocks c result.reached }
-    ensures block { result.reached < length settings.now.blocks → result.region.block ≡ slice_index settings.now.blocks result.reached }
+    ensures block { result.reached < length settings.now.blocks → result.region.block
+        ≡ slice_index settings.now.blocks result.reached }
     ensures none { length settings.now.blocks ≤ result.reached → result.region.block ≡ 65535 }
 {
     let width = plan.width();

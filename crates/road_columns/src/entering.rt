@@ -1,6 +1,7 @@
 //! The cars of a step enter the road in columns.
 
-ghost use Rattle.std.specs.Prelude.{◌≡◌, ◌≢◌, ◌<◌, ◌≤◌, ◌+◌, ◌-◌, ◌*◌, ◌/◌, ◌%◌, ◌^◌, ◌⊎◌, ◌&&◌, ℕ, None, length, slice_index, slice_range};
+ghost use Rattle.std.specs.Prelude.{◌≡◌, ◌≢◌, ◌<◌, ◌≤◌, ◌+◌, ◌-◌, ◌*◌, ◌/◌, ◌%◌, ◌^◌, ◌⊎◌, ◌&&◌, ℕ, None, length};
+ghost use Rattle.std.specs.Prelude.{slice_index, slice_range};
 ghost use Rattle.std.specs.List.{slice_index_or};
 ghost use Rattle.road_plan.specs.Settings.{Fits};
 ghost use Rattle.road_plan.specs.declared.limits.TheConstants.{MOST_INLETS};
@@ -9,13 +10,15 @@ ghost use Rattle.road_cells.specs.Array.{Array, vehicle_at};
 ghost use Rattle.road_ends.specs.Entries.{inlet_stream, is_admitting};
 ghost use Rattle.road_rules.specs.Speeds.{comes_about};
 ghost use Rattle.road_ends.specs.Private.EntriesBetween.{entries_between};
-ghost use Rattle.road_columns.specs.CarsAt.{AreCarsAt, IsPlaceAt, from_place, is_between};
-ghost use Rattle.road_columns.specs.Entering.{IsPutIn, place_beside, place_on, AreWordsOfInlets, AreCellsOfInlets, ArePlacesFrom};
+ghost use Rattle.road_columns.specs.Private.CarsAt.{AreCarsAt, IsPlaceAt, from_place, is_between};
+ghost use Rattle.road_columns.specs.Private.Entering.{IsPutIn, place_beside, place_on, AreWordsOfInlets};
+ghost use Rattle.road_columns.specs.Private.Entering.{AreCellsOfInlets};
+ghost use Rattle.road_columns.specs.Private.Entering.{ArePlacesFrom};
 ghost use Rattle.road_columns.specs.Columns.{AreColumnsOf};
 ghost use Rattle.road_plan.specs.declared.parts.WordKind.{WordKind};
-ghost use Rattle.road_columns.specs.Entered.{AreInOrder};
-ghost use Rattle.road_columns.specs.EnteredList.{ArePlacesRising, entered_in};
-ghost use Rattle.road_columns.specs.LooseWords.{AreFalling, HaveLooseWords};
+ghost use Rattle.road_columns.specs.Private.Entered.{AreInOrder};
+ghost use Rattle.road_columns.specs.Private.EnteredList.{ArePlacesRising, entered_in};
+ghost use Rattle.road_columns.specs.Private.LooseWords.{AreFalling, HaveLooseWords};
 
 use crate::entered::enter_words;
 use crate::words::{Batch, Source};
@@ -66,7 +69,8 @@ pub fn move_on(cells: &[u16], sites: &[u16], places: &mut [u32])
     }
 }
 
-// Answers whether an inlet lets a car in, by the upper 16 bits of its word, and its cell is one of those that are computed.
+// Answers whether an inlet lets a car in, by the upper 16 bits of its word, and its cell is one of those that are
+// computed.
 #[inline(always)]
 fn lets_in(
     plan: &Plan,
@@ -103,10 +107,10 @@ fn comes(high16: u16, chance: u32) -> bool
     chance >= CERTAIN || u32::from(high16) < chance
 }
 
-/// Lets the cars of a step enter between two cells, one inlet after another, and keeps the words of each at the steps that
-/// are left of the span. The cars stand at the places from `head` to before `tail` of the columns, the one at the far end
-/// first; in front of them a cell past the road's end. Of the sites, whose kept places move on, the first ones are the
-/// inlets' cells. Returns the new tail, and how many have entered between others in the span.
+/// Lets the cars of a step enter between two cells, one inlet after another, and keeps the words of each at the steps
+/// that are left of the span. The cars stand at the places from `head` to before `tail` of the columns, the one at the
+/// far end first; in front of them a cell past the road's end. Of the sites, whose kept places move on, the first ones
+/// are the inlets' cells. Returns the new tail, and how many have entered between others in the span.
 #[inline(never)]
 pub fn enter(
     plan: &Plan,
@@ -169,11 +173,16 @@ pub fn enter(
     ensures rising { ArePlacesRising result.1 beside.new }
     ensures in_order { AreInOrder (entered_in result.1 beside.new batches.new) result.0 }
     ensures entries { (a : Array) → ((c : ℕ) → (c < lo) ⊎ (hi ≤ c) → vehicle_at a c ≡ None)
-        → AreColumnsOf a (slice_range cells.old head tail) (slice_range speeds.old head tail) (slice_range numbers.old head tail)
-        → AreColumnsOf (entries_between lo hi plan.now settings.now step a) (slice_range cells.new head result.0) (slice_range speeds.new head result.0) (slice_range numbers.new head result.0) }
-    ensures kept_words { (kind : WordKind) → ((stream place : ℕ) → chacha_word source.key stream place ≡ word kind stream place)
-        → HaveLooseWords kind (64 * (step / 64)) width (step % 64) rows.old (entered_in entered beside.old batches.old) head tail cells.old (slice_index numbers.old)
-        → HaveLooseWords kind (64 * (step / 64)) width (step % 64) rows.new (entered_in result.1 beside.new batches.new) head result.0 cells.new (slice_index numbers.new) }
+        → AreColumnsOf a (slice_range cells.old head tail) (slice_range speeds.old head tail)
+        (slice_range numbers.old head tail)
+        → AreColumnsOf (entries_between lo hi plan.now settings.now step a) (slice_range cells.new head result.0)
+        (slice_range speeds.new head result.0) (slice_range numbers.new head result.0) }
+    ensures kept_words { (kind : WordKind)
+        → ((stream place : ℕ) → chacha_word source.key stream place ≡ word kind stream place)
+        → HaveLooseWords kind (64 * (step / 64)) width (step % 64) rows.old
+        (entered_in entered beside.old batches.old) head tail cells.old (slice_index numbers.old)
+        → HaveLooseWords kind (64 * (step / 64)) width (step % 64) rows.new
+        (entered_in result.1 beside.new batches.new) head result.0 cells.new (slice_index numbers.new) }
 {
     let mut end = tail;
     let mut between = entered;

@@ -1,6 +1,6 @@
-//! The cars of a road in columns: one for the cells, one for the speeds, one for the numbers, the car at the far end first.
-//! Their random words for the 64 steps of a span stand in rows, one for each step, so that a step is a few passes over
-//! contiguous memory.
+//! The cars of a road in columns: one for the cells, one for the speeds, one for the numbers, the car at the far end
+//! first. Their random words for the 64 steps of a span stand in rows, one for each step, so that a step is a few
+//! passes over contiguous memory.
 #![tactic(auto)]
 
 mod cutting;

@@ -3,9 +3,9 @@
 ghost use Rattle.std.specs.Prelude.{◌≡◌, ◌<◌, ◌≤◌, ◌+◌, ◌-◌, ◌/◌, ◌⊎◌, ℕ, length, min, slice_index};
 ghost use Rattle.road_cells.specs.declared.car.TheConstants.{GREATEST_SPEED};
 ghost use Rattle.road_rules.specs.Speeds.{comes_about, slowed_speed};
-ghost use Rattle.road_columns.specs.Motion.{chance_at};
-ghost use Rattle.road_columns.specs.Pieces.{ahead_at, wanted_at, IsHigh16At};
-ghost use Rattle.road_columns.specs.EnteredList.{ArePlacesRising};
+ghost use Rattle.road_columns.specs.Private.Motion.{chance_at};
+ghost use Rattle.road_columns.specs.Private.Pieces.{ahead_at, wanted_at, IsHigh16At};
+ghost use Rattle.road_columns.specs.Private.EnteredList.{ArePlacesRising};
 
 use crate::motion::{Chances, advance};
 use crate::words::Batch;
@@ -32,9 +32,11 @@ pub fn advance_in(
     ensures as_many_speeds { length speeds.new ≡ length speeds.old }
     ensures other_cells { (q : ℕ) → (q < from) ⊎ (to ≤ q) → slice_index cells.new q ≡ slice_index cells.old q }
     ensures other_speeds { (q : ℕ) → (q < from) ⊎ (to ≤ q) → slice_index speeds.new q ≡ slice_index speeds.old q }
-    ensures cells { (q : ℕ) → from ≤ q → q < to → slice_index cells.new q ≡ slice_index cells.old q + slice_index speeds.new q }
+    ensures cells { (q : ℕ) → from ≤ q → q < to → slice_index cells.new q
+        ≡ slice_index cells.old q + slice_index speeds.new q }
     ensures speeds { (q : ℕ) → from ≤ q → q < to → (word : ℕ)
-        → (0 < wanted_at from front chances.limit cells.old speeds.old q → slice_index row.now (at + (q - from)) ≡ word / 65536)
+        → (0 < wanted_at from front chances.limit cells.old speeds.old q → slice_index row.now (at + (q - from))
+        ≡ word / 65536)
         → slice_index speeds.new q ≡ slowed_speed (wanted_at from front chances.limit cells.old speeds.old q)
         (comes_about word (chance_at (slice_index speeds.old q) chances.standing chances.moving)) }
 {
@@ -47,8 +49,8 @@ pub fn advance_in(
     );
 }
 
-/// Moves the cars at the places from `from` to before `to`, among them those that have entered in the span, of index `first` to
-/// before `last`: piece by piece from the near end on, each with its words in the row or its own.
+/// Moves the cars at the places from `from` to before `to`, among them those that have entered in the span, of index
+/// `first` to before `last`: piece by piece from the near end on, each with its words in the row or its own.
 #[inline(never)]
 pub fn advance_between(
     cells: &mut [u16],
@@ -84,7 +86,8 @@ pub fn advance_between(
     ensures as_many_speeds { length speeds.new ≡ length speeds.old }
     ensures other_cells { (q : ℕ) → (q < from) ⊎ (to ≤ q) → slice_index cells.new q ≡ slice_index cells.old q }
     ensures other_speeds { (q : ℕ) → (q < from) ⊎ (to ≤ q) → slice_index speeds.new q ≡ slice_index speeds.old q }
-    ensures cells { (q : ℕ) → from ≤ q → q < to → slice_index cells.new q ≡ slice_index cells.old q + slice_index speeds.new q }
+    ensures cells { (q : ℕ) → from ≤ q → q < to → slice_index cells.new q
+        ≡ slice_index cells.old q + slice_index speeds.new q }
     ensures speeds { (q : ℕ) → from ≤ q → q < to → (word : ℕ)
         → (0 < wanted_at from front chances.limit cells.old speeds.old q
         → IsHigh16At row.now index last beside.now batches.now q (word / 65536))

@@ -3,11 +3,11 @@
 ghost use Rattle.std.specs.Prelude.{◌≡◌, ◌<◌, ◌≤◌, ◌+◌, ◌-◌, ◌/◌, ◌⊎◌, ℕ, length, min, slice_index};
 ghost use Rattle.road_cells.specs.declared.car.TheConstants.{GREATEST_SPEED};
 ghost use Rattle.road_rules.specs.Speeds.{comes_about, slowed_speed};
-ghost use Rattle.road_columns.specs.EnteredList.{ArePlacesRising};
-ghost use Rattle.road_columns.specs.LooseWords.{AreFalling};
-ghost use Rattle.road_columns.specs.Motion.{chance_at};
-ghost use Rattle.road_columns.specs.Pieces.{IsHigh16At};
-ghost use Rattle.road_columns.specs.Regions.{IsOfRegion, region_at, wish_at};
+ghost use Rattle.road_columns.specs.Private.EnteredList.{ArePlacesRising};
+ghost use Rattle.road_columns.specs.Private.LooseWords.{AreFalling};
+ghost use Rattle.road_columns.specs.Private.Motion.{chance_at};
+ghost use Rattle.road_columns.specs.Private.Pieces.{IsHigh16At};
+ghost use Rattle.road_columns.specs.Private.Regions.{IsOfRegion, region_at, wish_at};
 
 use crate::motion::Chances;
 use crate::pieces::advance_between;
@@ -24,9 +24,10 @@ pub struct Region {
     pub block: u16,
 }
 
-/// Moves the cars at the places from `head` to before `tail`, region by region from the near end on. `ends` has for each
-/// region the place of the first car before it. The cell at the place before `head` is one that nobody reaches. Of the cars,
-/// `entered` have entered in the span between others: their places are those in `beside`, and their words in `batches`.
+/// Moves the cars at the places from `head` to before `tail`, region by region from the near end on. `ends` has for
+/// each region the place of the first car before it. The cell at the place before `head` is one that nobody reaches. Of
+/// the cars, `entered` have entered in the span between others: their places are those in `beside`, and their words in
+/// `batches`.
 #[inline(never)]
 pub fn advance_regions(
     cells: &mut [u16],
@@ -66,7 +67,8 @@ pub fn advance_regions(
     ensures as_many_speeds { length speeds.new ≡ length speeds.old }
     ensures other_cells { (q : ℕ) → (q < head) ⊎ (tail ≤ q) → slice_index cells.new q ≡ slice_index cells.old q }
     ensures other_speeds { (q : ℕ) → (q < head) ⊎ (tail ≤ q) → slice_index speeds.new q ≡ slice_index speeds.old q }
-    ensures cells { (q : ℕ) → head ≤ q → q < tail → slice_index cells.new q ≡ slice_index cells.old q + slice_index speeds.new q }
+    ensures cells { (q : ℕ) → head ≤ q → q < tail → slice_index cells.new q
+        ≡ slice_index cells.old q + slice_index speeds.new q }
     ensures speeds { (r q : ℕ) → IsOfRegion (length regions.now) ends.now r q → head ≤ q → (word : ℕ) →
         let region = region_at regions.now r in
         let wish = wish_at region.chances.limit region.block cells.old speeds.old q in
@@ -133,7 +135,8 @@ fn advance_region(
     ensures as_many_speeds { length speeds.new ≡ length speeds.old }
     ensures other_cells { (q : ℕ) → (q < from) ⊎ (to ≤ q) → slice_index cells.new q ≡ slice_index cells.old q }
     ensures other_speeds { (q : ℕ) → (q < from) ⊎ (to ≤ q) → slice_index speeds.new q ≡ slice_index speeds.old q }
-    ensures cells { (q : ℕ) → from ≤ q → q < to → slice_index cells.new q ≡ slice_index cells.old q + slice_index speeds.new q }
+    ensures cells { (q : ℕ) → from ≤ q → q < to → slice_index cells.new q
+        ≡ slice_index cells.old q + slice_index speeds.new q }
     ensures speeds { (q : ℕ) → from ≤ q → q < to → (word : ℕ) →
         let wish = wish_at region.chances.limit region.block cells.old speeds.old q in
         (0 < wish → IsHigh16At row.now index last beside.now batches.now q (word / 65536))

@@ -1,6 +1,7 @@
 //! One step of the cars in columns: entries, motion, counting, exit.
 
-ghost use Rattle.std.specs.Prelude.{◌≡◌, ◌<◌, ◌≤◌, ◌+◌, ◌-◌, ◌*◌, ◌/◌, ◌%◌, ◌^◌, ◌⊎◌, ℕ, None, length, slice_index, slice_range};
+ghost use Rattle.std.specs.Prelude.{◌≡◌, ◌<◌, ◌≤◌, ◌+◌, ◌-◌, ◌*◌, ◌/◌, ◌%◌, ◌^◌, ◌⊎◌, ℕ, None, length, slice_index};
+ghost use Rattle.std.specs.Prelude.{slice_range};
 ghost use Rattle.road_plan.specs.Plan.{IsWithinLimits, exit_start};
 ghost use Rattle.road_plan.specs.Settings.{Fits};
 ghost use Rattle.road_words.specs.Words.{chacha_word, word};
@@ -9,12 +10,12 @@ ghost use Rattle.road_ends.specs.Private.EntriesBetween.{input_between};
 ghost use Rattle.road_ends.specs.Input.{input_next, input_speeds};
 ghost use Rattle.road_detector.specs.Passes.{passes_at, plus};
 ghost use Rattle.road_columns.specs.Columns.{AreColumnsOf};
-ghost use Rattle.road_columns.specs.Entered.{AreInOrder};
-ghost use Rattle.road_columns.specs.EnteredList.{ArePlacesRising, entered_in};
-ghost use Rattle.road_columns.specs.Entering.{ArePlacesFrom, AreWordsOfInlets};
-ghost use Rattle.road_columns.specs.LooseWords.{HaveLooseWords};
-ghost use Rattle.road_columns.specs.Sites.{IsOfSteps, unpacked};
-ghost use Rattle.road_columns.specs.Step.{AreCarsInColumn, AreRegionsOf, AreSitesOf};
+ghost use Rattle.road_columns.specs.Private.Entered.{AreInOrder};
+ghost use Rattle.road_columns.specs.Private.EnteredList.{ArePlacesRising, entered_in};
+ghost use Rattle.road_columns.specs.Private.Entering.{ArePlacesFrom, AreWordsOfInlets};
+ghost use Rattle.road_columns.specs.Private.LooseWords.{HaveLooseWords};
+ghost use Rattle.road_columns.specs.Private.Sites.{IsOfSteps, unpacked};
+ghost use Rattle.road_columns.specs.Private.Step.{AreCarsInColumn, AreRegionsOf, AreSitesOf};
 
 use crate::cutting::NOWHERE;
 use crate::entering::{enter, move_on};
@@ -35,12 +36,12 @@ pub struct Extent {
     pub entered: usize,
 }
 
-/// Computes one step of the cars in columns, on the cells of a stretch: entries, motion, counting, exit. All cars must stand on
-/// these cells, before the exit. The words of a span's steps stand in `rows`, one row of `width` words for each step, those of
-/// the cars that have entered between others in `batches`, by their places in `beside`; `high16s` has the upper 16 bits of the
-/// inlets' words. `sites` are the cells of the inlets and the detectors and the first ones of the regions, and `places` has for
-/// each the place of the first car before it. `passes` has for each detector what it has counted in the span, a car as 65,536 and
-/// its speed. It takes no memory.
+/// Computes one step of the cars in columns, on the cells of a stretch: entries, motion, counting, exit. All cars must
+/// stand on these cells, before the exit. The words of a span's steps stand in `rows`, one row of `width` words for
+/// each step, those of the cars that have entered between others in `batches`, by their places in `beside`; `high16s`
+/// has the upper 16 bits of the inlets' words. `sites` are the cells of the inlets and the detectors and the first ones
+/// of the regions, and `places` has for each the place of the first car before it. `passes` has for each detector what
+/// it has counted in the span, a car as 65,536 and its speed. It takes no memory.
 #[inline(never)]
 pub fn step_in_columns(
     plan: &Plan,
@@ -106,13 +107,15 @@ pub fn step_in_columns(
     ensures places { ArePlacesFrom cells.new result.head result.tail sites.now places.new }
     ensures counted { (d : ℕ) → d < length passes.old → IsOfSteps (step % 64 + 1) (slice_index passes.new d) }
     ensures road { (a : Array) → ((c : ℕ) → (c < stretch.first) ⊎ (stretch.end ≤ c) → vehicle_at a c ≡ None)
-        → AreColumnsOf a (slice_range cells.old extent.head extent.tail) (slice_range speeds.old extent.head extent.tail)
+        → AreColumnsOf a (slice_range cells.old extent.head extent.tail)
+        (slice_range speeds.old extent.head extent.tail)
         (slice_range numbers.old extent.head extent.tail)
         → AreColumnsOf (input_next (input_between stretch.first stretch.end plan.now settings.now step a))
         (slice_range cells.new result.head result.tail) (slice_range speeds.new result.head result.tail)
         (slice_range numbers.new result.head result.tail) }
     ensures passes { (a : Array) → ((c : ℕ) → (c < stretch.first) ⊎ (stretch.end ≤ c) → vehicle_at a c ≡ None)
-        → AreColumnsOf a (slice_range cells.old extent.head extent.tail) (slice_range speeds.old extent.head extent.tail)
+        → AreColumnsOf a (slice_range cells.old extent.head extent.tail)
+        (slice_range speeds.old extent.head extent.tail)
         (slice_range numbers.old extent.head extent.tail)
         → (d : ℕ) → d < length passes.old
         → unpacked (slice_index passes.new d) ≡ plus (unpacked (slice_index passes.old d))
@@ -153,10 +156,10 @@ pub fn step_in_columns(
     }
 }
 
-/// Moves the cars of a step, which have entered, counts them, and lets the one leave that comes to the exit. The cars stand
-/// at the places from `head` to before `tail` of the columns, the one at the far end first. Their words stand in `rows`, one
-/// row of `width` words for each step of the span, those of the `entered` cars that have entered between others in `batches`.
-/// Returns the new head.
+/// Moves the cars of a step, which have entered, counts them, and lets the one leave that comes to the exit. The cars
+/// stand at the places from `head` to before `tail` of the columns, the one at the far end first. Their words stand in
+/// `rows`, one row of `width` words for each step of the span, those of the `entered` cars that have entered between
+/// others in `batches`. Returns the new head.
 #[inline(never)]
 fn move_cars(
     plan: &Plan,
@@ -205,11 +208,13 @@ fn move_cars(
         (entered_in entered beside.now batches.now) result tail cells.new (slice_index numbers.now) }
     ensures counted { (d : ℕ) → d < length passes.old → IsOfSteps (step % 64 + 1) (slice_index passes.new d) }
     ensures road { (b : Array) → length b ≤ plan.now.cells
-        → AreColumnsOf b (slice_range cells.old head tail) (slice_range speeds.old head tail) (slice_range numbers.now head tail)
+        → AreColumnsOf b (slice_range cells.old head tail) (slice_range speeds.old head tail)
+        (slice_range numbers.now head tail)
         → AreColumnsOf (input_next (record { plan = plan.now; settings = settings.now; step = step; road = b }))
         (slice_range cells.new result tail) (slice_range speeds.new result tail) (slice_range numbers.now result tail) }
     ensures passes { (b : Array) → length b ≤ plan.now.cells
-        → AreColumnsOf b (slice_range cells.old head tail) (slice_range speeds.old head tail) (slice_range numbers.now head tail)
+        → AreColumnsOf b (slice_range cells.old head tail) (slice_range speeds.old head tail)
+        (slice_range numbers.now head tail)
         → (d : ℕ) → d < length passes.old
         → unpacked (slice_index passes.new d) ≡ plus (unpacked (slice_index passes.old d))
         (passes_at (record { plan = plan.now; settings = settings.now; step = step; road = b })

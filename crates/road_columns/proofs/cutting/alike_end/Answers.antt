@@ -1,5 +1,5 @@
 -- The cells of the zones so far.
-use Rattle.std.proofs.Common.{◌≡◌, ◌+◌, ◌*◌, ◌/◌, ◌<◌, ◌≤◌, ℕ, arith}
+use Rattle.std.proofs.Common.{◌+◌, ◌*◌, ◌/◌, ◌<◌, arith}
 use Rattle.std.proofs.Math.Nat.{div-lt_iff_lt-mul, mul-le-mul_right}
 use Rattle.road_columns.proofs.cutting.alike_end.Goals as goal
 

@@ -1,11 +1,11 @@
 -- The region from a cell to the next zone that is another, or to the next blocked cell.
-use Rattle.std.proofs.Common.{◌≡◌, ◌∙◌, ◌+◌, ◌-◌, ◌*◌, ◌/◌, ◌<◌, ◌≤◌, ℕ, List, length, slice_index, sym, ap, subst, arith, refl, inl, inr}
+use Rattle.std.proofs.Common.{◌≡◌, ◌∙◌, ◌+◌, ◌*◌, ◌/◌, ◌<◌, ℕ, List, length, slice_index, sym, ap, subst, arith, inl, inr}
 use Rattle.std.specs.List.Sorted.{IsNonDecreasing}
 use Rattle.std.proofs.Math.Nat.{lt-div-mul-add}
 use Rattle.std.proofs.lemmas.Bool.{cases_lt}
 use Rattle.road_plan.specs.Plan.{Plan, IsWithinLimits, exit_start}
 use Rattle.road_plan.specs.Settings.{Fits, Settings}
-use Rattle.road_ends.proofs.PassOverCars.{zone_from, zone_up_to}
+use Rattle.road_ends.proofs.PassOverCars.{zone_up_to}
 use Rattle.road_ends.proofs.StepByCars.{not_falling, zone_below}
 use Rattle.road_columns.proofs.cutting.cut_at.Goals as goal
 

@@ -1,5 +1,5 @@
 -- One region more, up to the exit.
-use Rattle.std.proofs.Common.{◌≡◌, ◌∙◌, ◌+◌, ◌-◌, ◌<◌, ◌≤◌, ◌∷◌, [], ◌++◌, ℕ, List, length, sym, ap, subst, arith, refl}
+use Rattle.std.proofs.Common.{◌<◌, ◌≤◌, sym, subst, arith}
 use Rattle.road_plan.specs.Plan.{exit_start}
 use Rattle.road_columns.specs.declared.regions.Region.{Region}
 use Rattle.road_columns.proofs.RegionsCut.{AreRegionsUpTo, IsRegionTo, all_regions, one_more}

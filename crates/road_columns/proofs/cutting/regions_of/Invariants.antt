@@ -1,6 +1,5 @@
 -- The loop from region to region.
-use Rattle.std.proofs.Common.{◌≡◌, ◌≤◌, ◌<◌, ◌+◌, ◌-◌, ℕ, length, slice_index}
-use Rattle.road_plan.specs.Plan.{exit_start}
+use Rattle.std.proofs.Common.{◌-◌}
 use Rattle.road_columns.proofs.RegionsCut.{AreRegionsUpTo}
 use Rattle.road_columns.proofs.cutting.regions_of.Given as goal
 

@@ -1,11 +1,10 @@
 -- One car that has entered, and the piece behind it.
-use Rattle.std.proofs.Common.{◌≡◌, ◌≢◌, ◌∙◌, ◌<◌, ◌≤◌, ◌+◌, ◌-◌, ◌/◌, ◌⊎◌, ℕ, List, length, slice_index, sym, ap, subst, arith, refl, inl, inr}
-use Rattle.std.specs.Prelude.{nat_eq, slice_index_or, [], if◌then◌else◌}
+use Rattle.std.proofs.Common.{◌≡◌, ◌∙◌, ◌<◌, ◌≤◌, ◌+◌, ◌-◌, ℕ, List, slice_index, sym, ap, subst, arith, inl, inr}
+use Rattle.std.specs.Prelude.{slice_index_or, []}
 use Rattle.std.proofs.lemmas.Bool.{cases_lt, cases_eq}
-use Rattle.std.proofs.lemmas.Bool.Decides.{nat_tests}
 use Rattle.road_rules.specs.Speeds.{comes_about, slowed_speed}
-use Rattle.road_columns.specs.Motion.{chance_at}
-use Rattle.road_columns.specs.Pieces.{ahead_at, wanted_at, IsHigh16At}
+use Rattle.road_columns.specs.Private.Motion.{chance_at}
+use Rattle.road_columns.specs.Private.Pieces.{ahead_at, wanted_at}
 use Rattle.road_columns.proofs.PieceWishes.{at_first, at_later, wish_alone, wish_behind, wish_first}
 use Rattle.road_columns.proofs.pieces.advance_between.Goals as goal
 use Rattle.road_columns.proofs.pieces.advance_between.Goals.{then-place-from, else-place-from}

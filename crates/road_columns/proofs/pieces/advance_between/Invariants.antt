@@ -1,8 +1,8 @@
 -- The loop over the cars that have entered, from the near end on.
-use Rattle.std.proofs.Common.{◌≡◌, ◌+◌, ◌-◌, ◌/◌, ◌<◌, ◌≤◌, ◌⊎◌, ℕ, length, slice_index}
+use Rattle.std.proofs.Common.{◌≡◌, ◌+◌, ◌/◌, ◌<◌, ◌≤◌, ◌⊎◌, ℕ, length, slice_index}
 use Rattle.road_rules.specs.Speeds.{comes_about, slowed_speed}
-use Rattle.road_columns.specs.Motion.{chance_at}
-use Rattle.road_columns.specs.Pieces.{wanted_at, IsHigh16At}
+use Rattle.road_columns.specs.Private.Motion.{chance_at}
+use Rattle.road_columns.specs.Private.Pieces.{wanted_at, IsHigh16At}
 use Rattle.road_columns.proofs.pieces.advance_between.Given as goal
 
 -- the cars from the end on have moved, the others not

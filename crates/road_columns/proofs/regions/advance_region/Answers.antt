@@ -1,10 +1,8 @@
 -- A region is a piece in front of which the next car stands, or a blocked cell.
-use Rattle.std.proofs.Common.{◌≡◌, ◌≢◌, ◌∙◌, ◌<◌, ◌≤◌, ◌+◌, ◌-◌, ◌/◌, ◌⊎◌, ℕ, List, length, slice_index, sym, ap, subst, arith, refl, inl, inr}
-use Rattle.std.specs.Prelude.{min}
+use Rattle.std.proofs.Common.{◌∙◌, ◌<◌, ◌≤◌, ◌-◌, slice_index, subst, arith, inl, inr}
 use Rattle.std.proofs.lemmas.Bool.{cases_lt}
 use Rattle.road_rules.specs.Speeds.{comes_about, slowed_speed}
-use Rattle.road_columns.specs.Motion.{chance_at}
-use Rattle.road_columns.specs.Pieces.{ahead_at}
+use Rattle.road_columns.specs.Private.Motion.{chance_at}
 use Rattle.road_columns.proofs.PieceWishes.{ahead_region, wish_region}
 use Rattle.road_columns.proofs.regions.advance_region.Goals as goal
 

@@ -1,12 +1,10 @@
 -- One region more, between the cars before it and those of the regions behind.
-use Rattle.std.proofs.Common.{◌≡◌, ◌≢◌, ◌∙◌, ◌<◌, ◌≤◌, ◌+◌, ◌-◌, ◌/◌, ◌⊎◌, ℕ, List, length, slice_index, sym, ap, subst, arith, refl, inl, inr}
-use Rattle.std.specs.Prelude.{min}
+use Rattle.std.proofs.Common.{◌≡◌, ◌∙◌, ◌<◌, ◌≤◌, ◌+◌, ◌-◌, ◌/◌, ℕ, List, length, slice_index, sym, ap, subst, arith, inl, inr}
 use Rattle.std.proofs.lemmas.Bool.{cases_lt, cases_eq}
 use Rattle.road_rules.specs.Speeds.{comes_about, slowed_speed}
-use Rattle.road_columns.specs.LooseWords.{AreFalling}
-use Rattle.road_columns.specs.Motion.{chance_at}
-use Rattle.road_columns.specs.Pieces.{IsHigh16At}
-use Rattle.road_columns.specs.Regions.{IsOfRegion, region_at, wish_at}
+use Rattle.road_columns.specs.Private.Motion.{chance_at}
+use Rattle.road_columns.specs.Private.Pieces.{IsHigh16At}
+use Rattle.road_columns.specs.Private.Regions.{IsOfRegion, region_at, wish_at}
 use Rattle.road_columns.specs.declared.regions.Region.{Region}
 use Rattle.road_columns.proofs.PieceWishes.{falls, wish_same}
 use Rattle.road_columns.proofs.regions.advance_regions.Goals as goal

@@ -1,9 +1,9 @@
 -- The loop over the regions, from the near end on.
-use Rattle.std.proofs.Common.{◌≡◌, ◌+◌, ◌-◌, ◌/◌, ◌<◌, ◌≤◌, ◌⊎◌, ℕ, length, slice_index}
+use Rattle.std.proofs.Common.{◌≡◌, ◌+◌, ◌/◌, ◌<◌, ◌≤◌, ◌⊎◌, ℕ, length, slice_index}
 use Rattle.road_rules.specs.Speeds.{comes_about, slowed_speed}
-use Rattle.road_columns.specs.Motion.{chance_at}
-use Rattle.road_columns.specs.Pieces.{IsHigh16At}
-use Rattle.road_columns.specs.Regions.{IsOfRegion, region_at, wish_at}
+use Rattle.road_columns.specs.Private.Motion.{chance_at}
+use Rattle.road_columns.specs.Private.Pieces.{IsHigh16At}
+use Rattle.road_columns.specs.Private.Regions.{IsOfRegion, region_at, wish_at}
 use Rattle.road_columns.proofs.regions.advance_regions.Given as goal
 
 -- the cars of the regions so far have moved, the others not

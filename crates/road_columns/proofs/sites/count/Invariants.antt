@@ -1,7 +1,7 @@
 -- The loop over the sites.
 use Rattle.std.proofs.Common.{◌≡◌, ◌+◌, ◌<◌, ◌≤◌, ℕ, length, slice_index, false}
 use Rattle.std.specs.List.{slice_index_or}
-use Rattle.road_columns.specs.Sites.{passes_of}
+use Rattle.road_columns.specs.Private.Sites.{passes_of}
 use Rattle.road_columns.proofs.sites.count.Given as goal
 
 -- the sites so far are done, the others not

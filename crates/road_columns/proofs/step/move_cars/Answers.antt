@@ -1,10 +1,10 @@
 -- All of a step but its entries.
-use Rattle.std.proofs.Common.{◌≡◌, ◌∙◌, ◌+◌, ◌-◌, ◌*◌, ◌/◌, ◌%◌, ◌<◌, ◌≤◌, ◌⊎◌, ℕ, List, false, length, slice_index, slice_index_or, sym, ap, subst, arith, refl, inl, inr}
+use Rattle.std.proofs.Common.{◌≡◌, ◌∙◌, ◌+◌, ◌-◌, ◌*◌, ◌/◌, ◌%◌, ◌<◌, ◌≤◌, ℕ, false, length, slice_index, slice_index_or, sym, ap, subst, arith, inr}
 use Rattle.std.specs.Prelude.{slice_range}
 use Rattle.road_plan.specs.Plan.{exit_start}
 use Rattle.road_ends.proofs.StepByCars.{not_falling}
-use Rattle.road_columns.specs.EnteredList.{entered_in}
-use Rattle.road_columns.specs.Sites.{IsOfSteps, passes_of, unpacked}
+use Rattle.road_columns.specs.Private.EnteredList.{entered_in}
+use Rattle.road_columns.specs.Private.Sites.{IsOfSteps, passes_of, unpacked}
 use Rattle.road_columns.proofs.CarsStepped.{cars_stepped, places_stepped, road_stepped, words_stepped}
 use Rattle.road_columns.proofs.ColumnPlaces.{range_at, range_long}
 use Rattle.road_columns.proofs.CountsStepped.{count_is, count_more}

@@ -5,7 +5,7 @@ use Rattle.std.specs.Prelude.{slice_range}
 use Rattle.road_plan.specs.Plan.{exit_start}
 use Rattle.road_ends.specs.Private.EntriesBetween.{entries_between, with_entry}
 use Rattle.road_ends.proofs.EntriesBetween.{between-ends}
-use Rattle.road_columns.specs.EnteredList.{entered_in}
+use Rattle.road_columns.specs.Private.EnteredList.{entered_in}
 use Rattle.road_columns.proofs.CarsEntered.{cars_entered, inlets_before_exit}
 use Rattle.road_columns.proofs.CarsStepped.{columns_same, words_same}
 use Rattle.road_columns.proofs.step.step_in_columns.Goals as goal

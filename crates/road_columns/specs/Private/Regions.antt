@@ -7,7 +7,6 @@ use Rattle.road_cells.specs.Gap.{ArePartedAt}
 use Rattle.road_cells.specs.declared.car.TheConstants.{GREATEST_SPEED}
 use Rattle.road_rules.specs.Speeds.{wanted_speed}
 use Rattle.road_ends.specs.Private.PassPlaces.{AreOfZone}
-use Rattle.road_columns.specs.declared.motion.Chances.{Chances}
 use Rattle.road_columns.specs.declared.regions.Region.{Region}
 
 -- the region at a place of a list of them
@@ -15,7 +14,8 @@ abbrev pub region_at : List Region → ℕ → Region
 region_at regions r = slice_index_or regions r
     (record { first = 0; chances = record { limit = 0; standing = 0; moving = 0 }; block = 0 })
 
--- the car at this place stands in region r of so many, where `ends` has for each region the place of the first car before it
+-- the car at this place stands in region r of so many, where `ends` has for each region the place of the first car
+-- before it
 pub record IsOfRegion (count : ℕ) (ends : List ℕ) (r q : ℕ) : Type 0 where
   pub within : r < count
   pub before_end : q < slice_index ends r
@@ -24,7 +24,8 @@ pub record IsOfRegion (count : ℕ) (ends : List ℕ) (r q : ℕ) : Type 0 where
 -- what the car at a place wants by rules 1 and 2, where the next blocked cell is at `block`
 abbrev pub wish_at : ℕ → ℕ → List ℕ → List ℕ → ℕ → ℕ
 wish_at limit block cells speeds q =
-    wanted_speed (slice_index speeds q) limit (min GREATEST_SPEED (min (slice_index cells (q - 1)) block - (slice_index cells q + 1)))
+    wanted_speed (slice_index speeds q) limit
+    (min GREATEST_SPEED (min (slice_index cells (q - 1)) block - (slice_index cells q + 1)))
 
 -- a cell lies in region r
 pub record IsInRegion (regions : List Region) (r c : ℕ) : Type 0 where

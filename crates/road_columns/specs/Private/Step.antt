@@ -3,8 +3,8 @@ use Rattle.std.specs.Prelude.{◌≡◌, ℕ, ◌+◌, ◌-◌, ◌<◌, ◌≤�
 use Rattle.std.specs.List.{slice_index_or}
 use Rattle.road_plan.specs.Plan.{Plan, exit_start}
 use Rattle.road_plan.specs.Settings.{Settings}
-use Rattle.road_columns.specs.LooseWords.{AreFalling}
-use Rattle.road_columns.specs.Regions.{IsRegionOf, region_at}
+use Rattle.road_columns.specs.Private.LooseWords.{AreFalling}
+use Rattle.road_columns.specs.Private.Regions.{IsRegionOf, region_at}
 use Rattle.road_columns.specs.declared.regions.Region.{Region}
 
 -- cars before the exit at the places from head to before tail, the one at the far end first, between a cell that nobody
@@ -31,4 +31,5 @@ pub record AreSitesOf (p : Plan) (regions : List Region) (sites : List ℕ) : Ty
   pub as_many : length sites ≡ length p.inlets + length p.detectors + length regions
   pub inlets : (i : ℕ) → i < length p.inlets → slice_index sites i ≡ (slice_index_or p.inlets i (0, 0)).0
   pub detectors : (d : ℕ) → d < length p.detectors → slice_index sites (length p.inlets + d) ≡ slice_index p.detectors d
-  pub firsts : (r : ℕ) → r < length regions → slice_index sites (length p.inlets + length p.detectors + r) ≡ (region_at regions r).first
+  pub firsts : (r : ℕ) → r < length regions → slice_index sites (length p.inlets + length p.detectors + r)
+      ≡ (region_at regions r).first

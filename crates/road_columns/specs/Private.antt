@@ -1,0 +1,14 @@
+-- What columns, rows and kept places keep from step to step: only calls over such slices name it.
+pub mod CarsAt
+pub mod Entered
+pub mod EnteredList
+pub mod Entering
+pub mod Lanes
+pub mod LooseWords
+pub mod Motion
+pub mod Packed
+pub mod Pieces
+pub mod Regions
+pub mod Rows
+pub mod Sites
+pub mod Step
