@@ -7,6 +7,7 @@ use std::sync::Arc;
 use std::test::Fail;
 
 /// Numbers that look random.
+#[derive(Clone, Copy)]
 struct Dice {
     seed: u64,
 }
