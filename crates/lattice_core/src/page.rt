@@ -13,8 +13,8 @@ use std::marker::Model;
 use std::sync::Arc;
 
 // How many entries a page has at most. A map that takes one more entry copies one page and counts one more owner of
-// each other: at 100,000 entries both cost about the same with pages of this length.
-pub(crate) const PAGE_LENGTH: usize = 512;
+// each other: shorter pages make a map of 100,000 entries dearer, longer ones a map of some hundreds.
+pub(crate) const PAGE_LENGTH: usize = 256;
 
 // Some of a map's entries by rising key, at least one. Contracts see the list of them.
 #[derive(Drop)]
