@@ -29,7 +29,7 @@ columns_same a cells cells' vs numbers head tail within within' same columns =
     (λ i below. same (head + i) (omega arith) (omega arith)) (λ _ _. refl) (λ _ _. refl)
     (cars_of_ranges a cells vs numbers head tail within columns))
 
-places_same : (cells cells' : List ℕ) (head tail : ℕ) (sites places : List ℕ) → ((i : ℕ) → head ≤ i → i < tail → slice_index cells' i ≡ slice_index cells i)
+pub places_same : (cells cells' : List ℕ) (head tail : ℕ) (sites places : List ℕ) → ((i : ℕ) → head ≤ i → i < tail → slice_index cells' i ≡ slice_index cells i)
     → ArePlacesFrom cells head tail sites places → ArePlacesFrom cells' head tail sites places
 places_same cells cells' head tail sites places same are = record {
   as_many = are.as_many;
@@ -44,7 +44,7 @@ packed_same head tail m cells cells' place below same is =
     let there = is.there in
     record { there = is.there; packed = same (place - m) (omega arith) (omega arith) ∙ is.packed ∙ ap (λ n. n + m) (sym (same place (omega arith) below)) }
 
-words_same : (kind : WordKind) (first width k : ℕ) (rows : List ℕ) (entered : List EnteredCar) (head tail : ℕ) (cells cells' : List ℕ) (number : ℕ → ℕ)
+pub words_same : (kind : WordKind) (first width k : ℕ) (rows : List ℕ) (entered : List EnteredCar) (head tail : ℕ) (cells cells' : List ℕ) (number : ℕ → ℕ)
     → ((i : ℕ) → head ≤ i → i < tail → slice_index cells' i ≡ slice_index cells i)
     → HaveLooseWords kind first width k rows entered head tail cells number → HaveLooseWords kind first width k rows entered head tail cells' number
 words_same kind first width k rows entered head tail cells cells' number same have = record {

@@ -39,3 +39,14 @@ pub mod CarsStepped
 pub mod CountsStepped
 pub mod StepSites
 pub mod RegionsCut
+pub mod CarsEntered
+pub mod HeldLists
+pub mod HeldCars
+pub mod ShiftedColumns
+pub mod SpanStarts
+pub mod StretchSteps
+pub mod TotalsKept
+pub mod RunSteps
+pub mod Refilled
+pub mod TakenUp
+pub mod NearRuns

@@ -1,3 +1,5 @@
 -- The road in columns.
 pub mod Columns
 pub mod Private
+-- A run under way.
+pub mod UnderWay

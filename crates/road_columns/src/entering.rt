@@ -5,7 +5,7 @@ ghost use Rattle.std.specs.Prelude.{slice_index, slice_range};
 ghost use Rattle.std.specs.List.{slice_index_or};
 ghost use Rattle.road_plan.specs.Settings.{Fits};
 ghost use Rattle.road_plan.specs.declared.limits.TheConstants.{MOST_INLETS};
-ghost use Rattle.road_words.specs.Words.{chacha_word, word};
+ghost use Rattle.road_words.specs.Words.{word};
 ghost use Rattle.road_cells.specs.Array.{Array, vehicle_at};
 ghost use Rattle.road_ends.specs.Entries.{inlet_stream, is_admitting};
 ghost use Rattle.road_rules.specs.Speeds.{comes_about};
@@ -16,6 +16,7 @@ ghost use Rattle.road_columns.specs.Private.Entering.{AreCellsOfInlets};
 ghost use Rattle.road_columns.specs.Private.Entering.{ArePlacesFrom};
 ghost use Rattle.road_columns.specs.Columns.{AreColumnsOf};
 ghost use Rattle.road_plan.specs.declared.parts.WordKind.{WordKind};
+ghost use Rattle.road_columns.specs.Private.Drawn.{drawn_word};
 ghost use Rattle.road_columns.specs.Private.Entered.{AreInOrder};
 ghost use Rattle.road_columns.specs.Private.EnteredList.{ArePlacesRising, entered_in};
 ghost use Rattle.road_columns.specs.Private.LooseWords.{AreFalling, HaveLooseWords};
@@ -167,6 +168,9 @@ pub fn enter(
     ensures front { (k : ℕ) → k < head → slice_index cells.new k ≡ slice_index cells.old k }
     ensures places { ArePlacesFrom cells.new head result.0 sites.now places.new }
     ensures falling { AreFalling cells.new head result.0 }
+    ensures below { (bound : ℕ) → ((i : ℕ) → head ≤ i → i < tail → slice_index cells.old i < bound)
+        → ((i : ℕ) → i < length plan.now.inlets → slice_index sites.now i < bound)
+        → (i : ℕ) → head ≤ i → i < result.0 → slice_index cells.new i < bound }
     ensures rising { ArePlacesRising result.1 beside.new }
     ensures in_order { AreInOrder (entered_in result.1 beside.new batches.new) result.0 }
     ensures entries { (a : Array) → ((c : ℕ) → (c < lo) ⊎ (hi ≤ c) → vehicle_at a c ≡ None)
@@ -175,7 +179,7 @@ pub fn enter(
         → AreColumnsOf (entries_between lo hi plan.now settings.now step a) (slice_range cells.new head result.0)
         (slice_range speeds.new head result.0) (slice_range numbers.new head result.0) }
     ensures kept_words { (kind : WordKind)
-        → ((stream place : ℕ) → chacha_word source.key stream place ≡ word kind stream place)
+        → ((stream place : ℕ) → drawn_word source stream place ≡ word kind stream place)
         → HaveLooseWords kind (64 * (step / 64)) width (step % 64) rows.old
         (entered_in entered beside.old batches.old) head tail cells.old (slice_index numbers.old)
         → HaveLooseWords kind (64 * (step / 64)) width (step % 64) rows.new

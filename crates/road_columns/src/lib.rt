@@ -1,25 +1,40 @@
-//! The cars of a road in columns: one for the cells, one for the speeds, one for the numbers, the car at the far end
+//! Runs under way: a road that is stepped again and again, whose callers see it as an array.
+//!
+//! Within, its cars stand in columns: one for the cells, one for the speeds, one for the numbers, the car at the far end
 //! first. Their random words for the 64 steps of a span stand in rows, one for each step, so that a step is a few
 //! passes over contiguous memory.
+//!
+//! ```
+//! // A hundred steps of a plan by its own settings, from the empty road, and the row of text after them.
+//! let settings = Arc::new(alloc, Settings::of_plan(alloc, &plan)?)?;
+//! let mut run = UnderWay::new(alloc, plan, settings)?;
+//! for _ in 0..100 {
+//!     run.step();
+//! }
+//! println!(rt; "{}", run.row(alloc)?)?;
+//! ```
 #![tactic(auto)]
 
+mod counts;
 mod cutting;
 mod drawing;
 mod entered;
 mod entering;
+mod finding;
+mod holding;
+mod inlets;
+mod kept;
 mod motion;
 mod pieces;
 mod regions;
+mod shifting;
 mod sites;
+mod spans;
+mod starting;
 mod step;
+mod stepping;
 mod turning;
+mod under_way;
 mod words;
 
-pub use cutting::regions_of;
-pub use drawing::draw;
-pub use entering::{enter, move_on};
-pub use motion::Chances;
-pub use regions::{Region, advance_regions};
-pub use sites::count;
-pub use step::move_cars;
-pub use words::{Batch, SPAN, Source};
+pub use under_way::UnderWay;

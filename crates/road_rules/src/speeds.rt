@@ -17,7 +17,7 @@ pub fn wanted(speed: u8, limit: u32, gap: u8) -> u8
 
 /// Applies rules 1 and 2 as in 1992: acceleration by one where the next vehicle is far enough, then slowing to one cell
 /// less than the distance where it is too near. At a speed of at most `vmax` this is [`wanted`] with the gap
-/// `distance - 1`; a speed above `vmax` does not drop to it.
+/// `distance - 1`; a speed above `vmax` does not drop to it. It shows that law: roads are stepped by [`wanted`].
 ///
 /// `distance`, at least 1, is that in cells to the next vehicle: one more than the free cells.
 pub fn two_rules(speed: u8, vmax: u8, distance: u32) -> u8
@@ -38,7 +38,7 @@ pub fn two_rules(speed: u8, vmax: u8, distance: u32) -> u8
 /// Applies rule 3, randomization: a speed above 0 falls by one where the word has its event under the chance.
 ///
 /// The chance is in 1/65,536. Its event comes where the upper 16 bits of the word are below it: never at 0, and always
-/// from 65,536 on.
+/// from 65,536 on. It states the rule: roads are stepped from those bits alone, without the rest of the word.
 pub fn slowed(speed: u8, word: u32, chance: u32) -> u8
     ensures { result ≡ slowed_speed speed (comes_about word chance) }
 {

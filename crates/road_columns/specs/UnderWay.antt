@@ -1,0 +1,74 @@
+-- A run under way.
+use Rattle.std.specs.Prelude.{ℕ, ◌+◌, ◌^◌, ◌<◌, ◌≤◌, List, [], length, map, min}
+use Rattle.std.specs.List.{All, range_with_len, slice_index_or}
+use Rattle.road_plan.specs.Plan.{Plan, exit_start}
+use Rattle.road_plan.specs.Settings.{Settings}
+use Rattle.road_cells.specs.Array.{Array}
+use Rattle.road_cells.specs.Cars.{cars_of}
+use Rattle.road_cells.specs.declared.car.Car.{Car}
+use Rattle.road_cells.specs.declared.car.TheConstants.{GREATEST_SPEED}
+use Rattle.road_ends.specs.Input.{StepInput, input_next, input_speeds}
+use Rattle.road_ends.specs.Private.EntriesBetween.{input_between}
+use Rattle.road_detector.specs.Passes.{no_totals, passes_at, plus}
+use Rattle.road_detector.specs.declared.counts.Totals.{Totals}
+
+-- a run under way: of a plan, under settings, before a step, on the cells from lo to before hi; the road before that
+-- step, and what each detector has counted since its count began
+pub record UnderWay : Type 0 where
+  pub plan : Plan
+  pub settings : Settings
+  pub step : ℕ
+  pub lo : ℕ
+  pub hi : ℕ
+  pub road : Array
+  pub totals : List Totals
+
+-- a car that a run can have: it stands on the cells from lo to before hi, before the one where the exit begins, and is
+-- not too fast, and its number is short
+pub record CanRun (lo hi exit : ℕ) (car : Car) : Type 0 where
+  pub from : lo ≤ car.cell
+  pub to : car.cell < hi
+  pub before_exit : car.cell < exit
+  pub slow_enough : car.speed ≤ GREATEST_SPEED
+  pub short_number : car.number < 2 ^ 32
+
+-- a run can go on from a road on these cells: it can have each of its cars
+abbrev pub IsRunnable : ℕ → ℕ → Plan → Array → Type 0
+IsRunnable lo hi p a = All (CanRun lo hi (exit_start p)) (cars_of a)
+
+-- the input of a run's next step: the road with the cars that enter on its cells, of what stands on these cells alone
+abbrev pub next_input : UnderWay → StepInput
+next_input run = input_between run.lo run.hi run.plan run.settings run.step run.road
+
+-- what a detector has counted after the next step
+abbrev pub total_after : UnderWay → ℕ → Totals
+total_after run d =
+    plus (slice_index_or run.totals d no_totals) (passes_at (next_input run) (input_speeds (next_input run)) d)
+
+-- a run after its next step: no car drives farther in it than 9 cells past the run's cells, so they end 9 cells later
+abbrev pub stepped : UnderWay → UnderWay
+stepped run = record {
+  plan = run.plan;
+  settings = run.settings;
+  step = run.step + 1;
+  lo = run.lo;
+  hi = min (run.hi + GREATEST_SPEED) run.plan.cells;
+  road = input_next (next_input run);
+  totals = map (total_after run) (range_with_len 0 (length run.totals));
+}
+
+-- nothing is counted by any detector of a plan
+abbrev pub nothing_counted : Plan → List Totals
+nothing_counted p = map (λ d. no_totals) (range_with_len 0 (length p.detectors))
+
+-- a run of a plan that begins on its whole road, which is empty
+abbrev pub begun : Plan → Settings → UnderWay
+begun p s = record {
+  plan = p;
+  settings = s;
+  step = 0;
+  lo = 0;
+  hi = p.cells;
+  road = [];
+  totals = nothing_counted p;
+}

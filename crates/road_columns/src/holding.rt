@@ -1,0 +1,98 @@
+//! A road's cars, put into columns and taken out of them.
+
+ghost use Rattle.std.specs.Prelude.{◌≡◌, ◌↔◌, ◌<◌, ◌≤◌, ◌+◌, ◌-◌, ◌^◌, ℕ, length, slice_index, slice_range, IfOk, IsTrue};
+ghost use Rattle.std.specs.List.{All};
+ghost use Rattle.road_plan.specs.Plan.{Plan, exit_start};
+ghost use Rattle.road_cells.specs.Cars.{AreRising, array_of};
+ghost use Rattle.road_columns.specs.Columns.{AreColumnsOf};
+ghost use Rattle.road_columns.specs.UnderWay.{CanRun};
+ghost use Rattle.road_columns.specs.Private.Held.{road_in};
+ghost use Rattle.road_columns.specs.Private.LooseWords.{AreFalling};
+ghost use Rattle.road_columns.specs.Private.Step.{AreCarsInColumn};
+
+use crate::cutting::NOWHERE;
+use crate::shifting::FIRST;
+use road_cells::{Car, GREATEST_SPEED, Road};
+use road_ends::{OutOfMemory, Stretch};
+use std::alloc::Global;
+
+/// Answers whether columns can hold these cars for a stretch: each stands on its cells and before the exit, is no faster
+/// than 9 cells per step, and has a number below 2^32.
+pub fn can_hold(cars: &[Car], stretch: Stretch, exit_start: u32) -> bool
+    ensures { IsTrue result ↔ All (CanRun stretch.first stretch.end exit_start) cars.now }
+{
+    cars.iter().all(|car| can_run(car, stretch, exit_start))
+}
+
+fn can_run(car: &Car, stretch: Stretch, exit_start: u32) -> bool
+    ensures { IsTrue result ↔ CanRun stretch.first stretch.end exit_start car.now }
+{
+    stretch.first <= car.cell
+        && car.cell < stretch.end
+        && car.cell < exit_start
+        && car.speed <= GREATEST_SPEED
+        && car.number < 1 << 32
+}
+
+/// Puts cars into columns, the last one first, from [`FIRST`] on. Returns the place behind them.
+#[inline(never)]
+pub fn hold(cars: &[Car], cells: &mut [u16], speeds: &mut [u8], numbers: &mut [u32]) -> usize
+    requires rise { AreRising cars.now }
+    requires cells { All (λ car. car.cell < 65525) cars.now }
+    requires numbers { All (λ car. car.number < 2 ^ 32) cars.now }
+    requires room { FIRST + length cars.now < length cells.old }
+    requires speeds { length speeds.old ≡ length cells.old }
+    requires numbers_each { length numbers.old ≡ length cells.old }
+    ensures tail { result ≡ FIRST + length cars.now }
+    ensures cells_each { length cells.new ≡ length cells.old }
+    ensures speeds_each { length speeds.new ≡ length speeds.old }
+    ensures numbers_each { length numbers.new ≡ length numbers.old }
+    ensures cars { (p : Plan) → p.cells ≤ 65525 → All (λ car. car.cell < exit_start p) cars.now
+        → AreCarsInColumn p FIRST result cells.new }
+    ensures road { road_in cells.new speeds.new numbers.new FIRST result ≡ array_of cars.now }
+{
+    for place in 0..cars.len() {
+        let car = cars[cars.len() - 1 - place];
+        cells[FIRST + place] = car.cell as u16;
+        speeds[FIRST + place] = car.speed;
+        numbers[FIRST + place] = car.number as u32;
+    }
+    let end = FIRST + cars.len();
+    cells[FIRST - 1] = NOWHERE;
+    cells[end] = 0;
+    end
+}
+
+/// Makes the road of the cars at the places from `head` to before `tail`.
+///
+/// # Errors
+///
+/// `OutOfMemory` where its one allocation failed.
+#[inline(never)]
+pub fn road_held(
+    alloc: Global,
+    cells: &[u16],
+    speeds: &[u8],
+    numbers: &[u32],
+    head: usize,
+    tail: usize,
+) -> Result<Road, OutOfMemory>
+    requires order { head ≤ tail }
+    requires inside { tail ≤ length cells.now }
+    requires speeds { length speeds.now ≡ length cells.now }
+    requires numbers { length numbers.now ≡ length cells.now }
+    requires falling { AreFalling cells.now head tail }
+    ensures { IfOk result (λ road. road ≡ road_in cells.now speeds.now numbers.now head tail) }
+{
+    let mut cars = Vec::with_capacity(alloc, tail - head)?;
+    let mut place = tail;
+    while place > head {
+        place -= 1;
+        cars.push(Car {
+            number: u64::from(numbers[place]),
+            cell: u32::from(cells[place]),
+            speed: speeds[place],
+        })?;
+    }
+    Ok(Road::of(cars))
+}
