@@ -11,6 +11,7 @@ use std::alloc::Global;
 use std::sync::{Arc, Wait};
 use std::thread::Threads;
 use std::time::{Clock, Instant};
+use tests_plans::StepByStep;
 
 // Takes a replica up to a step by a crew: the cars on the road after it, and the nanoseconds that it took.
 fn advanced<R: Clock, C: Crew>(
@@ -69,7 +70,7 @@ fn time_threads<R: Threads + Wait + Clock + Print>(
     time(rt, alloc, plan, steps, "scoped", workers, &mut crew)
 }
 
-// Does so by lasting workers, who are asked at each step behind a gate; their start and end are not timed.
+// Does so by lasting workers, who are asked at each step; their start and end are not timed.
 fn time_pool<R: Threads + Wait + Clock + Print + Clone + Drop + Send + 'static>(
     rt: &R,
     alloc: Global,
@@ -80,9 +81,11 @@ fn time_pool<R: Threads + Wait + Clock + Print + Clone + Drop + Send + 'static>(
     requires some { 0 < workers }
     requires few { workers ≤ 16 }
 {
-    let gate = Arc::new(alloc, NoGate)?;
-    let mut crew = Pool::start_gated(rt.clone()?, alloc, workers, gate)?;
-    let timed = time(rt, alloc, plan, steps, "pool", workers, &mut crew);
+    let mut stepwise = StepByStep {
+        crew: Pool::start(rt.clone()?, alloc, workers)?,
+    };
+    let timed = time(rt, alloc, plan, steps, "pool", workers, &mut stepwise);
+    let StepByStep { crew } = stepwise;
     crew.finish();
     timed
 }

@@ -10,7 +10,7 @@ use road_workers::{Crew, NoGate, Pool, Scoped};
 use std::alloc::Global;
 use std::sync::{Arc, Wait};
 use std::thread::Threads;
-use tests_plans::{DENSE, DENSE_ROWS, plan_of};
+use tests_plans::{DENSE, DENSE_ROWS, StepByStep, plan_of};
 
 // Answers whether a crew takes a replica of the road through its worked rows.
 fn takes_rows<C: Crew>(alloc: Global, replica: &mut Replica, crew: &mut C) -> Result<bool> {
@@ -64,7 +64,7 @@ fn runs_by_threads<R: Threads + Wait>(
     Ok(good)
 }
 
-// Answers whether a new crew of lasting workers takes a new replica of the road through its worked rows.
+// Answers whether a new crew of lasting workers, who are asked at each step, takes a new replica of the road through its worked rows.
 fn gives_by_pool<R: Threads + Wait + Clone + Drop + Send + 'static>(
     rt: &R,
     alloc: Global,
@@ -74,9 +74,11 @@ fn gives_by_pool<R: Threads + Wait + Clone + Drop + Send + 'static>(
     requires some { 0 < workers }
     requires few { workers ≤ 16 }
 {
-    let gate = Arc::new(alloc, NoGate)?;
-    let mut crew = Pool::start_gated(rt.clone()?, alloc, workers, gate)?;
-    let is_good = gives(alloc, plan, &mut crew);
+    let mut stepwise = StepByStep {
+        crew: Pool::start(rt.clone()?, alloc, workers)?,
+    };
+    let is_good = gives(alloc, plan, &mut stepwise);
+    let StepByStep { crew } = stepwise;
     crew.finish();
     is_good
 }

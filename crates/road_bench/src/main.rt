@@ -1,5 +1,6 @@
 //! Times a road: its steps beside the random words that they draw, late edits, its crews, and the sessions that share a
-//! replica. Each reads a plan line from standard input, but `runs`, `checks` and `sessions`. Without words it does nothing.
+//! replica. Each reads a plan line from standard input, but `runs`, `meetings`, `checks` and `sessions`. Without words it
+//! does nothing.
 //!
 //! `road_bench steps STEPS` takes STEPS steps with the plan's own settings, and then draws as many words as these steps
 //! drew. It writes five lines, each: the steps, the cars moved, the words drawn, the nanoseconds that the steps took, those
@@ -18,8 +19,11 @@
 //! made for each step, and RUNS times by one of lasting workers, each time from step zero by a new crew of 1 to 16 workers.
 //! It prints how many runs gave these rows.
 //!
-//! `road_bench checks WORKERS RUNS WRITES TIMES` is `runs WORKERS RUNS` and then `sessions merge WRITES TIMES`: what the gate
-//! runs.
+//! `road_bench meetings WORKERS RUNS` takes a long road to step 192, RUNS times, each time by a new crew of 1 to 16 lasting
+//! workers, who run a stretch each and wait for each other before that. It prints in how many runs they all met.
+//!
+//! `road_bench checks WORKERS RUNS WRITES TIMES` is `runs WORKERS RUNS`, `meetings WORKERS RUNS` and then `sessions merge
+//! WRITES TIMES`: what the gate runs.
 //!
 //! `road_bench sessions merge WRITES RUNS`: eight sessions make WRITES writes each, an edit and an advance by turns, and look
 //! after each; RUNS times. It prints in how many runs the journal was the merge of their writes, and each look had the
@@ -37,6 +41,7 @@
 mod crews;
 mod dense;
 mod late;
+mod meetings;
 mod sessions;
 mod stepping;
 
@@ -82,8 +87,10 @@ fn work<R: Threads + Wait + Clock + Input + Print + Clone + Drop + Send + Sync +
             *turns,
         ),
         ("runs", [workers, runs]) => dense::run(rt, alloc, *workers, *runs),
+        ("meetings", [workers, runs]) => meetings::run(rt, alloc, *workers, *runs),
         ("checks", [workers, runs, writes, times]) => {
             dense::run(rt, alloc, *workers, *runs)?;
+            meetings::run(rt, alloc, *workers, *runs)?;
             sessions::work(rt, alloc, "merge", &[*writes, *times])
         }
         _ => Ok(()),

@@ -3,27 +3,48 @@ use Rattle.std.specs.Prelude.{◌≡◌, ℕ, ◌+◌, ◌<◌, List, ◌++◌, 
 use Rattle.std.specs.declared.option.Option.{Option}
 use Rattle.std.specs.declared.option.Option.TheVariants.{Some}
 use Rattle.std.specs.declared.thread.PromisedHandle.{PromisedHandle}
-use Rattle.std.proofs.Common.{arith, sym, subst, inl, inr}
+use Rattle.std.proofs.Common.{arith, rules, sym, subst, inl, inr}
 use Rattle.std.proofs.lemmas.Bool.{cases_eq, cases_lt}
 use Rattle.std.proofs.lemmas.Grind.{get_or-set_at}
 use Rattle.std.proofs.lemmas.List.{length-append, length-set, get_or_append_left, get_or_push, get_or-set_other}
+use Rattle.road_cells.specs.Array.{Array}
 use Rattle.road_ends.specs.Input.{StepInput}
-use Rattle.road_workers.specs.Private.Gathered.{AreGathered, IsAnswerOf, PieceAnswer}
+use Rattle.road_ends.specs.Span.{Span}
+use Rattle.road_workers.specs.Private.Gathered.{AreGathered, AreMissing, AreRight, AreRun, IsAnswerOf, IsRunAt, PieceAnswer, StretchAnswer}
 use Rattle.road_workers.specs.Private.Started.{AreStartedFrom, IsOfWorker}
 use Rattle.road_workers.specs.declared.scoped.SpeedsOf.{SpeedsOf}
 
+-- behind the first one each has the place before
+pub get_or_next : {A : Type 0} → (xs ys : List A) (x : A) (k : ℕ) (d : A) → xs ≡ x ∷ ys → slice_index_or xs (k + 1) d ≡ slice_index_or ys k d
+get_or_next xs ys x k d is = grind rules
+
+-- where no answer has come, each is right
+pub missing_right : {A : Type 0} → (right : ℕ → A → Type 0) (places : List (Option A)) → AreMissing places → AreRight right places
+missing_right right places missing = λ w d below. subst (λ p. IfSome p (right w)) (sym (missing w d below)) tt
+
 -- one answer put at its worker's place
+pub right_set : {A : Type 0} → (right : ℕ → A → Type 0) (places : List (Option A)) (w : ℕ) (answer : A)
+    → AreRight right places → w < length places → right w answer → AreRight right (slice_set places w (Some answer))
+right_set right places w answer was inside its = λ k d below.
+    let same : length (slice_set places w (Some answer)) ≡ length places = length-set places w (Some answer) in
+    elim (cases_eq k w) as (λ _. IfSome (slice_index_or (slice_set places w (Some answer)) k d) (right k)) [
+      | inl at ↦ subst (λ p. IfSome p (right k)) (sym (get_or-set_at places w k (Some answer) d at inside))
+          (subst (λ k. right k answer) (sym at) its)
+      | inr other ↦ subst (λ p. IfSome p (right k)) (sym (get_or-set_other places w k (Some answer) d other))
+          (was k d (omega (arith, below, same)))
+    ]
+
 pub gathered_set : (input : StepInput) (places : List (Option PieceAnswer)) (w : ℕ) (answer : PieceAnswer)
     → AreGathered input places → w < length places → IsAnswerOf input (length places) w answer → AreGathered input (slice_set places w (Some answer))
-gathered_set input places w answer was inside its = λ k d below.
-    let same : length (slice_set places w (Some answer)) ≡ length places = length-set places w (Some answer) in
-    subst (λ n. IfSome (slice_index_or (slice_set places w (Some answer)) k d) (IsAnswerOf input n k)) (sym same)
-    (elim (cases_eq k w) as (λ _. IfSome (slice_index_or (slice_set places w (Some answer)) k d) (IsAnswerOf input (length places) k)) [
-      | inl at ↦ subst (λ p. IfSome p (IsAnswerOf input (length places) k)) (sym (get_or-set_at places w k (Some answer) d at inside))
-          (subst (λ k. IsAnswerOf input (length places) k answer) (sym at) its)
-      | inr other ↦ subst (λ p. IfSome p (IsAnswerOf input (length places) k)) (sym (get_or-set_other places w k (Some answer) d other))
-          (was k d (omega (arith, below, same)))
-    ])
+gathered_set input places w answer was inside its =
+    subst (λ n. AreRight (IsAnswerOf input n) (slice_set places w (Some answer))) (sym (length-set places w (Some answer)))
+    (right_set (IsAnswerOf input (length places)) places w answer was inside its)
+
+pub run_set : (span : Span) (a : Array) (own : ℕ) (places : List (Option StretchAnswer)) (w : ℕ) (answer : StretchAnswer)
+    → AreRun span a own places → w < length places → IsRunAt span a (own + length places) (own + w) answer → AreRun span a own (slice_set places w (Some answer))
+run_set span a own places w answer was inside its =
+    subst (λ n. AreRight (λ w. IsRunAt span a (own + n) (own + w)) (slice_set places w (Some answer))) (sym (length-set places w (Some answer)))
+    (right_set (λ w. IsRunAt span a (own + length places) (own + w)) places w answer was inside its)
 
 -- one thread started behind those of the first workers
 pub started_one_more : {T : Type 0} → (input : StepInput) (n : ℕ) (threads : List (PromisedHandle T SpeedsOf)) (thread : PromisedHandle T SpeedsOf)

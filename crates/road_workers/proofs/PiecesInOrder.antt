@@ -11,7 +11,6 @@ use Rattle.road_cells.proofs.CarPlaces.{length-cars_from}
 use Rattle.road_ends.specs.Input.{StepInput, input_speeds}
 use Rattle.road_ends.proofs.PassOverCars.{speed_each}
 use Rattle.road_workers.specs.Private.Pieces.{piece_start}
-use Rattle.road_workers.specs.Private.Gathered.{IsAnswerOf, PieceAnswer}
 
 pub few_cars : (a : Array) → length (cars_of a) ≤ length a
 few_cars a = length-cars_from 0 a
@@ -34,7 +33,6 @@ whole_step input n some =
     let each = speed_each input.plan input.settings input.step input.road in
     take_all (piece_start n (length (cars_of input.road)) n) (input_speeds input) (omega arith)
 
--- the places hold the answers that have come, from that of worker w on, of n workers
-abbrev pub AreGatheredFrom : StepInput → ℕ → ℕ → List (Option PieceAnswer) → Type 0
-AreGatheredFrom input n w places = (k : ℕ) (d : Option PieceAnswer) → k < length places
-    → IfSome (slice_index_or places k d) (IsAnswerOf input n (w + k))
+-- each answer that has come is right, where the first place is that of worker w
+abbrev pub AreRightFrom : {A : Type 0} → (ℕ → A → Type 0) → ℕ → List (Option A) → Type 0
+AreRightFrom {A} right w places = (k : ℕ) (d : Option A) → k < length places → IfSome (slice_index_or places k d) (right (w + k))

@@ -1,34 +1,34 @@
 //! The crew of lasting workers.
 
-ghost use Rattle.std.specs.Prelude.{◌≡◌, ◌<◌, ◌≤◌, length, vec_len, IfOk, IfSome, Err};
+ghost use Rattle.std.specs.Prelude.{◌≡◌, ◌<◌, ◌≤◌, vec_len, IfOk, IfSome, IsOk, Err};
 ghost use Rattle.std.specs.Arc.{arc_value};
-ghost use Rattle.road_plan.specs.declared.limits.TheConstants.{MOST_WORKERS, GREATEST_LENGTH};
-ghost use Rattle.road_cells.specs.Cars.{cars_of};
+ghost use Rattle.road_plan.specs.declared.limits.TheConstants.{MOST_WORKERS};
 ghost use Rattle.road_ends.specs.Input.{input_speeds};
 ghost use Rattle.road_ends.specs.Span.{span_road};
 ghost use Rattle.road_detector.specs.Passes.{span_totals};
 ghost use Rattle.road_workers.specs.Crews.{gone_after};
-ghost use Rattle.road_workers.specs.Private.Gathered.{AreGathered};
 ghost use Rattle.road_workers.specs.declared.faults.CrewFault.TheVariants.{WorkersGone};
 
 mod gathering;
 mod job;
+mod messages;
+mod places;
 mod running;
+mod sharing;
+mod side_by_side;
 mod spin;
+mod stepping;
 mod working;
 
 use crate::crew::{Crew, gone_after};
 use crate::faults::CrewFault;
 use crate::gate::{Gate, NoGate};
-use crate::piece::{Piece, PieceAnswer, cars_in, list_for};
-use crate::pool::gathering::{is_taken, places_for, put_together};
-use crate::pool::job::{Done, Job, PieceJob, StretchDone};
-use crate::pool::running::stretches;
-use crate::pool::spin::Lookout;
+use crate::pool::job::{Job, Reply};
+use crate::pool::spin::{Lookout, has_processors};
+use crate::pool::stepping::speeds_by;
 use crate::pool::working::{Ends, work};
-use crate::stretch::run_whole;
 use crate::stretch::running::RunMemory;
-use crossbeam_channel::{Receiver, SendError, Sender, bounded};
+use crossbeam_channel::{Receiver, Sender, bounded};
 use road_cells::Road;
 use road_detector::Ran;
 use road_ends::{OutOfMemory, Span, StepInput};
@@ -38,31 +38,29 @@ use std::sync::{Arc, Wait};
 use std::thread;
 use std::thread::{JoinHandle, Threads};
 
-// A worker: the ends of its channels of jobs and of stretches that it has run, which have room for one each, and its
-// thread.
+// A worker: the end of its channel of jobs, which has room for one, and its thread.
 #[derive(Drop)]
 struct Worker {
     jobs: Sender<Job>,
-    stretches: Receiver<StretchDone>,
     thread: JoinHandle<()>,
 }
 
 /// The crew whose workers are threads that live as long as the crew. A call for the speeds of a step gives every worker
-/// its piece of the cars, which may be empty; a call for a run gives a stretch of road to as many workers as pay. Each
-/// waits for their answers. After the first answer `WorkersGone` every call answers so. Contracts see it
-/// as how many workers it has, and its count of these answers.
+/// its piece of the cars, which may be empty. So does a call for a run with stretches of road, where that pays; else the
+/// caller runs it alone. Each waits for their answers. After the first answer `WorkersGone` every call answers so.
+/// Contracts see it as how many workers it has, and its count of these answers.
 #[derive(Drop)]
 pub struct Pool<R> {
     rt: R,
     workers: Vec<Worker>,
-    // It has room for a result of each worker.
-    results: Receiver<Done>,
-    // How the caller looks for a result before it sleeps.
+    // It has room for a reply of each worker.
+    replies: Receiver<Reply>,
+    // How the caller looks for a reply before it sleeps.
     lookout: Lookout,
+    // Whether the caller runs a stretch too, for which there is a processor.
+    is_helped: bool,
     // How often it has answered `WorkersGone`. After the first time no worker is asked.
     gone: u64,
-    // Whether its workers pass a gate of the caller's before each piece: then each step is asked of them.
-    is_watched: bool,
     // What the caller keeps of the runs that it computes itself.
     kept: Option<RunMemory>,
 }
@@ -91,11 +89,11 @@ impl<R: Threads + Wait + Clone + Drop + Send + 'static> Pool<R> {
         ensures workers { IfOk result (λ pool. pool.workers ≡ workers) }
         ensures gone { IfOk result (λ pool. ⟦<Pool<R> as Crew>⟧.times_gone pool ≡ 0) }
     {
-        Pool::start_by(rt, alloc, workers, no_gate(alloc)?, false)
+        Pool::start_gated(rt, alloc, workers, no_gate(alloc)?)
     }
 
-    /// Starts a crew of 1 to 16 workers, as [`Pool::start`], each of which passes the gate before it computes a piece;
-    /// [`Gate`] says what is tested of that.
+    /// Starts a crew of 1 to 16 workers, as [`Pool::start`], each of which passes the gate before each piece and each
+    /// stretch that it computes; [`Gate`] says what is tested of that.
     ///
     /// # Errors
     ///
@@ -111,46 +109,36 @@ impl<R: Threads + Wait + Clone + Drop + Send + 'static> Pool<R> {
         ensures workers { IfOk result (λ pool. pool.workers ≡ workers) }
         ensures gone { IfOk result (λ pool. ⟦<Pool<R> as Crew>⟧.times_gone pool ≡ 0) }
     {
-        Pool::start_by(rt, alloc, workers, gate, true)
-    }
-
-    // Starts a crew whose workers pass this gate.
-    fn start_by<G: Gate + Drop + Send + Sync + 'static>(
-        rt: R,
-        alloc: Global,
-        workers: u32,
-        gate: Arc<G>,
-        is_watched: bool,
-    ) -> Result<Pool<R>, CrewFault>
-        requires some { 0 < workers }
-        requires few { workers ≤ MOST_WORKERS }
-        ensures workers { IfOk result (λ pool. pool.workers ≡ workers) }
-        ensures gone { IfOk result (λ pool. ⟦<Pool<R> as Crew>⟧.times_gone pool ≡ 0) }
-    {
         let mut started = Vec::with_capacity(alloc, workers as usize)?;
-        let (done, results) = bounded(alloc, workers as usize)?;
-        let lookout = Lookout::of(&rt, workers);
-        let fault = start_workers(&rt, alloc, workers, &gate, &done, &mut started);
-        drop(done);
-        if started.len() < workers as usize {
-            finish_workers(&rt, started);
+        let (reply, replies) = bounded(alloc, workers as usize)?;
+        let all = start_workers(&rt, alloc, workers, &gate, &reply, &mut started);
+        drop(reply);
+        if let Err(fault) = all {
+            finish_workers(&rt, replies, started);
             return Err(fault);
         }
+        let lookout = Lookout::of(&rt, workers);
+        let is_helped = has_processors(&rt, workers + 1);
         Ok(Pool {
             rt,
             workers: started,
-            results,
+            replies,
             lookout,
+            is_helped,
             gone: 0,
-            is_watched,
             kept: None,
         })
     }
 
     /// Ends the workers and waits until they have ended.
     pub fn finish(self) {
-        let Pool { rt, workers, .. } = self;
-        finish_workers(&rt, workers);
+        let Pool {
+            rt,
+            workers,
+            replies,
+            ..
+        } = self;
+        finish_workers(&rt, replies, workers);
     }
 }
 
@@ -172,7 +160,7 @@ impl<R: Wait> Crew for Pool<R> {
                 alloc,
                 input,
                 self.workers.as_slice(),
-                &self.results,
+                &self.replies,
                 &mut self.lookout,
             )
         };
@@ -206,8 +194,6 @@ impl<R: Wait> Crew for Pool<R> {
     {
         let done = if self.gone > 0 {
             Err(CrewFault::WorkersGone)
-        } else if self.is_watched {
-            Ok(None)
         } else {
             self.run_spans(alloc, span, road)
         };
@@ -221,7 +207,7 @@ fn no_gate(alloc: Global) -> Result<Arc<NoGate>, OutOfMemory> {
     Ok(Arc::new(alloc, NoGate)?)
 }
 
-// Starts the workers in their order, up to the first that cannot be started. Returns why that was.
+// Starts the workers in their order, up to the first that cannot be started.
 fn start_workers<
     R: Threads + Wait + Clone + Drop + Send + 'static,
     G: Gate + Drop + Send + Sync + 'static,
@@ -230,24 +216,20 @@ fn start_workers<
     alloc: Global,
     workers: u32,
     gate: &Arc<G>,
-    results: &Sender<Done>,
+    replies: &Sender<Reply>,
     started: &mut Vec<Worker>,
-) -> CrewFault
+) -> Result<(), CrewFault>
     requires { vec_len started.old ≡ 0 }
-    ensures { vec_len started.new ≤ workers }
+    ensures { IsOk result → vec_len started.new ≡ workers }
 {
     let lookout = Lookout::of(rt, workers);
     for worker in 0..workers {
-        match start_worker(rt, alloc, worker, lookout, gate, results) {
-            Ok(new) => {
-                if started.push(new).is_err() {
-                    return CrewFault::OutOfMemory;
-                }
-            }
-            Err(fault) => return fault,
+        let new = start_worker(rt, alloc, worker, lookout, gate, replies)?;
+        if started.push(new).is_err() {
+            return Err(CrewFault::OutOfMemory);
         }
     }
-    CrewFault::WorkersGone
+    Ok(())
 }
 
 // Starts a worker, which looks for a job before it sleeps.
@@ -260,130 +242,30 @@ fn start_worker<
     worker: u32,
     lookout: Lookout,
     gate: &Arc<G>,
-    results: &Sender<Done>,
+    replies: &Sender<Reply>,
 ) -> Result<Worker, CrewFault> {
     let (jobs, their_jobs) = bounded(alloc, 1)?;
-    let (their_stretches, stretches) = bounded(alloc, 1)?;
     let ends = Ends {
         jobs: their_jobs,
-        pieces: results.clone()?,
-        stretches: their_stretches,
+        replies: replies.clone()?,
         lookout,
     };
     let gate = Arc::try_clone(gate)?;
     let their_rt = rt.clone()?;
     let started = thread::spawn(rt, move || work(&their_rt, alloc, worker, &*gate, &ends));
     match started {
-        Ok(thread) => Ok(Worker {
-            jobs,
-            stretches,
-            thread,
-        }),
+        Ok(thread) => Ok(Worker { jobs, thread }),
         Err(_) => Err(CrewFault::WorkersGone),
     }
 }
 
-// Closes the workers' channels, and joins their threads.
-fn finish_workers<R: Threads>(rt: &R, workers: Vec<Worker>) {
+// Closes the workers' channels, and joins their threads. That of replies is closed first, so that none waits for room
+// for its last word.
+fn finish_workers<R: Threads>(rt: &R, replies: Receiver<Reply>, workers: Vec<Worker>) {
+    drop(replies);
     for worker in workers {
-        let Worker { jobs, thread, .. } = worker;
+        let Worker { jobs, thread } = worker;
         drop(jobs);
         thread.join(rt);
     }
-}
-
-// Computes the speeds of a step: a job for each worker, and a result for each job.
-fn speeds_by<R: Wait>(
-    rt: &R,
-    alloc: Global,
-    input: &Arc<StepInput>,
-    workers: &[Worker],
-    results: &Receiver<Done>,
-    lookout: &mut Lookout,
-) -> Result<Vec<u8>, CrewFault>
-    requires some { 0 < length workers.now }
-    requires few { length workers.now ≤ MOST_WORKERS }
-    ensures { IfOk result (λ new. new.items ≡ input_speeds (arc_value input.now)) }
-{
-    let count = workers.len() as u32;
-    let cars = cars_in(input);
-    let whole = list_for(alloc, count, cars)?;
-    let mut places = places_for(alloc, count, input)?;
-    let (jobs, sent) = send_jobs(rt, input, workers, cars);
-    for _ in 0..jobs {
-        take_result(rt, results, lookout, &mut places, input, cars)?;
-    }
-    sent?;
-    put_together(whole, places, input)
-}
-
-// Sends each worker its piece, up to the first that is refused. Returns how many were sent, and whether it was all.
-fn send_jobs<R: Wait>(
-    rt: &R,
-    input: &Arc<StepInput>,
-    workers: &[Worker],
-    cars: usize,
-) -> (u32, Result<(), CrewFault>)
-    requires few { length workers.now ≤ MOST_WORKERS }
-    requires cars { cars ≡ length (cars_of (arc_value input.now).road) }
-    requires short { cars ≤ GREATEST_LENGTH }
-{
-    let count = workers.len() as u32;
-    for worker in 0..count {
-        let piece = Piece::of(worker, count, cars);
-        if let Err(fault) = send_job(rt, input, piece, &workers[worker as usize].jobs) {
-            return (worker, Err(fault));
-        }
-    }
-    (count, Ok(()))
-}
-
-fn send_job<R: Wait>(
-    rt: &R,
-    input: &Arc<StepInput>,
-    piece: Piece,
-    jobs: &Sender<Job>,
-) -> Result<(), CrewFault>
-    requires order { piece.first ≤ piece.end }
-    requires within { piece.end ≤ length (cars_of (arc_value input.now).road) }
-{
-    let job = PieceJob::new(Arc::try_clone(input)?, piece);
-    sent(jobs.send(rt, Job::Piece(job)))
-}
-
-// Returns why a job was not sent, where it was not.
-fn sent(given: Result<(), SendError<Job>>) -> Result<(), CrewFault> {
-    match given {
-        Ok(()) => Ok(()),
-        Err(SendError::Disconnected(_)) => Err(CrewFault::WorkersGone),
-        Err(SendError::OutOfMemory(_)) => Err(CrewFault::OutOfMemory),
-    }
-}
-
-// Takes one result of this step. What comes twice or from another step is dropped.
-fn take_result<R: Wait>(
-    rt: &R,
-    results: &Receiver<Done>,
-    lookout: &mut Lookout,
-    places: &mut Vec<Option<PieceAnswer>>,
-    input: &StepInput,
-    cars: usize,
-) -> Result<(), CrewFault>
-    requires few { vec_len places.old ≤ MOST_WORKERS }
-    requires cars { cars ≡ length (cars_of input.now.road) }
-    requires short { cars ≤ GREATEST_LENGTH }
-    requires gathered { AreGathered input.now places.old.items }
-    ensures count { vec_len places.new ≡ vec_len places.old }
-    ensures gathered { AreGathered input.now places.new.items }
-{
-    for _ in rt.forever() {
-        lookout.spin_for_message(results);
-        let Ok(done) = results.recv(rt) else {
-            return Err(CrewFault::WorkersGone);
-        };
-        if is_taken(places, done, input, cars) {
-            return Ok(());
-        }
-    }
-    Ok(())
 }

@@ -4,11 +4,13 @@
 #[cfg(test)]
 mod alone;
 #[cfg(test)]
+mod asked;
+#[cfg(test)]
 mod ended;
 #[cfg(test)]
-mod gates;
-#[cfg(test)]
 mod meetings;
+#[cfg(test)]
+mod roads;
 #[cfg(test)]
 mod rows;
 #[cfg(test)]

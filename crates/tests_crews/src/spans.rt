@@ -4,65 +4,28 @@ ghost use Rattle.std.specs.Prelude.{◌<◌, ◌≤◌, IfOk};
 ghost use Rattle.std.specs.Arc.{arc_value};
 ghost use Rattle.road_plan.specs.Settings.{Fits};
 
+use crate::roads::random_settings;
 use crate::rows::shared_plan;
 use crate::sizes::queue;
 use road_cells::Road;
 use road_detector::{Ran, Totals, passes};
 use road_ends::{Meter, Span, Stretch, WordCache, step_alone};
-use road_plan::{Plan, Settings, WordKind};
+use road_plan::{Plan, Settings};
 use road_workers::{Crew, Pool};
 use std::alloc::Global;
 use std::process::Abort;
 use std::sync::{Arc, Wait};
 use std::test::Fail;
 use std::thread::Threads;
-use tests_plans::Parts;
-
-/// The longest road: zones of all kinds, inlets all along it, and detectors on both sides of where it may be cut.
-const LONG: Parts = Parts {
-    road: (8_192, 3, 1_024),
-    zones: &[
-        (9, 0),
-        (5, 16_384),
-        (9, 1_000),
-        (3, 0),
-        (9, 32_768),
-        (7, 8_192),
-        (9, 0),
-        (5, 20_000),
-    ],
-    inlets: &[
-        (0, 40_000),
-        (511, 65_536),
-        (1_023, 30_000),
-        (1_024, 65_536),
-        (2_047, 50_000),
-        (2_048, 65_536),
-        (2_730, 20_000),
-        (2_731, 65_536),
-        (4_095, 65_536),
-        (4_096, 65_536),
-        (5_460, 10_000),
-        (5_461, 65_536),
-        (6_143, 65_536),
-        (6_144, 65_536),
-        (7_000, 1_000),
-        (8_188, 65_536),
-    ],
-    detectors: &[
-        1, 9, 511, 512, 1_023, 1_024, 1_025, 2_047, 2_048, 2_049, 2_730, 2_731, 4_095, 4_096,
-        4_097, 5_460, 5_461, 5_462, 6_143, 6_144, 6_145, 7_168, 8_180, 8_188,
-    ],
-    words: WordKind::Seeded(7),
-};
+use tests_plans::LONG;
 
 /// Cells on both sides of where the road may be cut.
 const BLOCKS: &[u32] = &[
     1_024, 2_047, 2_048, 2_731, 4_095, 4_097, 5_461, 6_143, 6_145,
 ];
 
-// Makes settings of one of four kinds: the plan's own; cells blocked; other limits and chances of standing cars; other
-// inflows, with detectors off.
+// Makes settings of a kind: the plan's own; cells blocked; other limits and chances of standing cars; other inflows, with
+// detectors off; each other kind is a seed of random ones.
 fn settings_of(alloc: Global, plan: &Plan, kind: u32) -> Result<Settings, Fail>
     ensures { IfOk result (λ settings. Fits plan.now settings) }
 {
@@ -74,10 +37,11 @@ fn settings_of(alloc: Global, plan: &Plan, kind: u32) -> Result<Settings, Fail>
             settings.limits = vec![in alloc; 9; plan.zones().len()]?;
             settings.starts = vec![in alloc; 45_000; plan.zones().len()]?;
         }
-        _ => {
+        3 => {
             settings.inflows = vec![in alloc; 65_536; plan.inlets().len()]?;
             settings.watched = vec![in alloc; false; plan.detectors().len()]?;
         }
+        seed => settings = random_settings(alloc, plan, seed)?,
     }
     if !settings.fits(plan) {
         return Err(Fail::new("settings that do not fit the plan"));
@@ -85,8 +49,8 @@ fn settings_of(alloc: Global, plan: &Plan, kind: u32) -> Result<Settings, Fail>
     Ok(settings)
 }
 
-// Makes a span of so many steps by settings of this kind.
-fn span_of(
+/// Makes a span of so many steps by settings of this kind.
+pub(crate) fn span_of(
     alloc: Global,
     plan: &Arc<Plan>,
     kind: u32,
@@ -148,26 +112,36 @@ fn one_by_one(
 /// Spans, one after another: the kind of settings and the steps of each.
 const SPANS: &[(u32, u32)] = &[(0, 64), (1, 64), (2, 63), (3, 1), (1, 7), (3, 33), (2, 64)];
 
-// What these spans come to one by one, from a queue.
+/// What spans come to one by one, from a queue.
 #[derive(Drop)]
-struct Course {
+pub(crate) struct Course<'a> {
+    spans: &'a [(u32, u32)],
     queue: Road,
-    spans: Vec<Ran>,
+    ran: Vec<Ran>,
 }
 
-// Runs them one by one, from a queue on so many cells.
-fn worked(alloc: Global, plan: &Arc<Plan>, cells: u32) -> Result<Course, Fail> {
+/// Runs spans one by one, from a queue on so many cells.
+pub(crate) fn worked<'a>(
+    alloc: Global,
+    plan: &Arc<Plan>,
+    cells: u32,
+    spans: &'a [(u32, u32)],
+) -> Result<Course<'a>, Fail> {
     let queue = queue(alloc, cells)?;
     let mut road = queue.copied()?;
-    let mut spans = Vec::new(alloc);
+    let mut all = Vec::new(alloc);
     let mut step = 0_u32;
-    for (kind, steps) in SPANS {
+    for (kind, steps) in spans {
         let ran = one_by_one(alloc, plan, *kind, step, *steps, &road)?;
         road = ran.road.copied()?;
-        spans.push(ran)?;
+        all.push(ran)?;
         step = step.saturating_add(*steps);
     }
-    Ok(Course { queue, spans })
+    Ok(Course {
+        spans,
+        queue,
+        ran: all,
+    })
 }
 
 // Compares what a crew makes of these spans.
@@ -176,11 +150,11 @@ fn runs_as_one_by_one<C: Crew>(
     alloc: Global,
     crew: &mut C,
     plan: &Arc<Plan>,
-    course: &Course,
+    course: &Course<'_>,
 ) -> Result<(), Fail> {
     let mut road = course.queue.copied()?;
     let mut step = 0_u32;
-    for ((kind, steps), wanted) in SPANS.iter().zip(course.spans.iter()) {
+    for ((kind, steps), wanted) in course.spans.iter().zip(course.ran.iter()) {
         let span = span_of(alloc, plan, *kind, step, *steps)?;
         let Some(ran) = crew.run(alloc, &span, &road)? else {
             return Err(Fail::new("a crew that runs no spans"));
@@ -199,13 +173,13 @@ fn runs_as_one_by_one<C: Crew>(
     Ok(())
 }
 
-// Compares them by so many lasting workers, from all these queues.
-fn pool_runs<R: Threads + Wait + Abort + Clone + Drop + Send + 'static>(
+/// Compares what so many lasting workers make of them.
+pub(crate) fn pool_runs<R: Threads + Wait + Abort + Clone + Drop + Send + 'static>(
     rt: &R,
     alloc: Global,
     workers: u32,
     plan: &Arc<Plan>,
-    courses: &[Course],
+    courses: &[Course<'_>],
 ) -> Result<(), Fail>
     requires some { 0 < workers }
     requires few { workers ≤ 16 }
@@ -227,7 +201,7 @@ fn lasting_workers_run_spans_as_they_are_one_by_one(rt: HostRuntime) -> Result<(
     let plan = shared_plan(alloc, &LONG)?;
     let mut courses = Vec::new(alloc);
     for cells in QUEUES {
-        courses.push(worked(alloc, &plan, *cells)?)?;
+        courses.push(worked(alloc, &plan, *cells, SPANS)?)?;
     }
     pool_runs(&rt, alloc, 1, &plan, &courses)?;
     pool_runs(&rt, alloc, 2, &plan, &courses)?;

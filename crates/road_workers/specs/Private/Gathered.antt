@@ -1,11 +1,37 @@
 -- Results that have come from the workers of a pool.
-use Rattle.std.specs.Prelude.{◌≡◌, ℕ, ◌<◌, List, length, slice_index_or, slice_set, Vec, Result, IfOk, IfSome}
+use Rattle.std.specs.Prelude.{◌≡◌, ℕ, ◌+◌, ◌<◌, List, length, slice_index_or, slice_set, Vec, Result}
+use Rattle.std.specs.Prelude.{IfOk, IfSome, IsSome}
 use Rattle.std.specs.declared.option.Option.{Option}
 use Rattle.std.specs.declared.option.Option.TheVariants.{Some, None}
 use Rattle.std.specs.declared.alloc.Global.{Global}
 use Rattle.std.specs.declared.alloc.AllocError.{AllocError}
+use Rattle.road_cells.specs.Array.{Array}
+use Rattle.road_cells.specs.Cars.{cars_of}
 use Rattle.road_ends.specs.Input.{StepInput}
+use Rattle.road_ends.specs.Span.{Span}
 use Rattle.road_workers.specs.Private.Pieces.{speeds_of_worker}
+use Rattle.road_workers.specs.Private.Stretches.{IsRunOf, cut}
+use Rattle.road_workers.specs.declared.stretch.StretchRun.{StretchRun}
+
+-- no worker has answered yet
+abbrev pub AreMissing : {A : Type 0} → List (Option A) → Type 0
+AreMissing {A} places = (w : ℕ) (d : Option A) → w < length places → slice_index_or places w d ≡ None
+
+-- the first n workers have answered
+abbrev pub AreThere : {A : Type 0} → ℕ → List (Option A) → Type 0
+AreThere {A} n places = (w : ℕ) (d : Option A) → w < n → IsSome (slice_index_or places w d)
+
+-- each answer that has come is right at its place
+abbrev pub AreRight : {A : Type 0} → (ℕ → A → Type 0) → List (Option A) → Type 0
+AreRight {A} right places = (w : ℕ) (d : Option A) → w < length places → IfSome (slice_index_or places w d) (right w)
+
+-- the place of worker w still waits for its answer
+abbrev pub IsMissing : {A : Type 0} → List (Option A) → ℕ → Type 0
+IsMissing places w = (w < length places) × (slice_index_or places w None ≡ None)
+
+-- an answer has come to one place that waited for it, and all others are as before
+abbrev pub TakesOne : {A : Type 0} → List (Option A) → A → List (Option A) → Type 0
+TakesOne before answer after = (w : ℕ) × IsMissing before w × (after ≡ slice_set before w (Some answer))
 
 -- what a worker answered: the speeds of its piece, or out of memory
 abbrev pub PieceAnswer : Type 0
@@ -17,13 +43,17 @@ IsAnswerOf input n w answer = IfOk answer (λ new. new.items ≡ speeds_of_worke
 
 -- one place for each worker, with its answer where that has come
 abbrev pub AreGathered : StepInput → List (Option PieceAnswer) → Type 0
-AreGathered input places = (w : ℕ) (d : Option PieceAnswer) → w < length places
-    → IfSome (slice_index_or places w d) (IsAnswerOf input (length places) w)
+AreGathered input places = AreRight (IsAnswerOf input (length places)) places
 
--- the place of worker w still waits for its answer
-abbrev pub IsMissing : List (Option PieceAnswer) → ℕ → Type 0
-IsMissing places w = (w < length places) × (slice_index_or places w None ≡ None)
+-- what a worker answered: what its stretch comes to, or out of memory
+abbrev pub StretchAnswer : Type 0
+StretchAnswer = Result StretchRun AllocError
 
--- an answer has come to one place that waited for it, and all others are as before
-abbrev pub TakesOne : List (Option PieceAnswer) → PieceAnswer → List (Option PieceAnswer) → Type 0
-TakesOne before answer after = (w : ℕ) × IsMissing before w × (after ≡ slice_set before w (Some answer))
+-- it is what the stretch at place w of n comes to, where there is something
+abbrev pub IsRunAt : Span → Array → ℕ → ℕ → StretchAnswer → Type 0
+IsRunAt span a n w answer = IfOk answer
+    (IsRunOf (cut span.plan.cells (cars_of a) n w) (cut span.plan.cells (cars_of a) n (w + 1)) span a)
+
+-- one place for each worker, with its answer where that has come; so many stretches before theirs are the caller's own
+abbrev pub AreRun : Span → Array → ℕ → List (Option StretchAnswer) → Type 0
+AreRun span a own places = AreRight (λ w. IsRunAt span a (own + length places) (own + w)) places

@@ -1,40 +1,21 @@
-//! The results of a step, gathered from the workers of a pool.
+//! The pieces of a step, gathered from the workers of a pool.
 
 ghost use Rattle.std.specs.Prelude.{◌≡◌, ℕ, ◌+◌, ◌<◌, ◌≤◌, length, take, vec_len, [], IfOk, IfSome, IsFalse, IsTrue};
-ghost use Rattle.std.specs.Arc.{arc_value};
 ghost use Rattle.road_plan.specs.declared.limits.TheConstants.{MOST_WORKERS, GREATEST_LENGTH};
 ghost use Rattle.road_cells.specs.Cars.{cars_of};
 ghost use Rattle.road_ends.specs.Input.{input_speeds};
 ghost use Rattle.road_workers.specs.Private.Pieces.{piece_start};
-ghost use Rattle.road_workers.specs.Private.Gathered.{AreGathered, IsMissing, TakesOne};
+ghost use Rattle.road_workers.specs.Private.Gathered.{AreGathered, AreThere, IsMissing, TakesOne};
 
-use crate::faults::CrewFault;
 use crate::piece::{Piece, PieceAnswer, appended};
-use crate::pool::job::Done;
-use road_ends::{OutOfMemory, StepInput};
-use std::alloc::Global;
-
-// Makes one place for each worker, none of which has answered yet.
-pub(crate) fn places_for(
-    alloc: Global,
-    workers: u32,
-    input: &StepInput,
-) -> Result<Vec<Option<PieceAnswer>>, OutOfMemory>
-    ensures count { IfOk result (λ places. vec_len places ≡ workers) }
-    ensures gathered { IfOk result (λ places. AreGathered input.now places.items) }
-{
-    let mut places = Vec::with_capacity(alloc, workers as usize)?;
-    for _ in 0..workers {
-        places.push(None)?;
-    }
-    Ok(places)
-}
+use crate::pool::job::PieceDone;
+use road_ends::StepInput;
 
 // Takes a result where its input is the one asked and its piece is still missing: it drops doubles and strangers.
 // Answers whether it took it; all other places stay as they were.
-pub(crate) fn is_taken(
+pub(super) fn is_taken(
     places: &mut Vec<Option<PieceAnswer>>,
-    done: Done,
+    done: PieceDone,
     input: &StepInput,
     cars: usize,
 ) -> bool
@@ -53,11 +34,7 @@ pub(crate) fn is_taken(
     let Some(place) = missing_place(places.as_slice(), done.piece, cars) else {
         return false;
     };
-    let Done {
-        input: _,
-        piece: _,
-        answer,
-    } = done;
+    let PieceDone { answer, .. } = done;
     places[place] = Some(answer);
     true
 }
@@ -79,23 +56,21 @@ fn missing_place(places: &[Option<PieceAnswer>], piece: Piece, cars: usize) -> O
     None
 }
 
-// Puts the speeds of all workers one behind the other into the list `whole`. Where one has not answered, it has gone.
-pub(crate) fn put_together(
+// Puts the speeds of all workers one behind the other into the list `whole`.
+pub(super) fn put_together(
     whole: Vec<u8>,
     places: Vec<Option<PieceAnswer>>,
     input: &StepInput,
-) -> Result<Vec<u8>, CrewFault>
+) -> PieceAnswer
     requires nothing { whole.items ≡ [] }
     requires some { 0 < vec_len places }
+    requires there { AreThere (vec_len places) places.items }
     requires gathered { AreGathered input.now places.items }
     ensures { IfOk result (λ new. new.items ≡ input_speeds input.now) }
 {
     let mut whole = Ok(whole);
     for place in places {
-        let Some(answer) = place else {
-            return Err(CrewFault::WorkersGone);
-        };
-        whole = appended(whole, answer);
+        whole = appended(whole, place.unwrap());
     }
-    Ok(whole?)
+    whole
 }

@@ -32,9 +32,25 @@ pub(crate) struct PieceJob {
     ghost within: { piece.end ≤ length (cars_of (arc_value input).road) },
 }
 
+// What a worker sends back.
+#[derive(Drop)]
+pub(crate) enum Reply {
+    // What its job came to.
+    Done(Done),
+    // Its last word: it does no more jobs, and one that it still had is not done.
+    Gone,
+}
+
+// What a job came to. It carries what it is the answer to.
+#[derive(Drop)]
+pub(crate) enum Done {
+    Piece(PieceDone),
+    Stretch(StretchDone),
+}
+
 // A piece of a step with what a worker answered: its speeds, which are those of the definition, or out of memory.
 #[derive(Drop)]
-pub(crate) struct Done {
+pub(crate) struct PieceDone {
     pub input: Arc<StepInput>,
     pub piece: Piece,
     pub answer: PieceAnswer,
@@ -65,6 +81,16 @@ pub(crate) struct StretchDone {
     ghost right: { IfOk answer (λ run. IsRunOf stretch.first stretch.end span near run) } by { Prim.hlevel props },
 }
 
+impl Job {
+    // Does the job, in what the worker keeps from earlier ones.
+    pub fn done(self, alloc: Global, kept: &mut Option<RunMemory>) -> Done {
+        match self {
+            Job::Piece(job) => Done::Piece(job.done(alloc)),
+            Job::Stretch(job) => Done::Stretch(job.done(alloc, kept)),
+        }
+    }
+}
+
 impl PieceJob {
     // Makes the job of a piece.
     pub fn new(input: Arc<StepInput>, piece: Piece) -> PieceJob
@@ -75,10 +101,10 @@ impl PieceJob {
     }
 
     // Computes the piece.
-    pub fn done(self, alloc: Global) -> Done {
+    fn done(self, alloc: Global) -> PieceDone {
         let PieceJob { input, piece } = self;
         let answer = input.speeds_between(alloc, piece.first, piece.end);
-        Done {
+        PieceDone {
             input,
             piece,
             answer,
@@ -99,7 +125,7 @@ impl StretchJob {
     }
 
     // Runs the stretch, in what the worker keeps from earlier ones.
-    pub fn done(self, alloc: Global, kept: &mut Option<RunMemory>) -> StretchDone {
+    fn done(self, alloc: Global, kept: &mut Option<RunMemory>) -> StretchDone {
         let StretchJob {
             span,
             near,

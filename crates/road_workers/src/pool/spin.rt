@@ -24,13 +24,22 @@ pub(crate) struct Lookout {
     left: u32,
 }
 
+// Answers whether so many threads have a processor each.
+pub(super) fn has_processors<R: Threads>(rt: &R, threads: u32) -> bool {
+    match available_parallelism(rt) {
+        Ok(processors) => processors.get() >= threads as usize,
+        Err(_) => false,
+    }
+}
+
 impl Lookout {
     // Returns how each thread of a crew of so many workers looks: not at all where these have no processor each, for a
-    // spinning thread would keep another one from its work. Of a run the caller takes the share of one worker.
+    // spinning thread would keep another one from its work.
     pub fn of<R: Threads>(rt: &R, workers: u32) -> Lookout {
-        let looks = match available_parallelism(rt) {
-            Ok(processors) if processors.get() >= workers as usize => LOOKS,
-            _ => 0,
+        let looks = if has_processors(rt, workers) {
+            LOOKS
+        } else {
+            0
         };
         Lookout {
             looks,

@@ -4,9 +4,10 @@ ghost use Rattle.std.specs.Prelude.{◌≡◌, Ok, Err, IfErr, IsFalse, IsTrue};
 ghost use Rattle.crossbeam_channel.specs.Err.{send_message};
 ghost use Rattle.crossbeam_channel.specs.declared.err.SendError.{SendError};
 ghost use Rattle.crossbeam_channel.specs.declared.err.SendError.TheVariants.{Disconnected};
+ghost use Rattle.road_workers.specs.declared.pool.job.Reply.{Reply};
 
 use crate::gate::Gate;
-use crate::pool::job::{Done, Job, StretchDone};
+use crate::pool::job::{Job, Reply};
 use crate::pool::spin::Lookout;
 use crossbeam_channel::{Receiver, SendError, Sender};
 use std::alloc::Global;
@@ -16,15 +17,24 @@ use std::sync::Wait;
 #[derive(Drop)]
 pub(crate) struct Ends {
     pub jobs: Receiver<Job>,
-    pub pieces: Sender<Done>,
-    pub stretches: Sender<StretchDone>,
+    pub replies: Sender<Reply>,
     pub lookout: Lookout,
 }
 
-// Does a worker's jobs until its channel of jobs is closed, or nobody takes results. It looks for a job before it sleeps,
-// and passes the gate before each piece.
+// Does a worker's jobs. Its last word is that it has gone, however it comes to that: so nobody waits for it in vain.
 pub(crate) fn work<R: Wait, G: Gate>(rt: &R, alloc: Global, worker: u32, gate: &G, ends: &Ends) {
-    let (pieces, stretches) = (&ends.pieces, &ends.stretches);
+    do_jobs(rt, alloc, worker, gate, ends);
+    say_gone(rt, &ends.replies);
+}
+
+// Says that a worker has gone.
+pub(crate) fn say_gone<R: Wait>(rt: &R, replies: &Sender<Reply>) {
+    is_given(rt, Reply::Gone, |reply: Reply| replies.send(rt, reply));
+}
+
+// Does a worker's jobs until its channel of jobs is closed, or nobody takes replies. It looks for a job before it sleeps,
+// and passes the gate before each, which may be an empty piece or stretch.
+fn do_jobs<R: Wait, G: Gate>(rt: &R, alloc: Global, worker: u32, gate: &G, ends: &Ends) {
     let mut lookout = ends.lookout;
     let mut kept = None;
     for _ in rt.forever() {
@@ -32,36 +42,33 @@ pub(crate) fn work<R: Wait, G: Gate>(rt: &R, alloc: Global, worker: u32, gate: &
         let Ok(job) = ends.jobs.recv(rt) else {
             return;
         };
-        let is_given = match job {
-            Job::Piece(job) => {
-                gate.arrive(worker);
-                is_given(rt, job.done(alloc), |done: Done| pieces.send(rt, done))
-            }
-            Job::Stretch(job) => {
-                let done = job.done(alloc, &mut kept);
-                is_given(rt, done, |done: StretchDone| stretches.send(rt, done))
-            }
-        };
-        if !is_given {
+        gate.arrive(worker);
+        let done = job.done(alloc, &mut kept);
+        let replies = &ends.replies;
+        if !is_given(
+            rt,
+            Reply::Done(done),
+            |reply: Reply| replies.send(rt, reply),
+        ) {
             return;
         }
     }
 }
 
-// Gives a result by this send, and again where there was no memory to give it. Answers whether it was taken; else
-// nobody takes results.
-fn is_given<T: Drop, R: Wait, F: Fn(T) -> Result<(), SendError<T>>>(
+// Gives a reply by this send, and again where there was no memory to give it. Answers whether it was taken; else nobody
+// takes replies.
+fn is_given<R: Wait, F: Fn(Reply) -> Result<(), SendError<Reply>>>(
     rt: &R,
-    done: T,
+    reply: Reply,
     send: F,
 ) -> bool
     requires may_send { F.IsAlwaysCallable send }
-    requires handed_back { (given : T) → (fault : SendError T) → F.post send given (Err fault)
+    requires handed_back { (given : Reply) → (fault : SendError Reply) → F.post send given (Err fault)
         → send_message fault ≡ given }
-    ensures taken { IsTrue result → F.post send done (Ok tt) }
-    ensures nobody { IsFalse result → F.post send done (Err (Disconnected done)) }
+    ensures taken { IsTrue result → F.post send reply (Ok tt) }
+    ensures nobody { IsFalse result → F.post send reply (Err (Disconnected reply)) }
 {
-    let mut again = done;
+    let mut again = reply;
     for _ in rt.forever() {
         match send(again) {
             Ok(()) => return true,

@@ -3,6 +3,7 @@
 ghost use Rattle.std.specs.Prelude.{◌≡◌, ℕ, ◌+◌, ◌<◌, ◌≤◌, ◌^◌, length, slice_index_or, IfOk};
 ghost use Rattle.road_plan.specs.declared.limits.TheConstants.{GREATEST_HORIZON};
 ghost use Rattle.road_plan.specs.Plan.{IsWithinLimits};
+ghost use Rattle.road_cells.specs.Array.{Array};
 ghost use Rattle.road_ends.specs.Span.{span_road};
 ghost use Rattle.road_detector.specs.Passes.{no_totals, plus, span_totals};
 ghost use Rattle.road_workers.specs.Private.Stretches.{IsRunOf};
@@ -11,6 +12,18 @@ use crate::stretch::StretchRun;
 use road_cells::Road;
 use road_detector::{Ran, Totals};
 use road_ends::{OutOfMemory, Span, Stretch};
+use std::alloc::Global;
+
+// Makes what no stretch at all comes to, before the first cell.
+pub(crate) fn nothing_run(alloc: Global, span: &Span) -> Result<StretchRun, OutOfMemory>
+    ensures { IfOk result (λ run. (a : Array) → IsRunOf 0 0 span.now a run) }
+{
+    let detectors = span.plan().detectors().len();
+    Ok(StretchRun {
+        cars: Vec::new(alloc),
+        totals: vec![in alloc; Totals { cars: 0, speeds: 0 }; detectors]?,
+    })
+}
 
 // Puts what a stretch comes to behind what those before it, which begin at the cell `first`, come to.
 pub(crate) fn beside(

@@ -1,5 +1,5 @@
 -- One answer more gives the speeds up to the end of its piece.
-use Rattle.std.proofs.Common.{rules, arith, ◌≡◌, ◌<◌, ◌+◌, length, slice_index_or, take, vec_len, sym, ap, subst, ◌∙◌, IfOk, IfSome, ◌++◌, ◌∷◌, []}
+use Rattle.std.proofs.Common.{rules, arith, ◌≡◌, ◌<◌, ◌+◌, length, slice_index_or, take, vec_len, sym, ap, subst, ◌∙◌, IfOk, IfSome, IsSome, ◌++◌, ◌∷◌, []}
 use Rattle.std.specs.declared.option.Option.TheVariants.{Some}
 use Rattle.std.specs.Vec.Iter.{into_iter_items}
 use Rattle.std.proofs.lemmas.List.{length-append}
@@ -10,6 +10,13 @@ use Rattle.road_workers.specs.Private.Gathered.{IsAnswerOf}
 use Rattle.road_workers.proofs.PiecesInOrder.{pieces_rise, whole_step}
 use Rattle.road_workers.proofs.pool.gathering.put_together.Goals as goal
 
+pub unwrap-requires : goal.unwrap-requires
+unwrap-requires c =
+    let place = c.in-Some.place in
+    let steps = c.in-Some.ensures.steps in
+    let some : 0 < length (into_iter_items c.loop-place.place-iterator) = grind rules in
+    subst IsSome (ap (λ xs. slice_index_or xs 0 place) steps.0) (c.loop-place.invariant.there 0 place some)
+
 pub loop-place-preserved : goal.loop-place-preserved
 loop-place-preserved c =
     let was = c.loop-place.invariant in
@@ -19,15 +26,19 @@ loop-place-preserved c =
     let m = length (cars_of input.road) in
     let done = length c.loop-place.yielded in
     let place = c.in-Some.place in
-    let answer = c.in-Some-place.answer in
+    let answer = c.unwrap.result in
     let steps = c.in-Some.ensures.steps in
     let some : 0 < length (into_iter_items c.loop-place.place-iterator) = grind rules in
-    let head : slice_index_or (into_iter_items c.loop-place.place-iterator) 0 place ≡ Some answer = ap (λ xs. slice_index_or xs 0 place) steps.0 ∙ c.in-Some-place.is in
+    let head : slice_index_or (into_iter_items c.loop-place.place-iterator) 0 place ≡ Some answer = ap (λ xs. slice_index_or xs 0 place) steps.0 ∙ c.unwrap.ensures in
     let at : done + 0 ≡ done = omega arith in
     let its : IsAnswerOf input n done answer = subst (λ w. IsAnswerOf input n w answer) at (subst (λ p. IfSome p (IsAnswerOf input n (done + 0))) head (was.rest 0 place some)) in
     let next : length (c.loop-place.yielded ++ place ∷ []) ≡ done + 1 = length-append c.loop-place.yielded (place ∷ []) in
     record {
       count = grind rules;
+      there = λ k d below.
+          let len = steps.1 in
+          let same : slice_index_or (into_iter_items c.loop-place.place-iterator) (k + 1) d ≡ slice_index_or (into_iter_items c.next.new.self) k d = let is = steps.0 in grind rules in
+          subst IsSome same (was.there (k + 1) d (omega arith));
       rest = λ k d below.
           let len = steps.1 in
           let same : slice_index_or (into_iter_items c.loop-place.place-iterator) (k + 1) d ≡ slice_index_or (into_iter_items c.next.new.self) k d = let is = steps.0 in grind rules in
@@ -47,6 +58,4 @@ returns c =
     let none = c.in-None.ensures.steps in
     let count = c.loop-place.invariant.count in
     let done : length c.loop-place.yielded ≡ n = omega arith in
-    let front : c.in_ok-whole.field-0.items ≡ take (piece_start n m (length c.loop-place.yielded)) all =
-    subst (λ whole. IfOk whole (λ new. new.items ≡ take (piece_start n m (length c.loop-place.yielded)) all)) c.in_ok-whole.was c.loop-place.invariant.front in
-    front ∙ ap (λ k. take (piece_start n m k) all) done ∙ whole_step input n c.requires.some
+    subst (λ speeds. IfOk c.loop-place.whole (λ new. new.items ≡ speeds)) (ap (λ k. take (piece_start n m k) all) done ∙ whole_step input n c.requires.some) c.loop-place.invariant.front

@@ -1,7 +1,7 @@
--- The loop that waits for a result of this step.
+-- The loop that takes what comes for this step.
 use Rattle.std.proofs.Common.{◌≡◌, vec_len}
 use Rattle.road_workers.specs.Private.Gathered.{AreGathered}
-use Rattle.road_workers.proofs.pool.take_result.Given as goal
+use Rattle.road_workers.proofs.pool.stepping.take_pieces.Given as goal
 
 abbrev pub invariant-loop : goal.invariant-loop
 invariant-loop g l = record {

@@ -1,0 +1,53 @@
+//! What comes of sending to the workers of a pool, and of waiting for them.
+
+ghost use Rattle.std.specs.Prelude.{◌≡◌, Ok, Err, IfErr};
+ghost use Rattle.crossbeam_channel.specs.declared.err.SendError.TheVariants as Send;
+ghost use Rattle.crossbeam_channel.specs.declared.err.RecvError.{RecvError};
+ghost use Rattle.road_workers.specs.declared.faults.CrewFault.TheVariants as Fault;
+ghost use Rattle.road_workers.specs.declared.pool.job.Done.{Done};
+ghost use Rattle.road_workers.specs.declared.pool.job.Job.{Job};
+ghost use Rattle.road_workers.specs.declared.pool.job.Reply.TheVariants as Said;
+
+use crate::faults::CrewFault;
+use crate::pool::job::{Done, Job, Reply};
+use crate::pool::spin::Lookout;
+use crossbeam_channel::{Receiver, RecvError, SendError};
+use std::sync::Wait;
+
+// Returns why a job was not sent, where it was not: its worker has gone, or there was no memory for it.
+pub(super) fn sent(given: Result<(), SendError<Job>>) -> Result<(), CrewFault>
+    ensures sent { given ≡ Ok tt → result ≡ Ok tt }
+    ensures gone { (job : Job) → given ≡ Err (Send.Disconnected job) → result ≡ Err Fault.WorkersGone }
+    ensures no_memory { (job : Job) → given ≡ Err (Send.OutOfMemory job) → result ≡ Err Fault.OutOfMemory }
+{
+    match given {
+        Ok(()) => Ok(()),
+        Err(SendError::Disconnected(_)) => Err(CrewFault::WorkersGone),
+        Err(SendError::OutOfMemory(_)) => Err(CrewFault::OutOfMemory),
+    }
+}
+
+// Waits until a worker says what its job came to. Where one says in its place that it has gone, or all have gone, that is
+// the answer.
+pub(super) fn next_done<R: Wait>(
+    rt: &R,
+    replies: &Receiver<Reply>,
+    lookout: &mut Lookout,
+) -> Result<Done, CrewFault>
+    ensures { IfErr result (λ fault. fault ≡ Fault.WorkersGone) }
+{
+    lookout.spin_for_message(replies);
+    told(replies.recv(rt))
+}
+
+// Returns what was said, where something was.
+fn told(heard: Result<Reply, RecvError>) -> Result<Done, CrewFault>
+    ensures done { (done : Done) → heard ≡ Ok (Said.Done done) → result ≡ Ok done }
+    ensures one_gone { heard ≡ Ok Said.Gone → result ≡ Err Fault.WorkersGone }
+    ensures all_gone { (silence : RecvError) → heard ≡ Err silence → result ≡ Err Fault.WorkersGone }
+{
+    match heard {
+        Ok(Reply::Done(done)) => Ok(done),
+        Ok(Reply::Gone) | Err(RecvError) => Err(CrewFault::WorkersGone),
+    }
+}

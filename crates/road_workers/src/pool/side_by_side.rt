@@ -1,0 +1,131 @@
+//! The stretches of a span, gathered from the workers of a pool.
+
+ghost use Rattle.std.specs.Prelude.{◌≡◌, ◌+◌, ◌<◌, ◌≤◌, length, vec_len, IfOk, IfSome, IsFalse, IsTrue};
+ghost use Rattle.road_plan.specs.declared.limits.TheConstants.{GREATEST_LENGTH, MOST_WORKERS};
+ghost use Rattle.road_cells.specs.Cars.{cars_of};
+ghost use Rattle.road_workers.specs.Private.Gathered.{AreRun, AreThere, IsMissing, TakesOne};
+ghost use Rattle.road_workers.specs.Private.Stretches.{IsRunOf, cut};
+
+use crate::pool::job::{StretchAnswer, StretchDone};
+use crate::stretch::joining::beside;
+use crate::stretch::{is_near, stretch_at};
+use road_cells::Road;
+use road_ends::{Span, Stretch};
+
+// Takes what a stretch of this span comes to where it is still missing: it drops doubles and strangers. The caller runs so
+// many stretches itself, the first ones. Answers whether it took it; all other places stay as they were.
+pub(super) fn is_run_taken(
+    places: &mut Vec<Option<StretchAnswer>>,
+    done: StretchDone,
+    span: &Span,
+    road: &Road,
+    own: u32,
+) -> bool
+    requires few { vec_len places.old ≤ MOST_WORKERS }
+    requires own { own ≤ 1 }
+    requires gathered { AreRun span.now road.now own places.old.items }
+    ensures taken { IsTrue result → TakesOne places.old.items done.answer places.new.items }
+    ensures dropped { IsFalse result → places.new ≡ places.old }
+    ensures count { vec_len places.new ≡ vec_len places.old }
+    ensures gathered { AreRun span.now road.now own places.new.items }
+{
+    let Some(place) = missing_stretch(places.as_slice(), done.stretch, span, road, own) else {
+        return false;
+    };
+    if !is_asked(&done, span, road) {
+        return false;
+    }
+    let StretchDone { answer, .. } = done;
+    places[place] = Some(answer);
+    true
+}
+
+// Finds the first worker whose stretch it is and which has not answered yet.
+fn missing_stretch(
+    places: &[Option<StretchAnswer>],
+    stretch: Stretch,
+    span: &Span,
+    road: &Road,
+    own: u32,
+) -> Option<usize>
+    requires few { length places.now ≤ MOST_WORKERS }
+    requires own { own ≤ 1 }
+    ensures missing { IfSome result (IsMissing places.now) }
+    ensures first { IfSome result
+        (λ w. stretch.first ≡ cut span.now.plan.cells (cars_of road.now) (own + length places.now) (own + w)) }
+    ensures end { IfSome result
+        (λ w. stretch.end ≡ cut span.now.plan.cells (cars_of road.now) (own + length places.now) (own + w + 1)) }
+    ensures order { IfSome result (λ _. stretch.first ≤ stretch.end) }
+    ensures short { IfSome result (λ _. stretch.end ≤ GREATEST_LENGTH) }
+{
+    let (cells, workers) = (span.plan().length(), places.len() as u32);
+    for worker in 0..workers {
+        if places[worker as usize].is_none()
+            && stretch_at(road, cells, own + workers, own + worker) == stretch
+        {
+            return Some(worker as usize);
+        }
+    }
+    None
+}
+
+// Answers whether a stretch was run for this span of this road.
+fn is_asked(done: &StretchDone, span: &Span, road: &Road) -> bool
+    requires order { done.now.stretch.first ≤ done.now.stretch.end }
+    requires short { done.now.stretch.end ≤ GREATEST_LENGTH }
+    ensures { IsTrue result → IfOk done.now.answer
+        (IsRunOf done.now.stretch.first done.now.stretch.end span.now road.now) }
+{
+    if !done.span.same(span) {
+        return false;
+    }
+    is_near(&done.near, span, road, done.stretch)
+}
+
+// Puts what the stretches come to one behind the other, the caller's own, so many, in front.
+pub(super) fn put_side_by_side(
+    span: &Span,
+    road: &Road,
+    own: u32,
+    front: StretchAnswer,
+    places: Vec<Option<StretchAnswer>>,
+) -> StretchAnswer
+    requires few { vec_len places ≤ MOST_WORKERS }
+    requires some { 0 < vec_len places }
+    requires own { own ≤ 1 }
+    requires there { AreThere (vec_len places) places.items }
+    requires gathered { AreRun span.now road.now own places.items }
+    requires front { IfOk front
+        (IsRunOf 0 (cut span.now.plan.cells (cars_of road.now) (own + vec_len places) own) span.now road.now) }
+    ensures { IfOk result (IsRunOf 0 span.now.plan.cells span.now road.now) }
+{
+    let cells = span.plan().length();
+    let count = own + places.len() as u32;
+    let mut whole = front;
+    let mut place = own;
+    for answer in places {
+        let stretch = stretch_at(road, cells, count, place);
+        whole = put_behind(span, road, stretch, whole, answer.unwrap());
+        place += 1;
+    }
+    whole
+}
+
+// Puts what a stretch comes to behind what all before it come to.
+fn put_behind(
+    span: &Span,
+    road: &Road,
+    stretch: Stretch,
+    front: StretchAnswer,
+    next: StretchAnswer,
+) -> StretchAnswer
+    requires order { stretch.first ≤ stretch.end }
+    requires front { IfOk front (IsRunOf 0 stretch.first span.now road.now) }
+    requires next { IfOk next (IsRunOf stretch.first stretch.end span.now road.now) }
+    ensures { IfOk result (IsRunOf 0 stretch.end span.now road.now) }
+{
+    let _ = span.steps();
+    let front = front?;
+    let next = next?;
+    beside(span, road, 0, stretch, front, next)
+}

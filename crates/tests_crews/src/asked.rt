@@ -1,0 +1,55 @@
+//! Who is asked: lasting workers where they pay, counted by a gate, and else nobody.
+
+ghost use Rattle.std.specs.Prelude.{◌<◌, ◌≤◌};
+
+use crate::rows::shared_plan;
+use crate::sizes::queue;
+use crate::spans::span_of;
+use road_workers::{Crew, Pool};
+use std::alloc::Global;
+use std::process::Abort;
+use std::sync::{Arc, Wait};
+use std::test::Fail;
+use std::thread::Threads;
+use tests_plans::{Counter, LONG, Parts};
+
+// How often workers are asked in a run of so many steps of a road of these parts, from a queue on so many cells.
+fn asked<R: Threads + Wait + Clone + Drop + Send + 'static>(
+    rt: &R,
+    alloc: Global,
+    workers: u32,
+    parts: &Parts,
+    cells: u32,
+    steps: u32,
+) -> Result<u32, Fail>
+    requires some { 0 < workers }
+    requires few { workers ≤ 16 }
+{
+    let gate = Arc::new(alloc, Counter::new())?;
+    let mut crew = Pool::start_gated(rt.clone()?, alloc, workers, Arc::try_clone(&gate)?)?;
+    let span = span_of(alloc, &shared_plan(alloc, parts)?, 0, 0, steps)?;
+    let ran = crew.run(alloc, &span, &queue(alloc, cells)?)?;
+    crew.finish();
+    if ran.is_some() == (steps == 0) {
+        return Err(Fail::new("a run of the wrong kind"));
+    }
+    Ok(gate.passed())
+}
+
+/// On the long road each worker is asked once in a run.
+#[test]
+fn each_worker_is_asked_where_workers_pay(rt: HostRuntime) -> Result<(), Fail> {
+    assert!(rt; asked(&rt, rt.alloc(), 2, &LONG, 4_096, 64)? == 2);
+    assert!(rt; asked(&rt, rt.alloc(), 3, &LONG, 4_096, 64)? == 3);
+    assert!(rt; asked(&rt, rt.alloc(), 16, &LONG, 4_096, 64)? == 16);
+    Ok(())
+}
+
+/// Nobody is asked on it where it has few cars, nor for few steps, nor for none: such a run is none.
+#[test]
+fn nobody_is_asked_where_workers_do_not_pay(rt: HostRuntime) -> Result<(), Fail> {
+    assert!(rt; asked(&rt, rt.alloc(), 3, &LONG, 5, 64)? == 0);
+    assert!(rt; asked(&rt, rt.alloc(), 3, &LONG, 200, 1)? == 0);
+    assert!(rt; asked(&rt, rt.alloc(), 3, &LONG, 4_096, 0)? == 0);
+    Ok(())
+}
