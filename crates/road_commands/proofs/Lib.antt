@@ -6,3 +6,4 @@ pub mod CrowdRefusals
 pub mod QueryCaches
 pub mod NameNumbers
 pub mod Outcomes
+pub mod NamedReplicas

@@ -1,23 +1,34 @@
 -- What the outcomes of commands are, by what the world does.
 use Rattle.std.proofs.Common.{◌≡◌, ◌⊎◌, ◌<◌, ℕ, length, false, Option, Some, None, refl, ap, sym, subst, ◌∙◌, inl, inr}
+use Rattle.std.specs.Prelude.{IfErr, Result}
+use Rattle.std.specs.declared.result.Result.TheVariants.{Ok, Err}
 use Rattle.std.specs.Global.{Vec}
 use Rattle.std.specs.Option.{option_and_then, option_map}
 use Rattle.lattice_core.specs.Sets.{from_list}
 use Rattle.road_scenario.specs.declared.edit.Edit.{Edit}
-use Rattle.road_replica.specs.Refusals.{import_fault}
+use Rattle.road_replica.specs.Refusals.{growth_fault, import_fault}
 use Rattle.road_replica.specs.declared.faults.ReplicaFault.{ReplicaFault}
 use Rattle.road_replica.specs.declared.faults.ReplicaFault.TheVariants.{OutOfMemory, WorkersGone}
+use Rattle.road_replica.specs.declared.faults.ReplicaFault.TheVariants as replica_faults
+use Rattle.road_workers.specs.Crews.{gone_after}
+use Rattle.road_workers.specs.declared.faults.CrewFault.{CrewFault}
+use Rattle.road_workers.specs.declared.faults.CrewFault.TheVariants as crew_faults
 use Rattle.road_world.proofs.EventAnswers.{fault_there}
-use Rattle.road_world.specs.Answers.{IsRefusal, IsUnnamedRefusal, fault_at_replica, fault_of_event, replica_number, reply_to_event}
-use Rattle.road_world.specs.Events.{World, world_with_edits}
+use Rattle.road_world.proofs.MadeMessages.{same_some}
+use Rattle.road_world.specs.Answers.{IsRefusal, IsUnnamedRefusal, fault_at_replica, fault_of_event, gone_after_answer, replica_number, reply_to_event}
+use Rattle.road_world.specs.Events.{World, makes_message, world_with_edits}
 use Rattle.road_world.specs.declared.event.Event.{Event}
 use Rattle.road_world.specs.declared.event.Event.TheVariants as events
 use Rattle.road_world.specs.declared.faults.WorldFault.{WorldFault}
 use Rattle.road_world.specs.declared.faults.WorldFault.TheVariants as world_faults
 use Rattle.road_format.specs.Replies.{Answer, Refused}
+use Rattle.road_format.specs.Views.{answer_view}
+use Rattle.road_format.specs.declared.answer.Answer as declared
 use Rattle.road_format.specs.declared.refusal.Refusal.{Refusal}
-use Rattle.road_commands.specs.Private.Changes.{makes_message, names_message}
-use Rattle.road_commands.specs.Laboratory.{Laboratory, change_outcome, import_outcome, outcome_unless, replica_refusal, touched_answer, world_refusal}
+use Rattle.road_commands.specs.Private.Changes.{IsTold, names_message}
+use Rattle.road_commands.specs.Private.Outcomes.{IsOutcome}
+use Rattle.road_commands.specs.Laboratory.{Laboratory, Outcome, change_outcome, import_outcome, laboratory_of_winners, outcome_unless}
+use Rattle.road_commands.specs.Laboratory.{replica_refusal, touched_answer, world_refusal}
 
 -- ---- refusals
 
@@ -55,12 +66,65 @@ named : (e : Event) (cause : Option WorldFault) (fault : WorldFault) (refusal : 
 named e (Some cause) fault refusal is said = ap world_refusal (sym is) ∙ said
 named e None fault refusal is said = let unsaid = unnamed e fault is in cc
 
--- an event that the world refuses for a named cause is answered so
-pub refused_answer : (lab : Laboratory) (e : Event) (answer : Answer) (fault : WorldFault) (refusal : Refusal) → replica_number e < length lab.world.replicas → IsRefusal e (fault_of_event lab.world e) fault
-    → world_refusal fault ≡ Some refusal → change_outcome lab e answer ≡ record { answer = Refused refusal; after = lab }
-refused_answer lab e answer fault refusal below is said =
+-- a refusal that is told is that of the named cause at the replica
+told_refusal : (lab : Laboratory) (e : Event) (fault : WorldFault) (refusal : Refusal) → replica_number e < length lab.world.replicas → IsRefusal e (fault_of_event lab.world e) fault
+    → world_refusal fault ≡ Some refusal → option_and_then world_refusal (fault_at_replica lab.world e) ≡ Some refusal
+told_refusal lab e fault refusal below is said =
     let here = subst (λ (cause : Option WorldFault). IsRefusal e cause fault) (fault_there lab.world e below) is in
-    rw (named e (fault_at_replica lab.world e) fault refusal here said) refl
+    named e (fault_at_replica lab.world e) fault refusal here said
+
+-- what is told is a refusal
+told_is : (refusal : Option Refusal) (answer : declared.Answer) → IsTold refusal (Ok answer) → (r : Refusal) × ((refusal ≡ Some r) × (answer_view answer ≡ Refused r))
+told_is None answer is = cc
+told_is (Some r) answer is = (r, (refl, sym (same_some (Refused r) (answer_view answer) is)))
+
+-- a refusal that is told counts no crew
+named_gone : (fault : WorldFault) (r : Refusal) (n : ℕ) → world_refusal fault ≡ Some r → gone_after_answer (Err fault) n ≡ n
+named_gone world_faults.NoReplica r n said = refl
+named_gone world_faults.NoMessage r n said = refl
+named_gone (world_faults.Replica replica_faults.NoObject) r n said = refl
+named_gone (world_faults.Replica replica_faults.Step) r n said = refl
+named_gone (world_faults.Replica replica_faults.ValueOutOfRange) r n said = refl
+named_gone (world_faults.Replica replica_faults.Count) r n said = refl
+named_gone (world_faults.Replica replica_faults.Insider) r n said = refl
+named_gone (world_faults.Replica replica_faults.CountsSpent) r n said = refl
+named_gone (world_faults.Replica replica_faults.Horizon) r n said = refl
+named_gone (world_faults.Replica replica_faults.NoDetector) r n said = refl
+named_gone (world_faults.Replica replica_faults.Range) r n said = refl
+named_gone (world_faults.Replica replica_faults.NotSimulated) r n said = refl
+named_gone (world_faults.Replica replica_faults.OutOfMemory) r n said = refl
+named_gone (world_faults.Replica replica_faults.WorkersGone) r n said = cc
+
+-- a crew's fault counts as it does at the replica
+gone_told : (lost : CrewFault) (n : ℕ) → gone_after_answer (Err (world_faults.Replica (growth_fault lost))) n ≡ gone_after {A = declared.Answer} (Err lost) n
+gone_told crew_faults.WorkersGone n = refl
+gone_told crew_faults.OutOfMemory n = refl
+
+-- What the world refuses is answered by its refusal, or not at all, where the outcome is the refusal of a named cause
+module _ (lab : Laboratory) (e : Event) (fault : WorldFault) (new : Laboratory) (count later : ℕ) (below : replica_number e < length lab.world.replicas) (is : IsRefusal e (fault_of_event lab.world e) fault)
+    (same : new ≡ lab) (won : laboratory_of_winners lab ≡ lab) (gone : later ≡ gone_after_answer (Err fault) count) where
+  of_refusal : (o : Outcome) (told : Result declared.Answer CrewFault) → IsTold (world_refusal fault) told → IfErr told (λ lost. fault ≡ world_faults.Replica (growth_fault lost))
+      → ((r : Refusal) → option_and_then world_refusal (fault_at_replica lab.world e) ≡ Some r → o ≡ record { answer = Refused r; after = lab }) → IsOutcome o told lab new count later
+  of_refusal o (Ok answer) told lost refuses =
+      let said = told_is (world_refusal fault) answer told in
+      let refused : o ≡ record { answer = Refused said.0; after = lab } = refuses said.0 (told_refusal lab e fault said.0 below is said.1.0) in
+      let unasked : later ≡ count = gone ∙ named_gone fault said.0 count said.1.0 in record {
+        answer = said.1.1 ∙ sym (ap (λ (p : Outcome). p.answer) refused);
+        after = same ∙ sym won ∙ sym (ap (λ (p : Outcome). laboratory_of_winners p.after) refused);
+        unchanged = tt;
+        gone = unasked;
+      }
+  of_refusal o (Err lost) told is_lost refuses = record {
+    answer = tt;
+    after = tt;
+    unchanged = same;
+    gone = gone ∙ ap (λ (f : WorldFault). gone_after_answer (Err f) count) is_lost ∙ gone_told lost count;
+  }
+
+  -- an event that the world refuses is answered so
+  pub refused_change : (answer : Answer) (told : Result declared.Answer CrewFault) → IsTold (world_refusal fault) told → IfErr told (λ lost. fault ≡ world_faults.Replica (growth_fault lost))
+      → IsOutcome (change_outcome lab e answer) told lab new count later
+  refused_change answer told is_told lost = of_refusal (change_outcome lab e answer) told is_told lost (λ r cause. rw cause refl)
 
 -- ---- imports
 

@@ -1,6 +1,6 @@
 -- No command changes the plan.
 use Rattle.std.proofs.Common.{◌≡◌, ℕ, List, Option, Some, None, refl}
-use Rattle.std.specs.Option.{option_map_or}
+use Rattle.std.specs.Option.{option_and_then, option_map_or}
 use Rattle.road_scenario.specs.declared.edit.Edit as edit
 use Rattle.road_format.specs.CommandGrammar as commands
 use Rattle.road_format.specs.CommandGrammar.{Command}
@@ -40,7 +40,7 @@ at_kept lab r (commands.Crowd shares to) = refl
 
 by_name_kept : (lab : Laboratory) (command : Command) → KeepsPlan lab (outcome_by_name lab command)
 by_name_kept lab command =
-    by_number_kept lab refusals.NoReplica (number_of lab.replica_names (replica_name command)) _ (λ r. at_kept lab r command)
+    by_number_kept lab refusals.NoReplica (option_and_then (number_of lab.replica_names) (replica_name command)) _ (λ r. at_kept lab r command)
 
 by_crowd_kept : (lab : Laboratory) (crowd : Option (List (List edit.Edit) × ℕ)) (o : Outcome) → KeepsPlan lab o → KeepsPlan lab (option_map_or (λ c. crowd_outcome lab c.0 c.1) crowd o)
 by_crowd_kept lab None o kept = kept

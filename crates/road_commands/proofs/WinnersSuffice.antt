@@ -194,7 +194,7 @@ outcome_at_alike lab r (commands.Crowd shares to) = crowd_alike lab shares to
 -- a command whose replica is asked for first
 by_name_alike : (lab : Laboratory) (command : Command) → Alike (outcome_by_name (laboratory_of_winners lab) command) (outcome_by_name lab command)
 by_name_alike lab command =
-    with_alike lab refusals.NoReplica (number_of lab.replica_names (replica_name command)) _ _ (λ r. outcome_at_alike lab r command)
+    with_alike lab refusals.NoReplica (option_and_then (number_of lab.replica_names) (replica_name command)) _ _ (λ r. outcome_at_alike lab r command)
 
 -- every command
 pub winners_suffice : (lab : Laboratory) (command : Command) → outcome_of_winners (outcome (laboratory_of_winners lab) command) ≡ outcome_of_winners (outcome lab command)

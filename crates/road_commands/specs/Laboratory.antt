@@ -1,6 +1,6 @@
 -- A laboratory: a world whose replicas and messages have names, and what it answers to commands.
 use Rattle.std.specs.Prelude.{ℕ, max, List, [], ◌∷◌, ◌++◌, length, map, is_some, is_none, if◌then◌else◌, Result}
-use Rattle.std.specs.Prelude.{Bool, true, false, ◌&&◌, nat_le}
+use Rattle.std.specs.Prelude.{Bool, true, false}
 use Rattle.std.specs.List.{position, slice_get}
 use Rattle.std.specs.Option.{option_and_then, option_map_or, option_or}
 use Rattle.std.specs.Str.{bytes_eq}
@@ -25,7 +25,6 @@ use Rattle.road_sheet.specs.Shown.{row_at}
 use Rattle.road_replica.specs.Crowds.{crowd_winners, crowd_writes, shares_fault}
 use Rattle.road_replica.specs.Refusals.{import_fault, rows_fault, state_fault, totals_fault}
 use Rattle.road_replica.specs.Replicas.{local_edit}
-use Rattle.road_replica.specs.declared.crowds.TheConstants.{MOST_CROWD_WRITES}
 use Rattle.road_replica.specs.declared.faults.ReplicaFault.{ReplicaFault}
 use Rattle.road_replica.specs.declared.faults.ReplicaFault.TheVariants as replica_faults
 use Rattle.road_workers.specs.Crews.{gone_after}
@@ -39,7 +38,7 @@ use Rattle.road_world.specs.declared.event.Event.TheVariants as events
 use Rattle.road_world.specs.declared.faults.WorldFault.{WorldFault}
 use Rattle.road_world.specs.declared.faults.WorldFault.TheVariants as world_faults
 use Rattle.road_format.specs.CommandGrammar as commands
-use Rattle.road_format.specs.CommandGrammar.{Command, are_few_shares}
+use Rattle.road_format.specs.CommandGrammar.{Command}
 use Rattle.road_format.specs.PlanGrammar.{PlanLine}
 use Rattle.road_format.specs.Replies as replies
 use Rattle.road_format.specs.Replies.{Answer, Counted, Delta, Horizon, Refused, Sent, Stamped, Touched}
@@ -229,16 +228,9 @@ query_outcome lab answer = record { answer = answer; after = lab }
 
 -- ---- crowds: they are asked of no replica, and change nothing
 
--- whether shares are gathered: there is one at least, and there are not too many, nor too many writes to make
-abbrev pub are_gathered : List (List edit.Edit) → Bool
-are_gathered shares = are_few_shares shares && nat_le (crowd_writes shares) MOST_CROWD_WRITES
-
 -- Why a crowd is refused: as a replica would refuse the first faulty edit, in the order of the shares, else the step.
--- One that is not gathered is no command; no line writes such a one.
 abbrev pub crowd_refusal : Plan → List (List edit.Edit) → ℕ → Option Refusal
-crowd_refusal plan shares to =
-    if are_gathered shares then option_and_then replica_refusal (shares_fault plan shares to)
-    else Some refusals.NotACommand
+crowd_refusal plan shares to = option_and_then replica_refusal (shares_fault plan shares to)
 
 -- what the sessions of a crowd leave: the winners of all edits, how many writes they make, and the row of the step
 abbrev pub crowd_answer : Plan → List (List edit.Edit) → ℕ → Answer
@@ -254,21 +246,21 @@ crowd_outcome lab shares to =
 -- ---- commands
 
 -- the name of a command's replica; a crowd names none
-abbrev pub replica_name : Command → List ℕ
-replica_name (commands.Edit at object step number) = at
-replica_name (commands.Withdraw at object step) = at
-replica_name (commands.Import at edits) = at
-replica_name (commands.Send at name) = at
-replica_name (commands.Heads at name) = at
-replica_name (commands.Beyond at asked name) = at
-replica_name (commands.Take at message) = at
-replica_name (commands.Advance at to) = at
-replica_name (commands.Cells at step) = at
-replica_name (commands.Cars at step) = at
-replica_name (commands.Count at detector from to) = at
-replica_name (commands.Diagram at from to) = at
-replica_name (commands.Scenario at) = at
-replica_name (commands.Crowd shares to) = []
+abbrev pub replica_name : Command → Option (List ℕ)
+replica_name (commands.Edit at object step number) = Some at
+replica_name (commands.Withdraw at object step) = Some at
+replica_name (commands.Import at edits) = Some at
+replica_name (commands.Send at name) = Some at
+replica_name (commands.Heads at name) = Some at
+replica_name (commands.Beyond at asked name) = Some at
+replica_name (commands.Take at message) = Some at
+replica_name (commands.Advance at to) = Some at
+replica_name (commands.Cells at step) = Some at
+replica_name (commands.Cars at step) = Some at
+replica_name (commands.Count at detector from to) = Some at
+replica_name (commands.Diagram at from to) = Some at
+replica_name (commands.Scenario at) = Some at
+replica_name (commands.Crowd shares to) = None
 
 -- what a command to replica r comes to
 abbrev pub outcome_at : Laboratory → ℕ → Command → Outcome
@@ -294,7 +286,8 @@ outcome_at lab r (commands.Crowd shares to) = crowd_outcome lab shares to
 -- what a command comes to where its replica is asked for first
 abbrev pub outcome_by_name : Laboratory → Command → Outcome
 outcome_by_name lab command =
-    outcome_by_number lab refusals.NoReplica (number_of lab.replica_names (replica_name command)) (λ r.
+    outcome_by_number lab refusals.NoReplica
+    (option_and_then (number_of lab.replica_names) (replica_name command)) (λ r.
     outcome_at lab r command)
 
 -- the shares and the step of a command that is a crowd

@@ -1,38 +1,42 @@
 //! A world with names, and its answers to commands.
 
-ghost use Rattle.std.specs.Prelude.{◌≡◌, ◌<◌, ◌≤◌, ◌++◌, ◌∷◌, [], IfOk, IfSome, None, OnErr, OnOk, Some, false};
-ghost use Rattle.std.specs.Prelude.{is_none, length, string_bytes, ℕ};
+ghost use Rattle.std.specs.Prelude.{◌≡◌, ◌<◌, ◌≤◌, ◌++◌, ◌∷◌, [], Err, IfErr, IfOk, IfSome, None, OnErr, OnOk, Some};
+ghost use Rattle.std.specs.Prelude.{false, is_none, length, string_bytes, true, ℕ};
 ghost use Rattle.std.specs.Arc.{arc_value};
 ghost use Rattle.std.specs.List.{All, IsDistinct};
 ghost use Rattle.std.specs.Str.{bytes_eq};
-ghost use Rattle.road_plan.specs.declared.limits.TheConstants.{MOST_REPLICAS};
-ghost use Rattle.road_scenario.specs.Faults.{AreInRange, FitsSomePlan};
-ghost use Rattle.road_scenario.specs.Winners.{AreWinners};
+ghost use Rattle.road_plan.specs.declared.limits.TheConstants.{MOST_REPLICAS, MOST_SESSIONS};
+ghost use Rattle.road_scenario.specs.Faults.{FitsSomePlan};
 ghost use Rattle.road_sheet.specs.Sheets.{Sheet};
 ghost use Rattle.road_sheet.specs.QueryCaches.{IsCacheOf};
-ghost use Rattle.road_world.specs.Answers.{IsAnswer, fault_at_replica, gone_after_answer, replica_number};
+ghost use Rattle.road_replica.specs.Crowds.{crowd_writes, shares_of};
+ghost use Rattle.road_replica.specs.declared.crowds.TheConstants.{MOST_CROWD_WRITES};
+ghost use Rattle.road_world.specs.Answers.{IsAnswer, fault_of_event, gone_after_answer, replica_number};
 ghost use Rattle.road_world.specs.Answers.{reply_to_event, sheet_at};
-ghost use Rattle.road_world.specs.Events.{message_of_event, replica_at, world_after_event};
+ghost use Rattle.road_world.specs.Applied.{IsMade};
+ghost use Rattle.road_world.specs.Events.{carried_edits, makes_message, message_of_event, world_after_event};
+ghost use Rattle.road_format.specs.CommandGrammar.{HasFewWrites};
 ghost use Rattle.road_format.specs.Views.{answer_view, command_view, plan_line_view, shares_view, texts};
 ghost use Rattle.road_commands.specs.Laboratory.{answer_to, beyond_outcome, change_outcome, crowd_outcome};
-ghost use Rattle.road_commands.specs.Laboratory.{gone_after_command, heads_outcome, is_gathered, laboratory_after};
-ghost use Rattle.road_commands.specs.Laboratory.{laboratory_of_winners, number_of, opening_laboratory, outcome_at};
-ghost use Rattle.road_commands.specs.Laboratory.{outcome_by_name, query_outcome, send_outcome, take_outcome};
+ghost use Rattle.road_commands.specs.Laboratory.{gone_after_command, is_gathered, laboratory_after};
+ghost use Rattle.road_commands.specs.Laboratory.{laboratory_of_winners, message_outcome, number_of, opening_laboratory};
+ghost use Rattle.road_commands.specs.Laboratory.{outcome_at, query_outcome, take_outcome};
 ghost use Rattle.road_commands.specs.Laboratory as laboratory;
-ghost use Rattle.road_commands.specs.Private.Changes.{makes_message, reply_answer};
-ghost use Rattle.road_commands.specs.Private.Outcomes.{IsOutcome};
+ghost use Rattle.road_commands.specs.Private.Changes.{made_answer, reply_answer};
+ghost use Rattle.road_commands.specs.Private.Outcomes.{IsAnswered, IsOutcome};
 ghost use Rattle.road_commands.specs.Private.Queries.{answer_to_query};
 
-use crate::crowds::{crowd_of, crowd_refusal};
+use crate::crowds::crowd_refusal;
 use crate::names::Names;
 use crate::queries::{Query, ask_sheet};
-use crate::translation::{answer_of, fault_by, keeps_edits, name_of, refusal_of, replica_refusal};
-use road_delta::{beyond, heads_of};
+use crate::translation::{
+    answer_of, answer_of_message, keeps_edits, name_of, told, told_by_replica,
+};
 use road_ends::Meter;
 use road_format::{Answer, Command, PlanLine, Refusal};
 use road_plan::{OutOfMemory, Plan};
 use road_replica::{Crowd, Crowds, Reply};
-use road_scenario::{Edit, Scenario};
+use road_scenario::Edit;
 use road_sheet::QueryCache;
 use road_workers::{Crew, CrewFault};
 use road_world::{Event, Message, World, WorldFault};
@@ -98,8 +102,8 @@ impl<S: BuildHasher + Copy> Laboratory<S> {
     }
 
     /// Answers a command. A write computes anew, by the crew that it is given, every simulated step that it touches before
-    /// it answers. A crowd that nothing refuses is gathered by `crowds`. A refused command changes nothing, and a crowd
-    /// neither.
+    /// it answers. A crowd, which has 1 to 8 shares of at most 1,000,000 writes, is gathered by `crowds` where nothing
+    /// refuses it. A refused command changes nothing, and a crowd neither.
     ///
     /// # Errors
     ///
@@ -112,6 +116,7 @@ impl<S: BuildHasher + Copy> Laboratory<S> {
         crew: &mut C,
         crowds: &K,
     ) -> Result<Answer, CrewFault>
+        requires shares { HasFewWrites MOST_CROWD_WRITES (command_view command) }
         ensures answer { IfOk result (λ answer. answer_view answer ≡ answer_to self.old (command_view command)) }
         ensures after { OnOk result (self.new
             ≡ laboratory_of_winners (laboratory_after self.old (command_view command))) }
@@ -119,10 +124,7 @@ impl<S: BuildHasher + Copy> Laboratory<S> {
         ensures gone { C.times_gone crew.new ≡ gone_after_command result
             (is_gathered self.old.world.plan (command_view command)) (C.times_gone crew.old) }
     {
-        if let Some((shares, to)) = crowd_of(&command) {
-            return self.gather(alloc, shares, to, crowds);
-        }
-        self.answer_by_name(alloc, command, crew)
+        self.answer_by_name(alloc, command, crew, crowds)
     }
 
     // Answers a crowd.
@@ -133,6 +135,9 @@ impl<S: BuildHasher + Copy> Laboratory<S> {
         to: u32,
         crowds: &K,
     ) -> Result<Answer, CrewFault>
+        requires some { 0 < length shares.now }
+        requires few { length shares.now ≤ MOST_SESSIONS }
+        requires within { crowd_writes (shares_of shares.now) ≤ MOST_CROWD_WRITES }
         ensures answer { IfOk result (λ answer. answer_view answer
             ≡ (crowd_outcome self.now (shares_view shares.now) to).answer) }
         ensures winners { laboratory_of_winners self.now ≡ self.now }
@@ -155,21 +160,26 @@ impl<S: BuildHasher + Copy> Laboratory<S> {
         })
     }
 
-    // Answers a command that is no crowd: its replica is asked for first.
-    fn answer_by_name<C: Crew>(
+    // Answers a command: its replica is asked for first. A crowd writes to a replica of its own.
+    fn answer_by_name<C: Crew, K: Crowds>(
         &mut self,
         alloc: Global,
         command: Command,
         crew: &mut C,
+        crowds: &K,
     ) -> Result<Answer, CrewFault>
-        requires { laboratory.crowd_of (command_view command) ≡ None }
-        ensures { IsOutcome (outcome_by_name self.old (command_view command)) result self.old self.new
+        requires { HasFewWrites MOST_CROWD_WRITES (command_view command) }
+        ensures { IsAnswered (is_gathered self.old.world.plan (command_view command))
+            (laboratory.outcome self.old (command_view command)) result self.old self.new
             (C.times_gone crew.old) (C.times_gone crew.new) }
     {
-        let Some(at) = self.replica_of(name_of(&command)) else {
+        let Some(name) = name_of(&command) else {
+            return self.answer_at(alloc, 0, command, crew, crowds);
+        };
+        let Some(at) = self.replica_of(name) else {
             return Ok(Answer::Refused(Refusal::NoReplica));
         };
-        self.answer_at(alloc, at, command, crew)
+        self.answer_at(alloc, at, command, crew, crowds)
     }
 
     // Returns the number of a replica's name.
@@ -182,17 +192,19 @@ impl<S: BuildHasher + Copy> Laboratory<S> {
         Some(number as u32)
     }
 
-    // Answers a command to a replica.
-    fn answer_at<C: Crew>(
+    // Answers a command to a replica. Which one that is does not matter to a crowd.
+    fn answer_at<C: Crew, K: Crowds>(
         &mut self,
         alloc: Global,
         at: u32,
         command: Command,
         crew: &mut C,
+        crowds: &K,
     ) -> Result<Answer, CrewFault>
-        requires there { at < length self.old.replica_names }
-        requires no_crowd { laboratory.crowd_of (command_view command) ≡ None }
-        ensures { IsOutcome (outcome_at self.old at (command_view command)) result self.old self.new
+        requires there { laboratory.crowd_of (command_view command) ≡ None → at < length self.old.replica_names }
+        requires shares { HasFewWrites MOST_CROWD_WRITES (command_view command) }
+        ensures { IsAnswered (is_gathered self.old.world.plan (command_view command))
+            (outcome_at self.old at (command_view command)) result self.old self.new
             (C.times_gone crew.old) (C.times_gone crew.new) }
     {
         match command {
@@ -215,8 +227,8 @@ impl<S: BuildHasher + Copy> Laboratory<S> {
                 self.change(alloc, &event, crew)
             }
             Command::Import { edits, .. } => self.change(alloc, &Event::Import { at, edits }, crew),
-            Command::Send { name, .. } => self.send(alloc, at, name),
-            Command::Heads { name, .. } => self.heads(alloc, at, name),
+            Command::Send { name, .. } => self.make(alloc, &Event::Send { at }, name),
+            Command::Heads { name, .. } => self.make(alloc, &Event::Heads { at }, name),
             Command::Beyond { heads, name, .. } => self.beyond(alloc, at, &heads, name),
             Command::Take { message, .. } => self.take(alloc, at, &message, crew),
             Command::Advance { to, .. } => self.change(alloc, &Event::Advance { at, to }, crew),
@@ -230,7 +242,7 @@ impl<S: BuildHasher + Copy> Laboratory<S> {
             } => self.ask(alloc, at, Query::Count { detector, from, to }),
             Command::Diagram { from, to, .. } => self.ask(alloc, at, Query::Diagram { from, to }),
             Command::Scenario { .. } => self.ask(alloc, at, Query::Scenario),
-            Command::Crowd { .. } => unreachable!(),
+            Command::Crowd { shares, to } => self.gather(alloc, shares.as_slice(), to, crowds),
         }
     }
 
@@ -242,15 +254,12 @@ impl<S: BuildHasher + Copy> Laboratory<S> {
             result self.old self.new gone gone }
     {
         let Some(replica) = self.world.replica(at) else {
-            unreachable!()
+            return Ok(Answer::Refused(Refusal::NoReplica));
         };
         let cache = &mut self.caches[at as usize];
         match ask_sheet(alloc, replica.sheet(), cache, query) {
             Ok(answer) => Ok(answer),
-            Err(fault) => match replica_refusal(fault) {
-                Some(refusal) => Ok(Answer::Refused(refusal)),
-                None => Err(CrewFault::OutOfMemory),
-            },
+            Err(fault) => told_by_replica(fault),
         }
     }
 
@@ -270,10 +279,7 @@ impl<S: BuildHasher + Copy> Laboratory<S> {
     {
         match self.apply(alloc, event, crew) {
             Ok(reply) => Ok(answer_of(reply)),
-            Err(fault) => match refusal_of(fault) {
-                Some(refusal) => Ok(Answer::Refused(refusal)),
-                None => Err(fault_by(fault)),
-            },
+            Err(fault) => told(fault),
         }
     }
 
@@ -306,43 +312,6 @@ impl<S: BuildHasher + Copy> Laboratory<S> {
 
     // ---- messages
 
-    // Makes a message of all that a replica holds.
-    fn send(&mut self, alloc: Global, at: u32, name: String) -> Result<Answer, CrewFault>
-        requires { at < length self.old.replica_names }
-        ensures { (gone : ℕ) → IsOutcome (send_outcome self.old at (string_bytes name))
-            result self.old self.new gone gone }
-    {
-        if self.message_of(&name).is_some() {
-            return Ok(Answer::Refused(Refusal::NameTaken));
-        }
-        let held = self.scenario(at);
-        let size = held.len() as u64;
-        let edits = held.copied()?;
-        self.post(alloc, &Event::Send { at }, Message::Whole(edits), &name)?;
-        Ok(Answer::Sent {
-            message: name,
-            size,
-        })
-    }
-
-    // Makes a message of the heads of all that a replica holds.
-    fn heads(&mut self, alloc: Global, at: u32, name: String) -> Result<Answer, CrewFault>
-        requires { at < length self.old.replica_names }
-        ensures { (gone : ℕ) → IsOutcome (heads_outcome self.old at (string_bytes name))
-            result self.old self.new gone gone }
-    {
-        if self.message_of(&name).is_some() {
-            return Ok(Answer::Refused(Refusal::NameTaken));
-        }
-        let asked = heads_of(alloc, self.scenario(at))?;
-        let heads = asked.list().to_vec(alloc)?;
-        self.post(alloc, &Event::Heads { at }, Message::Asked(asked), &name)?;
-        Ok(Answer::Heads {
-            message: name,
-            heads,
-        })
-    }
-
     // Makes a message of what a replica holds beyond the heads of another.
     fn beyond(
         &mut self,
@@ -355,62 +324,57 @@ impl<S: BuildHasher + Copy> Laboratory<S> {
         ensures { (gone : ℕ) → IsOutcome (beyond_outcome self.old at asked.now (string_bytes name))
             result self.old self.new gone gone }
     {
-        let Some(number) = self.message_of(asked) else {
-            return Ok(Answer::Refused(Refusal::NoMessage));
-        };
-        let Some(Message::Asked(heads)) = self.world.message(number) else {
-            return Ok(Answer::Refused(Refusal::NoMessage));
+        match self.message_of(asked) {
+            Some(message) => self.make(alloc, &Event::Beyond { at, message }, name),
+            None => Ok(Answer::Refused(Refusal::NoMessage)),
+        }
+    }
+
+    // Makes the message of an event, and names it.
+    fn make(&mut self, alloc: Global, event: &Event, name: String) -> Result<Answer, CrewFault>
+        requires there { replica_number event.now < length self.old.replica_names }
+        requires makes { makes_message event.now ≡ true }
+        ensures { (gone : ℕ) → IsOutcome (message_outcome self.old event.now (string_bytes name)
+            (made_answer self.old.world event.now (string_bytes name))) result self.old self.new gone gone }
+    {
+        let message = match self.made(alloc, event) {
+            Ok(message) => message,
+            Err(fault) => return told(fault),
         };
         if self.message_of(&name).is_some() {
             return Ok(Answer::Refused(Refusal::NameTaken));
         }
-        let delta = beyond(alloc, self.scenario(at), heads)?;
-        let edits = delta.edits(alloc)?;
-        let event = Event::Beyond {
-            at,
-            message: number,
-        };
-        self.post(alloc, &event, Message::Answer(delta), &name)?;
-        Ok(Answer::Delta {
-            message: name,
-            edits,
-        })
+        let answer = answer_of_message(alloc, &message, String::from_str(alloc, &name)?)?;
+        self.post(event, message, name)?;
+        Ok(answer)
     }
 
-    // Returns the scenario of a replica.
-    fn scenario(&self, at: u32) -> &Scenario
-        requires { at < length self.now.replica_names }
-        ensures edits { result.now ≡ (replica_at self.now.world at).edits }
-        ensures winners { AreWinners result.now }
-        ensures in_range { AreInRange self.now.world.plan result.now }
-        ensures fits { FitsSomePlan result.now }
+    // Makes the message of an event at a replica that is there.
+    fn made(&self, alloc: Global, event: &Event) -> Result<Message, WorldFault>
+        requires there { replica_number event.now < length self.now.replica_names }
+        requires makes { makes_message event.now ≡ true }
+        ensures made { IsMade self.now.world event.now result }
+        ensures fits { IfOk result (λ message. FitsSomePlan (carried_edits (Some message))) }
+        ensures no_crew { IfErr result (λ fault. (n : ℕ) → gone_after_answer (Err fault) n ≡ n) }
+        ensures winners { laboratory_of_winners self.now ≡ self.now }
+        ensures replicas { length self.now.world.replicas ≡ length self.now.replica_names }
     {
-        match self.world.replica(at) {
-            Some(replica) => replica.scenario(),
-            None => unreachable!(),
-        }
+        self.world.message_by(alloc, event)
     }
 
     // Applies an event whose message is made already, and names that message. No message may have the name.
-    fn post(
-        &mut self,
-        alloc: Global,
-        event: &Event,
-        message: Message,
-        name: &str,
-    ) -> Result<(), OutOfMemory>
-        requires there { replica_number event.now < length self.old.replica_names }
-        requires accepted { fault_at_replica self.old.world event.now ≡ None }
+    fn post(&mut self, event: &Event, message: Message, name: String) -> Result<(), OutOfMemory>
+        requires accepted { fault_of_event self.old.world event.now ≡ None }
         requires made { message_of_event self.old.world event.now ≡ Some message }
-        requires free { number_of self.old.message_names name.now ≡ None }
+        requires free { number_of self.old.message_names (string_bytes name) ≡ None }
         ensures after { OnOk result (self.new ≡ laboratory_of_winners (record self.old {
-          message_names = self.old.message_names ++ name.now ∷ [];
+          message_names = self.old.message_names ++ string_bytes name ∷ [];
           world = world_after_event event.now self.old.world;
         })) }
         ensures unchanged { OnErr result (self.new ≡ self.old) }
     {
         let count = self.messages.len();
-        self.messages.put(String::from_str(alloc, name)?)?;
+        self.messages.add(name)?;
         match self.world.post(event, message) {
             Ok(_) => Ok(()),
             Err(fault) => {

@@ -50,7 +50,7 @@ impl<S: BuildHasher + Drop> Names<S> {
     {
         let mut numbered = Names::none(alloc, hasher);
         for name in names {
-            numbered.put(name)?;
+            numbered.add(name)?;
         }
         Ok(numbered)
     }
@@ -75,7 +75,7 @@ impl<S: BuildHasher + Drop> Names<S> {
     /// # Errors
     ///
     /// `OutOfMemory` where an allocation failed.
-    pub fn put(&mut self, name: String) -> Result<(), OutOfMemory>
+    pub fn add(&mut self, name: String) -> Result<(), OutOfMemory>
         requires { number_of self.old (string_bytes name) ≡ None }
         ensures after { OnOk result (self.new ≡ self.old ++ string_bytes name ∷ []) }
         ensures unchanged { OnErr result (self.new ≡ self.old) }

@@ -1,34 +1,42 @@
 //! Translates the world's replies and faults to the program's, and commands to the replica that they name.
 
-ghost use Rattle.std.specs.Prelude.{◌≡◌, false};
+ghost use Rattle.std.specs.Prelude.{◌≡◌, IfErr, IfOk, Some, false, string_bytes};
+ghost use Rattle.std.specs.Result.{result_ok};
+ghost use Rattle.std.specs.Option.{option_map};
+ghost use Rattle.road_scenario.specs.Faults.{FitsSomePlan};
+ghost use Rattle.road_replica.specs.Refusals.{growth_fault};
+ghost use Rattle.road_world.specs.Events.{carried_edits};
+ghost use Rattle.road_world.specs.declared.faults.WorldFault.TheVariants as world_faults;
 ghost use Rattle.road_format.specs.Views.{answer_view, command_view};
 ghost use Rattle.road_commands.specs.Laboratory as laboratory;
 ghost use Rattle.road_commands.specs.Private.Changes as changes;
 
 use road_format::{Answer, Command, Refusal};
+use road_plan::OutOfMemory;
 use road_replica::{ReplicaFault, Reply};
 use road_workers::CrewFault;
-use road_world::{Event, WorldFault};
+use road_world::{Event, Message, WorldFault};
+use std::alloc::Global;
 
 // Returns the name of a command's replica. A crowd names none.
-pub(crate) fn name_of(command: &Command) -> &str
-    ensures { result.now ≡ laboratory.replica_name (command_view command.now) }
+pub(crate) fn name_of(command: &Command) -> Option<&str>
+    ensures { option_map (λ name. name.now) result ≡ laboratory.replica_name (command_view command.now) }
 {
     match command {
-        Command::Edit { at, .. } => at,
-        Command::Withdraw { at, .. } => at,
-        Command::Import { at, .. } => at,
-        Command::Send { at, .. } => at,
-        Command::Heads { at, .. } => at,
-        Command::Beyond { at, .. } => at,
-        Command::Take { at, .. } => at,
-        Command::Advance { at, .. } => at,
-        Command::Cells { at, .. } => at,
-        Command::Cars { at, .. } => at,
-        Command::Count { at, .. } => at,
-        Command::Diagram { at, .. } => at,
-        Command::Scenario { at } => at,
-        Command::Crowd { .. } => "",
+        Command::Edit { at, .. } => Some(at),
+        Command::Withdraw { at, .. } => Some(at),
+        Command::Import { at, .. } => Some(at),
+        Command::Send { at, .. } => Some(at),
+        Command::Heads { at, .. } => Some(at),
+        Command::Beyond { at, .. } => Some(at),
+        Command::Take { at, .. } => Some(at),
+        Command::Advance { at, .. } => Some(at),
+        Command::Cells { at, .. } => Some(at),
+        Command::Cars { at, .. } => Some(at),
+        Command::Count { at, .. } => Some(at),
+        Command::Diagram { at, .. } => Some(at),
+        Command::Scenario { at } => Some(at),
+        Command::Crowd { .. } => None,
     }
 }
 
@@ -61,43 +69,71 @@ pub(crate) fn answer_of(reply: Reply) -> Answer
     }
 }
 
-// Translates a refusal of the world; there is none where the cause has no name.
-pub(crate) fn refusal_of(fault: WorldFault) -> Option<Refusal>
-    ensures { result ≡ laboratory.world_refusal fault }
+// Tells a refusal of the world: its answer, or the fault for which there is none.
+pub(crate) fn told(fault: WorldFault) -> Result<Answer, CrewFault>
+    ensures told { changes.IsTold (laboratory.world_refusal fault) result }
+    ensures lost { IfErr result (λ lost. fault ≡ world_faults.Replica (growth_fault lost)) }
 {
     match fault {
-        WorldFault::NoReplica => Some(Refusal::NoReplica),
-        WorldFault::NoMessage => Some(Refusal::NoMessage),
-        WorldFault::Replica(fault) => replica_refusal(fault),
+        WorldFault::NoReplica => Ok(Answer::Refused(Refusal::NoReplica)),
+        WorldFault::NoMessage => Ok(Answer::Refused(Refusal::NoMessage)),
+        WorldFault::Replica(fault) => told_by_replica(fault),
     }
 }
 
-// Translates a refusal of a replica; there is none where the cause has no name.
-pub(crate) fn replica_refusal(fault: ReplicaFault) -> Option<Refusal>
-    ensures { result ≡ laboratory.replica_refusal fault }
+// Tells a refusal of a replica.
+pub(crate) fn told_by_replica(fault: ReplicaFault) -> Result<Answer, CrewFault>
+    ensures told { changes.IsTold (laboratory.replica_refusal fault) result }
+    ensures lost { IfErr result (λ lost. fault ≡ growth_fault lost) }
 {
-    match fault {
-        ReplicaFault::NoObject => Some(Refusal::NoObject),
-        ReplicaFault::Step => Some(Refusal::Step),
-        ReplicaFault::ValueOutOfRange => Some(Refusal::ValueOutOfRange),
-        ReplicaFault::Count => Some(Refusal::Count),
-        ReplicaFault::Insider => Some(Refusal::Insider),
-        ReplicaFault::CountsSpent => Some(Refusal::CountsSpent),
-        ReplicaFault::Horizon => Some(Refusal::Horizon),
-        ReplicaFault::NoDetector => Some(Refusal::NoDetector),
-        ReplicaFault::Range => Some(Refusal::Range),
-        ReplicaFault::NotSimulated => Some(Refusal::NotSimulated),
-        ReplicaFault::WorkersGone => None,
-        ReplicaFault::OutOfMemory => None,
+    match replica_refusal(fault) {
+        Ok(refusal) => Ok(Answer::Refused(refusal)),
+        Err(lost) => Err(lost),
     }
 }
 
-// Returns the crew's fault where the world refuses an event for no named cause.
-pub(crate) fn fault_by(fault: WorldFault) -> CrewFault
-    ensures { result ≡ changes.fault_by fault }
+// Translates a refusal of a replica. What a crew lost, and out of memory, are no answer.
+pub(crate) fn replica_refusal(fault: ReplicaFault) -> Result<Refusal, CrewFault>
+    ensures refusal { result_ok result ≡ laboratory.replica_refusal fault }
+    ensures lost { IfErr result (λ lost. fault ≡ growth_fault lost) }
 {
     match fault {
-        WorldFault::Replica(ReplicaFault::WorkersGone) => CrewFault::WorkersGone,
-        _ => CrewFault::OutOfMemory,
+        ReplicaFault::NoObject => Ok(Refusal::NoObject),
+        ReplicaFault::Step => Ok(Refusal::Step),
+        ReplicaFault::ValueOutOfRange => Ok(Refusal::ValueOutOfRange),
+        ReplicaFault::Count => Ok(Refusal::Count),
+        ReplicaFault::Insider => Ok(Refusal::Insider),
+        ReplicaFault::CountsSpent => Ok(Refusal::CountsSpent),
+        ReplicaFault::Horizon => Ok(Refusal::Horizon),
+        ReplicaFault::NoDetector => Ok(Refusal::NoDetector),
+        ReplicaFault::Range => Ok(Refusal::Range),
+        ReplicaFault::NotSimulated => Ok(Refusal::NotSimulated),
+        ReplicaFault::WorkersGone => Err(CrewFault::WorkersGone),
+        ReplicaFault::OutOfMemory => Err(CrewFault::OutOfMemory),
+    }
+}
+
+// Tells what a message carries, which bears this name.
+pub(crate) fn answer_of_message(
+    alloc: Global,
+    message: &Message,
+    name: String,
+) -> Result<Answer, OutOfMemory>
+    requires { FitsSomePlan (carried_edits (Some message.now)) }
+    ensures { IfOk result (λ answer. answer_view answer ≡ changes.message_answer (string_bytes name) message.now) }
+{
+    match message {
+        Message::Whole(edits) => Ok(Answer::Sent {
+            message: name,
+            size: edits.len() as u64,
+        }),
+        Message::Asked(heads) => Ok(Answer::Heads {
+            message: name,
+            heads: heads.list().to_vec(alloc)?,
+        }),
+        Message::Answer(edits) => Ok(Answer::Delta {
+            message: name,
+            edits: edits.edits(alloc)?,
+        }),
     }
 }

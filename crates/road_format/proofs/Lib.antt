@@ -3,6 +3,8 @@ mod Examples
 pub mod OnLiterals
 pub mod CutLines
 pub mod LineValues
+pub mod LineSizes
+pub mod FewWrites
 pub mod JsonParts
 pub mod AcceptedNames
 pub mod NoOtherField

@@ -1,8 +1,9 @@
 -- Which lines are commands. A command is an object of one field, the command's name, whose value is the object of its
 -- fields: those of the command and, where it is one at a replica, `at`, the replica's name.
-use Rattle.std.specs.Prelude.{ℕ, List, length, codes, Bool, ◌&&◌, ◌||◌, nat_lt, nat_le, if◌then◌else◌}
+use Rattle.std.specs.Prelude.{◌+◌, ◌<◌, ◌≤◌, ℕ, List, length, codes, Bool, ◌&&◌, ◌||◌, nat_lt, nat_le}
+use Rattle.std.specs.Prelude.{if◌then◌else◌}
 use Rattle.std.specs.Prelude.{Option, Some, None, option_map, Result, Ok, Err}
-use Rattle.std.specs.List.{list_all}
+use Rattle.std.specs.List.{flat_map, list_all}
 use Rattle.std.specs.Str.{bytes_eq}
 use Rattle.serde_json.specs.Data.{Data}
 use Rattle.road_format.specs.Reading.{value_of}
@@ -154,6 +155,16 @@ command_at name form at d =
 -- a crowd has one share at least, and not too many
 abbrev pub are_few_shares : List (List edit.Edit) → Bool
 are_few_shares shares = nat_lt 0 (length shares) && nat_le (length shares) MOST_SESSIONS
+
+-- how many writes shares make: one for each edit, and an advance for each share
+abbrev pub share_writes : List (List edit.Edit) → ℕ
+share_writes shares = length (flat_map (λ share. share) shares) + length shares
+
+-- the shares of a crowd are neither none nor too many, and make at most so many writes; no other command has shares
+abbrev pub HasFewWrites : ℕ → Command → Type 0
+HasFewWrites most (Crowd shares to) =
+    (0 < length shares) × (length shares ≤ MOST_SESSIONS) × (share_writes shares ≤ most)
+HasFewWrites most command = Unit {0}
 
 -- exactly the fields `shares`, `to` and, which `form_of_name` reads, `form`; the shares' edits are such as the form has
 unfoldable pub crowd_in : ℕ → Data → Option Command

@@ -40,6 +40,9 @@ pub fn read_command(alloc: Global, line: &[u8]) -> Result<Command, LineFault>
     // The grammar's command, or its refusal; out of memory is none.
     ensures command { Gives command_view line_refusal result (grammar.command_of line.now) }
 
+    // A line has a byte for each write of its shares.
+    ensures shares { IfOk result (λ command. grammar.HasFewWrites (length line.now) (command_view command)) }
+
     // A line without a byte grows nothing.
     ensures memory { IfErr result (λ fault. fault ≡ line_faults.OutOfMemory → 0 < length line.now) }
 {

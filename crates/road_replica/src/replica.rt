@@ -129,10 +129,10 @@ impl Replica {
 
     /// Returns the cause for which the replica would refuse to make an edit; none where it would not, but for lost
     /// workers or out of memory.
-    pub fn edit_fault(&self, object: Object, step: u32, value: Value) -> Option<ReplicaFault>
-        ensures { result ≡ refusals.edit_fault self.now object step value }
+    pub fn edit_fault(&self, local: LocalEdit) -> Option<ReplicaFault>
+        ensures { result ≡ refusals.edit_fault self.now local.object local.step local.value }
     {
-        match self.edit_made(object, step, value).fault(self.sheet.plan()) {
+        match self.edit_made(local).fault(self.sheet.plan()) {
             Some(fault) => Some(made_fault(fault)),
             None => None,
         }
@@ -235,7 +235,7 @@ impl Replica {
             meter.old meter.new }
         ensures gone { CountsGone result (C.times_gone crew.old) (C.times_gone crew.new) }
     {
-        let (stamp, taken) = self.new_edit(alloc, local.object, local.step, local.value)?;
+        let (stamp, taken) = self.new_edit(alloc, local)?;
         self.join(alloc, &taken, crew, meter)?;
         Ok(stamp)
     }
@@ -249,17 +249,18 @@ impl Replica {
     pub fn new_edit(
         &self,
         alloc: Global,
-        object: Object,
-        step: u32,
-        value: Value,
+        local: LocalEdit,
     ) -> Result<(Stamp, Scenario), ReplicaFault>
-        ensures stamp { IfOk result (λ made. made.0 ≡ (edit_made self.now object step value).stamp) }
-        ensures edit { IfOk result (λ made. made.1 ≡ single_edit (edit_made self.now object step value)) }
+        ensures stamp { IfOk result (λ made. made.0 ≡ (edit_made self.now local.object local.step local.value).stamp) }
+        ensures edit { IfOk result (λ made.
+            made.1 ≡ single_edit (edit_made self.now local.object local.step local.value)) }
         ensures fits { IfOk result (λ made. AreInRange self.now.sheet.plan made.1) }
-        ensures accepted { IfOk result (λ _. refusals.edit_fault self.now object step value ≡ None) }
-        ensures refused { IfErr result (IsRefusal (refusals.edit_fault self.now object step value)) }
+        ensures accepted { IfOk result (λ _.
+            refusals.edit_fault self.now local.object local.step local.value ≡ None) }
+        ensures refused { IfErr result
+            (IsRefusal (refusals.edit_fault self.now local.object local.step local.value)) }
     {
-        let edit = self.edit_made(object, step, value);
+        let edit = self.edit_made(local);
         if let Some(fault) = edit.fault(self.sheet.plan()) {
             return Err(made_fault(fault));
         }
@@ -367,16 +368,16 @@ impl Replica {
     }
 
     // Returns the edit that the replica makes.
-    fn edit_made(&self, object: Object, step: u32, value: Value) -> Edit
-        ensures { result ≡ edit_made self.now object step value }
+    fn edit_made(&self, local: LocalEdit) -> Edit
+        ensures { result ≡ edit_made self.now local.object local.step local.value }
     {
         let count = self.sheet.scenario().greatest_count() + 1;
         let number = self.number as u16;
         Edit {
-            object,
-            step,
+            object: local.object,
+            step: local.step,
             stamp: Stamp { count, number },
-            value,
+            value: local.value,
         }
     }
 

@@ -117,4 +117,4 @@ whole_lines n a few = ap (λ (ls : List (List ℕ)). lines_gather false (take (s
 pub crowd_held : {S H : Type 0} (n : ℕ) (a : List ℕ) (d : Dialogue S H) → GoesOn n a d → has_more_lines n (a ++ newline ∷ []) ≡ false → holds_crowd d ≡ true → has_crowd n (a ++ newline ∷ []) false ≡ true
 crowd_held n a d on few is =
     whole_lines n (a ++ newline ∷ []) (whole_few n (a ++ newline ∷ []) few) ∙ ap (λ (p : Pieces). lines_gather false p.0) (cut-newline a)
-    ∙ held_gathers n (pieces_of a).0 d.laboratory d.held.items d.long d.left (pieces_of a).1 on.after on.holds is
+    ∙ held_gathers n (pieces_of a).0 d.laboratory d.line.bytes.items d.line.long d.left (pieces_of a).1 on.after on.holds is

@@ -46,14 +46,14 @@ stops_sooner n a b ended first sink fault s = let more = answers_more n a b ende
 
 -- ---- a line is answered
 
-goes_on_same : {S H : Type 0} (n : ℕ) (a : List ℕ) (d d' : Dialogue S H) → d'.laboratory ≡ d.laboratory → d'.left ≡ d.left → d'.held ≡ d.held → d'.long ≡ d.long → GoesOn n a d → GoesOn n a d'
+goes_on_same : {S H : Type 0} (n : ℕ) (a : List ℕ) (d d' : Dialogue S H) → d'.laboratory ≡ d.laboratory → d'.left ≡ d.left → d'.line.bytes ≡ d.line.bytes → d'.line.long ≡ d.line.long → GoesOn n a d → GoesOn n a d'
 goes_on_same n a d d' lab left held long g = record {
   after = rw (lab, left) g.after;
   holds = rw (held, long) g.holds;
   few = g.few;
 }
 
-stands_same : {S H : Type 0} (n : ℕ) (a : List ℕ) (d d' : Dialogue S H) (o : Option EarlyEnd) → d'.laboratory ≡ d.laboratory → d'.left ≡ d.left → d'.held ≡ d.held → d'.long ≡ d.long → Stands n a d o → Stands n a d' o
+stands_same : {S H : Type 0} (n : ℕ) (a : List ℕ) (d d' : Dialogue S H) (o : Option EarlyEnd) → d'.laboratory ≡ d.laboratory → d'.left ≡ d.left → d'.line.bytes ≡ d.line.bytes → d'.line.long ≡ d.line.long → Stands n a d o → Stands n a d' o
 stands_same n a d d' None lab left held long s = goes_on_same n a d d' lab left held long s
 stands_same n a d d' (Some ends.BadPlan) lab left held long s = (s.0, lab ∙ s.1, left ∙ s.2)
 stands_same n a d d' (Some ends.TooMany) lab left held long s = (s.0, s.1, after_same n _ _ d.laboratory d'.laboratory d.left d'.left refl (sym lab) (sym left) s.2)
@@ -64,7 +64,7 @@ Put sink sink' text rest r =
 
 -- the dialogue after the line, d', has another text waiting than before its reply was put, d
 pub answer_ends : {S H : Type 0} (n : ℕ) (a b text all : List ℕ) (first sink sink' : SinkView) (d0 d d' : Dialogue S H) (r : Result (Unit {0}) ServeFault) (count later : ℕ) → HasAnswered n a first sink d0 → answers n (a ++ b) false ≡ answers n a false ++ text → Stands n (a ++ b) d d.over
-    → all ≡ d0.waiting.items ++ text → Put sink sink' all d'.waiting.items r → d'.laboratory ≡ d.laboratory → d'.left ≡ d.left → d'.held ≡ d.held → d'.long ≡ d.long → d'.over ≡ d.over
+    → all ≡ d0.waiting.items ++ text → Put sink sink' all d'.waiting.items r → d'.laboratory ≡ d.laboratory → d'.left ≡ d.left → d'.line.bytes ≡ d.line.bytes → d'.line.long ≡ d.line.long → d'.over ≡ d.over
     → IfErr r (λ fault. CountsGone fault (has_crowd n (a ++ b) false) count later) → MatchResult r (λ _. HasAnswered n (a ++ b) first sink' d') (λ fault. IsStopped n (a ++ b) false first sink' fault count later)
 answer_ends n a b text all first sink sink' d0 d d' (Ok done) count later h says stands e put lab left held long over counts =
     let Family : Option EarlyEnd → Type 0 = λ o. Stands n (a ++ b) d' o in
@@ -81,7 +81,7 @@ answer_ends n a b text all first sink sink' d0 d d' (Err fault) count later h sa
 -- ---- the bytes of a line are held
 
 pub held_line : {S H : Type 0} (n : ℕ) (a piece : List ℕ) (first sink : SinkView) (d d' : Dialogue S H) → HasAnswered n a first sink d → d.over ≡ None → (IsSome d.laboratory → d.left ≡ 0 → ⊥) → IsLine piece
-    → d'.laboratory ≡ d.laboratory → d'.left ≡ d.left → d'.waiting ≡ d.waiting → d'.over ≡ d.over → ((line : List ℕ) → Holds d.held.items d.long line → Holds d'.held.items d'.long (line ++ piece))
+    → d'.laboratory ≡ d.laboratory → d'.left ≡ d.left → d'.waiting ≡ d.waiting → d'.over ≡ d.over → ((line : List ℕ) → Holds d.line.bytes.items d.line.long line → Holds d'.line.bytes.items d'.line.long (line ++ piece))
     → HasAnswered n (a ++ piece) first sink d'
 held_line n a piece first sink d d' h none open_ line lab left waits over holds =
     let on = goes_on n a first sink d h none in
@@ -124,7 +124,7 @@ flush_ends first sink sink' text waiting waiting' t all none =
     (takes_more first sink sink' text waiting [] [] t (takes_same sink sink' waiting _ [] [] (sym (append-nil waiting)) refl (takes_all sink sink' waiting all)))
 
 pub flushed : {S H : Type 0} (n : ℕ) (a : List ℕ) (first sink sink' : SinkView) (d d' : Dialogue S H) → HasAnswered n a first sink d → Appends sink.contents sink'.contents d.waiting.items → sink'.failures ≡ sink.failures → d'.waiting.items ≡ []
-    → d'.laboratory ≡ d.laboratory → d'.left ≡ d.left → d'.held ≡ d.held → d'.long ≡ d.long → d'.over ≡ d.over → HasAnswered n a first sink' d'
+    → d'.laboratory ≡ d.laboratory → d'.left ≡ d.left → d'.line.bytes ≡ d.line.bytes → d'.line.long ≡ d.line.long → d'.over ≡ d.over → HasAnswered n a first sink' d'
 flushed n a first sink sink' d d' h all well none lab left held long over =
     let Family : Option EarlyEnd → Type 0 = λ o. Stands n a d' o in
     record {

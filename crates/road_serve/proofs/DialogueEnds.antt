@@ -93,8 +93,8 @@ stands_line n a d None few some on =
 stands_line n a d (Some ends.BadPlan) few some refused = (refused_ended a some ∙ refused.0, refused.1, refused.2)
 stands_line n a d (Some ends.TooMany) few some many = let no = last_few n a few some in let yes_ = many.1 in absurd (cc)
 
-pub rest_of : {S H : Type 0} (n : ℕ) (a : List ℕ) (d : Dialogue S H) → GoesOn n a d → (d.held.items ≡ [] → d.long ≡ false → ⊥) → 0 < length (pieces_of a).1
-rest_of n a d on some = has_rest d.held.items d.long (pieces_of a).1 on.holds some
+pub rest_of : {S H : Type 0} (n : ℕ) (a : List ℕ) (d : Dialogue S H) → GoesOn n a d → (d.line.bytes.items ≡ [] → d.line.long ≡ false → ⊥) → 0 < length (pieces_of a).1
+rest_of n a d on some = has_rest d.line.bytes.items d.line.long (pieces_of a).1 on.holds some
 
 pub line_finished : {S H : Type 0} (n : ℕ) (a : List ℕ) (first sink : SinkView) (d : Dialogue S H) → has_more_lines n a ≡ false → 0 < length (pieces_of a).1 → HasAnswered n (a ++ newline ∷ []) first sink d → HasFinished n a first sink d
 line_finished n a first sink d few some h = record {
@@ -123,10 +123,10 @@ answers_clear n a clear some =
     ap (λ (ls : List (List ℕ)). line_replies true (take (suc n) ls)) (clear_lines a clear) ∙ replies_clear n (pieces_of a).0 some
     ∙ ap (λ (ls : List (List ℕ)). line_replies false (take (suc n) ls)) (sym (append-nil (pieces_of a).0))
 
-pub clear_ends : {S H : Type 0} (n : ℕ) (a : List ℕ) (first sink : SinkView) (d : Dialogue S H) → HasAnswered n a first sink d → d.over ≡ None → d.held.items ≡ [] → d.long ≡ false → IsSome d.laboratory → HasFinished n a first sink d
+pub clear_ends : {S H : Type 0} (n : ℕ) (a : List ℕ) (first sink : SinkView) (d : Dialogue S H) → HasAnswered n a first sink d → d.over ≡ None → d.line.bytes.items ≡ [] → d.line.long ≡ false → IsSome d.laboratory → HasFinished n a first sink d
 clear_ends n a first sink d h none held short kept =
     let on = goes_on n a first sink d h none in
-    let clear = no_rest d.held.items d.long (pieces_of a).1 on.holds held short in
+    let clear = no_rest d.line.bytes.items d.line.long (pieces_of a).1 on.holds held short in
     let some = some_kept n (pieces_of a).0 d.laboratory d.left on.after kept in
     let Family : Option EarlyEnd → Type 0 = λ o. StandsAtEnd n a d o in
     record {
@@ -164,14 +164,14 @@ refused_none a none = ap (λ (ls : List (List ℕ)). is_refusal (first_reading t
 abbrev NoPlanFacts : ℕ → List ℕ → Type 0
 NoPlanFacts n a = (answers n a true ≡ answers n a false ++ reply (Refused refusals.NoPlan)) × (is_plan_refused a true ≡ true)
 
-no_plan_facts : {S H : Type 0} (n : ℕ) (a : List ℕ) (d : Dialogue S H) → GoesOn n a d → d.held.items ≡ [] → d.long ≡ false → d.laboratory ≡ None → NoPlanFacts n a
+no_plan_facts : {S H : Type 0} (n : ℕ) (a : List ℕ) (d : Dialogue S H) → GoesOn n a d → d.line.bytes.items ≡ [] → d.line.long ≡ false → d.laboratory ≡ None → NoPlanFacts n a
 no_plan_facts n a d on held short kept =
-    let clear = no_rest d.held.items d.long (pieces_of a).1 on.holds held short in
+    let clear = no_rest d.line.bytes.items d.line.long (pieces_of a).1 on.holds held short in
     let whole = no_lines n (pieces_of a).0 d.laboratory d.left on.after kept in
     let none = none_at_all a clear whole in
     (answers_none n a none whole, refused_none a none)
 
-pub no_plan_ends : {S H : Type 0} (n : ℕ) (a text all : List ℕ) (first sink sink' : SinkView) (d d' : Dialogue S H) (r : Result (Unit {0}) ServeFault) (count later : ℕ) → HasAnswered n a first sink d → d.over ≡ None → d.held.items ≡ [] → d.long ≡ false → d.laboratory ≡ None
+pub no_plan_ends : {S H : Type 0} (n : ℕ) (a text all : List ℕ) (first sink sink' : SinkView) (d d' : Dialogue S H) (r : Result (Unit {0}) ServeFault) (count later : ℕ) → HasAnswered n a first sink d → d.over ≡ None → d.line.bytes.items ≡ [] → d.line.long ≡ false → d.laboratory ≡ None
     → text ≡ reply (Refused refusals.NoPlan) → all ≡ d.waiting.items ++ text → Put sink sink' all d'.waiting.items r → d'.over ≡ Some ends.BadPlan → d'.laboratory ≡ d.laboratory → d'.left ≡ d.left
     → IfErr r (λ fault. CountsGone fault (has_crowd n a true) count later) → MatchResult r (λ _. HasFinished n a first sink' d') (λ fault. IsStopped n a true first sink' fault count later)
 no_plan_ends n a text all first sink sink' d d' (Ok done) count later h none held short kept says e put over lab left counts =

@@ -113,13 +113,13 @@ holds_same : (held held' : List ℕ) (long long' : Bool) (line line' : List ℕ)
 holds_same held held' long long' line line' e h = let Family : List ℕ → Type 0 = λ x. Holds held long x in subst Family e h
 
 pub held_more : {S H : Type 0} (n : ℕ) (a b : List ℕ) (first sink : SinkView) (d d' : Dialogue S H) → HasAnswered n a first sink d → d.over ≡ None → has_more_lines n (a ++ b) ≡ false → IsLine b
-    → d'.laboratory ≡ d.laboratory → d'.left ≡ d.left → d'.waiting ≡ d.waiting → d'.over ≡ d.over → Holds d'.held.items d'.long ((pieces_of a).1 ++ b) → HasAnswered n (a ++ b) first sink d'
+    → d'.laboratory ≡ d.laboratory → d'.left ≡ d.left → d'.waiting ≡ d.waiting → d'.over ≡ d.over → Holds d'.line.bytes.items d'.line.long ((pieces_of a).1 ++ b) → HasAnswered n (a ++ b) first sink d'
 held_more n a b first sink d d' h none few line lab left waits over holds =
     let g = goes_on n a first sink d h none in
     let c = cut-more a b line in
     let on : GoesOn n (a ++ b) d' = record {
       after = after_same n (pieces_of a).0 (pieces_of (a ++ b)).0 d.laboratory d'.laboratory d.left d'.left (ap (λ (p : Pieces). p.0) (sym c)) (sym lab) (sym left) g.after;
-      holds = holds_same d'.held.items d'.held.items d'.long d'.long _ _ (ap (λ (p : Pieces). p.1) (sym c)) holds;
+      holds = holds_same d'.line.bytes.items d'.line.bytes.items d'.line.long d'.line.long _ _ (ap (λ (p : Pieces). p.1) (sym c)) holds;
       few = few;
     } in
     record {
@@ -141,12 +141,12 @@ len_step : (n : ℕ) (a : List ℕ) → has_more_lines n (a ++ newline ∷ []) �
 len_step n a few = omega (arith, few_lines n (a ++ newline ∷ []) few, len_newline a, length-append (pieces_of a).0 ((pieces_of a).1 ∷ []))
 
 goes_on_cleared : {S H : Type 0} (n : ℕ) (a : List ℕ) (d : Dialogue S H) (lab : Option Laboratory) (left : ℕ) → has_more_lines n (a ++ newline ∷ []) ≡ false → IsAfterLines n ((pieces_of a).0 ++ (pieces_of a).1 ∷ []) lab left
-    → d.laboratory ≡ lab → d.left ≡ left → d.held.items ≡ [] → d.long ≡ false → GoesOn n (a ++ newline ∷ []) d
+    → d.laboratory ≡ lab → d.left ≡ left → d.line.bytes.items ≡ [] → d.line.long ≡ false → GoesOn n (a ++ newline ∷ []) d
 goes_on_cleared n a d lab left few after k l held short =
     let c = cut-newline a in
     record {
       after = after_same n _ (pieces_of (a ++ newline ∷ [])).0 lab d.laboratory left d.left (ap (λ (p : Pieces). p.0) (sym c)) (sym k) (sym l) after;
-      holds = holds_same d.held.items d.held.items d.long d.long [] _ (ap (λ (p : Pieces). p.1) (sym c)) (no_bytes d.held.items d.long held short);
+      holds = holds_same d.line.bytes.items d.line.bytes.items d.line.long d.line.long [] _ (ap (λ (p : Pieces). p.1) (sym c)) (no_bytes d.line.bytes.items d.line.long held short);
       few = few;
     }
 
@@ -154,25 +154,25 @@ lab_after : {S H : Type 0} (n : ℕ) (a : List ℕ) (d : Dialogue S H) (lab : Op
 lab_after n a d lab g is = after_same n _ _ d.laboratory lab d.left d.left refl is refl g.after
 
 pub later_step : {S H : Type 0} (n : ℕ) (a text : List ℕ) (d d' : Dialogue S H) (kept kept' : Laboratory) → GoesOn n a d → d.laboratory ≡ Some kept → has_more_lines n (a ++ newline ∷ []) ≡ false
-    → text ≡ reply (line_answer kept (reading_unless d.long (command_of d.held.items))) → kept' ≡ kept_after_line kept (reading_unless d.long (command_of d.held.items))
-    → d'.laboratory ≡ Some kept' → d'.left ≡ d.left - 1 → d'.held.items ≡ [] → d'.long ≡ false → d'.over ≡ None
+    → text ≡ reply (line_answer kept (reading_unless d.line.long (command_of d.line.bytes.items))) → kept' ≡ kept_after_line kept (reading_unless d.line.long (command_of d.line.bytes.items))
+    → d'.laboratory ≡ Some kept' → d'.left ≡ d.left - 1 → d'.line.bytes.items ≡ [] → d'.line.long ≡ false → d'.over ≡ None
     → (answers n (a ++ newline ∷ []) false ≡ answers n a false ++ text) × Stands n (a ++ newline ∷ []) d' d'.over
 later_step n a text d d' kept kept' g is few says kept_is lab left held short over =
     let after = lab_after n a d (Some kept) g is in
-    let one = later_replied n (pieces_of a).0 kept d.held.items d.long d.left (pieces_of a).1 after g.holds in
-    let next = later_kept n (pieces_of a).0 kept d.held.items d.long d.left (pieces_of a).1 after g.holds (len_step n a few) in (
+    let one = later_replied n (pieces_of a).0 kept d.line.bytes.items d.line.long d.left (pieces_of a).1 after g.holds in
+    let next = later_kept n (pieces_of a).0 kept d.line.bytes.items d.line.long d.left (pieces_of a).1 after g.holds (len_step n a few) in (
       answers_step n a text g.few few (one ∙ ap (λ (t : List ℕ). line_replies false (pieces_of a).0 ++ t) (sym says)),
       stands_on n (a ++ newline ∷ []) d' over (goes_on_cleared n a d' _ _ few next (lab ∙ ap (λ (k : Laboratory). Some k) kept_is) left held short),
     )
 
 pub opening_step : {S H : Type 0} (n : ℕ) (a text : List ℕ) (d d' : Dialogue S H) → GoesOn n a d → d.laboratory ≡ None → has_more_lines n (a ++ newline ∷ []) ≡ false
-    → text ≡ reply (opening_answer (reading_unless d.long (plan_line_of d.held.items))) → d'.laboratory ≡ opened_laboratory (reading_unless d.long (plan_line_of d.held.items)) → d'.laboratory ≢ None
-    → d'.left ≡ d.left → d'.held.items ≡ [] → d'.long ≡ false → d'.over ≡ None
+    → text ≡ reply (opening_answer (reading_unless d.line.long (plan_line_of d.line.bytes.items))) → d'.laboratory ≡ opened_laboratory (reading_unless d.line.long (plan_line_of d.line.bytes.items)) → d'.laboratory ≢ None
+    → d'.left ≡ d.left → d'.line.bytes.items ≡ [] → d'.line.long ≡ false → d'.over ≡ None
     → (answers n (a ++ newline ∷ []) false ≡ answers n a false ++ text) × Stands n (a ++ newline ∷ []) d' d'.over
 opening_step n a text d d' g is few says lab some left held short over =
     let after = lab_after n a d None g is in
-    let one = opening_replied n (pieces_of a).0 d.held.items d.long d.left (pieces_of a).1 after g.holds in
-    let next = opened_after n (pieces_of a).0 d'.laboratory d.held.items d.long d.left (pieces_of a).1 after g.holds lab some in (
+    let one = opening_replied n (pieces_of a).0 d.line.bytes.items d.line.long d.left (pieces_of a).1 after g.holds in
+    let next = opened_after n (pieces_of a).0 d'.laboratory d.line.bytes.items d.line.long d.left (pieces_of a).1 after g.holds lab some in (
       answers_step n a text g.few few (one ∙ ap (λ (t : List ℕ). line_replies false (pieces_of a).0 ++ t) (sym says)),
       stands_on n (a ++ newline ∷ []) d' over (goes_on_cleared n a d' _ _ few next refl left held short),
     )
@@ -182,15 +182,15 @@ none_left n [] left after = after
 none_left n (first ∷ later) left after = absurd after
 
 pub refused_step : {S H : Type 0} (n : ℕ) (a text : List ℕ) (d : Dialogue S H) (lab : Option Laboratory) → GoesOn n a d → d.laboratory ≡ None → has_more_lines n (a ++ newline ∷ []) ≡ false
-    → text ≡ reply (opening_answer (reading_unless d.long (plan_line_of d.held.items))) → lab ≡ opened_laboratory (reading_unless d.long (plan_line_of d.held.items)) → lab ≡ None
+    → text ≡ reply (opening_answer (reading_unless d.line.long (plan_line_of d.line.bytes.items))) → lab ≡ opened_laboratory (reading_unless d.line.long (plan_line_of d.line.bytes.items)) → lab ≡ None
     → (answers n (a ++ newline ∷ []) false ≡ answers n a false ++ text) × ((is_plan_refused (a ++ newline ∷ []) false ≡ true) × (lab ≡ None) × (d.left ≡ n))
 refused_step n a text d lab g is few says kept none =
     let after = lab_after n a d None g is in
-    let one = opening_replied n (pieces_of a).0 d.held.items d.long d.left (pieces_of a).1 after g.holds in (
+    let one = opening_replied n (pieces_of a).0 d.line.bytes.items d.line.long d.left (pieces_of a).1 after g.holds in (
       answers_step n a text g.few few (one ∙ ap (λ (t : List ℕ). line_replies false (pieces_of a).0 ++ t) (sym says)),
       (
         refused_whole (a ++ newline ∷ []) ∙ ap (λ (p : Pieces). is_refusal (first_reading false p.0)) (cut-newline a)
-            ∙ opening_refused n (pieces_of a).0 d.held.items d.long d.left (pieces_of a).1 after g.holds (sym kept ∙ none),
+            ∙ opening_refused n (pieces_of a).0 d.line.bytes.items d.line.long d.left (pieces_of a).1 after g.holds (sym kept ∙ none),
         none,
         none_left n (pieces_of a).0 d.left after,
       ),
@@ -202,13 +202,13 @@ no_answers : (n : ℕ) → answers n [] false ≡ []
 unfolding answers
 no_answers n = refl
 
-pub nothing_came : {S H : Type 0} (n : ℕ) (first : SinkView) (d : Dialogue S H) → d.laboratory ≡ None → d.left ≡ n → d.held.items ≡ [] → d.long ≡ false → d.over ≡ None → d.waiting.items ≡ [] → HasAnswered n [] first first d
+pub nothing_came : {S H : Type 0} (n : ℕ) (first : SinkView) (d : Dialogue S H) → d.laboratory ≡ None → d.left ≡ n → d.line.bytes.items ≡ [] → d.line.long ≡ false → d.over ≡ None → d.waiting.items ≡ [] → HasAnswered n [] first first d
 nothing_came n first d lab left held short over waits = record {
   answered = takes_same first first [] _ [] _ (sym (no_answers n)) (sym waits) (takes_none first []);
   well = refl;
   stands = stands_on n [] d over (record {
     after = after_same n [] [] None d.laboratory n d.left refl (sym lab) (sym left) refl;
-    holds = no_bytes d.held.items d.long held short;
+    holds = no_bytes d.line.bytes.items d.line.long held short;
     few = are_few n [] (omega arith);
   });
 }

@@ -45,7 +45,7 @@ pub data Holds (held : List ℕ) (long : Bool) (line : List ℕ) : Type 0 where
 -- the dialogue goes on: it is after the whole lines of these bytes, and holds the rest
 pub record GoesOn {S H : Type 0} (lines : ℕ) (bytes : List ℕ) (d : Dialogue S H) : Type 0 where
   pub after : IsAfterLines lines (pieces_of bytes).0 d.laboratory d.left
-  pub holds : Holds d.held.items d.long (pieces_of bytes).1
+  pub holds : Holds d.line.bytes.items d.line.long (pieces_of bytes).1
   pub few : has_more_lines lines bytes ≡ false
 
 -- after these bytes the dialogue goes on, or why it does not: there is no plan, or it stands after the last line that

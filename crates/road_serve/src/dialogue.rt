@@ -4,7 +4,9 @@ ghost use Rattle.std.specs.Prelude.{◌≡◌, ◌↔◌, ◌==◌, ◌++◌, �
 ghost use Rattle.std.specs.Prelude.{IsTrue, IsSome, length, vec_len, take, true, false, None, Ok, Some, string_bytes};
 ghost use Rattle.std.specs.List.{position};
 ghost use Rattle.road_format.specs.Cut.{newline};
-ghost use Rattle.road_format.specs.CommandGrammar.{command_of};
+ghost use Rattle.road_plan.specs.declared.limits.TheConstants.{LONGEST_LINE};
+ghost use Rattle.road_replica.specs.declared.crowds.TheConstants.{MOST_CROWD_WRITES};
+ghost use Rattle.road_format.specs.CommandGrammar.{HasFewWrites, command_of};
 ghost use Rattle.std.specs.List.{IsDistinct};
 ghost use Rattle.std.specs.Str.{bytes_eq};
 ghost use Rattle.road_format.specs.PlanGrammar.{plan_line_of};
@@ -16,11 +18,12 @@ ghost use Rattle.road_serve.specs.Answers.{reading_unless, opening_answer, line_
 ghost use Rattle.road_serve.specs.Answers.{answers, has_more_lines};
 ghost use Rattle.road_serve.specs.Dialogue.{Holds, GoesOn, Stands, HasAnswered, HasFinished, IsStopped};
 ghost use Rattle.road_serve.specs.Private.KeptLaboratory.{holds_crowd, kept_after_line, opened_laboratory};
-ghost use Rattle.road_serve.specs.Private.Readings.{IsRead};
+ghost use Rattle.road_serve.specs.Private.Readings.{IfAccepted, IsRead};
 ghost use Rattle.road_serve.specs.StreamViews.{SinkView, sink_view};
 
 use crate::faults::{EarlyEnd, ServeFault};
-use crate::reply_buffer::{flush, put};
+use crate::held_line::HeldLine;
+use crate::reply_buffer::{append_reply, flush};
 use crate::streams::Sink;
 use road_commands::Laboratory;
 use road_format::{Answer, Command, PlanLine, Refusal, read_command, read_plan, reply_line};
@@ -31,50 +34,54 @@ use road_workers::{Crew, CrewFault};
 use std::alloc::Global;
 use std::hash::BuildHasher;
 
+// What a line is read as.
+#[derive(Drop)]
+enum LineRead<T: Drop> {
+    // What the line says.
+    Accepted(T),
+    // Why it says nothing.
+    Refused(Refusal),
+}
+
 // Reads a line as the first one.
-fn first_line(
-    alloc: Global,
-    held: &[u8],
-    long: bool,
-) -> Result<Result<PlanLine, Refusal>, OutOfMemory>
-    ensures read { IfOk result (λ line. IsRead plan_line_view line (reading_unless long (plan_line_of held.now))) }
-    ensures few { IfOk result (λ line. IfOk line (λ line. vec_len line.names ≤ 64)) }
-    ensures apart { IfOk result (λ line. IfOk line (λ line. IsDistinct bytes_eq (texts line.names.items))) }
+fn first_line(alloc: Global, held: &[u8], long: bool) -> Result<LineRead<PlanLine>, OutOfMemory>
+    ensures read { IfOk result (λ read. IsRead plan_line_view read (reading_unless long (plan_line_of held.now))) }
+    ensures few { IfOk result (λ read. IfAccepted read (λ line. vec_len line.names ≤ 64)) }
+    ensures apart { IfOk result (λ read. IfAccepted read (λ line. IsDistinct bytes_eq (texts line.names.items))) }
 {
     if long {
-        return Ok(Err(Refusal::LineTooLong));
+        return Ok(LineRead::Refused(Refusal::LineTooLong));
     }
     match read_plan(alloc, held) {
-        Ok(line) => Ok(Ok(line)),
+        Ok(line) => Ok(LineRead::Accepted(line)),
         Err(fault) => match fault.refusal() {
-            Some(refusal) => Ok(Err(refusal)),
+            Some(refusal) => Ok(LineRead::Refused(refusal)),
             None => Err(OutOfMemory),
         },
     }
 }
 
 // Reads a line as a later one.
-fn later_line(
-    alloc: Global,
-    held: &[u8],
-    long: bool,
-) -> Result<Result<Command, Refusal>, OutOfMemory>
-    ensures { IfOk result (λ line. IsRead command_view line (reading_unless long (command_of held.now))) }
+fn later_line(alloc: Global, held: &[u8], long: bool) -> Result<LineRead<Command>, OutOfMemory>
+    requires { length held.now ≤ LONGEST_LINE }
+    ensures shares { IfOk result (λ read. IfAccepted read (λ command.
+        HasFewWrites MOST_CROWD_WRITES (command_view command))) }
+    ensures read { IfOk result (λ read. IsRead command_view read (reading_unless long (command_of held.now))) }
 {
     if long {
-        return Ok(Err(Refusal::LineTooLong));
+        return Ok(LineRead::Refused(Refusal::LineTooLong));
     }
     match read_command(alloc, held) {
-        Ok(command) => Ok(Ok(command)),
+        Ok(command) => Ok(LineRead::Accepted(command)),
         Err(fault) => match fault.refusal() {
-            Some(refusal) => Ok(Err(refusal)),
+            Some(refusal) => Ok(LineRead::Refused(refusal)),
             None => Err(OutOfMemory),
         },
     }
 }
 
 // Returns the reply to the plan line, and the laboratory where it is accepted.
-fn opening<S: BuildHasher + Copy>(
+fn first_reply<S: BuildHasher + Copy>(
     alloc: Global,
     held: &[u8],
     long: bool,
@@ -86,11 +93,11 @@ fn opening<S: BuildHasher + Copy>(
         ≡ opened_laboratory (reading_unless long (plan_line_of held.now))) }
 {
     match first_line(alloc, held, long)? {
-        Ok(line) => {
+        LineRead::Accepted(line) => {
             let (reply, laboratory) = opened(alloc, line, hasher)?;
             Ok((reply, Some(laboratory)))
         }
-        Err(refusal) => Ok((refusal_reply(alloc, refusal)?, None)),
+        LineRead::Refused(refusal) => Ok((refusal_reply(alloc, refusal)?, None)),
     }
 }
 
@@ -127,6 +134,7 @@ fn later_reply<S: BuildHasher + Copy, C: Crew, K: Crowds>(
     crew: &mut C,
     crowds: &K,
 ) -> Result<String, CrewFault>
+    requires { length held.now ≤ LONGEST_LINE }
     ensures text { IfOk result (λ text. string_bytes text
         ≡ reply (line_answer laboratory.old (reading_unless long (command_of held.now)))) }
     ensures after { OnOk result (laboratory.new
@@ -135,8 +143,8 @@ fn later_reply<S: BuildHasher + Copy, C: Crew, K: Crowds>(
         (gathers laboratory.old.world.plan (reading_unless long (command_of held.now))) (C.times_gone crew.old) }
 {
     match later_line(alloc, held, long)? {
-        Ok(command) => command_reply(alloc, laboratory, command, crew, crowds),
-        Err(refusal) => Ok(refusal_reply(alloc, refusal)?),
+        LineRead::Accepted(command) => command_reply(alloc, laboratory, command, crew, crowds),
+        LineRead::Refused(refusal) => Ok(refusal_reply(alloc, refusal)?),
     }
 }
 
@@ -148,6 +156,7 @@ fn command_reply<S: BuildHasher + Copy, C: Crew, K: Crowds>(
     crew: &mut C,
     crowds: &K,
 ) -> Result<String, CrewFault>
+    requires { HasFewWrites MOST_CROWD_WRITES (command_view command) }
     ensures text { IfOk result (λ text. string_bytes text
         ≡ reply (answer_to laboratory.old (command_view command))) }
     ensures after { OnOk result (laboratory.new
@@ -176,10 +185,8 @@ pub struct Dialogue<S: BuildHasher> {
     pub hasher: S,
     /// The laboratory, once the plan line is accepted.
     pub laboratory: Option<Laboratory<S>>,
-    /// The bytes of the line that has not ended.
-    pub held: Vec<u8>,
-    /// Whether that line is too long, so that its bytes are not held.
-    pub long: bool,
+    /// The line that has not ended.
+    pub line: HeldLine,
     /// How many lines may still come after the plan line.
     pub left: u32,
     /// The replies that are not written yet.
@@ -200,8 +207,7 @@ impl<S: BuildHasher + Copy> Dialogue<S> {
             alloc,
             hasher,
             laboratory: None,
-            held: Vec::new(alloc),
-            long: false,
+            line: HeldLine::new(alloc),
             left: lines,
             waiting: Vec::new(alloc),
             over: None,
@@ -210,18 +216,18 @@ impl<S: BuildHasher + Copy> Dialogue<S> {
 
     // Holds more bytes of the line that has not ended.
     fn hold(&mut self, bytes: &[u8]) -> Result<(), OutOfMemory>
-        ensures holds { (line : List ℕ) → Holds self.old.held.items self.old.long line
-            → OnOk result (Holds self.new.held.items self.new.long (line ++ bytes.now)) }
+        ensures holds { (line : List ℕ) → Holds self.old.line.bytes.items self.old.line.long line
+            → OnOk result (Holds self.new.line.bytes.items self.new.line.long (line ++ bytes.now)) }
         ensures laboratory { self.new.laboratory ≡ self.old.laboratory }
         ensures left { self.new.left ≡ self.old.left }
         ensures waiting { self.new.waiting ≡ self.old.waiting }
         ensures over { self.new.over ≡ self.old.over }
     {
-        if self.long || bytes.len() > LONGEST_LINE.saturating_sub(self.held.len()) {
-            self.long = true;
+        if self.line.long || bytes.len() > LONGEST_LINE.saturating_sub(self.line.bytes.len()) {
+            self.line.long = true;
             return Ok(());
         }
-        self.held.extend_from_slice(bytes)
+        self.line.bytes.extend_from_slice(bytes)
     }
 
     // Returns whether no further line may come.
@@ -233,9 +239,9 @@ impl<S: BuildHasher + Copy> Dialogue<S> {
 
     // Returns whether nothing of the next line has come.
     fn is_clear(&self) -> bool
-        ensures { IsTrue result ↔ ((self.now.held.items ≡ []) × (self.now.long ≡ false)) }
+        ensures { IsTrue result ↔ ((self.now.line.bytes.items ≡ []) × (self.now.line.long ≡ false)) }
     {
-        self.held.is_empty() && !self.long
+        self.line.bytes.is_empty() && !self.line.long
     }
 
     // Returns the reply to the line that is held, which has ended.
@@ -251,17 +257,17 @@ impl<S: BuildHasher + Copy> Dialogue<S> {
             ≡ gone_after_command result (holds_crowd self.old) (C.times_gone crew.old) }
     {
         if let Some(laboratory) = &mut self.laboratory {
-            let held = self.held.as_slice();
-            let reply = later_reply(self.alloc, laboratory, held, self.long, crew, crowds)?;
+            let held = self.line.bytes.as_slice();
+            let long = self.line.long;
+            let reply = later_reply(self.alloc, laboratory, held, long, crew, crowds)?;
             self.left = self.left.saturating_sub(1);
-            self.held.clear();
-            self.long = false;
+            self.line.clear();
             return Ok(reply);
         }
-        let (reply, laboratory) = opening(
+        let (reply, laboratory) = first_reply(
             self.alloc,
-            self.held.as_slice(),
-            self.long,
+            self.line.bytes.as_slice(),
+            self.line.long,
             self.hasher,
         )?;
         self.laboratory = laboratory;
@@ -269,8 +275,7 @@ impl<S: BuildHasher + Copy> Dialogue<S> {
             self.over = Some(EarlyEnd::BadPlan);
             return Ok(reply);
         }
-        self.held.clear();
-        self.long = false;
+        self.line.clear();
         Ok(reply)
     }
 
@@ -292,7 +297,7 @@ impl<S: BuildHasher + Copy> Dialogue<S> {
         ensures kept { OnOk result (C.times_gone crew.new ≡ C.times_gone crew.old) }
     {
         let reply = self.reply(crew, crowds)?;
-        put(&mut self.waiting, writer, reply.as_bytes())
+        append_reply(&mut self.waiting, writer, reply.as_bytes())
     }
 
     // Takes the next of these bytes, up to the end of a line where one of them ends it, and gives how many.
@@ -390,7 +395,7 @@ impl<S: BuildHasher + Copy> Dialogue<S> {
         }
         let reply = refusal_reply(self.alloc, Refusal::NoPlan)?;
         self.over = Some(EarlyEnd::BadPlan);
-        put(&mut self.waiting, writer, reply.as_bytes())
+        append_reply(&mut self.waiting, writer, reply.as_bytes())
     }
 
     /// Writes the reply to a last line without a newline, or to an input without a line, where the input has ended, and

@@ -14,6 +14,7 @@
 mod arguments;
 mod dialogue;
 mod faults;
+mod held_line;
 pub mod laws;
 mod memory;
 mod reply_buffer;
@@ -24,6 +25,7 @@ mod streams;
 
 pub use dialogue::Dialogue;
 pub use faults::{EarlyEnd, ReadFailed, ServeFault, WriteFailed};
+pub use held_line::HeldLine;
 pub use memory::{Failing, MemorySink, MemorySource};
 pub use running::{Ended, run, run_by};
 pub use serving::{Served, serve, serve_within};

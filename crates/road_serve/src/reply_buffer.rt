@@ -28,10 +28,10 @@ fn write_all<W: Sink>(writer: &mut W, bytes: &[u8]) -> Result<(), WriteFailed>
     Ok(())
 }
 
-// Puts a reply behind those that wait, or, where it would be too much for them, writes them and then the reply.
+// Appends a reply to those that wait, or, where it would be too much for them, writes them and then the reply.
 // `Write` where the sink failed, `OutOfMemory` where an allocation failed: what was written then begins what waited and
 // the reply.
-pub(crate) fn put<W: Sink>(
+pub(crate) fn append_reply<W: Sink>(
     waiting: &mut Vec<u8>,
     writer: &mut W,
     reply: &[u8],

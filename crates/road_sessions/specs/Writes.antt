@@ -3,7 +3,6 @@ use Rattle.std.specs.Prelude.{◌≡◌, ◌≢◌, ◌⊎◌, ℕ, max, nat_le,
 use Rattle.std.specs.Option.{option_map}
 use Rattle.std.specs.declared.option.Option.{Option}
 use Rattle.std.specs.declared.option.Option.TheVariants.{None, Some}
-use Rattle.road_scenario.specs.declared.edit.Value.TheVariants.{Put, Withdrawn}
 use Rattle.road_rewind.specs.Growth.{TicksAtMost, meter_after, touched_step}
 use Rattle.road_replica.specs.Replicas.{Replica, edit_made, single_edit}
 use Rattle.road_replica.specs.Refusals as refusals
@@ -16,7 +15,7 @@ use Rattle.road_sessions.specs.declared.entry.SheetCommand.{SheetCommand}
 use Rattle.road_sessions.specs.declared.entry.SheetCommand.TheVariants as commands
 use Rattle.road_sessions.specs.declared.entry.Entry.{Entry}
 use Rattle.road_sessions.specs.declared.wish.Wish.{Wish}
-use Rattle.road_sessions.specs.declared.wish.Wish.TheVariants.{Take, Advance, Edit, Withdraw}
+use Rattle.road_sessions.specs.declared.wish.Wish.TheVariants.{Take, Advance, Edit}
 use Rattle.road_sessions.specs.declared.faults.WriteFault.{WriteFault}
 use Rattle.road_sessions.specs.declared.faults.WriteFault.TheVariants.{JournalFull, Replica as OfReplica}
 use Rattle.road_sessions.specs.Journals.{entry_command, replay}
@@ -25,15 +24,13 @@ use Rattle.road_sessions.specs.Journals.{entry_command, replay}
 abbrev pub wish_command : Wish → Replica → SheetCommand
 wish_command (Take edits) r = commands.Take edits.now
 wish_command (Advance to) r = commands.Advance to
-wish_command (Edit object step value) r = commands.Take (single_edit (edit_made r object step (Put value)))
-wish_command (Withdraw object step) r = commands.Take (single_edit (edit_made r object step Withdrawn))
+wish_command (Edit made) r = commands.Take (single_edit (edit_made r made.object made.step made.value))
 
 -- the reply to a wish: the touched step, the horizon, or the fresh stamp
 abbrev pub reply_to : Wish → Replica → Reply
 reply_to (Take edits) r = Touched (touched_step r.sheet edits.now)
 reply_to (Advance to) r = Horizon (max r.sheet.horizon to)
-reply_to (Edit object step value) r = Stamped (edit_made r object step (Put value)).stamp
-reply_to (Withdraw object step) r = Stamped (edit_made r object step Withdrawn).stamp
+reply_to (Edit made) r = Stamped (edit_made r made.object made.step made.value).stamp
 
 -- how many steps are computed for a wish where it is accepted
 abbrev pub steps_of_wish : Wish → Replica → ℕ
@@ -48,8 +45,7 @@ most_steps_of_wish wish r = most_steps_of_command (entry_command (wish_command w
 abbrev pub wish_fault : Wish → Replica → Option ReplicaFault
 wish_fault (Take edits) r = refusals.take_fault r.sheet.plan edits.now
 wish_fault (Advance to) r = refusals.advance_fault to
-wish_fault (Edit object step value) r = refusals.edit_fault r object step (Put value)
-wish_fault (Withdraw object step) r = refusals.edit_fault r object step Withdrawn
+wish_fault (Edit made) r = refusals.edit_fault r made.object made.step made.value
 
 -- the first named cause for which a write is refused, where the journal has room for so many entries
 abbrev pub write_fault : ℕ → Wish → Replica → List Entry → Option WriteFault

@@ -166,7 +166,7 @@ impl<J: Naming, R: Wait + Drop> Held<J, R> {
         let Errand { command, stamp } = errand_of(self.alloc, &self.replica, wish)?;
         let (replica, answer) = self.next(&command, crew, meter)?;
         let place = self.journal.len() as u64;
-        self.put(replica, Entry { session, command }, mine)?;
+        self.put_in_place(replica, Entry { session, command }, mine)?;
         Ok((place, reply_of(stamp, answer)))
     }
 
@@ -193,7 +193,7 @@ impl<J: Naming, R: Wait + Drop> Held<J, R> {
 
     // Puts the next replica in place, with its entry of the journal, and publishes its sheet. What may be refused comes
     // before anything has changed.
-    fn put(
+    fn put_in_place(
         &mut self,
         replica: Replica,
         entry: Entry,

@@ -12,10 +12,9 @@ ghost use Rattle.road_sessions.specs.declared.entry.SheetCommand.TheVariants as 
 use crate::entry::SheetCommand;
 use crate::wish::Wish;
 use road_ends::Meter;
-use road_plan::Object;
 use road_plan::limits::GREATEST_HORIZON;
-use road_replica::{Replica, ReplicaFault, Reply};
-use road_scenario::{Stamp, Value};
+use road_replica::{LocalEdit, Replica, ReplicaFault, Reply};
+use road_scenario::Stamp;
 use road_workers::Crew;
 use std::alloc::Global;
 
@@ -55,27 +54,23 @@ pub(crate) fn errand_of(
             command: SheetCommand::Advance(to),
             stamp: None,
         }),
-        Wish::Edit(object, step, value) => edit(alloc, replica, object, step, Value::Put(value)),
-        Wish::Withdraw(object, step) => edit(alloc, replica, object, step, Value::Withdrawn),
+        Wish::Edit(local) => edit(alloc, replica, local),
     }
 }
 
 // Makes an edit of the replica, to be taken.
-fn edit(
-    alloc: Global,
-    replica: &Replica,
-    object: Object,
-    step: u32,
-    value: Value,
-) -> Result<Errand, ReplicaFault>
-    ensures command { IfOk result
-        (λ errand. errand.command ≡ commands.Take (single_edit (edit_made replica.now object step value))) }
-    ensures stamp { IfOk result (λ errand. errand.stamp ≡ Some (edit_made replica.now object step value).stamp) }
+fn edit(alloc: Global, replica: &Replica, local: LocalEdit) -> Result<Errand, ReplicaFault>
+    ensures command { IfOk result (λ errand. errand.command
+        ≡ commands.Take (single_edit (edit_made replica.now local.object local.step local.value))) }
+    ensures stamp { IfOk result (λ errand.
+        errand.stamp ≡ Some (edit_made replica.now local.object local.step local.value).stamp) }
     ensures allowed { IfOk result (λ errand. IsAllowed replica.now.sheet.plan (entry_command errand.command)) }
-    ensures accepted { IfOk result (λ _. refusals.edit_fault replica.now object step value ≡ None) }
-    ensures refused { IfErr result (refusals.IsRefusal (refusals.edit_fault replica.now object step value)) }
+    ensures accepted { IfOk result (λ _.
+        refusals.edit_fault replica.now local.object local.step local.value ≡ None) }
+    ensures refused { IfErr result
+        (refusals.IsRefusal (refusals.edit_fault replica.now local.object local.step local.value)) }
 {
-    let (stamp, alone) = replica.new_edit(alloc, object, step, value)?;
+    let (stamp, alone) = replica.new_edit(alloc, local)?;
     Ok(Errand {
         command: SheetCommand::Take(alone),
         stamp: Some(stamp),

@@ -3,6 +3,7 @@ ghost use Rattle.std.specs.Prelude.{◌≡◌, ◌⊎◌, [], IsTrue, MatchResul
 ghost use Rattle.std.specs.Arc.{arc_value};
 ghost use mathlib.Core.List.{IsPrefix};
 ghost use Rattle.left_right.specs.Sides.{view as view_at};
+ghost use Rattle.road_scenario.specs.declared.edit.Value.TheVariants.{Put, Withdrawn};
 ghost use Rattle.road_sheet.specs.Sheets.{state_fault, state_of, total_of, totals_fault};
 ghost use Rattle.road_sessions.specs.Private.ClosingSessions.{IsSessionOf};
 ghost use Rattle.road_sessions.specs.Looks.{HasLooked, IsLookRefusal, IsQueryRefusal, sheet_seen};
@@ -21,8 +22,8 @@ use road_cells::Road;
 use road_detector::Totals;
 use road_ends::Meter;
 use road_plan::Object;
-use road_replica::Reply;
-use road_scenario::Scenario;
+use road_replica::{LocalEdit, Reply};
+use road_scenario::{Scenario, Value};
 use road_sheet::Sheet;
 use road_workers::Crew;
 use std::alloc::Global;
@@ -185,13 +186,20 @@ impl<J: Naming> Session<J> {
         meter: &mut Meter,
     ) -> Result<Wrote<J>, WriteFault>
         ensures write { MatchResult result
-            (λ wrote. IsAcceptedWrite J.limit J.replica (wishes.Edit object step value) self.old wrote.place
-            wrote.reply self.new meter.old meter.new × (wrote.receipt ≡ self.new.seen))
-            (λ fault. IsRefusedWrite J.limit J.replica (wishes.Edit object step value) self.old fault self.new
-            meter.old meter.new) }
+            (λ wrote. IsAcceptedWrite J.limit J.replica
+            (wishes.Edit (record { object = object; step = step; value = Put value }))
+            self.old wrote.place wrote.reply self.new meter.old meter.new × (wrote.receipt ≡ self.new.seen))
+            (λ fault. IsRefusedWrite J.limit J.replica
+            (wishes.Edit (record { object = object; step = step; value = Put value }))
+            self.old fault self.new meter.old meter.new) }
         ensures gone { CountsGone result (C.times_gone crew.old) (C.times_gone crew.new) }
     {
-        self.write(rt, shared, &Wish::Edit(object, step, value), crew, meter)
+        let local = LocalEdit {
+            object,
+            step,
+            value: Value::Put(value),
+        };
+        self.write(rt, shared, &Wish::Edit(local), crew, meter)
     }
 
     /// Withdraws what is put for an object at a step. The reply is the withdrawal's stamp. The meter counts as for
@@ -211,13 +219,20 @@ impl<J: Naming> Session<J> {
         meter: &mut Meter,
     ) -> Result<Wrote<J>, WriteFault>
         ensures write { MatchResult result
-            (λ wrote. IsAcceptedWrite J.limit J.replica (wishes.Withdraw object step) self.old wrote.place
-            wrote.reply self.new meter.old meter.new × (wrote.receipt ≡ self.new.seen))
-            (λ fault. IsRefusedWrite J.limit J.replica (wishes.Withdraw object step) self.old fault self.new
-            meter.old meter.new) }
+            (λ wrote. IsAcceptedWrite J.limit J.replica
+            (wishes.Edit (record { object = object; step = step; value = Withdrawn }))
+            self.old wrote.place wrote.reply self.new meter.old meter.new × (wrote.receipt ≡ self.new.seen))
+            (λ fault. IsRefusedWrite J.limit J.replica
+            (wishes.Edit (record { object = object; step = step; value = Withdrawn }))
+            self.old fault self.new meter.old meter.new) }
         ensures gone { CountsGone result (C.times_gone crew.old) (C.times_gone crew.new) }
     {
-        self.write(rt, shared, &Wish::Withdraw(object, step), crew, meter)
+        let local = LocalEdit {
+            object,
+            step,
+            value: Value::Withdrawn,
+        };
+        self.write(rt, shared, &Wish::Edit(local), crew, meter)
     }
 
     // Writes whatever is wished.

@@ -5,6 +5,7 @@ ghost use Rattle.std.specs.Prelude.{None, length, min, replicate, take};
 ghost use Rattle.std.specs.Arc.{arc_value};
 ghost use Rattle.road_plan.specs.Plan.{IsWithinLimits};
 ghost use Rattle.road_plan.specs.declared.limits.TheConstants.{GREATEST_HORIZON};
+ghost use Rattle.road_cells.specs.Cars.{cars_of};
 ghost use Rattle.road_detector.specs.Passes.{no_totals, span_totals};
 ghost use Rattle.road_ends.specs.Input.{input_speeds};
 ghost use Rattle.road_ends.specs.Span.{span_road};
@@ -12,6 +13,7 @@ ghost use Rattle.road_scenario.specs.Faults.{AreInRange};
 ghost use Rattle.road_scenario.specs.Touched.{first_touched_step};
 ghost use Rattle.road_scenario.specs.Winners.{AreWinners, join};
 ghost use Rattle.road_sheet.specs.Drafts.{IsUpTo, draft_start};
+ghost use Rattle.road_sheet.specs.Private.Checkpoints.{AreSmall};
 ghost use Rattle.road_sheet.specs.Private.Intervals.{AreTotals, GiveSameRun, IsInterval, IsWithinInterval};
 ghost use Rattle.road_sheet.specs.Sheets.{IsSheet, opening_sheet, state_of, total_of, next_input, sheet_after_step};
 ghost use Rattle.road_sheet.specs.Sheets.{AreWholeIntervals, IsRefusalBy, state_fault, totals_fault};
@@ -433,16 +435,13 @@ impl Sheet {
         last
     }
 
-    // Begins the interval of the road of a step.
-    fn next_interval(&self, alloc: Global, step: u32, road: &Road) -> Result<Interval, OutOfMemory>
-        requires within_limit { step ≤ GREATEST_HORIZON }
-        requires road { road.now ≡ state_of self.now step }
+    // Begins the interval of a road whose cars are small enough to be kept.
+    fn next_interval(&self, alloc: Global, road: &Road) -> Result<Interval, OutOfMemory>
+        requires { AreSmall (cars_of road.now) }
         ensures start { IfOk result (λ interval. interval.start ≡ road.now) }
         ensures totals { IfOk result (λ interval. interval.totals.items
             ≡ replicate (length self.now.plan.detectors) no_totals) }
     {
-        let _ = step;
-        cars_stay_on_road(&self.plan);
         let detectors = self.plan.detectors().len();
         let kept = Checkpoint::of(alloc, road)?;
         Interval::begin(alloc, kept, detectors)
@@ -540,7 +539,8 @@ impl Sheet {
         ensures grown { OnOk result (self.new ≡ record self.old { horizon = end }) }
         ensures unchanged { OnErr result (self.new ≡ self.old) }
     {
-        let next = self.next_interval(alloc, end, &road)?;
+        cars_stay_on_road(&self.plan);
+        let next = self.next_interval(alloc, &road)?;
         self.intervals.push(alloc, ended)?;
         self.open_interval = next;
         let last = mem::replace(&mut self.at_horizon, road);

@@ -237,6 +237,24 @@ post_refused event k meter accepted = record {
   few_steps = no_steps (most_steps_of_event k event) meter;
 }
 
+-- where its message is refused, the event is
+pub made_refused : (event : Event) (k : World) (fault : WorldFault) (meter : ℕ) → IsRefusal event (fault_of_event k event) fault → IsApplied event (Err fault) k k meter meter
+made_refused event k fault meter is = record {
+  answer = is;
+  after = tt;
+  unchanged = refl;
+  steps = tt;
+  named = λ some. refl;
+  few_steps = no_steps (most_steps_of_event k event) meter;
+}
+
+-- the world hands that refusal on
+pub made_handed_on : (event : Event) (result : Result Reply WorldFault) (k : World) (meter : ℕ) (fault : WorldFault) → IsErrAnd result (λ given. given ≡ fault) → IsRefusal event (fault_of_event k event) fault
+    → IsApplied event result k k meter meter
+made_handed_on event (Ok reply) k meter fault given is = absurd given
+made_handed_on event (Err other) k meter fault given is =
+    subst (λ (f : WorldFault). IsApplied event (Err f) k k meter meter) (sym given) (made_refused event k fault meter is)
+
 -- the world hands that refusal on
 pub post_handed_on : (event : Event) (result : Result Reply WorldFault) (old new : World) (meter : ℕ) → IsErrAnd result (λ given. given ≡ faults.Replica OutOfMemory) → IsApplied event (Err (faults.Replica OutOfMemory)) old new meter meter
     → IsApplied event result old new meter meter

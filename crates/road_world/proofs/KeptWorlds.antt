@@ -1,6 +1,7 @@
 -- What is kept of a world, and the world that it is seen as: one replica read or changed, one message more.
 use Rattle.std.proofs.Common.{◌≡◌, ◌<◌, ◌≤◌, ◌+◌, ◌∙◌, ℕ, zero, suc, max, List, [], ◌∷◌, ◌++◌, length, map, Option, Some, None, refl, ap, sym, subst, arith}
-use Rattle.std.specs.Prelude.{slice_set, replicate, IfSome, MatchOption}
+use Rattle.std.specs.Prelude.{slice_set, replicate, IfOk, IfSome, MatchOption, Result}
+use Rattle.std.specs.declared.result.Result.TheVariants.{Ok, Err}
 use Rattle.std.specs.List.{All, slice_index_or, slice_get}
 use Rattle.std.proofs.lemmas.List.{get_or-map, get_or_default, map-set, map-append, length-set, length-map, length-replicate, replicate_more}
 use Rattle.std.proofs.lemmas.List.Elements.{All-nil, All-push}
@@ -9,7 +10,7 @@ use Rattle.lattice_core.specs.Sets.{contains, items, union}
 use Rattle.road_plan.specs.Plan.{Plan, IsWithinLimits}
 use Rattle.road_plan.specs.declared.limits.TheConstants.{MOST_REPLICAS}
 use Rattle.road_scenario.specs.Edits.{Edits}
-use Rattle.road_scenario.specs.Faults.{AreInRange}
+use Rattle.road_scenario.specs.Faults.{AreInRange, FitsSomePlan}
 use Rattle.road_scenario.specs.Touched.{first_touched_step, first_touched_step_in}
 use Rattle.road_scenario.specs.Winners.{winners, AreWinners}
 use Rattle.road_scenario.specs.Instances.EditOrder.{winners_laws}
@@ -22,7 +23,8 @@ use Rattle.road_sheet.specs.Commands.{SheetCommand, Advance, Take, sheet_after}
 use Rattle.road_sheet.specs.Sheets.{Sheet, IsSheet, opening_sheet}
 use Rattle.road_rewind.specs.Growth.{touched_step}
 use Rattle.road_replica.specs.Replicas.{Replica, replica_after}
-use Rattle.road_world.specs.Answers.{edits_wanted_fault, fault_of_event, replica_with_sheet, sheet_at}
+use Rattle.road_world.specs.Answers.{edits_wanted_fault, fault_of_event, replica_number, replica_with_sheet, sheet_at}
+use Rattle.road_world.specs.Applied.{IsMade}
 use Rattle.road_world.specs.Events.{World, WorldReplica, opening_replica, replica_at, asked_heads, carried_edits, message_of_event, replica_of_winners, message_of_winners, world_after_event, world_of_winners}
 use Rattle.road_world.specs.Events.{world_with_advance, world_with_edits}
 use Rattle.road_world.specs.Private.Worlds.{AreSendable, IsSendable, world_replica, IsReplicaOf, IsWorldKept}
@@ -265,6 +267,17 @@ module _ (plan : Plan) (xs : List Replica) (ms : List Message) (kept : IsWorldKe
         subst (IsSendable k.plan) (same_some (Answer (beyond (winners held) asked)) m made) delta
     made_sendable (events.Take r n) m accepted made = absurd (none_is_no_item m made)
     made_sendable (events.Advance r to) m accepted made = absurd (none_is_no_item m made)
+
+    -- the edits that it carries fit the plan
+    pub made_fits : (e : Event) (result : Result Message WorldFault) → IsMade k e result → IfOk result (λ m. FitsSomePlan (carried_edits (Some m)))
+    made_fits e (Ok m) made =
+        let sheet = is_sheet (replica_number e) (none_refuses e k made.0).0 in
+        let sendable = made_sendable e m made.0 made.1 in record {
+          plan = k.plan;
+          within = sheet.plan_within;
+          in_range = (carried_of_any k.plan (Some m) (λ x is. subst (IsSendable k.plan) (same_some m x is) sendable)).in_range;
+        }
+    made_fits e (Err fault) made = tt
 
     -- with it more, the world is still kept,
     pub posted_kept : (e : Event) (m : Message) → fault_of_event k e ≡ None → message_of_event k e ≡ Some m → IsWorldKept plan xs (ms ++ m ∷ [])

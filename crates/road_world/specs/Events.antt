@@ -1,5 +1,5 @@
 -- What events do in a world of replicas.
-use Rattle.std.specs.Prelude.{ℕ, max, List, [], ◌∷◌, ◌++◌, map, replicate, slice_set, Result}
+use Rattle.std.specs.Prelude.{ℕ, Bool, true, false, max, List, [], ◌∷◌, ◌++◌, map, replicate, slice_set, Result}
 use Rattle.std.specs.List.{slice_index_or, slice_get}
 use Rattle.std.specs.declared.option.Option.{Option}
 use Rattle.std.specs.declared.option.Option.TheVariants.{None, Some}
@@ -77,6 +77,17 @@ asked_heads (Some (Whole edits)) = []
 asked_heads (Some (Answer edits)) = []
 asked_heads (Some (Asked hs)) = hs
 asked_heads None = []
+
+-- whether an event is the making of a message
+abbrev pub makes_message : Event → Bool
+makes_message (Edit r object step number) = false
+makes_message (Withdraw r object step) = false
+makes_message (Import r edits) = false
+makes_message (Send r) = true
+makes_message (Heads r) = true
+makes_message (Beyond r message) = true
+makes_message (Take r message) = false
+makes_message (Advance r to) = false
 
 -- the message that an event makes, by what its replica holds; none where the event is no making of a message
 abbrev pub message_of_event : World → Event → Option Message

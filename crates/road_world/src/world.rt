@@ -1,12 +1,12 @@
 //! A world: its replicas, the messages that were sent, and what each event does to them.
 
 ghost use Rattle.std.specs.Prelude.{◌≡◌, ◌<◌, ◌≤◌, ◌↔◌, ℕ, IfErr, IfOk, IfSome, IsOk, IsSome, OnErr, OnOk, length};
-ghost use Rattle.std.specs.Prelude.{MatchOption, None, Some, map, string_bytes};
+ghost use Rattle.std.specs.Prelude.{Err, MatchOption, None, Some, map, string_bytes, true};
 ghost use Rattle.std.specs.Arc.{arc_value};
 ghost use Rattle.std.specs.List.{slice_get};
 ghost use Rattle.road_plan.specs.Plan.{IsWithinLimits};
 ghost use Rattle.road_plan.specs.declared.limits.TheConstants.{MOST_REPLICAS};
-ghost use Rattle.road_scenario.specs.Faults.{AreInRange};
+ghost use Rattle.road_scenario.specs.Faults.{AreInRange, FitsSomePlan};
 ghost use Rattle.road_scenario.specs.Winners.{AreWinners, winners};
 ghost use Rattle.road_sheet.specs.Sheets.{IsSheet, opening_sheet};
 ghost use Rattle.road_sheet.specs.Shown.{rows_at, run_at, total_at};
@@ -14,10 +14,10 @@ ghost use Rattle.road_replica.specs.Refusals.{rows_fault, state_fault, totals_fa
 ghost use Rattle.road_replica.specs.declared.reply.Reply.TheVariants as replies;
 ghost use Rattle.road_world.specs.Answers.{IsQueryRefusal, edits_wanted_fault, fault_of_event, gone_after_answer};
 ghost use Rattle.road_world.specs.Answers.{heads_wanted_fault, query_fault, replica_number, sheet_at};
-ghost use Rattle.road_world.specs.Applied.{IsApplied, posted_answer};
+ghost use Rattle.road_world.specs.Applied.{IsApplied, IsMade, posted_answer};
 ghost use Rattle.road_world.specs.Events as worlds;
-ghost use Rattle.road_world.specs.Events.{asked_heads, carried_edits, message_of_event, messages_with, opening_world};
-ghost use Rattle.road_world.specs.Events.{replica_at, world_of_winners};
+ghost use Rattle.road_world.specs.Events.{asked_heads, carried_edits, makes_message, message_of_event, messages_with};
+ghost use Rattle.road_world.specs.Events.{opening_world, replica_at, world_of_winners};
 ghost use Rattle.road_world.specs.Stamps.{IsNew, issued_stamp};
 ghost use Rattle.road_world.specs.Private.LocalEvents.{local_event};
 ghost use Rattle.road_world.specs.declared.event.Event.TheVariants as events;
@@ -124,6 +124,32 @@ impl World {
         ensures fits { AreInRange self.now.plan (carried_edits (slice_get self.now.messages number)) }
     {
         self.messages.get(number as usize)
+    }
+
+    /// Makes the message of an event that makes one. The world stays as it is: [`World::post`] appends the message.
+    ///
+    /// # Errors
+    ///
+    /// Those of [`World::apply`].
+    pub fn message_by(&self, alloc: Global, event: &Event) -> Result<Message, WorldFault>
+        requires { makes_message event.now ≡ true }
+        ensures made { IsMade self.now event.now result }
+        ensures fits { IfOk result (λ message. FitsSomePlan (carried_edits (Some message))) }
+        ensures no_crew { IfErr result (λ fault. (n : ℕ) → gone_after_answer (Err fault) n ≡ n) }
+    {
+        if self.replicas.len() <= event.replica() as usize {
+            return Err(WorldFault::NoReplica);
+        }
+        match event {
+            Event::Send { at } => self.whole(*at),
+            Event::Heads { at } => self.asked(alloc, *at),
+            Event::Beyond { at, message } => self.delta(alloc, *at, *message),
+            Event::Edit { .. } => unreachable!(),
+            Event::Withdraw { .. } => unreachable!(),
+            Event::Import { .. } => unreachable!(),
+            Event::Take { .. } => unreachable!(),
+            Event::Advance { .. } => unreachable!(),
+        }
     }
 
     /// Applies an event whose message is made already: appends that message, which must be the one that the event makes
@@ -274,7 +300,7 @@ impl World {
                     step: *step,
                     value: Value::Put(*value),
                 };
-                self.put(alloc, *at, local, crew, meter)
+                self.make_edit(alloc, *at, local, crew, meter)
             }
             Event::Withdraw { at, object, step } => {
                 let local = LocalEdit {
@@ -282,12 +308,12 @@ impl World {
                     step: *step,
                     value: Value::Withdrawn,
                 };
-                self.put(alloc, *at, local, crew, meter)
+                self.make_edit(alloc, *at, local, crew, meter)
             }
             Event::Import { at, edits } => self.import(alloc, *at, edits, crew, meter),
-            Event::Send { at } => self.send(*at),
-            Event::Heads { at } => self.heads(alloc, *at),
-            Event::Beyond { at, message } => self.beyond(alloc, *at, *message),
+            Event::Send { .. } => self.send(alloc, event),
+            Event::Heads { .. } => self.send(alloc, event),
+            Event::Beyond { .. } => self.send(alloc, event),
             Event::Take { at, message } => self.take(alloc, *at, *message, crew, meter),
             Event::Advance { at, to } => self.advance(alloc, *at, *to, crew, meter),
         }
@@ -295,8 +321,8 @@ impl World {
 
     // ---- writes
 
-    // Puts a number at a replica, or withdraws what is put.
-    fn put<C: Crew>(
+    // Makes an edit at a replica: it puts a number, or withdraws what is put.
+    fn make_edit<C: Crew>(
         &mut self,
         alloc: Global,
         at: u32,
@@ -373,40 +399,48 @@ impl World {
 
     // ---- messages, for which no meter and no crew is asked
 
-    // Sends all that a replica holds.
-    fn send(&mut self, at: u32) -> Result<Reply, WorldFault>
-        requires { at < length self.old.replicas }
-        ensures applied { (meter : ℕ) → IsApplied (events.Send at) result self.old self.new meter meter }
+    // Makes the message of an event, and appends it.
+    fn send(&mut self, alloc: Global, event: &Event) -> Result<Reply, WorldFault>
+        requires { makes_message event.now ≡ true }
+        ensures applied { (meter : ℕ) → IsApplied event.now result self.old self.new meter meter }
         ensures no_crew { (n : ℕ) → gone_after_answer result n ≡ n }
+    {
+        let message = self.message_by(alloc, event)?;
+        let number = self.post(event, message)?;
+        Ok(Reply::Message(number))
+    }
+
+    // Makes a message of all that a replica holds.
+    fn whole(&self, at: u32) -> Result<Message, WorldFault>
+        requires { at < length self.now.replicas }
+        ensures made { IsMade self.now (events.Send at) result }
+        ensures no_crew { IfErr result (λ fault. (n : ℕ) → gone_after_answer (Err fault) n ≡ n) }
     {
         let scenario = self.replicas[at as usize].message()?;
-        let number = self.post(&Event::Send { at }, Message::Whole(scenario))?;
-        Ok(Reply::Message(number))
+        Ok(Message::Whole(scenario))
     }
 
-    // Sends a replica's heads.
-    fn heads(&mut self, alloc: Global, at: u32) -> Result<Reply, WorldFault>
-        requires { at < length self.old.replicas }
-        ensures applied { (meter : ℕ) → IsApplied (events.Heads at) result self.old self.new meter meter }
-        ensures no_crew { (n : ℕ) → gone_after_answer result n ≡ n }
+    // Makes a message of a replica's heads.
+    fn asked(&self, alloc: Global, at: u32) -> Result<Message, WorldFault>
+        requires { at < length self.now.replicas }
+        ensures made { IsMade self.now (events.Heads at) result }
+        ensures no_crew { IfErr result (λ fault. (n : ℕ) → gone_after_answer (Err fault) n ≡ n) }
     {
         let heads = self.replicas[at as usize].heads(alloc)?;
-        let number = self.post(&Event::Heads { at }, Message::Asked(heads))?;
-        Ok(Reply::Message(number))
+        Ok(Message::Asked(heads))
     }
 
-    // Answers heads by what a replica holds beyond them.
-    fn beyond(&mut self, alloc: Global, at: u32, message: u64) -> Result<Reply, WorldFault>
-        requires { at < length self.old.replicas }
-        ensures applied { (meter : ℕ) → IsApplied (events.Beyond at message) result self.old self.new meter meter }
-        ensures no_crew { (n : ℕ) → gone_after_answer result n ≡ n }
+    // Makes a message of what a replica holds beyond the heads of another message.
+    fn delta(&self, alloc: Global, at: u32, message: u64) -> Result<Message, WorldFault>
+        requires { at < length self.now.replicas }
+        ensures made { IsMade self.now (events.Beyond at message) result }
+        ensures no_crew { IfErr result (λ fault. (n : ℕ) → gone_after_answer (Err fault) n ≡ n) }
     {
         let Some(heads) = asked_heads(&self.messages, message) else {
             return Err(WorldFault::NoMessage);
         };
         let delta = self.replicas[at as usize].beyond(alloc, heads)?;
-        let number = self.post(&Event::Beyond { at, message }, Message::Answer(delta))?;
-        Ok(Reply::Message(number))
+        Ok(Message::Answer(delta))
     }
 }
 
@@ -442,6 +476,8 @@ fn asked_heads(messages: &[Message], number: u64) -> Option<&Heads>
 {
     match messages.get(number as usize) {
         Some(Message::Asked(heads)) => Some(heads),
-        _ => None,
+        Some(Message::Whole(_)) => None,
+        Some(Message::Answer(_)) => None,
+        None => None,
     }
 }

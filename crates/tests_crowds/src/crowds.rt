@@ -1,14 +1,9 @@
 //! Crowds of the free road, which the tests gather.
 
-ghost use Rattle.std.specs.Prelude.{◌≡◌, ◌<◌, ◌≤◌, IsTrue, None, length};
-ghost use Rattle.road_plan.specs.declared.limits.TheConstants.{MOST_SESSIONS};
-ghost use Rattle.road_replica.specs.Crowds.{crowd_writes, shares_fault, shares_of};
-ghost use Rattle.road_replica.specs.declared.crowds.TheConstants.{MOST_CROWD_WRITES};
-
+use crate::shares::may_gather;
 use road_crowd::crowd;
-use road_plan::limits::MOST_SESSIONS;
 use road_plan::{Object, Plan};
-use road_replica::{Crowd, MOST_CROWD_WRITES, shares_fault, write_count};
+use road_replica::Crowd;
 use road_scenario::{Edit, Stamp, Value};
 use road_workers::Gate;
 use std::alloc::Global;
@@ -38,22 +33,6 @@ pub(crate) fn block_and_withdrawal(alloc: Global) -> Result<Vec<Vec<Edit>>, Fail
 /// Returns the plan of the free road.
 pub(crate) fn free_road(alloc: Global) -> Result<Arc<Plan>, Fail> {
     Ok(Arc::new(alloc, plan_of(alloc, &FREE)?)?)
-}
-
-/// Tells whether these shares may be gathered to a step.
-pub(crate) fn may_gather(plan: &Plan, shares: &[Vec<Edit>], to: u32) -> bool
-    ensures some { IsTrue result → 0 < length shares.now }
-    ensures few { IsTrue result → length shares.now ≤ MOST_SESSIONS }
-    ensures within { IsTrue result → crowd_writes (shares_of shares.now) ≤ MOST_CROWD_WRITES }
-    ensures accepted { IsTrue result → shares_fault plan.now (shares_of shares.now) to ≡ None }
-{
-    if shares.is_empty() || shares.len() > MOST_SESSIONS as usize {
-        return false;
-    }
-    if write_count(shares) > MOST_CROWD_WRITES {
-        return false;
-    }
-    shares_fault(plan, shares, to).is_none()
 }
 
 /// Returns what a crowd of these shares leaves of the free road.

@@ -7,5 +7,8 @@ mod crowds;
 mod meetings;
 #[cfg(test)]
 mod orders;
+mod shares;
 #[cfg(test)]
 mod worked;
+
+pub use shares::may_gather;

@@ -9,27 +9,32 @@ use crate::roads::{
     OPENING, SLOW, SLOWED, Shown, TO_SIX, WITH_BLOCK, WITHDRAWN,
 };
 use crate::scenarios::{self, Making, MapCase};
-use crate::sessions::{self, Act, SessionCase};
+use crate::sessions::{self, Act, Closing, Command, SessionCase};
 use crate::sheets::{self, GrowthCase};
-use crate::steps::{self, StepCase};
+use crate::steps::{self, Rows, RunCase};
 use crate::verdict::{Until, Verdict};
 use crate::worlds;
 use road_cells::Car;
 use road_delta::Head;
 use road_detector::Totals;
+use road_plan::Object;
 use road_replica::Reply;
 use road_scenario::{Edit, Stamp, Value};
 use std::alloc::Global;
 use std::sync::Wait;
 use std::thread::Threads;
-use tests_plans::{BLOCK, CARS_AT_SIX, LIMIT, cars, edit, head, pairs, stamp};
+use tests_plans::{
+    BLOCK, BLOCKED_ROWS, BLOCKED_UNDER_ROWS, CARS_AT_SIX, DENSE, DENSE_ROWS, FREE, FREE_ROWS,
+    HALF_SLOWED, HALF_SLOWED_ROWS, LIMIT, LOWERED_ROWS, RANDOM, RANDOM_ROWS, cars, edit, head,
+    pairs, stamp,
+};
 
 /// A call that is tried.
 #[derive(Clone, Copy)]
 pub(crate) enum Case {
     Line(LineCase),
     Map(MapCase),
-    Step(StepCase),
+    Run(RunCase),
     Crew(CrewCase),
     Scenario(Making),
     ReplicaOpening,
@@ -52,9 +57,8 @@ pub(crate) enum Case {
     List,
     StorePrepare,
     StoreOpen,
-    /// The closing of a store after a call.
-    StoreClose(SessionCase),
-    Session(SessionCase),
+    /// A call of a session, and when its store is closed.
+    Session(SessionCase, Closing),
     Crowd(CrowdCase),
 }
 
@@ -75,13 +79,45 @@ const LATE_ROW: &str = "0..2...2....";
 
 const SLOW_ROW: &str = "0.1.1.1.1.1.";
 
+/// The first session advances to step 6.
+const TO_SIX_FIRST: (u32, Command) = (0, Command::Advance(6));
+
 /// The second session blocks a cell.
 const BLOCKING: SessionCase = SessionCase(
     &[TO_HORIZON_SIX],
     Act::Write(BLOCKS, 1, Reply::Stamped(stamp!(1, 0))),
     TO_SIX,
     WITH_BLOCK,
-    2,
+    &[TO_SIX_FIRST, (1, Command::Take(&[BLOCKED]))],
+);
+
+/// It advances, withdraws what blocks a cell, and takes a message.
+const ADVANCING: SessionCase = SessionCase(
+    &[],
+    Act::Write(TO_HORIZON_SIX, 0, Reply::Horizon(6)),
+    OPENING,
+    TO_SIX,
+    &[(1, Command::Advance(6))],
+);
+
+const WITHDRAWING: SessionCase = SessionCase(
+    &[TO_HORIZON_SIX, BLOCKS],
+    Act::Write(OPENS, 2, Reply::Stamped(stamp!(2, 0))),
+    WITH_BLOCK,
+    WITHDRAWN,
+    &[
+        TO_SIX_FIRST,
+        (0, Command::Take(&[BLOCKED])),
+        (1, Command::Take(&[OPENED])),
+    ],
+);
+
+const TAKING: SessionCase = SessionCase(
+    &[TO_HORIZON_SIX],
+    Act::Write(Write::Take(&[SLOW]), 1, Reply::Touched(Some(3))),
+    TO_SIX,
+    SLOWED,
+    &[TO_SIX_FIRST, (1, Command::Take(&[SLOW]))],
 );
 
 /// Imports that block a cell, and withdraw that with a greater stamp.
@@ -92,11 +128,15 @@ const OPENING_IMPORTED: Edit = edit!(BLOCK, 4, (2, 64), withdrawn);
 // The calls of plans, roads, steps and crews.
 const ROADS: &[(&str, Case)] = pairs![
     "plan-new" => Case::Line(LineCase::Plan),
-    "road-copied" => Case::Step(StepCase::Copied),
-    "road-row" => Case::Step(StepCase::Row),
-    "step-enter" => Case::Step(StepCase::Enter),
-    "step-finish" => Case::Step(StepCase::Finish),
-    "step-alone" => Case::Step(StepCase::Whole),
+    // Each step of a run.
+    "step-free" => Case::Run(RunCase(FREE, &[], Rows::At(FREE_ROWS))),
+    "step-blocked" => Case::Run(RunCase(FREE, &[BLOCKED], Rows::At(BLOCKED_ROWS))),
+    "step-blocked-under" => Case::Run(RunCase(
+        FREE, &[edit!(Object::Block(7), 4, (1, 0), 1)], Rows::At(BLOCKED_UNDER_ROWS))),
+    "step-lowered" => Case::Run(RunCase(FREE, &[SLOW, edit!(LIMIT, 5, (2, 0), 0)], Rows::At(LOWERED_ROWS))),
+    "step-slowed" => Case::Run(RunCase(HALF_SLOWED, &[], Rows::Each(HALF_SLOWED_ROWS))),
+    "step-dense" => Case::Run(RunCase(DENSE, &[], Rows::Each(DENSE_ROWS))),
+    "step-seeded" => Case::Run(RunCase(RANDOM, &[], Rows::At(RANDOM_ROWS))),
     "crew-alone" => Case::Crew(CrewCase::Alone),
     "crew-scoped" => Case::Crew(CrewCase::Scoped),
     "crew-pool" => Case::Crew(CrewCase::Pool),
@@ -110,11 +150,16 @@ const SCENARIOS: &[(&str, Case)] = pairs![
     "map-with" => Case::Map(MapCase::With),
     "map-with-split" => Case::Map(MapCase::WithSplit),
     "map-joined" => Case::Map(MapCase::Joined),
+    "map-copied" => Case::Map(MapCase::Copied),
     "map-pages-joined" => Case::Map(MapCase::PagesJoined),
     "scenario-with-edit" => Case::Scenario(Making::WithEdit(&[SLOW, BLOCKED], OPENED, &[SLOW, OPENED])),
     "scenario-with-greater" => Case::Scenario(Making::WithEdit(&[LESS], GREATER, &[GREATER])),
+    "greatest-joined" => Case::Scenario(Making::GreatestJoined),
+    "greatest-copied" => Case::Scenario(Making::GreatestCopied),
     "scenario-joined" => Case::Scenario(Making::Joined),
+    "scenario-copied" => Case::Scenario(Making::Copied),
     "scenario-pair-joined" => Case::Scenario(Making::PairJoined),
+    "scenario-pair-copied" => Case::Scenario(Making::PairCopied),
     "scenario-edits" => Case::Scenario(Making::Edits),
     "scenario-settings" => Case::Scenario(Making::Settings),
     "scenario-heads" => Case::Scenario(Making::Heads),
@@ -139,19 +184,19 @@ const SHEETS: &[(&str, Case)] = pairs![
     "draft-input-of-interval" => Case::Input(64, &[1, 2, 2]),
     "draft-push" => Case::Push(5, LATE_ROW),
     "draft-push-ends-interval" => Case::Push(63, LATE_ROW),
-    "grown-block" => Case::Growth(GrowthCase(6, 6, Some(4), WITH_BLOCK)),
+    "grown-block" => Case::Growth(GrowthCase(6, 6, Some(4), 6, WITH_BLOCK)),
     // Edits at step 0, round the end of an interval, at the last step and at the horizon, in a run of 130 steps.
-    "grown-from-first" => Case::Growth(GrowthCase(130, 0, Some(0), Shown(
+    "grown-from-first" => Case::Growth(GrowthCase(130, 0, Some(0), 130, Shown(
         &[(4, "0.1.1......."), (130, SLOW_ROW)], &[edit!(LIMIT, 0, (1, 0), 1)]))),
-    "grown-from-early" => Case::Growth(GrowthCase(130, 0, Some(63), Shown(
+    "grown-from-early" => Case::Growth(GrowthCase(130, 0, Some(63), 130, Shown(
         &[(63, ".1...2...2.."), (64, "0.1...1...1."), (130, SLOW_ROW)], &[edit!(LIMIT, 63, (1, 0), 1)]))),
-    "grown-from-late" => Case::Growth(GrowthCase(130, 0, Some(64), Shown(
+    "grown-from-late" => Case::Growth(GrowthCase(130, 0, Some(64), 66, Shown(
         &[(64, LATE_ROW), (66, "0.1..1...1.."), (130, SLOW_ROW)], &[edit!(LIMIT, 64, (1, 0), 1)]))),
-    "grown-from-last" => Case::Growth(GrowthCase(130, 0, Some(129), Shown(
+    "grown-from-last" => Case::Growth(GrowthCase(130, 0, Some(129), 2, Shown(
         &[(129, ".1...2...2.."), (130, "0.1...1...1.")], &[edit!(LIMIT, 129, (1, 0), 1)]))),
-    "grown-beyond" => Case::Growth(GrowthCase(130, 0, Some(130), Shown(
+    "grown-beyond" => Case::Growth(GrowthCase(130, 0, Some(130), 0, Shown(
         &[(130, LATE_ROW)], &[edit!(LIMIT, 130, (1, 0), 1)]))),
-    "grown-longer" => Case::Growth(GrowthCase(60, 70, None, Shown(
+    "grown-longer" => Case::Growth(GrowthCase(60, 70, None, 10, Shown(
         &[(60, LATE_ROW), (65, ".1...2...2.."), (70, LATE_ROW)], &[]))),
 ];
 
@@ -221,19 +266,23 @@ const WORLDS: &[(&str, Case)] = pairs![
 const SESSIONS: &[(&str, Case)] = pairs![
     "store-prepare" => Case::StorePrepare,
     "store-open" => Case::StoreOpen,
-    "store-close" => Case::StoreClose(BLOCKING),
-    "session-advance" =>
-        Case::Session(SessionCase(&[], Act::Write(TO_HORIZON_SIX, 0, Reply::Horizon(6)), OPENING, TO_SIX, 1)),
-    "session-edit" => Case::Session(BLOCKING),
-    "session-withdraw" => Case::Session(SessionCase(
-        &[TO_HORIZON_SIX, BLOCKS], Act::Write(OPENS, 2, Reply::Stamped(stamp!(2, 0))), WITH_BLOCK, WITHDRAWN, 3)),
-    "session-take" => Case::Session(SessionCase(
-        &[TO_HORIZON_SIX], Act::Write(Write::Take(&[SLOW]), 1, Reply::Touched(Some(3))), TO_SIX, SLOWED, 2)),
-    "session-look" => Case::Session(SessionCase(&[TO_HORIZON_SIX], Act::Look, TO_SIX, TO_SIX, 1)),
+    "store-close" => Case::Session(BLOCKING, Closing::Tried),
+    "session-advance" => Case::Session(ADVANCING, Closing::Judged),
+    "session-edit" => Case::Session(BLOCKING, Closing::Judged),
+    "session-withdraw" => Case::Session(WITHDRAWING, Closing::Judged),
+    "session-take" => Case::Session(TAKING, Closing::Judged),
+    // The journal is looked at as soon as they are refused.
+    "session-advance-journal" => Case::Session(ADVANCING, Closing::Refused),
+    "session-edit-journal" => Case::Session(BLOCKING, Closing::Refused),
+    "session-withdraw-journal" => Case::Session(WITHDRAWING, Closing::Refused),
+    "session-take-journal" => Case::Session(TAKING, Closing::Refused),
+    "session-look" => Case::Session(
+        SessionCase(&[TO_HORIZON_SIX], Act::Look, TO_SIX, TO_SIX, &[TO_SIX_FIRST]), Closing::Judged),
     "session-state" => Case::Session(SessionCase(
-        &[TO_HORIZON_SIX], Act::State(3, cars![(16, 1, 1), (0, 5, 2)]), TO_SIX, TO_SIX, 1)),
+        &[TO_HORIZON_SIX], Act::State(3, cars![(16, 1, 1), (0, 5, 2)]), TO_SIX, TO_SIX, &[TO_SIX_FIRST]), Closing::Judged),
     "session-totals" => Case::Session(SessionCase(
-        &[TO_HORIZON_SIX], Act::Totals(0, 3, Totals { cars: 1, speeds: 2 }), TO_SIX, TO_SIX, 1)),
+        &[TO_HORIZON_SIX], Act::Totals(0, 3, Totals { cars: 1, speeds: 2 }), TO_SIX, TO_SIX, &[TO_SIX_FIRST]),
+        Closing::Judged),
     // One session, which has only the advance to make; and two.
     "crowd-of-one" => Case::Crowd(CrowdCase(&[&[]], &[], 1, LATE_ROW)),
     "crowd-of-two" =>
@@ -303,7 +352,7 @@ pub(crate) fn tried<R: Threads + Wait + Clone + Drop + Send + 'static>(
     match case {
         Case::Line(case) => lines::tried(alloc, until, case),
         Case::Map(case) => scenarios::tried_map(alloc, until, case),
-        Case::Step(case) => steps::tried(alloc, until, case),
+        Case::Run(case) => steps::tried(alloc, until, &case),
         Case::Crew(case) => crews::tried(rt, alloc, until, case),
         Case::Scenario(making) => scenarios::tried(alloc, until, making),
         Case::ReplicaOpening => replicas::tried_opening(alloc, until),
@@ -324,8 +373,7 @@ pub(crate) fn tried<R: Threads + Wait + Clone + Drop + Send + 'static>(
         Case::List => worlds::tried_list(alloc, until),
         Case::StorePrepare => sessions::tried_prepare(rt, alloc, until),
         Case::StoreOpen => sessions::tried_open(rt, alloc, until),
-        Case::StoreClose(case) => sessions::tried_call(rt, alloc, until, true, &case),
-        Case::Session(case) => sessions::tried_call(rt, alloc, until, false, &case),
+        Case::Session(case, closing) => sessions::tried_call(rt, alloc, until, closing, &case),
         Case::Crowd(case) => crowds::tried(rt, alloc, until, &case),
     }
 }

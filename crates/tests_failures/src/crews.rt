@@ -11,7 +11,7 @@ use road_workers::{Alone, Crew, CrewFault, NoGate, Pool, Scoped};
 use std::alloc::Global;
 use std::sync::{Arc, Wait};
 use std::thread::Threads;
-use tests_plans::{DENSE, Parts};
+use tests_plans::{Counter, DENSE, Parts};
 
 /// The new speeds of the dense road's first step.
 const SPEEDS: &[u8] = &[0, 1, 0, 1, 0, 0, 1, 0, 1];
@@ -50,9 +50,12 @@ const BEFORE: u32 = 40;
 enum Task {
     /// The speeds of the dense road's first step.
     Speeds(Arc<StepInput>),
-    /// Steps of the long road.
-    Steps(Span, Road),
+    /// Steps of the long road, and the gate that its workers pass.
+    Steps(Span, Road, Arc<Counter>),
 }
+
+/// How many lasting workers are asked.
+const WORKERS: u32 = 2;
 
 /// What is tried of a crew.
 #[derive(Clone, Copy, PartialEq, Eq)]
@@ -63,7 +66,7 @@ pub(crate) enum CrewCase {
     Scoped,
     /// Two lasting workers compute, each its piece.
     Pool,
-    /// A lasting worker and its caller run steps of a long road, a stretch each.
+    /// They run steps of a long road, a stretch each.
     Run,
     /// They are started.
     Start,
@@ -110,15 +113,20 @@ fn long_run(alloc: Global) -> Option<Task> {
     let Ok(settings) = Arc::new(alloc, settings) else {
         return None;
     };
-    Some(Task::Steps(Span::new(plan, settings, BEFORE, 64), road))
+    let gate = Arc::new(alloc, Counter::new()).ok()?;
+    Some(Task::Steps(Span::new(plan, settings, BEFORE, 64), road, gate))
 }
 
-// Answers whether a crew gives what it is asked: these speeds; or steps that it runs together, whose road and totals its
-// contract states.
+// Answers whether a crew gives what it is asked: these speeds; or steps for which it asks each of its workers, and whose
+// road and totals its contract states.
 fn gives<C: Crew>(alloc: Global, crew: &mut C, task: &Task) -> Result<bool, CrewFault> {
     match task {
         Task::Speeds(input) => Ok(crew.speeds(alloc, input)?.as_slice() == SPEEDS),
-        Task::Steps(span, road) => Ok(crew.run(alloc, span, road)?.is_some()),
+        Task::Steps(span, road, gate) => {
+            let before = gate.passed();
+            let ran = crew.run(alloc, span, road)?;
+            Ok(ran.is_some() && gate.passed() == before.saturating_add(WORKERS))
+        }
     }
 }
 
@@ -144,20 +152,26 @@ fn started<R: Threads + Wait + Clone + Drop + Send + 'static>(
     let own = rt.clone().ok()?;
     if is_gated {
         let gate = Arc::new(alloc, NoGate).ok()?;
-        Some(Pool::start_gated(own, alloc, 2, gate))
+        Some(Pool::start_gated(own, alloc, WORKERS, gate))
     } else {
-        Some(Pool::start(own, alloc, 2))
+        Some(Pool::start(own, alloc, WORKERS))
     }
 }
 
-// Tries two lasting workers.
+// Tries two lasting workers, who pass the gate of their task if it has one.
 fn tried_pool<R: Threads + Wait + Clone + Drop + Send + 'static>(
     rt: &R,
     alloc: Global,
     until: Until,
     task: &Task,
 ) -> Option<Verdict> {
-    let mut pool = started(rt, alloc, false)?.ok()?;
+    let mut pool = match task {
+        Task::Speeds(_) => started(rt, alloc, false)?.ok()?,
+        Task::Steps(_, _, gate) => {
+            let gate = Arc::try_clone(gate).ok()?;
+            Pool::start_gated(rt.clone().ok()?, alloc, WORKERS, gate).ok()?
+        }
+    };
     let verdict = tried_task(alloc, until, &mut pool, task);
     pool.finish();
     verdict

@@ -14,6 +14,7 @@ mod cases;
 mod crews;
 mod crowds;
 mod lines;
+mod portraits;
 mod replicas;
 mod roads;
 mod scenarios;
@@ -37,6 +38,7 @@ fn tell<R: Print>(rt: &R, verdict: Option<Verdict>) -> io::Result<()> {
         Some(Verdict::Right) => println!(rt; "right"),
         Some(Verdict::Again) => println!(rt; "right again"),
         Some(Verdict::Restarted) => println!(rt; "right with new threads"),
+        Some(Verdict::Refused) => println!(rt; "wrong: it was not made again"),
         Some(Verdict::Wrong(what)) => println!(rt; "wrong: {what}"),
         None => println!(rt; "not met"),
     }

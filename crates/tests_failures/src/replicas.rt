@@ -1,7 +1,8 @@
 //! Writes to a replica, and what it is asked.
 
+use crate::portraits::{is_as, portrait_of};
 use crate::roads::{OPENING, Shown, free_plan, holds, shows};
-use crate::verdict::{Until, Verdict, judged};
+use crate::verdict::{Until, Verdict, judged, kept};
 use road_cells::Car;
 use road_delta::{Head, heads_of};
 use road_detector::Totals;
@@ -98,11 +99,12 @@ pub(crate) fn tried_write(alloc: Global, until: Until, case: &WriteCase) -> Opti
     let WriteCase(prepared, write, reply, before, after) = *case;
     let mut replica = replica_after(alloc, prepared)?;
     let given = write.given(alloc)?;
+    let portrait = portrait_of(alloc, replica.sheet())?;
     judged!(
         until,
         written(alloc, &mut replica, &write, &given),
         ReplicaFault::OutOfMemory => Verdict::Again,
-        shows(alloc, replica.sheet(), &before)?,
+        shows(alloc, replica.sheet(), &before)? && is_as(alloc, replica.sheet(), &portrait)?,
         told => told == reply && shows(alloc, replica.sheet(), &after)?
     )
 }
@@ -144,18 +146,17 @@ fn tried_edits(
     }
 }
 
-/// Tries a question after some writes.
-pub(crate) fn tried_question(
+// Tries a question.
+fn tried_asking(
     alloc: Global,
     until: Until,
-    prepared: &[Write],
+    replica: &Replica,
     question: &Question,
 ) -> Option<Verdict> {
-    let replica = replica_after(alloc, prepared)?;
     match *question {
         Question::Copied(shown) => judged!(
             until, replica.copied(), _,
-            copy => shows(alloc, copy.sheet(), &shown)?
+            copy => copy.number() == 0 && shows(alloc, copy.sheet(), &shown)?
         ),
         Question::State(step, cars) => judged!(
             until, replica.state(alloc, step), ReplicaFault::OutOfMemory,
@@ -169,8 +170,21 @@ pub(crate) fn tried_question(
             until, replica.rows(alloc, from, to), ReplicaFault::OutOfMemory,
             told => are_rows(&told, rows)
         ),
-        _ => tried_edits(alloc, until, &replica, question),
+        _ => tried_edits(alloc, until, replica, question),
     }
+}
+
+/// Tries a question after some writes.
+pub(crate) fn tried_question(
+    alloc: Global,
+    until: Until,
+    prepared: &[Write],
+    question: &Question,
+) -> Option<Verdict> {
+    let replica = replica_after(alloc, prepared)?;
+    let portrait = portrait_of(alloc, replica.sheet())?;
+    let verdict = tried_asking(alloc, until, &replica, question)?;
+    kept(alloc, verdict, replica.sheet(), &portrait)
 }
 
 /// Tries the opening of a replica.

@@ -63,14 +63,18 @@ pub(crate) fn holds(alloc: Global, scenario: &Scenario, edits: &[Edit]) -> Optio
     Some(held.as_slice() == edits)
 }
 
-/// Answers whether a sheet shows this row; none where memory was wanted for that, or the step is not simulated.
-pub(crate) fn shows_row(alloc: Global, sheet: &Sheet, step: u32, wanted: &str) -> Option<bool> {
+/// Returns the row that a sheet shows at a step; none where memory was wanted for that, or the step is not simulated.
+pub(crate) fn row_at(alloc: Global, sheet: &Sheet, step: u32) -> Option<String> {
     let Ok(road) = sheet.state(alloc, step) else {
         return None;
     };
     let state = State { step, road };
-    let row = row_of(alloc, sheet.plan(), sheet.scenario(), &state).ok()?;
-    Some(row.as_str() == wanted)
+    row_of(alloc, sheet.plan(), sheet.scenario(), &state).ok()
+}
+
+/// Answers whether a sheet shows this row; none as for [`row_at`].
+pub(crate) fn shows_row(alloc: Global, sheet: &Sheet, step: u32, wanted: &str) -> Option<bool> {
+    Some(row_at(alloc, sheet, step)?.as_str() == wanted)
 }
 
 /// Answers whether a sheet shows just this; none where memory was wanted for that.

@@ -18,8 +18,13 @@ pub(crate) enum Making {
     /// An edit is added to others, and these come of it.
     WithEdit(&'static [Edit], Edit, &'static [Edit]),
     Joined,
+    Copied,
     /// They are joined, each with a horizon.
     PairJoined,
+    PairCopied,
+    /// Two horizons are joined, and one is copied.
+    GreatestJoined,
+    GreatestCopied,
     Edits,
     /// The settings at step 4, where cell 8 is blocked.
     Settings,
@@ -82,23 +87,42 @@ fn tried_reading(alloc: Global, until: Until, one: &Scenario, making: Making) ->
     }
 }
 
-/// Tries what is made of scenarios.
-pub(crate) fn tried(alloc: Global, until: Until, making: Making) -> Option<Verdict> {
-    let one = pair_of(alloc, HELD, 6)?;
-    let other = pair_of(alloc, HELD_ELSEWHERE, 3)?;
+// Tries what is made of one scenario and its horizon, or of those of two.
+fn tried_pair(
+    alloc: Global,
+    until: Until,
+    one: &Pair,
+    other: &Pair,
+    making: Making,
+) -> Option<Verdict> {
     match making {
-        Making::WithEdit(edits, edit, made) => {
-            let scenario = Scenario::of_edits(alloc, edits).ok()?;
-            judged!(until, scenario.with_edit(&edit), _, with => holds(alloc, &with, made)?)
-        }
         Making::Joined => judged!(
             until, one.first.joined(&other.first), _,
             joined => holds(alloc, &joined, ALL)?
         ),
+        Making::Copied => judged!(until, one.first.copied(), _, copy => holds(alloc, &copy, HELD)?),
         Making::PairJoined =>
-            judged!(until, one.joined(&other), _, pair => is_pair(alloc, &pair, ALL)?),
+            judged!(until, one.joined(other), _, pair => is_pair(alloc, &pair, ALL)?),
+        Making::PairCopied => judged!(until, one.copied(), _, pair => is_pair(alloc, &pair, HELD)?),
+        Making::GreatestJoined => judged!(
+            until, one.second.joined(&other.second), _,
+            joined => joined == one.second
+        ),
+        Making::GreatestCopied =>
+            judged!(until, one.second.copied(), _, copy => copy == one.second),
         _ => tried_reading(alloc, until, &one.first, making),
     }
+}
+
+/// Tries what is made of scenarios.
+pub(crate) fn tried(alloc: Global, until: Until, making: Making) -> Option<Verdict> {
+    if let Making::WithEdit(edits, edit, made) = making {
+        let scenario = Scenario::of_edits(alloc, edits).ok()?;
+        return judged!(until, scenario.with_edit(&edit), _, with => holds(alloc, &with, made)?);
+    }
+    let one = pair_of(alloc, HELD, 6)?;
+    let other = pair_of(alloc, HELD_ELSEWHERE, 3)?;
+    tried_pair(alloc, until, &one, &other, making)
 }
 
 // ---- maps of registers
@@ -110,6 +134,7 @@ pub(crate) enum MapCase {
     /// The page that takes the key becomes two.
     WithSplit,
     Joined,
+    Copied,
     /// Both pages take keys, and the first becomes two.
     PagesJoined,
 }
@@ -176,24 +201,26 @@ fn has_even_and(map: &Registers, count: u32, three: &[u32]) -> bool {
 fn tried_page(alloc: Global, until: Until, case: MapCase) -> Option<Verdict> {
     let one = map_of(alloc, &[(5, TWO), (9, THREE)])?;
     let other = map_of(alloc, &[(3, TWO), (5, THREE)])?;
-    if case == MapCase::With {
-        return judged!(
+    match case {
+        MapCase::With => judged!(
             until, one.with(3, &TWO), _,
             map => has_registers(&map, &[(3, TWO), (5, TWO), (9, THREE)])
-        );
+        ),
+        MapCase::Copied =>
+            judged!(until, one.copied(), _, map => has_registers(&map, &[(5, TWO), (9, THREE)])),
+        _ => judged!(
+            until, one.joined(&other), _,
+            map => has_registers(&map, &[(3, TWO), (5, THREE), (9, THREE)])
+        ),
     }
-    judged!(
-        until, one.joined(&other), _,
-        map => has_registers(&map, &[(3, TWO), (5, THREE), (9, THREE)])
-    )
 }
 
 /// Tries what is made of maps.
 pub(crate) fn tried_map(alloc: Global, until: Until, case: MapCase) -> Option<Verdict> {
     match case {
         MapCase::WithSplit => {
-            let one = even_steps(alloc, 512)?;
-            judged!(until, one.with(1, &THREE), _, map => has_even_and(&map, 512, &[1]))
+            let one = even_steps(alloc, 256)?;
+            judged!(until, one.with(1, &THREE), _, map => has_even_and(&map, 256, &[1]))
         }
         MapCase::PagesJoined => {
             let one = even_steps(alloc, 600)?;

@@ -3,8 +3,9 @@
 ghost use Rattle.std.specs.Prelude.{◌<◌};
 ghost use Rattle.road_plan.specs.declared.limits.TheConstants.{GREATEST_HORIZON};
 
+use crate::portraits::{is_as, portrait_of};
 use crate::roads::{OPENING, Shown, free_plan, shows, shows_row};
-use crate::verdict::{Until, Verdict, accepted, judged};
+use crate::verdict::{Until, Verdict, accepted, judged, kept};
 use road_cells::Car;
 use road_detector::Totals;
 use road_ends::Meter;
@@ -45,27 +46,47 @@ fn run_of(alloc: Global, edits: &[Edit], to: u32) -> Option<Sheet> {
     }
 }
 
-/// A growth that is judged: the horizon before it, the step that it goes to, the step that it touches, and what is
-/// shown after it.
+/// A growth that is judged: the horizon before it, the step that it goes to, the step that it touches, how many steps it
+/// computes, and what is shown after it.
 #[derive(Clone, Copy)]
 pub(crate) struct GrowthCase(
     pub(crate) u32,
     pub(crate) u32,
     pub(crate) Option<u32>,
+    pub(crate) u64,
     pub(crate) Shown,
 );
 
+// Returns how many steps a growth may compute: those behind the horizon, or from the touched step and 63 before it.
+fn most_steps(horizon: u32, to: u32, touched: Option<u32>) -> u64 {
+    let last = horizon.max(to);
+    let steps = match touched {
+        Some(touched) if touched < horizon => last.saturating_sub(touched).saturating_add(63),
+        _ => last.saturating_sub(horizon),
+    };
+    u64::from(steps)
+}
+
 /// Tries a growth.
 pub(crate) fn tried_growth(alloc: Global, until: Until, case: &GrowthCase) -> Option<Verdict> {
-    let GrowthCase(horizon, to, touched, shown) = *case;
+    let GrowthCase(horizon, to, touched, ticks, shown) = *case;
     let sheet = run_of(alloc, &[], horizon)?;
     let scenario = Scenario::of_edits(alloc, shown.1).ok()?;
     if to > GREATEST_HORIZON || scenario.fits(sheet.plan()).is_some() {
         return None;
     }
+    let portrait = portrait_of(alloc, &sheet)?;
+    let (mut first, mut again) = (Meter::new(), Meter::new());
+    let mut meter = &mut first;
     judged!(
-        until, grown(alloc, &sheet, &scenario, to, &mut Alone, &mut Meter::new()), GrownFault::OutOfMemory,
-        done => done.touched == touched && shows(alloc, &done.sheet, &shown)?
+        until, grown(alloc, &sheet, &scenario, to, &mut Alone, meter),
+        GrownFault::OutOfMemory => Verdict::Again,
+        {
+            let are_few = meter.ticks() <= most_steps(horizon, to, touched);
+            meter = &mut again;
+            are_few && is_as(alloc, &sheet, &portrait)?
+        },
+        done => done.touched == touched && meter.ticks() == ticks && shows(alloc, &done.sheet, &shown)?
     )
 }
 
@@ -76,14 +97,13 @@ pub(crate) enum Question {
     Totals(u32, u32, Totals),
 }
 
-/// Tries a question to the sheet of some edits at step 6.
-pub(crate) fn tried_question(
+// Tries a question to a sheet.
+fn tried_asking(
     alloc: Global,
     until: Until,
-    edits: &[Edit],
+    sheet: &Sheet,
     question: &Question,
 ) -> Option<Verdict> {
-    let sheet = run_of(alloc, edits, 6)?;
     match *question {
         Question::State(step, cars) => judged!(
             until, sheet.state(alloc, step), SheetFault::OutOfMemory,
@@ -94,6 +114,19 @@ pub(crate) fn tried_question(
             told => told == totals
         ),
     }
+}
+
+/// Tries a question to the sheet of some edits at step 6.
+pub(crate) fn tried_question(
+    alloc: Global,
+    until: Until,
+    edits: &[Edit],
+    question: &Question,
+) -> Option<Verdict> {
+    let sheet = run_of(alloc, edits, 6)?;
+    let portrait = portrait_of(alloc, &sheet)?;
+    let verdict = tried_asking(alloc, until, &sheet, question)?;
+    kept(alloc, verdict, &sheet, &portrait)
 }
 
 // Adds one more step to a draft.
@@ -150,8 +183,10 @@ pub(crate) fn tried_draft(
     let (to, _) = *shown.0.last()?;
     let sheet = run_of(alloc, &[], to)?;
     let scenario = Scenario::of_edits(alloc, shown.1).ok()?;
+    let portrait = portrait_of(alloc, &sheet)?;
     judged!(
-        until, drafted(alloc, &sheet, &scenario, keep), SheetFault::OutOfMemory,
+        until, drafted(alloc, &sheet, &scenario, keep), SheetFault::OutOfMemory => Verdict::Again,
+        is_as(alloc, &sheet, &portrait)?,
         draft => draft.horizon() <= keep && shows(alloc, &finished(alloc, draft, to)?, shown)?
     )
 }
@@ -170,8 +205,9 @@ pub(crate) fn tried_input(
     speeds: &[u8],
 ) -> Option<Verdict> {
     let mut draft = draft_at(alloc, steps)?;
+    let road = draft.road().copied().ok()?;
     judged!(
-        until, draft.input(alloc), _,
+        until, draft.input(alloc), _ => Verdict::Again, draft.horizon() == steps && draft.road().cars() == road.cars(),
         input => input.speeds(alloc).ok()?.as_slice() == speeds
     )
 }
@@ -186,11 +222,15 @@ fn pushed(alloc: Global, until: Until, mut draft: Draft, row: &str) -> Option<Ve
     let Ok(speeds) = input.speeds(alloc) else {
         return None;
     };
+    let (horizon, road) = (draft.horizon(), draft.road().copied().ok()?);
     if until == Until::Prepared {
         return Some(Verdict::Left);
     }
     let (verdict, draft) = match draft.push(alloc, &input, &speeds) {
         Ok(_) => (Verdict::Right, draft),
+        Err(_) if draft.horizon() != horizon || draft.road().cars() != road.cars() => {
+            return Some(Verdict::Wrong("the refused call changed something"));
+        }
         Err(_) => (Verdict::Again, with_step(alloc, draft)?),
     };
     if until == Until::Called {

@@ -1,5 +1,9 @@
 //! What comes of a call, whether an allocation fails in it or not.
 
+use crate::portraits::{Portrait, is_as};
+use road_sheet::Sheet;
+use std::alloc::Global;
+
 /// How far a call is tried, so that the allocations up to there can be counted.
 #[derive(Clone, Copy, PartialEq, Eq)]
 pub(crate) enum Until {
@@ -22,6 +26,8 @@ pub(crate) enum Verdict {
     Again,
     /// It was refused since a thread could not be started, and gave the expected answer when it was made again.
     Restarted,
+    /// It was refused for out of memory, and not made again.
+    Refused,
     /// What is wrong.
     Wrong(&'static str),
 }
@@ -33,6 +39,45 @@ pub(crate) fn accepted(verdict: Verdict, is_right: bool) -> Verdict {
     } else {
         Verdict::Wrong("the answer, or what it leaves, is another one")
     }
+}
+
+/// Returns the verdict on two calls of which one at most is refused.
+pub(crate) fn both(first: Verdict, second: Verdict) -> Verdict {
+    match (first, second) {
+        (Verdict::Wrong(_), _) | (_, Verdict::Right) => first,
+        _ => second,
+    }
+}
+
+/// Returns this verdict where what was asked is as it was drawn before.
+pub(crate) fn kept(
+    alloc: Global,
+    verdict: Verdict,
+    sheet: &Sheet,
+    before: &Portrait,
+) -> Option<Verdict> {
+    if verdict == Verdict::Left || is_as(alloc, sheet, before)? {
+        Some(verdict)
+    } else {
+        Some(Verdict::Wrong("the call changed what was asked"))
+    }
+}
+
+/// Makes a call, once more where it is refused for out of memory, which is noted then. It returns from a function that
+/// gives a verdict where it is refused again.
+macro_rules! made {
+    ($verdict:ident, $call:expr $(,)?) => {
+        match $call {
+            Ok(answer) => answer,
+            Err(_) => {
+                let Ok(answer) = $call else {
+                    return Some($crate::verdict::Verdict::Wrong("it was refused again"));
+                };
+                $verdict = $crate::verdict::Verdict::Again;
+                answer
+            }
+        }
+    };
 }
 
 /// Makes a call, and judges its answer. Where it is refused by a fault for which it may be made again, it is, and its
@@ -68,3 +113,4 @@ macro_rules! judged {
 }
 
 pub(crate) use judged;
+pub(crate) use made;

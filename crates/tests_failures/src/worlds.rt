@@ -1,13 +1,15 @@
 //! Events of a world of three replicas of the free road, and lists of them.
 
+use crate::portraits::{Portrait, portrait_of};
 use crate::roads::{free_plan, shows_row};
 use crate::verdict::{Until, Verdict, judged};
+use road_delta::Head;
 use road_ends::Meter;
 use road_plan::{Object, Plan};
 use road_replica::{ReplicaFault, Reply};
 use road_scenario::{Edit, Stamp, Value};
 use road_workers::Alone;
-use road_world::{Event, PlayFault, Played, World, WorldFault, play};
+use road_world::{Event, Message, PlayFault, Played, World, WorldFault, play};
 use std::alloc::Global;
 use std::sync::Arc;
 use tests_plans::{BLOCK, LIMIT, edit, stamp};
@@ -110,6 +112,86 @@ pub(crate) const EXCHANGE: &[Told] = &[
     ),
 ];
 
+// ---- what a world shows
+
+/// What a message carries.
+#[derive(Drop)]
+enum Carried {
+    Whole(Vec<Edit>),
+    Answer(Vec<Edit>),
+    Asked(Vec<Head>),
+}
+
+impl Carried {
+    // Answers whether two messages carry the same.
+    fn is_same(&self, other: &Carried) -> bool {
+        match (self, other) {
+            (Carried::Whole(edits), Carried::Whole(others)) => edits.as_slice()
+                == others.as_slice(),
+            (Carried::Answer(edits), Carried::Answer(others)) => {
+                edits.as_slice() == others.as_slice()
+            }
+            (Carried::Asked(heads), Carried::Asked(others)) => heads.as_slice()
+                == others.as_slice(),
+            _ => false,
+        }
+    }
+}
+
+/// A portrait of each replica, and the messages.
+#[derive(Drop)]
+struct WorldPortrait {
+    replicas: Vec<Portrait>,
+    messages: Vec<Carried>,
+}
+
+impl WorldPortrait {
+    // Answers whether two worlds show the same.
+    fn is_same(&self, other: &WorldPortrait) -> bool {
+        self.replicas.len() == other.replicas.len()
+            && self.messages.len() == other.messages.len()
+            && self
+                .replicas
+                .iter()
+                .zip(&other.replicas)
+                .all(|(one, another)| one.is_same(another))
+            && self
+                .messages
+                .iter()
+                .zip(&other.messages)
+                .all(|(one, another)| one.is_same(another))
+    }
+}
+
+// Returns what a message carries.
+fn content_of(alloc: Global, message: &Message) -> Option<Carried> {
+    Some(match message {
+        Message::Whole(scenario) => Carried::Whole(scenario.edits(alloc).ok()?),
+        Message::Answer(scenario) => Carried::Answer(scenario.edits(alloc).ok()?),
+        Message::Asked(heads) => Carried::Asked(heads.list().to_vec(alloc).ok()?),
+    })
+}
+
+// Draws a world, which has no more messages than the exchange has events.
+fn world_portrait(alloc: Global, world: &World) -> Option<WorldPortrait> {
+    let (mut replicas, mut messages) = (Vec::new(alloc), Vec::new(alloc));
+    for at in 0..world.replica_count() {
+        let portrait = portrait_of(alloc, world.replica(at)?.sheet())?;
+        replicas.push(portrait).ok()?;
+    }
+    for number in 0..EXCHANGE.len() {
+        if let Some(message) = world.message(number as u64) {
+            messages.push(content_of(alloc, message)?).ok()?;
+        }
+    }
+    Some(WorldPortrait { replicas, messages })
+}
+
+// Answers whether a world is as it was drawn.
+fn is_as(alloc: Global, world: &World, before: &WorldPortrait) -> Option<bool> {
+    Some(world_portrait(alloc, world)?.is_same(before))
+}
+
 // Returns the row that a replica shows after the events of a list.
 fn row_after(list: &[Told], at: u32) -> &'static str {
     let mut row = "............";
@@ -121,9 +203,24 @@ fn row_after(list: &[Told], at: u32) -> &'static str {
     row
 }
 
+// Returns how many messages the events of a list make.
+fn messages_after(list: &[Told]) -> u64 {
+    let mut count: u64 = 0;
+    for told in list {
+        if let Reply::Message(_) = told.2 {
+            count = count.saturating_add(1);
+        }
+    }
+    count
+}
+
 // Answers whether a world shows what it must after the events of a list.
 fn is_after(alloc: Global, world: &World, list: &[Told]) -> Option<bool> {
-    let mut shows = world.replica_count() == 3;
+    let count = messages_after(list);
+    let last = count
+        .checked_sub(1)
+        .is_none_or(|last| world.message(last).is_some());
+    let mut shows = world.replica_count() == 3 && last && world.message(count).is_none();
     for at in 0..3 {
         let sheet = world.replica(at)?.sheet();
         shows = shows && shows_row(alloc, sheet, sheet.horizon(), row_after(list, at))?;
@@ -150,11 +247,12 @@ pub(crate) fn tried_event(alloc: Global, until: Until, place: usize) -> Option<V
     let earlier = exchange.get(..place)?;
     let event = told.event(alloc)?;
     let mut world = world_after(alloc, earlier)?;
+    let portrait = world_portrait(alloc, &world)?;
     judged!(
         until,
         world.apply(alloc, &event, &mut Alone, &mut Meter::new()),
         WorldFault::Replica(ReplicaFault::OutOfMemory) => Verdict::Again,
-        is_after(alloc, &world, earlier)?,
+        is_after(alloc, &world, earlier)? && is_as(alloc, &world, &portrait)?,
         reply => reply == told.2 && is_after(alloc, &world, exchange.get(..=place)?)?
     )
 }

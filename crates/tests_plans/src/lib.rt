@@ -1,14 +1,16 @@
-//! Plans, their worked rows, cars, objects, edits, events and crews that the crates of tests share.
+//! Plans, their worked rows, cars, objects, edits, events, crews and gates that the crates of tests share.
 #![tactic(auto)]
 
 ghost use Rattle.std.specs.Prelude.{◌≡◌};
 
+mod crews;
+mod gates;
+
+pub use crews::{Counting, Leaving, Running, StepByStep};
+pub use gates::{Counter, Meeting};
 use road_cells::Car;
-use road_ends::StepInput;
 use road_plan::{Object, OutOfMemory, Plan, PlanFault, PlanParts, WordKind};
-use road_workers::{Crew, CrewFault};
 use std::alloc::Global;
-use std::sync::Arc;
 
 /// Lists pairs: what is given, and what is wanted of it.
 #[macro_export]
@@ -164,6 +166,22 @@ pub const BLOCKED_ROWS: &[Row] = &[
     (6, "0..2..10#..."),
 ];
 
+/// Its rows where cell 7 is blocked from step 4 on, where a car stands.
+pub const BLOCKED_UNDER_ROWS: &[Row] = &[
+    (4, "0..2...2...."),
+    (5, ".1...2.#.2.."),
+    (6, "0..2..1#...."),
+];
+
+/// Its rows where the limit falls to 1 at step 3 and to 0 at step 5.
+pub const LOWERED_ROWS: &[Row] = &[
+    (3, ".1...2......"),
+    (4, "0.1...1....."),
+    (5, ".1.1...1...."),
+    (6, "00.0...0...."),
+    (7, "00.0...0...."),
+];
+
 /// Its rows where all cars are slowed at every step.
 pub const SLOWED_ROWS: &[Row] = &[
     (1, "0..........."),
@@ -210,6 +228,25 @@ pub const HALF_SLOWED_ROWS: &[&str] = &[
     ".1...1......",
 ];
 
+/// Random words that show: four zones, and places beyond the first blocks of the generator.
+pub const RANDOM: Parts = Parts {
+    road: (40, 2, 10),
+    zones: &[(5, 20_000), (3, 30_000), (9, 10_000), (5, 20_000)],
+    inlets: &[(3, 40_000)],
+    detectors: &[],
+    words: WordKind::Seeded(1992),
+};
+
+/// Rows of this road.
+pub const RANDOM_ROWS: &[Row] = &[
+    (10, "............2.....3......4.............."),
+    (20, "...0.....3............2................."),
+    (40, "...0.1......3.1..2.....3...........5...."),
+    (64, "....1.0...2...3.1......3.......5........"),
+    (65, "...00..1.....3.1.1.........4........5..."),
+    (70, "..........300....2.........4.......5...."),
+];
+
 /// Nine inlets on 32 cells that always let in, limit 2, slowing chance one half by steady words.
 pub const DENSE: Parts = Parts {
     road: (32, 1, 32),
@@ -244,6 +281,44 @@ pub const DENSE_START_ROWS: &[&str] = &[
     ".1.0..00.0.100.0..00.00..1..2...",
     "00..1.00.0.00.10..00.0.10.1..1..",
 ];
+
+/// The longest road: zones of all kinds, inlets all along it, and detectors on both sides of where it may be cut.
+pub const LONG: Parts = Parts {
+    road: (8_192, 3, 1_024),
+    zones: &[
+        (9, 0),
+        (5, 16_384),
+        (9, 1_000),
+        (3, 0),
+        (9, 32_768),
+        (7, 8_192),
+        (9, 0),
+        (5, 20_000),
+    ],
+    inlets: &[
+        (0, 40_000),
+        (511, 65_536),
+        (1_023, 30_000),
+        (1_024, 65_536),
+        (2_047, 50_000),
+        (2_048, 65_536),
+        (2_730, 20_000),
+        (2_731, 65_536),
+        (4_095, 65_536),
+        (4_096, 65_536),
+        (5_460, 10_000),
+        (5_461, 65_536),
+        (6_143, 65_536),
+        (6_144, 65_536),
+        (7_000, 1_000),
+        (8_188, 65_536),
+    ],
+    detectors: &[
+        1, 9, 511, 512, 1_023, 1_024, 1_025, 2_047, 2_048, 2_049, 2_730, 2_731, 4_095, 4_096,
+        4_097, 5_460, 5_461, 5_462, 6_143, 6_144, 6_145, 7_168, 8_180, 8_188,
+    ],
+    words: WordKind::Seeded(7),
+};
 
 /// Copies these parts.
 ///
@@ -292,55 +367,5 @@ pub fn car(number: u64, cell: u32, speed: u8) -> Car
         number,
         cell,
         speed,
-    }
-}
-
-/// Answers `WorkersGone` once, after some calls, and computes all other speeds by itself.
-#[derive(Clone, Copy, Debug)]
-pub struct Leaving {
-    /// The calls that are answered before.
-    pub calls_left: u64,
-    /// How often it has answered `WorkersGone`.
-    pub gone: u64,
-}
-
-impl Leaving {
-    /// Makes a crew that leaves after so many calls.
-    pub fn after(calls: u64) -> Leaving
-        ensures { result ≡ record { calls_left = calls; gone = 0 } }
-    {
-        Leaving {
-            calls_left: calls,
-            gone: 0,
-        }
-    }
-}
-
-impl Crew for Leaving {
-    ghost times_gone = { λ crew. crew.gone };
-
-    fn speeds(&mut self, alloc: Global, input: &Arc<StepInput>) -> Result<Vec<u8>, CrewFault> {
-        if self.gone == 0 && self.calls_left == 0 {
-            self.gone = 1;
-            return Err(CrewFault::WorkersGone);
-        }
-        self.calls_left = self.calls_left.saturating_sub(1);
-        Ok(input.speeds(alloc)?)
-    }
-}
-
-/// Computes all speeds by itself and counts its calls.
-#[derive(Clone, Copy, Debug)]
-pub struct Counting {
-    /// The calls so far.
-    pub calls: u64,
-}
-
-impl Crew for Counting {
-    ghost times_gone = { λ _. 0 };
-
-    fn speeds(&mut self, alloc: Global, input: &Arc<StepInput>) -> Result<Vec<u8>, CrewFault> {
-        self.calls = self.calls.saturating_add(1);
-        Ok(input.speeds(alloc)?)
     }
 }

@@ -26,7 +26,7 @@ enum Order {
 const ORDERS: &[Order] = &[Order::Rising, Order::Falling, Order::Mixed];
 
 /// How many entries are put one by one.
-const COUNTS: &[u32] = &[0, 1, 2, 511, 512, 513, 768, 1_000];
+const COUNTS: &[u32] = &[0, 1, 2, 255, 256, 257, 384, 1_000];
 
 /// Numbers that look random.
 #[derive(Drop)]

@@ -2,6 +2,10 @@
 #![tactic(auto)]
 
 #[cfg(test)]
+mod growing;
+#[cfg(test)]
 mod runs;
+#[cfg(test)]
+mod spans;
 #[cfg(test)]
 mod sweeps;

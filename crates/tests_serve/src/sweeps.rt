@@ -13,8 +13,8 @@ use std::process::Abort;
 use std::test::Fail;
 use tests_plans::Leaving;
 
-// The stored run: a late edit, its withdrawal, and an older message that brings it back.
-const STORED: &str =
+/// The stored run: a late edit, its withdrawal, and an older message that brings it back.
+pub(crate) const STORED: &str =
     r##"{"detectors":[5],"exit":1,"inlets":[[0,65536]],"length":12,"replicas":["A","B","C"],"words":7,"zone":12,"zones":[[2,0]]}
 {"advance":{"at":"A","to":6}}
 {"cells":{"at":"A","step":6}}
@@ -31,8 +31,8 @@ const STORED: &str =
 {"scenario":{"at":"A"}}
 "##;
 
-// What it is answered.
-const ANSWERS: &str = r##"{"open":3}
+/// What it is answered.
+pub(crate) const ANSWERS: &str = r##"{"open":3}
 {"horizon":6}
 {"cells":"0..2...2...."}
 {"stamp":[1,0]}

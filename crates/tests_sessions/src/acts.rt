@@ -5,13 +5,14 @@ ghost use Rattle.std.specs.Prelude.{◌≡◌};
 use crate::closings::{Closing, closed};
 use crate::journals::{Line, is_journal};
 use crate::questions::{
-    Cars, Count, Row, Run, looks, looks_run, shows, shows_all_cars, shows_counts, shows_run,
+    Cars, Count, Run, looks, looks_run, shows, shows_all_cars, shows_counts, shows_run,
 };
 use crate::writes::{Answer, Write, parts, written};
 use road_sessions::{Closed, Naming, Prepared, Receipt, Session, Shared, open};
 use road_sheet::Sheet;
 use std::alloc::Global;
 use std::sync::{Arc, Wait};
+use tests_plans::Row;
 
 /// What a session does, and what it is answered.
 #[derive(Clone, Copy)]

@@ -6,9 +6,7 @@ use road_sheet::simulation::{State, row_of};
 use road_sheet::{Sheet, SheetFault};
 use std::alloc::Global;
 use std::sync::Wait;
-
-/// A step, and the row that is shown there.
-pub(crate) type Row = (u32, &'static str);
+use tests_plans::{FREE_ROWS, Row};
 
 /// A detector and two steps, and the cars and speeds that it counts from one up to the other.
 pub(crate) type Count = ((u32, u32, u32), Result<(u32, u32), LookFault>);
@@ -41,33 +39,24 @@ pub(crate) struct Run {
     pub(crate) to: u32,
 }
 
-/// The rows of the free road, of which the last two go on by turns.
-const FREE_ROWS: &[&str] = &[
-    "............",
-    ".1..........",
-    "0..2........",
-    ".1...2......",
-    "0..2...2....",
-    ".1...2...2..",
-];
-
-/// The rows after an even step from which on the limit is 1. The last two go on by turns.
-const SLOW_ROWS: &[&str] = &[
-    "0..2...2....",
-    ".1..1...1...",
-    "0.1..1...1..",
-    ".1.1..1...1.",
-    "0.1.1..1....",
-    ".1.1.1..1...",
-    "0.1.1.1..1..",
-    ".1.1.1.1..1.",
-    "0.1.1.1.1...",
-    ".1.1.1.1.1..",
-    "0.1.1.1.1.1.",
+/// The rows after so many steps behind an even one, from which on the limit is 1. As of the free road's, the last two go
+/// on by turns.
+const SLOW_ROWS: &[Row] = &[
+    (0, "0..2...2...."),
+    (1, ".1..1...1..."),
+    (2, "0.1..1...1.."),
+    (3, ".1.1..1...1."),
+    (4, "0.1.1..1...."),
+    (5, ".1.1.1..1..."),
+    (6, "0.1.1.1..1.."),
+    (7, ".1.1.1.1..1."),
+    (8, "0.1.1.1.1..."),
+    (9, ".1.1.1.1.1.."),
+    (10, "0.1.1.1.1.1."),
 ];
 
 // Returns the row of this number, where the last two go on by turns.
-fn by_turns<'a>(rows: &[&'a str], number: usize) -> &'a str {
+fn by_turns(rows: &[Row], number: usize) -> &'static str {
     let behind = number.saturating_sub(rows.len());
     let last = rows.len().saturating_sub(2);
     let place = if number < rows.len() {
@@ -76,7 +65,7 @@ fn by_turns<'a>(rows: &[&'a str], number: usize) -> &'a str {
         last.saturating_add(behind % 2)
     };
     match rows.get(place) {
-        Some(row) => *row,
+        Some((_, row)) => *row,
         None => "",
     }
 }

@@ -11,8 +11,9 @@ use std::process::Abort;
 use std::sync::Arc;
 use std::test::Fail;
 use tests_plans::{
-    BLOCKED_ROWS, CARS_AT_SIX, DENSE, DENSE_START, FREE, FREE_ROWS, HALF_SLOWED, Parts,
-    QUICK_TO_START_ROWS, SLOW_TO_START_ROWS, SLOWED_ROWS, cars, pairs, parts, parts_of, plan_of,
+    BLOCKED_ROWS, BLOCKED_UNDER_ROWS, CARS_AT_SIX, DENSE, DENSE_START, FREE, FREE_ROWS,
+    HALF_SLOWED, LOWERED_ROWS, Parts, QUICK_TO_START_ROWS, RANDOM, RANDOM_ROWS, SLOW_TO_START_ROWS,
+    SLOWED_ROWS, cars, pairs, parts, parts_of, plan_of,
 };
 
 /// A road and its rows at rising steps. From a step on the only zone has another limit, from a step on a cell is
@@ -76,23 +77,10 @@ const TWO_ZONES: Example = Example {
     ..FREE_ROAD
 };
 
-/// Random words that show: four zones, and places beyond the first blocks of the generator.
-const RANDOM: Example = Example {
-    parts: Parts {
-        road: (40, 2, 10),
-        zones: &[(5, 20_000), (3, 30_000), (9, 10_000), (5, 20_000)],
-        inlets: &[(3, 40_000)],
-        detectors: &[],
-        words: WordKind::Seeded(1992),
-    },
-    rows: &[
-        (10, "............2.....3......4.............."),
-        (20, "...0.....3............2................."),
-        (40, "...0.1......3.1..2.....3...........5...."),
-        (64, "....1.0...2...3.1......3.......5........"),
-        (65, "...00..1.....3.1.1.........4........5..."),
-        (70, "..........300....2.........4.......5...."),
-    ],
+/// Random words that show.
+const RANDOM_ROAD: Example = Example {
+    parts: RANDOM,
+    rows: RANDOM_ROWS,
     ..FREE_ROAD
 };
 
@@ -109,13 +97,7 @@ const DENSE_ROAD: Example = Example {
 /// The limit falls to 1 at step 3 and to 0 at step 5.
 const LOWERED: Example = Example {
     lowered: &[(3, 1), (5, 0)],
-    rows: &[
-        (3, ".1...2......"),
-        (4, "0.1...1....."),
-        (5, ".1.1...1...."),
-        (6, "00.0...0...."),
-        (7, "00.0...0...."),
-    ],
+    rows: LOWERED_ROWS,
     ..FREE_ROAD
 };
 
@@ -129,11 +111,7 @@ const BLOCKED_AHEAD: Example = Example {
 /// Cell 7 is blocked from step 4 on, where a car stands.
 const BLOCKED_UNDER_CAR: Example = Example {
     blocked: &[(4, 7)],
-    rows: &[
-        (4, "0..2...2...."),
-        (5, ".1...2.#.2.."),
-        (6, "0..2..1#...."),
-    ],
+    rows: BLOCKED_UNDER_ROWS,
     ..FREE_ROAD
 };
 
@@ -191,7 +169,7 @@ const RANDOM_STARTS: Example = Example {
         (70, "......20.1.0.000.1......................"),
         (80, "...00.10000.1...2...3...........5......."),
     ],
-    ..RANDOM
+    ..RANDOM_ROAD
 };
 
 // Finds what is set at a step: the last number from a step up to it.
@@ -320,7 +298,7 @@ fn steps_alone(rt: &impl Abort, alloc: Global, example: &Example) -> Result<(), 
 }
 
 /// Examples that nobody edits.
-const UNEDITED: &[Example] = &[FREE_ROAD, SLOWED, TWO_ZONES, RANDOM, DENSE_ROAD];
+const UNEDITED: &[Example] = &[FREE_ROAD, SLOWED, TWO_ZONES, RANDOM_ROAD, DENSE_ROAD];
 
 /// Examples with edits, or where all or none are slowed or let in.
 const EDITED: &[Example] = &[

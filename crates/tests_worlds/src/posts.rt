@@ -1,5 +1,8 @@
 //! Messages that are made already: posted for their event, they are what the event would have made.
 
+ghost use Rattle.std.specs.Prelude.{◌≡◌, true};
+ghost use Rattle.road_world.specs.Events.{makes_message};
+
 use crate::worlds::{Answer, holds};
 use road_ends::Meter;
 use road_replica::Reply;
@@ -24,34 +27,15 @@ fn opened(alloc: Global) -> Result<World, Fail> {
     Ok(world)
 }
 
-// Posts all that a replica holds, and returns the number of the message.
-fn post_whole(world: &mut World, at: u32) -> Result<u64, Fail> {
-    let Some(replica) = world.replica(at) else {
-        return Err(Fail::new("no replica"));
-    };
-    let whole = Message::Whole(replica.message()?);
-    Ok(world.post(&Event::Send { at }, whole)?)
-}
-
-// Posts a replica's heads, and returns the number of their message.
-fn post_heads(alloc: Global, world: &mut World, at: u32) -> Result<u64, Fail> {
-    let Some(replica) = world.replica(at) else {
-        return Err(Fail::new("no replica"));
-    };
-    let asked = Message::Asked(replica.heads(alloc)?);
-    Ok(world.post(&Event::Heads { at }, asked)?)
-}
-
-// Posts what a replica holds beyond the heads of a message, and returns the number of the answer.
-fn post_answer(alloc: Global, world: &mut World, at: u32, message: u64) -> Result<u64, Fail> {
-    let Some(replica) = world.replica(at) else {
-        return Err(Fail::new("no replica"));
-    };
-    let Some(Message::Asked(heads)) = world.message(message) else {
-        return Err(Fail::new("no heads"));
-    };
-    let answer = Message::Answer(replica.beyond(alloc, heads)?);
-    Ok(world.post(&Event::Beyond { at, message }, answer)?)
+// Makes the message of an event, looks whether it has edits, and posts it; its number.
+fn post(alloc: Global, world: &mut World, event: &Event, has_edits: bool) -> Result<u64, Fail>
+    requires { makes_message event.now ≡ true }
+{
+    let message = world.message_by(alloc, event)?;
+    if has_edits == matches!(&message, Message::Asked(_)) {
+        return Err(Fail::new("another message"));
+    }
+    Ok(world.post(event, message)?)
 }
 
 /// Replicas that take these messages, and what that is answered: the first are heads.
@@ -66,9 +50,14 @@ fn a_posted_message_is_that_of_its_event(rt: HostRuntime) -> Result<(), Fail> {
     let alloc = rt.alloc();
     let mut world = opened(alloc)?;
     let mut meter = Meter::new();
-    assert_eq!(&rt; post_heads(alloc, &mut world, 1)?, 0);
-    assert_eq!(&rt; post_answer(alloc, &mut world, 0, 0)?, 1);
-    assert_eq!(&rt; post_whole(&mut world, 0)?, 2);
+    let heads = Event::Heads { at: 1 };
+    let answer = Event::Beyond { at: 0, message: 0 };
+    let no_heads = Event::Beyond { at: 0, message: 1 };
+    assert_eq!(&rt; post(alloc, &mut world, &heads, false)?, 0);
+    assert_eq!(&rt; post(alloc, &mut world, &answer, true)?, 1);
+    assert_eq!(&rt; post(alloc, &mut world, &Event::Send { at: 0 }, true)?, 2);
+    let refused = world.message_by(alloc, &no_heads).err();
+    assert!(&rt; refused == Some(WorldFault::NoMessage));
     for (at, message, answer) in TAKEN {
         let event = event!(take(*at, *message));
         let reply = world.apply(alloc, &event, &mut Alone, &mut meter);

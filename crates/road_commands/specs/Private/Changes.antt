@@ -1,16 +1,26 @@
 -- Events and their replies as the code's calls see them.
-use Rattle.std.specs.Prelude.{Bool, true, false}
+use Rattle.std.specs.Prelude.{◌≡◌, ℕ, Bool, true, false, List, length, Result}
+use Rattle.std.specs.List.{slice_get}
+use Rattle.std.specs.Option.{option_map}
+use Rattle.std.specs.declared.option.Option.{Option}
+use Rattle.std.specs.declared.option.Option.TheVariants.{None, Some}
+use Rattle.std.specs.declared.result.Result.TheVariants.{Ok, Err}
+use Rattle.lattice_core.specs.Sets.{items}
+use Rattle.road_delta.specs.Deltas.{beyond, heads}
 use Rattle.road_replica.specs.declared.reply.Reply.{Reply}
 use Rattle.road_replica.specs.declared.reply.Reply.TheVariants as replies
 use Rattle.road_world.specs.declared.event.Event.{Event}
 use Rattle.road_world.specs.declared.event.Event.TheVariants as events
-use Rattle.road_format.specs.Replies.{Answer, Horizon, Refused, Stamped, Touched}
+use Rattle.road_world.specs.declared.message.Message.{Message}
+use Rattle.road_world.specs.declared.message.Message.TheVariants as messages
+use Rattle.road_world.specs.Events.{World, asked_heads}
+use Rattle.road_format.specs.Replies.{Answer, Delta, Heads, Horizon, Refused, Sent, Stamped, Touched}
+use Rattle.road_format.specs.Views.{answer_view}
+use Rattle.road_format.specs.declared.answer.Answer as replies_declared
+use Rattle.road_format.specs.declared.refusal.Refusal.{Refusal}
 use Rattle.road_format.specs.declared.refusal.Refusal.TheVariants as refusals
-use Rattle.road_replica.specs.declared.faults.ReplicaFault.TheVariants as replica_faults
-use Rattle.road_world.specs.declared.faults.WorldFault.{WorldFault}
-use Rattle.road_world.specs.declared.faults.WorldFault.TheVariants as world_faults
 use Rattle.road_workers.specs.declared.faults.CrewFault.{CrewFault}
-use Rattle.road_workers.specs.declared.faults.CrewFault.TheVariants as crew_faults
+use Rattle.road_commands.specs.Laboratory.{edits_held}
 
 -- whether an event leaves the edits of its replica as they were
 abbrev pub keeps_edits : Event → Bool
@@ -30,17 +40,6 @@ names_message (replies.Touched step) = false
 names_message (replies.Message number) = true
 names_message (replies.Horizon to) = false
 
--- whether an event makes a message
-abbrev pub makes_message : Event → Bool
-makes_message (events.Edit r object step number) = false
-makes_message (events.Withdraw r object step) = false
-makes_message (events.Import r edits) = false
-makes_message (events.Send r) = true
-makes_message (events.Heads r) = true
-makes_message (events.Beyond r message) = true
-makes_message (events.Take r message) = false
-makes_message (events.Advance r to) = false
-
 -- a world's reply to a change; none is the number of a message
 abbrev pub reply_answer : Reply → Answer
 reply_answer (replies.Stamped stamp) = Stamped stamp
@@ -48,7 +47,21 @@ reply_answer (replies.Touched step) = Touched step
 reply_answer (replies.Message number) = Refused refusals.NoMessage
 reply_answer (replies.Horizon to) = Horizon to
 
--- the crew's fault where the world refuses an event for no named cause
-abbrev pub fault_by : WorldFault → CrewFault
-fault_by (world_faults.Replica replica_faults.WorkersGone) = crew_faults.WorkersGone
-fault_by fault = crew_faults.OutOfMemory
+-- the answer to the making of a message, by what it carries
+abbrev pub message_answer : List ℕ → Message → Answer
+message_answer name (messages.Whole edits) = Sent name (length (items edits))
+message_answer name (messages.Asked heads) = Heads name heads
+message_answer name (messages.Answer edits) = Delta name (items edits)
+
+-- the answer to an event that makes a message of this name; none to another event
+abbrev pub made_answer : World → Event → List ℕ → Answer
+made_answer w (events.Send r) name = Sent name (length (items (edits_held w r)))
+made_answer w (events.Heads r) name = Heads name (heads (edits_held w r))
+made_answer w (events.Beyond r message) name =
+    Delta name (items (beyond (edits_held w r) (asked_heads (slice_get w.messages message))))
+made_answer w event name = Refused refusals.NoMessage
+
+-- a refusal is told, where it has an answer; else a crew's fault is handed on
+abbrev pub IsTold : Option Refusal → Result replies_declared.Answer CrewFault → Type 0
+IsTold refusal (Ok answer) = option_map Refused refusal ≡ Some (answer_view answer)
+IsTold refusal (Err lost) = refusal ≡ None

@@ -1,12 +1,24 @@
 -- What the call comes to that answers a command.
-use Rattle.std.specs.Prelude.{◌≡◌, ℕ, IfOk, OnErr, OnOk, Result}
+use Rattle.std.specs.Prelude.{◌≡◌, ℕ, Bool, IfOk, OnErr, OnOk, Result}
 use Rattle.road_workers.specs.Crews.{gone_after}
 use Rattle.road_workers.specs.declared.faults.CrewFault.{CrewFault}
 use Rattle.road_format.specs.Views.{answer_view}
 use Rattle.road_format.specs.declared.answer.Answer.{Answer}
-use Rattle.road_commands.specs.Laboratory.{Laboratory, Outcome, laboratory_of_winners}
+use Rattle.road_commands.specs.Laboratory.{Laboratory, Outcome, gone_after_command, laboratory_of_winners}
 
--- a command is answered, and counted how often the crew has gone
+-- a command is answered, be it a crowd that is gathered or not
+pub record IsAnswered (gathered : Bool) (outcome : Outcome) (result : Result Answer CrewFault) (old new : Laboratory)
+    (count later : ℕ) : Type 0 where
+  -- the answer is that of the outcome
+  pub answer : IfOk result (λ answer. answer_view answer ≡ outcome.answer)
+  -- answered, the laboratory is that of the outcome, of edits the winners
+  pub after : OnOk result (new ≡ laboratory_of_winners outcome.after)
+  -- not answered, it is as it was
+  pub unchanged : OnErr result (new ≡ old)
+  -- the crew has gone once more where that is why there is no answer, and no crowd was gathered
+  pub gone : later ≡ gone_after_command result gathered count
+
+-- a command that is no crowd is answered, and counted how often the crew has gone
 pub record IsOutcome (outcome : Outcome) (result : Result Answer CrewFault) (old new : Laboratory)
     (count later : ℕ) : Type 0 where
   -- the answer is that of the outcome

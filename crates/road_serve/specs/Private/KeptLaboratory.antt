@@ -24,4 +24,4 @@ gathers_at (Some kept) reading = gathers kept.world.plan reading
 
 -- whether what is held, were it a line, is a crowd that nothing refuses
 abbrev pub holds_crowd : {S H : Type 0} → Dialogue S H → Bool
-holds_crowd d = gathers_at d.laboratory (reading_unless d.long (command_of d.held.items))
+holds_crowd d = gathers_at d.laboratory (reading_unless d.line.long (command_of d.line.bytes.items))

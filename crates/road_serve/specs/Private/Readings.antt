@@ -1,8 +1,15 @@
 -- What the code reads, beside what the definitions read.
 use Rattle.std.specs.Prelude.{◌≡◌, Result, Ok, Err}
 use Rattle.road_format.specs.declared.refusal.Refusal.{Refusal}
+use Rattle.road_serve.specs.declared.dialogue.LineRead.{LineRead}
+use Rattle.road_serve.specs.declared.dialogue.LineRead.TheVariants.{Accepted, Refused}
 
 -- a line was read as the definition reads it
-abbrev pub IsRead : {X Y : Type 0} → (X → Y) → Result X Refusal → Result Y Refusal → Type 0
-IsRead view (Ok x) reading = reading ≡ Ok (view x)
-IsRead view (Err refusal) reading = reading ≡ Err refusal
+abbrev pub IsRead : {X Y : Type 0} → (X → Y) → LineRead X → Result Y Refusal → Type 0
+IsRead view (Accepted x) reading = reading ≡ Ok (view x)
+IsRead view (Refused refusal) reading = reading ≡ Err refusal
+
+-- what holds of what an accepted line says
+abbrev pub IfAccepted : {X : Type 0} → LineRead X → (X → Type 0) → Type 0
+IfAccepted (Accepted x) P = P x
+IfAccepted (Refused refusal) P = Unit {0}

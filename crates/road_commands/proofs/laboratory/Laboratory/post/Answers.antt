@@ -1,21 +1,16 @@
 -- An event that makes a message is one of the world, and leaves all caches as they were.
-use Rattle.std.proofs.Common.{◌∙◌, ◌≡◌, ◌<◌, ◌++◌, ◌∷◌, [], List, ℕ, ap, arith, length, rules, subst, sym, take}
+use Rattle.std.proofs.Common.{◌∙◌, ◌≡◌, ◌++◌, ◌∷◌, [], List, ℕ, ap, length, rules, string_bytes, subst, sym, take}
 use Rattle.std.proofs.Math.Seq.{take-append_seam}
 use Rattle.road_commands.proofs.QueryCaches.{cached_on, laboratory_with, made_keeps}
 use Rattle.road_commands.specs.Laboratory.{Laboratory, laboratory_of_winners}
 use Rattle.road_commands.specs.Private.Caching.{IsCached}
-use Rattle.road_world.specs.Answers.{fault_at_replica, replica_number}
+use Rattle.road_world.specs.Answers.{fault_of_event}
 use Rattle.road_world.specs.Events.{World, message_of_event, world_after_event, world_of_winners}
-use Rattle.road_world.proofs.EventAnswers.{fault_there}
 use Rattle.road_commands.proofs.laboratory.Laboratory.post.Goals as goal
 
 pub post-requires-clause-accepted : goal.post-requires-clause-accepted
 post-requires-clause-accepted g c =
-    let e = c.args.event.now in
-    let world = ap (λ (l : Laboratory). l.world) c.self.view_is in
-    let names = ap (λ (l : Laboratory). length l.replica_names) c.self.view_is in
-    let below : replica_number e < length c.self.inside.world.replicas = omega (arith, c.self.invariant.replicas, names, c.requires.there) in
-    fault_there c.self.inside.world e below ∙ ap (λ (w : World). fault_at_replica w e) world ∙ c.requires.accepted
+    ap (λ (w : World). fault_of_event w c.args.event.now) (ap (λ (l : Laboratory). l.world) c.self.view_is) ∙ c.requires.accepted
 
 pub post-requires-clause-made : goal.post-requires-clause-made
 post-requires-clause-made g c =
@@ -33,12 +28,12 @@ invariant_of-self-in-Err g c =
 pub returns-in-Ok-clause-after : goal.returns-in-Ok-clause-after
 returns-in-Ok-clause-after g c =
     let e = c.args.event.now in
-    let name = c.args.name.now in
+    let name = string_bytes c.args.name in
     let r = c.self.inside.replicas in
     let m = c.self.inside.messages in
     let w = c.self.inside.world in
-    let named : c.put.new.self ≡ m ++ name ∷ [] = search rules in
-    ap (λ (v : World). laboratory_with r c.put.new.self v) (c.in-Ok.ensures.applied 0).after
+    let named : c.add.new.self ≡ m ++ name ∷ [] = search rules in
+    ap (λ (v : World). laboratory_with r c.add.new.self v) (c.in-Ok.ensures.applied 0).after
     ∙ ap (λ (ns : List (List ℕ)). laboratory_with r ns (world_of_winners (world_after_event e w))) named
     ∙ ap (λ (lab : Laboratory). laboratory_of_winners (record lab { message_names = lab.message_names ++ name ∷ []; world = world_after_event e lab.world })) c.self.view_is
 
@@ -46,9 +41,9 @@ pub returns-in-Err-clause-unchanged : goal.returns-in-Err-clause-unchanged
 returns-in-Err-clause-unchanged g c =
     let r = c.self.inside.replicas in
     let m = c.self.inside.messages in
-    let name = c.args.name.now in
-    let named : c.put.new.self ≡ m ++ name ∷ [] = search rules in
+    let name = string_bytes c.args.name in
+    let named : c.add.new.self ≡ m ++ name ∷ [] = search rules in
     let count : c.len-count.result ≡ length m = search rules in
-    let cut = c.cut.ensures ∙ ap (λ n. take n c.put.new.self) count ∙ ap (take (length m)) named ∙ take-append_seam m (name ∷ []) in
+    let cut = c.cut.ensures ∙ ap (λ n. take n c.add.new.self) count ∙ ap (take (length m)) named ∙ take-append_seam m (name ∷ []) in
     ap (λ (v : World). laboratory_with r c.cut.new.self v) (c.in-Err.ensures.applied 0).unchanged
     ∙ ap (λ (ns : List (List ℕ)). laboratory_with r ns c.self.inside.world) cut ∙ c.self.view_is

@@ -7,7 +7,7 @@ use Rattle.road_replica.proofs.replica.Replica.new_edit.Goals as goal
 
 pub returns-clause-edit : goal.returns-clause-edit
 returns-clause-edit c =
-    scenario_of_one c.empty.result c.in_ok-alone.alone c.edit_made-edit.result (edit_made c.args.self.now c.args.object c.args.step c.args.value) c.empty.ensures.none c.in_ok-alone.ensures.winners c.edit_made-edit.ensures
+    scenario_of_one c.empty.result c.in_ok-alone.alone c.edit_made-edit.result (edit_made c.args.self.now c.args.local.object c.args.local.step c.args.local.value) c.empty.ensures.none c.in_ok-alone.ensures.winners c.edit_made-edit.ensures
 
 pub returns-clause-fits : goal.returns-clause-fits
 returns-clause-fits c =

@@ -24,8 +24,8 @@ pub returns-clause-answered : goal.returns-clause-answered
 returns-clause-answered g c lines bytes first h few =
     let sink = sink_view g.W.Sink c.args.writer.now in
     let step = c.in_ok-reply.ensures.answered lines bytes (goes_on lines bytes first sink c.args.self.now h c.requires) few in
-    answer_ends lines bytes (newline ∷ []) (string_bytes c.in_ok-reply.reply) (c.reply.new.self.waiting.items ++ c.as_bytes.result.now) first sink (sink_view g.W.Sink c.put.new.writer) c.args.self.now c.reply.new.self
-    (record c.reply.new.self { waiting = c.put.new.waiting }) c.put.result _ _ h step.0 step.1
+    answer_ends lines bytes (newline ∷ []) (string_bytes c.in_ok-reply.reply) (c.reply.new.self.waiting.items ++ c.as_bytes.result.now) first sink (sink_view g.W.Sink c.append_reply.new.writer) c.args.self.now c.reply.new.self
+    (record c.reply.new.self { waiting = c.append_reply.new.waiting }) c.append_reply.result _ _ h step.0 step.1
     (ap (λ w. w.items ++ c.as_bytes.result.now) c.in_ok-reply.ensures.waiting ∙ ap (λ (t : List ℕ). c.args.self.now.waiting.items ++ t) c.as_bytes.ensures.value)
-    (c.put.ensures.ok, c.put.ensures.well, c.put.ensures.err) refl refl refl refl refl
-    (counts_none c.put.result _ _ _ c.put.ensures.no_crew c.in_ok-reply.ensures.gone)
+    (c.append_reply.ensures.ok, c.append_reply.ensures.well, c.append_reply.ensures.err) refl refl refl refl refl
+    (counts_none c.append_reply.result _ _ _ c.append_reply.ensures.no_crew c.in_ok-reply.ensures.gone)

@@ -33,7 +33,7 @@ returns-clause-answered g c lines bytes first h =
     let is : c.is_clear.result ≡ true = cc in
     let clear = c.is_clear.ensures.0 is in
     let isnt : is_some c.args.self.now.laboratory ≡ false = cc in
-    no_plan_ends lines bytes (string_bytes c.in_ok-reply.reply) (c.args.self.now.waiting.items ++ c.as_bytes.result.now) first (sink_view g.W.Sink c.args.writer.now) (sink_view g.W.Sink c.put.new.writer)
-    c.args.self.now (record c.args.self.now { waiting = c.put.new.waiting; over = Some BadPlan }) c.put.result _ _ h c.requires clear.0 clear.1 (not_some c.args.self.now.laboratory isnt)
-    c.in_ok-reply.ensures (ap (λ (t : List ℕ). c.args.self.now.waiting.items ++ t) c.as_bytes.ensures.value) (c.put.ensures.ok, c.put.ensures.well, c.put.ensures.err) refl refl refl
-    (counts_none c.put.result _ _ _ c.put.ensures.no_crew refl)
+    no_plan_ends lines bytes (string_bytes c.in_ok-reply.reply) (c.args.self.now.waiting.items ++ c.as_bytes.result.now) first (sink_view g.W.Sink c.args.writer.now) (sink_view g.W.Sink c.append_reply.new.writer)
+    c.args.self.now (record c.args.self.now { waiting = c.append_reply.new.waiting; over = Some BadPlan }) c.append_reply.result _ _ h c.requires clear.0 clear.1 (not_some c.args.self.now.laboratory isnt)
+    c.in_ok-reply.ensures (ap (λ (t : List ℕ). c.args.self.now.waiting.items ++ t) c.as_bytes.ensures.value) (c.append_reply.ensures.ok, c.append_reply.ensures.well, c.append_reply.ensures.err) refl refl refl
+    (counts_none c.append_reply.result _ _ _ c.append_reply.ensures.no_crew refl)

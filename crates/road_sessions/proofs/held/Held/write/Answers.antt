@@ -16,12 +16,12 @@ returns-in_err-command-clause-write g c =
     let room : nat_le c.args.self.now.limit (length journal) ≡ false = search rules in
     refused_early c.args.self.now.limit c.args.wish.now g.J.Naming.replica c.args.self.now.replica journal c.from_residual.result _ c.args.meter.now room c.args.self.now.replayed c.from_residual.ensures.1 c.in_err-command.ensures.refused
 
-pub returns-in_err-put-clause-write : goal.returns-in_err-put-clause-write
-returns-in_err-put-clause-write g c =
+pub returns-in_err-put_in_place-clause-write : goal.returns-in_err-put_in_place-clause-write
+returns-in_err-put_in_place-clause-write g c =
     let r : Replica = g.J.Naming.replica in
     let journal : List Entry = c.args.self.now.journal.items in
     let none : write_fault c.args.self.now.limit c.args.wish.now r journal ≡ None = search rules in
     let done = subst (λ (command : SheetCommand). TicksAtMost (most_steps_of_command (entry_command command) c.args.self.now.replica.sheet) c.args.meter.now c.next.new.meter) c.in_ok-command.ensures.command c.in_ok-replica.ensures.few_steps in
     let few : TicksAtMost (most_steps_of_wish c.args.wish.now (replay r journal)) c.args.meter.now c.next.new.meter =
     subst (λ (q : Replica). TicksAtMost (most_steps_of_wish c.args.wish.now q) c.args.meter.now c.next.new.meter) c.args.self.now.replayed done in
-    refused_late c.args.self.now.limit c.args.wish.now r journal c.from_residual-in_err-put.result _ c.args.meter.now c.next.new.meter none c.from_residual-in_err-put.ensures.1 c.in_err-put.ensures.refused few
+    refused_late c.args.self.now.limit c.args.wish.now r journal c.from_residual-in_err-put_in_place.result _ c.args.meter.now c.next.new.meter none c.from_residual-in_err-put_in_place.ensures.1 c.in_err-put_in_place.ensures.refused few

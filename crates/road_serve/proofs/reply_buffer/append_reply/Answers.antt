@@ -3,7 +3,7 @@ use Rattle.std.proofs.Common.{ℕ, ◌+◌, ◌-◌, ◌^◌, min, refl, ◌∙�
 use Rattle.std.proofs.lemmas.Result.{err_from_is_err_and}
 use Rattle.road_serve.specs.StreamViews.{sink_view}
 use Rattle.road_serve.proofs.SinkTexts.{takes_none, takes_all, takes_same, takes_more, front_longer, front_after}
-use Rattle.road_serve.proofs.reply_buffer.put.Goals as goal
+use Rattle.road_serve.proofs.reply_buffer.append_reply.Goals as goal
 
 pub returns-in_err-extend_from_slice-clause-err : goal.returns-in_err-extend_from_slice-clause-err
 returns-in_err-extend_from_slice-clause-err g c =

@@ -5,7 +5,7 @@ use Rattle.road_replica.specs.Replicas.{edit_made, single_edit}
 use Rattle.road_sheet.specs.Commands.{Take}
 use Rattle.road_world.proofs.AppliedEvents.{accepted_kept, edit_allowed, local_accepted, local_refused}
 use Rattle.road_world.proofs.KeptWorlds.{below_kept}
-use Rattle.road_world.proofs.world.World.put.Goals as goal
+use Rattle.road_world.proofs.world.World.make_edit.Goals as goal
 
 pub returns-in_err-stamp-clause-applied : goal.returns-in_err-stamp-clause-applied
 returns-in_err-stamp-clause-applied g c =

@@ -5,7 +5,7 @@ use Rattle.road_replica.specs.Replicas.{Replica}
 use Rattle.road_sheet.specs.Commands.{IsAllowed}
 use Rattle.road_sessions.specs.Journals.{entry_command}
 use Rattle.road_sessions.proofs.Replays.{plan_kept}
-use Rattle.road_sessions.proofs.held.Held.put.Goals as goal
+use Rattle.road_sessions.proofs.held.Held.put_in_place.Goals as goal
 
 pub append_entry-requires-clause-allowed : goal.append_entry-requires-clause-allowed
 append_entry-requires-clause-allowed g c =

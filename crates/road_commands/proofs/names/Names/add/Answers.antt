@@ -3,7 +3,7 @@ use Rattle.std.proofs.Common.{◌≡◌, ◌++◌, ◌∷◌, [], ◌∙◌, ℕ
 use Rattle.road_format.specs.Views.{texts}
 use Rattle.road_commands.specs.Laboratory.{number_of}
 use Rattle.road_commands.proofs.NameNumbers.{put_last}
-use Rattle.road_commands.proofs.names.Names.put.Goals as goal
+use Rattle.road_commands.proofs.names.Names.add.Goals as goal
 
 pub returns-clause-after : goal.returns-clause-after
 returns-clause-after g c =

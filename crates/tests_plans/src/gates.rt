@@ -1,0 +1,102 @@
+//! Gates of tests: one at which workers wait for each other, and one that counts them.
+
+use road_workers::Gate;
+use std::sync::atomic::{AtomicU32, Ordering};
+use std::thread;
+use std::time::{Clock, Duration};
+
+/// Holds each of so many workers, at most 31 of them, numbered from 0, until all have arrived, or the turns are used up;
+/// and again the next time. Each hundredth turn is a millisecond of sleep, so that the others come on a busy machine too.
+#[derive(Drop)]
+pub struct Meeting<R> {
+    rt: R,
+    workers: u32,
+    turns: u32,
+    arrived: AtomicU32,
+    missed: AtomicU32,
+    // A bit for each that has come.
+    came: AtomicU32,
+}
+
+impl<R: Clock> Meeting<R> {
+    /// Makes a gate for so many workers at which nobody has arrived. A worker looks for the others in so many turns.
+    pub fn new(rt: R, workers: u32, turns: u32) -> Meeting<R> {
+        Meeting {
+            rt,
+            workers,
+            turns,
+            arrived: AtomicU32::new(0),
+            missed: AtomicU32::new(0),
+            came: AtomicU32::new(0),
+        }
+    }
+
+    // Lets others run, in the turn of this number.
+    fn wait_a_turn(&self, turn: u32) {
+        if turn % 100 == 99 {
+            thread::sleep(&self.rt, Duration::from_millis(1));
+        } else {
+            thread::yield_now();
+        }
+    }
+
+    // How many arrivals there are once a meeting is full in which so many came before this worker.
+    fn full_after(&self, before: u32) -> u32 {
+        let meeting = before.checked_div(self.workers).unwrap_or(0);
+        meeting.saturating_add(1).saturating_mul(self.workers)
+    }
+
+    // A bit for each of so many workers; none from 32 on.
+    fn bits(workers: u32) -> u32 {
+        let behind = 1_u32.checked_shl(workers).unwrap_or(0);
+        behind.saturating_sub(1)
+    }
+
+    /// Answers whether all have met so often, and nobody has waited in vain.
+    pub fn was_held(&self, meetings: u32) -> bool {
+        self.came.load(Ordering::SeqCst) == Self::bits(self.workers)
+            && self.arrived.load(Ordering::SeqCst) == self.workers.saturating_mul(meetings)
+            && self.missed.load(Ordering::SeqCst) == 0
+    }
+}
+
+impl<R: Clock> Gate for Meeting<R> {
+    fn arrive(&self, worker: u32) {
+        let bit = 1_u32.checked_shl(worker).unwrap_or(0);
+        self.came.fetch_or(bit, Ordering::SeqCst);
+        let full = self.full_after(self.arrived.fetch_add(1, Ordering::SeqCst));
+        for turn in 0..self.turns {
+            if self.arrived.load(Ordering::SeqCst) >= full {
+                return;
+            }
+            self.wait_a_turn(turn);
+        }
+        self.missed.fetch_add(1, Ordering::SeqCst);
+    }
+}
+
+/// Counts the workers that pass.
+#[derive(Drop)]
+pub struct Counter {
+    passed: AtomicU32,
+}
+
+impl Counter {
+    /// Makes a gate that nobody has passed.
+    pub fn new() -> Counter {
+        Counter {
+            passed: AtomicU32::new(0),
+        }
+    }
+
+    /// Returns how often a worker has passed.
+    pub fn passed(&self) -> u32 {
+        self.passed.load(Ordering::SeqCst)
+    }
+}
+
+impl Gate for Counter {
+    fn arrive(&self, _worker: u32) {
+        self.passed.fetch_add(1, Ordering::SeqCst);
+    }
+}
