@@ -3,7 +3,7 @@
 
 const AHEAD = 1800;             // steps of a look ahead
 const ASKING = 2;               // questions for rows at a time
-const IDLE = 120;               // milliseconds without news after which figures are brought up to date
+const IDLE = 120;               // milliseconds without news after which figures are reckoned anew
 const RATES = [0, 1, 10, 60, 600];
 
 /** What a replica holds: its gestures in the order of arrival, who wins, and the frames. */
@@ -30,6 +30,7 @@ class Held {
 
 const live = {
   me: null, plan: null, line: null, mine: null, shared: null, held: null, common: null,
+  news: {shares: [], from: []},
   pending: new Map(),           // gestures that are not confirmed, by key: sent again after a break
   wishes: null,                 // as whom to join
   ahead: 0, changing: null, beforeOpen: null, timings: [],
@@ -59,9 +60,12 @@ const live = {
     draw();
   },
 
-  /** After each drawing: measures, and figures once it is quiet, or each second while the clock runs. */
+  /** After each drawing: measures, and figures once it is quiet, or each second while the clock
+      runs. */
   drawn() {
-    for (const timing of live.timings) if (timing.settled && !timing.painted) timing.painted = performance.now();
+    for (const timing of live.timings) {
+      if (timing.settled && !timing.painted) timing.painted = performance.now();
+    }
     if (live.idle && live.clock.rate) return;
     clearTimeout(live.idle);
     live.idle = setTimeout(() => {
@@ -71,13 +75,13 @@ const live = {
     }, live.clock.rate ? 1000 : IDLE);
   },
 
-  put({shape, edits, note}) {
-    act({gesture: {edits, note, shape}}, {note, shape, first: Math.min(...edits.map((edit) => edit[2]))});
+  put({shape, edits, note, taken}) {
+    act({gesture: {edits, note, shape}}, {note, shape, taken, first: firstStep(edits)});
   },
 
   withdraw(gesture) {
     const note = `Withdrew: ${noteOf(gesture)}`.slice(0, 200);
-    act({undo: {stamp: gesture.stamp, note}}, {note, first: Math.min(...gesture.edits.map((edit) => edit[2]))});
+    act({undo: {stamp: gesture.stamp, note}}, {note, first: firstStep(gesture.edits)});
   },
 
   putAgain(gesture) {
@@ -90,14 +94,15 @@ const live = {
     if (!said || said.refused) return;
     for (const gesture of gestures) gesture.shared = true;
     tell(`Shared ${plural(gestures.length, "change")}.`);
-    live.shared.stale(Math.min(...gestures.flatMap(({edits}) => edits.map((edit) => edit[2]))));
+    live.shared.stale(firstStep(gestures.flatMap(({edits}) => edits)));
     await refresh("common");
     live.look();
   },
 
   async take() {
     closeBefore();
-    const before = new Map(live.held.list.filter(isOwn).map((one) => [one, standing(live.held.scenario, one)]));
+    const {list, scenario} = live.held;
+    const before = new Map(list.filter(isOwn).map((one) => [one, standing(scenario, one)]));
     const fresh = untaken();
     const said = await live.ask({take: {at: live.me.at, message: "shared"}});
     if (!said || said.refused) return;
@@ -114,17 +119,19 @@ function tellTaken(fresh, before) {
   const lost = [...before].filter(([gesture, was]) =>
     lossesOf(gesture, now(gesture)).length > lossesOf(gesture, was).length);
   const from = [...new Set(fresh.map(({who}) => who || "somebody"))].join(", ");
-  const losses = lost.length ? `${plural(lost.length, "change")} of yours lost to them, whole or in part.`
+  const took = `Took ${plural(fresh.length, "change")}${from ? " of " + from : ""}.`;
+  const losses = lost.length
+    ? `${plural(lost.length, "change")} of yours lost to them, whole or in part.`
     : "Nothing of yours lost.";
-  tell(`Took ${plural(fresh.length, "change")}${from ? " of " + from : ""}. ${losses}`, lost.length > 0);
+  tell(`${took} ${losses}`, lost.length > 0);
 }
 
 // Gestures on their way.
 
-/** A gesture or an undo: it is pending until it is confirmed, and its rows are asked for at once. */
-function act(command, {note, shape, first}) {
+/** A gesture or an undo: it is pending until it is confirmed; its rows are asked for at once. */
+function act(command, {note, shape, first, taken = ""}) {
   const key = crypto.randomUUID();
-  live.pending.set(key, {command, note, shape, first});
+  live.pending.set(key, {command, note, shape, first, taken});
   live.timings.push({key, began: performance.now()});
   if (live.timings.length > 50) live.timings.shift();
   send(key);
@@ -134,7 +141,7 @@ function act(command, {note, shape, first}) {
 }
 
 async function send(key) {
-  const {command, note, first} = live.pending.get(key);
+  const {command, note, first, taken} = live.pending.get(key);
   const [[verb, fields]] = Object.entries(command);
   const timing = live.timings.find((one) => one.key === key) ?? {};
   const said = await live.ask({[verb]: {at: live.me.at, key, ...fields}}, true);
@@ -142,7 +149,7 @@ async function send(key) {
   live.pending.delete(key);
   timing.confirmed = performance.now();
   timing.us = said.us;
-  if (said.refused) live.mine.stale(first); else tell(`${note}: done.`);
+  if (said.refused) live.mine.stale(first); else tell(`${note}: done.${taken}`);
   await refresh("held");
   live.look();
 }
@@ -197,7 +204,10 @@ function fetchOf(names) {
   return asking === 0;
 }
 
-const mostRows = () => Math.max(1, Math.min(live.most.rows, Math.floor(live.most.bytes / (live.plan.length + 3))));
+function mostRows() {
+  const {rows, bytes} = live.most;
+  return Math.max(1, Math.min(rows, Math.floor(bytes / (live.plan.length + 3))));
+}
 
 async function advance(road, to) {
   if (road.advancing) return;
@@ -270,12 +280,16 @@ function join(fields) {
 /** Asks who this is: a new name, or a seat that nobody has open. */
 async function askName(why = "", seats = null) {
   $("helloSaid").textContent = why;
-  const found = seats ?? (await live.line.ask({seats: {token: stored("token")}}).catch(() => ({}))).seats ?? [];
+  const asked = seats ? {seats}
+    : await live.line.ask({seats: {token: stored("token")}}).catch(() => ({}));
   live.line.rest();
-  const free = found.filter(({here, name}) => !here && name);
+  const free = (asked.seats ?? []).filter(({here, name}) => !here && name);
   $("seats").hidden = !free.length;
-  $("seatList").replaceChildren(...free.map(({seat, name, private: own}) => element("li", "", {},
-    button(`${name}, seat ${seat}${own ? `, ${plural(own, "change")} not shared` : ""}`, () => join({take: seat})))));
+  $("seatList").replaceChildren(...free.map(({seat, name, private: own}) => {
+    const unshared = own ? `, ${plural(own, "change")} not shared` : "";
+    return element("li", "", {},
+      button(`${name}, seat ${seat}${unshared}`, () => join({take: seat})));
+  }));
   if (!$("name").value) $("name").value = stored("name");
   if (!$("hello").open) $("hello").showModal();
   $("name").focus();
@@ -307,13 +321,15 @@ async function welcome(said) {
 
 /** What the plan decides, once. */
 function layRoad(plan) {
-  Object.assign(live, {plan, mine: new Road("", plan.length), shared: new Road("shared", plan.length),
+  const {length} = plan;
+  Object.assign(live, {plan, mine: new Road("", length), shared: new Road("shared", length),
                        held: new Held(plan), common: new Held(plan)});
-  look.cells = plan.length;
-  for (let limit = 0; limit <= 9; limit++) $("limit").append(new Option(limitName(limit), limit));
+  look.cells = length;
+  for (let limit = 0; limit <= 9; limit++) $("limit").append(new Option(limitText(limit), limit));
   $("limit").value = 2;
-  plan.inlets.forEach(([cell], index) => $("inlet").append(new Option(`the inlet at ${kmText(cell)} km`, index)));
-  plan.detectors.forEach((cell, index) => $("site").append(new Option(`the detector at ${kmText(cell)} km`, index)));
+  const option = (what, cell, index) => new Option(`the ${what} at ${kmText(cell)} km`, index);
+  $("inlet").append(...plan.inlets.map(([cell], index) => option("inlet", cell, index)));
+  $("site").append(...plan.detectors.map((cell, index) => option("detector", cell, index)));
   document.querySelector("[value=watch]").disabled = !plan.detectors.length;
 }
 
@@ -328,8 +344,9 @@ function lost(again, reason, code) {
   for (const road of [live.mine, live.shared]) if (road) road.advancing = false;
   const text = again ? "connection lost, trying again" : reason || "connection closed";
   showLine(text, true);
-  if (!again || !live.away) tell(again ? "Connection lost, trying again. What you do meanwhile is kept and sent then."
-    : `The connection was closed: ${reason}.`, true);
+  const told = again ? "Connection lost, trying again. What you do meanwhile is kept and sent then."
+    : `The connection was closed: ${reason}.`;
+  if (!again || !live.away) tell(told, true);
   live.away = true;
 }
 
@@ -353,15 +370,16 @@ const HEARD = {
     live.look();
   },
   seats(seats) {
-    const others = seats.filter(({here, seat}) => here && seat !== live.me?.seat).map(({name}) => name);
-    $("others").textContent = others.length ? `, with ${others.join(", ")}` : "";
+    const others = seats.filter(({here, seat}) => here && seat !== live.me?.seat);
+    const names = others.map(({name}) => name).join(", ");
+    $("others").textContent = names ? `, with ${names}` : "";
   },
   broker(said) {
     if (!said) return;
     const {state, unsent, sites, told} = said;
     const others = sites?.length ? `, with ${plural(sites.length, "other site")}` : "";
-    const text = state === "away" ? `connected, but the broker is away; ${plural(unsent ?? 0, "change")} to be sent`
-      : `connected${others}`;
+    const text = state !== "away" ? `connected${others}`
+      : `connected, but the broker is away; ${plural(unsent ?? 0, "change")} to be sent`;
     showLine(text, state === "away");
     const newest = told?.at(-1) ?? "";
     if (newest && newest !== live.toldByBroker) tell(newest, true);
@@ -383,7 +401,7 @@ function hear(value) {
 
 function makeChoices() {
   for (const span of SPANS) {
-    const text = span < 300 ? `${span / 60} min` : span < HOUR ? `${span / 60} min` : `${span / HOUR} h`;
+    const text = span < HOUR ? `${span / 60} min` : `${span / HOUR} h`;
     $("span").append(new Option(text, span, span === HOUR, span === HOUR));
   }
   for (const rate of RATES) {
@@ -391,6 +409,13 @@ function makeChoices() {
     one.dataset.rate = rate;
     $("rates").append(one);
   }
+}
+
+/** The own road runs so far ahead of the clock; 0: back to the clock. */
+function lookAhead(to) {
+  live.ahead = to;
+  $("back").hidden = !to;
+  live.look();
 }
 
 function listen() {
@@ -409,13 +434,13 @@ function listen() {
   on("undo", "click", undoNewest);
   on("whose", "change", live.look);
   on("paint", "change", live.look);
-  on("span", "change", () => { setSpan(Number($("span").value), look.step + look.span); settle(); live.look(); });
+  on("span", "change", chooseSpan);
   on("closer", "click", () => zoomBy(true));
   on("farther", "click", () => zoomBy(false));
-  on("wholeRoad", "click", () => { Object.assign(look, {cell: 0, cells: live.plan.length}); settle(); live.look(); });
+  on("wholeRoad", "click", showWholeRoad);
   on("follow", "change", live.look);
-  on("ahead", "click", () => { live.ahead = live.last() + AHEAD; $("back").hidden = false; live.look(); });
-  on("back", "click", () => { live.ahead = 0; $("back").hidden = true; $("ahead").focus(); live.look(); });
+  on("ahead", "click", () => lookAhead(live.last() + AHEAD));
+  on("back", "click", () => { lookAhead(0); $("ahead").focus(); });
   on("hour", "click", () => live.ask({clock: {to: live.now() + HOUR}}));
   on("shareAll", "click", () => openBefore("share", unshared()));
   on("saveTranscript", "click", saveTranscript);
@@ -424,7 +449,10 @@ function listen() {
   on("saveChanges", "click", saveChanges);
   on("asTable", "toggle", () => { if (live.plan) showFigures(); });
   on("hello", "cancel", (event) => event.preventDefault());
-  on("helloForm", "submit", (event) => { event.preventDefault(); join({name: $("name").value.trim()}); });
+  on("helloForm", "submit", (event) => {
+    event.preventDefault();
+    join({name: $("name").value.trim()});
+  });
   new ResizeObserver(() => live.look()).observe($("diagram"));
 }
 

@@ -19,6 +19,8 @@ from turns import MORE
 MOST_ROWS, MOST_BYTES = 1_024, 1_100_000  # of the rows in a reply
 MOST_STEPS = 65_536  # of a question for means
 MOST_COUNTS = 4_096
+MINUTE = 60  # steps
+MOST_MINUTES = 120  # of a question for sums
 MOST_CELLS = 8_000_000  # that a question for means looks at; of a longer one only some rows are
 LINES_AT_ONCE = 128
 PIECE_OF_LIST = 1_000_000  # bytes, about, of a list of gestures
@@ -33,7 +35,7 @@ class Questions:
         self._lab = lab
         self._verbs = {"cells": self._plain, "cars": self._plain, "count": self._plain, "scenario": self._plain,
                        "advance": self._advance, "diagram": self._diagram, "means": self._means,
-                       "counts": self._counts, "gestures": self._gestures, "changes": self._changes,
+                       "sums": self._sums, "counts": self._counts, "gestures": self._gestures, "changes": self._changes,
                        "change": self._change, "preview": self._preview, "transcript": self._transcript,
                        "csv": self._csv}
         self._saved: tuple[int, list[str]] = -1, []  # the seat that saved last, and its transcript
@@ -139,6 +141,27 @@ class Questions:
         await self._lab.ask(index, (at,), body)
         more = b',"sampled":%d' % sampled if sampled > 1 else b""
         return b'{"means":["' + b'","'.join(texts) + b'"]' + more + b"}"
+
+    async def _sums(self, index: int, at: int, asked: Asked, times: Times) -> Reply:
+        """Of each whole minute, by all its rows: so these do not depend on what part of the road is looked at."""
+        with asked:
+            first, last = asked.whole("from"), asked.whole("to")
+        if first % MINUTE or last % MINUTE or not 0 < last - first <= MOST_MINUTES * MINUTE:
+            raise Refused("Range", f"1 to {MOST_MINUTES} whole minutes, `from` and `to` in steps")
+        sites = rows.entries(self._lab.state.plan)
+        minutes: list[list[float]] = []
+        part: list[bytes] = []
+
+        async def body() -> Any:
+            start = first + MINUTE * len(minutes) + len(part)
+            end = min(last, start + self._rows_at_once())
+            part.extend(await self._piece(at, list(range(start, end)), times))
+            while len(part) >= MINUTE:
+                minutes.append(rows.sums(part[:MINUTE], sites))
+                del part[:MINUTE]
+            return MORE if end < last else None
+        await self._lab.ask(index, (at,), body)
+        return {"sums": minutes}
 
     async def _counts(self, index: int, at: int, asked: Asked, times: Times) -> Reply:
         with asked:

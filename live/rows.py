@@ -4,12 +4,13 @@ A digit is a car's speed, "." an empty cell, "#" a closed one.
 """
 from __future__ import annotations
 
-from typing import Iterator, Sequence
+from typing import Any, Iterator, Sequence
 
 SIGNS = b"ABCDEFGHIJKLMNOPQRSTUVWXYZabcdefghijklmnopqrstuvwxyz0123456789-_"
 LEVELS = 7  # signs for a cell a step
 EMPTY, CLOSED, CAUGHT = b".", b"#", b"!"
 MOST_SUMMED = 25  # rows whose speeds add up to less than 256
+BEHIND = 60  # cells behind the first inlet on which its flow is measured
 
 SPEEDS = bytes(sign - 48 if 48 <= sign <= 57 else 0 for sign in range(256))
 CARS = bytes(48 <= sign <= 57 for sign in range(256))
@@ -76,6 +77,28 @@ def sign_of(cars: int, speeds: int, closed: int) -> bytes:
         return CLOSED if closed else EMPTY
     place = (2 * LEVELS * speeds + cars) // (2 * cars)
     return CAUGHT if closed else SIGNS[place:place + 1]
+
+
+def entries(plan: dict[str, Any]) -> list[tuple[int, int]]:
+    """Of each inlet the cells by which it is told what came in, the end excluded: some behind the first one, on which
+    no others' cars are; of another its own."""
+    cells = [cell for cell, _ in plan["inlets"]]
+    least = min(cells, default=0)
+    behind = min([least + BEHIND, plan["length"], *(cell for cell in cells if cell > least)])
+    return [(cell, behind if cell == least else cell) for cell in cells]
+
+
+def sums(minute: Sequence[bytes], sites: Sequence[tuple[int, int]]) -> list[float]:
+    """The steps that cars spent on the road in these rows; then of each inlet the cars that came in, by their speeds
+    behind it, or the rows in which its own cell is free."""
+    found: list[float] = [sum(len(row) - row.count(EMPTY) - row.count(CLOSED) for row in minute)]
+    for begin, end in sites:
+        if end > begin:
+            speeds = sum(sum(row[begin:end].translate(SPEEDS)) for row in minute)
+            found.append(round(speeds / (end - begin), 3))
+        else:
+            found.append(sum(row[begin] == EMPTY[0] for row in minute))
+    return found
 
 
 def spans(first: int, last: int, most: int) -> Iterator[tuple[int, int]]:

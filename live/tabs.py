@@ -30,8 +30,10 @@ WAITING = 8  # questions of a tab that may wait
 PAUSE = 0.01  # seconds that one who floods is not read, for each frame too much
 MOST_FAULTS = 20
 MOST_TABS = 200  # those that have not said hello, too
-PATIENCE = 20.0  # seconds for a tab to read what it was sent
+PATIENCE = 20.0  # seconds for a tab to read what it was sent, and to answer a ping
 HELLO = float(os.environ.get("LIVE_HELLO", "10"))  # seconds until a tab has shown the token
+FAREWELL = 5.0  # seconds for a tab to go, once it has been told
+ABNORMAL = 1006  # the code of a socket whose other end has not said that it goes
 NAMED = 900.0  # seconds until one that has shown it says who it is: a person may type
 BUFFER = 262_144  # bytes of a tab that the kernel keeps
 TOLD_EVERY = 0.2
@@ -252,7 +254,7 @@ class Tabs:
         """Serves a tab until it goes."""
         if len(self._all) >= MOST_TABS:
             raise web.HTTPServiceUnavailable(text="too many tabs")
-        socket = web.WebSocketResponse(max_msg_size=LONGEST_FRAME + 1, heartbeat=20, compress=False)
+        socket = web.WebSocketResponse(max_msg_size=LONGEST_FRAME + 1, heartbeat=2 * PATIENCE, compress=False)
         await socket.prepare(request)
         socket_of(request).setsockopt(sockets.SOL_SOCKET, sockets.SO_SNDBUF, BUFFER)
         tab = Tab(self, socket)
@@ -265,13 +267,21 @@ class Tabs:
         return socket
 
     async def _closed(self, request: web.Request, socket: web.WebSocketResponse, tab: Tab) -> None:
+        """Says why, and lets the tab go first: until it has gone what still comes is thrown away. A socket that is closed
+        before, with something unread, is reset, and its tab would never hear why."""
         code, why = tab.bye
         try:
             async with asyncio.timeout(1):
                 await socket.close(code=code, message=why.encode())
         except (asyncio.TimeoutError, ConnectionError, RuntimeError):
             pass
-        if request.transport is not None and code == 1013:
+        if code != 1013 and socket.close_code == ABNORMAL:  # it has not said that it goes
+            request.protocol.close()
+            request.protocol.resume_reading()
+            until = time.monotonic() + FAREWELL
+            while request.transport is not None and time.monotonic() < until:
+                await asyncio.sleep(0.02)
+        if request.transport is not None and (code == 1013 or socket.close_code == ABNORMAL):
             socket_of(request).setsockopt(sockets.SOL_SOCKET, sockets.SO_LINGER, struct.pack("ii", 1, 0))
             request.transport.abort()  # a close would wait for ever until what is kept has been read
 
@@ -296,7 +306,9 @@ class Tabs:
         if self._questions.knows(verb) and at in (own, "shared"):
             return await self._questions.answer(index, index if at == own else SHARED, asked, times)
         if at != own:
-            raise Refused("not your replica", "a tab asks about its own replica or the shared one, and changes its own")
+            valid = f'"{own}" or "shared"' if self._questions.knows(verb) else f'"{own}"'
+            raise Refused("not your replica", "a tab asks about its own replica or the shared one, and changes its "
+                          f"own: here `at` is {valid}")
         return await self._act(tab, index, asked, times)
 
     async def _act(self, tab: Tab, index: int, asked: Asked, times: Times) -> dict[str, Any]:

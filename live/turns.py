@@ -5,13 +5,26 @@
 
 A job is an async function. What it gives is the answer; where it gives `MORE`, it is called again when all others
 have had their turn.
+
+Before the turn of a seat whose turns are long, those who have used little time are done with first: what they ask
+now, and what follows from it, which a moment is waited for. So a gesture and its rows wait for one long turn, not two.
 """
 from __future__ import annotations
 
 import asyncio
 import collections
+import contextlib
 import logging
+import math
+import time
 from typing import Any, Awaitable, Callable, Deque, Dict
+
+LONG = 0.03  # seconds of a turn that others should not wait for twice
+FORGOTTEN = 2.0  # seconds in which the time that a seat has used counts for a third
+LITTLE = 0.25  # of what the seat of the long turn has used
+PUT_OFF = 0.25  # of a long turn: so much time others get before it
+WAITED = 1 / 12  # of a long turn: so much is lost to it at most where nobody asks
+MOST_WAITED = 0.01
 
 
 class More:
@@ -22,15 +35,31 @@ MORE = More()
 Job = Callable[[], Awaitable[Any]]
 
 
+class Use:
+    """The time that a seat has used, what is long ago counted less; how long its last turn took, and its number."""
+
+    def __init__(self) -> None:
+        self._sum, self._at, self.last, self.number = 0.0, 0.0, 0.0, 0
+
+    def add(self, seconds: float, now: float, number: int) -> None:
+        self._sum, self._at, self.last, self.number = self.until(now) + seconds, now, seconds, number
+
+    def until(self, now: float) -> float:
+        return self._sum * math.exp((self._at - now) / FORGOTTEN)
+
+
 class Turns:
     """The queues of all seats, and one task that works through them."""
 
-    def __init__(self, around: Callable[[Job], Awaitable[Any]]) -> None:
+    def __init__(self, around: Callable[[Job], Awaitable[Any]], clock: Callable[[], float] = time.monotonic,
+                 most_waited: float = MOST_WAITED) -> None:
         """`around` calls a job; it may mend what the job stands on, and call it again."""
-        self._around = around
+        self._around, self._clock, self._most_waited = around, clock, most_waited
         self._queues: Dict[int, Deque[tuple[Job, asyncio.Future[Any]]]] = collections.defaultdict(collections.deque)
         self._turn: Deque[int] = collections.deque()
         self._work = asyncio.Event()
+        self._uses: Dict[int, Use] = collections.defaultdict(Use)
+        self._number = 0  # of the last turn of all
 
     def ask(self, seat: int, job: Job) -> asyncio.Future[Any]:
         """A future with what the job gives, once it is its seat's turn."""
@@ -49,11 +78,46 @@ class Turns:
             while not self._turn:
                 self._work.clear()
                 await self._work.wait()
-            await self._one_turn(self._turn.popleft())
+            seat = self._turn.popleft()
+            if self._uses[seat].last >= LONG:
+                await self._others_first(seat)
+            await self._one_turn(seat)
+
+    async def _others_first(self, seat: int) -> None:
+        """What others who have used little ask before a long turn, and what they ask next once they are answered."""
+        own = self._uses[seat]
+        left, wait = own.last * PUT_OFF, min(own.last * WAITED, self._most_waited)
+        while left > 0:
+            asking = next(filter(self._lighter(seat), [*self._turn]), None)
+            if asking is not None:
+                self._turn.remove(asking)
+                await self._one_turn(asking)
+                left -= self._uses[asking].last
+                continue
+            began = time.monotonic()
+            answered = any(self._uses[one].number > own.number for one in filter(self._lighter(seat), [*self._uses]))
+            if wait <= 0 or not answered or not await self._asked_within(wait):
+                return
+            wait -= time.monotonic() - began
+
+    def _lighter(self, seat: int) -> Callable[[int], bool]:
+        """Which others have used little, beside this one."""
+        now = self._clock()
+        most = self._uses[seat].until(now) * LITTLE
+        return lambda one: one != seat and self._uses[one].until(now) < most
+
+    async def _asked_within(self, seconds: float) -> bool:
+        """Waits until somebody asks; whether one did."""
+        self._work.clear()
+        with contextlib.suppress(asyncio.TimeoutError):
+            async with asyncio.timeout(seconds):
+                await self._work.wait()
+        return self._work.is_set()
 
     async def _one_turn(self, seat: int) -> None:
         queue = self._queues[seat]
         job, future = queue[0]
+        began = self._clock()
         try:
             result = MORE if future.cancelled() else await self._around(job)
         except Exception as fault:  # pylint: disable=broad-except
@@ -62,6 +126,9 @@ class Turns:
             else:
                 logging.exception("a job that nobody waits for failed")
             result = None
+        now = self._clock()
+        self._number += 1
+        self._uses[seat].add(now - began, now, self._number)
         if not isinstance(result, More) or future.cancelled():
             queue.popleft()
             if not future.done():

@@ -67,10 +67,21 @@ function drawSpent() {
   const ends = series.flatMap(({points}) => [points[0][0], points.at(-1)[0]]);
   drawChart(cumulativeChart, {title: "cars that have passed", series, unit,
                               range: [Math.min(...ends), Math.max(...ends)]});
+  drawSlanted(series, [Math.min(...ends), Math.max(...ends)]);
   writeCumulative(curves);
   const inlets = inletsBetween(shown.plans.find(Boolean), sitesChosen()).map(cellOrKm).join(", ");
   page.inletsNote.textContent = inlets
     && `Cars come in between them (inlet at ${inlets}), and are in the thick curve alone.`;
+}
+
+/** The same curves less the mean flow of the first of them: over hours they would coincide. */
+function drawSlanted(series, range) {
+  const [[begin, before], [end, after]] = [series[0].points[0], series[0].points.at(-1)];
+  const flow = (after - before) / Math.max(1, end - begin);
+  const slanted = series.map((one) => ({...one, points: one.points.map(([step, cars]) =>
+    [step, cars - flow * (step - range[0])])}));
+  const title = `cars that have passed, less ${short(flow * unit.flow)} ${unit.names.flow}`;
+  drawChart(slantedChart, {title, series: slanted, range, unit});
 }
 
 // The time spent.
@@ -89,8 +100,11 @@ function spentSentence() {
   const change = spent[1] - spent[0];
   const apart = change ? `${hours(Math.abs(change))} ${change > 0 ? "more" : "less"}` : "the same";
   const both = `first ${one} ${name}, second ${other} ${name}, ${apart}.`;
+  const shared = changesShared(1);
+  const planned = shared
+    ? ` The first is not the road without edits, but with ${shared} of them.` : "";
   return `Time on the road in the ${stepsText(from, to)}: ${both} ${enteredSentence(from, to)} ` +
-    leftSentence(to);
+    leftSentence(to) + planned;
 }
 
 function enteredSentence(from, to) {
@@ -148,3 +162,4 @@ function saveCumulative() {
 
 const cumulativeChart = newCanvas("chart", "Cars that have passed two sites, by steps; the table " +
   "below has the figures", page.cumulativeFigure);
+const slantedChart = newCanvas("chart", "The same less a mean flow", page.slantedFigure);

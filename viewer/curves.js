@@ -2,8 +2,9 @@
 // The curves below the pictures, their table and their CSV: flow and mean speed by the counts of a
 // detector, density by the rows; or all three of a stretch by the rows alone.
 
+/** The counts of the detector that is chosen: of another plan, that at its place. */
 const allCounts = (which) =>
-  shown.runs[which]?.counts.get(Number(page.detector.value)) ?? [];
+  shown.runs[which]?.counts.get(detectorOf(which, Number(page.detector.value))) ?? [];
 const countsShown = (which) => equalSpans(allCounts(which));
 const byRows = () => page.detector.value === "stretch";
 
@@ -38,9 +39,10 @@ function drawCharts() {
   const seen = shown.pictures.some(Boolean) ? stepsShown() : [];
   const ends = [...lists.flat().flatMap(({from, to}) => [from, to]), ...seen];
   const range = ends.length ? [Math.min(...ends), Math.max(...ends)] : [0, 1];
+  const titles = {flow: "flow", ...measuredWhere()};
   ["flow", "speed", "density"].forEach((name, index) => {
     const both = name === "density" && !byRows() ? rows : lists.map((list) => points(list, name));
-    const title = `${name === "speed" ? "mean speed" : name}, ${unit.names[name]}`;
+    const title = `${titles[name]}, ${unit.names[name]}`;
     const series = both.map((list, which) => ({points: list, ...SERIES[which]}));
     drawChart(charts[index], {title, series, range, unit});
   });
@@ -67,11 +69,25 @@ function tellCounts(lists) {
       (byRows() ? " The speed is the space-mean one." : "");
 }
 
+/** Where the curves are measured, and which mean their speed is; a stretch of the first picture. */
+function measuredWhere() {
+  if (!byRows()) {
+    const name = siteName(Number(page.detector.value), shown.plans.find(Boolean));
+    return {at: `detector ${name}`, speed: "time-mean speed", density: "density of the whole road"};
+  }
+  const which = shown.pictures[0] ? 0 : 1;
+  const [from, to] = stretchOf(shown.pictures[which], shown.plans[which]).cells;
+  const at = unit.given ? `${placeText(from, unit)} to ${placeText(to, unit)} km`
+    : `cells ${from} to ${to - 1}`;
+  return {at: `stretch, ${at}`, speed: "space-mean speed", density: "density"};
+}
+
 /** Lines of the table: heads, and a picture's points with numbers, null where there is none. */
 function tableLines(lists) {
+  const {at, speed, density} = measuredWhere();
   const heads = ["picture", `from, ${unit.names.time}`, `to, ${unit.names.time}`,
-                 `flow, ${unit.names.flow}`, `mean speed, ${unit.names.speed}`,
-                 `density, ${unit.names.density}`];
+                 `flow (${at}), ${unit.names.flow}`, `${speed} (${at}), ${unit.names.speed}`,
+                 `${density}, ${unit.names.density}`];
   const lines = lists.map((list, which) => list.map((one) =>
     [which ? "second" : "first", long(one.from * unit.time), long(one.to * unit.time),
      ...["flow", "speed", "density"].map((name) =>
@@ -97,7 +113,7 @@ function newTable(heads, lines) {
 
 function saveCsv() {
   const {heads, lines} = tableLines([0, 1].map(measured));
-  saveAsCsv(heads, lines.flat(), "counts.csv");
+  saveAsCsv(heads, lines.flat(), `${measuredWhere().at.replace(/[ ,]+/g, "-")}.csv`);
 }
 
 function saveAsCsv(heads, lines, name) {

@@ -441,14 +441,30 @@ function paintDifference(context, view, picture, other, part, {tiles, name, grea
   paintBoxes(context, view, picture, part, {tiles, name, kind: "difference"}, box, sumsOf, pixelAt);
 }
 
+/** Which boxes `wide` cells wide have a closed cell in the steps `from` to `to - 1`. */
+function closedBoxes(picture, from, to, wide) {
+  const closed = new Uint8Array(Math.ceil(picture.length / wide));
+  const end = Math.min(to, endOf(picture));
+  for (let step = Math.max(from, picture.from); step < end; step += picture.every) {
+    const row = rowAt(picture, step);
+    let cell = row ? row.indexOf("#") : -1;
+    while (cell >= 0) {
+      const box = Math.floor(cell / wide);
+      closed[box] = 1;
+      cell = row.indexOf("#", (box + 1) * wide);
+    }
+  }
+  return closed;
+}
+
 /** Marks closed cells by 3 pixels where cells share a pixel, over what is painted. */
 function paintClosures(context, view, picture, part, {tiles, name}) {
   if (sizeOfCell(view) >= 1) return;
   const box = boxOf(view, CLOSURE, 1, picture.every);
   const closed = pixelOf(BLOCKED);
   paintBoxes(context, view, picture, part, {tiles, name, kind: "closures"}, box,
-             (from, to) => boxSums(picture, from, to, box.wide),
-             (sums, index) => (sums.closed[index] ? closed : 0));
+             (from, to) => closedBoxes(picture, from, to, box.wide),
+             (boxes, index) => (boxes[index] ? closed : 0));
 }
 
 // 7. What shows only where cells are large: crosses, speeds in figures, frames.
@@ -642,16 +658,20 @@ const SERIES = [{colour: "#0072b2", width: 2, dash: [], square: false},
 const MOST_DOTS = 60;
 
 /** Draws a chart with axes: series of points [step, value], each with a colour, the width and
-    pattern of its line, and squares or dots; the range of steps; a title with the values' unit. */
+    pattern of its line, and squares or dots; the range of steps; a title with the values' unit.
+    Where a value is below 0, 0 is halfway up. */
 function drawChart(canvas, {title, series, range: [from, to], unit}) {
   const {context, width, height} = cleared(canvas);
   const plot = {left: 56, right: width - 12, top: 24, bottom: height - 40};
   const values = series.flatMap(({points}) => points.map(([, value]) => value));
-  const most = niceAbove(values.reduce((one, other) => Math.max(one, other), 0));
+  const below = values.some((value) => value < 0);
+  const most = niceAbove(values.reduce((one, other) => Math.max(one, Math.abs(other)), 0));
+  const least = below ? -most : 0;
   const ofStep = (plot.right - plot.left) / Math.max(1, to - from);
   const across = (step) => plot.left + (step - from) * ofStep;
-  const down = (value) => plot.bottom - value / most * (plot.bottom - plot.top);
-  drawValues(context, plot, most, down);
+  const down = (value) =>
+    plot.bottom - (value - least) / (most - least) * (plot.bottom - plot.top);
+  drawValues(context, plot, [least, most], down);
   context.textAlign = "center";
   const [first, last] = [from * unit.time, (to + 1) * unit.time];
   for (const at of timeTicks(first, last, 60 / ofStep * unit.time, unit)) {
@@ -665,12 +685,13 @@ function drawChart(canvas, {title, series, range: [from, to], unit}) {
   for (const one of series) drawCurve(context, one, across, down);
 }
 
-function drawValues(context, plot, most, down) {
+function drawValues(context, plot, [least, most], down) {
   pen(context, "right");
   for (const part of [0, 0.25, 0.5, 0.75, 1]) {
-    context.fillText(short(most * part), plot.left - 6, down(most * part));
+    const value = least + (most - least) * part;
+    context.fillText(short(value), plot.left - 6, down(value));
     context.fillStyle = "#cccccc";
-    context.fillRect(plot.left, Math.round(down(most * part)), plot.right - plot.left, 1);
+    context.fillRect(plot.left, Math.round(down(value)), plot.right - plot.left, 1);
     context.fillStyle = INK;
   }
 }

@@ -149,24 +149,29 @@ function settle() {
   askDrawing();
 }
 
-/** Shows the picture from its corner on: the whole of it where a cell then has a pixel or more, and
-    at most 20. */
-function begin() {
+/** The scales by which the whole picture fills its box: of a cell's width, of a row's height. */
+function fillingScales() {
   const [width, height] = plotSize();
   const [from, to] = stepsShown();
-  const most = Math.min(width / cellsShown(), height / (to - from + 1), 20);
-  const scale = Math.max(1, SCALES.findLast((one) => one <= most) ?? SCALES[0]);
-  Object.assign(view, {cell: 0, step: from, scale, tall: scale});
+  return [width / cellsShown(), height / (to - from + 1)];
+}
+
+/** Shows the whole picture: with square cells of 1 to 20 pixels, or, where it is too long for
+    these, so that it fills its box. */
+function begin() {
+  const filling = fillingScales();
+  const most = Math.min(...filling, 20);
+  const square = SCALES.findLast((one) => one <= most);
+  const [scale, tall] = most < 1 ? filling : [square, square];
+  Object.assign(view, {cell: 0, step: stepsShown()[0], scale, tall});
   shown.fit = begin;
   settle();
 }
 
 /** Shows the whole picture: it fills its box. */
 function whole() {
-  const [width, height] = plotSize();
-  const [from, to] = stepsShown();
-  Object.assign(view, {cell: 0, step: from, scale: width / cellsShown(),
-                       tall: height / (to - from + 1)});
+  const [scale, tall] = fillingScales();
+  Object.assign(view, {cell: 0, step: stepsShown()[0], scale, tall});
   shown.fit = whole;
   settle();
 }
@@ -306,13 +311,15 @@ function newCanvas(className, label, figure) {
 function newPane() {
   const figure = document.createElement("figure");
   const caption = withText("figcaption", "");
-  figure.append(caption);
+  const edits = document.createElement("ul");
+  edits.className = "edits";
+  figure.append(caption, edits);
   page.panes.append(figure);
   const diagram = newCanvas("diagram", "Space-time diagram", figure);
   diagram.tabIndex = 0;
   listenTo(diagram);
   const strip = newCanvas("strip", "The road at the slider's step", figure);
-  return {figure, caption, diagram, strip};
+  return {figure, caption, edits, diagram, strip};
 }
 
 const panes = [newPane(), newPane(), newPane()];

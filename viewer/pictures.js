@@ -18,6 +18,7 @@ const stepsText = (from, to) =>
   withUnit(`steps ${from} to ${to}`, `${minutes(from)} to ${minutes(to)}`, "min");
 const stepText = (step) => withUnit(step, minutes(step), "min");
 const cellText = (cell) => withUnit(cell, placeText(cell, unit), "km");
+const whereText = (cell) => (unit.given ? `km ${placeText(cell, unit)}` : `cell ${cell}`);
 
 /** What a picture is called: whose it is, after how many changes, and its steps. */
 function labelOf({slot, run, picture}) {
@@ -178,7 +179,89 @@ function namePanes() {
     const {caption, diagram} = panes[which];
     caption.textContent = caption.title = text ?? "";
     diagram.ariaLabel = `Space-time diagram. ${text ?? ""}`;
+    panes[which].edits.replaceChildren(...editLines(which).map((line) => withText("li", line)));
   });
+}
+
+// The edits of a picture, in a short list below its name.
+
+const MOST_EDITS = 6;
+const OF_ZONES = {limit: "limit", slow: "slowing", start: "slowing of standing cars"};
+
+/** How many changes of a picture the first one has too: those of the same replica before it. */
+function changesShared(which) {
+  const [one, other] = picked();
+  const same = which === 1 && one && other && one.transcript === other.transcript
+    && one.run.at === other.run.at && one.run.changes <= other.run.changes;
+  return same ? one.run.changes : 0;
+}
+
+/** Of edits of one object and step the last; none where that withdraws one of these. */
+function lasting(edits) {
+  const kept = new Map();
+  edits.forEach((edit, turn) => {
+    const {title, kind, index, step, put} = edit;
+    const key = title ? turn : `${kind} ${index} ${step}`;
+    if (!kept.delete(key) || put !== undefined) kept.set(key, edit);
+  });
+  return [...kept.values()];
+}
+
+/** Edits of one number from one step on in neighbouring zones or cells, as one: with `last`. */
+function joined(edits) {
+  const found = [];
+  const newest = new Map();
+  for (const edit of edits) {
+    const {kind, index, step, put} = edit;
+    const key = `${kind} ${step} ${put}`;
+    const before = newest.get(key);
+    if (before?.last === index - 1 && (kind in OF_ZONES || kind === "block")) before.last = index;
+    else {
+      newest.set(key, {...edit, last: index});
+      found.push(newest.get(key));
+    }
+  }
+  return found;
+}
+
+function putText(kind, put) {
+  if (kind === "block") return put ? "closed" : "open";
+  if (kind === "watch") return put ? "on" : "off";
+  if (kind !== "limit") return String(Number((put / 65536).toPrecision(3)));
+  return unit.given ? `${long(put * unit.speed)} km/h` : String(put);
+}
+
+/** An edit in km and minutes, or in cells and steps. */
+function editText({title, kind, index, last, step, put}, plan) {
+  if (title) return title;
+  const since = unit.given ? `from ${minutes(step)} min` : `from step ${step}`;
+  const what = put === undefined ? "withdrawn" : putText(kind, put);
+  const cells = (from, to) => (unit.given ? `km ${placeText(from, unit)} to ${placeText(to, unit)}`
+    : `cells ${from} to ${to - 1}`);
+  if (kind in OF_ZONES) {
+    const where = plan ? cells(index * plan.zone, Math.min((last + 1) * plan.zone, plan.length))
+      : `zones ${index} to ${last}`;
+    return `${where}: ${OF_ZONES[kind]} ${what} ${since}`;
+  }
+  if (kind === "block") {
+    return `${last > index ? cells(index, last + 1) : whereText(index)}: ${what} ${since}`;
+  }
+  const [cell] = (kind === "inflow" && plan?.inlets[index]) || [plan?.detectors[index] ?? index];
+  return `${whereText(cell)}: ${kind === "inflow" ? "inflow chance" : "detector"} ${what} ${since}`;
+}
+
+/** What was changed of a picture's road: all, or beyond what the first picture has. */
+function editLines(which) {
+  const offer = picked()[which];
+  if (!offer) return [];
+  const shared = changesShared(which);
+  const texts = joined(lasting(offer.run.made.slice(shared, offer.run.changes)))
+    .map((edit) => editText(edit, offer.transcript.plan));
+  const more = texts.length - MOST_EDITS;
+  const head = shared ? [texts.length ? "As the first, and:" : "As the first."] : [];
+  const none = !shared && !texts.length ? ["No edits: the road of the plan."] : [];
+  const rest = more > 0 ? [`and ${more} more`] : [];
+  return [...head, ...none, ...texts.slice(0, MOST_EDITS), ...rest];
 }
 
 /** A detector's name: its index, and where it is. */
@@ -188,10 +271,21 @@ function siteName(index, plan) {
   return unit.given ? `${index}, at ${placeText(site, unit)} km` : `${index}, before cell ${site}`;
 }
 
+/** The index in a picture's plan of a detector of the first plan that there is: of that place. */
+function detectorOf(which, index) {
+  const [plan, first] = [shown.plans[which], shown.plans.find(Boolean)];
+  const at = (one) => one?.detectors[index];
+  return at(plan) === at(first) ? index : plan?.detectors.indexOf(at(first));
+}
+
+/** Offers the detectors of the first plan there is that have counts in a picture. */
 function offerDetectors() {
-  const found = new Set(shown.runs.flatMap((run) => [...(run?.counts.keys() ?? [])]));
   const plan = shown.plans.find(Boolean);
-  const options = [...found].sort((one, other) => one - other)
+  const counted = (index) => shown.runs.some((run, which) =>
+    run?.counts.has(detectorOf(which, index)));
+  const every = plan ? plan.detectors.keys()
+    : new Set(shown.runs.flatMap((run) => [...(run?.counts.keys() ?? [])]));
+  const options = [...every].sort((one, other) => one - other).filter(counted)
     .map((index) => new Option(siteName(index, plan), index));
   if (picturesShown().length) options.push(new Option("none: a stretch, by its rows", "stretch"));
   offerIn(page.detector, options);

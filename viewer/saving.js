@@ -4,13 +4,13 @@
 const CAPTION_HIGH = 22;
 const LEGEND_WIDE = 1100;
 const BETWEEN = 12;
-const MOST_SAVED = {side: 16_000, area: 1e8};   // pixels
+const MOST_SAVED = {side: 8_000, area: 2.5e7};   // pixels of a side, and of all pictures
 
-/** The scale at which all of the pictures is saved. */
-function scaleOfAll(cells, steps) {
+/** The scale at which all of so many pictures is saved. */
+function scaleOfAll(cells, steps, pictures) {
   const {side, area} = MOST_SAVED;
   return SCALES.findLast((one) => one <= 4 && Math.max(cells, steps) * one <= side
-    && cells * steps * one * one <= area) ?? SCALES[0];
+    && pictures * cells * steps * one * one <= area) ?? SCALES[0];
 }
 
 /** Draws one picture with its caption and its road. */
@@ -57,7 +57,7 @@ function save(all) {
   const {diagram} = panes[panesShown()[0]];
   const seen = {...view};
   const [from, to] = stepsShown();
-  const scale = scaleOfAll(cellsShown(), to - from + 1);
+  const scale = scaleOfAll(cellsShown(), to - from + 1, panesShown().length);
   if (all) Object.assign(view, {cell: 0, step: from, scale, tall: scale});
   Object.assign(shown, {pointed: null, saved: true});
   const canvas = asOneCanvas(all ? null : [diagram.clientWidth, diagram.clientHeight]);

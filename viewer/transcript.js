@@ -48,10 +48,11 @@ function shortReply({rows, cells, cars, speeds, refused, touched, stamp}) {
 
 function shortCommand(value) {
   const [name] = Object.keys(value);
-  const {at, step, from, to, detector, object, message} = value[name];
+  const {at, step, from, to, detector, object, message, value: put} = value[name];
   const what = message ?? (Array.isArray(object) ? object.join(" ") : null);
   return {name, at, from: from ?? step, to: to ?? step, detector,
-          title: what === null ? name : `${name} ${what}`};
+          title: what === null ? name : `${name} ${what}`,
+          edit: Array.isArray(object) ? {kind: object[0], index: object[1], step, put} : null};
 }
 
 /** Cuts text that comes in pieces into lines; a line that is too long is left out whole. */
@@ -195,13 +196,16 @@ class Transcript {
     return true;
   }
 
-  /** Notes a change of a replica's edits: how many there were, and which was the last. */
-  change({at, title}) {
-    this.changes.set(at, {count: this.changesOf(at).count + 1, last: title});
+  /** Notes a change of a replica's edits: how many there were, which was the last, and all of them;
+      what is taken from others by its title. */
+  change({at, title, edit}) {
+    const {count, made} = this.changesOf(at);
+    made.push(edit ?? {title});
+    this.changes.set(at, {count: count + 1, last: title, made});
   }
 
   changesOf(at) {
-    return this.changes.get(at) ?? {count: 0, last: null};
+    return this.changes.get(at) ?? {count: 0, last: null, made: []};
   }
 
   takePlan(command, reply) {
@@ -229,10 +233,10 @@ class Transcript {
 
   /** The run of a replica as its edits are. */
   runOf(at) {
-    const {count: changes, last} = this.changesOf(at);
+    const {count: changes, last, made} = this.changesOf(at);
     let run = this.runs.find((one) => one.at === at && one.changes === changes);
     if (!run) {
-      run = {at, changes, last, pictures: [], counts: new Map()};
+      run = {at, changes, last, made, pictures: [], counts: new Map()};
       this.runs.push(run);
     }
     return run;
@@ -279,9 +283,17 @@ function addRows(run, from, rows) {
   rows.forEach((row, index) => { joined.rows[from - joined.from + index] = row; });
 }
 
-/** The name of the first part in which two plans of one road differ; null where none does. */
+/** What two plans must have alike for their pictures to be compared: zones cell by cell, so that
+    their bounds may be others; detectors and replicas may be others too. */
+function roadOf({length, exit, inlets, words, zones, zone}) {
+  const ofCells = Array.from({length}, (_, cell) => zones[Math.floor(cell / zone)]);
+  return {length, exit, zones: ofCells, inlets, words};
+}
+
+/** The name of the first part in which the roads of two plans differ; null where none does. */
 function differentPart(one, other) {
   if (!one || !other) return null;
-  const parts = ["length", "exit", "zone", "zones", "inlets", "detectors", "words"];
-  return parts.find((part) => JSON.stringify(one[part]) !== JSON.stringify(other[part])) ?? null;
+  const roads = [one, other].map(roadOf);
+  return Object.keys(roads[0]).find((part) =>
+    JSON.stringify(roads[0][part]) !== JSON.stringify(roads[1][part])) ?? null;
 }

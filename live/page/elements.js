@@ -48,7 +48,8 @@ function showList(list, items) {
     Object.assign(made.dataset, {key, sign});
     return made;
   });
-  if (now.length !== list.children.length || now.some((one, index) => one !== list.children[index])) {
+  const {children} = list;
+  if (now.length !== children.length || now.some((one, index) => one !== children[index])) {
     list.replaceChildren(...now);
   }
   if (active && !active.isConnected) refocus(list, at?.dataset.key, place, active.textContent);
@@ -59,13 +60,15 @@ function showList(list, items) {
     list. */
 function refocus(list, key, place, text) {
   const lines = [...list.children];
-  const line = lines.find((one) => one.dataset.key === key) ?? lines[Math.min(place, lines.length - 1)];
+  const line = lines.find((one) => one.dataset.key === key)
+    ?? lines[Math.min(place, lines.length - 1)];
   const buttons = [...(line?.querySelectorAll("button") ?? [])];
   (buttons.find((one) => one.textContent === text) ?? buttons[0] ?? list).focus();
 }
 
 function download(lines, name, type) {
-  const link = element("a", "", {href: URL.createObjectURL(new Blob(lines, {type})), download: name});
+  const href = URL.createObjectURL(new Blob(lines, {type}));
+  const link = element("a", "", {href, download: name});
   link.click();
   setTimeout(() => URL.revokeObjectURL(link.href), 60000);
 }

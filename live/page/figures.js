@@ -1,118 +1,126 @@
 "use strict";
-// Figures of the part that is shown, mine beside shared: cars and mean speeds at the detectors,
+// Figures of the minutes that are shown, mine beside shared: cars and mean speeds at the detectors,
 // vehicle hours with the demand that was lost; what is to be warned of; the diagram as a table.
+// They come from all rows of these minutes, so that one change has the same figures at each zoom.
 
-const LEAST_ROWS = 16;          // rows of a piece of time by which an inlet is judged
-const LEAST_TIME = 60;          // and its steps
-const BEHIND = 60;              // cells behind the first inlet on which its flow is measured
-const LETS_IN = 0.5;            // of its free flow: an inlet that lets in less has a queue before it
+const LEAST_CARS = 20;          // of a free inlet, in a piece of time by which it is judged
+const LETS_IN = 0.5;            // of its free flow: one that lets in less has a queue before it
+const MINUTES_AT_ONCE = 60;     // of a question for sums
+const QUEUES_TOLD = 3;          // at an inlet, each by its times
 
-/** The steps of which figures are given: those shown and computed, [from, to). */
+/** The steps of which figures are given, [from, to): the whole minutes that are shown, in part at
+    least; all of the run where it is looked at what sharing would change. */
 function periodShown() {
-  const end = Math.min(look.step + look.span, live.last(), live.mine.horizon);
-  return [Math.max(0, Math.floor(look.step)), Math.max(0, Math.floor(end))];
+  const all = live.beforeOpen !== null;
+  const last = Math.floor(live.last() / MINUTE) * MINUTE;
+  const end = all ? last : Math.ceil((look.step + look.span) / MINUTE) * MINUTE;
+  const from = all ? 0 : Math.floor(look.step / MINUTE) * MINUTE;
+  return [from, Math.max(from, Math.min(end, last))];
 }
 
-/** The rows of a level in a period that are of the present edits; null where one is missing. */
-function rowsWithin(level, [from, to]) {
-  const found = [];
-  for (let at = Math.ceil(from / level.every); at * level.every < to; at++) {
-    if (!level.fresh[at] || level.rows[at] === undefined) return null;
-    found.push([at * level.every, level.rows[at]]);
-  }
-  return found;
+/** Vehicle hours on the road in some minutes. */
+const vehicleHours = (minutes) => minutes.reduce((sum, [steps]) => sum + steps, 0) / HOUR;
+
+const isFirstInlet = (cell) => live.plan.inlets.every(([other]) => other >= cell);
+
+/** The cars that came in at an inlet in some minutes: at the first one they are counted; at
+    another it is said by how often its cell is free, since other cars pass it. */
+function letIn(inlet, chance, minutes) {
+  const seen = minutes.reduce((sum, one) => sum + one[1 + inlet], 0);
+  return isFirstInlet(live.plan.inlets[inlet][0]) ? seen : chance * seen;
 }
 
-/** Cars of a row, counted once. */
-const carsCounted = new WeakMap();
-function carsOf(level, step) {
-  const at = step / level.every;
-  if (!carsCounted.has(level)) carsCounted.set(level, new Map());
-  const known = carsCounted.get(level).get(at);
-  const text = level.rows[at];
-  if (known?.text === text) return known.cars;
-  let cars = 0;
-  for (let cell = 0; cell < text.length; cell++) if (text.charCodeAt(cell) > 46) cars++;
-  carsCounted.get(level).set(at, {text, cars});
-  return cars;
-}
-
-/** Vehicle hours on the road in a period. */
-function vehicleHours(level, rows) {
-  return rows.reduce((sum, [step]) => sum + carsOf(level, step), 0) * level.every / HOUR;
-}
-
-/** The cars a step that come in at the first inlet, by the speeds on the cells behind it. */
-function flowBehind(cell, rows) {
-  const next = live.plan.inlets.map(([at]) => at).filter((at) => at > cell);
-  const end = Math.min(cell + BEHIND, live.plan.length, ...next);
-  let speeds = 0;
-  for (const [, text] of rows) {
-    for (let at = cell; at < end; at++) if (text.charCodeAt(at) > 46) speeds += text.charCodeAt(at) - 48;
-  }
-  return speeds / (end - cell) / rows.length;
-}
-
-/** The cars a step that come in at an inlet: at the first one by their speeds; at another by how
-    often its cell is free, since other cars pass it. */
-function letIn(cell, chance, rows) {
-  if (live.plan.inlets.every(([other]) => other >= cell)) return flowBehind(cell, rows);
-  return chance * rows.filter(([, text]) => text[cell] === ".").length / rows.length;
-}
+/** The minutes of a piece of time by which an inlet is judged: of one where cars are counted so
+    many that chance alone does not halve them. */
+const pieceOf = (cell, flow) =>
+  (isFirstInlet(cell) ? Math.ceil(LEAST_CARS / (flow * MINUTE)) : 1) * MINUTE;
 
 /** Pieces of time in which an inlet lets in less than half of its free flow: {from, to, lost}, in
-    steps and cars. */
-function queuesAt(scenario, inlet, every, rows) {
+    steps and cars. They begin at the same steps whatever the period is. */
+function queuesAt(scenario, inlet, [from, to], minutes) {
   const cell = live.plan.inlets[inlet][0];
-  const count = Math.max(LEAST_ROWS, Math.ceil(LEAST_TIME / every));
   const found = [];
-  for (let first = 0; first + count <= rows.length; first += count) {
-    const piece = rows.slice(first, first + count);
-    const [from, to] = [piece[0][0], piece.at(-1)[0] + every];
-    const chance = scenario.valueAt("inflow", inlet, from) / ALWAYS;
-    const flow = demandOfChance(chance, slowAt(scenario, inlet, from) / ALWAYS) / HOUR;
-    // The first cars need their time to drive over the cells behind the inlet.
-    if (!(flow > 0) || from < LEAST_TIME) continue;
-    const came = letIn(cell, chance, piece);
-    if (came < LETS_IN * flow) found.push({from, to, lost: (flow - came) * (to - from)});
+  // The first cars need their time to drive over the cells behind the inlet.
+  for (let begin = Math.max(MINUTE, from), end; begin < to; begin = end) {
+    end = begin + MINUTE;
+    const chance = scenario.valueAt("inflow", inlet, begin) / ALWAYS;
+    const flow = demandOfChance(chance, slowAt(scenario, inlet, begin) / ALWAYS) / HOUR;
+    if (!(flow > 0)) continue;
+    const piece = pieceOf(cell, flow);
+    if (begin % piece) continue;
+    end = begin + piece;
+    if (end > to) break;
+    const [first, behind] = [begin, end].map((step) => (step - from) / MINUTE);
+    const came = letIn(inlet, chance, minutes.slice(first, behind));
+    const expected = flow * piece;
+    if (came < LETS_IN * expected) found.push({from: begin, to: end, lost: expected - came});
   }
   return found;
 }
 
 /** The cars that inlets did not let in, about. */
-function lostDemand(scenario, every, rows) {
-  return live.plan.inlets.flatMap((_, inlet) => queuesAt(scenario, inlet, every, rows))
+function lostDemand(scenario, period, minutes) {
+  return live.plan.inlets.flatMap((_, inlet) => queuesAt(scenario, inlet, period, minutes))
     .reduce((sum, {lost}) => sum + lost, 0);
 }
 
 function sumsOf(whose, period) {
-  const level = live[whose].level(everyShown());
-  const rows = rowsWithin(level, period);
-  if (!rows) return null;
+  const minutes = live[whose].minutes.within(period);
+  if (!minutes) return null;
   const scenario = (whose === "mine" ? live.held : live.common).scenario;
-  return {hours: vehicleHours(level, rows), lost: lostDemand(scenario, level.every, rows)};
+  return {hours: vehicleHours(minutes), lost: lostDemand(scenario, period, minutes)};
 }
 
 // The table.
 
-const figures = {counts: null, sums: null, period: null, key: "", asking: false};
+// Of both roads, mine first: the counts of a period, and the sums of one.
+const figures = {counts: null, period: null, sums: null, summed: null, key: "", asking: false};
 
-/** Asks for the counts of both roads, where they may be others than those that are shown. */
-async function askCounts(period) {
-  const key = [...period, live.mine.version, live.shared.version].join();
-  if (figures.asking || key === figures.key || period[1] <= period[0] || !live.plan.detectors.length) return;
+/** Asks for what is missing of the figures of a period, then shows them. */
+async function askFigures(period) {
+  if (figures.asking || !live.line.greeted || period[1] <= period[0]) return;
   figures.asking = true;
+  let came = false;
   try {
-    const [from, to] = period;
-    const said = await Promise.all([live.me.at, "shared"].map((at) => live.line.ask({counts: {at, from, to}})));
-    if (said.some(({refused}) => refused)) return;
-    Object.assign(figures, {key, period, counts: said.map(({counts}) => counts)});
-    showFigures();
-  } catch (fault) {
-    if (!(fault instanceof Away)) throw fault;
+    came = await askCounts(period);
+    for (const whose of ["mine", "shared"]) came = await askSums(whose, period) || came;
   } finally {
     figures.asking = false;
   }
+  if (came) showFigures(period);
+  else if (!live.clock.rate && periodShown().join() !== period.join()) showFigures();
+}
+
+/** Asks for the counts of both roads, where they may be others than those that are shown. */
+async function askCounts(period) {
+  const [from, to] = period;
+  const key = [...period, live.mine.version, live.shared.version].join();
+  if (key === figures.key) return false;
+  for (const road of [live.mine, live.shared]) if (!await computed(road, to)) return false;
+  const said = await Promise.all([live.me.at, "shared"].map((at) =>
+    live.ask({counts: {at, from, to}})));
+  if (said.some((one) => !one || one.refused)) return false;
+  Object.assign(figures, {key, period, counts: said.map(({counts}) => counts)});
+  return true;
+}
+
+/** Asks for the sums of a part of the minutes that are missing. */
+async function askSums(whose, period) {
+  const road = live[whose];
+  const wanted = road.minutes.wanted(period, MINUTES_AT_ONCE);
+  if (!wanted || !await computed(road, wanted[1])) return false;
+  const {version, at} = road;
+  const said = await live.ask({sums: {at, from: wanted[0], to: wanted[1]}});
+  if (!said || said.refused) return false;
+  if (road.version === version) road.minutes.take(wanted[0], said.sums);
+  return true;
+}
+
+/** Whether a road has run so far, once it was asked to. */
+async function computed(road, to) {
+  if (road.horizon < to) await advance(road, to);
+  if (road.horizon < to) setTimeout(showFigures, IDLE);
+  return road.horizon >= to;
 }
 
 function flowText([cars, speeds], seconds) {
@@ -126,7 +134,7 @@ function detectorRows() {
   const [mine, shared] = figures.counts;
   return live.plan.detectors.map((cell, index) => row(
     headCell(`Cars through ${kmText(cell)} km`, "row"),
-    element("td", flowText(mine[index], to - from)), element("td", flowText(shared[index], to - from)),
+    ...[mine, shared].map((one) => element("td", flowText(one[index], to - from))),
     element("td", signedText(mine[index][0] - shared[index][0]))));
 }
 
@@ -142,18 +150,21 @@ function sumRows(mine, shared) {
           cells("Lost demand, cars (about)", ({lost}) => lost, 0)];
 }
 
-/** Shows the figures of the period, as far as its rows are there. */
-function showFigures() {
-  const period = periodShown();
-  askCounts(period);
-  const [mine, shared] = figures.sums = ["mine", "shared"].map((whose) => sumsOf(whose, period));
-  $("period").textContent = period[1] > period[0] ? `${timeText(period[0])} to ${timeText(period[1])}` : "";
+/** Shows the figures of a period, as far as they are there; while the clock runs only all. */
+function showFigures(period = periodShown()) {
+  askFigures(period);
+  const [mine, shared] = ["mine", "shared"].map((whose) => sumsOf(whose, period));
+  if (live.clock.rate && !(mine && shared)) return;
+  Object.assign(figures, {sums: [mine, shared], summed: period});
+  const [from, to] = period.map(timeText);
+  $("period").textContent = period[1] > period[0] ? `${from} to ${to}` : "";
   const heads = ["mine", "shared", "mine \u2212 shared"].map((name) => headCell(name));
   $("figures").replaceChildren(
     element("thead", "", {}, row(element("td"), ...heads)),
     element("tbody", "", {}, ...sumRows(mine, shared), ...detectorRows()));
-  $("figuresNote").textContent = "A car that an inlet does not let in spends no vehicle hours, so read these "
-    + "with the lost demand beside them. Speeds at detectors are means of the cars that passed; standing cars never do.";
+  $("figuresNote").textContent = "A car that an inlet does not let in spends no vehicle hours, so "
+    + "read these with the lost demand beside them. Speeds at detectors are means of the cars that "
+    + "passed; standing cars never do.";
   showWarnings(period);
   showOwnPreview();
   if ($("asTable").open) showSpeeds(period);
@@ -161,16 +172,33 @@ function showFigures() {
 
 // Warnings.
 
+/** The times of queues, where pieces that follow each other are one; of one at an edge of the
+    period it is said that it may be longer. */
+function queueTexts(queues, [begin, end]) {
+  const spans = [];
+  for (const {from, to} of queues) {
+    if (spans.at(-1)?.to === from) spans.at(-1).to = to;
+    else spans.push({from, to});
+  }
+  const early = (step) => (begin > 0 && step - pieceLength(queues[0]) < begin ? " or before" : "");
+  const late = (step) => (step + pieceLength(queues.at(-1)) > end ? " or later" : "");
+  return spans.map(({from, to}) =>
+    `from ${timeText(from)}${early(from)} to ${timeText(to)}${late(to)}`);
+}
+
+const pieceLength = ({from, to}) => to - from;
+
 function queueWarnings(period) {
-  const level = live.mine.level(everyShown());
-  const rows = rowsWithin(level, period);
-  if (!rows) return null;
+  const minutes = live.mine.minutes.within(period);
+  if (!minutes) return null;
   return live.plan.inlets.flatMap(([cell], inlet) => {
-    const queues = queuesAt(live.held.scenario, inlet, level.every, rows);
+    const queues = queuesAt(live.held.scenario, inlet, period, minutes);
     if (!queues.length) return [];
     const lost = queues.reduce((sum, one) => sum + one.lost, 0);
-    const span = `${timeText(queues[0].from)} to ${timeText(queues.at(-1).to)}`;
-    return [`A queue reaches the inlet at ${kmText(cell)} km, about from ${span}: `
+    const texts = queueTexts(queues, period);
+    const rest = texts.length - QUEUES_TOLD;
+    const told = texts.slice(0, QUEUES_TOLD).join(", ") + (rest > 0 ? `, and ${rest} more` : "");
+    return [`A queue reaches the inlet at ${kmText(cell)} km, about ${told}: `
       + `some ${plural(lost, "car")} cannot enter, so counts and vehicle hours flatter.`];
   });
 }
@@ -181,14 +209,16 @@ function caughtIn({first, last, from, to}) {
   const end = Math.min(to ?? Infinity, live.mine.horizon, from + 120);
   const at = Math.floor((end - 1) / level.every);
   const text = at * level.every > from && level.fresh[at] ? level.rows[at] : undefined;
-  return text ? [...text.slice(first, last + 1)].filter((sign) => sign !== "#" && sign !== ".").length : 0;
+  const cells = [...(text ?? "").slice(first, last + 1)];
+  return cells.filter((sign) => sign !== "#" && sign !== ".").length;
 }
 
 function closureWarnings() {
   return live.held.frames.filter(({kind}) => kind === "block").flatMap((frame) => {
     const caught = caughtIn(frame);
     if (!caught) return [];
-    const until = frame.to === null ? "and it does not open" : `until it opens at ${timeText(frame.to)}`;
+    const until = frame.to === null ? "and it does not open"
+      : `until it opens at ${timeText(frame.to)}`;
     return [`${plural(caught, "car stands", "cars stand")} in the closure `
       + `${placesText(live.plan, "block", frame.first, frame.last)}, ${until}.`];
   });
@@ -198,7 +228,8 @@ function showWarnings(period) {
   const queues = queueWarnings(period);
   if (!queues) return;
   const texts = [...queues, ...closureWarnings()];
-  showList($("warnings"), texts.map((text) => ({key: text, sign: text, make: () => element("li", text)})));
+  showList($("warnings"), texts.map((text) =>
+    ({key: text, sign: text, make: () => element("li", text)})));
 }
 
 // The diagram as a table: mean speeds of stretches of road and time.
@@ -221,15 +252,19 @@ function showSpeeds([from, to]) {
   const [picture, other] = whoseShown().map((whose) => live[whose].level(everyShown()));
   const wide = Math.ceil(live.plan.length / TABLE_COLUMNS);
   const high = Math.max(picture.every, Math.ceil((to - from) / TABLE_ROWS / 60) * 60);
-  const heads = Array.from({length: Math.ceil(live.plan.length / wide)}, (_, index) =>
-    headCell(`${kmText(index * wide)}\u2013${kmText(Math.min(live.plan.length, (index + 1) * wide))} km`));
+  const {length} = live.plan;
+  const heads = Array.from({length: Math.ceil(length / wide)}, (_, index) => {
+    const [begin, end] = [index * wide, Math.min(length, (index + 1) * wide)].map(kmText);
+    return headCell(`${begin}\u2013${end} km`);
+  });
   const body = [];
   for (let start = Math.floor(from / high) * high; start < to; start += high) {
-    const [sums, beside] = [picture, other].map((one) => one && boxSums(one, start, start + high, wide));
+    const [sums, beside] = [picture, other].map((one) =>
+      one && boxSums(one, start, start + high, wide));
     body.push(row(headCell(`from ${timeText(start)}`, "row"),
       ...heads.map((_, box) => element("td", speedText(sums, beside, box)))));
   }
   const caption = other ? "Mean speeds in km/h, mine less shared" : "Mean speeds in km/h";
-  $("speeds").replaceChildren(element("caption", caption), element("thead", "", {}, row(element("td"), ...heads)),
-    element("tbody", "", {}, ...body));
+  $("speeds").replaceChildren(element("caption", caption),
+    element("thead", "", {}, row(element("td"), ...heads)), element("tbody", "", {}, ...body));
 }

@@ -12,6 +12,9 @@ const byStamp = ([count, number], [otherCount, otherNumber]) =>
 const sameStamp = (one, other) => byStamp(one, other) === 0;
 const keyOf = (stamp) => stamp.join();
 
+/** The first step at which edits put something. */
+const firstStep = (edits) => Math.min(...edits.map((edit) => edit[2]));
+
 /** What an object is by the plan alone; null where the plan says nothing (slow to start). */
 function planned(plan, kind, index) {
   return {limit: () => plan.zones[index][0], slow: () => plan.zones[index][1], block: () => 0,
@@ -47,6 +50,18 @@ function objectsIn(plan, kind, [from, to], begun = from) {
   return [index, index];
 }
 
+/** The same of a stretch that is written in figures: its ends go to the nearest bounds of zones,
+    and where these are one, the zone is taken in which its middle lies. */
+function objectsNearest(plan, kind, [from, to]) {
+  if (!OF_ZONES.includes(kind)) return objectsIn(plan, kind, [from, to]);
+  const zones = Math.ceil(plan.length / plan.zone);
+  const first = Math.round(from / plan.zone);
+  const end = to >= plan.length ? zones : Math.round(to / plan.zone);
+  if (first < end) return [first, end - 1];
+  const middle = Math.min(zones - 1, Math.floor((from + to) / 2 / plan.zone));
+  return [middle, middle];
+}
+
 /** What some gestures put, by object: for each step the gesture that wins. */
 class Scenario {
   constructor(plan, gestures) {
@@ -62,7 +77,9 @@ class Scenario {
     const list = this.objects.get(object);
     const there = list.find((one) => one.step === step);
     if (!there) list.push({step, value, gesture});
-    else if (byStamp(there.gesture.stamp, gesture.stamp) < 0) Object.assign(there, {value, gesture});
+    else if (byStamp(there.gesture.stamp, gesture.stamp) < 0) {
+      Object.assign(there, {value, gesture});
+    }
   }
 
   /** All that is put for an object, withdrawals too, by rising steps: {step, value, gesture}. */
@@ -145,6 +162,9 @@ function cutOf(scenario, {shape, stamp}) {
   return found;
 }
 
+/** Whether a put has its value because what was private was taken back, which gives others back. */
+const givesBack = ({gesture}) => gesture.undoes && !gesture.shared;
+
 /** How a gesture stands: how many of its edits hold, to whom the others lost, and where somebody
     cuts it short. */
 function standing(scenario, gesture) {
@@ -153,7 +173,9 @@ function standing(scenario, gesture) {
   for (const [kind, index, step, value] of gesture.edits) {
     const winner = scenario.winner(kind, index, step);
     const by = winner?.gesture.stamp ?? gesture.stamp;
-    if (sameStamp(by, gesture.stamp) || (winner.value === value && by[1] !== gesture.stamp[1])) holds++;
+    const isSame = winner?.value === value
+      && (by[1] !== gesture.stamp[1] || givesBack(winner));
+    if (sameStamp(by, gesture.stamp) || isSame) holds++;
     else {
       const key = keyOf(winner.gesture.stamp);
       lost.set(key, {by: winner.gesture, edits: (lost.get(key)?.edits ?? 0) + 1});
@@ -172,9 +194,14 @@ function restoresShared(scenario, common, gesture) {
   });
 }
 
-/** Whether a gesture is worth a line: it acts, or it takes back what is shared. */
-function isSeen(scenario, common, gesture) {
-  if (standing(scenario, gesture).replaced) return false;
+/** Whether a gesture takes back one that is private too: both are as if they had never been. */
+const isBackAndForth = (held, {shared, undoes, stamp}) => !shared && undoes && held.some((one) =>
+  sameStamp(one.stamp, undoes) && !one.shared && one.stamp[1] === stamp[1]);
+
+/** Whether a gesture of those that are held is worth a line: it acts, or it takes back what is
+    shared. */
+function isSeen(held, scenario, common, gesture) {
+  if (isBackAndForth(held, gesture) || standing(scenario, gesture).replaced) return false;
   if (!gesture.shared) return !restoresShared(scenario, common, gesture);
   return !gesture.undoes && gesture.edits.some(([, , , value]) => value !== null);
 }
@@ -252,4 +279,25 @@ function shapeText(scenario, [kind, first, last, from, to, value]) {
   const what = valueText(scenario.plan, kind, value, first, slow);
   const where = placesText(scenario.plan, kind, first, last);
   return `${what}${kind === "block" ? "" : ","} ${where}, ${spanText(from, to)}`;
+}
+
+const THINGS = {limit: "Limit", block: "Closure", inflow: "Demand", watch: "Detector",
+                slow: "Slowing", start: "Slow to start"};
+
+/** What an edit does to the objects first to last, in a sentence. */
+function editText(scenario, {kind, first, last, step, value}) {
+  if (value !== null) return shapeText(scenario, [kind, first, last, step, null, value]);
+  const where = placesText(scenario.plan, kind, first, last);
+  return `${THINGS[kind]} withdrawn, ${where}, ${spanText(step, null)}`;
+}
+
+/** What edits do, in a sentence, where nobody wrote a note: the first ones, and how many more. */
+function editsText(scenario, edits) {
+  const [[kind, first, step, value]] = edits;
+  const isNext = ([other, index, at, put], behind) =>
+    other === kind && index === first + behind && at === step && put === value;
+  const end = edits.findIndex((edit, behind) => !isNext(edit, behind));
+  const said = end < 0 ? edits.length : end;
+  const text = editText(scenario, {kind, first, last: first + said - 1, step, value});
+  return said < edits.length ? `${text}, and ${plural(edits.length - said, "more edit")}` : text;
 }

@@ -10,7 +10,8 @@ function valueOfTool(kind, first, from) {
   if (kind === "limit") return number("limit");
   if (kind === "watch") return number("watch");
   if (kind === "inflow") {
-    return Math.round(ALWAYS * chanceOfDemand(number("demand"), slowAt(live.held.scenario, first, from) / ALWAYS));
+    const slow = slowAt(live.held.scenario, first, from) / ALWAYS;
+    return Math.round(ALWAYS * chanceOfDemand(number("demand"), slow));
   }
   const percent = number(kind);
   return percent >= 0 && percent <= 100 ? Math.round(percent / 100 * ALWAYS) : NaN;
@@ -22,22 +23,25 @@ function faultOfValue(kind, first, from) {
   const slow = slowAt(live.held.scenario, first, from) / ALWAYS;
   const most = mostDemand(slow);
   return Number.isNaN(most) ? "The table of demands ends at a slowing chance of 50 %."
-    : `This inlet lets in 0 to ${whole(most)} cars an hour, at a slowing chance of ${Math.round(100 * slow)} %.`;
+    : `This inlet lets in 0 to ${whole(most)} cars an hour, at a slowing chance of `
+      + `${Math.round(100 * slow)} %.`;
 }
 
 /** What a shape would do: its edits, words for it, and why it cannot be done, if so. */
 function areaOfShape(shape, old = null) {
   const [kind, first, last, from, to, value] = shape;
-  const others = live.held.list;
-  const edits = old ? editsInPlaceOf(live.plan, others, old, shape) : editsOfShape(live.held.scenario, shape);
+  const {list, scenario} = live.held;
+  const edits = old ? editsInPlaceOf(live.plan, list, old, shape) : editsOfShape(scenario, shape);
   const known = !Number.isNaN(value);
-  const note = known ? shapeText(live.held.scenario, shape) : "";
-  const slow = kind === "inflow" ? slowAt(live.held.scenario, first, from) : 0;
+  const note = known ? shapeText(scenario, shape) : "";
+  const slow = kind === "inflow" ? slowAt(scenario, first, from) : 0;
   const what = known ? valueText(live.plan, kind, value, first, slow) : "";
-  const lines = [what, placesText(live.plan, kind, first, last), spanText(from, to)].filter(Boolean);
+  const where = placesText(live.plan, kind, first, last);
+  const lines = [what, where, spanText(from, to)].filter(Boolean);
   let fault = known ? "" : faultOfValue(kind, first, from);
   if (edits.length > MOST_EDITS) fault = tooGreat(shape, edits.length);
-  if (from > LAST_STEP || (to ?? 0) > LAST_STEP) fault = `The road's clock ends at ${timeText(LAST_STEP)}.`;
+  const isLate = Math.max(from, to ?? 0) > LAST_STEP;
+  if (isLate) fault = `The road's clock ends at ${timeText(LAST_STEP)}.`;
   return {shape, edits, note, lines, fault, old};
 }
 
@@ -45,7 +49,8 @@ function areaOfShape(shape, old = null) {
 function tooGreat([kind, first, last], edits) {
   const most = mostObjects(edits, last - first + 1);
   const places = kind === "block" ? `${kmText(most)} km` : plural(most, "zone");
-  return `Too great: ${whole(edits)} edits, at most ${whole(MOST_EDITS)}. At most ${places} at once.`;
+  return `Too great: ${whole(edits)} edits, at most ${whole(MOST_EDITS)}. `
+    + `At most ${places} at once.`;
 }
 
 /** Does what an area says, or tells why not; gives whether it was done. */
@@ -78,7 +83,8 @@ function shapeBetween([cell, step], [otherCell, otherStep], open = false) {
   const from = Math.min(left, length - 1);
   const [first, last] = objectsIn(live.plan, kind, [from, Math.max(from + 1, right)], cell);
   const [begin, end] = sorted(step, otherStep).map((one) => Math.max(0, one));
-  return [kind, first, last, begin, open ? null : Math.max(begin + 1, end), valueOfTool(kind, first, begin)];
+  const to = open ? null : Math.max(begin + 1, end);
+  return [kind, first, last, begin, to, valueOfTool(kind, first, begin)];
 }
 
 const placeOf = ({offsetX, offsetY}) => {
@@ -91,11 +97,13 @@ function edgeAt(x, y) {
   const view = viewNow();
   for (const frame of live.held.frames.filter((one) => isOwn(one.by) && one.by.shape)) {
     const [left, top, right, bottom] = cornersOf(view, shapeFrame(frame.by.shape));
-    const inside = [x > left - AT_EDGE && x < right + AT_EDGE, y > top - AT_EDGE && y < bottom + AT_EDGE];
-    if (!inside.every(Boolean)) continue;
-    for (const [edge, far] of [["bottom", y - bottom], ["top", y - top], ["right", x - right], ["left", x - left]]) {
-      if (Math.abs(far) < AT_EDGE && !(edge === "bottom" && frame.by.shape[4] === null)) return {frame, edge};
-    }
+    const isInside = x > left - AT_EDGE && x < right + AT_EDGE && y > top - AT_EDGE
+      && y < bottom + AT_EDGE;
+    if (!isInside) continue;
+    const edges = {bottom: y - bottom, top: y - top, right: x - right, left: x - left};
+    if (frame.by.shape[4] === null) delete edges.bottom;
+    const found = Object.entries(edges).find(([, far]) => Math.abs(far) < AT_EDGE);
+    if (found) return {frame, edge: found[0]};
   }
   return null;
 }
@@ -106,8 +114,10 @@ const shapeFrame = ([kind, first, last, from, to]) => ({kind, first, last, from,
 function shapeWithEdge(shape, edge, [cell, step]) {
   const [kind, first, last, from, to, value] = shape;
   const [start, end] = cellsOf(live.plan, kind, first, last);
-  if (edge === "top") return [kind, first, last, Math.max(0, to === null ? step : Math.min(step, to - 1)), to, value];
   if (edge === "bottom") return [kind, first, last, from, Math.max(step, from + 1), value];
+  if (edge === "top") {
+    return [kind, first, last, Math.max(0, Math.min(step, (to ?? Infinity) - 1)), to, value];
+  }
   if (!OF_ZONES.includes(kind) && kind !== "block") return shape;
   const cells = edge === "left" ? [Math.max(0, Math.min(cell, end - 1)), end]
     : [start, Math.min(live.plan.length, Math.max(cell, start + 1))];
@@ -119,8 +129,8 @@ function onDown(event) {
   const canvas = $("diagram");
   canvas.setPointerCapture(event.pointerId);
   const edge = edgeAt(event.offsetX, event.offsetY);
-  drawn.held = {at: placeOf(event), x: event.offsetX, y: event.offsetY, cell: look.cell, step: look.step,
-                moved: false, edge};
+  drawn.held = {at: placeOf(event), x: event.offsetX, y: event.offsetY, cell: look.cell,
+                step: look.step, moved: false, edge};
 }
 
 function onMove(event) {
@@ -133,11 +143,12 @@ function onMove(event) {
   }
   held.moved ||= Math.abs(event.offsetX - held.x) > 3 || Math.abs(event.offsetY - held.y) > 3;
   if (!held.moved) return;
+  const [begun, ends] = [held.at, here].map((place) => snapped(place, event.altKey));
   if (held.edge) {
     const {by} = held.edge.frame;
-    drawn.area = areaOfShape(shapeWithEdge(by.shape, held.edge.edge, snapped(here, event.altKey)), by);
+    drawn.area = areaOfShape(shapeWithEdge(by.shape, held.edge.edge, ends), by);
   } else if (toolNow() === "look") dragDiagram(event, held);
-  else drawn.area = areaOfShape(shapeBetween(snapped(held.at, event.altKey), snapped(here, event.altKey)));
+  else drawn.area = areaOfShape(shapeBetween(begun, ends));
   if (drawn.area?.fault) tell(drawn.area.fault, true);
   draw();
 }
@@ -163,16 +174,21 @@ function onUp(event) {
 
 function showPointer({offsetX, offsetY}) {
   const edge = edgeAt(offsetX, offsetY)?.edge;
-  $("diagram").style.cursor = edge ? (edge === "top" || edge === "bottom" ? "ns-resize" : "ew-resize")
-    : toolNow() === "look" ? "grab" : "crosshair";
+  $("diagram").style.cursor = {top: "ns-resize", bottom: "ns-resize", left: "ew-resize",
+                               right: "ew-resize"}[edge] ?? cursorOfTool();
 }
+
+const cursorOfTool = () => (toolNow() === "look" ? "grab" : "crosshair");
 
 function onWheel(event) {
   event.preventDefault();
   if (event.ctrlKey) {
     const [cell, step] = placeOf(event);
     zoomBy(event.deltaY < 0, {cell, step}, {times: !event.shiftKey});
-  } else moveBy(event.deltaX / viewNow().scale, event.deltaY * (event.deltaMode ? 40 : 1) / viewNow().tall);
+  } else {
+    const {scale, tall} = viewNow();
+    moveBy(event.deltaX / scale, event.deltaY * (event.deltaMode ? 40 : 1) / tall);
+  }
 }
 
 // What is read out of a place.
@@ -180,12 +196,14 @@ function onWheel(event) {
 function readOut([cell, step], byKey) {
   const {length, zone} = live.plan;
   const [at, moment] = [Math.max(0, Math.min(length - 1, Math.floor(cell))), Math.round(step)];
-  const texts = whoseShown().map((whose) => signText(rowAt(live[whose].level(everyShown()), moment)?.[at]));
+  const texts = whoseShown().map((whose) =>
+    signText(rowAt(live[whose].level(everyShown()), moment)?.[at]));
   const scenario = (chosen("whose") === "shared" ? live.common : live.held).scenario;
   const limit = scenario.valueAt("limit", Math.floor(at / zone), moment);
   const said = texts.length === 2 ? `mine: ${texts[0]}; shared: ${texts[1]}` : texts[0];
+  const place = `${kmOf(at).toFixed(2)} km, ${timeText(moment)}`;
   $("readout").setAttribute("aria-live", byKey ? "polite" : "off");
-  $("readout").textContent = `${kmOf(at).toFixed(2)} km, ${timeText(moment)}: ${said}; limit ${limitText(limit)}`;
+  $("readout").textContent = `${place}: ${said}; limit ${limitText(limit)}`;
 }
 
 function signText(sign) {
@@ -212,12 +230,14 @@ function moveCursor([across, down], far) {
   else readOut(drawn.cursor, true);
 }
 
-const cursorStart = () => [Math.round(look.cell + look.cells / 2), Math.round((look.step + look.span / 2) / 10) * 10];
+const cursorStart = () => [Math.round(look.cell + look.cells / 2),
+                           Math.round((look.step + look.span / 2) / 10) * 10];
 
 function followCursor() {
   const [cell, step] = drawn.cursor;
-  if (cell < look.cell || cell > look.cell + look.cells) moveBy(cell - look.cell - look.cells / 2, 0);
-  if (step < look.step || step > look.step + look.span) moveBy(0, step - look.step - look.span / 2);
+  const [across, down] = [cell - look.cell, step - look.step];
+  if (across < 0 || across > look.cells) moveBy(across - look.cells / 2, 0);
+  if (down < 0 || down > look.span) moveBy(0, down - look.span / 2);
 }
 
 function stretchArea() {
@@ -250,7 +270,8 @@ function onDiagramKey(event) {
   const acts = {
     " ": beginCorner, Enter: enterArea, Escape: dropArea,
     PageUp: () => moveBy(0, -look.span / 2), PageDown: () => moveBy(0, look.span / 2),
-    Home: () => moveBy(0, -look.step || -1), End: () => { $("follow").checked = true; live.look(); },
+    Home: () => moveBy(0, -look.step || -1),
+    End: () => { $("follow").checked = true; live.look(); },
     "+": () => zoomBy(true, {}, {times: far === 1}), "=": () => zoomBy(true, {}, {places: false}),
     "-": () => zoomBy(false, {}, {places: false}), _: () => zoomBy(false, {}, {times: false}),
   };
@@ -273,15 +294,18 @@ function onLetter(event) {
   } else if (letter === "z") undoNewest();
 }
 
+/** Takes back the newest own change; one that others can have taken only by its line. */
 function undoNewest() {
-  const newest = undoable();
-  if (newest) live.withdraw(newest); else tell("There is nothing of yours to undo.", true);
+  const newest = newestOwn();
+  if (!newest) tell("There is nothing of yours to undo.", true);
+  else if (newest.shared) tell("What is shared is withdrawn by its line.", true);
+  else live.withdraw(newest);
 }
 
 // The tool, and the form that does the same in figures.
 
-const VERBS = {look: "Close", block: "Close", limit: "Limit", inflow: "Set demand", slow: "Set slowing",
-               start: "Set slow to start", watch: "Switch detector"};
+const VERBS = {look: "Close", block: "Close", limit: "Limit", inflow: "Set demand",
+               slow: "Set slowing", start: "Set slow to start", watch: "Switch detector"};
 
 function chooseTool(kind) {
   choose("tool", kind);
@@ -294,7 +318,7 @@ function showTool() {
   const placed = kind !== "inflow" && kind !== "watch";
   $("kmFromLabel").hidden = $("kmToLabel").hidden = !placed;
   $("apply").textContent = live.changing ? "Change" : VERBS[kind];
-  $("diagram").style.cursor = kind === "look" ? "grab" : "crosshair";
+  $("diagram").style.cursor = cursorOfTool();
   showDemandNote();
 }
 
@@ -314,7 +338,9 @@ function shapeOfForm() {
   const kind = toolNow() === "look" ? "block" : toolNow();
   const from = stepOfText($("timeFrom").value);
   const to = $("timeTo").value.trim() === "" ? null : stepOfText($("timeTo").value);
-  if (Number.isNaN(from) || Number.isNaN(to)) return "A time is written as 0:20, 0:20:30 or, in minutes, 20.";
+  if (Number.isNaN(from) || Number.isNaN(to)) {
+    return "A time is written as 0:20, 0:20:30 or, in minutes, 20.";
+  }
   if (to !== null && to <= from) return "The end must be later than the beginning.";
   const range = rangeOfForm(kind);
   if (typeof range === "string") return range;
@@ -324,20 +350,34 @@ function shapeOfForm() {
 function rangeOfForm(kind) {
   if (kind === "inflow") return [Number($("inlet").value), Number($("inlet").value)];
   if (kind === "watch") return [Number($("site").value), Number($("site").value)];
-  const [from, to] = ["kmFrom", "kmTo"].map((id) =>
-    ($(id).value.trim() === "" ? NaN : cellOfKm(Number($(id).value.replace(",", ".")))));
+  const [from, to] = kmOfForm().map(cellOfKm);
   const {length} = live.plan;
-  if (!(from >= 0 && to <= length && from < to)) {
+  if (!(from >= 0 && from < length && to <= length && from <= to)) {
     return `Give two places from 0 to ${kmText(length)} km, the greater one second.`;
   }
-  return objectsIn(live.plan, kind, [from, to]);
+  return objectsNearest(live.plan, kind, [from, to]);
+}
+
+const kmOfForm = () => ["kmFrom", "kmTo"].map((id) =>
+  ($(id).value.trim() === "" ? NaN : Number($(id).value.replace(",", "."))));
+
+/** Says which stretch is taken, where it is not the one that is written. */
+function takenText([kind, first, last]) {
+  if (kind !== "block" && !OF_ZONES.includes(kind)) return "";
+  const taken = cellsOf(live.plan, kind, first, last).map(kmText);
+  const written = kmOfForm().map((km) => String(Number(km.toFixed(3))));
+  return taken.join() === written.join() ? "" : ` ${taken.join("\u2013")} km is taken.`;
 }
 
 function onForm(event) {
   event.preventDefault();
   const shape = shapeOfForm();
-  if (typeof shape === "string") tell(shape, true);
-  else if (applyArea(areaOfShape(shape, live.changing)) && live.changing) endChange();
+  if (typeof shape === "string") {
+    tell(shape, true);
+    return;
+  }
+  const area = {...areaOfShape(shape, live.changing), taken: takenText(shape)};
+  if (applyArea(area) && live.changing) endChange();
 }
 
 /** Puts a gesture's figures into the form, to be changed. */
@@ -358,12 +398,14 @@ function beginChange(gesture) {
 
 function showValue(kind, first, from, value) {
   if (kind === "limit") $("limit").value = value;
-  if (kind === "slow" || kind === "start") $(kind).value = Number((100 * value / ALWAYS).toFixed(2));
+  const percent = Number((100 * value / ALWAYS).toFixed(2));
+  if (kind === "slow" || kind === "start") $(kind).value = percent;
   if (kind === "watch") Object.assign($("watch"), {value});
   if (kind === "watch") $("site").value = first;
   if (kind !== "inflow") return;
   $("inlet").value = first;
-  $("demand").value = Math.round(demandOfChance(value / ALWAYS, slowAt(live.held.scenario, first, from) / ALWAYS));
+  const slow = slowAt(live.held.scenario, first, from) / ALWAYS;
+  $("demand").value = Math.round(demandOfChance(value / ALWAYS, slow));
 }
 
 function endChange() {

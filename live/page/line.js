@@ -2,7 +2,7 @@
 // The line to the server: questions with a number, their answers, and what is told without asking.
 
 const MOST_OPEN = 6;            // the server refuses a ninth question that waits
-const FIRST_WAIT = 200;         // milliseconds before the line is tried again, doubled up to the last
+const FIRST_WAIT = 200;         // milliseconds before it is tried again, doubled up to the last
 const LAST_WAIT = 5000;
 const TAKEN_OVER = 4001;        // somebody took the seat over
 const CLOSED_FOR_GOOD = [1008, 4000, TAKEN_OVER];
@@ -50,7 +50,7 @@ class Line {
     this.send();
   }
 
-  /** Closes the line until it is connected again: a line without a name is closed by the server soon. */
+  /** Closes the line until it is connected again: the server soon closes one without a name. */
   rest() {
     this.socket.onclose = null;
     this.socket.close();
@@ -71,6 +71,7 @@ class Line {
     for (const {fail} of asked) fail(new Away("the line broke"));
     const again = !CLOSED_FOR_GOOD.includes(code);
     this.lost(again, reason, code);
-    if (again) setTimeout(() => this.connect(), Math.min(LAST_WAIT, FIRST_WAIT * 2 ** this.tries++));
+    const wait = Math.min(LAST_WAIT, FIRST_WAIT * 2 ** this.tries++);
+    if (again) setTimeout(() => this.connect(), wait);
   }
 }

@@ -4,7 +4,7 @@
 
 const isOwn = ({stamp}) => stamp[1] === live.me.number;
 const nameOf = (gesture) => (isOwn(gesture) ? "you" : gesture.who || "somebody");
-const noteOf = (gesture) => gesture.note || plural(gesture.edits.length, "edit");
+const noteOf = (gesture) => gesture.note || editsText(live.held.scenario, gesture.edits);
 
 /** What a gesture lost, whole or in part, to whom and why; [] where nothing. */
 function lossesOf(gesture, stands) {
@@ -12,9 +12,10 @@ function lossesOf(gesture, stands) {
     const how = edits === stands.all ? "lost to" : `${edits} of ${stands.all} edits lost to`;
     return {text: `${how} ${nameOf(by)}: ${noteOf(by)}`, why: whyGreater(by.stamp, gesture.stamp)};
   });
-  const {cut} = stands;
-  return cut ? [...lost, {text: `holds only until ${timeText(cut.step)}, then ${nameOf(cut.by)}: ${noteOf(cut.by)}`,
-                          why: "What is put for a place acts until the next is put there."}] : lost;
+  if (!stands.cut) return lost;
+  const {step, by} = stands.cut;
+  const text = `holds only until ${timeText(step)}, then ${nameOf(by)}: ${noteOf(by)}`;
+  return [...lost, {text, why: "What is put for a place acts until the next is put there."}];
 }
 
 function stateOf(gesture, stands) {
@@ -28,7 +29,9 @@ let linesShown = [];
 /** The lines of all lists, newest first, each with the list where it stands. */
 function linesNow() {
   const {list, scenario} = live.held;
-  const lines = list.filter((gesture) => isSeen(scenario, live.common.scenario, gesture)).map((gesture) => {
+  const seen = list.filter((gesture) =>
+    isSeen(list, scenario, live.common.scenario, gesture));
+  const lines = seen.map((gesture) => {
     const stands = standing(scenario, gesture);
     const state = stateOf(gesture, stands);
     const losses = isOwn(gesture) ? lossesOf(gesture, stands) : [];
@@ -38,8 +41,9 @@ function linesNow() {
   return lines.sort((one, other) => byStamp(other.gesture.stamp, one.gesture.stamp));
 }
 
-function meta({who, stamp, when}) {
-  return `${stamp[1] === live.me.number ? "you" : who || "somebody"}${when ? ", " + dayText(when) : ""}`;
+/** Who made a gesture, and when. */
+function meta(gesture) {
+  return [nameOf(gesture), dayText(gesture.when)].filter(Boolean).join(", ");
 }
 
 function lineButtons({gesture, losses}) {
@@ -65,12 +69,14 @@ function lineElement(line) {
 
 const itemOf = (line) => ({
   key: keyOf(line.gesture.stamp),
-  sign: JSON.stringify([line.state, line.gesture.shared, line.losses.map(({text}) => text), meta(line.gesture)]),
+  sign: JSON.stringify([line.state, line.gesture.shared, line.losses.map(({text}) => text),
+                        meta(line.gesture)]),
   make: () => lineElement(line),
 });
 
 const pendingItem = ([key, {note}]) => ({key, sign: note, make: () => element("li", "", {},
-  element("p", note + " ", {className: "note"}, element("span", "pending", {className: "state pending"})))});
+  element("p", note + " ", {className: "note"},
+    element("span", "pending", {className: "state pending"})))});
 
 function showLists() {
   const lines = linesShown = linesNow();
@@ -81,11 +87,11 @@ function showLists() {
   showList($("lost"), of("lost"));
   for (const id of ["own", "held", "lost"]) $(id).parentElement.hidden = !$(id).children.length;
   $("hint").hidden = lines.length > 0 || live.pending.size > 0;
-  $("undo").disabled = !undoable();
+  $("undo").disabled = !newestOwn();
 }
 
 /** The newest own gesture that still acts. */
-function undoable() {
+function newestOwn() {
   return linesShown.find(({gesture, state}) => isOwn(gesture) && state !== "overruled")?.gesture;
 }
 
@@ -113,7 +119,12 @@ function untaken() {
   return live.common.list.filter((gesture) => !held.has(keyOf(gesture.stamp)));
 }
 
-function showNews({size, from}) {
+/** The titles under which others shared what is not taken; "" where there are none. */
+const titlesOf = ({shares, from}) => [...new Set(shares.filter(({who}) => from.includes(who))
+  .map(({title}) => title).filter(Boolean))].map((title) => `\u201c${title}\u201d`).join(", ");
+
+function showNews(news) {
+  const {size, from} = live.news = news;
   const section = $("news");
   const had = section.contains(document.activeElement);
   section.hidden = !size;
@@ -122,7 +133,9 @@ function showNews({size, from}) {
     if (had) $("held").focus();
     return;
   }
-  const text = `${from.join(", ") || "Somebody"} shared ${plural(size, "change")}.`;
+  const titles = titlesOf(news);
+  const text = `${from.join(", ") || "Somebody"} shared ${plural(size, "change")}`
+    + `${titles && ": " + titles}.`;
   if (section.dataset.text === text && section.children.length) return;
   section.dataset.text = text;
   tell(text);
@@ -169,9 +182,12 @@ function openBefore(what, gestures) {
     closeBefore();
     if (shares) live.share(gestures); else live.take();
   };
-  $("beforeBody").replaceChildren(gestureList(gestures),
-    element("h3", "Who would lose to whom"), lossList(lossesByAdding(gestures, shares ? live.common : live.held)),
-    element("h3", shares ? "What it would change on the shared road" : "What it would change: see the difference"),
+  const losses = lossesByAdding(gestures, shares ? live.common : live.held);
+  const titles = shares ? "" : titlesOf(live.news);
+  $("beforeBody").replaceChildren(element("p", titles, {hidden: !titles}), gestureList(gestures),
+    element("h3", "Who would lose to whom"), lossList(losses),
+    element("h3", shares ? "What it would change on the shared road"
+      : "What it would change: see the difference"),
     figuresOf, element("p", "", {className: "buttons"},
       button(shares ? "Share now" : "Take now", done), button("Not now", closeBefore)));
   $("before").hidden = false;
@@ -207,14 +223,16 @@ function closeBefore() {
   if (had) $($("own").children.length ? "own" : "held").focus();
 }
 
-const READ_BOTH = "A car that does not enter spends no vehicle hours: read these with the lost demand.";
+const READ_BOTH =
+  "A car that does not enter spends no vehicle hours: read these with the lost demand.";
 
 /** What sharing all would change: the own road beside the shared one, as far as it is there. */
 function showOwnPreview() {
   const {place, byOwn} = live.beforeOpen ?? {};
   const [mine, shared] = figures.sums ?? [];
-  if (!byOwn || !mine || !shared || !figures.counts || place.querySelector(".exact")) return;
-  const [from, to] = figures.period;
+  if (!byOwn || !mine || !shared || place.querySelector(".exact")) return;
+  const [from, to] = figures.summed;
+  if (figures.period?.join() !== [from, to].join()) return;
   const lines = [["Vehicle hours", shared.hours, mine.hours, 1],
                  ["Lost demand, cars (about)", shared.lost, mine.lost, 0]];
   place.replaceChildren(previewTable([from, to], lines, figures.counts[1], figures.counts[0]),
@@ -222,7 +240,7 @@ function showOwnPreview() {
     button("Delay car by car (takes a while)", () => askPreview(place, unshared())));
 }
 
-/** Asks the server what sharing these would change, over the period that is shown. */
+/** Asks the server what sharing these would change, over all of the run. */
 async function askPreview(place, gestures) {
   place.replaceChildren(element("p", IS_COMPUTED));
   const [from, to] = periodShown();
@@ -236,12 +254,14 @@ async function askPreview(place, gestures) {
 function exactPreview({before, after, from, to, lost_demand: lost, delay_hours: delay}) {
   const known = typeof before.vehicle_hours === "number";
   const lines = known ? [["Vehicle hours", before.vehicle_hours, after.vehicle_hours, 1],
-                         ["Cars let in", before.entered, after.entered, 0], ["Lost demand, cars", null, lost, 0],
+                         ["Cars let in", before.entered, after.entered, 0],
+                         ["Lost demand, cars", null, lost, 0],
                          ["Delay of cars in both, vehicle hours", null, delay, 1]] : [];
   const table = previewTable([from, to], lines, before.detectors, after.detectors);
   table.classList.add("exact");
   return element("div", "", {}, table, element("p", known ? READ_BOTH
-    : "This is too long for vehicle hours: show a shorter time.", {className: "hint"}));
+    : "This is too long to follow each car: so there is no delay, and no lost demand.",
+    {className: "hint"}));
 }
 
 /** A table of now, then and the change: lines of [name, now, then, digits], where a now of null
@@ -249,13 +269,15 @@ function exactPreview({before, after, from, to, lost_demand: lost, delay_hours: 
 function previewTable([from, to], lines, before, after) {
   const number = (value, digits) => (value === null ? "" : value.toLocaleString("en",
     {minimumFractionDigits: digits, maximumFractionDigits: digits}));
-  const lineOf = ([name, one, other, digits]) => row(headCell(name, "row"), element("td", number(one, digits)),
-    element("td", one === null ? "" : number(other, digits)), element("td", signedText(other - (one ?? 0), digits)));
+  const lineOf = ([name, one, other, digits]) => row(headCell(name, "row"),
+    element("td", number(one, digits)), element("td", one === null ? "" : number(other, digits)),
+    element("td", signedText(other - (one ?? 0), digits)));
   const perHour = ([cars]) => cars * HOUR / Math.max(1, to - from);
   const flows = live.plan.detectors.map((cell, index) =>
     [`Cars an hour at ${kmText(cell)} km`, perHour(before[index]), perHour(after[index]), 0]);
   const table = element("table", "", {}, element("caption", `${timeText(from)} to ${timeText(to)}`),
-    element("thead", "", {}, row(element("td"), headCell("now"), headCell("then"), headCell("change"))),
+    element("thead", "", {}, row(element("td"),
+      ...["now", "then", "change"].map((name) => headCell(name)))),
     element("tbody", "", {}, ...[...lines, ...flows].map(lineOf)));
   return element("div", "", {className: "scrolled"}, table);
 }

@@ -37,8 +37,8 @@ function byMeans(view) {
 
 const powerOfTwo = (steps) => 2 ** Math.max(0, Math.floor(Math.log2(steps)));
 
-/** Each so manieth row is asked for: some eight a box of mean speeds (four, where the road is long),
-    else one a pixel. */
+/** Each so manieth row is asked for: some eight a box of mean speeds (four, where the road is
+    long), else one a pixel. */
 function everyShown() {
   const view = viewNow();
   if (!byMeans(view) && chosen("whose") !== "both") return powerOfTwo(1 / view.tall);
@@ -46,7 +46,7 @@ function everyShown() {
   return every * (look.span / every * live.plan.length > live.most.bytes ? 2 : 1);
 }
 
-const whoseShown = () => ({mine: ["mine"], shared: ["shared"], both: ["mine", "shared"]}[chosen("whose")]);
+const whoseShown = () => (chosen("whose") === "both" ? ["mine", "shared"] : [chosen("whose")]);
 
 let drawingAsked = false;
 /** Draws at the next frame of the screen, once. */
@@ -114,7 +114,9 @@ function drawAhead(context, view, width, height) {
   context.lineTo(width, top);
   context.stroke();
   context.setLineDash([]);
-  if (live.ahead > live.now()) write(context, "forecast, seen by you alone", width - 12, top + 2, "right");
+  if (live.ahead > live.now()) {
+    write(context, "forecast, seen by you alone", width - 12, top + 2, "right");
+  }
 }
 
 /** Text on a white ground. */
@@ -131,7 +133,8 @@ function write(context, text, left, top, align = "left", colour = "#000000") {
 /** The frames of the road shown, and of gestures that are not confirmed yet. */
 function framesShown() {
   const scenario = chosen("whose") === "shared" ? live.common : live.held;
-  const waiting = [...live.pending.values()].filter(({shape}) => shape && chosen("whose") !== "shared")
+  const waiting = [...live.pending.values()]
+    .filter(({shape}) => shape && chosen("whose") !== "shared")
     .map(({shape: [kind, first, last, from, to, value]}) =>
       ({kind, first, last, from, to, value, by: {stamp: [0, live.me.number]}, pending: true}));
   return [...scenario.frames, ...waiting];
@@ -150,7 +153,8 @@ function drawEdges(context, view, frame) {
   const height = $("diagram").clientHeight;
   if (bottom < MARGIN.top || top > height) return null;
   const own = frame.by.stamp[1] === live.me.number;
-  const rectangle = [left, Math.max(-10, top), right - left, Math.min(height + 10, bottom) - Math.max(-10, top)];
+  const [upper, lower] = [Math.max(-10, top), Math.min(height + 10, bottom)];
+  const rectangle = [left, upper, right - left, lower - upper];
   if (right - left > 8) {
     Object.assign(context, {strokeStyle: "rgba(255, 255, 255, 0.85)", lineWidth: 4});
     context.strokeRect(...rectangle);
@@ -196,7 +200,8 @@ function drawArea(context, view, area) {
   const [plotWide] = plotSize();
   const beside = right + 10 + wide < MARGIN.left + plotWide ? right + 10
     : Math.max(MARGIN.left + 4, left - 10 - wide);
-  const upper = Math.max(MARGIN.top + 4, Math.min(top, $("diagram").clientHeight - 24 - 17 * said.length));
+  const lowest = $("diagram").clientHeight - 24 - 17 * said.length;
+  const upper = Math.max(MARGIN.top + 4, Math.min(top, lowest));
   said.forEach((text, line) => write(context, text, beside, upper + 17 * line, "left",
     fault && line === said.length - 1 ? "#a00000" : "#000000"));
 }
@@ -205,19 +210,21 @@ function drawArea(context, view, area) {
 
 function legendEntries() {
   const closed = {text: "closed", colour: BLOCKED};
+  const unknown = {text: "not computed", colour: NO_ROW};
   if (chosen("whose") === "both") {
     return [{text: "mine slower", colour: SLOWER}, {text: "as fast", colour: EMPTY},
-            {text: "mine faster", colour: FASTER}, closed, {text: "not computed", colour: NO_ROW}];
+            {text: "mine faster", colour: FASTER}, closed, unknown];
   }
   const speeds = Array.from({length: GREATEST + 1}, (_, speed) =>
     ({text: String(speed * KMH_A_CELL), colour: speedColour(speed, GREATEST)}));
-  return ["km/h:", ...speeds, {text: "no car", colour: EMPTY}, closed, {text: "not computed", colour: NO_ROW}];
+  return ["km/h:", ...speeds, {text: "no car", colour: EMPTY}, closed, unknown];
 }
 
 function showLegend() {
   if ($("legend").dataset.of === chosen("whose")) return;
   $("legend").dataset.of = chosen("whose");
-  const plan = [{text: "inlet", colour: OF_PLAN.inlet}, {text: "detector", colour: OF_PLAN.detector},
+  const plan = [{text: "inlet", colour: OF_PLAN.inlet},
+                {text: "detector", colour: OF_PLAN.detector},
                 {text: "zones by turns", colour: OF_PLAN.zone}];
   $("legend").replaceChildren(...[...legendEntries(), ...plan].map((entry) => {
     if (typeof entry === "string") return element("li", entry);
@@ -238,12 +245,13 @@ function settle() {
   draw();
 }
 
-/** The clock stays where it is seen, a little above the lower edge; by quarters where motion is to
-    be reduced. */
+/** The clock stays at the lower edge, below all of the time that is to be shown; by quarters where
+    motion is to be reduced. */
 function followClock() {
-  const wanted = Math.max(0, live.last() - look.span * 0.96);
+  const wanted = Math.max(0, live.last() - look.span);
+  const isBehind = wanted > look.step || wanted < look.step - look.span / 2;
   if (!matchMedia("(prefers-reduced-motion: reduce)").matches) look.step = wanted;
-  else if (wanted > look.step || wanted < look.step - look.span / 2) look.step = wanted && wanted + look.span / 4;
+  else if (isBehind) look.step = wanted && wanted + look.span / 4;
 }
 
 function stopFollowing() {
@@ -262,11 +270,13 @@ function moveBy(cells, steps) {
 function zoomBy(closer, {cell, step} = {}, {places = true, times = true} = {}) {
   const [middle, moment] = [cell ?? look.cell + look.cells / 2, step ?? look.step + look.span / 2];
   if (times) {
-    const next = closer ? SPANS.findLast((one) => one < look.span) : SPANS.find((one) => one > look.span);
+    const next = closer ? SPANS.findLast((one) => one < look.span)
+      : SPANS.find((one) => one > look.span);
     setSpan(next ?? look.span, moment);
   }
   if (places) {
-    const cells = Math.max(LEAST_CELLS, Math.min(live.plan.length, look.cells * (closer ? 0.5 : 2)));
+    const wanted = look.cells * (closer ? 0.5 : 2);
+    const cells = Math.max(LEAST_CELLS, Math.min(live.plan.length, wanted));
     look.cell = middle - (middle - look.cell) * cells / look.cells;
     look.cells = cells;
   }
@@ -278,4 +288,20 @@ function setSpan(span, about = look.step) {
   look.step = Math.max(0, about - (about - look.step) * span / look.span);
   look.span = span;
   $("span").value = span;
+}
+
+/** Shows as long a time as is chosen, up to what is the end now; from the first second on where
+    that is all. */
+function chooseSpan() {
+  const span = Number($("span").value);
+  const end = Math.min(look.step + look.span, live.last());
+  Object.assign(look, {span, step: Math.max(0, end - span)});
+  settle();
+  live.look();
+}
+
+function showWholeRoad() {
+  Object.assign(look, {cell: 0, cells: live.plan.length});
+  settle();
+  live.look();
 }

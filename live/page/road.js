@@ -3,8 +3,8 @@
 
 const MOST_LEVELS = 3;
 
-/** Rows of each so manieth step: a picture as drawing.js takes it, and which rows are of the present
-    edits. */
+/** Rows of each so manieth step: a picture as drawing.js takes it, and which rows are of the
+    present edits. */
 class Level {
   constructor(every, length) {
     Object.assign(this, {from: 0, every, length, rows: []});
@@ -55,10 +55,43 @@ class Level {
   }
 }
 
+/** What the server summed up of each minute, as far as it is of the present edits: the cars' steps
+    on the road, then of each inlet what shows how many cars it let in. */
+class Minutes {
+  constructor() {
+    this.sums = [];
+  }
+
+  stale(step) {
+    this.sums.length = Math.min(this.sums.length, Math.floor(step / MINUTE));
+  }
+
+  /** Those of a period, [from, to) in steps; null where one is missing. */
+  within([from, to]) {
+    const found = this.sums.slice(from / MINUTE, to / MINUTE);
+    return found.length === (to - from) / MINUTE && !found.includes(undefined) ? found : null;
+  }
+
+  /** The first part of a period that is missing, at most so many minutes; null: none. */
+  wanted([from, to], most) {
+    let first = from / MINUTE;
+    while (first < to / MINUTE && this.sums[first]) first++;
+    const end = Math.min(to / MINUTE, first + most);
+    return first < end ? [first * MINUTE, end * MINUTE] : null;
+  }
+
+  take(from, sums) {
+    const first = from / MINUTE;
+    while (this.sums.length < first) this.sums.push(undefined);
+    sums.forEach((one, index) => { this.sums[first + index] = one; });
+  }
+}
+
 /** A road: the own one, or the shared one. */
 class Road {
   constructor(at, length) {
     Object.assign(this, {at, length, horizon: 0, levels: new Map(), version: 0});
+    this.minutes = new Minutes();
   }
 
   /** The rows at some steps apart; those used longest ago make room. */
@@ -72,6 +105,7 @@ class Road {
 
   stale(step) {
     this.version++;
+    this.minutes.stale(step);
     for (const level of this.levels.values()) level.stale(step);
   }
 }

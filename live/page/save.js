@@ -50,8 +50,8 @@ const csvOf = (rows) => rows.map((cells) => cells.map(tableCell).join(",") + "\r
 /** Saves the changes that are held: who made them and when, and how they stand. */
 function saveChanges() {
   const lines = linesNow().map(({gesture, state, losses}) => [
-    gesture.when ? new Date(gesture.when * 1000).toISOString() : "", gesture.who, noteOf(gesture), state,
-    losses.map(({text}) => text).join("; ")]);
+    gesture.when ? new Date(gesture.when * 1000).toISOString() : "", gesture.who, noteOf(gesture),
+    state, losses.map(({text}) => text).join("; ")]);
   download(csvOf([["made", "by", "change", "state", "lost"], ...lines]), "changes.csv", "text/csv");
   tell("Saved changes.csv.");
 }
@@ -61,16 +61,19 @@ async function saveCounts() {
   const [from, to] = periodShown();
   const each = SPAN_OF_COUNTS;
   if (to <= from) return tell("Nothing is computed yet.", true);
-  const said = await Promise.all([live.me.at, "shared"].map((at) => live.ask({counts: {at, from, to, each}})));
+  const said = await Promise.all([live.me.at, "shared"].map((at) =>
+    live.ask({counts: {at, from, to, each}})));
   if (said.some((one) => !one || one.refused)) return;
-  const lines = said[0].counts.flatMap((detectors, span) => detectors.map(([cars, speeds], index) => {
+  const [mine, shared] = said.map(({counts}) => counts);
+  const lines = mine.flatMap((detectors, span) => detectors.map(([cars, speeds], index) => {
     const [begin, end] = [from + span * each, Math.min(to, from + (span + 1) * each)];
-    const [otherCars, otherSpeeds] = said[1].counts[span][index];
+    const [otherCars, otherSpeeds] = shared[span][index];
     const speed = (all, sum) => (all ? Math.round(sum / all * KMH_A_CELL * 10) / 10 : "");
-    return [timeText(begin), timeText(end), kmText(live.plan.detectors[index]), cars, speed(cars, speeds),
-            otherCars, speed(otherCars, otherSpeeds)];
+    return [timeText(begin), timeText(end), kmText(live.plan.detectors[index]), cars,
+            speed(cars, speeds), otherCars, speed(otherCars, otherSpeeds)];
   }));
-  download(csvOf([["from", "to", "detector km", "my cars", "my mean km/h", "shared cars", "shared mean km/h"],
-                  ...lines]), "counts.csv", "text/csv");
+  const head = ["from", "to", "detector km", "my cars", "my mean km/h", "shared cars",
+                "shared mean km/h"];
+  download(csvOf([head, ...lines]), "counts.csv", "text/csv");
   tell("Saved counts.csv.");
 }

@@ -4,6 +4,7 @@
 const METRES_A_CELL = 7.5;
 const KMH_A_CELL = 27;          // km/h of one cell a step
 const HOUR = 3600;              // steps
+const MINUTE = 60;
 const ALWAYS = 65536;           // a chance of 1, in the plan's units
 const LAST_STEP = 1048575;
 
@@ -46,15 +47,7 @@ function dayText(seconds) {
     : `${at.toLocaleDateString([], {day: "numeric", month: "short"})} ${time}`;
 }
 
-const SIGNS = {1: 30, 2: 50, 3: 80, 4: 110, 5: 130};
-
-/** A speed limit as its sign at the roadside, with what the model drives by it. */
-function limitName(limit) {
-  const model = limit * KMH_A_CELL;
-  return SIGNS[limit] ? `${SIGNS[limit]} km/h (model: ${model})` : `${model} km/h`;
-}
-
-const limitText = (limit) => `${SIGNS[limit] ?? limit * KMH_A_CELL} km/h`;
+const limitText = (limit) => `${limit * KMH_A_CELL} km/h`;
 const chanceText = (chance) => `${Number((100 * chance / ALWAYS).toFixed(1))} %`;
 
 // What an inlet lets in, at speed limit 5: for each slowing chance the inflow chances of so many
@@ -99,7 +92,8 @@ function chanceOfDemand(cars, slow) {
   if (!(cars >= 0 && cars <= most)) return NaN;
   const [one, other, part] = columnsAt(slow);
   const share = cars / most;
-  return mix(along(one.points, share * mostOf(one)), along(other.points, share * mostOf(other)), part);
+  const chanceOf = (column) => along(column.points, share * mostOf(column));
+  return mix(chanceOf(one), chanceOf(other), part);
 }
 
 /** The cars an hour that an inflow chance (0 to 1) gives on a free road; NaN above the table. */

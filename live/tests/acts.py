@@ -5,7 +5,7 @@ import asyncio
 from typing import Any
 
 from client import Refused, Seat
-from running import SMALL, Case
+from running import SMALL, Case, until
 
 LIMIT = ["limit", 2, 50]
 
@@ -138,11 +138,11 @@ class Acts(Case):
             before = (await ada.ask("gestures"))["next"]
             await put(ada, "last", ["limit", 1, 7, 3])
             self.assertEqual([one["stamp"][0] for one in (await ada.ask("gestures", **{"from": before}))["gestures"]], [162])
-            for _ in range(100):
-                if len((await ada.ask("gestures"))["gestures"]) < 150:
-                    break
+
+            async def is_shorter() -> bool:
                 await ada.reply("cells", at=ada.at, step=0)
-                await asyncio.sleep(0.1)
+                return len((await ada.ask("gestures"))["gestures"]) < 150
+            await until(is_shorter, "the oldest are forgotten")
             held = (await ada.ask("gestures"))["gestures"]
             self.assertTrue(20 <= len(held) < 150, len(held))
             self.assertEqual((held[0]["stamp"], held[-1]["stamp"]), ([1, 65], [162, 65]))
@@ -207,6 +207,7 @@ class Acts(Case):
         said = await self.ada.ask("preview", **{"from": 0, "to": 100})
         self.assertEqual(said["overrules"], [[["block", 60, 30, 1, 66, 1], ["block", 60, 30, 2, 65, 0], "Ada", "open"]])
         self.assertEqual(said["loses"], [])
+        late = await self.ada.ask("preview", **{"from": 50, "to": 100})  # of a time that begins behind the changes
         self.assertEqual((await self.ada.ask("scenario", at="shared"))["edits"][0][5], 1)
         for seat, name in ((self.ben, "before"), (self.ada, "after")):  # the same by the replicas themselves
             if seat is self.ada:
@@ -214,8 +215,11 @@ class Acts(Case):
             await seat.ask("advance", to=100)
             counts = (await seat.ask("counts", **{"from": 0, "to": 100}))["counts"]
             self.assertEqual(said[name]["detectors"], counts)
-            cars = [len((await seat.ask("cars", step=step))["cars"]) for step in range(1, 101)]
-            self.assertAlmostEqual(said[name]["vehicle_hours"], sum(cars) / 3_600)
+            cars = [(await seat.ask("cars", step=step))["cars"] for step in range(101)]
+            for found, first in ((said, 0), (late, 50)):
+                self.assertAlmostEqual(found[name]["vehicle_hours"], sum(map(len, cars[first:])) / 3_600)
+                numbers = {car[0] for row in cars[first:] for car in row if first <= car[0] // 16 < 100}
+                self.assertEqual(found[name]["entered"], len(numbers))
         self.assertEqual((await self.ada.ask("preview", stamps=[[2, 65]], to=100))["size"], 1)
 
 
@@ -272,14 +276,10 @@ class Seats(Case):
             await put(ben, "1", [*LIMIT, 2])
             await ada.ask("send", name="shared")
         async with server.seat("Cleo") as cleo:
-            names = set[str]()
-            for _ in range(200):
-                names = {one["name"] for one in (await cleo.say("seats"))["seats"]}
-                if "Ada" not in names:
-                    break
-                await cleo.reply("ping")
-                await asyncio.sleep(0.1)
-            self.assertEqual(names, {"Ben", "Cleo"})
+            async def ada_is_gone() -> bool:
+                return "Ada" not in {one["name"] for one in (await cleo.say("seats"))["seats"]}
+            await until(ada_is_gone, "her seat is free")
+            self.assertEqual({one["name"] for one in (await cleo.say("seats"))["seats"]}, {"Ben", "Cleo"})
             fill = [await self.enterAsyncContext(server.seat(f"n{count}")) for count in range(61)]
             new = next(seat for seat in fill if seat.at == "seat1")
             self.assertEqual((await new.ask("scenario"))["edits"], [])

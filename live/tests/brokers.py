@@ -6,12 +6,12 @@ import json
 import os
 import shutil
 import signal
-from typing import Any, Callable
+from typing import Any
 
 from client import Seat
 from journal import packed
 from road_lab import Edit, Plan, RoadLab
-from running import SMALL, Broker, Case, Server, end, new_folder
+from running import SMALL, Broker, Case, Server, end, new_folder, until
 
 TOTALS = {"from": 0, "to": 100}
 
@@ -26,14 +26,6 @@ async def put(seat: Seat, *edits: list[Any]) -> list[int]:
 async def shared(seat: Seat) -> list[Any]:
     edits: list[Any] = (await seat.ask("scenario", at="shared"))["edits"]
     return edits
-
-
-async def until(holds: Callable[[], Any], patience: float = 60.0) -> None:
-    for _ in range(int(patience / 0.1)):
-        if await holds():
-            return
-        await asyncio.sleep(0.1)
-    raise AssertionError(f"not within {patience} seconds")
 
 
 def told(seat: Seat) -> list[str]:
@@ -51,7 +43,7 @@ class Brokers(Case):
         async def holds() -> bool:
             held = [await shared(seat) for seat in seats]
             return len(held[0]) == edits and all(one == held[0] for one in held)
-        await until(holds)
+        await until(holds, "all hold the same")
         seen = []
         for seat in seats:
             await seat.say("clock", to=max(100, seat.welcome["now"]))
@@ -121,7 +113,7 @@ class Brokers(Case):
                     (" " * 140_000, "bytes"),
                     (json.dumps({"edits": [["block", 1, step, 1, 70, 1] for step in range(1_201)], "form": 2}), "no list")):
                 broker.say(topic, text)
-                await until(lambda: self.is_told(why, ada, sam), 20)
+                await until(lambda: self.is_told(why, ada, sam), why)
             await put(sam, ["limit", 1, 5, 3])  # counts are not spent
             self.assertLess((await put(ada, ["limit", 1, 6, 3]))[0], 10)
             await self.same(ada, sam, edits=3)
@@ -140,10 +132,10 @@ class Brokers(Case):
         broker = self.broker()
         first, second = self.site(broker, 7), self.site(broker, 7)
         async with first.seat("Ada") as ada, second.seat("Sam") as sam:
-            await until(lambda: self.is_told("has this site's number, 7", ada, sam))
+            await until(lambda: self.is_told("has this site's number, 7", ada, sam), "one number twice")
             await put(ada, ["limit", 2, 80, 1])
             await put(sam, ["limit", 2, 80, 2])
-            await asyncio.sleep(4)
+            await asyncio.sleep(4)  # so long that both have announced themselves once more
             self.assertEqual([(await shared(seat))[0][5] for seat in (ada, sam)], [1, 2])
         second.kill()
         third = self.site(broker, 8)
@@ -158,30 +150,30 @@ class Brokers(Case):
         second = Server(copy, None, "--broker", broker.address)
         self.addCleanup(lambda: end(second.process))
         async with first.seat("Ada") as ada, second.seat("Sam") as sam:
-            await until(lambda: self.is_told("has this site's number, 7", ada, sam))
+            await until(lambda: self.is_told("has this site's number, 7", ada, sam), "one number twice")
 
     async def test_another_seed_is_told(self) -> None:
         broker = self.broker()
         first, second = self.site(broker, 1), self.site(broker, 2, {**SMALL, "words": 2})
         async with first.seat("Ada") as ada, second.seat("Sam") as sam:
-            await until(lambda: self.is_told("has another road", ada, sam))
+            await until(lambda: self.is_told("has another road", ada, sam), "another road")
             await put(ada, ["limit", 2, 80, 1])
-            await asyncio.sleep(1)
+            await until(lambda: self.broker_is(ada, "connected", 0), "it came back")
             self.assertEqual(await shared(sam), [])
 
     async def test_what_has_not_come_back_is_seen(self) -> None:
         broker = self.broker()
         first = self.site(broker, 1)
         async with first.seat("Ada") as ada:
-            await until(lambda: self.broker_is(ada, "connected", 0))
+            await until(lambda: self.broker_is(ada, "connected", 0), "connected")
             broker.kill()
             await put(ada, ["limit", 2, 80, 1])
-            await until(lambda: self.broker_is(ada, "away", 1))
+            await until(lambda: self.broker_is(ada, "away", 1), "away")
             first.again()
         async with first.seat(key=ada.key) as ada:
             self.assertEqual(ada.welcome["broker"]["unsent"], 1)
             broker.start()
-            await until(lambda: self.broker_is(ada, "connected", 0))
+            await until(lambda: self.broker_is(ada, "connected", 0), "it came back")
 
     async def broker_is(self, seat: Seat, state: str, unsent: int) -> bool:
         now = next((one["broker"] for one in reversed(seat.told) if "broker" in one), seat.welcome["broker"])

@@ -4,13 +4,12 @@ from __future__ import annotations
 import json
 import os
 import shutil
-import tempfile
 import time
 from pathlib import Path
 from typing import Any, Callable
 from unittest import TestCase as Test
 
-from running import Server, free_port
+from running import Server, free_port, new_folder
 from selenium import webdriver
 from selenium.common.exceptions import StaleElementReferenceException
 from selenium.webdriver.chrome.service import Service
@@ -40,9 +39,9 @@ def example_rows(which: int) -> list[str]:
         return [reply["rows"] for reply in map(json.loads, replies) if "rows" in reply][which]
 
 
-def free_server(plan: dict[str, Any]) -> Server:
+def free_server(plan: dict[str, Any], *more: str) -> Server:
     """A server at a port that stays the same when it is started again."""
-    return Server(None, plan, "--port", str(free_port()))
+    return Server(None, plan, "--port", str(free_port()), *more)
 
 
 def gestures_of(server: Server) -> list[dict[str, Any]]:
@@ -67,13 +66,14 @@ class Tab:
         options.add_experimental_option("prefs", {"download.default_directory": str(downloads)})
         options.set_capability("goog:loggingPrefs", {"browser": "ALL"})
         self.driver = webdriver.Chrome(options=options, service=Service(shutil.which("chromedriver")))
+        self.driver.set_script_timeout(PATIENCE)
 
     def join(self, server: Server, name: str) -> Tab:
         self.driver.get("about:blank")
         self.driver.get(server.address)
         self.until(lambda: self.part("hello").get_attribute("open") is not None, "asks for a name")
         self.part("name").send_keys(name, Keys.ENTER)
-        self.until(lambda: self.text("line") == "connected", "connected")
+        self.until(lambda: self.text("line").startswith("connected"), "connected")
         return self
 
     # What there is
@@ -98,10 +98,10 @@ class Tab:
         raise AssertionError(f"waited in vain: {what}; the page says: {said}")
 
     def settled(self) -> None:
-        """Waits until all is confirmed, asked for and drawn."""
+        """Waits until all is confirmed, asked for and drawn, and the figures say it."""
         self.until(lambda: self.script("return live.pending.size === 0 && asking === 0 && !live.line.queue.length && "
                                        "[...live.line.open.values()].every(({command}) => command.preview) && "
-                                       "!drawingAsked"), "quiet")
+                                       "!drawingAsked && !live.idle && !figures.asking"), "quiet")
         self.driver.execute_async_script("const done = arguments[0];"
                                          "setTimeout(() => requestAnimationFrame(() => done()), 200)")
 
@@ -234,16 +234,15 @@ class BrowserCase(Test):
 
     @classmethod
     def setUpClass(cls) -> None:
-        cls.downloads = Path(tempfile.mkdtemp(prefix="live-downloads-"))
-        cls.addClassCleanup(shutil.rmtree, cls.downloads, ignore_errors=True)
+        cls.downloads = new_folder()
         cls.tabs = []
         for _ in cls.names:
             cls.tabs.append(Tab(cls.downloads))
             cls.addClassCleanup(cls.tabs[-1].driver.quit)
 
-    def open(self, plan: dict[str, Any], names: tuple[str, ...] | None = None) -> list[Tab]:
-        """A server with this plan, and a tab for each name."""
-        self.server = free_server(plan)
+    def open(self, plan: dict[str, Any], names: tuple[str, ...] | None = None, *more: str) -> list[Tab]:
+        """A server with this plan and these words more, and a tab for each name."""
+        self.server = free_server(plan, *more)
         self.addCleanup(self.server.kill)
         return [tab.join(self.server, name) for tab, name in zip(self.tabs, names or self.names)]
 

@@ -1,16 +1,16 @@
 """Other hosts reach the server by TLS alone."""
 from __future__ import annotations
 
-import asyncio
 import os
 import ssl
 import subprocess
 import sys
+from typing import Any
 
 import aiohttp
 
 from client import Seat
-from running import LIVE, PATIENCE, Case, end, free_port, mosquitto, new_folder, started
+from running import LIVE, PATIENCE, Case, end, free_port, mosquitto, new_folder, started, until
 
 
 class Certificates(Case):
@@ -51,11 +51,11 @@ class Certificates(Case):
         async with sites[0].seat("Ada") as ada, sites[1].seat("Sam") as sam, stranger.seat("Eve") as eve:
             await ada.ask("gesture", key="1", edits=[["limit", 1, 5, 1]])
             await ada.ask("send", name="shared")
-            for _ in range(300):
-                told = [one["broker"] for one in eve.told if "broker" in one and one["broker"]["told"]]
-                if (await sam.ask("scenario", at="shared"))["edits"] and told:
-                    break
-                await asyncio.sleep(0.1)
+            async def is_told() -> bool:
+                told[:] = [one["broker"] for one in eve.told if "broker" in one and one["broker"]["told"]]
+                return bool(told and (await sam.ask("scenario", at="shared"))["edits"])
+            told: list[Any] = []
+            await until(is_told, "the one has the edit, the other is told")
             self.assertEqual((await sam.ask("scenario", at="shared"))["edits"], [["limit", 1, 5, 1, 65, 1]])
             self.assertIn("does not let this site in", told[-1]["told"][0])
             self.assertEqual((await eve.ask("scenario", at="shared"))["edits"], [])

@@ -11,7 +11,7 @@ from typing import Any
 from aiohttp import ClientError
 
 from client import Seat
-from running import PATIENCE, SMALL, Case, Server
+from running import PATIENCE, SMALL, Case, Server, until
 
 ROUNDS = 10
 LAST = 60
@@ -61,13 +61,19 @@ class Crashes(Case):
             for seat in seats:
                 await seat.ask("advance", to=LAST)
             tasks = [asyncio.create_task(one.burst(seat)) for one, seat in zip(engineers, seats)]
-            await asyncio.sleep(chance.uniform(0.2, 0.6))
-            before = sum(len(one.confirmed) for one in engineers)
+            await self.more(engineers)
+            await asyncio.sleep(chance.uniform(0, 0.4))
             await kill(tasks)
             for seat in seats:
                 await seat.__aexit__(None, None, None)
-            self.assertGreater(before, 0)
             await self.look(server, engineers)
+
+    async def more(self, engineers: list[Engineer]) -> None:
+        """Waits until each has had more gestures confirmed."""
+        async def has_more() -> bool:
+            return all(len(one.confirmed) > count for one, count in zip(engineers, counts))
+        counts = [len(one.confirmed) + 1 for one in engineers]
+        await until(has_more, "gestures are confirmed")
 
     async def look(self, server: Server, engineers: list[Engineer]) -> None:
         """Every confirmed gesture is there with its edits; what was not confirmed goes out again, and is there once."""
@@ -102,39 +108,41 @@ class Crashes(Case):
 
     async def test_the_program_is_killed(self) -> None:
         server = self.server(plan=PLAN)
+        engineers = self.engineers()
 
         async def kill(tasks: list[asyncio.Task[None]]) -> None:
             os.kill(server.program, signal.SIGKILL)
-            await asyncio.sleep(0.5)
+            await self.more(engineers)  # by another program
             self.assertFalse(any(task.done() for task in tasks), "a tab was let go with the program")
             for task in tasks:
                 task.cancel()
             await asyncio.gather(*tasks, return_exceptions=True)
-        await self.rounds(server, self.engineers(), kill)
+        await self.rounds(server, engineers, kill)
 
     async def test_the_broker_is_killed(self) -> None:
         """What was shared meanwhile comes to the other site all the same."""
         broker = self.broker()
         server = self.server("--broker", broker.address, plan=PLAN)
         other = self.server("--broker", broker.address, "--site", "2", plan=PLAN)
+        engineers = self.engineers()
 
         async def kill(tasks: list[asyncio.Task[None]]) -> None:
             broker.kill()
-            await asyncio.sleep(0.2)
+            await self.more(engineers)  # without it
             for task in tasks:
                 task.cancel()
             await asyncio.gather(*tasks, return_exceptions=True)
             broker.start()
-        engineers = self.engineers()
         await self.rounds(server, engineers, kill)
         async with engineers[0].seat(server) as here, other.seat("Sam") as there:
-            for _ in range(600):
-                held = [(await seat.ask("scenario", at="shared"))["edits"] for seat in (here, there)]
-                if held[0] == held[1]:
-                    break
-                await asyncio.sleep(0.1)
-            self.assertEqual(*held)
-            self.assertGreater(len(held[0]), ROUNDS)
+            async def shared() -> list[Any]:
+                return [(await seat.ask("scenario", at="shared"))["edits"] for seat in (here, there)]
+
+            async def are_same() -> bool:
+                one, other = await shared()
+                return bool(one == other)
+            await until(are_same, "both hold the same")
+            self.assertGreater(len((await shared())[0]), ROUNDS)
 
     async def test_a_change_of_program_is_not_felt(self) -> None:
         """Near its limit of lines the program gets a successor: no question is refused, and rows stay what they are."""
@@ -171,7 +179,7 @@ class Crashes(Case):
         transport.pause_reading()
         began = time.monotonic()
         self.assertEqual(await asyncio.get_running_loop().run_in_executor(None, server.stop), 0)
-        self.assertLess(time.monotonic() - began, 15)
+        self.assertLess(time.monotonic() - began, PATIENCE / 2)  # it does not wait until that one reads
         with self.assertRaisesRegex(ConnectionError, "1012"):
             await ada.reply("ping")
         transport.resume_reading()

@@ -2,6 +2,7 @@
 from __future__ import annotations
 
 import asyncio
+import random
 import unittest
 from typing import Any
 
@@ -44,6 +45,78 @@ class FairTurns(unittest.IsolatedAsyncioTestCase):
         await self.turns.ask(2, self.job("x"))
         self.assertLess(self.done.index("x"), 4)
         await asyncio.gather(*many)
+
+    async def asks(self, seat: int, name: str, cost: float) -> None:
+        """Asks once, for a turn that takes so many seconds of the test's clock."""
+        async def work() -> None:
+            self.done.append(name)
+            for _ in range(5):
+                await asyncio.sleep(0)  # others may ask meanwhile
+            self.now += cost
+        await self.turns.ask(seat, work)
+
+    async def always(self, seat: int, name: str, cost: float) -> None:
+        while True:
+            await self.asks(seat, name, cost)
+
+    async def beside(self) -> None:
+        """From now on the turns have the test's clock."""
+        self.task.cancel()
+        self.now, self.waits = 0.0, 0
+        test = self
+
+        class Counted(Turns):
+            """Counts how often it waits for who may ask next."""
+
+            async def _asked_within(self, seconds: float) -> bool:
+                test.waits += 1
+                return await super()._asked_within(seconds)
+        self.turns = Counted(self.around, lambda: self.now, 1.0)
+        self.task = asyncio.create_task(self.turns.run())
+
+    async def test_a_gesture_and_its_rows_wait_for_one_long_turn(self) -> None:
+        await self.beside()
+        far = asyncio.create_task(self.always(1, "F", 0.15))
+        while self.done.count("F") < 3:
+            await asyncio.sleep(0)
+        for _ in range(20):
+            for _ in range(random.randrange(20)):
+                await asyncio.sleep(0)
+            self.done.clear()
+            await self.asks(2, "g", 0.005)
+            await self.asks(2, "r", 0.005)
+            self.assertLessEqual(self.done.count("F"), 1)  # one that began while it was asked
+        far.cancel()
+
+    async def test_what_is_asked_at_once_waits_for_one_long_turn(self) -> None:
+        await self.beside()
+        far = asyncio.create_task(self.always(1, "F", 0.15))
+        while self.done.count("F") < 3:
+            await asyncio.sleep(0)
+        self.done.clear()
+        await asyncio.gather(*(self.asks(2, "r", 0.005) for _ in range(6)))
+        self.assertLessEqual(self.done.count("F"), 1)
+        far.cancel()
+
+    async def test_long_turns_come_beside_many_short_ones(self) -> None:
+        await self.beside()
+        busy = [asyncio.create_task(self.always(1, "F", 0.15)),
+                *(asyncio.create_task(self.always(seat, "s", 0.002)) for seat in range(2, 64))]
+        while self.now < 2:
+            await asyncio.sleep(0)
+        self.assertGreater(0.15 * self.done.count("F"), 0.4 * self.now)
+        for one in busy:
+            one.cancel()
+
+    async def test_it_is_waited_only_for_who_was_answered_since(self) -> None:
+        await self.beside()
+        for _ in range(3):
+            await self.asks(1, "F", 0.15)
+        self.assertEqual(self.waits, 0)
+        await self.asks(2, "g", 0.005)
+        for _ in range(10):
+            await self.asks(1, "F", 0.15)
+        self.assertEqual(self.waits, 1)
 
     async def test_a_fault_is_told_to_who_asked_and_others_go_on(self) -> None:
         asked = [self.turns.ask(1, self.job("a", fault=ValueError("x"))), self.turns.ask(1, self.job("b"))]

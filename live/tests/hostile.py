@@ -10,7 +10,7 @@ from typing import Any
 import aiohttp
 
 from client import Seat
-from running import Case, Server
+from running import PATIENCE, Case, Server, until
 
 
 class Frames(Case):
@@ -28,7 +28,7 @@ class Frames(Case):
         for frame in frames:
             await (socket.send_str(frame) if isinstance(frame, str) else socket.send_bytes(frame))
             while True:
-                message = await asyncio.wait_for(socket.receive(), 30)
+                message = await asyncio.wait_for(socket.receive(), PATIENCE)
                 if message.type != aiohttp.WSMsgType.TEXT:
                     await socket.close()
                     return [*replies, socket.close_code]
@@ -86,13 +86,13 @@ class Frames(Case):
 
     async def test_a_person_may_take_long_to_say_a_name(self) -> None:
         """Who has shown the token may think; who has not is not waited for."""
-        self.a6 = self.server(LIVE_HELLO="1")
+        self.a6 = self.server(LIVE_HELLO="5")
         self.base, _, self.token = self.a6.address.partition("/#")
-        silent, known = [await self.session.ws_connect(self.base + "/live", headers={"Origin": self.base}) for _ in range(2)]
+        known = await self.session.ws_connect(self.base + "/live", headers={"Origin": self.base})
         await known.send_json({"id": 1, "seats": {"token": self.token}})
         self.assertEqual((await known.receive_json())["seats"], [])
-        self.assertEqual((await asyncio.wait_for(silent.receive(), 30)).data, 1008)
-        await asyncio.sleep(2)
+        silent = await self.session.ws_connect(self.base + "/live", headers={"Origin": self.base})
+        self.assertEqual((await asyncio.wait_for(silent.receive(), PATIENCE)).data, 1008)  # the other came before it
         await known.send_json({"id": 2, "hello": {"token": self.token, "name": "Ada"}})
         self.assertEqual((await known.receive_json())["welcome"]["name"], "Ada")
         await known.close()
@@ -112,9 +112,31 @@ class Frames(Case):
         fits = json.dumps({"id": 2, "ping": ""})
         most = fits[:-2] + "x" * (65_536 - len(fits)) + fits[-2:]
         self.assertEqual(len((await self.raw(self.hello("a"), most))[1]["pong"]), 65_536 - len(fits))
-        self.assertEqual((await self.raw(self.hello("b"), most[:-2] + "x" + most[-2:]))[1:], [1009])
+        for number, more in enumerate((1, 1, 1_000, 1_000, 3_000_000, 3_000_000)):  # the code is heard each time
+            frame = most[:-2] + "x" * more + most[-2:]
+            self.assertEqual((await self.raw(self.hello(f"b{number}"), frame))[1:], [1009], more)
         self.assertEqual((await self.raw(self.hello("c"), b"\x00binary"))[1:], [1003])
         self.assertEqual((await self.raw(self.hello("d"), *["x"] * 40))[-1], 1008)
+
+    async def test_who_sends_a_frame_without_end_is_told_and_nothing_of_it_is_kept(self) -> None:
+        host = self.base.rpartition("/")[2]
+        reader, writer = await asyncio.open_connection("127.0.0.1", int(host.rpartition(":")[2]))
+        writer.write((f"GET /live HTTP/1.1\r\nHost: {host}\r\nOrigin: {self.base}\r\nUpgrade: websocket\r\n"
+                      "Connection: Upgrade\r\nSec-WebSocket-Version: 13\r\n"
+                      "Sec-WebSocket-Key: AAAAAAAAAAAAAAAAAAAAAA==\r\n\r\n").encode())
+        await asyncio.wait_for(reader.readuntil(b"\r\n\r\n"), PATIENCE)
+        before = memory(self.a6)
+        writer.write(b"\x81\xff" + (1 << 40).to_bytes(8, "big") + b"mask" + bytes(1 << 20))
+        self.assertEqual(await asyncio.wait_for(reader.readexactly(4), PATIENCE), b"\x88\x02" + (1009).to_bytes(2, "big"))
+
+        async def sends_on() -> None:
+            while True:
+                writer.write(bytes(1 << 20))
+                await writer.drain()
+                await asyncio.sleep(0.01)
+        with self.assertRaises(ConnectionError):  # at last it is let go
+            await asyncio.wait_for(sends_on(), PATIENCE)
+        self.assertLess(memory(self.a6), before + 30)
 
     async def test_commands_that_are_refused_or_changed_nothing(self) -> None:
         async with self.a6.seat("good") as good, self.a6.seat("bad") as bad:
@@ -147,6 +169,9 @@ class Frames(Case):
                     ("diagram", {"at": bad.at, "from": 0, "to": 0, "every": 0}, "Range"),
                     ("diagram", {"at": bad.at, "from": 0, "to": 0, "cells": [0, 120]}, "Range"),
                     ("means", {"at": bad.at, "from": 0, "to": 70_000, "every": 9, "wide": 9}, "Range"),
+                    ("sums", {"at": bad.at, "from": 0, "to": 7_260}, "Range"),
+                    ("sums", {"at": bad.at, "from": 30, "to": 90}, "Range"),
+                    ("sums", {"at": bad.at, "from": 0, "to": 60}, "NotSimulated"),
                     ("counts", {"at": bad.at, "from": 0, "to": 4_000_000, "each": 1}, "Range"),
                     ("cells", {"at": bad.at, "step": 0, "x\n{\"crowd\":1}": "\n"}, "not a command"),
                     ("cells", {"at": bad.at, "step": 1.5}, "not a command"),
@@ -195,24 +220,29 @@ class Neighbours(Case):
         transport = deaf._socket._response.connection.transport
         transport.pause_reading()
 
+        said: set[Any] = set()
+
         async def floods() -> None:
             while True:
-                said = await asyncio.gather(*(flood.reply("scenario", at="shared") for _ in range(50)))
-                self.assertIn("busy", {one.get("refused") for one in said})
+                replies = await asyncio.gather(*(flood.reply("scenario", at="shared") for _ in range(50)))
+                said.update(one.get("refused") for one in replies)
+
+        async def is_told_busy() -> bool:
+            return "busy" in said
 
         async def never_reads() -> None:
             with self.assertRaises((ConnectionError, aiohttp.ClientError, asyncio.TimeoutError)):
                 for number in range(1_000_000):
                     frame = json.dumps({"id": number, "diagram": {"at": deaf.at, "from": 0, "to": 200}})
-                    await asyncio.wait_for(deaf._socket.send_str(frame), 60)
+                    await asyncio.wait_for(deaf._socket.send_str(frame), PATIENCE)
         tasks = [asyncio.create_task(floods()), asyncio.create_task(never_reads())]
-        await asyncio.sleep(0.5)
+        await until(is_told_busy, "the flood is told so")
         beside = await self.median(good)
         self.assertFalse(tasks[0].done(), "the flood ended")
         tasks[0].cancel()
         # (How many times alone is measured by live/measure; here only that nobody waits without end.)
-        self.assertLess(beside, 10 * alone + 0.5)
-        await asyncio.wait_for(tasks[1], 60)  # the server lets it go
+        self.assertLess(beside, 10 * alone + 5)
+        await asyncio.wait_for(tasks[1], PATIENCE)  # the server lets it go
         transport.resume_reading()
         with self.assertRaises(ConnectionError):
             await deaf.reply("ping")

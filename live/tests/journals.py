@@ -2,6 +2,7 @@
 from __future__ import annotations
 
 import asyncio
+import itertools
 import json
 import resource
 import subprocess
@@ -189,12 +190,12 @@ class Folders(Case):
                     await ada.ask("send", name="shared", title="so far")
                     await ben.ask("take", message="shared")
                     await ada.ask("undo", stamp=[number + 1, 65], key=f"u{number}")
-            for number in range(100, 400):
-                if path.stat().st_ino != first:
-                    break
-                await self.shared(ada, number)
-                await asyncio.sleep(0.1)
-            self.assertNotEqual(path.stat().st_ino, first, "it was never shortened")
+            numbers = itertools.count(100)
+
+            async def is_shortened() -> bool:
+                await self.shared(ada, next(numbers))
+                return path.stat().st_ino != first
+            await running.until(is_shortened, "it is shortened")
             await self.shared(ben, 77)
             held = [await seat.ask("scenario", at=at) for seat, at in ((ada, ada.at), (ben, ben.at), (ada, "shared"))]
             again = await ada.ask("gesture", key="g0", edits=[["limit", 0, 1, 1]])

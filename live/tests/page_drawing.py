@@ -39,7 +39,7 @@ class OnePicture(BrowserCase):
         tab = self.closed_by_a_drag()
         # By the example's rows: at step 20 cell 23 has a standing car, cell 24 is closed, and 25 is empty.
         for cell, said in ((23, "a car at 0 km/h"), (24, "closed"), (25, "no car")):
-            self.assertEqual(tab.point(cell + 0.5, 20.3), f"{cell * 0.0075:.2f} km, 0:00:20: {said}; limit 80 km/h")
+            self.assertEqual(tab.point(cell + 0.5, 20.3), f"{cell * 0.0075:.2f} km, 0:00:20: {said}; limit 81 km/h")
 
     def test_an_edge_is_dragged(self) -> None:
         tab = self.closed_by_a_drag()
@@ -59,7 +59,7 @@ class OnePicture(BrowserCase):
         free = tab.script("return live.mine.level(1).rows[30]")
         self.assertEqual(tab.signs(30, 1, 40), [free])
         self.assertNotIn("#", free)
-        self.assertEqual(tab.point(24.5, 20.3), "0.18 km, 0:00:20: no car; limit 80 km/h")
+        self.assertEqual(tab.point(24.5, 20.3), "0.18 km, 0:00:20: no car; limit 81 km/h")
 
     def test_cars_in_a_closure_are_told(self) -> None:
         tab, = self.open(FREE_ROAD)
@@ -117,10 +117,25 @@ class OneFreeway(BrowserCase):
             [["start", 1, 300, 32768], ["start", 1, 600, 6554]],
             [["watch", 2, 1800, 0], ["watch", 2, 2400, 1]]]
         self.assertEqual([edits_of(one) for one in gestures], wanted)
-        notes = ["50 km/h, 1.5–2.25 km, 0:18:00–0:36:30", "Demand 1,500 cars/h, at 0 km, 0:10:00–0:20:00",
+        notes = ["54 km/h, 1.5–2.25 km, 0:18:00–0:36:30", "Demand 1,500 cars/h, at 0 km, 0:10:00–0:20:00",
                  "Slowing 25 %, 0–0.375 km, from 0:05:00 on", "Slow to start 50 %, 0.375–0.75 km, 0:05:00–0:10:00",
                  "Detector off, at 3.75 km, 0:30:00–0:40:00"]
         self.assertEqual(tab.lines("own"), [note + " private" for note in reversed(notes)])
+
+    def test_a_stretch_in_figures_takes_the_nearest_zones(self) -> None:
+        tab, = self.open(FREEWAY)
+        tab.tool("limit")
+        # The bounds of zones are 0.375 km apart: 3.375 is nearer to 3.5 than 3.75 is; 3.4 to 3.5 lies in one zone.
+        for first, last, zone, taken in (("3", "3.5", 8, "3–3.375"), ("3.4", "3.5", 9, "3.375–3.75"),
+                                         ("3.36", "3.41", 9, "3.375–3.75"), ("5.8", "6", 15, "5.625–6")):
+            tab.in_figures(kmFrom=first, kmTo=last, timeFrom="0:20", timeTo="")
+            self.assertEqual(edits_of(gestures_of(self.server)[-1]), [["limit", zone, 1200, 2]])
+            self.assertEqual(tab.text("said"), f"54 km/h, {taken} km, from 0:20:00 on: done. {taken} km is taken.")
+        tab.in_figures(kmFrom="3", kmTo="3.375")
+        self.assertEqual(tab.text("said"), "54 km/h, 3–3.375 km, from 0:20:00 on: done.")
+        tab.tool("block")
+        tab.in_figures(kmFrom="3.3", kmTo="3.3")
+        self.assertEqual(edits_of(gestures_of(self.server)[-1]), [["block", 440, 1200, 1]])
 
     def test_rectangles_may_overlap(self) -> None:
         tab, = self.open(FREEWAY)
@@ -179,6 +194,59 @@ class OneFreeway(BrowserCase):
         # Some 1,250 cars an hour come, for 30 minutes but those that fill 300 m.
         self.assertTrue(480 <= lost <= 640, lost)
 
+    def test_each_queue_is_told_by_itself(self) -> None:
+        tab, = self.open(FREEWAY)
+        tab.run_an_hour()
+        tab.show(3600)
+        tab.tool("block")
+        for begin, end in (("0:10", "0:16"), ("0:30", "0:36")):
+            tab.in_figures(kmFrom="0.3", kmTo="0.35", timeFrom=begin, timeTo=end)
+        first, second = r"from 0:1[0-3]:00 to 0:1[6-9]:00", r"from 0:3[0-3]:00 to 0:3[6-9]:00"
+        self.assertRegex(tab.text("warnings"), f"A queue reaches the inlet at 0 km, about {first}, {second}: some ")
+        tab.show(1800)
+        # A view from 0:14:40 on has the minutes from 0:14 to 0:45 in it.
+        tab.script("stopFollowing(); look.step = 880; settle(); live.look()")
+        tab.settled()
+        self.assertRegex(tab.text("warnings"), rf"about from 0:14:00 or before to 0:1[6-9]:00, {second}: some ")
+        tab.script("look.step = 240; settle(); live.look()")
+        tab.settled()
+        self.assertRegex(tab.text("warnings"), rf"about {first}, from 0:3[0-3]:00 to 0:34:00 or later: some ")
+
+    def lost(self, tab: Tab) -> int:
+        """The lost demand of the own road, in cars."""
+        cell = tab.script("return document.querySelectorAll('#figures tbody tr')[1].children[1].textContent")
+        return int(cell.replace(",", ""))
+
+    def test_lost_demand_is_the_same_at_each_zoom(self) -> None:
+        tab, = self.open(FREEWAY)
+        tab.run_an_hour()
+        tab.tool("block")
+        tab.in_figures(kmFrom="0.6", kmTo="0.65", timeFrom="0:20", timeTo="0:28")
+        found = {}
+        for seconds in (1800, 3600, 36000):
+            tab.show(seconds)
+            found[seconds] = self.lost(tab), tab.text("warnings")
+            self.assertEqual(tab.text("period"), f"0:00:00 to {'0:30:00' if seconds == 1800 else '1:00:00'}")
+        # Some 20 cars a minute come, for eight minutes but the four or so that fill 600 m.
+        self.assertTrue(50 <= found[3600][0] <= 130, found)
+        self.assertEqual(len(set(found.values())), 1, found)
+        self.assertIn(f"some {found[3600][0]} cars cannot enter", found[3600][1])
+        hours = tab.script("return document.querySelectorAll('#figures tbody tr')[0].children[1].textContent")
+        cars = sum(tab.driver.execute_async_script("""
+            const done = arguments[0];
+            Promise.all([0, 900, 1800, 2700].map((from) =>
+              live.ask({diagram: {at: live.me.at, from, to: from + 899}}))).then((said) =>
+              done(said.map(({rows}) => rows.join("").replace(/[.#]/g, "").length)));"""))
+        self.assertEqual(float(hours), round(cars / 3600, 1))
+
+    def test_a_span_begins_at_the_first_second(self) -> None:
+        tab, = self.open(FREEWAY)
+        tab.run_an_hour()
+        for seconds in (36000, 3600, 14400, 7200, 3600):
+            Select(tab.part("span")).select_by_value(str(seconds))
+            tab.settled()
+            self.assertEqual(tab.text("period"), "0:00:00 to 1:00:00", seconds)
+
     def test_the_token_leaves_the_address(self) -> None:
         tab, = self.open(FREEWAY)
         self.assertNotIn("#", tab.driver.current_url)
@@ -203,7 +271,7 @@ class OneFreeway(BrowserCase):
         path = self.downloads / "changes.csv"
         tab.until(path.exists, "the file")
         line = path.read_text(encoding="utf-8").splitlines()[1]
-        self.assertIn(",\"'=1+1,Ada\",\"50 km/h, 0–0.375 km, from 0:20:00 on\",private,", line)
+        self.assertIn(",\"'=1+1,Ada\",\"54 km/h, 0–0.375 km, from 0:20:00 on\",private,", line)
 
     def test_the_transcript_runs_again(self) -> None:
         tab, = self.open(FREE_ROAD)

@@ -1,9 +1,12 @@
 """Two and three browsers on one road: share, look first, take, overruled, put again, undo; a server that died."""
 from __future__ import annotations
 
+import asyncio
 import time
 
+from brokers import reference
 from browsers import FREE_ROAD, FREEWAY, BrowserCase, Tab, example_rows, gestures_of
+from running import Broker, Server
 from selenium.webdriver.common.action_chains import ActionChains
 from selenium.webdriver.common.by import By
 from selenium.webdriver.common.keys import Keys
@@ -56,23 +59,23 @@ class TwoTabs(BrowserCase):
         # Both have count 1; Ben's seat is the greater, so that Ada loses at 0:20, and her end cuts Ben's short.
         ada.take()
         self.assertEqual(ada.text("said"), "Took 1 change of Ben. 1 change of yours lost to them, whole or in part.")
-        self.assertEqual(ada.lines("lost"), ["30 km/h, 0–0.3 km, 0:20:00–0:30:00 in part"])
-        self.assertIn("1 of 2 edits lost to Ben: 50 km/h, 0–0.3 km, 0:20:00–0:40:00 Both are change number 1; at equal "
+        self.assertEqual(ada.lines("lost"), ["27 km/h, 0–0.3 km, 0:20:00–0:30:00 in part"])
+        self.assertIn("1 of 2 edits lost to Ben: 54 km/h, 0–0.3 km, 0:20:00–0:40:00 Both are change number 1; at equal "
                       "numbers the greater site and seat wins.", ada.text("lost"))
         ben.take()
-        self.assertEqual(ben.lines("lost"), ["50 km/h, 0–0.3 km, 0:20:00–0:40:00 in part"])
-        self.assertIn("holds only until 0:30:00, then Ada: 30 km/h", ben.text("lost"))
+        self.assertEqual(ben.lines("lost"), ["54 km/h, 0–0.3 km, 0:20:00–0:40:00 in part"])
+        self.assertIn("holds only until 0:30:00, then Ada: 27 km/h", ben.text("lost"))
         ada.press("Put mine again")
         ada.settled()
-        self.assertEqual(ada.lines("own"), ["30 km/h, 0–0.3 km, 0:20:00–0:30:00 private"])
+        self.assertEqual(ada.lines("own"), ["27 km/h, 0–0.3 km, 0:20:00–0:30:00 private"])
         self.assertEqual(ada.lines("lost"), [])
         again = gestures_of(self.server)[-1]
         self.assertEqual(again["stamp"][0] if "stamp" in again else again["edits"][0][3], 2)
         ada.press("Share all")
-        self.assertIn("Ben: 50 km/h, 0–0.3 km, 0:20:00–0:40:00 – 1 of 2 edits lost to you: 30 km/h", ada.text("beforeBody"))
+        self.assertIn("Ben: 54 km/h, 0–0.3 km, 0:20:00–0:40:00 – 1 of 2 edits lost to you: 27 km/h", ada.text("beforeBody"))
         ada.press("Share now")
         ben.take()
-        self.assertIn("1 of 2 edits lost to Ada: 30 km/h", ben.text("lost"))
+        self.assertIn("1 of 2 edits lost to Ada: 27 km/h", ben.text("lost"))
 
     def test_undo_gives_back_what_had_lost(self) -> None:
         ada, ben = self.open(FREE_ROAD)
@@ -82,10 +85,61 @@ class TwoTabs(BrowserCase):
         self.limit(ben, "2", "0:20", "")
         ada.share_all()
         ben.take()
-        self.assertTrue(ben.point(20, 1500).endswith("limit 50 km/h"))
+        self.assertTrue(ben.point(20, 1500).endswith("limit 54 km/h"))
         ben.press("Withdraw", "#own")
         ben.settled()
-        self.assertTrue(ben.point(20, 1500).endswith("limit 30 km/h"))
+        self.assertTrue(ben.point(20, 1500).endswith("limit 27 km/h"))
+
+    def test_what_is_in_force_stands_in_a_list(self) -> None:
+        ada, _ = self.open(FREE_ROAD)
+        self.limit(ada, "1", "0:20", "")
+        self.limit(ada, "2", "0:20", "")
+        first, second = "27 km/h, 0–0.3 km, from 0:20:00 on", "54 km/h, 0–0.3 km, from 0:20:00 on"
+        ada.keys("z")
+        ada.settled()
+        self.assertEqual(ada.lines("own"), [f"{first} private"])
+        ada.keys("z")
+        ada.settled()
+        self.assertEqual(ada.lines("own"), [])
+        self.limit(ada, "2", "0:20", "")
+        ada.share_all()
+        ada.press("Withdraw", "#held")
+        ada.settled()
+        self.assertEqual(ada.lines("own"), [f"Withdrew: {second} private"])
+        ada.keys("z")
+        ada.settled()
+        for _ in range(2):  # as it is, and when the page is loaded anew
+            self.assertEqual((ada.lines("own"), ada.lines("held")), ([], [f"{second} shared"]))
+            ada.driver.refresh()
+            ada.until(lambda: ada.lines("held"), "the same seat")
+        count = len(gestures_of(self.server))
+        ada.keys("z")
+        self.assertEqual(ada.text("said"), "What is shared is withdrawn by its line.")
+        ada.settled()
+        self.assertEqual(len(gestures_of(self.server)), count)
+
+    def test_what_came_from_the_shell_is_said(self) -> None:
+        ada, = self.open(FREEWAY, ("Ada",))
+        asyncio.run(self.at_night())
+        ada.until(lambda: ada.text("news").startswith("Cron shared 4 changes: “night”, “works”."), "news")
+        ada.press("Look first")
+        ada.settled()
+        said = ada.script("return [...document.querySelectorAll('#beforeBody > *')].slice(0, 2).flatMap((one) => "
+                          "one.children.length ? [...one.children].map((line) => line.firstChild.data) : [one.textContent])")
+        # Zone 11 has the cells 550 to 599.
+        self.assertEqual(said, ["“night”, “works”", "54 km/h, 4.125–4.5 km, from 1:30:00 on",
+                                "Limit withdrawn, 4.125–4.5 km, from 1:30:00 on",
+                                "Demand 1,500 cars/h, at 0 km, from 0:10:00 on",
+                                "Whole road closed 0.75–0.765 km, from 0:10:00 on, and 1 more edit"])
+
+    async def at_night(self) -> None:
+        async with self.server.seat("Cron") as cron:
+            await cron.ask("edit", object=["limit", 11], step=5400, value=2)
+            await cron.ask("withdraw", object=["limit", 11], step=5400)
+            await cron.ask("send", name="shared", title="night")
+            await cron.ask("edit", object=["inflow", 0], step=600, value=38535)
+            await cron.ask("gesture", key="k", edits=[["block", 100, 600, 1], ["block", 101, 600, 1], ["block", 100, 700, 0]])
+            await cron.ask("send", name="shared", title="works")
 
     def test_figures_stand_beside_each_other(self) -> None:
         ada, ben = self.open(FREE_ROAD)
@@ -138,6 +192,9 @@ class TwoTabs(BrowserCase):
         ben.until(lambda: len(ben.lines("held")) == 1, "taken")
         tab_to(ada, "Space-time diagram")
         type_in(ada, "z")
+        self.assertEqual(ada.text("said"), "What is shared is withdrawn by its line.")
+        tab_to(ada, "Withdraw: Whole road closed")
+        type_in(ada, Keys.ENTER)
         ada.until(lambda: "Withdrew" in "".join(ada.lines("own")), "undone")
 
     def test_a_server_that_died(self) -> None:
@@ -150,11 +207,47 @@ class TwoTabs(BrowserCase):
         ada.part("kmFrom").send_keys("0")
         ada.part("kmTo").send_keys("0.3")
         ada.part("apply").click()
-        ada.until(lambda: ada.lines("own") == ["50 km/h, 0–0.3 km, from 0:20:00 on pending"], "pending")
+        ada.until(lambda: ada.lines("own") == ["54 km/h, 0–0.3 km, from 0:20:00 on pending"], "pending")
         self.server.start()
-        ada.until(lambda: ada.lines("own") == ["50 km/h, 0–0.3 km, from 0:20:00 on private"], "confirmed")
+        ada.until(lambda: ada.lines("own") == ["54 km/h, 0–0.3 km, from 0:20:00 on private"], "confirmed")
         self.assertEqual(len(gestures_of(self.server)), 1)
 
+    def test_the_broker_is_told(self) -> None:
+        broker = Broker()
+        self.addCleanup(broker.kill)
+        ada, = self.open(FREE_ROAD, ("Ada",), "--broker", broker.address)
+        there = Server(None, FREE_ROAD, "--broker", broker.address, "--site", "2")
+        self.addCleanup(there.kill)
+        ada.until(lambda: ada.text("line") == "connected, with 1 other site", "the other site")
+        broker.kill()
+        self.limit(ada, "1", "0:20", "0:30")
+        ada.share_all()
+        ada.until(lambda: ada.text("line") == "connected, but the broker is away; 1 change to be sent", "it is away")
+        self.assertEqual(ada.part("line").get_attribute("class"), "away")
+        broker.start()
+        ada.until(lambda: ada.text("line") == "connected, with 1 other site", "it is back")
+        broker.say(f"road/{reference(self.server)}/edits", "good morning")
+        ada.until(lambda: ada.text("said") == "A message from the broker was left out: it is no message: good morning",
+                  "rubbish is told")
+
+    def test_a_part_is_looked_at_before_it_is_shared(self) -> None:
+        ada, _ = self.open(FREE_ROAD)
+        ada.run_an_hour()
+        self.limit(ada, "1", "0:20", "0:30")
+        self.limit(ada, "2", "0:40", "0:50")
+        ada.press("Share…: 27 km/h")
+        ada.until(lambda: ada.script("return document.querySelector('#before .exact') !== null"), "the figures")
+        lines = ada.script("return [...document.querySelectorAll('#before tbody tr')].map((line) => "
+                           "[...line.children].map((one) => one.textContent))")
+        self.assertEqual([line[0] for line in lines], ["Vehicle hours", "Cars let in", "Lost demand, cars",
+                                                       "Delay of cars in both, vehicle hours", "Cars an hour at 0.21 km"])
+        # A car every other step drives over the 39 cells at 3 cells a step, and in ten of sixty minutes at 1.
+        now, then = [float(text) for text in lines[0][1:3]]
+        self.assertAlmostEqual(now, 1_800 * 13 / 3_600, delta=0.5)
+        self.assertAlmostEqual(then, 1_500 * 13 / 3_600 + 300 * 39 / 3_600, delta=0.5)
+        ada.press("Share now")
+        ada.settled()
+        self.assertEqual([text[-7:] for text in ada.lines("own") + ada.lines("held")], ["private", " shared"])
 
     def test_a_seat_is_taken_over(self) -> None:
         ada, ben = self.open(FREE_ROAD)
@@ -167,7 +260,7 @@ class TwoTabs(BrowserCase):
         self.assertEqual([one.text for one in ada.part("seatList").find_elements(By.TAG_NAME, "button")],
                          ["Ada, seat 1, 1 change not shared"])
         ada.press("Ada, seat 1")
-        ada.until(lambda: ada.lines("own") == ["30 km/h, 0–0.3 km, 0:20:00–0:30:00 private"], "her changes")
+        ada.until(lambda: ada.lines("own") == ["27 km/h, 0–0.3 km, 0:20:00–0:30:00 private"], "her changes")
         self.assertEqual(ben.text("others"), ", with Ada")
 
 

@@ -74,6 +74,17 @@ class Pictures(Case):
             cut = [row[left:right + 1] for row in self.picture[first:last + 1]]
             self.assertEqual((await self.ada.ask("means", **fields))["means"], plain_means(cut, every, wide))
 
+    async def test_sums_of_minutes(self) -> None:
+        wanted = []
+        for first in (0, 60):
+            minute = self.picture[first:first + 60]
+            cars = sum(cell.isdigit() for row in minute for cell in row)
+            # No other cars are before the on-ramp at cell 40: the speeds up to there are those of who came in.
+            speeds = sum(int(cell) for row in minute for cell in row[:40] if cell.isdigit())
+            wanted.append([cars, round(speeds / 40, 3), sum(row[40] == "." for row in minute)])
+        self.assertEqual((await self.ada.ask("sums", **{"from": 0, "to": 120}))["sums"], wanted)
+        self.assertEqual((await self.ada.ask("sums", **{"from": 60, "to": 120}))["sums"], wanted[1:])
+
     async def test_counts(self) -> None:
         found = (await self.ada.ask("counts", **{"from": 10, "to": 130, "each": 50}))["counts"]
         for span, (first, last) in zip(found, ((10, 60), (60, 110), (110, 130))):

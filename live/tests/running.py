@@ -10,30 +10,32 @@ import logging
 import os
 import shutil
 import signal
+import statistics
 import subprocess
 import sys
 import tempfile
 import time
 import unittest
 from pathlib import Path
-from typing import Any, Iterator
+from typing import Any, Awaitable, Callable, Iterator
 
 from client import Seat
 from road_lab import program_path
 
 LIVE = Path(__file__).resolve().parent.parent
-PATIENCE = 60.0
+PATIENCE = 120.0  # seconds; what is waited for comes far sooner where the machine has nothing else to do
 SMALL: dict[str, Any] = {
     "length": 120, "exit": 1, "zone": 20, "zones": [[5, 6_554]] * 6, "inlets": [[0, 27_918], [40, 9_000]],
     "detectors": [30, 70, 110], "words": 1, "replicas": ["road"]}
 STARTED: list[subprocess.Popen[Any]] = []
 FOLDERS: list[Path] = []
 logging.getLogger("asyncio").setLevel(logging.ERROR)  # it warns where the machine is slow
-DIES_WITH_PARENT = 1  # PR_SET_PDEATHSIG
+DIES_WITH_PARENT, GETS_ORPHANS = 1, 36  # PR_SET_PDEATHSIG, PR_SET_CHILD_SUBREAPER
+ctypes.CDLL(None).prctl(GETS_ORPHANS, 1)
 
 
-def dies_with_us() -> None:
-    ctypes.CDLL(None).prctl(DIES_WITH_PARENT, signal.SIGKILL)
+def dies_with_us(by: int = signal.SIGKILL) -> None:
+    ctypes.CDLL(None).prctl(DIES_WITH_PARENT, by)
 
 
 def started(command: list[str], **more: Any) -> subprocess.Popen[Any]:
@@ -51,23 +53,57 @@ def end(process: subprocess.Popen[Any]) -> None:
             stream.close()
 
 
-@atexit.register
-def end_all() -> None:
-    """Ends what was started, and takes the folders away."""
-    for process in STARTED:
-        end(process)
-    STARTED.clear()
+def descendants(process: int | str = "self") -> Iterator[int]:
+    """All that was started here, and by those."""
+    for path in Path(f"/proc/{process}/task").glob("*/children"):
+        with contextlib.suppress(OSError):
+            for child in map(int, path.read_text().split()):
+                yield from descendants(child)
+                yield child
+
+
+def kill_all() -> None:
+    """Kills what was started, browsers too, and takes the folders away."""
+    for child in list(descendants()):
+        with contextlib.suppress(OSError):
+            os.kill(child, signal.SIGKILL)
     for folder in FOLDERS:
         shutil.rmtree(folder, ignore_errors=True)
     FOLDERS.clear()
 
 
-signal.signal(signal.SIGTERM, lambda *_: sys.exit(1))  # so that all this is done then, too
+@atexit.register
+def end_all() -> None:
+    """Ends what was started."""
+    for process in STARTED:
+        end(process)
+    STARTED.clear()
+    kill_all()
+
+
+def leave(*_: Any) -> None:
+    """When it is told to end, wherever it is: an exception would end one test alone."""
+    try:
+        kill_all()
+    finally:
+        os._exit(1)
+
+
+signal.signal(signal.SIGTERM, leave)
 
 
 def new_folder() -> Path:
     FOLDERS.append(Path(tempfile.mkdtemp(prefix="live-test-")))
     return FOLDERS[-1]
+
+
+async def until(holds: Callable[[], Awaitable[Any]], what: str) -> None:
+    """Waits until something holds."""
+    end_of_patience = time.monotonic() + PATIENCE
+    while not await holds():
+        if time.monotonic() > end_of_patience:
+            raise AssertionError(f"waited in vain: {what}")
+        await asyncio.sleep(0.05)
 
 
 class Server:
@@ -206,3 +242,13 @@ class Case(unittest.IsolatedAsyncioTestCase):
 
 def program() -> Path:
     return program_path()
+
+
+def told(what: str, values: list[float], goal: float | None = None, least: float | None = None, unit: str = "ms") -> None:
+    """A figure of live/measure or live/measure_page: the median, beside what is aimed at and what it must be at the
+    least."""
+    median = statistics.median(values)
+    greatest = f", greatest {max(values):.0f}" if len(values) > 1 else ""
+    goals = f" | goal {goal:g}, at the least {least:g} | " if goal is not None and least is not None else " | no goal | "
+    verdict = "" if goal is None or least is None else "met" if median <= goal else "enough" if median <= least else "MISSED"
+    print(f"{what} | {median:.3g} {unit}{greatest}{goals}{verdict}", flush=True)

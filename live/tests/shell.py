@@ -25,7 +25,7 @@ class Shell(Case):
 
     async def test_a_script_takes_part(self) -> None:
         self.assertEqual(await self.road("cron", "edit", "limit", "2", "50", "1"), (0, "[1, 65]", ""))
-        self.assertEqual((await self.road("cron", "share", "night"))[:2], (0, "shared 1 changes, 1 edits"))
+        self.assertEqual((await self.road("cron", "share", "night"))[:2], (0, "shared 1 change, 1 edit"))
         self.assertEqual(await self.road("Ada", "edit", "limit", "0", "50", "4"), (0, "[1, 66]", ""))
         self.assertEqual(await self.road("Ada", "edit", "limit", "2", "50", "4"), (0, "[2, 66]", ""))
         self.assertEqual((await self.road("Ada", "share"))[1], "shared 2 changes, 2 edits")
@@ -38,7 +38,7 @@ class Shell(Case):
         self.broker.kill()
         await self.road("cron", "share")
         status, _, said = await self.road("cron", "tell", PATIENCE="1")
-        self.assertEqual((status, said.split(";")[0]), (1, "1 changes have not come back"))
+        self.assertEqual((status, said.split(";")[0]), (1, "1 change has not come back"))
 
     async def test_six_at_once_get_six_stamps(self) -> None:
         said = await asyncio.gather(*(self.road("cron", "edit", "limit", "2", str(step), "1") for step in range(6)))
@@ -60,9 +60,12 @@ class Shell(Case):
                 (("cron", "edit", "limt", "2", "50", "1"), 1, "`limit` is meant"),
                 (("cron", "edit", "limit", "2", "50"), 2, "wrong words"),
                 (("cron", "edit", "limit", "2", "x", "1"), 2, "no whole number"),
-                (("cron", "ask", "nonsense"), 2, "no command"),
+                (("cron", "ask", "nonsense"), 2, "JSON is wanted"),
+                (("cron", "ask", '{"scenario":{"at":"cron"}}'), 1, 'here `at` is "seat1" or "shared"'),
+                (("cron", "ask", '{"take":{"at":"shared","message":"shared"}}'), 1, 'here `at` is "seat1"'),
                 (("cron", "ask", '{"crowd":{}}'), 1, "no command of a tab"),
-                (("cron",), 2, "NAME and a command"), (("cron", "dance"), 2, "wrong words")):
+                (("cron",), 2, "NAME and a command"), (("cron",), 2, "live/road Cron edit limit 11 5400 2"),
+                (("cron", "dance"), 2, "wrong words")):
             ended, _, said = await self.road(*words)
             self.assertEqual(ended, status, words)
             self.assertIn(why, said)
