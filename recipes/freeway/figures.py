@@ -7,8 +7,11 @@ from dataclasses import dataclass, field
 from pathlib import Path
 from typing import Any, Iterator, NamedTuple
 
-from units import CELLS_A_KM, KMH, cells, kilometres, limit, part, steps
+from units import ALWAYS, CELLS_A_KM, KMH, cells, kilometres, limit, part, steps
 
+CELLS = range(8, 8_193)
+"""Of a road."""
+MOST_STEPS = 1_048_576
 MOST_ZONES = 64
 FASTEST = 9
 
@@ -54,13 +57,17 @@ class Figures:
     seed: int
     zone: float | None = None
 
-    def replaced(self, path: Path) -> Figures:
-        """With the figures of a file, a JSON object of those that are others."""
+    def afterwards(self, path: Path) -> Figures:
+        """With the sections and stalled cars as they turn out to have been, those of a file in the place of these."""
+        return self.replaced(path, ["sections", "stalled"])
+
+    def replaced(self, path: Path, known: list[str] | None = None) -> Figures:
+        """With the figures of a file, a JSON object of those that are others; of all, or of some alone."""
         try:
             given = json.loads(path.read_text(encoding="utf-8"))
         except ValueError as fault:
             raise Fault(f"{path} is no JSON: {fault}") from None
-        names(given, [one.name for one in dataclasses.fields(self)], str(path))
+        names(given, known or [one.name for one in dataclasses.fields(self)], str(path))
         for name, value in given.items():
             if name not in ("sections", "stalled") and not has_shape(value, SHAPES.get(name, 0.0)):
                 raise Fault(f"{path}: {name} is not {value!r}")
@@ -129,10 +136,15 @@ class Road:
 
 def road_of(figures: Figures) -> Road:
     """Cells, steps and chances for the figures. Fault: there is no such road."""
+    if cells(figures.length) not in CELLS:
+        raise Fault(f"a road of {figures.length:g} km: {kilometres(CELLS[0]):g} to {kilometres(CELLS[-1]):g} km is a road's "
+                    f"length, {CELLS[0]} to {CELLS[-1]:,} cells")
     if not 0 <= cells(figures.stretch[0]) < cells(figures.stretch[1]) <= cells(figures.length):
         raise Fault(f"the stretch from km {figures.stretch[0]:g} to {figures.stretch[1]:g} is not one of the road")
     if min(steps(figures.piece), steps(figures.minutes)) < 1:
         raise Fault("a run has minutes, and its stretch is told in pieces of some")
+    if steps(figures.minutes) > MOST_STEPS:
+        raise Fault(f"a run of {figures.minutes:g} minutes: {MOST_STEPS // 60:,} are the most")
     told: list[str] = []
     length = near(told, "a road of", figures.length, "km", cells(figures.length), kilometres)
     road = Road(length, zone_of(told, figures, length), speed(told, "the limit", figures.limit), part(figures.slowing),
@@ -239,3 +251,51 @@ def stalled_puts(told: list[str], figures: Figures, road: Road) -> Iterator[Put]
         yield "block", cell, steps(car.begin), 1
         if steps(car.end) < road.minutes:
             yield "block", cell, steps(car.end), 0
+
+
+# What is changed afterwards
+
+Change = tuple[str, int, int, "int | None"]
+"""Kind, index, step and value of an edit, None for a withdrawal."""
+
+
+def roads_of(figures: Figures, then: Figures | None) -> tuple[Road, Road | None]:
+    """The road as it is planned, and as it turns out: of zones that fit the sections of both best."""
+    if then is None:
+        return road_of(figures), None
+    if figures.zone is None:
+        both = dataclasses.replace(figures, sections=[*figures.sections, *then.sections])
+        zone = kilometres(zone_of([], both, cells(figures.length))) if cells(figures.length) in CELLS else None
+        figures, then = (dataclasses.replace(one, zone=zone) for one in (figures, then))
+    return road_of(figures), road_of(then)
+
+
+def changes(road: Road, then: Road) -> list[Change]:
+    """The edits that make of the one road the other: what is put, and what is withdrawn."""
+    before, after = ({put[:3]: put[3] for put in one.puts} for one in (road, then))
+    put = [(*key, value) for key, value in after.items() if before.get(key) != value]
+    return sorted([*put, *((*key, None) for key in before if key not in after)], key=lambda change: change[:3])
+
+
+def changes_told(road: Road, changed: list[Change]) -> list[str]:
+    """The changes in km and minutes, and in cells and steps, neighbouring zones as one."""
+    spans: dict[tuple, range] = {}
+    for kind, index, step, value in changed:
+        before = spans.pop((kind, step, value, index - 1), range(index, index)) if kind != "block" else range(index, index)
+        spans[kind, step, value, index] = range(before.start, index + 1)
+    found = sorted((kind, span.start, step, span, value) for (kind, step, value, _), span in spans.items())
+    return [change_told(road, kind, span, step, value) for kind, _, step, span, value in found]
+
+
+def change_told(road: Road, kind: str, indexes: range, step: int, value: int | None) -> str:
+    since = f"from minute {step / 60:g} (step {step}) on"
+    if kind == "block":
+        said = f"closure {since} withdrawn" if value is None else f"{'closed' if value else 'open'} {since}"
+        return f"km {kilometres(indexes[0]):.5g} (cell {indexes[0]}): {said}"
+    first, last = indexes[0] * road.zone, min((indexes[-1] + 1) * road.zone, road.length)
+    zones = f"zone {indexes[0]}" if len(indexes) == 1 else f"zones {indexes[0]}-{indexes[-1]}"
+    where = f"km {kilometres(first):.5g} to {kilometres(last):.5g} ({zones}, cells {first} to {last - 1})"
+    name = {"limit": "limit", "slow": "slowing", "start": "slowing of standing cars"}[kind]
+    if value is None:
+        return f"{where}: {name} {since} withdrawn"
+    return f"{where}: {name} {f'{value * KMH:g} km/h' if kind == 'limit' else f'{value / ALWAYS:.3g}'} {since}"

@@ -119,10 +119,13 @@ class Entered(NamedTuple):
 
 @dataclass(frozen=True)
 class Delay:
-    """The cars of two runs, each in one of four groups, and what the change costs, in steps."""
+    """The cars of two runs, each in one of four groups, those of the delayed in `through` too, and what the change costs,
+    in steps."""
 
     through: Group
     """Cars that have left the road in both runs."""
+    delayed: Group
+    """Those of them that took longer in the second run."""
     inside: Group
     """Cars of both runs that still are on the road in one or both: their times up to the last row."""
     lost: Group
@@ -174,8 +177,9 @@ def delay(before: Journeys, after: Journeys, period: int = 60) -> Delay:
                        len(lost.intersection(numbers)), len(gained.intersection(numbers)))
 
     every = sorted(before.last.keys() | after.last.keys())
+    delayed = {number for number in through if after.time(number) > before.time(number)}
     cost = Delay(
-        group(through), group(both - through), group(lost), group(gained),
+        group(through), group(delayed), group(both - through), group(lost), group(gained),
         {key: minute(numbers) for key, numbers in parted(every, lambda car: entry_of(car) // period).items()},
         {key: entered(numbers) for key, numbers in parted(every, inlet_of).items()},
         sum(after.rows) - sum(before.rows))

@@ -81,10 +81,10 @@ def main():
     print()
 
     comma("cars", "number", "mean delay s", "greatest s", "veh·h")
-    sums = 0
-    for name, cars in (("through in both runs", ended), ("not yet through", late.keys() - ended)):
+    sums = sum(late.values())
+    later = {car for car in ended if late[car] > 0}
+    for name, cars in (("through in both runs", ended), ("of these later than before", later), ("not yet through", late.keys() - ended)):
         total = sum(late[car] for car in cars)
-        sums += total
         comma(name, len(cars), mean(total, len(cars)), most([late[car] for car in cars]), hours(total))
     lost, gained = sum(took[car] for car in took.keys() - late), sum(takes[car] for car in takes.keys() - late)
     comma("in the first run alone (lost)", len(took) - len(late), "", "", hours(-lost))
