@@ -55,6 +55,26 @@ class ForAll(BrowserCase):
             self.assertEqual(too_wide, [], width)
             self.assertLessEqual(tab.script("return document.documentElement.scrollWidth - innerWidth"), 0)
 
+    def test_what_is_asked_before_sharing_is_seen(self) -> None:
+        tab, = self.open(FREEWAY)
+        tab.run_an_hour()
+        tab.script("for (let zone = 0; zone < 12; zone++) applyArea(areaOfShape(['limit', zone, zone, 1200, 1800, 2]))")
+        self.addCleanup(tab.driver.execute_cdp_cmd, "Emulation.clearDeviceMetricsOverride", {})
+        for width, height in ((1366, 768), (768, 1024), (1024, 768)):
+            tab.driver.execute_cdp_cmd("Emulation.setDeviceMetricsOverride",
+                                       {"width": width, "height": height, "deviceScaleFactor": 1, "mobile": False})
+            tab.settled()
+            tab.script("window.scrollTo(0, 0)")
+            tab.script("$('shareAll').click()")
+            tab.until(lambda: tab.script("return document.querySelector('#before table') !== null"), "the figures")
+            tab.settled()
+            top, bottom = tab.script("""
+                const one = [...document.querySelectorAll("#before button")].find((one) => one.textContent === "Share now");
+                const {top, bottom} = one.getBoundingClientRect();
+                return [top, bottom];""")
+            self.assertTrue(0 <= top < bottom <= height, (width, top, bottom))
+            tab.press("Not now")
+
     def test_texts_stand_out(self) -> None:
         tab, = self.open(FREEWAY)
         tab.run_an_hour()

@@ -5,7 +5,7 @@ import asyncio
 import time
 
 from brokers import reference
-from browsers import FREE_ROAD, FREEWAY, BrowserCase, Tab, example_rows, gestures_of
+from browsers import FREE_ROAD, FREEWAY, BrowserCase, Tab, edits_of, example_rows, gestures_of
 from running import Broker, Server
 from selenium.webdriver.common.action_chains import ActionChains
 from selenium.webdriver.common.by import By
@@ -60,11 +60,14 @@ class TwoTabs(BrowserCase):
         ada.take()
         self.assertEqual(ada.text("said"), "Took 1 change of Ben. 1 change of yours lost to them, whole or in part.")
         self.assertEqual(ada.lines("lost"), ["27 km/h, 0–0.3 km, 0:20:00–0:30:00 in part"])
+        self.assertIn("In force there now: 54 km/h, 0–0.3 km, 0:20:00–0:30:00.", ada.text("lost"))
         self.assertIn("1 of 2 edits lost to Ben: 54 km/h, 0–0.3 km, 0:20:00–0:40:00 Both are change number 1; at equal "
                       "numbers the greater site and seat wins.", ada.text("lost"))
         ben.take()
         self.assertEqual(ben.lines("lost"), ["54 km/h, 0–0.3 km, 0:20:00–0:40:00 in part"])
         self.assertIn("holds only until 0:30:00, then Ada: 27 km/h", ben.text("lost"))
+        self.assertIn("In force there now: 54 km/h, 0–0.3 km, 0:20:00–0:30:00; 81 km/h, 0–0.3 km, 0:30:00–0:40:00.",
+                      ben.text("lost"))
         ada.press("Put mine again")
         ada.settled()
         self.assertEqual(ada.lines("own"), ["27 km/h, 0–0.3 km, 0:20:00–0:30:00 private"])
@@ -73,6 +76,9 @@ class TwoTabs(BrowserCase):
         self.assertEqual(again["stamp"][0] if "stamp" in again else again["edits"][0][3], 2)
         ada.press("Share all")
         self.assertIn("Ben: 54 km/h, 0–0.3 km, 0:20:00–0:40:00 – 1 of 2 edits lost to you: 27 km/h", ada.text("beforeBody"))
+        # What is put again has at its end what is there without it: Ben's limit.
+        self.assertIn("In force there then: 27 km/h, 0–0.3 km, 0:20:00–0:30:00; 54 km/h, 0–0.3 km, 0:30:00–0:40:00.",
+                      ada.text("beforeBody"))
         ada.press("Share now")
         ben.take()
         self.assertIn("1 of 2 edits lost to Ada: 27 km/h", ben.text("lost"))
@@ -140,6 +146,51 @@ class TwoTabs(BrowserCase):
             await cron.ask("edit", object=["inflow", 0], step=600, value=38535)
             await cron.ask("gesture", key="k", edits=[["block", 100, 600, 1], ["block", 101, 600, 1], ["block", 100, 700, 0]])
             await cron.ask("send", name="shared", title="works")
+
+    def test_what_came_from_the_shell_can_be_changed(self) -> None:
+        ada, = self.open(FREEWAY, ("Ada",))
+        asyncio.run(self.by_a_script())
+        ada.take()
+        names = ada.script("return [...document.querySelectorAll('#held button')].map((one) => one.ariaLabel)")
+        self.assertEqual([name for name in names if name.startswith("Change")],
+                         ["Change: Whole road closed 0.75–0.765 km, from 0:10:00 on, and 2 more edits",
+                          "Change: 54 km/h, 4.125–4.5 km, from 1:30:00 on"])
+        ada.press("Change: 54 km/h")
+        values = [ada.part(name).get_attribute("value") for name in ("limit", "kmFrom", "kmTo", "timeFrom", "timeTo")]
+        self.assertEqual(values, ["2", "4.125", "4.5", "1:30:00", ""])
+        Select(ada.part("limit")).select_by_value("3")
+        ada.in_figures(timeTo="1:40")
+        # In the place of zone 11's limit from 1:30 on: another, which ends; the plan's is 5.
+        self.assertEqual(edits_of(gestures_of(self.server)[-1]), [["limit", 11, 5400, 3], ["limit", 11, 6000, 5]])
+        self.assertEqual(ada.lines("own"), ["81 km/h, 4.125–4.5 km, 1:30:00–1:40:00 private"])
+        ada.press("Change: Whole road closed")
+        values = [ada.part(name).get_attribute("value") for name in ("kmFrom", "kmTo", "timeFrom", "timeTo")]
+        self.assertEqual(values, ["0.75", "0.765", "0:10:00", "0:11:40"])
+
+    async def by_a_script(self) -> None:
+        async with self.server.seat("Cron") as cron:
+            await cron.ask("edit", object=["limit", 11], step=5400, value=2)
+            for number, edits in enumerate((
+                    [["block", 100, 600, 1], ["block", 101, 600, 1], ["block", 100, 700, 0], ["block", 101, 700, 0]],
+                    # No shape: two values, a gap, two kinds, another value than the plan's at the end, an end too few.
+                    [["limit", 1, 600, 3], ["limit", 2, 600, 4]], [["limit", 4, 600, 3], ["limit", 6, 600, 3]],
+                    [["limit", 7, 600, 3], ["slow", 7, 600, 3]], [["limit", 8, 600, 3], ["limit", 8, 700, 4]],
+                    [["block", 300, 600, 1], ["block", 301, 600, 1], ["block", 300, 700, 0]],
+                    [["watch", 0, 600, 0], ["watch", 1, 600, 0]])):
+                await cron.ask("gesture", key=f"k{number}", edits=edits)
+            await cron.ask("send", name="shared")
+
+    def test_how_to_begin_is_told_to_who_comes_later_too(self) -> None:
+        ada, ben = self.open(FREE_ROAD)
+        self.assertTrue(ben.part("emptyHint").is_displayed())
+        ada.run_an_hour()
+        for tab in (ada, ben):
+            tab.until(lambda: not tab.part("emptyHint").is_displayed(), "the road is not empty")
+            self.assertTrue(tab.part("hint").is_displayed())
+            self.assertTrue(tab.text("hint").endswith("Nobody else sees it before you share it."))
+        ben.driver.refresh()
+        ben.until(lambda: ben.text("clock") == "1:00:00", "the same seat")
+        self.assertFalse(ben.part("emptyHint").is_displayed())
 
     def test_figures_stand_beside_each_other(self) -> None:
         ada, ben = self.open(FREE_ROAD)
@@ -211,6 +262,10 @@ class TwoTabs(BrowserCase):
         self.server.start()
         ada.until(lambda: ada.lines("own") == ["54 km/h, 0–0.3 km, from 0:20:00 on private"], "confirmed")
         self.assertEqual(len(gestures_of(self.server)), 1)
+        ada.settled()
+        self.server.again()
+        ada.until(lambda: ada.text("said") == "The connection is back.", "what was said is over")
+        self.assertEqual(ada.text("line"), "connected")
 
     def test_the_broker_is_told(self) -> None:
         broker = Broker()
