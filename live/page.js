@@ -103,8 +103,8 @@ const live = {
 
   async take() {
     closeBefore();
-    const {list, scenario} = live.held;
-    const before = new Map(list.filter(isOwn).map((one) => [one, standing(scenario, one)]));
+    const {scenario} = live.held;
+    const before = new Map(actingNow().filter(isOwn).map((one) => [one, standing(scenario, one)]));
     const fresh = untaken();
     const said = await live.ask({take: {at: live.me.at, message: "shared"}});
     if (!said || said.refused) return;

@@ -239,14 +239,24 @@ function restoresShared(scenario, common, gesture) {
   });
 }
 
-/** Whether a gesture takes back one that is private too: both are as if they had never been. */
-const isBackAndForth = (held, {shared, undoes, stamp}) => !shared && undoes && held.some((one) =>
-  sameStamp(one.stamp, undoes) && !one.shared && one.stamp[1] === stamp[1]);
+/** Of what a number's seat holds, what acts: without what it took back before anybody else had it,
+    and without what took that back, which are as if they had never been. */
+function actingOf(held, number) {
+  const own = held.filter(({stamp, shared}) => !shared && stamp[1] === number);
+  const stamps = new Set(own.map(({stamp}) => keyOf(stamp)));
+  const undoings = own.filter(({undoes}) => undoes)
+    .sort((one, other) => byStamp(other.stamp, one.stamp));
+  const gone = new Set();
+  for (const {stamp, undoes} of undoings) if (!gone.has(keyOf(stamp))) gone.add(keyOf(undoes));
+  const hidden = new Set(own.filter(({stamp, undoes}) =>
+    gone.has(keyOf(stamp)) || (undoes && stamps.has(keyOf(undoes)))));
+  return held.filter((gesture) => !hidden.has(gesture));
+}
 
-/** Whether a gesture of those that are held is worth a line: it acts, or it takes back what is
-    shared. */
-function isSeen(held, scenario, common, gesture) {
-  if (isBackAndForth(held, gesture) || standing(scenario, gesture).replaced) return false;
+/** Whether a gesture of those that act is worth a line: it holds or lost to others, or it takes back
+    what is shared. */
+function isSeen(scenario, common, gesture) {
+  if (standing(scenario, gesture).replaced) return false;
   if (!gesture.shared) return !restoresShared(scenario, common, gesture);
   return !gesture.undoes && gesture.edits.some(([, , , value]) => value !== null);
 }

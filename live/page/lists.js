@@ -3,6 +3,7 @@
 // what sharing or taking would change before it is done.
 
 const isOwn = ({stamp}) => stamp[1] === live.me.number;
+const actingNow = () => actingOf(live.held.list, live.me.number);
 const nameOf = (gesture) => (isOwn(gesture) ? "you" : gesture.who || "somebody");
 const noteOf = (gesture) => gesture.note || editsText(live.held.scenario, gesture.edits);
 
@@ -28,9 +29,8 @@ let linesShown = [];
 
 /** The lines of all lists, newest first, each with the list where it stands. */
 function linesNow() {
-  const {list, scenario} = live.held;
-  const seen = list.filter((gesture) =>
-    isSeen(list, scenario, live.common.scenario, gesture));
+  const {scenario} = live.held;
+  const seen = actingNow().filter((gesture) => isSeen(scenario, live.common.scenario, gesture));
   const lines = seen.map((gesture) => {
     const stands = standing(scenario, gesture);
     const state = stateOf(gesture, stands);
@@ -167,10 +167,10 @@ function changesOfStanding(gestures, before, after) {
 }
 
 /** Who would lose to whom, were these gestures added to those. */
-function lossesByAdding(gestures, target) {
-  const after = new Scenario(live.plan, [...target.list, ...gestures]);
-  return [...changesOfStanding(gestures, null, after),
-          ...changesOfStanding(target.list, target.scenario, after)];
+function lossesByAdding(gestures, there) {
+  const before = new Scenario(live.plan, there);
+  const after = new Scenario(live.plan, [...there, ...gestures]);
+  return [...changesOfStanding(gestures, null, after), ...changesOfStanding(there, before, after)];
 }
 
 function lossList(losses) {
@@ -193,7 +193,7 @@ function openBefore(what, gestures) {
     closeBefore();
     if (shares) live.share(gestures); else live.take();
   };
-  const losses = lossesByAdding(gestures, shares ? live.common : live.held);
+  const losses = lossesByAdding(gestures, shares ? live.common.list : actingNow());
   const titles = shares ? "" : titlesOf(live.news);
   $("beforeBody").replaceChildren(element("p", titles, {hidden: !titles}), gestureList(gestures),
     element("h3", "Who would lose to whom"), lossList(losses),

@@ -72,7 +72,8 @@ async function saveTranscript() {
   const lines = await transcriptLines();
   if (!lines) return;
   download(lines, "transcript.jsonl", "application/jsonl");
-  tell("Saved transcript.jsonl: choose it in the viewer.");
+  tell(`Saved transcript.jsonl: choose it in the viewer, with ${METRES_A_CELL} metres a cell and `
+    + "1 second a step.");
 }
 
 /** Saves the commands alone; road_lab answers them as the transcript has it. */

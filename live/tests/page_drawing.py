@@ -200,7 +200,7 @@ class OneFreeway(BrowserCase):
         for seconds in (300, 3600, 36000):
             tab.show(seconds)
             said = tab.text("stride")
-            metres, time, unit = re.fullmatch(r"by ([\d.]+) m and (\d+) (s|min) at this zoom", said).groups()
+            (metres, time, unit), = re.findall(r"^by ([\d.]+) m and (\d+) (s|min) at this zoom$", said)
             before = tab.script("return drawn.cursor = [400, 600]")
             tab.keys(Keys.ARROW_RIGHT, Keys.ARROW_DOWN)
             cell, step = tab.script("return drawn.cursor")

@@ -75,6 +75,18 @@ class ForAll(BrowserCase):
             self.assertTrue(0 <= top < bottom <= height, (width, top, bottom))
             tab.press("Not now")
 
+    def test_the_menu_is_seen_whole(self) -> None:
+        tab, = self.open(FREEWAY)
+        tab.script("$('others').textContent = ', with Benjamin and Cleopatra'")  # who make the head wider
+        tab.part("save").find_element(By.TAG_NAME, "summary").click()
+        self.addCleanup(tab.driver.execute_cdp_cmd, "Emulation.clearDeviceMetricsOverride", {})
+        for width in (320, 520, 600, 768, 1000, 1200, 1300, 1366, 1500):
+            tab.driver.execute_cdp_cmd("Emulation.setDeviceMetricsOverride",
+                                       {"width": width, "height": 768, "deviceScaleFactor": 1, "mobile": False})
+            left, right = tab.script("const {left, right} = document.querySelector('#save > div').getBoundingClientRect();"
+                                     "return [left, right]")
+            self.assertTrue(0 <= left < right <= width, (width, left, right))
+
     def test_texts_stand_out(self) -> None:
         tab, = self.open(FREEWAY)
         tab.run_an_hour()

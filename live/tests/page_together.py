@@ -83,6 +83,29 @@ class TwoTabs(BrowserCase):
         ben.take()
         self.assertIn("1 of 2 edits lost to Ada: 27 km/h", ben.text("lost"))
 
+    def test_what_was_taken_back_in_private_is_not_told_of_again(self) -> None:
+        ada, ben = self.open(FREE_ROAD)
+        ada.run_an_hour()
+        self.limit(ada, "1", "0:20", "0:30")
+        ada.keys("z")
+        ada.settled()
+        self.limit(ada, "1", "0:20", "0:30")
+        ada.share_all()
+        ben.take()
+        self.limit(ben, "2", "0:20", "0:30")
+        ben.share_all()
+        ada.until(lambda: ada.part("news").is_displayed(), "news")
+        ada.press("Look first")
+        ada.settled()
+        told = ada.script("return [...document.querySelectorAll('#beforeBody h3 + ul > li')].map((one) => "
+                          "one.firstChild.data)")
+        self.assertEqual([text.partition(" – ")[0] for text in told], ["you: 27 km/h, 0–0.3 km, 0:20:00–0:30:00"])
+        ada.press("Take now")
+        ada.until(lambda: ada.text("said") == "Took 1 change of Ben. 1 change of yours lost to them, whole or in part.",
+                  "taken")
+        self.assertEqual(ada.lines("lost"), ["27 km/h, 0–0.3 km, 0:20:00–0:30:00 in part"])  # its end holds
+        self.assertEqual(ada.lines("own"), [])
+
     def test_undo_gives_back_what_had_lost(self) -> None:
         ada, ben = self.open(FREE_ROAD)
         ada.run_an_hour()
