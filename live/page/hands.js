@@ -174,6 +174,7 @@ function onUp(event) {
   else if (held && !held.moved && !["look", "block"].includes(toolNow())) {
     applyArea(areaOfShape(shapeBetween(...[0, 0].map(() => snapped(held.at, event.altKey)), true)));
   }
+  readOut(placeOf(event), false);
   draw();
 }
 
@@ -284,6 +285,7 @@ function beginCorner() {
 
 function dropArea() {
   Object.assign(drawn, {area: null, corner: null, held: null});
+  if (drawn.cursor) readOut(drawn.cursor, true);
 }
 
 function enterArea() {

@@ -185,6 +185,7 @@ class OneFreeway(BrowserCase):
         self.assertEqual(tab.text("readout"), "54 km/h, 2.625–3.375 km, in whole zones, of 375 m each, 0:20:00–0:25:00")
         self.assertEqual(gestures_of(self.server), [])
         tab.drop()
+        self.assertNotIn("zones", tab.text("readout"))  # now of the place at which it was let go
         self.assertEqual(tab.lines("own"), ["54 km/h, 2.625–3.375 km, 0:20:00–0:25:00 private"])
         tab.tool("block")
         self.assertFalse(tab.part("zonesHint").is_displayed())

@@ -75,6 +75,24 @@ class ForAll(BrowserCase):
             self.assertTrue(0 <= top < bottom <= height, (width, top, bottom))
             tab.press("Not now")
 
+    def test_what_is_said_is_seen_beside_the_diagram(self) -> None:
+        tab, = self.open(FREEWAY)
+        tab.run_an_hour()
+        self.addCleanup(tab.driver.execute_cdp_cmd, "Emulation.clearDeviceMetricsOverride", {})
+        tab.tool("block")
+        for width in (600, 768, 1000, 1001, 1500):
+            tab.driver.execute_cdp_cmd("Emulation.setDeviceMetricsOverride",
+                                       {"width": width, "height": 768, "deviceScaleFactor": 1, "mobile": False})
+            tab.settled()
+            tab.in_figures(kmFrom="3", kmTo="3.1", timeFrom="0:20", timeTo="0:30")
+            tab.script("window.scrollTo(0, 0)")
+            said, diagram = tab.script("""
+                return ["said", "diagram"].map((id) => $(id).getBoundingClientRect()).map(({left, top, right, bottom}) =>
+                  [left, top, right, bottom]);""")
+            self.assertIn(": done.", tab.text("said"))
+            self.assertTrue(0 <= said[1] < said[3] <= 768, (width, said))
+            self.assertTrue(said[3] <= diagram[1] or said[0] >= diagram[2], (width, said, diagram))
+
     def test_the_menu_is_seen_whole(self) -> None:
         tab, = self.open(FREEWAY)
         tab.script("$('others').textContent = ', with Benjamin and Cleopatra'")  # who make the head wider

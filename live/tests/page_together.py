@@ -13,6 +13,23 @@ from selenium.webdriver.common.keys import Keys
 from selenium.webdriver.support.ui import Select
 
 
+ACTIVE = "const one = document.activeElement; return one.getAttribute('aria-label') || one.textContent.trim() || one.id"
+
+
+def tab_to(tab: Tab, name: str) -> None:
+    """Moves the focus on until it is at what is called so."""
+    for _ in range(80):
+        if tab.script(ACTIVE).startswith(name):
+            return
+        ActionChains(tab.driver, duration=0).send_keys(Keys.TAB).perform()
+    raise AssertionError(f"no way to {name}")
+
+
+def type_in(tab: Tab, *keys: str) -> None:
+    for key in keys:
+        ActionChains(tab.driver, duration=0).send_keys(key).perform()
+
+
 class TwoTabs(BrowserCase):
     """Two browsers: share, look first, take, overruled, put again, undo."""
 
@@ -231,21 +248,32 @@ class TwoTabs(BrowserCase):
         passed = [int(text.split()[0].replace(",", "")) for text in (mine, shared)]
         self.assertEqual(change, f"−{passed[1] - passed[0]:,}")
 
+    def test_overruled_and_put_again_by_the_keyboard_alone(self) -> None:
+        ada, ben = self.open(FREE_ROAD)
+        ada.run_an_hour()
+        self.limit(ada, "1", "0:20", "0:30")
+        ada.share_all()
+        ben.take()
+        tab_to(ben, "Change: 27 km/h")
+        type_in(ben, Keys.ENTER)
+        tab_to(ben, "timeTo")
+        type_in(ben, "0:25", Keys.ENTER)  # the focus has selected what was there
+        ben.until(lambda: ben.lines("own") == ["27 km/h, 0–0.3 km, 0:20:00–0:25:00 private"], "Ben's change")
+        for name in ("Share all", "Share now"):
+            tab_to(ben, name)
+            type_in(ben, Keys.ENTER)
+        ada.until(lambda: ada.part("news").is_displayed(), "news")
+        for name in ("Look first", "Take now"):
+            tab_to(ada, name)
+            type_in(ada, Keys.ENTER)
+        ada.until(lambda: ada.lines("lost") == ["27 km/h, 0–0.3 km, 0:20:00–0:30:00 in part"], "overruled")
+        tab_to(ada, "Put mine again: 27 km/h")
+        type_in(ada, Keys.ENTER)
+        ada.until(lambda: ada.lines("own") == ["27 km/h, 0–0.3 km, 0:20:00–0:30:00 private"], "put again")
+        self.assertEqual(ada.lines("lost"), [])
+
     def test_by_the_keyboard_alone(self) -> None:
         ada, ben = self.open(FREE_ROAD)
-        active = "const one = document.activeElement; return one.getAttribute('aria-label') || one.textContent.trim() || one.id"
-
-        def tab_to(tab: Tab, name: str, key: str = Keys.TAB) -> None:
-            for _ in range(80):
-                if tab.script(active).startswith(name):
-                    return
-                ActionChains(tab.driver, duration=0).send_keys(key).perform()
-            raise AssertionError(f"no way to {name}")
-
-        def type_in(tab: Tab, *keys: str) -> None:
-            for key in keys:
-                ActionChains(tab.driver, duration=0).send_keys(key).perform()
-
         tab_to(ada, "Run an hour")
         type_in(ada, Keys.ENTER)
         ada.until(lambda: ada.text("clock") == "1:00:00", "the clock")
