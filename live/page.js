@@ -350,6 +350,7 @@ function lost(again, reason, code) {
   showLine(text, true);
   const told = again ? "Connection lost, trying again. What you do meanwhile is kept and sent then."
     : `The connection was closed: ${reason}.`;
+  if (!live.me) $("helloSaid").textContent = told;
   if (!again || !live.away) tell(told, true);
   live.away = true;
 }

@@ -345,6 +345,16 @@ class OneFreeway(BrowserCase):
         tab.driver.refresh()
         tab.until(lambda: tab.text("me") == "Ada (seat 1)", "the same seat")
 
+    def test_an_address_without_its_token_is_told(self) -> None:
+        tab, = self.open(FREEWAY)
+        tab.script("sessionStorage.clear()")
+        tab.driver.get(tab.driver.current_url)  # as it was copied from the address bar
+        said = "The connection was closed: the address lacks the right token: open it as live/serve printed it."
+        tab.until(lambda: tab.part("helloSaid").text == said, "it is told where a name is asked for")
+        tab.script("$('helloSaid').textContent = ''")
+        tab.part("name").send_keys("Ben", Keys.ENTER)
+        tab.until(lambda: tab.part("helloSaid").text == said, "it is told to who joins")
+
     def test_names_are_text(self) -> None:
         name = "<img src=x onerror=alert(1)>=1"
         tab, = self.open(FREEWAY, (name,))
