@@ -253,8 +253,8 @@ function actingOf(held, number) {
   return held.filter((gesture) => !hidden.has(gesture));
 }
 
-/** Whether a gesture of those that act is worth a line: it holds or lost to others, or it takes back
-    what is shared. */
+/** Whether a gesture of those that act is worth a line: it holds, it lost to others, or it takes
+    back what is shared. */
 function isSeen(scenario, common, gesture) {
   if (standing(scenario, gesture).replaced) return false;
   if (!gesture.shared) return !restoresShared(scenario, common, gesture);
@@ -334,11 +334,15 @@ const MOST_FORCES = 4;          // that are told
 function forceText(scenario, shape) {
   if (!shape) return "";
   const found = inForce(scenario, shape);
-  const texts = found.slice(0, MOST_FORCES).map(({kind, first, last, from, to, value}) =>
-    (value === null ? `${THINGS[kind]} as planned, ${placesText(scenario.plan, kind, first, last)}, `
-      + spanText(from, to) : shapeText(scenario, [kind, first, last, from, to, value])));
+  const texts = found.slice(0, MOST_FORCES).map((one) => partText(scenario, one));
   const rest = found.length - texts.length;
   return `${texts.join("; ")}${rest > 0 ? `; and ${rest} more` : ""}.`;
+}
+
+function partText(scenario, {kind, first, last, from, to, value}) {
+  if (value !== null) return shapeText(scenario, [kind, first, last, from, to, value]);
+  const where = placesText(scenario.plan, kind, first, last);
+  return `${THINGS[kind]} as planned, ${where}, ${spanText(from, to)}`;
 }
 
 /** A shape in a sentence, which becomes the gesture's note. */

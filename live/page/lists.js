@@ -158,8 +158,10 @@ function showNews(news) {
 function changesOfStanding(gestures, before, after) {
   return gestures.flatMap((gesture) => {
     const was = before ? lossesOf(gesture, standing(before, gesture)).map(({text}) => text) : [];
-    const losses = lossesOf(gesture, standing(after, gesture)).filter(({text}) => !was.includes(text))
-      .map(({text, why}) => ({text: `${nameOf(gesture)}: ${noteOf(gesture)} \u2013 ${text}.`, why}));
+    const about = `${nameOf(gesture)}: ${noteOf(gesture)} \u2013 `;
+    const losses = lossesOf(gesture, standing(after, gesture))
+      .filter(({text}) => !was.includes(text))
+      .map(({text, why}) => ({text: `${about}${text}.`, why}));
     const force = losses.length ? forceText(after, gesture.shape) : "";
     if (force) losses.at(-1).why += ` In force there then: ${force}`;
     return losses;
@@ -236,8 +238,8 @@ function closeBefore() {
 
 const READ_BOTH =
   "A car that does not enter spends no vehicle hours: read these with the lost demand.";
-const IS_EXACT = "This is counted car by car. The estimates below the diagram leave out what is lost "
-  + "while an inlet lets in more than half of its demand.";
+const IS_EXACT = "This is counted car by car. The estimates below the diagram leave out what is "
+  + "lost while an inlet lets in more than half of its demand.";
 
 /** What sharing all would change: the own road beside the shared one, as far as it is there. */
 function showOwnPreview() {
@@ -279,7 +281,7 @@ function exactPreview(said) {
     ...hints.map((hint) => element("p", hint, {className: "hint"})));
 }
 
-/** Where there are several inlets, what is lost at each, so that it can be held beside a warning. */
+/** Where there are several inlets, what is lost at each, to be held beside a warning. */
 function lostLines({inlets}) {
   if (live.plan.inlets.length === 1) return [];
   return Object.entries(inlets).map(([index, [, , lost, gained]]) =>

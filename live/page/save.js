@@ -14,9 +14,10 @@ const roadShown = () => (chosen("whose") === "shared" ? "shared" : live.me.at);
 function captionText() {
   const whose = {mine: `The road of ${live.me.name}`, shared: "The shared road",
                  both: `The road of ${live.me.name} less the shared one`}[chosen("whose")];
-  const [[first, last], [from, to]] = [partShown().cells.map(Math.round), partShown().steps];
-  return `${whose}, ${kmText(first)}\u2013${kmText(last)} km, ${timeText(from)}\u2013${timeText(to)}`
-    + (live.now() < to ? `; the clock is at ${timeText(live.now())}` : "");
+  const {cells, steps} = partShown();
+  const [places, times] = [cells.map(Math.round).map(kmText), steps.map(timeText)];
+  return `${whose}, ${places.join("\u2013")} km, ${times.join("\u2013")}`
+    + (live.now() < steps[1] ? `; the clock is at ${timeText(live.now())}` : "");
 }
 
 /** The diagram as it is seen, but for the cursor, between what it shows and its colours. */
