@@ -131,6 +131,47 @@ function editsOfShape(scenario, [kind, first, last, ...rest]) {
   return edits;
 }
 
+/** Whether a shape's objects have its value already from its beginning to its end; of one without
+    an end, until the next is put there. */
+function isThere(scenario, [kind, first, last, from, to, value]) {
+  const time = [from, to ?? from + 1];
+  const indexes = Array.from({length: last - first + 1}, (_, behind) => first + behind);
+  return indexes.every((index) =>
+    valuesOf(scenario, kind, index, time).every(([there]) => there === value));
+}
+
+/** Who has the value that an object has at a step, and until when: {by, to}. That is whose shape
+    ends there, else who put the value last. */
+function holderAt(scenario, kind, index, step) {
+  const puts = scenario.puts(kind, index);
+  const value = scenario.valueAt(kind, index, step);
+  const end = puts.find((one) => one.step > step && one.value !== value);
+  const isEnd = end?.gesture.shape?.[4] === end?.step;
+  const last = puts.findLast((one) => one.step <= step);
+  return {by: end && isEnd ? end.gesture : last?.gesture, to: end?.step ?? null};
+}
+
+/** The first object of a shape that has its value behind its end too, as it had before; undefined
+    where all end there. */
+function goingOn(scenario, [kind, first, last, , to, value]) {
+  const at = (index, step) => scenario.valueAt(kind, index, step) === value;
+  for (let index = first; to !== null && index <= last; index++) {
+    if (value !== planned(scenario.plan, kind, index) && at(index, to - 1) && at(index, to)) {
+      return index;
+    }
+  }
+}
+
+/** Where others have a shape's value and it ended by an older gesture alone, the new one ends it. */
+function endsMoved(rest, old, [kind, first, last, , to, value]) {
+  if (to === null || !old.shape) return [];
+  const goesOn = (index) => rest.valueAt(kind, index, to) === value
+    && rest.puts(kind, index).every((one) => one.step <= to || one.value === value);
+  return old.edits.filter(([of, index, step, put]) => of === kind && step === old.shape[4]
+      && index >= first && index <= last && put !== null && put !== value && goesOn(index))
+    .map(([, index, , put]) => [kind, index, to, put]);
+}
+
 /** The edits that put a shape in the place of an older gesture, as one gesture. */
 function editsInPlaceOf(plan, held, old, shape) {
   const rest = new Scenario(plan, held.filter(({stamp}) => !sameStamp(stamp, old.stamp)));
@@ -139,7 +180,9 @@ function editsInPlaceOf(plan, held, old, shape) {
     const other = rest.winner(kind, index, step);
     edits.set([kind, index, step].join(), [kind, index, step, other ? other.value : null]);
   }
-  for (const edit of editsOfShape(rest, shape)) edits.set(edit.slice(0, 3).join(), edit);
+  for (const edit of [...editsOfShape(rest, shape), ...endsMoved(rest, old, shape)]) {
+    edits.set(edit.slice(0, 3).join(), edit);
+  }
   return [...edits.values()];
 }
 

@@ -40,11 +40,40 @@ function areaOfShape(shape, old = null) {
   const where = placesText(live.plan, kind, first, last);
   const lines = [what, where, zonesText(kind), spanText(from, to)].filter(Boolean);
   let fault = known ? "" : faultOfValue(kind, first, from);
+  if (known && !old && isThere(scenario, shape)) {
+    fault = `Nothing changes there: ${heldText(first, shape, from)}`;
+  }
   if (edits.length > MOST_EDITS) fault = tooGreat(shape, edits.length);
   const isLate = Math.max(from, to ?? 0) > LAST_STEP;
   if (isLate) fault = `The road's clock ends at ${timeText(LAST_STEP)}.`;
   return {shape, edits, note, lines, fault, old};
 }
+
+/** What acts but for a gesture. */
+function scenarioWithout(old) {
+  const others = actingNow().filter(({stamp}) => !old || !sameStamp(stamp, old.stamp));
+  return new Scenario(live.plan, others);
+}
+
+/** Says who has a shape's value at one of its objects and a step, and until when. */
+function heldText(index, [kind, , , , , value], step, old = null) {
+  const {by, to} = holderAt(scenarioWithout(old), kind, index, step);
+  if (!by || value === planned(live.plan, kind, index)) return "it is so by the plan.";
+  const whose = isOwn(by) ? "your" : `${nameOf(by)}'s`;
+  const until = to === null ? "without an end" : `until ${timeText(to)}`;
+  const how = by.shape ? "; \u201cChange\u201d at its line sets its end" : "";
+  return `${whose} ${WHAT_HOLDS[kind]} ${until} holds${how}.`;
+}
+
+/** Says who goes on with a shape's value behind its end; "" where nobody does. */
+function furtherText({shape, old}) {
+  const index = goingOn(scenarioWithout(old), shape);
+  return index === undefined ? ""
+    : ` Behind its end ${heldText(index, shape, shape[4], old)}`;
+}
+
+const WHAT_HOLDS = {...Object.fromEntries(Object.entries(THINGS).map(([kind, name]) =>
+  [kind, name.toLowerCase()])), watch: "switch"};
 
 /** Says that what is put for zones is put for whole ones; "" for other kinds. */
 const zonesText = (kind) => (OF_ZONES.includes(kind)
@@ -64,7 +93,7 @@ function applyArea(area) {
     tell(area.fault, true);
     return false;
   }
-  live.put(area);
+  live.put({...area, taken: (area.taken ?? "") + furtherText(area)});
   return true;
 }
 

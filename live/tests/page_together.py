@@ -126,22 +126,46 @@ class TwoTabs(BrowserCase):
     def test_what_is_changed_ends_though_one_over_it_was_taken_back(self) -> None:
         ada, ben = self.open(FREE_ROAD)
         ada.run_an_hour()
+        self.limit(ada, "1", "0:20", "0:50")
+        ada.share_all()
+        ben.take()
+        # Ben's edits of the same step win, and their withdrawal gives Ada's limit back: as Ben's own edits, which must
+        # not count as what is there without it.
+        self.limit(ben, "0", "0:20", "0:35")
+        ben.keys("z")
+        ben.settled()
+        ben.press("Change: 27 km/h")
+        Select(ben.part("limit")).select_by_value("2")
+        ben.in_figures(timeTo="0:35")
+        for step, value in ((1199, 3), (1200, 2), (2099, 2), (2100, 3), (3000, 3), (3600, 3)):
+            self.assertEqual(ben.script("return live.held.scenario.valueAt('limit', 0, arguments[0])", step), value, step)
+        self.assertEqual(ben.faults(), [])
+
+    def test_who_closes_what_is_closed_is_told(self) -> None:
+        ada, ben = self.open(FREE_ROAD)
+        ada.run_an_hour()
         ada.tool("block")
         ada.in_figures(kmFrom="0.15", kmTo="0.21", timeFrom="0:20", timeTo="0:50")
         ada.share_all()
         ben.take()
-        # Ben's edits of the same step win, and their withdrawal gives Ada's closure back: as Ben's own edits, which must
-        # not count as what is there without it.
         ben.tool("block")
-        ben.in_figures(kmFrom="0.15", kmTo="0.18", timeFrom="0:20", timeTo="0:35")
-        ben.keys("z")
-        ben.settled()
-        ben.press("Change: Whole road closed")
-        ben.in_figures(timeTo="0:35")
-        for step, value in ((1200, 1), (2099, 1), (2100, 0), (3000, 0), (3600, 0)):
-            found = ben.script("return [20, 23, 24, 27].map((cell) => live.held.scenario.valueAt('block', cell, "
-                               "arguments[0]))", step)
-            self.assertEqual(found, [value] * 4, step)
+        holds = "Ada's closure until 0:50:00 holds; “Change” at its line sets its end."
+        for begin, end in (("0:20", "0:35"), ("0:25", "0:50"), ("0:25", "")):
+            ben.in_figures(kmFrom="0.15", kmTo="0.18", timeFrom=begin, timeTo=end)
+            self.assertEqual(ben.text("said"), f"Nothing changes there: {holds}")
+        self.assertEqual(len(gestures_of(self.server)), 1)
+        ben.in_figures(timeFrom="0:10", timeTo="0:35")
+        self.assertEqual(ben.text("said"), f"Whole road closed 0.15–0.18 km, 0:10:00–0:35:00: done. Behind its end {holds}")
+        # So is its end set, although Ben's closure goes over its beginning.
+        ben.press("Change: Whole road closed", "#held")
+        ben.in_figures(timeTo="0:40")
+        for step, values in ((599, [0, 0]), (600, [1, 0]), (1200, [1, 1]), (2399, [1, 1]), (2400, [0, 0]), (3600, [0, 0])):
+            found = ben.script("return [20, 27].map((cell) => live.held.scenario.valueAt('block', cell, arguments[0]))", step)
+            self.assertEqual(found, values, step)
+        ben.tool("limit")
+        Select(ben.part("limit")).select_by_value("3")
+        ben.in_figures(kmFrom="0", kmTo="0.3", timeFrom="0:20", timeTo="0:30")
+        self.assertEqual(ben.text("said"), "Nothing changes there: it is so by the plan.")
         self.assertEqual(ben.faults(), [])
 
     def test_undo_gives_back_what_had_lost(self) -> None:
