@@ -1,4 +1,4 @@
-"""What sharing would change, before it is done: both roads are run beside the laboratory, by programs of their own.
+"""What sharing or taking would change, before it is done: both roads are run beside, by programs of their own.
 
 As a program it reads {plan, before, after, first, last, program} from standard input, runs the road by the edits
 `before` and by those and `after`, and prints what the detectors counted, and the delay.
@@ -20,7 +20,7 @@ from typing import TYPE_CHECKING, Any, AsyncIterator
 sys.dont_write_bytecode = True
 sys.path.append(str(Path(__file__).resolve().parent.parent / "recipes" / "python"))
 from asked import Refused  # noqa: E402
-from gestures import overruled, shareable, written  # noqa: E402
+from gestures import acting, overruled, shareable, written  # noqa: E402
 from journal import packed  # noqa: E402
 from program import PIECE  # noqa: E402
 from rows import of_diagram  # noqa: E402
@@ -54,16 +54,19 @@ async def alone(index: int) -> AsyncIterator[None]:
         WAITING.remove(index)
 
 
-async def answer(lab: Lab, seat: Seat, stamps: set[Stamp] | None, first: int, last: int) -> dict[str, Any]:
-    """The answer to a seat's `preview` of its changes of these stamps, or all that it has not shared."""
-    mine = shareable(lab.state, seat, stamps)
+async def answer(lab: Lab, seat: Seat, stamps: set[Stamp] | None, first: int, last: int, *,
+                 takes: bool = False) -> dict[str, Any]:
+    """The answer to a seat's `preview` of its changes of these stamps, or all that it has not shared; or of what it
+    would take, beside what it has."""
+    there, added = ((acting(lab.state, seat), lab.state.fresh(seat)) if takes
+                    else (lab.state.shared.gestures, shareable(lab.state, seat, stamps)))
     if first >= last:
         raise Refused("Range", f"`from` {first} is not below `to` {last}")
-    edits = [edit for gesture in mine for edit in gesture.imported()]
+    edits = [edit for gesture in added for edit in gesture.imported()]
     asked = {"plan": {**lab.state.plan, "replicas": ["road"]}, "first": first, "last": last, "program": lab.path,
-             "before": [written(key, put) for key, put in winners(lab.state.shared.gestures).items()], "after": edits}
-    keys = {edit[:3] for gesture in mine for edit in gesture.edits}
-    theirs, ours = winners(lab.state.shared.gestures, keys), winners(mine, keys)
+             "before": [written(key, put) for key, put in winners(there).items()], "after": edits}
+    keys = {edit[:3] for gesture in added for edit in gesture.edits}
+    theirs, ours = winners(there, keys), winners(added, keys)
     async with alone(seat.index):
         said = await run(packed(asked).encode())
     return {**said, "from": first, "to": last, "size": len(edits),

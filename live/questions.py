@@ -232,10 +232,11 @@ class Questions:
     async def _preview(self, index: int, at: int, asked: Asked, times: Times) -> Reply:
         with asked:
             stamps = asked.stamps()
+            takes = asked.has("take") and asked.raw("take") is True
             first, last = asked.whole("from", default=0), asked.whole("to", 1, LAST_STEP, self._lab.now() or 1)
         if at == SHARED:
             raise Refused("not a command", "a preview is of the own seat")
-        return await preview.answer(self._lab, self._seat(at), stamps, first, last)
+        return await preview.answer(self._lab, self._seat(at), stamps, first, last, takes=takes)
 
     async def _transcript(self, index: int, at: int, asked: Asked, times: Times) -> Reply:
         with asked:

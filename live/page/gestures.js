@@ -162,7 +162,7 @@ function goingOn(scenario, [kind, first, last, , to, value]) {
   }
 }
 
-/** Where others have a shape's value and it ended by an older gesture alone, the new one ends it. */
+/** Where others have a shape's value that ended by an older gesture alone, the new one ends it. */
 function endsMoved(rest, old, [kind, first, last, , to, value]) {
   if (to === null || !old.shape) return [];
   const goesOn = (index) => rest.valueAt(kind, index, to) === value

@@ -197,25 +197,27 @@ function openBefore(what, gestures) {
   };
   const losses = lossesByAdding(gestures, shares ? live.common.list : actingNow());
   const titles = shares ? "" : titlesOf(live.news);
-  $("beforeBody").replaceChildren(element("p", titles, {hidden: !titles}), gestureList(gestures),
-    element("h3", "Who would lose to whom"), lossList(losses),
-    element("h3", shares ? "What it would change on the shared road"
-      : "What it would change: see the difference"),
-    figuresOf, element("p", "", {className: "buttons"},
+  const changes = [element("h3", shares ? "What it would change on the shared road"
+    : "What it would change on your road"), figuresOf];
+  const parts = [element("p", titles, {hidden: !titles}), gestureList(gestures),
+                 element("h3", "Who would lose to whom"), lossList(losses)];
+  $("beforeBody").replaceChildren(...(shares ? [...parts, ...changes] : [...changes, ...parts]),
+    element("p", "", {className: "buttons"},
       button(shares ? "Share now" : "Take now", done), button("Not now", closeBefore)));
   $("before").hidden = false;
   $("before").focus();
   clearTimeout(live.beforeOpen?.soon);
   live.beforeOpen = {whose: live.beforeOpen?.whose ?? chosen("whose"), place: figuresOf,
-                     byOwn: shares && givesOwn(gestures)};
+                     takes: !shares,
+                     byOwn: shares ? givesOwn(gestures) : !unshared().length};
   choose("whose", "both");
   live.look();
-  const seeDiagram = "The diagram shows the difference, and the figures below it have both roads.";
-  if (!shares) figuresOf.append(element("p", seeDiagram));
-  else if (live.beforeOpen.byOwn) showOwnPreview();
+  if (live.beforeOpen.byOwn) showOwnPreview();
   else {
     figuresOf.append(element("p", IS_COMPUTED));
-    live.beforeOpen.soon = setTimeout(() => askPreview(figuresOf, gestures), LOOKS);
+    const stamps = gestures.map(({stamp}) => stamp);
+    const asked = shares ? {stamps} : {take: true};
+    live.beforeOpen.soon = setTimeout(() => askPreview(figuresOf, asked), LOOKS);
   }
 }
 
@@ -241,26 +243,29 @@ const READ_BOTH =
 const IS_EXACT = "This is counted car by car. The estimates below the diagram are of the times in "
   + "which a queue is at an inlet, by mean flows.";
 
-/** What sharing all would change: the own road beside the shared one, as far as it is there. */
+/** What sharing all, or taking, would change where both roads are as one then: the own road beside
+    the shared one, as far as it is there. */
 function showOwnPreview() {
-  const {place, byOwn} = live.beforeOpen ?? {};
+  const {place, byOwn, takes} = live.beforeOpen ?? {};
   const [mine, shared] = figures.sums ?? [];
   if (!byOwn || !mine || !shared || place.querySelector(".exact")) return;
   const [from, to] = figures.summed;
   if (figures.period?.join() !== [from, to].join()) return;
-  const lines = [["Vehicle hours", shared.hours, mine.hours, 1],
-                 ["Lost demand, cars (estimate)", shared.lost, mine.lost, 0]];
-  place.replaceChildren(previewTable([from, to], lines, figures.counts[1], figures.counts[0]),
+  const [now, then] = takes ? [mine, shared] : [shared, mine];
+  const lines = [["Vehicle hours", now.hours, then.hours, 1],
+                 ["Lost demand, cars (estimate)", now.lost, then.lost, 0]];
+  const counts = takes ? figures.counts : [...figures.counts].reverse();
+  const asked = takes ? {take: true} : {stamps: unshared().map(({stamp}) => stamp)};
+  place.replaceChildren(previewTable([from, to], lines, ...counts),
     element("p", READ_BOTH, {className: "hint"}),
-    button("Delay car by car (takes a while)", () => askPreview(place, unshared())));
+    button("Delay car by car (takes a while)", () => askPreview(place, asked)));
 }
 
-/** Asks the server what sharing these would change, over all of the run. */
-async function askPreview(place, gestures) {
+/** Asks the server what sharing or taking would change, over all of the run. */
+async function askPreview(place, asked) {
   place.replaceChildren(element("p", IS_COMPUTED));
   const [from, to] = periodShown();
-  const stamps = gestures.map(({stamp}) => stamp);
-  const said = await live.ask({preview: {at: live.me.at, from, to, stamps}});
+  const said = await live.ask({preview: {at: live.me.at, from, to, ...asked}});
   if (!said) return;
   if (said.refused) place.replaceChildren(element("p", said.why ?? said.refused));
   else place.replaceChildren(exactPreview(said));

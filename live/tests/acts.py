@@ -222,6 +222,23 @@ class Acts(Case):
                 self.assertEqual(found[name]["entered"], len(numbers))
         self.assertEqual((await self.ada.ask("preview", stamps=[[2, 65]], to=100))["size"], 1)
 
+    async def test_the_preview_says_what_taking_would_change(self) -> None:
+        await self.ada.say("clock", to=100)
+        await put(self.ben, "1", ["block", 60, 30, 1], ["block", 60, 40, 0])
+        await self.ben.ask("send", name="shared")
+        await put(self.ada, "1", ["limit", 0, 1, 2], note="slow")
+        said = await self.ada.ask("preview", **{"from": 0, "to": 100, "take": True})
+        self.assertEqual((said["size"], said["overrules"], said["loses"]), (2, [], []))
+        for name in ("before", "after"):  # the same by the replica itself
+            if name == "after":
+                await self.ada.ask("take", message="shared")
+            await self.ada.ask("advance", to=100)
+            self.assertEqual(said[name]["detectors"], (await self.ada.ask("counts", **{"from": 0, "to": 100}))["counts"])
+            cars = [(await self.ada.ask("cars", step=step))["cars"] for step in range(101)]
+            self.assertAlmostEqual(said[name]["vehicle_hours"], sum(map(len, cars)) / 3_600)
+        self.assertNotEqual(said["before"], said["after"])
+        self.assertEqual((await self.ada.ask("preview", to=100, take=True))["size"], 0)
+
 
 class Seats(Case):
     async def test_a_key_gives_the_seat_back_and_closes_the_other_tab(self) -> None:

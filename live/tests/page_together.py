@@ -215,7 +215,7 @@ class TwoTabs(BrowserCase):
         ada.until(lambda: ada.text("news").startswith("Cron shared 4 changes: “night”, “works”."), "news")
         ada.press("Look first")
         ada.settled()
-        said = ada.script("return [...document.querySelectorAll('#beforeBody > *')].slice(0, 2).flatMap((one) => "
+        said = ada.script("return [...document.querySelectorAll('#beforeBody > p, #beforeBody > ul')].slice(0, 2).flatMap((one) => "
                           "one.children.length ? [...one.children].map((line) => line.firstChild.data) : [one.textContent])")
         # Zone 11 has the cells 550 to 599.
         self.assertEqual(said, ["“night”, “works”", "54 km/h, 4.125–4.5 km, from 1:30:00 on",
@@ -399,6 +399,31 @@ class TwoTabs(BrowserCase):
         ada.press("Share now")
         ada.settled()
         self.assertEqual([text[-7:] for text in ada.lines("own") + ada.lines("held")], ["private", " shared"])
+
+    def test_what_taking_costs_is_said_before(self) -> None:
+        ada, ben = self.open(FREE_ROAD)
+        ada.run_an_hour()
+        self.limit(ada, "1", "0:20", "0:30")
+        ada.share_all()
+        ben.press("Look first")
+        # As in the test above: ten minutes at a third of the speed; then the same by the server, beside an own limit.
+        free, slow, middle = (cars / 3_600 for cars in (300 * 13, 300 * 39, 300 * 19.5))
+        for own in (False, True):
+            table = "#before .exact" if own else "#before table"
+            ben.until(lambda table=table: ben.script("return document.querySelector(arguments[0]) !== null", table), "figures")
+            hours = ben.script("return [...document.querySelectorAll('#before tbody tr:first-child > *')].map((one) => "
+                               "one.textContent)")
+            self.assertEqual(hours[0], "Vehicle hours")
+            before = 5 * free + (middle if own else free)
+            self.assertAlmostEqual(float(hours[1]), before, delta=0.5)
+            self.assertAlmostEqual(float(hours[2]), before - free + slow, delta=0.5)
+            self.assertTrue(ben.script("const [one, other] = ['table', 'ul'].map((name) => document.querySelector('#before ' "
+                                       "+ name).getBoundingClientRect()); return one.bottom < other.top"))
+            ben.press("Not now")
+            if not own:
+                self.limit(ben, "2", "0:40", "0:50")
+                ben.press("Look first")
+        self.assertEqual(ben.faults(), [])
 
     def test_a_seat_is_taken_over(self) -> None:
         ada, ben = self.open(FREE_ROAD)
