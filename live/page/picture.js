@@ -48,6 +48,10 @@ function everyShown() {
 
 const whoseShown = () => (chosen("whose") === "both" ? ["mine", "shared"] : [chosen("whose")]);
 
+/** What the difference is of, the second taken from the first: before taking it is the shared road
+    that would come, so that a jam has one colour for who shares it and who takes it. */
+const differenceOf = () => (live.beforeOpen?.takes ? ["shared", "mine"] : ["mine", "shared"]);
+
 let drawingAsked = false;
 /** Draws at the next frame of the screen, once. */
 function draw() {
@@ -80,8 +84,9 @@ function drawDiagram() {
 
 function drawRows(context, view, width, height) {
   const every = everyShown();
-  const [picture, other] = whoseShown().map((whose) => live[whose].level(every));
-  const name = `${chosen("whose")} ${every}`;
+  const shown = chosen("whose") === "both" ? differenceOf() : whoseShown();
+  const [picture, other] = shown.map((whose) => live[whose].level(every));
+  const name = `${shown.join("-")} ${every}`;
   const part = inView(view, picture, width, height);
   const how = {tiles: tilesKept, name, greatest: GREATEST};
   if (other) {
@@ -99,7 +104,9 @@ function drawRows(context, view, width, height) {
 
 /** Forgets the tiles in which rows of a road have changed. */
 function repaint(whose, every, [from, to]) {
-  for (const shown of [whose, "both"]) tilesKept.forget(`${shown} ${every}`, from, to);
+  for (const shown of [whose, "mine-shared", "shared-mine"]) {
+    tilesKept.forget(`${shown} ${every}`, from, to);
+  }
   draw();
 }
 
@@ -218,8 +225,9 @@ function colourEntries() {
   const closed = {text: "closed", colour: BLOCKED};
   const unknown = {text: "not computed", colour: NO_ROW};
   if (chosen("whose") === "both") {
-    return [{text: "mine slower", colour: SLOWER}, {text: "as fast", colour: EMPTY},
-            {text: "mine faster", colour: FASTER}, closed, unknown];
+    const [whose] = differenceOf();
+    return [{text: `${whose} slower`, colour: SLOWER}, {text: "as fast", colour: EMPTY},
+            {text: `${whose} faster`, colour: FASTER}, closed, unknown];
   }
   const speeds = Array.from({length: GREATEST + 1}, (_, speed) =>
     ({text: String(speed * KMH_A_CELL), colour: speedColour(speed, GREATEST)}));
@@ -227,8 +235,9 @@ function colourEntries() {
 }
 
 function showLegend() {
-  if ($("legend").dataset.of === chosen("whose")) return;
-  $("legend").dataset.of = chosen("whose");
+  const of = `${chosen("whose")} ${differenceOf()}`;
+  if ($("legend").dataset.of === of) return;
+  $("legend").dataset.of = of;
   $("legend").replaceChildren(...legendEntries().map((entry) => {
     if (typeof entry === "string") return element("li", entry);
     const box = element("span", "", {className: "swatch"});

@@ -43,15 +43,21 @@ class TwoTabs(BrowserCase):
         self.assertFalse(ben.part("news").is_displayed())
         ada.press("Share all")
         self.assertIn("Nobody would lose anything.", ada.text("beforeBody"))
+        ada.settled()
+        self.assertIn("mine sloweras fastmine faster", ada.text("legend"))
+        jam = ada.pixel(17.5, 22.5)
         ada.press("Share now")
         ben.until(lambda: "Ada shared 1 change." in ben.text("news"), "news")
         ben.press("Look first")
         ben.settled()
         self.assertIn("Whole road closed 0.18–0.188 km, 0:00:12–0:00:24 Ada, ", ben.text("beforeBody"))
         # In the cells 15 to 19 of the steps 20 to 24 Ada's cars have, by the example's rows, the speeds 3, 1, 3, 0, 3, 0, 0,
-        # 2, 0, 0, 3, 0, 0, 0, and Ben's drive 3: his are faster, by half of the scale, which is a middling blue.
+        # 2, 0, 0, 3, 0, 0, 0, and Ben's drive 3: hers are slower, by half of the scale, which is a middling red;
+        # for both, as the legend says.
         red, green, blue = ben.pixel(17.5, 22.5)
-        self.assertTrue(100 <= red <= 160 and red < green < blue, (red, green, blue))
+        self.assertTrue(green < 160 and green < blue < red, (red, green, blue))
+        self.assertEqual((red, green, blue), jam)
+        self.assertIn("shared sloweras fastshared faster", ben.text("legend"))
         ben.press("Take now")
         ben.until(lambda: ben.text("said") == "Took 1 change of Ada. Nothing of yours lost.", "taken")
         ben.settled()
