@@ -33,6 +33,7 @@ const live = {
   me: null, plan: null, line: null, mine: null, shared: null, held: null, common: null,
   news: {shares: [], from: []},
   pending: new Map(),           // gestures that are not confirmed, by key: sent again after a break
+  undone: [],                   // own gestures that Z took back, until the next change
   wishes: null,                 // as whom to join
   ahead: 0, changing: null, beforeOpen: null, timings: [],
   clock: {now: 0, rate: 0},
@@ -78,12 +79,22 @@ const live = {
   },
 
   put({shape, edits, note, taken}) {
+    live.undone = [];
     act({gesture: {edits, note, shape}}, {note, shape, taken, first: firstStep(edits)});
   },
 
-  withdraw(gesture) {
+  withdraw(gesture, undone = []) {
+    live.undone = undone;
     const note = `Withdrew: ${noteOf(gesture)}`.slice(0, 200);
     act({undo: {stamp: gesture.stamp, note}}, {note, first: firstStep(gesture.edits)});
+  },
+
+  /** Puts the last of what Z took back as it was. */
+  redo() {
+    const {stamp, undoes, shape, edits, ...gesture} = live.undone.pop();
+    const note = noteOf({...gesture, edits});
+    act(undoes ? {undo: {stamp: undoes, note}} : {again: {stamp}},
+      {note, shape, first: firstStep(edits)});
   },
 
   putAgain(gesture) {
@@ -438,6 +449,7 @@ function listen() {
   on("exact", "submit", onForm);
   on("dropChange", "click", endChange);
   on("undo", "click", undoNewest);
+  on("redo", "click", redoNewest);
   on("whose", "change", live.look);
   on("paint", "change", live.look);
   on("span", "change", chooseSpan);

@@ -349,7 +349,8 @@ function onLetter(event) {
   else if (letter === "d") {
     choose("whose", chosen("whose") === "both" ? "mine" : "both");
     live.look();
-  } else if (letter === "z") undoNewest();
+  } else if (letter === "z" && event.shiftKey) redoNewest();
+  else if (letter === "z") undoNewest();
 }
 
 /** Takes back the newest own change; one that others can have taken only by its line. */
@@ -357,7 +358,13 @@ function undoNewest() {
   const newest = newestOwn();
   if (!newest) tell("There is nothing of yours to undo.", true);
   else if (newest.shared) tell("What is shared is withdrawn by its line.", true);
-  else live.withdraw(newest);
+  else live.withdraw(newest, [...live.undone, newest]);
+}
+
+/** Puts again what was undone last, unless something else was changed since. */
+function redoNewest() {
+  if (live.undone.length) live.redo();
+  else tell("There is nothing of yours to redo.", true);
 }
 
 // The tool, and the form that does the same in figures.

@@ -90,6 +90,7 @@ function showLists() {
   for (const id of ["own", "held", "lost"]) $(id).parentElement.hidden = !$(id).children.length;
   showHint();
   $("undo").disabled = !newestOwn();
+  $("redo").disabled = !live.undone.length;
 }
 
 /** Says how to begin, until there are changes; that the road is empty only where it is. */

@@ -215,6 +215,29 @@ class TwoTabs(BrowserCase):
         ada.settled()
         self.assertEqual(len(gestures_of(self.server)), count)
 
+    def test_what_was_undone_is_put_again(self) -> None:
+        ada, _ = self.open(FREE_ROAD)
+        lines = [f"{speed} km/h, 0–0.3 km, from 0:20:00 on private" for speed in (54, 27)]
+        self.limit(ada, "1", "0:20", "")
+        self.limit(ada, "2", "0:20", "")
+        for held in (lines[1:], []):
+            ada.keys("z")
+            ada.settled()
+            self.assertEqual(ada.lines("own"), held)
+        ActionChains(ada.driver, duration=0).key_down(Keys.SHIFT).send_keys("z").key_up(Keys.SHIFT).perform()
+        ada.settled()
+        self.assertEqual(ada.lines("own"), lines[1:])
+        ada.press("Redo")
+        ada.settled()
+        self.assertEqual(ada.lines("own"), lines)
+        self.assertEqual(ada.script("return live.held.scenario.valueAt('limit', 0, 1200)"), 2)
+        self.assertFalse(ada.part("redo").is_enabled())
+        ada.keys("z")
+        ada.settled()
+        self.limit(ada, "4", "0:30", "")
+        self.assertFalse(ada.part("redo").is_enabled())
+        self.assertEqual(ada.faults(), [])
+
     def test_what_came_from_the_shell_is_said(self) -> None:
         ada, = self.open(FREEWAY, ("Ada",))
         asyncio.run(self.at_night())
