@@ -72,7 +72,9 @@ function drawDiagram() {
   context.fillRect(0, 0, width, height);
   drawRows(context, view, width, height);
   drawAhead(context, view, width, height);
-  const labels = framesShown().map((frame) => drawEdges(context, view, frame));
+  const frames = framesShown();
+  const named = areOfSeveral(frames);
+  const labels = frames.map((frame) => drawEdges(context, view, frame, named));
   drawLabels(context, labels.filter(Boolean), height);
   if (drawn.area) drawArea(context, view, drawn.area);
   if (drawn.cursor) drawFrame(context, view, drawn.cursor[1], drawn.cursor[0]);
@@ -155,7 +157,19 @@ function cornersOf(view, {kind, first, last, from, to}) {
   return [left - thin, topOf(view, from), right + thin, topOf(view, to ?? LAST_STEP + 1)];
 }
 
-function drawEdges(context, view, frame) {
+const areOfSeveral = (frames) => new Set(frames.map(({by}) => by.stamp[1])).size > 1;
+
+/** What is written at a frame, with whose it is where frames are of several people: what goes on
+    behind a shape's end is of who holds it there. */
+function labelOf({kind, first, from, value, pending, by}, named) {
+  const slow = kind === "inflow" ? slowAt(live.held.scenario, first, from) : 0;
+  const text = valueText(live.plan, kind, value, first, slow).toLowerCase();
+  const {scenario} = chosen("whose") === "shared" ? live.common : live.held;
+  const whose = by.shape?.[4] === from ? holderAt(scenario, kind, first, from).by : by;
+  return text + (pending ? " (pending)" : "") + (named ? `, ${nameOf(whose)}` : "");
+}
+
+function drawEdges(context, view, frame, named) {
   const [left, top, right, bottom] = cornersOf(view, frame);
   const height = $("diagram").clientHeight;
   if (bottom < MARGIN.top || top > height) return null;
@@ -170,10 +184,8 @@ function drawEdges(context, view, frame) {
   Object.assign(context, {strokeStyle: FRAME[frame.kind], lineWidth: 2});
   context.strokeRect(...rectangle);
   context.setLineDash([]);
-  const slow = frame.kind === "inflow" ? slowAt(live.held.scenario, frame.first, frame.from) : 0;
-  const text = valueText(live.plan, frame.kind, frame.value, frame.first, slow);
-  return {text: text.toLowerCase().replace("km/h", "km/h") + (frame.pending ? " (pending)" : ""),
-          left: left + 3, top: Math.max(top, MARGIN.top) + 1, colour: FRAME[frame.kind]};
+  return {text: labelOf(frame, named), left: left + 3,
+          top: Math.max(top, MARGIN.top) + 1, colour: FRAME[frame.kind]};
 }
 
 /** Writes what frames are, one under the other where they would cover each other. */

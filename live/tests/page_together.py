@@ -162,6 +162,9 @@ class TwoTabs(BrowserCase):
         self.assertEqual(len(gestures_of(self.server)), 1)
         ben.in_figures(timeFrom="0:10", timeTo="0:35")
         self.assertEqual(ben.text("said"), f"Whole road closed 0.15–0.18 km, 0:10:00–0:35:00: done. Behind its end {holds}")
+        labels = "return framesShown().map((one, _, all) => labelOf(one, areOfSeveral(all)))"
+        self.assertEqual(ben.script(labels), [f"whole road closed, {whose}" for whose in ("you", "Ada", "Ada")])
+        self.assertEqual(ada.script(labels), ["whole road closed"])
         # So is its end set, although Ben's closure goes over its beginning.
         ben.press("Change: Whole road closed", "#held")
         ben.in_figures(timeTo="0:40")
