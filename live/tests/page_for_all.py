@@ -80,11 +80,11 @@ class ForAll(BrowserCase):
         tab.run_an_hour()
         self.addCleanup(tab.driver.execute_cdp_cmd, "Emulation.clearDeviceMetricsOverride", {})
         tab.tool("block")
-        for width in (600, 768, 1000, 1001, 1500):
+        for place, width in enumerate((600, 768, 1000, 1001, 1500)):
             tab.driver.execute_cdp_cmd("Emulation.setDeviceMetricsOverride",
                                        {"width": width, "height": 768, "deviceScaleFactor": 1, "mobile": False})
             tab.settled()
-            tab.in_figures(kmFrom="3", kmTo="3.1", timeFrom="0:20", timeTo="0:30")
+            tab.in_figures(kmFrom=f"{3 + place / 5}", kmTo=f"{3.1 + place / 5}", timeFrom="0:20", timeTo="0:30")
             tab.script("window.scrollTo(0, 0)")
             said, diagram = tab.script("""
                 return ["said", "diagram"].map((id) => $(id).getBoundingClientRect()).map(({left, top, right, bottom}) =>

@@ -223,6 +223,8 @@ class TwoTabs(BrowserCase):
         lines = [f"{speed} km/h, 0–0.3 km, from 0:20:00 on private" for speed in (54, 27)]
         self.limit(ada, "1", "0:20", "")
         self.limit(ada, "2", "0:20", "")
+        both = ada.lines("own")
+        self.assertEqual(both[0], lines[0])
         for held in (lines[1:], []):
             ada.keys("z")
             ada.settled()
@@ -232,7 +234,7 @@ class TwoTabs(BrowserCase):
         self.assertEqual(ada.lines("own"), lines[1:])
         ada.press("Redo")
         ada.settled()
-        self.assertEqual(ada.lines("own"), lines)
+        self.assertEqual(ada.lines("own"), both)
         self.assertEqual(ada.script("return live.held.scenario.valueAt('limit', 0, 1200)"), 2)
         self.assertFalse(ada.part("redo").is_enabled())
         ada.keys("z")
@@ -447,8 +449,9 @@ class TwoTabs(BrowserCase):
                                "one.textContent)")
             self.assertEqual(hours[0], "Vehicle hours")
             before = 5 * free + (middle if own else free)
-            self.assertAlmostEqual(float(hours[1]), before, delta=0.5)
-            self.assertAlmostEqual(float(hours[2]), before - free + slow, delta=0.5)
+            # Whole hours are said.
+            self.assertAlmostEqual(float(hours[1]), before, delta=0.51)
+            self.assertAlmostEqual(float(hours[2]), before - free + slow, delta=0.51)
             self.assertTrue(ben.script("const [one, other] = ['table', 'ul'].map((name) => document.querySelector('#before ' "
                                        "+ name).getBoundingClientRect()); return one.bottom < other.top"))
             ben.press("Not now")
