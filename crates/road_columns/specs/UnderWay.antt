@@ -8,7 +8,7 @@ use Rattle.road_cells.specs.Cars.{cars_of}
 use Rattle.road_cells.specs.declared.car.Car.{Car}
 use Rattle.road_cells.specs.declared.car.TheConstants.{GREATEST_SPEED}
 use Rattle.road_ends.specs.Input.{StepInput, input_next, input_speeds}
-use Rattle.road_ends.specs.Private.EntriesBetween.{input_between}
+use Rattle.road_ends.specs.EntriesBetween.{input_between}
 use Rattle.road_detector.specs.Passes.{no_totals, passes_at, plus}
 use Rattle.road_detector.specs.declared.counts.Totals.{Totals}
 

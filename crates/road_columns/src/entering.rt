@@ -9,7 +9,7 @@ ghost use Rattle.road_words.specs.Words.{word};
 ghost use Rattle.road_cells.specs.Array.{Array, vehicle_at};
 ghost use Rattle.road_ends.specs.Entries.{inlet_stream, is_admitting};
 ghost use Rattle.road_rules.specs.Speeds.{comes_about};
-ghost use Rattle.road_ends.specs.Private.EntriesBetween.{entries_between};
+ghost use Rattle.road_ends.specs.EntriesBetween.{entries_between};
 ghost use Rattle.road_columns.specs.Private.CarsAt.{AreCarsAt, IsPlaceAt, from_place, is_between};
 ghost use Rattle.road_columns.specs.Private.Entering.{IsPutIn, place_beside, place_on, AreWordsOfInlets};
 ghost use Rattle.road_columns.specs.Private.Entering.{AreCellsOfInlets};

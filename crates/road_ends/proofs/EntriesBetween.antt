@@ -19,7 +19,7 @@ use Rattle.road_cells.proofs.CarLists.{array_of-cars_from, rise-cars_from, vehic
 use Rattle.road_ends.specs.Entries.{road_with_entries}
 use Rattle.road_ends.specs.Input.{StepInput, input_of}
 use Rattle.road_ends.specs.Laws.{AgreeBetween, AgreeNear}
-use Rattle.road_ends.specs.Private.EntriesBetween.{entries_between, input_between, with_entry}
+use Rattle.road_ends.specs.EntriesBetween.{entries_between, input_between, with_entry}
 use Rattle.road_ends.specs.Span.{Span, IsInputNear}
 
 -- what follows of an answer

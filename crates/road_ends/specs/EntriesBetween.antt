@@ -1,4 +1,4 @@
--- The cars between two cells of the road with its entries.
+-- The road with its entries between two cells, and the input of a step there.
 use Rattle.std.specs.Prelude.{ℕ, ◌-◌, map}
 use Rattle.std.specs.List.{range_with_len}
 use Rattle.std.specs.Option.{option_or}
