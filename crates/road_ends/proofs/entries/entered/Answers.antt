@@ -1,5 +1,5 @@
 -- The cars up to the next inlet and the one there are those of the road with its entries.
-use Rattle.std.proofs.Common.{ℕ, Vec, Global, ◌≡◌, ◌+◌, ◌∙◌, ◌++◌, ◌<◌, ◌≤◌, sym, ap, subst, arith, length, map, List}
+use Rattle.std.proofs.Common.{Vec, Global, ◌≡◌, ◌+◌, ◌∙◌, ◌++◌, ◌<◌, ◌≤◌, sym, ap, subst, arith, length, map, List}
 use Rattle.std.specs.List.{position, range_with_len}
 use Rattle.std.specs.Prelude.{nat_eq, None}
 use Rattle.road_cells.specs.Array.{array, vehicle_at}

@@ -1,5 +1,5 @@
 -- What is read of a car gives its speed.
-use Rattle.std.proofs.Common.{◌≡◌, ◌∙◌, ◌<◌, ◌/◌, ℕ, ap, arith, length, refl, sym}
+use Rattle.std.proofs.Common.{◌≡◌, ◌∙◌, ◌/◌, ap, arith}
 use Rattle.road_plan.specs.Plan.{zone_of}
 use Rattle.road_cells.specs.Cars.{cars_of, cell_at}
 use Rattle.road_words.specs.Words.{word}
