@@ -9,7 +9,7 @@ use crate::rows::shared_plan;
 use crate::sizes::queue;
 use road_cells::Road;
 use road_detector::{Ran, Totals, passes};
-use road_ends::{Meter, Span, Stretch, WordCache, step_alone};
+use road_ends::{Meter, Span, step_alone};
 use road_plan::{Plan, Settings};
 use road_workers::{Crew, Pool};
 use std::alloc::Global;
@@ -208,28 +208,4 @@ fn lasting_workers_run_spans_as_they_are_one_by_one(rt: HostRuntime) -> Result<(
     pool_runs(&rt, alloc, 3, &plan, &courses)?;
     pool_runs(&rt, alloc, 7, &plan, &courses)?;
     pool_runs(&rt, alloc, 16, &plan, &courses)
-}
-
-// Counts the cars that enter an empty road near the cells from 100 to before `end`, with so many steps left.
-fn entered_near(alloc: Global, steps: u32, end: u32) -> Result<usize, Fail> {
-    let plan = shared_plan(alloc, &LONG)?;
-    let span = span_of(alloc, &plan, 0, 0, steps)?;
-    if span.steps() == 0 {
-        return Err(Fail::new("a span of no step"));
-    }
-    let mut words = WordCache::of(alloc, span.plan());
-    let road = Road::empty(alloc);
-    let stretch = Stretch { first: 100, end };
-    let input = words.enter_near(alloc, &span, 0, &road, stretch, None)?;
-    Ok(input.road().cars().len())
-}
-
-// The inlet at cell 511 always lets in; it is 9 cells past cell 502, and 18 past cell 493.
-#[test]
-fn nobody_enters_farther_off_than_it_may_matter(rt: HostRuntime) -> Result<(), Fail> {
-    assert!(rt; entered_near(rt.alloc(), 1, 502)? == 0);
-    assert!(rt; entered_near(rt.alloc(), 1, 503)? == 1);
-    assert!(rt; entered_near(rt.alloc(), 2, 493)? == 0);
-    assert!(rt; entered_near(rt.alloc(), 2, 494)? == 1);
-    Ok(())
 }
