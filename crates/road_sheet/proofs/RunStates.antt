@@ -3,7 +3,7 @@ use Rattle.std.proofs.Common.{◌≡◌, ◌∙◌, ℕ, ap}
 use Rattle.road_plan.specs.Plan.{Plan}
 use Rattle.road_plan.specs.Settings.{Settings}
 use Rattle.road_cells.specs.Array.{Array}
-use Rattle.road_ends.specs.Input.{StepInput, input_of}
+use Rattle.road_ends.specs.Input.{input_of}
 use Rattle.road_scenario.specs.Settings.{settings_of}
 use Rattle.road_sheet.specs.Sheets.{Sheet, state_of, next_input}
 

@@ -1,16 +1,12 @@
 -- A run under way of what a sheet shows: its next step is the sheet's, and its roads can be taken up.
-use Rattle.std.proofs.Common.{◌≡◌, ◌<◌, ◌≤◌, ◌+◌, ◌∙◌, ℕ, List, length, map, ap, sym, arith}
-use Rattle.std.specs.List.{range_with_len, slice_index_or}
+use Rattle.std.proofs.Common.{◌≡◌, ◌<◌, ◌+◌, ◌∙◌, ℕ, length, ap, sym, arith}
+use Rattle.std.specs.List.{slice_index_or}
 use Rattle.std.proofs.Math.Numerals.{add-one}
 use Rattle.std.proofs.lemmas.List.FromFn.{get_or-map-range_with_len, length-map-range_with_len}
 use Rattle.road_plan.specs.Plan.{Plan}
-use Rattle.road_plan.specs.Settings.{Settings}
-use Rattle.road_cells.specs.Array.{Array}
-use Rattle.road_cells.specs.declared.car.TheConstants.{GREATEST_SPEED}
 use Rattle.road_ends.specs.Input.{StepInput, input_next, input_of, input_speeds}
 use Rattle.road_ends.proofs.EntriesBetween.{whole-input}
 use Rattle.road_detector.specs.Passes.{no_totals, passes, passes_at, plus}
-use Rattle.road_detector.specs.declared.counts.Totals.{Totals}
 use Rattle.road_scenario.specs.Settings.{settings_of}
 use Rattle.road_columns.specs.UnderWay.{UnderWay, next_input, nothing_counted, stepped, total_after}
 use Rattle.road_sheet.specs.Sheets.{Sheet, state_of}

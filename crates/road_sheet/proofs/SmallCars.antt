@@ -1,9 +1,9 @@
 -- The cars of a run fit into a checkpoint, and their roads can be taken up by a run under way.
-use Rattle.std.specs.Prelude.{◌≡◌, ℕ, ◌+◌, ◌≤◌, ◌<◌, ◌*◌, List, length}
+use Rattle.std.specs.Prelude.{◌≡◌, ℕ, ◌+◌, ◌≤◌, ◌<◌, length}
 use Rattle.std.specs.List.{slice_index_or}
 use Rattle.std.proofs.Common.{sym, ap, ◌∙◌, arith}
 use Rattle.std.proofs.lemmas.List.{get_or_default}
-use Rattle.road_plan.specs.Plan.{Plan, IsWithinLimits, exit_start}
+use Rattle.road_plan.specs.Plan.{Plan, IsWithinLimits}
 use Rattle.road_plan.specs.declared.limits.TheConstants.{GREATEST_HORIZON}
 use Rattle.road_cells.specs.Cars.{cars_of, car_of, cell_at, vehicle_of, vehicle_among}
 use Rattle.road_cells.specs.declared.car.Car.{Car}

@@ -148,10 +148,7 @@ impl QueryCache {
         if sheet.horizon() < to {
             return Err(SheetFault::NotSimulated);
         }
-        let mut shown = self.run_at(alloc, sheet, from)?;
-        let rows = shown.rows_to(alloc, sheet, to)?;
-        self.run = Some(shown);
-        Ok(rows)
+        Ok(self.rows_between(alloc, sheet, from, to)?)
     }
 
     // ---- the run under way
@@ -186,6 +183,27 @@ impl QueryCache {
         };
         shown.go_to(alloc, sheet, step)?;
         Ok(shown)
+    }
+
+    // Writes the rows from the one of a step up to that of another, both of them.
+    fn rows_between(
+        &mut self,
+        alloc: Global,
+        sheet: &Sheet,
+        from: u32,
+        to: u32,
+    ) -> Result<Vec<String>, OutOfMemory>
+        requires order { from ≤ to }
+        requires simulated { to ≤ sheet.now.horizon }
+        requires horizon { to ≤ GREATEST_HORIZON }
+        requires cached { IsCacheOf sheet.now self.old }
+        ensures rows { IfOk result (λ rows. map string_bytes rows.items ≡ rows_of sheet.now from to) }
+        ensures cached { IsCacheOf sheet.now self.new }
+    {
+        let mut shown = self.run_at(alloc, sheet, from)?;
+        let rows = shown.rows_to(alloc, sheet, to)?;
+        self.run = Some(shown);
+        Ok(rows)
     }
 
     // ---- counts

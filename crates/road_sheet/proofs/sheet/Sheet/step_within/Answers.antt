@@ -1,5 +1,5 @@
 -- A step within the interval that the horizon cuts.
-use Rattle.std.proofs.Common.{◌+◌, ◌∙◌, ap, subst, refl, ℕ}
+use Rattle.std.proofs.Common.{◌+◌, ap, subst, refl, ℕ}
 use Rattle.road_detector.specs.Laws.{PassOneByOne, BoundTotals}
 use Rattle.road_sheet.proofs.SheetIntervals.{counted_next, next_cars_fit, next_speeds_fit, one_more, stays_in_interval}
 use Rattle.road_sheet.proofs.sheet.Sheet.step_within.Goals as goal
