@@ -24,4 +24,7 @@ shown_by_both s t shown plan edits is = record {
 
 -- so is a cache
 pub same_run : (s t : Sheet) (cache : QueryCache) → s.plan ≡ t.plan → s.edits ≡ t.edits → IsCacheOf s cache → IsCacheOf t cache
-same_run s t cache plan edits is = IfSome_then cache.run is (λ shown by. shown_by_both s t shown plan edits by)
+same_run s t cache plan edits is = record {
+  run = IfSome_then cache.run is.run (λ shown by. shown_by_both s t shown plan edits by);
+  spare = IfSome_then cache.spare is.spare (λ run of. of ∙ plan);
+}

@@ -3,7 +3,6 @@
 
 ghost use Rattle.std.specs.Prelude.{◌≡◌, ◌<◌, ◌≤◌, ◌+◌, ◌-◌, ◌%◌, IfErr, IfOk, IsOk, None};
 ghost use Rattle.std.specs.Prelude.{length, map, string_bytes};
-ghost use Rattle.std.specs.Arc.{arc_value};
 ghost use Rattle.road_plan.specs.declared.limits.TheConstants.{GREATEST_HORIZON};
 ghost use Rattle.road_sheet.specs.Sheets.{AreWholeIntervals, IsRefusalBy, Sheet, rows_fault, rows_of, sheet_row};
 ghost use Rattle.road_sheet.specs.Sheets.{state_fault, state_of, total_of, totals_fault};
@@ -13,43 +12,48 @@ use crate::interval::INTERVAL_STEPS;
 use crate::sheet::Sheet;
 use crate::shown_run::ShownRun;
 use road_cells::Road;
+use road_columns::UnderWay;
 use road_detector::Totals;
 use road_detector::laws::totals_are_bounded;
+use road_plan::OutOfMemory;
 use road_plan::limits::MOST_ROWS;
-use road_plan::{OutOfMemory, Plan};
 use std::alloc::Global;
 use std::mem;
-use std::sync::Arc;
 
 // The most steps that are counted one after another, and not by the intervals of the sheet, which takes as many on the
 // average.
 const MOST_COUNTED_STEPS: u32 = INTERVAL_STEPS;
 
-/// The run that the last query left under way, with the settings made last.
+/// The run that the last query left under way, or the memory of one of other edits.
 #[derive(Drop)]
 pub struct QueryCache {
     run: Option<ShownRun>,
+    // A run of the plan that is shown no longer.
+    spare: Option<UnderWay>,
 }
 
 impl QueryCache {
     ghost use Rattle.road_sheet.specs.QueryCaches.{IsCacheOf};
     ghost use Rattle.road_sheet.specs.ShownRuns.{IsShownBy};
 
-    /// Makes the cache of a plan's run of which nothing is computed yet. It takes no memory.
-    pub fn of(alloc: Global, plan: &Arc<Plan>) -> QueryCache
-        ensures { (sheet : Sheet) → sheet.plan ≡ arc_value plan.now → IsCacheOf sheet result }
+    /// Makes the cache of a run of which nothing is computed yet. It takes no memory.
+    pub fn new() -> QueryCache
+        ensures { (sheet : Sheet) → IsCacheOf sheet result }
     {
-        let (_alloc, _plan) = (alloc, plan);
-        QueryCache { run: None }
+        QueryCache {
+            run: None,
+            spare: None,
+        }
     }
 
-    /// Forgets the run, since other edits are in force.
-    pub fn restart(&mut self, alloc: Global)
+    /// Forgets the run, since other edits are in force. Its memory stays.
+    pub fn restart(&mut self)
         ensures { (before after : Sheet) → before.plan ≡ after.plan →
             IsCacheOf before self.old → IsCacheOf after self.new }
     {
-        let _ = alloc;
-        self.run = None;
+        if let Some(shown) = mem::replace(&mut self.run, None) {
+            self.spare = Some(shown.into_run());
+        }
     }
 
     /// Returns the road at a step.
@@ -179,7 +183,10 @@ impl QueryCache {
     {
         let mut shown = match mem::replace(&mut self.run, None) {
             Some(shown) => shown,
-            None => ShownRun::begun(alloc, sheet)?,
+            None => {
+                let spare = mem::replace(&mut self.spare, None);
+                ShownRun::begun(alloc, sheet, spare, step)?
+            }
         };
         shown.go_to(alloc, sheet, step)?;
         Ok(shown)

@@ -145,7 +145,7 @@ impl Sheet {
         ensures accepted { IfOk result (λ _. state_fault self.now step ≡ None) }
         ensures refused { IfErr result (λ fault. IsRefusalBy (state_fault self.now step) fault) }
     {
-        QueryCache::of(alloc, &self.plan).state(alloc, self, step)
+        QueryCache::new().state(alloc, self, step)
     }
 
     /// Returns what a detector counts in the steps from one up to another, that one not among them. It computes the
@@ -169,7 +169,7 @@ impl Sheet {
         ensures kept { totals_fault self.now detector from to ≡ None → AreWholeIntervals self.now from to
             → IsOk result }
     {
-        QueryCache::of(alloc, &self.plan).totals(alloc, self, detector, from, to)
+        QueryCache::new().totals(alloc, self, detector, from, to)
     }
 
     // Copies the last state that is kept and not after a step: that at the horizon, or at the first step of the step's

@@ -1,13 +1,12 @@
 //! The run of a sheet that queries keep under way: it goes on at rising steps, and is taken up elsewhere at a road that
 //! the sheet keeps.
 
-ghost use Rattle.std.specs.Prelude.{◌≡◌, ◌<◌, ◌≤◌, ◌+◌, ℕ, IfOk, IsTrue, OnOk};
+ghost use Rattle.std.specs.Prelude.{◌≡◌, ◌<◌, ◌≤◌, ◌+◌, ℕ, IfOk, IfSome, IsTrue, OnOk};
 ghost use Rattle.std.specs.Prelude.{length, map, string_bytes};
 ghost use Rattle.std.specs.List.{slice_index_or};
 ghost use Rattle.road_plan.specs.declared.limits.TheConstants.{GREATEST_HORIZON};
 ghost use Rattle.road_scenario.specs.Settings.{settings_of};
 ghost use Rattle.road_detector.specs.Passes.{no_totals, passes, plus};
-ghost use Rattle.road_columns.specs.UnderWay.{nothing_counted};
 ghost use Rattle.road_sheet.specs.Sheets.{rows_of, sheet_row, state_of, total_of};
 
 use crate::interval::INTERVAL_STEPS;
@@ -19,7 +18,7 @@ use road_columns::UnderWay;
 use road_detector::Totals;
 use road_ends::Stretch;
 use road_ends::laws::cars_stay_on_road;
-use road_plan::OutOfMemory;
+use road_plan::{OutOfMemory, Settings};
 use std::alloc::Global;
 use std::sync::Arc;
 
@@ -32,21 +31,37 @@ pub(crate) struct ShownRun {
 }
 
 impl ShownRun {
+    ghost use Rattle.road_sheet.specs.SettingsCaches.{AreCached};
     ghost use Rattle.road_sheet.specs.ShownRuns.{IsShownBy};
 
-    // Begins the run of a sheet at step 0.
-    pub(crate) fn begun(alloc: Global, sheet: &Sheet) -> Result<ShownRun, OutOfMemory>
+    // Begins at the last state that a sheet keeps and that is not after a step, in the memory of another run of its plan
+    // where there is one.
+    pub(crate) fn begun(
+        alloc: Global,
+        sheet: &Sheet,
+        spare: Option<UnderWay>,
+        step: u32,
+    ) -> Result<ShownRun, OutOfMemory>
+        requires simulated { step ≤ sheet.now.horizon }
+        requires horizon { step ≤ GREATEST_HORIZON }
+        requires plan { IfSome spare (λ run. run.plan ≡ sheet.now.plan) }
         ensures { IfOk result (IsShownBy sheet.now) }
     {
-        let mut settings = SettingsCache::none();
-        let first = settings.at(alloc, sheet, 0)?;
-        let plan = Arc::try_clone(sheet.plan())?;
-        let run = UnderWay::new(alloc, plan, first)?;
-        Ok(ShownRun {
-            run,
+        let mut shown = ShownRun {
+            run: run_of(alloc, sheet, spare)?,
             under: 0,
-            settings,
-        })
+            settings: SettingsCache::none(),
+        };
+        shown.take_up(alloc, sheet, step)?;
+        Ok(shown)
+    }
+
+    // Takes the run out, to be taken up elsewhere.
+    pub(crate) fn into_run(self) -> UnderWay
+        ensures { result ≡ self.run }
+    {
+        let ShownRun { run, .. } = self;
+        run
     }
 
     // Goes to a step: on from where it is where that is the nearest before it, and else from what the sheet keeps, the
@@ -78,14 +93,15 @@ impl ShownRun {
     {
         let last = self.run.next_step();
         last == step
-            || last < step && step - last <= step % INTERVAL_STEPS && step < sheet.horizon()
+            || (last < step && step - last <= step % INTERVAL_STEPS && step < sheet.horizon())
     }
 
     // Takes the run up at the last state that the sheet keeps and that is not after a step.
     fn take_up(&mut self, alloc: Global, sheet: &Sheet, step: u32) -> Result<(), OutOfMemory>
         requires simulated { step ≤ sheet.now.horizon }
         requires horizon { step ≤ GREATEST_HORIZON }
-        requires shown { IsShownBy sheet.now self.old }
+        requires plan { self.old.run.plan ≡ sheet.now.plan }
+        requires cached { AreCached sheet.now.plan sheet.now.edits self.old.settings }
         ensures before { OnOk result (self.new.run.step ≤ step) }
         ensures shown { OnOk result (IsShownBy sheet.now self.new) }
     {
@@ -204,4 +220,17 @@ impl ShownRun {
         let totals = self.run.totals(alloc)?;
         Ok(totals[detector as usize])
     }
+}
+
+// Takes this run of a sheet's plan, or else makes one.
+fn run_of(alloc: Global, sheet: &Sheet, spare: Option<UnderWay>) -> Result<UnderWay, OutOfMemory>
+    requires { IfSome spare (λ run. run.plan ≡ sheet.now.plan) }
+    ensures { IfOk result (λ run. run.plan ≡ sheet.now.plan) }
+{
+    if let Some(run) = spare {
+        return Ok(run);
+    }
+    let settings = Settings::of_plan(alloc, sheet.plan())?;
+    let plan = Arc::try_clone(sheet.plan())?;
+    UnderWay::new(alloc, plan, Arc::new(alloc, settings)?)
 }

@@ -18,13 +18,13 @@ returns c =
     let stay = subst StayOnRoad (c.deref-2.ensures ∙ c.plan-2.ensures) c.cars_stay_on_road.ensures in
     let can = runnable s.plan (settings_of s.plan s.edits) kept.step limits (omega (arith, before, c.requires.horizon)) stay in
     let cells : c.length.result ≡ s.plan.cells = c.length.ensures.cells ∙ ap (λ (p : Plan). p.cells) (c.deref.ensures ∙ c.plan.ensures) in
-    let here : IsRunnable 0 c.length.result c.args.self.now.run.plan kept.road = transport (λ j. IsRunnable 0 ((sym cells) j) ((sym c.requires.shown.plan) j) ((sym c.in_ok-kept.ensures.road) j)) can in
+    let here : IsRunnable 0 c.length.result c.args.self.now.run.plan kept.road = transport (λ j. IsRunnable 0 ((sym cells) j) ((sym c.requires.plan) j) ((sym c.in_ok-kept.ensures.road) j)) can in
     let taken = c.in_ok-_taken.ensures.taken (c.in_ok-_taken.ensures.runnable.1 here) in
     let step = ap (λ (r : UnderWay). r.step) taken in
     record {
       before = omega (arith, step, before);
       shown = record {
-        plan = ap (λ (r : UnderWay). r.plan) taken ∙ c.requires.shown.plan;
+        plan = ap (λ (r : UnderWay). r.plan) taken ∙ c.requires.plan;
         begin = ap (λ (r : UnderWay). r.lo) taken;
         end = ap (λ (r : UnderWay). r.hi) taken ∙ cells;
         road = ap (λ (r : UnderWay). r.road) taken ∙ c.in_ok-kept.ensures.road ∙ sym (ap (state_of s) step);
