@@ -501,7 +501,7 @@ impl Replica {
         ensures accepted { IfOk result (λ _. refusals.rows_fault self.now.sheet from to ≡ None) }
         ensures refused { IfErr result (IsRefusal (refusals.rows_fault self.now.sheet from to)) }
     {
-        let mut cache = QueryCache::of(alloc, self.sheet.plan());
+        let mut cache = QueryCache::new();
         Ok(cache.rows(alloc, &self.sheet, from, to)?)
     }
 }

@@ -132,7 +132,7 @@ fn copied(state: &State) -> Result<State, Fail> {
 // Tells whether a sheet shows the states that the run has at some steps, which goes on from its first state to each of
 // them: by one cache for all, and by none.
 fn states_agree(alloc: Global, sheet: &Sheet, first: &State, steps: &[u32]) -> Result<bool, Fail> {
-    let mut cache = QueryCache::of(alloc, sheet.plan());
+    let mut cache = QueryCache::new();
     let mut last = copied(first)?;
     for place in steps {
         let step = (*place).min(sheet.horizon());
@@ -159,7 +159,7 @@ fn totals_agree(
     let mut state = copied(first)?;
     let _ = go_on(alloc, sheet, &mut state, detector, from)?;
     let counted = go_on(alloc, sheet, &mut state, detector, to)?;
-    let mut cache = QueryCache::of(alloc, sheet.plan());
+    let mut cache = QueryCache::new();
     let cached = cache.totals(alloc, sheet, detector, from, to)?;
     let again = cache.totals(alloc, sheet, detector, from, to)?;
     let fresh = sheet.totals(alloc, detector, from, to)?;
