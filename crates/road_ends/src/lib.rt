@@ -33,7 +33,7 @@ mod word_batches;
 mod word_cache;
 
 pub use alone::{Stepped, step_alone};
-pub use input::sameness::are_same_cars;
+pub use input::sameness::{are_same_cars, are_same_settings, is_same_plan};
 pub use input::{StepInput, enter};
 pub use letters::{BLOCKED, EMPTY, STANDING};
 pub use meter::Meter;
