@@ -30,7 +30,7 @@ mod step_settings;
 mod stretch;
 
 pub use alone::{Stepped, step_alone};
-pub use input::sameness::are_same_cars;
+pub use input::sameness::{are_same_cars, are_same_settings, is_same_plan};
 pub use input::{StepInput, enter};
 pub use letters::{BLOCKED, EMPTY, STANDING};
 pub use meter::Meter;

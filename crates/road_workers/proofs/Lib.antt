@@ -6,3 +6,4 @@ pub mod NearSteps
 pub mod Cuts
 pub mod StretchCars
 pub mod SideBySide
+pub mod WholeRuns

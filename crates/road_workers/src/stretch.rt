@@ -6,22 +6,18 @@ ghost use Rattle.road_plan.specs.declared.limits.TheConstants.{GREATEST_HORIZON,
 ghost use Rattle.road_cells.specs.Cars.{cars_of, cell_at};
 ghost use Rattle.road_cells.specs.declared.car.TheConstants.{GREATEST_SPEED};
 ghost use Rattle.road_ends.specs.Laws.{AgreeNear};
-ghost use Rattle.road_ends.specs.Span.{span_road};
-ghost use Rattle.road_detector.specs.Passes.{span_totals};
 ghost use Rattle.road_workers.specs.Private.Stretches.{IsRunOf, cars_between, cut, has_site};
 
 pub(crate) mod counting;
 pub(crate) mod joining;
 pub(crate) mod running;
 
-use crate::stretch::joining::road_of;
 use crate::stretch::running::{RunMemory, ran};
 use road_cells::{Car, GREATEST_SPEED, Road};
-use road_detector::{Ran, Totals};
+use road_detector::Totals;
 use road_ends::{OutOfMemory, Span, Stretch, are_same_cars};
 use road_plan::Plan;
 use std::alloc::Global;
-use std::mem;
 
 // What the steps of a span come to on a stretch: its cars after them, and what each detector has counted, those outside
 // it nothing.
@@ -163,23 +159,4 @@ fn margin_of(span: &Span) -> u32
     ensures small { result ≤ GREATEST_SPEED * GREATEST_HORIZON }
 {
     u32::from(GREATEST_SPEED) * span.steps()
-}
-
-// Runs the whole road for all steps of a span, of which it has some.
-pub(crate) fn run_whole(
-    alloc: Global,
-    span: &Span,
-    road: &Road,
-    kept: &mut Option<RunMemory>,
-) -> Result<Ran, OutOfMemory>
-    requires { 0 < span.now.steps }
-    ensures road { IfOk result (λ ran. ran.road ≡ span_road span.now road.now) }
-    ensures totals { IfOk result (λ ran. ran.totals.items ≡ span_totals span.now road.now) }
-{
-    let mut memory = RunMemory::ready(alloc, mem::replace(kept, None), span);
-    let end = span.plan().length();
-    let run = run_near(alloc, span, road, Stretch { first: 0, end }, &mut memory);
-    memory.note(span.step() + span.steps());
-    *kept = Some(memory);
-    Ok(road_of(span, road, end, run?))
 }

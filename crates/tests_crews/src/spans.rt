@@ -11,13 +11,13 @@ use road_cells::Road;
 use road_detector::{Ran, Totals, passes};
 use road_ends::{Meter, Span, step_alone};
 use road_plan::{Plan, Settings};
-use road_workers::{Crew, Pool};
+use road_workers::{Alone, Crew, KeptRun, Pool};
 use std::alloc::Global;
 use std::process::Abort;
 use std::sync::{Arc, Wait};
 use std::test::Fail;
 use std::thread::Threads;
-use tests_plans::LONG;
+use tests_plans::{FREE, LONG};
 
 /// Cells on both sides of where the road may be cut.
 const BLOCKS: &[u32] = &[
@@ -144,19 +144,20 @@ pub(crate) fn worked<'a>(
     })
 }
 
-// Compares what a crew makes of these spans.
+// Compares what a crew makes of these spans, in the run that is lent to it.
 fn runs_as_one_by_one<C: Crew>(
     rt: &impl Abort,
     alloc: Global,
     crew: &mut C,
     plan: &Arc<Plan>,
     course: &Course<'_>,
+    kept: &mut KeptRun,
 ) -> Result<(), Fail> {
     let mut road = course.queue.copied()?;
     let mut step = 0_u32;
     for ((kind, steps), wanted) in course.spans.iter().zip(course.ran.iter()) {
         let span = span_of(alloc, plan, *kind, step, *steps)?;
-        let Some(ran) = crew.run(alloc, &span, &road)? else {
+        let Some(ran) = crew.run(alloc, &span, &road, kept)? else {
             return Err(Fail::new("a crew that runs no spans"));
         };
         assert!(rt;
@@ -185,8 +186,9 @@ pub(crate) fn pool_runs<R: Threads + Wait + Abort + Clone + Drop + Send + 'stati
     requires few { workers ≤ 16 }
 {
     let mut crew = Pool::start(rt.clone()?, alloc, workers)?;
+    let mut kept = KeptRun::none();
     for course in courses {
-        runs_as_one_by_one(rt, alloc, &mut crew, plan, course)?;
+        runs_as_one_by_one(rt, alloc, &mut crew, plan, course, &mut kept)?;
     }
     crew.finish();
     Ok(())
@@ -195,14 +197,36 @@ pub(crate) fn pool_runs<R: Threads + Wait + Abort + Clone + Drop + Send + 'stati
 /// How many cells are taken at first: none, a few, and so many that each worker has a stretch.
 const QUEUES: &[u32] = &[0, 200, 3_000];
 
+// Makes what these spans come to from each queue.
+fn courses_of(alloc: Global, plan: &Arc<Plan>) -> Result<Vec<Course<'static>>, Fail> {
+    let mut courses = Vec::new(alloc);
+    for cells in QUEUES {
+        courses.push(worked(alloc, plan, *cells, SPANS)?)?;
+    }
+    Ok(courses)
+}
+
+/// One course after another, in a run that is kept, and in a new one for each; between them a road of another plan.
+#[test]
+fn one_runs_spans_as_they_are_one_by_one(rt: HostRuntime) -> Result<(), Fail> {
+    let alloc = rt.alloc();
+    let plan = shared_plan(alloc, &LONG)?;
+    let other = shared_plan(alloc, &FREE)?;
+    let mut kept = KeptRun::none();
+    for course in &courses_of(alloc, &plan)? {
+        runs_as_one_by_one(&rt, alloc, &mut Alone, &plan, course, &mut kept)?;
+        runs_as_one_by_one(&rt, alloc, &mut Alone, &plan, course, &mut KeptRun::none())?;
+        let free = worked(alloc, &other, 0, &[(0, 64), (0, 1)])?;
+        runs_as_one_by_one(&rt, alloc, &mut Alone, &other, &free, &mut kept)?;
+    }
+    Ok(())
+}
+
 #[test]
 fn lasting_workers_run_spans_as_they_are_one_by_one(rt: HostRuntime) -> Result<(), Fail> {
     let alloc = rt.alloc();
     let plan = shared_plan(alloc, &LONG)?;
-    let mut courses = Vec::new(alloc);
-    for cells in QUEUES {
-        courses.push(worked(alloc, &plan, *cells, SPANS)?)?;
-    }
+    let courses = courses_of(alloc, &plan)?;
     pool_runs(&rt, alloc, 1, &plan, &courses)?;
     pool_runs(&rt, alloc, 2, &plan, &courses)?;
     pool_runs(&rt, alloc, 3, &plan, &courses)?;

@@ -24,7 +24,8 @@ fn is_same_road(road: &Road, other: &Road) -> bool
     are_same_cars(road.cars(), other.cars())
 }
 
-pub(crate) fn is_same_plan(plan: &Plan, other: &Plan) -> bool
+/// Answers whether two plans are the same. It takes no memory.
+pub fn is_same_plan(plan: &Plan, other: &Plan) -> bool
     ensures { IsTrue result ↔ (plan.now ≡ other.now) }
 {
     have_same_numbers(plan, other) && have_same_lists(plan, other)
@@ -56,7 +57,8 @@ fn have_same_lists(plan: &Plan, other: &Plan) -> bool
         && are_same_numbers(plan.detectors(), other.detectors())
 }
 
-pub(crate) fn are_same_settings(settings: &Settings, other: &Settings) -> bool
+/// Answers whether two settings are the same. It takes no memory.
+pub fn are_same_settings(settings: &Settings, other: &Settings) -> bool
     ensures { IsTrue result ↔ (settings.now ≡ other.now) }
 {
     have_same_chances(settings, other) && have_same_places(settings, other)

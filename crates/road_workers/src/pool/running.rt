@@ -1,14 +1,16 @@
 //! A span, run by the workers of a pool, a stretch of road each; the caller runs one more where it has a processor.
 
-ghost use Rattle.std.specs.Prelude.{◌≡◌, ◌<◌, ◌≤◌, length, vec_len, IfOk, IfSome, IsOk, OnOk};
+ghost use Rattle.std.specs.Prelude.{◌≡◌, ◌<◌, ◌≤◌, length, vec_len, IfOk, IfSome, IsOk, IsSome, OnOk};
 ghost use Rattle.road_plan.specs.declared.limits.TheConstants.{GREATEST_LENGTH, MOST_WORKERS};
 ghost use Rattle.road_cells.specs.Cars.{cars_of};
 ghost use Rattle.road_ends.specs.Span.{span_road};
 ghost use Rattle.road_detector.specs.Passes.{span_totals};
+ghost use Rattle.road_workers.specs.Crews.{CanBeRun};
 ghost use Rattle.road_workers.specs.Private.Gathered.{AreRun, AreThere};
 ghost use Rattle.road_workers.specs.Private.Stretches.{IsRunOf, cut};
 
 use crate::faults::CrewFault;
+use crate::kept_run::KeptRun;
 use crate::pool::job::{Done, Job, Reply, StretchAnswer, StretchJob};
 use crate::pool::messages::{next_done, sent};
 use crate::pool::places::{are_there, places_for};
@@ -18,7 +20,8 @@ use crate::pool::spin::Lookout;
 use crate::pool::{Pool, Worker};
 use crate::stretch::joining::{nothing_run, road_of};
 use crate::stretch::running::RunMemory;
-use crate::stretch::{StretchRun, road_near, run_stretch, run_whole, stretch_at};
+use crate::stretch::{StretchRun, road_near, run_stretch, stretch_at};
+use crate::whole::run_whole;
 use crossbeam_channel::{Receiver, Sender};
 use road_cells::Road;
 use road_detector::Ran;
@@ -34,9 +37,11 @@ impl<R: Wait> Pool<R> {
         alloc: Global,
         span: &Span,
         road: &Road,
+        kept: &mut KeptRun,
     ) -> Result<Option<Ran>, CrewFault>
         ensures road { IfOk result (λ done. IfSome done (λ ran. ran.road ≡ span_road span.now road.now)) }
         ensures totals { IfOk result (λ done. IfSome done (λ ran. ran.totals.items ≡ span_totals span.now road.now)) }
+        ensures some { IfOk result (λ done. CanBeRun span.now road.now → IsSome done) }
         ensures unchanged { self.new ≡ self.old }
     {
         if span.steps() == 0 {
@@ -48,7 +53,7 @@ impl<R: Wait> Pool<R> {
         if is_shared(cars, cells, span.steps(), count) {
             return Ok(Some(self.run_by_stretches(alloc, span, road, own)?));
         }
-        Ok(Some(run_whole(alloc, span, road, &mut self.kept)?))
+        Ok(run_whole(alloc, span, road, kept)?)
     }
 
     // Runs a span by a stretch for each worker, and one for the caller where it helps.
