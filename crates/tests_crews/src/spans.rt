@@ -4,7 +4,6 @@ ghost use Rattle.std.specs.Prelude.{◌<◌, ◌≤◌, IfOk};
 ghost use Rattle.std.specs.Arc.{arc_value};
 ghost use Rattle.road_plan.specs.Settings.{Fits};
 
-use crate::roads::random_settings;
 use crate::rows::shared_plan;
 use crate::sizes::queue;
 use road_cells::Road;
@@ -17,7 +16,7 @@ use std::process::Abort;
 use std::sync::{Arc, Wait};
 use std::test::Fail;
 use std::thread::Threads;
-use tests_plans::{FREE, LONG};
+use tests_plans::{FREE, LONG, random_settings};
 
 /// Cells on both sides of where the road may be cut.
 const BLOCKS: &[u32] = &[
