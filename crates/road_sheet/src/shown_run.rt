@@ -214,7 +214,7 @@ impl ShownRun {
         ensures shown { OnOk result (IsShownBy sheet.now self.new) }
     {
         self.run.restart_counts();
-        for step in self.run.next_step()..to {
+        for counted in self.run.next_step()..to {
             self.step_on(alloc, sheet)?;
         }
         let totals = self.run.totals(alloc)?;

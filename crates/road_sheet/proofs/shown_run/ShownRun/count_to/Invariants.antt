@@ -7,10 +7,10 @@ use Rattle.road_sheet.specs.ShownRuns.{IsShownBy}
 use Rattle.road_sheet.proofs.shown_run.ShownRun.count_to.Given as goal
 
 -- the run is at the step that is to come, and has counted the steps before it
-abbrev pub invariant-loop-step : goal.invariant-loop-step
-invariant-loop-step l = record {
-  step : l.self.run.step ≡ l.step;
+abbrev pub invariant-loop-counted : goal.invariant-loop-counted
+invariant-loop-counted l = record {
+  step : l.self.run.step ≡ l.counted;
   each : length l.self.run.totals ≡ length l.sheet.plan.detectors;
-  counted : slice_index_or l.self.run.totals l.detector no_totals ≡ total_of l.sheet l.detector l.fn.self.run.step l.step;
+  counted : slice_index_or l.self.run.totals l.detector no_totals ≡ total_of l.sheet l.detector l.fn.self.run.step l.counted;
   shown : IsShownBy l.sheet l.self;
 }
