@@ -9,7 +9,7 @@ use crate::rows::shared_plan;
 use crate::sizes::queue;
 use road_cells::Road;
 use road_detector::{Ran, Totals, passes};
-use road_ends::{Meter, Span, Stretch, WordCache, step_alone};
+use road_ends::{Meter, Span, step_alone};
 use road_plan::{Plan, Settings};
 use road_workers::{Alone, Crew, KeptRun, Pool};
 use std::alloc::Global;
@@ -234,26 +234,17 @@ fn lasting_workers_run_spans_as_they_are_one_by_one(rt: HostRuntime) -> Result<(
     pool_runs(&rt, alloc, 16, &plan, &courses)
 }
 
-// Counts the cars that enter an empty road near the cells from 100 to before `end`, with so many steps left.
-fn entered_near(alloc: Global, steps: u32, end: u32) -> Result<usize, Fail> {
-    let plan = shared_plan(alloc, &LONG)?;
-    let span = span_of(alloc, &plan, 0, 0, steps)?;
-    if span.steps() == 0 {
-        return Err(Fail::new("a span of no step"));
-    }
-    let mut words = WordCache::of(alloc, span.plan());
-    let road = Road::empty(alloc);
-    let stretch = Stretch { first: 100, end };
-    let input = words.enter_near(alloc, &span, 0, &road, stretch, None)?;
-    Ok(input.road().cars().len())
-}
-
-// The inlet at cell 511 always lets in; it is 9 cells past cell 502, and 18 past cell 493.
+/// Where a car stands in the exit, which no run of a plan has, nobody runs a span.
 #[test]
-fn nobody_enters_farther_off_than_it_may_matter(rt: HostRuntime) -> Result<(), Fail> {
-    assert!(rt; entered_near(rt.alloc(), 1, 502)? == 0);
-    assert!(rt; entered_near(rt.alloc(), 1, 503)? == 1);
-    assert!(rt; entered_near(rt.alloc(), 2, 493)? == 0);
-    assert!(rt; entered_near(rt.alloc(), 2, 494)? == 1);
+fn a_car_in_the_exit_is_not_run(rt: HostRuntime) -> Result<(), Fail> {
+    let alloc = rt.alloc();
+    let plan = shared_plan(alloc, &LONG)?;
+    let span = span_of(alloc, &plan, 0, 0, 64)?;
+    let road = queue(alloc, plan.length())?;
+    let mut crew = Pool::start(rt.clone()?, alloc, 2)?;
+    let mut kept = KeptRun::none();
+    assert!(rt; crew.run(alloc, &span, &road, &mut kept)?.is_none());
+    assert!(rt; Alone.run(alloc, &span, &road, &mut kept)?.is_none());
+    crew.finish();
     Ok(())
 }
