@@ -1,5 +1,6 @@
 -- Stretches of road, each of which somebody runs alone.
-use Rattle.std.specs.Prelude.{◌≡◌, ℕ, ◌+◌, ◌-◌, ◌*◌, ◌/◌, ◌<◌, ◌&&◌, Bool, List, length, map, min, nat_eq, nat_le, nat_lt}
+use Rattle.std.specs.Prelude.{◌≡◌, ℕ, ◌+◌, ◌-◌, ◌*◌, ◌/◌, ◌<◌, ◌&&◌, Bool, List, length, map, min}
+use Rattle.std.specs.Prelude.{nat_eq, nat_le, nat_lt}
 use Rattle.std.specs.Prelude.{slice_index, slice_index_or, if◌then◌else◌}
 use Rattle.std.specs.List.{range_with_len}
 use Rattle.road_plan.specs.Plan.{Plan}
@@ -46,10 +47,10 @@ pub record IsRunOf (lo hi : ℕ) (span : Span) (a : Array) (done : StretchRun) :
   pub cars : done.cars.items ≡ cars_between lo hi (span_road span a)
   pub totals : AreTotalsOn lo hi span span.steps a done.totals.items
 
--- a run can have the cars near a stretch: for each step of a span up to 9 cells behind it and ahead, on the road
+-- a run can have the cars near a stretch: up to 9 cells behind it and ahead for each step of a span
 abbrev pub IsRunnableNear : ℕ → ℕ → Span → Array → Type 0
-IsRunnableNear lo hi span near =
-    IsRunnable (lo - GREATEST_SPEED * span.steps) (min (hi + GREATEST_SPEED * span.steps) span.plan.cells) span.plan near
+IsRunnableNear lo hi span near = IsRunnable (lo - GREATEST_SPEED * span.steps)
+    (min (hi + GREATEST_SPEED * span.steps) span.plan.cells) span.plan near
 
 -- where the stretch at place w of n begins, of a road of so many cells: at the car that has w n-th parts of the cars
 -- behind it; the first begins with the road, and the last ends with it
