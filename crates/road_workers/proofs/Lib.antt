@@ -7,3 +7,5 @@ pub mod Cuts
 pub mod StretchCars
 pub mod SideBySide
 pub mod WholeRuns
+pub mod NearRuns
+pub mod NearCars

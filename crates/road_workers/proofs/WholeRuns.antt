@@ -5,7 +5,7 @@ use Rattle.std.proofs.Math.Numerals.{add-one}
 use Rattle.std.proofs.lemmas.List.FromFn.{fill_by_all, get_or-map-range_with_len, length-map-range_with_len}
 use Rattle.road_plan.specs.Plan.{Plan}
 use Rattle.road_cells.specs.Array.{Array}
-use Rattle.road_ends.specs.Input.{StepInput, input_next, input_speeds}
+use Rattle.road_ends.specs.Input.{input_next, input_speeds}
 use Rattle.road_ends.specs.Span.{Span}
 use Rattle.road_ends.proofs.EntriesBetween.{whole-input}
 use Rattle.road_detector.specs.Passes.{no_totals, passes_at, plus, span_totals, total_from}

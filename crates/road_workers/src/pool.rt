@@ -28,7 +28,6 @@ use crate::pool::job::{Job, Reply};
 use crate::pool::spin::{Lookout, has_processors};
 use crate::pool::stepping::speeds_by;
 use crate::pool::working::{Ends, work};
-use crate::stretch::running::RunMemory;
 use crossbeam_channel::{Receiver, Sender, bounded};
 use road_cells::Road;
 use road_detector::Ran;
@@ -62,8 +61,6 @@ pub struct Pool<R> {
     is_helped: bool,
     // How often it has answered `WorkersGone`. After the first time no worker is asked.
     gone: u64,
-    // What the caller keeps of the runs that it computes itself.
-    kept: Option<RunMemory>,
 }
 
 impl<R> Model for Pool<R> {
@@ -127,7 +124,6 @@ impl<R: Threads + Wait + Clone + Drop + Send + 'static> Pool<R> {
             lookout,
             is_helped,
             gone: 0,
-            kept: None,
         })
     }
 

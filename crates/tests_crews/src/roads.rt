@@ -26,7 +26,7 @@ fn lasting_workers_run_random_roads_as_they_are_one_by_one(rt: HostRuntime) -> R
     let mut dice = Dice::of(64);
     for length in LENGTHS {
         let plan = Arc::new(alloc, random_plan(alloc, &mut dice, *length)?)?;
-        let cells = dice.below(*length);
+        let cells = dice.below(plan.length().saturating_sub(plan.exit()));
         let mut courses = Vec::new(alloc);
         courses.push(worked(alloc, &plan, cells, SPANS)?)?;
         pool_runs(&rt, alloc, 1, &plan, &courses)?;

@@ -232,3 +232,18 @@ fn lasting_workers_run_spans_as_they_are_one_by_one(rt: HostRuntime) -> Result<(
     pool_runs(&rt, alloc, 7, &plan, &courses)?;
     pool_runs(&rt, alloc, 16, &plan, &courses)
 }
+
+/// Where a car stands in the exit, which no run of a plan has, nobody runs a span.
+#[test]
+fn a_car_in_the_exit_is_not_run(rt: HostRuntime) -> Result<(), Fail> {
+    let alloc = rt.alloc();
+    let plan = shared_plan(alloc, &LONG)?;
+    let span = span_of(alloc, &plan, 0, 0, 64)?;
+    let road = queue(alloc, plan.length())?;
+    let mut crew = Pool::start(rt.clone()?, alloc, 2)?;
+    let mut kept = KeptRun::none();
+    assert!(rt; crew.run(alloc, &span, &road, &mut kept)?.is_none());
+    assert!(rt; Alone.run(alloc, &span, &road, &mut kept)?.is_none());
+    crew.finish();
+    Ok(())
+}

@@ -1,7 +1,6 @@
 -- The run has made the steps on the whole road.
-use Rattle.std.proofs.Common.{◌∙◌, ap, subst, sym}
+use Rattle.std.proofs.Common.{◌∙◌, ap}
 use Rattle.road_columns.specs.UnderWay.{UnderWay}
-use Rattle.road_workers.specs.Private.RunsUnderWay.{IsWhole}
 use Rattle.road_workers.proofs.WholeRuns.{all_counted, whole_after, whole_ready}
 use Rattle.road_workers.proofs.whole.ran_on.Goals as goal
 
