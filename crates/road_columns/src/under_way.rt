@@ -341,6 +341,7 @@ impl UnderWay {
     pub fn next_step(&self) -> u32
         ensures { result ≡ self.now.step }
     {
-        self.step
+        let UnderWay { step, .. } = self;
+        *step
     }
 }

@@ -110,6 +110,23 @@ impl Beside {
         Ok(())
     }
 
+    /// Lets nobody enter in plain steps but on a stretch, and else has these settings there.
+    pub(crate) fn close_outside(
+        &mut self,
+        settings: &Settings,
+        stretch: Stretch,
+    ) -> Result<(), Fail> {
+        let mut closed = copy_of(settings)?;
+        let inlets = self.plan.inlets().iter();
+        for (inflow, inlet) in closed.inflows.iter_mut().zip(inlets) {
+            if inlet.0 < stretch.first || stretch.end <= inlet.0 {
+                *inflow = 0;
+            }
+        }
+        self.settings = closed;
+        Ok(())
+    }
+
     /// Makes one step of both.
     pub(crate) fn step(&mut self, alloc: Global) -> Result<(), Fail> {
         if self.run.next_step() >= GREATEST_HORIZON {

@@ -1,6 +1,6 @@
-//! Runs on stretches of a road, beside the whole road.
+//! Runs on stretches of a road, beside the stretch alone and the whole road.
 
-use crate::beside::Beside;
+use crate::beside::{Beside, cars_on};
 use road_cells::{GREATEST_SPEED, Road};
 use road_ends::Stretch;
 use road_plan::{Plan, Settings};
@@ -51,6 +51,37 @@ fn runs_stretch(
     Ok(compared)
 }
 
+// Runs a stretch for so many steps, and compares after each the whole road with plain steps in which nobody enters
+// elsewhere: the stretch ends 9 cells later after each.
+fn runs_alone(
+    rt: &impl Abort,
+    alloc: Global,
+    plan: &Plan,
+    beside: &mut Beside,
+    (seed, step): (u32, u32),
+    mut stretch: Stretch,
+    road: &Road,
+    steps: u32,
+) -> Result<(), Fail> {
+    let near = cars_on(alloc, road, stretch)?;
+    let settings = random_settings(alloc, plan, seed)?;
+    let own = random_settings(alloc, plan, seed)?;
+    assert!(rt; beside.take_up(alloc, own, step, stretch, &near)?);
+    for done in 0..steps {
+        beside.close_outside(&settings, stretch)?;
+        beside.step(alloc)?;
+        assert!(rt;
+            beside.are_same(alloc)?,
+            "cells {} to {}, settings {seed}, step {done} from {step}",
+            stretch.first,
+            stretch.end
+        );
+        let end = stretch.end.saturating_add(u32::from(GREATEST_SPEED));
+        stretch.end = end.min(plan.length());
+    }
+    Ok(())
+}
+
 // Cuts a road at each so many cells, and runs the stretches before the cut, behind it and round it.
 fn cut_everywhere(
     rt: &impl Abort,
@@ -75,6 +106,7 @@ fn cut_everywhere(
         ];
         for (first, end) in stretches {
             let stretch = Stretch { first, end };
+            runs_alone(rt, alloc, &plan, &mut beside, at, stretch, &road, steps)?;
             let cars = runs_stretch(rt, alloc, &plan, &mut beside, at, stretch, &road, steps)?;
             compared = compared.saturating_add(cars);
         }
@@ -83,7 +115,9 @@ fn cut_everywhere(
 }
 
 #[test]
-fn a_stretch_of_a_small_road_is_run_as_the_whole_road(rt: HostRuntime) -> Result<(), Fail> {
+fn a_stretch_of_a_small_road_is_run_as_alone_and_as_the_whole_road(
+    rt: HostRuntime,
+) -> Result<(), Fail> {
     let alloc = rt.alloc();
     let mut dice = Dice::of(3);
     for length in 8..60u32 {
@@ -97,7 +131,9 @@ fn a_stretch_of_a_small_road_is_run_as_the_whole_road(rt: HostRuntime) -> Result
 }
 
 #[test]
-fn a_stretch_of_a_long_road_is_run_as_the_whole_road(rt: HostRuntime) -> Result<(), Fail> {
+fn a_stretch_of_a_long_road_is_run_as_alone_and_as_the_whole_road(
+    rt: HostRuntime,
+) -> Result<(), Fail> {
     let alloc = rt.alloc();
     let mut dice = Dice::of(4);
     for length in [900, 3_000] {
