@@ -1,6 +1,6 @@
 -- The stamp of the edit that is made is greater than those that the replica held.
 use Rattle.road_replica.proofs.FreshStamps.{made_stamp_is_fresh}
-use Rattle.road_replica.proofs.replica.Replica.put.Goals as goal
+use Rattle.road_replica.proofs.replica.Replica.make_edit.Goals as goal
 
 pub returns-clause-fresh : goal.returns-clause-fresh
 returns-clause-fresh g c =
