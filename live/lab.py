@@ -363,7 +363,7 @@ class Lab(Keeper):
                 self._check_count(gesture)
             touched = await self._import(SHARED, [edit for one in fresh for edit in one.imported()], times)
             done = self.record({"came": {"gestures": [one.written() for one in fresh], "who": fresh[0].who,
-                                         "when": int(time.time())}})
+                                         "title": fresh[0].title, "when": int(time.time())}})
             self._held(SHARED)
             return touched, done
         said = await self.ask(SHARED, (SHARED,), body)

@@ -21,6 +21,7 @@ class Held {
   add(gestures) {
     const known = new Map(this.list.map((one) => [keyOf(one.stamp), one]));
     for (const gesture of gestures) {
+      if (!gesture.undoes) gesture.shape ??= shapeOfEdits(this.plan, gesture.edits);
       const there = known.get(keyOf(gesture.stamp));
       if (there) Object.assign(there, gesture); else this.list.push(gesture);
     }
@@ -56,6 +57,7 @@ const live = {
     if (!live.plan) return;
     if ($("follow").checked) followClock();
     showLegend();
+    showStride();
     fetchRows(!live.clock.rate);
     draw();
   },
@@ -101,8 +103,8 @@ const live = {
 
   async take() {
     closeBefore();
-    const {list, scenario} = live.held;
-    const before = new Map(list.filter(isOwn).map((one) => [one, standing(scenario, one)]));
+    const {scenario} = live.held;
+    const before = new Map(actingNow().filter(isOwn).map((one) => [one, standing(scenario, one)]));
     const fresh = untaken();
     const said = await live.ask({take: {at: live.me.at, message: "shared"}});
     if (!said || said.refused) return;
@@ -308,6 +310,7 @@ async function welcome(said) {
   live.shared.horizon = 0;
   live.line.stands();
   showLine("connected", false);
+  if (live.away) tell("The connection is back.");
   HEARD.broker(said.broker);
   live.away = false;
   $("me").textContent = `${said.name} (seat ${said.seat})`;
@@ -331,6 +334,7 @@ function layRoad(plan) {
   $("inlet").append(...plan.inlets.map(([cell], index) => option("inlet", cell, index)));
   $("site").append(...plan.detectors.map((cell, index) => option("detector", cell, index)));
   document.querySelector("[value=watch]").disabled = !plan.detectors.length;
+  $("zonesHint").textContent = zonesText("limit");
 }
 
 function showLine(text, away) {
@@ -346,6 +350,7 @@ function lost(again, reason, code) {
   showLine(text, true);
   const told = again ? "Connection lost, trying again. What you do meanwhile is kept and sent then."
     : `The connection was closed: ${reason}.`;
+  if (!live.me) $("helloSaid").textContent = told;
   if (!again || !live.away) tell(told, true);
   live.away = true;
 }
@@ -359,6 +364,7 @@ const HEARD = {
       one.setAttribute("aria-pressed", String(Number(one.dataset.rate) === rate));
     }
     $("back").hidden = live.ahead <= now;
+    showHint();
     if (ran && !rate) live.shared.version++;
     live.look();
   },
@@ -443,6 +449,7 @@ function listen() {
   on("back", "click", () => { lookAhead(0); $("ahead").focus(); });
   on("hour", "click", () => live.ask({clock: {to: live.now() + HOUR}}));
   on("shareAll", "click", () => openBefore("share", unshared()));
+  on("savePicture", "click", savePicture);
   on("saveTranscript", "click", saveTranscript);
   on("saveScript", "click", saveScript);
   on("saveCounts", "click", saveCounts);

@@ -355,4 +355,5 @@ def gesture_of(stamp: Stamp, edits: Iterable[Any], told: dict[str, Any]) -> Gest
                    words(told.get("note") or "", LONGEST_NOTE),
                    when if is_time else int(time.time()),
                    None if shape is None or list(SHAPE(shape)) else shape,
-                   None if undoes is None or list(STAMP(undoes)) else pair(undoes))
+                   None if undoes is None or list(STAMP(undoes)) else pair(undoes),
+                   words(told.get("title") or "", LONGEST_NOTE))

@@ -30,7 +30,7 @@ Rank = tuple[int, int, bool, int]
 class Gesture:
     """Edits (kind, index, step, value) of one stamp, and what people are told of them."""
 
-    __slots__ = ("stamp", "edits", "who", "note", "when", "shape", "undoes")
+    __slots__ = ("stamp", "edits", "who", "note", "when", "shape", "undoes", "title")
     stamp: Stamp
     edits: tuple[Edit, ...]
     who: str
@@ -38,15 +38,16 @@ class Gesture:
     when: float
     shape: list[Any] | None
     undoes: Stamp | None
+    title: str  # under which it was shared
 
     @classmethod
     def read(cls, value: dict[str, Any]) -> Gesture:
         undoes = value.get("undoes")
         return cls(pair(value["stamp"]), edits_of(value["edits"]), value.get("who", ""), value.get("note", ""),
-                   value.get("when", 0), value.get("shape"), pair(undoes) if undoes else None)
+                   value.get("when", 0), value.get("shape"), pair(undoes) if undoes else None, value.get("title", ""))
 
     def written(self) -> dict[str, Any]:
-        more = {"shape": self.shape, "undoes": self.undoes}
+        more = {"shape": self.shape, "undoes": self.undoes, "title": self.title or None}
         return {"stamp": self.stamp, "edits": self.edits, "who": self.who, "note": self.note, "when": self.when,
                 **{name: value for name, value in more.items() if value is not None}}
 
@@ -218,6 +219,7 @@ class State:
         wanted = {pair(stamp) for stamp in value["stamps"]}
         shared = [gesture for gesture in self.private(seat) if gesture.stamp in wanted]
         for gesture in shared:
+            gesture.title = value.get("title", "")
             self.shared.hold(gesture)
             self.unsent[gesture] = None
         self._tell(value, len(shared))

@@ -143,7 +143,7 @@ class Tab:
         try:
             asked = Asked(verb, fields)
             if not hmac.compare_digest(str(asked.raw("token")).encode("utf-8", "replace"), self._tabs.token.encode()):
-                self.let_go(1008, "the token in the address is wrong")
+                self.let_go(1008, "the address lacks the right token: open it as live/serve printed it")
                 return
             self._has_token = True
             if verb == "seats":

@@ -196,6 +196,18 @@ function changesShared(which) {
   return same ? one.run.changes : 0;
 }
 
+/** Changes edit by edit: of imports, which come first, what wins and is no withdrawal. */
+function oneByOne(made) {
+  const winners = new Map();
+  for (const edit of made.flatMap(({edits}) => edits ?? [])) {
+    const key = `${edit.kind} ${edit.index} ${edit.step}`;
+    const [count, number] = winners.get(key)?.stamp ?? [0, 0];
+    if ((edit.stamp[0] - count || edit.stamp[1] - number) > 0) winners.set(key, edit);
+  }
+  return [...[...winners.values()].filter(({put}) => put !== undefined),
+          ...made.filter(({edits}) => !edits)];
+}
+
 /** Of edits of one object and step the last; none where that withdraws one of these. */
 function lasting(edits) {
   const kept = new Map();
@@ -255,7 +267,7 @@ function editLines(which) {
   const offer = picked()[which];
   if (!offer) return [];
   const shared = changesShared(which);
-  const texts = joined(lasting(offer.run.made.slice(shared, offer.run.changes)))
+  const texts = joined(lasting(oneByOne(offer.run.made.slice(shared, offer.run.changes))))
     .map((edit) => editText(edit, offer.transcript.plan));
   const more = texts.length - MOST_EDITS;
   const head = shared ? [texts.length ? "As the first, and:" : "As the first."] : [];

@@ -48,11 +48,17 @@ function shortReply({rows, cells, cars, speeds, refused, touched, stamp}) {
 
 function shortCommand(value) {
   const [name] = Object.keys(value);
-  const {at, step, from, to, detector, object, message, value: put} = value[name];
+  const {at, step, from, to, detector, object, message, edits, value: put} = value[name];
   const what = message ?? (Array.isArray(object) ? object.join(" ") : null);
   return {name, at, from: from ?? step, to: to ?? step, detector,
           title: what === null ? name : `${name} ${what}`,
-          edit: Array.isArray(object) ? {kind: object[0], index: object[1], step, put} : null};
+          edit: Array.isArray(object) ? {kind: object[0], index: object[1], step, put} : null,
+          edits: name === "import" && Array.isArray(edits) ? edits.map(importedEdit) : null};
+}
+
+/** An edit of an import, [kind, index, step, count, number, put]. */
+function importedEdit([kind, index, step, count, number, put]) {
+  return {kind, index, step, put: put ?? undefined, stamp: [count, number]};
 }
 
 /** Cuts text that comes in pieces into lines; a line that is too long is left out whole. */
@@ -197,10 +203,12 @@ class Transcript {
   }
 
   /** Notes a change of a replica's edits: how many there were, which was the last, and all of them;
-      what is taken from others by its title. */
-  change({at, title, edit}) {
+      what is taken from others by its title. Imports are told edit by edit where nothing else was
+      before them, so that it is known which edits win. */
+  change({at, title, edit, edits}) {
     const {count, made} = this.changesOf(at);
-    made.push(edit ?? {title});
+    const isFirst = made.every((one) => one.edits);
+    made.push(edit ?? (edits && isFirst ? {edits} : {title}));
     this.changes.set(at, {count: count + 1, last: title, made});
   }
 

@@ -147,7 +147,7 @@ function sumRows(mine, shared) {
       element("td", one === null || other === null ? "…" : signedText(one - other, digits)));
   };
   return [cells("Vehicle hours", ({hours}) => hours, 1),
-          cells("Lost demand, cars (about)", ({lost}) => lost, 0)];
+          cells("Lost demand, cars (estimate)", ({lost}) => lost, 0)];
 }
 
 /** Shows the figures of a period, as far as they are there; while the clock runs only all. */
@@ -199,7 +199,8 @@ function queueWarnings(period) {
     const rest = texts.length - QUEUES_TOLD;
     const told = texts.slice(0, QUEUES_TOLD).join(", ") + (rest > 0 ? `, and ${rest} more` : "");
     return [`A queue reaches the inlet at ${kmText(cell)} km, about ${told}: `
-      + `some ${plural(lost, "car")} cannot enter, so counts and vehicle hours flatter.`];
+      + `some ${plural(lost, "car")} cannot enter (an estimate), so counts and vehicle hours `
+      + "flatter."];
   });
 }
 

@@ -143,6 +143,25 @@ function editsInPlaceOf(plan, held, old, shape) {
   return [...edits.values()];
 }
 
+/** The shape of edits that came without one, as from the shell: neighbours of one kind have one
+    value from one step on, or until they have the plan's again at another; null where that is not
+    what they say. */
+function shapeOfEdits(plan, edits) {
+  const from = firstStep(edits);
+  const begins = edits.filter(([, , step]) => step === from);
+  const ends = edits.filter(([, , step]) => step !== from);
+  const [kind, , , value] = begins[0];
+  const indexes = begins.map(([, index]) => index).sort((one, other) => one - other);
+  const [first, last, to] = [indexes[0], indexes.at(-1), ends.length ? ends[0][2] : null];
+  const isShape = value !== null && edits.every(([other]) => other === kind)
+    && begins.every(([, , , put]) => put === value)
+    && ends.every(([, index, step, put]) => step === to && put === planned(plan, kind, index))
+    && (ends.length === 0 || ends.length === begins.length)
+    && last - first === begins.length - 1;
+  const isOne = isShape && (first === last || kind === "block" || OF_ZONES.includes(kind));
+  return isOne ? [kind, first, last, from, to, value] : null;
+}
+
 /** The greatest number of objects of which each has so many edits. */
 const mostObjects = (edits, objects) => Math.floor(MOST_EDITS / Math.max(1, edits / objects));
 
@@ -164,6 +183,32 @@ function cutOf(scenario, {shape, stamp}) {
 
 /** Whether a put has its value because what was private was taken back, which gives others back. */
 const givesBack = ({gesture}) => gesture.undoes && !gesture.shared;
+
+/** The values that an object has from one step to another: [[value, from, to], ..]. */
+function valuesOf(scenario, kind, index, [from, to]) {
+  const found = [[scenario.valueAt(kind, index, from), from, to]];
+  for (const {step, value} of scenario.puts(kind, index)) {
+    const last = found.at(-1);
+    if (step <= from || (to !== null && step >= to) || value === last[0]) continue;
+    last[2] = step;
+    found.push([value, step, to]);
+  }
+  return found;
+}
+
+/** What is in force in a shape's stretch and time: {kind, first, last, from, to, value}, neighbours
+    with the same values as one. */
+function inForce(scenario, [kind, first, last, from, to]) {
+  const groups = [];
+  for (let index = first; index <= last; index++) {
+    const values = valuesOf(scenario, kind, index, [from, to]);
+    const before = groups.at(-1);
+    if (before && String(before.values) === String(values)) before.last = index;
+    else groups.push({first: index, last: index, values});
+  }
+  return groups.flatMap(({values, ...places}) =>
+    values.map(([value, begin, end]) => ({kind, ...places, from: begin, to: end, value})));
+}
 
 /** How a gesture stands: how many of its edits hold, to whom the others lost, and where somebody
     cuts it short. */
@@ -194,14 +239,24 @@ function restoresShared(scenario, common, gesture) {
   });
 }
 
-/** Whether a gesture takes back one that is private too: both are as if they had never been. */
-const isBackAndForth = (held, {shared, undoes, stamp}) => !shared && undoes && held.some((one) =>
-  sameStamp(one.stamp, undoes) && !one.shared && one.stamp[1] === stamp[1]);
+/** Of what a number's seat holds, what acts: without what it took back before anybody else had it,
+    and without what took that back, which are as if they had never been. */
+function actingOf(held, number) {
+  const own = held.filter(({stamp, shared}) => !shared && stamp[1] === number);
+  const stamps = new Set(own.map(({stamp}) => keyOf(stamp)));
+  const undoings = own.filter(({undoes}) => undoes)
+    .sort((one, other) => byStamp(other.stamp, one.stamp));
+  const gone = new Set();
+  for (const {stamp, undoes} of undoings) if (!gone.has(keyOf(stamp))) gone.add(keyOf(undoes));
+  const hidden = new Set(own.filter(({stamp, undoes}) =>
+    gone.has(keyOf(stamp)) || (undoes && stamps.has(keyOf(undoes)))));
+  return held.filter((gesture) => !hidden.has(gesture));
+}
 
-/** Whether a gesture of those that are held is worth a line: it acts, or it takes back what is
-    shared. */
-function isSeen(held, scenario, common, gesture) {
-  if (isBackAndForth(held, gesture) || standing(scenario, gesture).replaced) return false;
+/** Whether a gesture of those that act is worth a line: it holds, it lost to others, or it takes
+    back what is shared. */
+function isSeen(scenario, common, gesture) {
+  if (standing(scenario, gesture).replaced) return false;
   if (!gesture.shared) return !restoresShared(scenario, common, gesture);
   return !gesture.undoes && gesture.edits.some(([, , , value]) => value !== null);
 }
@@ -271,6 +326,23 @@ function valueText(plan, kind, value, index, slow) {
 function slowAt(scenario, inlet, step) {
   const zone = Math.floor(scenario.plan.inlets[inlet][0] / scenario.plan.zone);
   return scenario.valueAt("slow", zone, step);
+}
+
+const MOST_FORCES = 4;          // that are told
+
+/** What is in force where and when a shape was put, in a sentence; "" without a shape. */
+function forceText(scenario, shape) {
+  if (!shape) return "";
+  const found = inForce(scenario, shape);
+  const texts = found.slice(0, MOST_FORCES).map((one) => partText(scenario, one));
+  const rest = found.length - texts.length;
+  return `${texts.join("; ")}${rest > 0 ? `; and ${rest} more` : ""}.`;
+}
+
+function partText(scenario, {kind, first, last, from, to, value}) {
+  if (value !== null) return shapeText(scenario, [kind, first, last, from, to, value]);
+  const where = placesText(scenario.plan, kind, first, last);
+  return `${THINGS[kind]} as planned, ${where}, ${spanText(from, to)}`;
 }
 
 /** A shape in a sentence, which becomes the gesture's note. */

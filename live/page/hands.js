@@ -37,13 +37,17 @@ function areaOfShape(shape, old = null) {
   const slow = kind === "inflow" ? slowAt(scenario, first, from) : 0;
   const what = known ? valueText(live.plan, kind, value, first, slow) : "";
   const where = placesText(live.plan, kind, first, last);
-  const lines = [what, where, spanText(from, to)].filter(Boolean);
+  const lines = [what, where, zonesText(kind), spanText(from, to)].filter(Boolean);
   let fault = known ? "" : faultOfValue(kind, first, from);
   if (edits.length > MOST_EDITS) fault = tooGreat(shape, edits.length);
   const isLate = Math.max(from, to ?? 0) > LAST_STEP;
   if (isLate) fault = `The road's clock ends at ${timeText(LAST_STEP)}.`;
   return {shape, edits, note, lines, fault, old};
 }
+
+/** Says that what is put for zones is put for whole ones; "" for other kinds. */
+const zonesText = (kind) => (OF_ZONES.includes(kind)
+  ? `in whole zones, of ${metresText(live.plan.zone)} each` : "");
 
 /** Says that a gesture has too many edits, and how long it may be. */
 function tooGreat([kind, first, last], edits) {
@@ -149,6 +153,7 @@ function onMove(event) {
     drawn.area = areaOfShape(shapeWithEdge(by.shape, held.edge.edge, ends), by);
   } else if (toolNow() === "look") dragDiagram(event, held);
   else drawn.area = areaOfShape(shapeBetween(begun, ends));
+  if (drawn.area) sayArea(false);
   if (drawn.area?.fault) tell(drawn.area.fault, true);
   draw();
 }
@@ -169,6 +174,7 @@ function onUp(event) {
   else if (held && !held.moved && !["look", "block"].includes(toolNow())) {
     applyArea(areaOfShape(shapeBetween(...[0, 0].map(() => snapped(held.at, event.altKey)), true)));
   }
+  readOut(placeOf(event), false);
   draw();
 }
 
@@ -202,8 +208,18 @@ function readOut([cell, step], byKey) {
   const limit = scenario.valueAt("limit", Math.floor(at / zone), moment);
   const said = texts.length === 2 ? `mine: ${texts[0]}; shared: ${texts[1]}` : texts[0];
   const place = `${kmOf(at).toFixed(2)} km, ${timeText(moment)}`;
+  say(`${place}: ${said}; limit ${limitText(limit)}`, byKey);
+}
+
+/** Writes a text below the diagram, which is announced where keys made it. */
+function say(text, byKey) {
   $("readout").setAttribute("aria-live", byKey ? "polite" : "off");
-  $("readout").textContent = `${place}: ${said}; limit ${limitText(limit)}`;
+  $("readout").textContent = text;
+}
+
+/** Says what the rectangle that is drawn would do, before it is let go. */
+function sayArea(byKey) {
+  say([...drawn.area.lines, drawn.area.fault].filter(Boolean).join(", "), byKey);
 }
 
 function signText(sign) {
@@ -217,14 +233,26 @@ function signText(sign) {
 const ARROWS = {ArrowLeft: [-1, 0], ArrowRight: [1, 0], ArrowUp: [0, -1], ArrowDown: [0, 1]};
 const LETTERS = {v: "look", c: "block", l: "limit", i: "inflow", p: "slow", s: "start", t: "watch"};
 
-/** Where the cursor's keys move it: about 5 pixels, snapped as a drag is. */
-function moveCursor([across, down], far) {
+/** How far an arrow moves the cursor, in cells and steps: about 5 pixels, by tens of steps where
+    these are as many. */
+function strideNow() {
   const {scale, tall} = viewNow();
-  const cells = Math.max(1, Math.round(5 / scale)) * far;
-  const steps = Math.max(1, Math.round(5 / tall / 10) * 10) * far;
+  return [Math.max(1, Math.round(5 / scale)), Math.max(1, Math.round(5 / tall / 10) * 10)];
+}
+
+/** Says how far an arrow moves the cursor at this zoom. */
+function showStride() {
+  const [cells, steps] = strideNow();
+  const text = `by ${metresText(cells)} and ${durationText(steps)} at this zoom`;
+  if ($("stride").textContent !== text) $("stride").textContent = text;
+}
+
+/** Moves the cursor by an arrow's direction. */
+function moveCursor([across, down], far) {
+  const [cells, steps] = strideNow();
   const [cell, step] = drawn.cursor ?? cursorStart();
-  drawn.cursor = [Math.max(0, Math.min(live.plan.length, cell + across * cells)),
-                  Math.max(0, Math.min(LAST_STEP, step + down * steps))];
+  drawn.cursor = [Math.max(0, Math.min(live.plan.length, cell + across * cells * far)),
+                  Math.max(0, Math.min(LAST_STEP, step + down * steps * far))];
   followCursor();
   if (drawn.corner) stretchArea();
   else readOut(drawn.cursor, true);
@@ -242,8 +270,7 @@ function followCursor() {
 
 function stretchArea() {
   drawn.area = areaOfShape(shapeBetween(drawn.corner, drawn.cursor));
-  $("readout").setAttribute("aria-live", "polite");
-  $("readout").textContent = [...drawn.area.lines, drawn.area.fault].filter(Boolean).join(", ");
+  sayArea(true);
 }
 
 function beginCorner() {
@@ -258,6 +285,7 @@ function beginCorner() {
 
 function dropArea() {
   Object.assign(drawn, {area: null, corner: null, held: null});
+  if (drawn.cursor) readOut(drawn.cursor, true);
 }
 
 function enterArea() {
@@ -314,7 +342,7 @@ function chooseTool(kind) {
 
 function showTool() {
   const kind = toolNow();
-  for (const part of $("values").children) part.hidden = part.dataset.of !== kind;
+  for (const part of $("values").children) part.hidden = !part.dataset.of.split(" ").includes(kind);
   const placed = kind !== "inflow" && kind !== "watch";
   $("kmFromLabel").hidden = $("kmToLabel").hidden = !placed;
   $("apply").textContent = live.changing ? "Change" : VERBS[kind];

@@ -3,6 +3,7 @@
 // what sharing or taking would change before it is done.
 
 const isOwn = ({stamp}) => stamp[1] === live.me.number;
+const actingNow = () => actingOf(live.held.list, live.me.number);
 const nameOf = (gesture) => (isOwn(gesture) ? "you" : gesture.who || "somebody");
 const noteOf = (gesture) => gesture.note || editsText(live.held.scenario, gesture.edits);
 
@@ -28,15 +29,15 @@ let linesShown = [];
 
 /** The lines of all lists, newest first, each with the list where it stands. */
 function linesNow() {
-  const {list, scenario} = live.held;
-  const seen = list.filter((gesture) =>
-    isSeen(list, scenario, live.common.scenario, gesture));
+  const {scenario} = live.held;
+  const seen = actingNow().filter((gesture) => isSeen(scenario, live.common.scenario, gesture));
   const lines = seen.map((gesture) => {
     const stands = standing(scenario, gesture);
     const state = stateOf(gesture, stands);
     const losses = isOwn(gesture) ? lossesOf(gesture, stands) : [];
     const where = losses.length ? "lost" : !gesture.shared && isOwn(gesture) ? "own" : "held";
-    return {gesture, state, losses, where};
+    const force = losses.length ? forceText(scenario, gesture.shape) : "";
+    return {gesture, state, losses, force, where};
   });
   return lines.sort((one, other) => byStamp(other.gesture.stamp, one.gesture.stamp));
 }
@@ -50,7 +51,7 @@ function lineButtons({gesture, losses}) {
   const about = noteOf(gesture);
   const own = isOwn(gesture);
   return [[true, "Show", () => showGesture(gesture)],
-          [own && gesture.shape, "Change", () => beginChange(gesture)],
+          [gesture.shape, "Change", () => beginChange(gesture)],
           [true, "Withdraw", () => live.withdraw(gesture)],
           [own && !gesture.shared, "Share…", () => openBefore("share", [gesture])],
           [losses.length && gesture.shape, "Put mine again", () => live.putAgain(gesture)]]
@@ -58,10 +59,11 @@ function lineButtons({gesture, losses}) {
 }
 
 function lineElement(line) {
-  const {gesture, state, losses} = line;
+  const {gesture, state, losses, force} = line;
   const tag = element("span", state, {className: `state ${state.replace(" ", "-")}`});
   const lost = losses.map(({text, why}) => element("p", text, {className: "loss"},
     element("span", " " + why, {className: "hint"})));
+  if (force) lost.push(element("p", `In force there now: ${force}`));
   return element("li", "", {}, element("p", noteOf(gesture) + " ", {className: "note"}, tag),
     element("p", meta(gesture), {className: "hint"}), ...lost,
     element("p", "", {className: "buttons"}, ...lineButtons(line)));
@@ -70,7 +72,7 @@ function lineElement(line) {
 const itemOf = (line) => ({
   key: keyOf(line.gesture.stamp),
   sign: JSON.stringify([line.state, line.gesture.shared, line.losses.map(({text}) => text),
-                        meta(line.gesture)]),
+                        line.force, meta(line.gesture)]),
   make: () => lineElement(line),
 });
 
@@ -86,8 +88,14 @@ function showLists() {
   showList($("held"), of("held"));
   showList($("lost"), of("lost"));
   for (const id of ["own", "held", "lost"]) $(id).parentElement.hidden = !$(id).children.length;
-  $("hint").hidden = lines.length > 0 || live.pending.size > 0;
+  showHint();
   $("undo").disabled = !newestOwn();
+}
+
+/** Says how to begin, until there are changes; that the road is empty only where it is. */
+function showHint() {
+  $("emptyHint").hidden = live.now() > 0;
+  $("hint").hidden = linesShown.length > 0 || live.pending.size > 0;
 }
 
 /** The newest own gesture that still acts. */
@@ -150,16 +158,21 @@ function showNews(news) {
 function changesOfStanding(gestures, before, after) {
   return gestures.flatMap((gesture) => {
     const was = before ? lossesOf(gesture, standing(before, gesture)).map(({text}) => text) : [];
-    return lossesOf(gesture, standing(after, gesture)).filter(({text}) => !was.includes(text))
-      .map(({text, why}) => ({text: `${nameOf(gesture)}: ${noteOf(gesture)} \u2013 ${text}`, why}));
+    const about = `${nameOf(gesture)}: ${noteOf(gesture)} \u2013 `;
+    const losses = lossesOf(gesture, standing(after, gesture))
+      .filter(({text}) => !was.includes(text))
+      .map(({text, why}) => ({text: `${about}${text}.`, why}));
+    const force = losses.length ? forceText(after, gesture.shape) : "";
+    if (force) losses.at(-1).why += ` In force there then: ${force}`;
+    return losses;
   });
 }
 
 /** Who would lose to whom, were these gestures added to those. */
-function lossesByAdding(gestures, target) {
-  const after = new Scenario(live.plan, [...target.list, ...gestures]);
-  return [...changesOfStanding(gestures, null, after),
-          ...changesOfStanding(target.list, target.scenario, after)];
+function lossesByAdding(gestures, there) {
+  const before = new Scenario(live.plan, there);
+  const after = new Scenario(live.plan, [...there, ...gestures]);
+  return [...changesOfStanding(gestures, null, after), ...changesOfStanding(there, before, after)];
 }
 
 function lossList(losses) {
@@ -182,7 +195,7 @@ function openBefore(what, gestures) {
     closeBefore();
     if (shares) live.share(gestures); else live.take();
   };
-  const losses = lossesByAdding(gestures, shares ? live.common : live.held);
+  const losses = lossesByAdding(gestures, shares ? live.common.list : actingNow());
   const titles = shares ? "" : titlesOf(live.news);
   $("beforeBody").replaceChildren(element("p", titles, {hidden: !titles}), gestureList(gestures),
     element("h3", "Who would lose to whom"), lossList(losses),
@@ -225,6 +238,8 @@ function closeBefore() {
 
 const READ_BOTH =
   "A car that does not enter spends no vehicle hours: read these with the lost demand.";
+const IS_EXACT = "This is counted car by car. The estimates below the diagram leave out what is "
+  + "lost while an inlet lets in more than half of its demand.";
 
 /** What sharing all would change: the own road beside the shared one, as far as it is there. */
 function showOwnPreview() {
@@ -234,7 +249,7 @@ function showOwnPreview() {
   const [from, to] = figures.summed;
   if (figures.period?.join() !== [from, to].join()) return;
   const lines = [["Vehicle hours", shared.hours, mine.hours, 1],
-                 ["Lost demand, cars (about)", shared.lost, mine.lost, 0]];
+                 ["Lost demand, cars (estimate)", shared.lost, mine.lost, 0]];
   place.replaceChildren(previewTable([from, to], lines, figures.counts[1], figures.counts[0]),
     element("p", READ_BOTH, {className: "hint"}),
     button("Delay car by car (takes a while)", () => askPreview(place, unshared())));
@@ -251,17 +266,26 @@ async function askPreview(place, gestures) {
   else place.replaceChildren(exactPreview(said));
 }
 
-function exactPreview({before, after, from, to, lost_demand: lost, delay_hours: delay}) {
+function exactPreview(said) {
+  const {before, after, from, to} = said;
   const known = typeof before.vehicle_hours === "number";
   const lines = known ? [["Vehicle hours", before.vehicle_hours, after.vehicle_hours, 1],
                          ["Cars let in", before.entered, after.entered, 0],
-                         ["Lost demand, cars", null, lost, 0],
-                         ["Delay of cars in both, vehicle hours", null, delay, 1]] : [];
+                         ["Lost demand, cars", null, said.lost_demand, 0], ...lostLines(said.delay),
+                         ["Delay of cars in both, vehicle hours", null, said.delay_hours, 1]] : [];
   const table = previewTable([from, to], lines, before.detectors, after.detectors);
   table.classList.add("exact");
-  return element("div", "", {}, table, element("p", known ? READ_BOTH
-    : "This is too long to follow each car: so there is no delay, and no lost demand.",
-    {className: "hint"}));
+  const hints = known ? [READ_BOTH, IS_EXACT]
+    : ["This is too long to follow each car: so there is no delay, and no lost demand."];
+  return element("div", "", {}, table,
+    ...hints.map((hint) => element("p", hint, {className: "hint"})));
+}
+
+/** Where there are several inlets, what is lost at each, to be held beside a warning. */
+function lostLines({inlets}) {
+  if (live.plan.inlets.length === 1) return [];
+  return Object.entries(inlets).map(([index, [, , lost, gained]]) =>
+    [`\u2013 of them at ${kmText(live.plan.inlets[index][0])} km`, null, lost - gained, 0]);
 }
 
 /** A table of now, then and the change: lines of [name, now, then, digits], where a now of null

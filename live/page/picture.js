@@ -209,6 +209,12 @@ function drawArea(context, view, area) {
 // What the colours mean, as a list beside the diagram.
 
 function legendEntries() {
+  return [...colourEntries(), {text: "inlet", colour: OF_PLAN.inlet},
+          {text: "detector", colour: OF_PLAN.detector},
+          {text: "zones by turns", colour: OF_PLAN.zone}];
+}
+
+function colourEntries() {
   const closed = {text: "closed", colour: BLOCKED};
   const unknown = {text: "not computed", colour: NO_ROW};
   if (chosen("whose") === "both") {
@@ -223,10 +229,7 @@ function legendEntries() {
 function showLegend() {
   if ($("legend").dataset.of === chosen("whose")) return;
   $("legend").dataset.of = chosen("whose");
-  const plan = [{text: "inlet", colour: OF_PLAN.inlet},
-                {text: "detector", colour: OF_PLAN.detector},
-                {text: "zones by turns", colour: OF_PLAN.zone}];
-  $("legend").replaceChildren(...[...legendEntries(), ...plan].map((entry) => {
+  $("legend").replaceChildren(...legendEntries().map((entry) => {
     if (typeof entry === "string") return element("li", entry);
     const box = element("span", "", {className: "swatch"});
     box.style.background = entry.colour;

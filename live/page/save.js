@@ -1,10 +1,56 @@
 "use strict";
-// Saving: what the viewer opens and road_lab runs again, and tables for a spreadsheet.
+// Saving: the diagram as a picture, what the viewer opens and road_lab runs again, and tables for a
+// spreadsheet.
 
 const SPAN_OF_COUNTS = 300;     // steps
+const CAPTION_HIGH = 24;        // pixels of a picture that is saved, above the diagram
+const LEGEND_HIGH = 28;
+const LEGEND_WIDE = 900;
 
 /** The road that is shown; of a difference the own one. */
 const roadShown = () => (chosen("whose") === "shared" ? "shared" : live.me.at);
+
+/** What the diagram shows, for who has the picture alone. */
+function captionText() {
+  const whose = {mine: `The road of ${live.me.name}`, shared: "The shared road",
+                 both: `The road of ${live.me.name} less the shared one`}[chosen("whose")];
+  const {cells, steps} = partShown();
+  const [places, times] = [cells.map(Math.round).map(kmText), steps.map(timeText)];
+  return `${whose}, ${places.join("\u2013")} km, ${times.join("\u2013")}`
+    + (live.now() < steps[1] ? `; the clock is at ${timeText(live.now())}` : "");
+}
+
+/** The diagram as it is seen, but for the cursor, between what it shows and its colours. */
+function diagramWithLegend() {
+  const {cursor, area} = drawn;
+  Object.assign(drawn, {cursor: null, area: null});
+  drawDiagram();
+  Object.assign(drawn, {cursor, area});
+  const diagram = $("diagram");
+  const fine = window.devicePixelRatio;
+  const canvas = document.createElement("canvas");
+  canvas.width = Math.max(diagram.width, LEGEND_WIDE * fine);
+  canvas.height = diagram.height + (CAPTION_HIGH + LEGEND_HIGH) * fine;
+  const context = canvas.getContext("2d");
+  context.fillStyle = EMPTY;
+  context.fillRect(0, 0, canvas.width, canvas.height);
+  context.drawImage(diagram, 0, CAPTION_HIGH * fine);
+  context.setTransform(fine, 0, 0, fine, 0, 0);
+  pen(context, "left");
+  context.fillText(captionText(), 4, CAPTION_HIGH / 2, canvas.width / fine - 8);
+  context.translate(0, canvas.height / fine - LEGEND_HIGH);
+  drawLegend(context, 4, legendEntries());
+  draw();
+  return canvas;
+}
+
+/** Saves the diagram as it is seen. */
+function savePicture() {
+  diagramWithLegend().toBlob((blob) => {
+    download([blob], "diagram.png", "image/png");
+    tell("Saved diagram.png: the diagram as it is seen.");
+  });
+}
 
 /** The lines that show the road of the period that is shown, each command before its reply; null
     where something was refused. */
@@ -27,7 +73,8 @@ async function saveTranscript() {
   const lines = await transcriptLines();
   if (!lines) return;
   download(lines, "transcript.jsonl", "application/jsonl");
-  tell("Saved transcript.jsonl: choose it in the viewer.");
+  tell(`Saved transcript.jsonl: choose it in the viewer, with ${METRES_A_CELL} metres a cell and `
+    + "1 second a step.");
 }
 
 /** Saves the commands alone; road_lab answers them as the transcript has it. */

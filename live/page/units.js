@@ -11,6 +11,7 @@ const LAST_STEP = 1048575;
 const kmOf = (cell) => cell * METRES_A_CELL / 1000;
 const kmText = (cell) => String(Number(kmOf(cell).toFixed(3)));
 const cellOfKm = (km) => Math.round(km * 1000 / METRES_A_CELL);
+const metresText = (cells) => `${cells * METRES_A_CELL} m`;
 const whole = (value) => Math.round(value).toLocaleString("en");
 const plural = (count, one, more = one + "s") => `${whole(count)} ${count === 1 ? one : more}`;
 
@@ -29,6 +30,9 @@ function timeText(step) {
   const seconds = Math.round(step);
   return `${Math.floor(seconds / HOUR)}:${two(Math.floor(seconds / 60) % 60)}:${two(seconds % 60)}`;
 }
+
+/** How long so many steps are. */
+const durationText = (steps) => (steps % MINUTE ? `${steps} s` : `${steps / MINUTE} min`);
 
 /** The step of a written time: h:mm, h:mm:ss or minutes; NaN where it is none. */
 function stepOfText(text) {

@@ -91,6 +91,27 @@ class Brokers(Case):
                         async with third.seat("Tom") as tom:
                             await self.same(again, sam, tom, edits=7)
 
+    async def test_a_title_goes_with_what_is_shared(self) -> None:
+        broker = self.broker(keeps=False)
+        first, second = self.site(broker, 1), self.site(broker, 2)
+        async with first.seat("Ada") as ada, second.seat("Sam") as sam:
+            for number, title in enumerate(("night works", "by day")):
+                if number:
+                    broker.kill()  # what waits for it bears its title, by the journal, too
+                await ada.ask("gesture", key=f"k{number}", edits=[["limit", 2, 80 + number, 1]])
+                await ada.ask("send", name="shared", title=title)
+                if number:
+                    first.again()
+                    broker.start()
+                await until(lambda: self.has_title(sam, title), title)
+            await sam.ask("take", message="shared")
+            self.assertEqual([one["title"] for one in (await sam.ask("gestures"))["gestures"]], ["night works", "by day"])
+
+    async def has_title(self, seat: Seat, title: str) -> bool:
+        """Whether the seat is told that Ada shared something so titled, and nothing else was."""
+        news = next((one["news"] for one in reversed(seat.told) if "news" in one), {"shares": []})
+        return bool(news["shares"]) and (news["shares"][-1]["who"], news["shares"][-1]["title"]) == ("Ada", title)
+
     async def test_rubbish_is_left_out_and_told(self) -> None:
         broker = self.broker()
         first, second = self.site(broker, 1), self.site(broker, 2)

@@ -97,7 +97,7 @@ def seen(state: State) -> Any:
     """What a state says, in a form that can be compared."""
     return (state.plan, state.site, state.folder, state.rate, state.now, sorted(one.stamp for one in state.unsent),
             [(seat.name, seat.key, seat.count, seat.upto, dict(seat.done),
-              sorted((one.stamp, one.edits, one.who, one.note, one.undoes) for one in seat.gestures))
+              sorted((one.stamp, one.edits, one.who, one.note, one.undoes, one.title) for one in seat.gestures))
              for seat in state.seats])
 
 

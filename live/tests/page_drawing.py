@@ -4,11 +4,14 @@ The rows that pixels are held against are those of `examples/closed_cell.out`; o
 """
 from __future__ import annotations
 
+import base64
+import re
 import subprocess
 
 from browsers import COLOURS, FREE_ROAD, FREEWAY, TOP, BrowserCase, Tab, edits_of, example_rows, gestures_of
 from running import program
 from selenium.webdriver.common.by import By
+from selenium.webdriver.common.keys import Keys
 from selenium.webdriver.support.ui import Select
 
 
@@ -85,6 +88,40 @@ class OnePicture(BrowserCase):
             self.assertEqual(cell, wanted)
 
 
+    def test_the_diagram_is_saved_as_a_picture(self) -> None:
+        tab = self.closed_by_a_drag()
+        tab.keys(Keys.ARROW_LEFT)
+        self.assertIsNotNone(tab.script("return drawn.cursor"))
+        tab.part("save").find_element(By.TAG_NAME, "summary").click()
+        tab.press("Picture of the diagram")
+        path = self.downloads / "diagram.png"
+        tab.until(path.exists, "the picture")
+        self.assertIsNotNone(tab.script("return drawn.cursor"))
+        # All pixels are those of the diagram without its cursor, below a caption and above the legend.
+        above, below, same = tab.driver.execute_async_script("""
+            const [data, done] = arguments;
+            const image = new Image();
+            image.onload = () => {
+              drawn.cursor = null;
+              drawDiagram();
+              const {width, height} = $("diagram");
+              const saved = new OffscreenCanvas(image.width, image.height).getContext("2d");
+              saved.drawImage(image, 0, 0);
+              const of = (context, top, high) => context.getImageData(0, top, width, high).data;
+              const [one, other] = [of($("diagram").getContext("2d"), 0, height), of(saved, CAPTION_HIGH, height)];
+              const colours = (data) => new Set(Array.from({length: data.length / 4}, (_, pixel) =>
+                data.slice(4 * pixel, 4 * pixel + 3).join()));
+              const lowest = CAPTION_HIGH + height;
+              done([[...colours(of(saved, 0, CAPTION_HIGH))], [...colours(of(saved, lowest, image.height - lowest))],
+                    one.every((value, at) => value === other[at])]);
+            };
+            image.src = "data:image/png;base64," + data;""", base64.b64encode(path.read_bytes()).decode())
+        self.assertTrue(same)
+        self.assertGreater(len(above), 1)
+        self.assertIn("{},{},{}".format(*COLOURS["#"]), below)
+        self.assertEqual(tab.script("return captionText()"), "The road of Ada, 0–0.3 km, 0:00:00–0:01:00")
+
+
 class OneFreeway(BrowserCase):
     """One tab on a freeway: tools, figures, saving, and the page for all."""
 
@@ -136,6 +173,43 @@ class OneFreeway(BrowserCase):
         tab.tool("block")
         tab.in_figures(kmFrom="3.3", kmTo="3.3")
         self.assertEqual(edits_of(gestures_of(self.server)[-1]), [["block", 440, 1200, 1]])
+
+    def test_a_drag_says_that_it_takes_whole_zones(self) -> None:
+        tab, = self.open(FREEWAY)
+        tab.run_an_hour()
+        tab.tool("limit")
+        self.assertTrue(tab.part("zonesHint").is_displayed())
+        self.assertEqual(tab.text("zonesHint"), "in whole zones, of 375 m each")
+        tab.begin_drag((360, 1200), (430, 1500))
+        # 360 to 430 lie in the zones of the cells 350 to 449: it is said before it is let go.
+        self.assertEqual(tab.text("readout"), "54 km/h, 2.625–3.375 km, in whole zones, of 375 m each, 0:20:00–0:25:00")
+        self.assertEqual(gestures_of(self.server), [])
+        tab.drop()
+        self.assertNotIn("zones", tab.text("readout"))  # now of the place at which it was let go
+        self.assertEqual(tab.lines("own"), ["54 km/h, 2.625–3.375 km, 0:20:00–0:25:00 private"])
+        tab.tool("block")
+        self.assertFalse(tab.part("zonesHint").is_displayed())
+        tab.begin_drag((500, 1200), (560, 1500))
+        self.assertEqual(tab.text("readout"), "Whole road closed, 3.75–4.2 km, 0:20:00–0:25:00")
+        tab.drop()
+
+    def test_the_size_of_an_arrows_step_is_said(self) -> None:
+        tab, = self.open(FREEWAY)
+        tab.run_an_hour()
+        tab.keys(Keys.ARROW_UP)
+        seen = set[str]()
+        for seconds in (300, 3600, 36000):
+            tab.show(seconds)
+            said = tab.text("stride")
+            (metres, time, unit), = re.findall(r"^by ([\d.]+) m and (\d+) (s|min) at this zoom$", said)
+            before = tab.script("return drawn.cursor = [400, 600]")
+            tab.keys(Keys.ARROW_RIGHT, Keys.ARROW_DOWN)
+            cell, step = tab.script("return drawn.cursor")
+            self.assertEqual((7.5 * (cell - before[0]), step - before[1]),
+                             (float(metres), int(time) * (60 if unit == "min" else 1)))
+            self.assertIn(said, tab.text("keysText"))
+            seen.add(said)
+        self.assertEqual(len(seen), 3)
 
     def test_rectangles_may_overlap(self) -> None:
         tab, = self.open(FREEWAY)
@@ -230,7 +304,7 @@ class OneFreeway(BrowserCase):
         # Some 20 cars a minute come, for eight minutes but the four or so that fill 600 m.
         self.assertTrue(50 <= found[3600][0] <= 130, found)
         self.assertEqual(len(set(found.values())), 1, found)
-        self.assertIn(f"some {found[3600][0]} cars cannot enter", found[3600][1])
+        self.assertIn(f"some {found[3600][0]} cars cannot enter (an estimate)", found[3600][1])
         hours = tab.script("return document.querySelectorAll('#figures tbody tr')[0].children[1].textContent")
         cars = sum(tab.driver.execute_async_script("""
             const done = arguments[0];
@@ -238,6 +312,23 @@ class OneFreeway(BrowserCase):
               live.ask({diagram: {at: live.me.at, from, to: from + 899}}))).then((said) =>
               done(said.map(({rows}) => rows.join("").replace(/[.#]/g, "").length)));"""))
         self.assertEqual(float(hours), round(cars / 3600, 1))
+
+    def test_lost_demand_is_counted_before_it_is_shared(self) -> None:
+        tab, = self.open(FREEWAY)
+        tab.run_an_hour()
+        tab.tool("block")
+        tab.in_figures(kmFrom="1.6", kmTo="1.65", timeFrom="0:20", timeTo="0:50")
+        tab.press("Share…: Whole road closed")
+        tab.press("Delay car by car", "#before")
+        tab.until(lambda: tab.script("return document.querySelector('#before .exact') !== null"), "the figures")
+        found = dict(tab.script("return [...document.querySelectorAll('#before .exact tbody tr')].map((line) => "
+                                "[line.firstChild.textContent, line.lastChild.textContent])"))
+        lost, *parts = [int(found[name].replace("−", "-").replace("+", "").replace(",", "")) for name in
+                        ("Lost demand, cars", "– of them at 0 km", "– of them at 1.5 km")]
+        self.assertEqual(sum(parts), lost)
+        self.assertTrue(all(part > 0 for part in parts), parts)
+        self.assertIn("This is counted car by car.", tab.text("beforeBody"))
+        self.assertIn("(an estimate)", tab.text("warnings"))
 
     def test_a_span_begins_at_the_first_second(self) -> None:
         tab, = self.open(FREEWAY)
@@ -253,6 +344,16 @@ class OneFreeway(BrowserCase):
         self.assertNotIn(self.server.address.split("#")[1], tab.driver.current_url)
         tab.driver.refresh()
         tab.until(lambda: tab.text("me") == "Ada (seat 1)", "the same seat")
+
+    def test_an_address_without_its_token_is_told(self) -> None:
+        tab, = self.open(FREEWAY)
+        tab.script("sessionStorage.clear()")
+        tab.driver.get(tab.driver.current_url)  # as it was copied from the address bar
+        said = "The connection was closed: the address lacks the right token: open it as live/serve printed it."
+        tab.until(lambda: tab.part("helloSaid").text == said, "it is told where a name is asked for")
+        tab.script("$('helloSaid').textContent = ''")
+        tab.part("name").send_keys("Ben", Keys.ENTER)
+        tab.until(lambda: tab.part("helloSaid").text == said, "it is told to who joins")
 
     def test_names_are_text(self) -> None:
         name = "<img src=x onerror=alert(1)>=1"

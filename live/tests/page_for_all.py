@@ -55,6 +55,56 @@ class ForAll(BrowserCase):
             self.assertEqual(too_wide, [], width)
             self.assertLessEqual(tab.script("return document.documentElement.scrollWidth - innerWidth"), 0)
 
+    def test_what_is_asked_before_sharing_is_seen(self) -> None:
+        tab, = self.open(FREEWAY)
+        tab.run_an_hour()
+        tab.script("for (let zone = 0; zone < 12; zone++) applyArea(areaOfShape(['limit', zone, zone, 1200, 1800, 2]))")
+        self.addCleanup(tab.driver.execute_cdp_cmd, "Emulation.clearDeviceMetricsOverride", {})
+        for width, height in ((1366, 768), (768, 1024), (1024, 768)):
+            tab.driver.execute_cdp_cmd("Emulation.setDeviceMetricsOverride",
+                                       {"width": width, "height": height, "deviceScaleFactor": 1, "mobile": False})
+            tab.settled()
+            tab.script("window.scrollTo(0, 0)")
+            tab.script("$('shareAll').click()")
+            tab.until(lambda: tab.script("return document.querySelector('#before table') !== null"), "the figures")
+            tab.settled()
+            top, bottom = tab.script("""
+                const one = [...document.querySelectorAll("#before button")].find((one) => one.textContent === "Share now");
+                const {top, bottom} = one.getBoundingClientRect();
+                return [top, bottom];""")
+            self.assertTrue(0 <= top < bottom <= height, (width, top, bottom))
+            tab.press("Not now")
+
+    def test_what_is_said_is_seen_beside_the_diagram(self) -> None:
+        tab, = self.open(FREEWAY)
+        tab.run_an_hour()
+        self.addCleanup(tab.driver.execute_cdp_cmd, "Emulation.clearDeviceMetricsOverride", {})
+        tab.tool("block")
+        for width in (600, 768, 1000, 1001, 1500):
+            tab.driver.execute_cdp_cmd("Emulation.setDeviceMetricsOverride",
+                                       {"width": width, "height": 768, "deviceScaleFactor": 1, "mobile": False})
+            tab.settled()
+            tab.in_figures(kmFrom="3", kmTo="3.1", timeFrom="0:20", timeTo="0:30")
+            tab.script("window.scrollTo(0, 0)")
+            said, diagram = tab.script("""
+                return ["said", "diagram"].map((id) => $(id).getBoundingClientRect()).map(({left, top, right, bottom}) =>
+                  [left, top, right, bottom]);""")
+            self.assertIn(": done.", tab.text("said"))
+            self.assertTrue(0 <= said[1] < said[3] <= 768, (width, said))
+            self.assertTrue(said[3] <= diagram[1] or said[0] >= diagram[2], (width, said, diagram))
+
+    def test_the_menu_is_seen_whole(self) -> None:
+        tab, = self.open(FREEWAY)
+        tab.script("$('others').textContent = ', with Benjamin and Cleopatra'")  # who make the head wider
+        tab.part("save").find_element(By.TAG_NAME, "summary").click()
+        self.addCleanup(tab.driver.execute_cdp_cmd, "Emulation.clearDeviceMetricsOverride", {})
+        for width in (320, 520, 600, 768, 1000, 1200, 1300, 1366, 1500):
+            tab.driver.execute_cdp_cmd("Emulation.setDeviceMetricsOverride",
+                                       {"width": width, "height": 768, "deviceScaleFactor": 1, "mobile": False})
+            left, right = tab.script("const {left, right} = document.querySelector('#save > div').getBoundingClientRect();"
+                                     "return [left, right]")
+            self.assertTrue(0 <= left < right <= width, (width, left, right))
+
     def test_texts_stand_out(self) -> None:
         tab, = self.open(FREEWAY)
         tab.run_an_hour()

@@ -5,12 +5,29 @@ import asyncio
 import time
 
 from brokers import reference
-from browsers import FREE_ROAD, FREEWAY, BrowserCase, Tab, example_rows, gestures_of
+from browsers import FREE_ROAD, FREEWAY, BrowserCase, Tab, edits_of, example_rows, gestures_of
 from running import Broker, Server
 from selenium.webdriver.common.action_chains import ActionChains
 from selenium.webdriver.common.by import By
 from selenium.webdriver.common.keys import Keys
 from selenium.webdriver.support.ui import Select
+
+
+ACTIVE = "const one = document.activeElement; return one.getAttribute('aria-label') || one.textContent.trim() || one.id"
+
+
+def tab_to(tab: Tab, name: str) -> None:
+    """Moves the focus on until it is at what is called so."""
+    for _ in range(80):
+        if tab.script(ACTIVE).startswith(name):
+            return
+        ActionChains(tab.driver, duration=0).send_keys(Keys.TAB).perform()
+    raise AssertionError(f"no way to {name}")
+
+
+def type_in(tab: Tab, *keys: str) -> None:
+    for key in keys:
+        ActionChains(tab.driver, duration=0).send_keys(key).perform()
 
 
 class TwoTabs(BrowserCase):
@@ -60,11 +77,14 @@ class TwoTabs(BrowserCase):
         ada.take()
         self.assertEqual(ada.text("said"), "Took 1 change of Ben. 1 change of yours lost to them, whole or in part.")
         self.assertEqual(ada.lines("lost"), ["27 km/h, 0–0.3 km, 0:20:00–0:30:00 in part"])
+        self.assertIn("In force there now: 54 km/h, 0–0.3 km, 0:20:00–0:30:00.", ada.text("lost"))
         self.assertIn("1 of 2 edits lost to Ben: 54 km/h, 0–0.3 km, 0:20:00–0:40:00 Both are change number 1; at equal "
                       "numbers the greater site and seat wins.", ada.text("lost"))
         ben.take()
         self.assertEqual(ben.lines("lost"), ["54 km/h, 0–0.3 km, 0:20:00–0:40:00 in part"])
         self.assertIn("holds only until 0:30:00, then Ada: 27 km/h", ben.text("lost"))
+        self.assertIn("In force there now: 54 km/h, 0–0.3 km, 0:20:00–0:30:00; 81 km/h, 0–0.3 km, 0:30:00–0:40:00.",
+                      ben.text("lost"))
         ada.press("Put mine again")
         ada.settled()
         self.assertEqual(ada.lines("own"), ["27 km/h, 0–0.3 km, 0:20:00–0:30:00 private"])
@@ -73,9 +93,35 @@ class TwoTabs(BrowserCase):
         self.assertEqual(again["stamp"][0] if "stamp" in again else again["edits"][0][3], 2)
         ada.press("Share all")
         self.assertIn("Ben: 54 km/h, 0–0.3 km, 0:20:00–0:40:00 – 1 of 2 edits lost to you: 27 km/h", ada.text("beforeBody"))
+        # What is put again has at its end what is there without it: Ben's limit.
+        self.assertIn("In force there then: 27 km/h, 0–0.3 km, 0:20:00–0:30:00; 54 km/h, 0–0.3 km, 0:30:00–0:40:00.",
+                      ada.text("beforeBody"))
         ada.press("Share now")
         ben.take()
         self.assertIn("1 of 2 edits lost to Ada: 27 km/h", ben.text("lost"))
+
+    def test_what_was_taken_back_in_private_is_not_told_of_again(self) -> None:
+        ada, ben = self.open(FREE_ROAD)
+        ada.run_an_hour()
+        self.limit(ada, "1", "0:20", "0:30")
+        ada.keys("z")
+        ada.settled()
+        self.limit(ada, "1", "0:20", "0:30")
+        ada.share_all()
+        ben.take()
+        self.limit(ben, "2", "0:20", "0:30")
+        ben.share_all()
+        ada.until(lambda: ada.part("news").is_displayed(), "news")
+        ada.press("Look first")
+        ada.settled()
+        told = ada.script("return [...document.querySelectorAll('#beforeBody h3 + ul > li')].map((one) => "
+                          "one.firstChild.data)")
+        self.assertEqual([text.partition(" – ")[0] for text in told], ["you: 27 km/h, 0–0.3 km, 0:20:00–0:30:00"])
+        ada.press("Take now")
+        ada.until(lambda: ada.text("said") == "Took 1 change of Ben. 1 change of yours lost to them, whole or in part.",
+                  "taken")
+        self.assertEqual(ada.lines("lost"), ["27 km/h, 0–0.3 km, 0:20:00–0:30:00 in part"])  # its end holds
+        self.assertEqual(ada.lines("own"), [])
 
     def test_undo_gives_back_what_had_lost(self) -> None:
         ada, ben = self.open(FREE_ROAD)
@@ -141,6 +187,51 @@ class TwoTabs(BrowserCase):
             await cron.ask("gesture", key="k", edits=[["block", 100, 600, 1], ["block", 101, 600, 1], ["block", 100, 700, 0]])
             await cron.ask("send", name="shared", title="works")
 
+    def test_what_came_from_the_shell_can_be_changed(self) -> None:
+        ada, = self.open(FREEWAY, ("Ada",))
+        asyncio.run(self.by_a_script())
+        ada.take()
+        names = ada.script("return [...document.querySelectorAll('#held button')].map((one) => one.ariaLabel)")
+        self.assertEqual([name for name in names if name.startswith("Change")],
+                         ["Change: Whole road closed 0.75–0.765 km, from 0:10:00 on, and 2 more edits",
+                          "Change: 54 km/h, 4.125–4.5 km, from 1:30:00 on"])
+        ada.press("Change: 54 km/h")
+        values = [ada.part(name).get_attribute("value") for name in ("limit", "kmFrom", "kmTo", "timeFrom", "timeTo")]
+        self.assertEqual(values, ["2", "4.125", "4.5", "1:30:00", ""])
+        Select(ada.part("limit")).select_by_value("3")
+        ada.in_figures(timeTo="1:40")
+        # In the place of zone 11's limit from 1:30 on: another, which ends; the plan's is 5.
+        self.assertEqual(edits_of(gestures_of(self.server)[-1]), [["limit", 11, 5400, 3], ["limit", 11, 6000, 5]])
+        self.assertEqual(ada.lines("own"), ["81 km/h, 4.125–4.5 km, 1:30:00–1:40:00 private"])
+        ada.press("Change: Whole road closed")
+        values = [ada.part(name).get_attribute("value") for name in ("kmFrom", "kmTo", "timeFrom", "timeTo")]
+        self.assertEqual(values, ["0.75", "0.765", "0:10:00", "0:11:40"])
+
+    async def by_a_script(self) -> None:
+        async with self.server.seat("Cron") as cron:
+            await cron.ask("edit", object=["limit", 11], step=5400, value=2)
+            for number, edits in enumerate((
+                    [["block", 100, 600, 1], ["block", 101, 600, 1], ["block", 100, 700, 0], ["block", 101, 700, 0]],
+                    # No shape: two values, a gap, two kinds, another value than the plan's at the end, an end too few.
+                    [["limit", 1, 600, 3], ["limit", 2, 600, 4]], [["limit", 4, 600, 3], ["limit", 6, 600, 3]],
+                    [["limit", 7, 600, 3], ["slow", 7, 600, 3]], [["limit", 8, 600, 3], ["limit", 8, 700, 4]],
+                    [["block", 300, 600, 1], ["block", 301, 600, 1], ["block", 300, 700, 0]],
+                    [["watch", 0, 600, 0], ["watch", 1, 600, 0]])):
+                await cron.ask("gesture", key=f"k{number}", edits=edits)
+            await cron.ask("send", name="shared")
+
+    def test_how_to_begin_is_told_to_who_comes_later_too(self) -> None:
+        ada, ben = self.open(FREE_ROAD)
+        self.assertTrue(ben.part("emptyHint").is_displayed())
+        ada.run_an_hour()
+        for tab in (ada, ben):
+            tab.until(lambda: not tab.part("emptyHint").is_displayed(), "the road is not empty")
+            self.assertTrue(tab.part("hint").is_displayed())
+            self.assertTrue(tab.text("hint").endswith("Nobody else sees it before you share it."))
+        ben.driver.refresh()
+        ben.until(lambda: ben.text("clock") == "1:00:00", "the same seat")
+        self.assertFalse(ben.part("emptyHint").is_displayed())
+
     def test_figures_stand_beside_each_other(self) -> None:
         ada, ben = self.open(FREE_ROAD)
         ada.run_an_hour()
@@ -157,21 +248,32 @@ class TwoTabs(BrowserCase):
         passed = [int(text.split()[0].replace(",", "")) for text in (mine, shared)]
         self.assertEqual(change, f"−{passed[1] - passed[0]:,}")
 
+    def test_overruled_and_put_again_by_the_keyboard_alone(self) -> None:
+        ada, ben = self.open(FREE_ROAD)
+        ada.run_an_hour()
+        self.limit(ada, "1", "0:20", "0:30")
+        ada.share_all()
+        ben.take()
+        tab_to(ben, "Change: 27 km/h")
+        type_in(ben, Keys.ENTER)
+        tab_to(ben, "timeTo")
+        type_in(ben, "0:25", Keys.ENTER)  # the focus has selected what was there
+        ben.until(lambda: ben.lines("own") == ["27 km/h, 0–0.3 km, 0:20:00–0:25:00 private"], "Ben's change")
+        for name in ("Share all", "Share now"):
+            tab_to(ben, name)
+            type_in(ben, Keys.ENTER)
+        ada.until(lambda: ada.part("news").is_displayed(), "news")
+        for name in ("Look first", "Take now"):
+            tab_to(ada, name)
+            type_in(ada, Keys.ENTER)
+        ada.until(lambda: ada.lines("lost") == ["27 km/h, 0–0.3 km, 0:20:00–0:30:00 in part"], "overruled")
+        tab_to(ada, "Put mine again: 27 km/h")
+        type_in(ada, Keys.ENTER)
+        ada.until(lambda: ada.lines("own") == ["27 km/h, 0–0.3 km, 0:20:00–0:30:00 private"], "put again")
+        self.assertEqual(ada.lines("lost"), [])
+
     def test_by_the_keyboard_alone(self) -> None:
         ada, ben = self.open(FREE_ROAD)
-        active = "const one = document.activeElement; return one.getAttribute('aria-label') || one.textContent.trim() || one.id"
-
-        def tab_to(tab: Tab, name: str, key: str = Keys.TAB) -> None:
-            for _ in range(80):
-                if tab.script(active).startswith(name):
-                    return
-                ActionChains(tab.driver, duration=0).send_keys(key).perform()
-            raise AssertionError(f"no way to {name}")
-
-        def type_in(tab: Tab, *keys: str) -> None:
-            for key in keys:
-                ActionChains(tab.driver, duration=0).send_keys(key).perform()
-
         tab_to(ada, "Run an hour")
         type_in(ada, Keys.ENTER)
         ada.until(lambda: ada.text("clock") == "1:00:00", "the clock")
@@ -211,6 +313,10 @@ class TwoTabs(BrowserCase):
         self.server.start()
         ada.until(lambda: ada.lines("own") == ["54 km/h, 0–0.3 km, from 0:20:00 on private"], "confirmed")
         self.assertEqual(len(gestures_of(self.server)), 1)
+        ada.settled()
+        self.server.again()
+        ada.until(lambda: ada.text("said") == "The connection is back.", "what was said is over")
+        self.assertEqual(ada.text("line"), "connected")
 
     def test_the_broker_is_told(self) -> None:
         broker = Broker()
