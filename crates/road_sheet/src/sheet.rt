@@ -135,7 +135,8 @@ impl Sheet {
         }
     }
 
-    /// Returns the road at a step. It computes at most 63 steps, from the nearest checkpoint.
+    /// Returns the road at a step. It computes at most 63 steps, from the nearest checkpoint, and none where the sheet
+    /// keeps the road.
     ///
     /// # Errors
     ///
@@ -145,6 +146,12 @@ impl Sheet {
         ensures accepted { IfOk result (λ _. state_fault self.now step ≡ None) }
         ensures refused { IfErr result (λ fault. IsRefusalBy (state_fault self.now step) fault) }
     {
+        if step <= self.horizon() {
+            let kept = self.kept_state(alloc, step)?;
+            if kept.step == step {
+                return Ok(kept.road);
+            }
+        }
         QueryCache::new().state(alloc, self, step)
     }
 
