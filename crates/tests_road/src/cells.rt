@@ -118,7 +118,11 @@ fn sees(rt: &impl Abort, road: &Road, place: usize, (blocks, gap): &(&[u32], u8)
     assert!(rt; place < road.cars().len() && rises(blocks));
     let reached = reached_blocks(blocks, road.cars()[place].cell);
     let gaps = (road.gap(place, blocks), road.gap_to(place, blocks, reached));
-    assert!(rt; gaps == (*gap, *gap), "{} blocks before car {place}", blocks.len());
+    assert!(rt;
+        gaps == (*gap, *gap),
+        "{} blocks before car {place}",
+        blocks.len()
+    );
 }
 
 #[test]
