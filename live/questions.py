@@ -148,7 +148,6 @@ class Questions:
             first, last = asked.whole("from"), asked.whole("to")
         if first % MINUTE or last % MINUTE or not 0 < last - first <= MOST_MINUTES * MINUTE:
             raise Refused("Range", f"1 to {MOST_MINUTES} whole minutes, `from` and `to` in steps")
-        sites = rows.entries(self._lab.state.plan)
         minutes: list[list[float]] = []
         part: list[bytes] = []
 
@@ -157,7 +156,7 @@ class Questions:
             end = min(last, start + self._rows_at_once())
             part.extend(await self._piece(at, list(range(start, end)), times))
             while len(part) >= MINUTE:
-                minutes.append(rows.sums(part[:MINUTE], sites))
+                minutes.append(rows.sums(part[:MINUTE], self._lab.state.plan))
                 del part[:MINUTE]
             return MORE if end < last else None
         await self._lab.ask(index, (at,), body)

@@ -10,7 +10,7 @@ SIGNS = b"ABCDEFGHIJKLMNOPQRSTUVWXYZabcdefghijklmnopqrstuvwxyz0123456789-_"
 LEVELS = 7  # signs for a cell a step
 EMPTY, CLOSED, CAUGHT = b".", b"#", b"!"
 MOST_SUMMED = 25  # rows whose speeds add up to less than 256
-BEHIND = 60  # cells behind the first inlet on which its flow is measured
+BEHIND = 60  # cells behind an inlet by which it is told whether cars jam there, and behind the first one its flow
 
 SPEEDS = bytes(sign - 48 if 48 <= sign <= 57 else 0 for sign in range(256))
 CARS = bytes(48 <= sign <= 57 for sign in range(256))
@@ -88,17 +88,32 @@ def entries(plan: dict[str, Any]) -> list[tuple[int, int]]:
     return [(cell, behind if cell == least else cell) for cell in cells]
 
 
-def sums(minute: Sequence[bytes], sites: Sequence[tuple[int, int]]) -> list[float]:
+def sums(minute: Sequence[bytes], plan: dict[str, Any]) -> list[float]:
     """The steps that cars spent on the road in these rows; then of each inlet the cars that came in, by their speeds
-    behind it, or the rows in which its own cell is free."""
-    found: list[float] = [sum(len(row) - row.count(EMPTY) - row.count(CLOSED) for row in minute)]
-    for begin, end in sites:
+    behind it, or the rows in which its own cell is free; then of each the cars behind it, row by row, and the sum of
+    their speeds."""
+    found: list[float] = [sum(map(cars_in, minute))]
+    for begin, end in entries(plan):
         if end > begin:
-            speeds = sum(sum(row[begin:end].translate(SPEEDS)) for row in minute)
-            found.append(round(speeds / (end - begin), 3))
+            found.append(round(speeds_in(stretch(minute, begin, end)) / (end - begin), 3))
         else:
             found.append(sum(row[begin] == EMPTY[0] for row in minute))
+    for begin, _ in plan["inlets"]:
+        behind = stretch(minute, begin, begin + BEHIND)
+        found += [cars_in(behind), speeds_in(behind)]
     return found
+
+
+def stretch(minute: Sequence[bytes], begin: int, end: int) -> bytes:
+    return b"".join(row[begin:end] for row in minute)
+
+
+def cars_in(cells: bytes) -> int:
+    return len(cells) - cells.count(EMPTY) - cells.count(CLOSED)
+
+
+def speeds_in(cells: bytes) -> int:
+    return sum(cells.translate(SPEEDS))
 
 
 def spans(first: int, last: int, most: int) -> Iterator[tuple[int, int]]:

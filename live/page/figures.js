@@ -5,6 +5,8 @@
 
 const LEAST_CARS = 20;          // of a free inlet, in a piece of time by which it is judged
 const LETS_IN = 0.5;            // of its free flow: one that lets in less has a queue before it
+const JAMMED = 0.4;             // of the limit: cars that are slower behind an inlet are a queue
+const BEHIND = 60;              // cells behind an inlet in which it is looked how fast cars are
 const MINUTES_AT_ONCE = 60;     // of a question for sums
 const QUEUES_TOLD = 3;          // at an inlet, each by its times
 
@@ -35,8 +37,27 @@ function letIn(inlet, chance, minutes) {
 const pieceOf = (cell, flow) =>
   (isFirstInlet(cell) ? Math.ceil(LEAST_CARS / (flow * MINUTE)) : 1) * MINUTE;
 
-/** Pieces of time in which an inlet lets in less than half of its free flow: {from, to, lost}, in
-    steps and cars. They begin at the same steps whatever the period is. */
+/** The least limit behind an inlet. */
+function limitBehind(scenario, inlet, step) {
+  const {length, zone, inlets} = live.plan;
+  const [first, last] = [inlets[inlet][0], Math.min(length, inlets[inlet][0] + BEHIND) - 1]
+    .map((cell) => Math.floor(cell / zone));
+  const limits = Array.from({length: last - first + 1}, (_, index) =>
+    scenario.valueAt("limit", first + index, step));
+  return Math.min(...limits);
+}
+
+/** Whether cars jam behind an inlet in some minutes that begin at a step. */
+function jams(scenario, inlet, step, minutes) {
+  const at = 1 + live.plan.inlets.length + 2 * inlet;
+  const [cars, speeds] = [at, at + 1].map((place) =>
+    minutes.reduce((sum, one) => sum + one[place], 0));
+  return cars > 0 && speeds < JAMMED * limitBehind(scenario, inlet, step) * cars;
+}
+
+/** Pieces of time in which an inlet lets in less than half of its free flow, or in which cars jam
+    behind it: {from, to, lost}, in steps and cars, of which chance may make less than none. They
+    begin at the same steps whatever the period is. */
 function queuesAt(scenario, inlet, [from, to], minutes) {
   const cell = live.plan.inlets[inlet][0];
   const found = [];
@@ -51,17 +72,21 @@ function queuesAt(scenario, inlet, [from, to], minutes) {
     end = begin + piece;
     if (end > to) break;
     const [first, behind] = [begin, end].map((step) => (step - from) / MINUTE);
-    const came = letIn(inlet, chance, minutes.slice(first, behind));
-    const expected = flow * piece;
-    if (came < LETS_IN * expected) found.push({from: begin, to: end, lost: expected - came});
+    const part = minutes.slice(first, behind);
+    const lost = flow * piece - letIn(inlet, chance, part);
+    if (lost > (1 - LETS_IN) * flow * piece || jams(scenario, inlet, begin, part)) {
+      found.push({from: begin, to: end, lost});
+    }
   }
   return found;
 }
 
+const lostIn = (queues) => Math.max(0, queues.reduce((sum, {lost}) => sum + lost, 0));
+
 /** The cars that inlets did not let in, about. */
 function lostDemand(scenario, period, minutes) {
-  return live.plan.inlets.flatMap((_, inlet) => queuesAt(scenario, inlet, period, minutes))
-    .reduce((sum, {lost}) => sum + lost, 0);
+  return live.plan.inlets.map((_, inlet) => lostIn(queuesAt(scenario, inlet, period, minutes)))
+    .reduce((sum, lost) => sum + lost, 0);
 }
 
 function sumsOf(whose, period) {
@@ -194,13 +219,13 @@ function queueWarnings(period) {
   return live.plan.inlets.flatMap(([cell], inlet) => {
     const queues = queuesAt(live.held.scenario, inlet, period, minutes);
     if (!queues.length) return [];
-    const lost = queues.reduce((sum, one) => sum + one.lost, 0);
+    const lost = Math.round(lostIn(queues));
     const texts = queueTexts(queues, period);
     const rest = texts.length - QUEUES_TOLD;
     const told = texts.slice(0, QUEUES_TOLD).join(", ") + (rest > 0 ? `, and ${rest} more` : "");
     return [`A queue reaches the inlet at ${kmText(cell)} km, about ${told}: `
-      + `some ${plural(lost, "car")} cannot enter (an estimate), so counts and vehicle hours `
-      + "flatter."];
+      + `${lost ? `some ${plural(lost, "car")}` : "hardly a car"} cannot enter (an estimate), so `
+      + "counts and vehicle hours flatter."];
   });
 }
 

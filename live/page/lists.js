@@ -238,8 +238,8 @@ function closeBefore() {
 
 const READ_BOTH =
   "A car that does not enter spends no vehicle hours: read these with the lost demand.";
-const IS_EXACT = "This is counted car by car. The estimates below the diagram leave out what is "
-  + "lost while an inlet lets in more than half of its demand.";
+const IS_EXACT = "This is counted car by car. The estimates below the diagram are of the times in "
+  + "which a queue is at an inlet, by mean flows.";
 
 /** What sharing all would change: the own road beside the shared one, as far as it is there. */
 function showOwnPreview() {

@@ -268,6 +268,26 @@ class OneFreeway(BrowserCase):
         # Some 1,250 cars an hour come, for 30 minutes but those that fill 300 m.
         self.assertTrue(480 <= lost <= 640, lost)
 
+    def test_a_short_queue_at_an_inlet_is_told(self) -> None:
+        tab, = self.open(FREEWAY)
+        tab.run_an_hour()
+        tab.tool("block")
+        tab.in_figures(kmFrom="3", kmTo="3.15", timeFrom="0:20", timeTo="0:30")
+        # By its rows the jam of the closure reaches the first cells for some two minutes from 0:36 on; more than half of
+        # the cars enter all the same.
+        self.assertRegex(tab.text("warnings"), "A queue reaches the inlet at 0 km, about from 0:3[4-6]:00 to 0:(3[89]|4[01]):")
+        self.assertRegex(tab.text("warnings"), "A queue reaches the inlet at 1.5 km, about from 0:2[5-8]:00 to 0:3[3-6]:")
+        tab.press("Share…: Whole road closed")
+        tab.press("Delay car by car", "#before")
+        tab.until(lambda: tab.script("return document.querySelector('#before .exact') !== null"), "the figures")
+        exact = [int(tab.script("return [...document.querySelectorAll('#before .exact tbody tr')].find((line) => "
+                                "line.firstChild.textContent === arguments[0]).lastChild.textContent", f"– of them at {km} km"))
+                 for km in ("0", "1.5")]
+        told = [int(text) for text in re.findall(r"some (\d+) cars? cannot enter", tab.text("warnings"))]
+        # So the estimates are near to what is counted car by car.
+        for one, other in zip(told, exact, strict=True):
+            self.assertLessEqual(abs(one - other), 6, (told, exact))
+
     def test_each_queue_is_told_by_itself(self) -> None:
         tab, = self.open(FREEWAY)
         tab.run_an_hour()
@@ -295,7 +315,7 @@ class OneFreeway(BrowserCase):
         tab, = self.open(FREEWAY)
         tab.run_an_hour()
         tab.tool("block")
-        tab.in_figures(kmFrom="0.6", kmTo="0.65", timeFrom="0:20", timeTo="0:28")
+        tab.in_figures(kmFrom="0.6", kmTo="0.65", timeFrom="0:18", timeTo="0:26")
         found = {}
         for seconds in (1800, 3600, 36000):
             tab.show(seconds)

@@ -81,7 +81,10 @@ class Pictures(Case):
             cars = sum(cell.isdigit() for row in minute for cell in row)
             # No other cars are before the on-ramp at cell 40: the speeds up to there are those of who came in.
             speeds = sum(int(cell) for row in minute for cell in row[:40] if cell.isdigit())
-            wanted.append([cars, round(speeds / 40, 3), sum(row[40] == "." for row in minute)])
+            behind = [[int(cell) for row in minute for cell in row[begin:begin + 60] if cell.isdigit()]
+                      for begin in (0, 40)]
+            wanted.append([cars, round(speeds / 40, 3), sum(row[40] == "." for row in minute),
+                           *(figure for found in behind for figure in (len(found), sum(found)))])
         self.assertEqual((await self.ada.ask("sums", **{"from": 0, "to": 120}))["sums"], wanted)
         self.assertEqual((await self.ada.ask("sums", **{"from": 60, "to": 120}))["sums"], wanted[1:])
 

@@ -8,6 +8,7 @@ import ctypes
 import json
 import logging
 import os
+import random
 import shutil
 import signal
 import statistics
@@ -209,10 +210,13 @@ def socket_to(port: int) -> Iterator[None]:
 
 
 def free_port() -> int:
+    """A port that is free, and that no connection of others is given meanwhile."""
     import socket
-    with socket.socket() as one:
-        one.bind(("127.0.0.1", 0))
-        return int(one.getsockname()[1])
+    while True:
+        port = random.randrange(10_000, 32_000)
+        with socket.socket() as one, contextlib.suppress(OSError):
+            one.bind(("127.0.0.1", port))
+            return port
 
 
 class Case(unittest.IsolatedAsyncioTestCase):
