@@ -225,7 +225,7 @@ function queueWarnings(period) {
     const told = texts.slice(0, QUEUES_TOLD).join(", ") + (rest > 0 ? `, and ${rest} more` : "");
     return [`A queue reaches the inlet at ${kmText(cell)} km, about ${told}: `
       + `${lost ? `some ${plural(lost, "car")}` : "hardly a car"} cannot enter (an estimate), so `
-      + "counts and vehicle hours flatter."];
+      + "counts and vehicle hours look too good."];
   });
 }
 

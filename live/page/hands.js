@@ -394,7 +394,7 @@ function takenText([kind, first, last]) {
   if (kind !== "block" && !OF_ZONES.includes(kind)) return "";
   const taken = cellsOf(live.plan, kind, first, last).map(kmText);
   const written = kmOfForm().map((km) => String(Number(km.toFixed(3))));
-  return taken.join() === written.join() ? "" : ` ${taken.join("\u2013")} km is taken.`;
+  return taken.join() === written.join() ? "" : ` In whole cells: ${taken.join("\u2013")} km.`;
 }
 
 function onForm(event) {
