@@ -30,8 +30,9 @@ function faultOfValue(kind, first, from) {
 /** What a shape would do: its edits, words for it, and why it cannot be done, if so. */
 function areaOfShape(shape, old = null) {
   const [kind, first, last, from, to, value] = shape;
-  const {list, scenario} = live.held;
-  const edits = old ? editsInPlaceOf(live.plan, list, old, shape) : editsOfShape(scenario, shape);
+  const {scenario} = live.held;
+  const edits = old ? editsInPlaceOf(live.plan, actingNow(), old, shape)
+    : editsOfShape(scenario, shape);
   const known = !Number.isNaN(value);
   const note = known ? shapeText(scenario, shape) : "";
   const slow = kind === "inflow" ? slowAt(scenario, first, from) : 0;

@@ -123,6 +123,27 @@ class TwoTabs(BrowserCase):
         self.assertEqual(ada.lines("lost"), ["27 km/h, 0–0.3 km, 0:20:00–0:30:00 in part"])  # its end holds
         self.assertEqual(ada.lines("own"), [])
 
+    def test_what_is_changed_ends_though_one_over_it_was_taken_back(self) -> None:
+        ada, ben = self.open(FREE_ROAD)
+        ada.run_an_hour()
+        ada.tool("block")
+        ada.in_figures(kmFrom="0.15", kmTo="0.21", timeFrom="0:20", timeTo="0:50")
+        ada.share_all()
+        ben.take()
+        # Ben's edits of the same step win, and their withdrawal gives Ada's closure back: as Ben's own edits, which must
+        # not count as what is there without it.
+        ben.tool("block")
+        ben.in_figures(kmFrom="0.15", kmTo="0.18", timeFrom="0:20", timeTo="0:35")
+        ben.keys("z")
+        ben.settled()
+        ben.press("Change: Whole road closed")
+        ben.in_figures(timeTo="0:35")
+        for step, value in ((1200, 1), (2099, 1), (2100, 0), (3000, 0), (3600, 0)):
+            found = ben.script("return [20, 23, 24, 27].map((cell) => live.held.scenario.valueAt('block', cell, "
+                               "arguments[0]))", step)
+            self.assertEqual(found, [value] * 4, step)
+        self.assertEqual(ben.faults(), [])
+
     def test_undo_gives_back_what_had_lost(self) -> None:
         ada, ben = self.open(FREE_ROAD)
         ada.run_an_hour()
