@@ -1,5 +1,5 @@
 -- What holds of a dialogue at the end of the input.
-use Rattle.std.proofs.Common.{◌≡◌, ◌<◌, ℕ, suc, List, [], ◌∷◌, ◌++◌, length, take, Bool, true, false, IsSome, Option, Some, None, Result, Ok, Err, refl, ap, sym, subst, ◌∙◌, append-nil, length-append, arith}
+use Rattle.std.proofs.Common.{◌≡◌, ◌<◌, ℕ, suc, List, [], ◌∷◌, ◌++◌, length, take, true, false, IsSome, Option, Some, None, Result, Ok, Err, refl, ap, sym, subst, ◌∙◌, append-nil, length-append, arith}
 use Rattle.std.specs.Prelude.{IfErr, MatchResult}
 use Rattle.std.specs.Io.KnownBytes.{Appends}
 use Rattle.road_format.specs.Cut.{newline, Pieces, pieces_of, last_line, lines_of}

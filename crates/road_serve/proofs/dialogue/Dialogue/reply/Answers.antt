@@ -1,5 +1,5 @@
 -- A line is answered: by the laboratory that there is, or as the plan line.
-use Rattle.std.proofs.Common.{◌∙◌, List, ℕ, Some, refl, ap, sym, subst, string_bytes}
+use Rattle.std.proofs.Common.{◌∙◌, Some, refl, ap, sym, subst, string_bytes}
 use Rattle.road_serve.specs.Dialogue.{Dialogue, GoesOn}
 use Rattle.road_serve.proofs.Options.{none_of, some_of}
 use Rattle.road_serve.proofs.DialogueSteps.{later_step, opening_step, refused_step}
