@@ -114,6 +114,7 @@ impl UnderWay {
                 head: FIRST,
                 tail,
                 entered: 0,
+                worded: false,
             },
             cells,
             speeds,
@@ -180,6 +181,7 @@ impl UnderWay {
             head: FIRST,
             tail,
             entered: 0,
+            worded: false,
         };
         self.drawn = false;
         self.step = step;
