@@ -104,7 +104,8 @@ pub(crate) fn time_alone<R: Clock + Print>(
     Ok(())
 }
 
-/// Times a run by each crew in turn, as often as asked: by the crew of one each time before the two of so many workers.
+/// Times a run by each crew in turn, step by step, as often as asked: by the crew of one each time before the two of so
+/// many workers.
 pub(crate) fn time_all<R: Threads + Wait + Clock + Print + Clone + Drop + Send + 'static>(
     rt: &R,
     alloc: Global,
@@ -114,7 +115,8 @@ pub(crate) fn time_all<R: Threads + Wait + Clock + Print + Clone + Drop + Send +
 ) -> Result<()> {
     for _ in 0..turns {
         for workers in [1, 2, 4] {
-            time(rt, alloc, plan, steps, "alone", 1, &mut Alone)?;
+            let mut alone = StepByStep { crew: Alone };
+            time(rt, alloc, plan, steps, "alone", 1, &mut alone)?;
             time_pool(rt, alloc, plan, steps, workers)?;
             time_threads(rt, alloc, plan, steps, workers)?;
         }

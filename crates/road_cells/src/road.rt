@@ -114,9 +114,10 @@ impl Road {
         self.gap_to(place, blocks, reached_blocks(blocks, cell))
     }
 
-    // Counts the free cells in front of a car, where the first `reached` of the blocked cells are not in front of it.
-    // Nothing is searched.
-    fn gap_to(&self, place: usize, blocks: &[u32], reached: usize) -> u8
+    /// Counts the free cells in front of a car, as [`Road::gap`], where the first `reached` of the blocked cells are not
+    /// in front of it, and all others are ([`crate::reached_blocks_below`]): for callers that go over the cars in
+    /// falling cells. Nothing is searched. It takes no memory.
+    pub fn gap_to(&self, place: usize, blocks: &[u32], reached: usize) -> u8
         requires car { place < length (cars_of self.now) }
         requires rising { IsNonDecreasing blocks.now }
         requires parted { ArePartedAt blocks.now (cell_at (cars_of self.now) place) reached }

@@ -22,7 +22,7 @@ module _ (cell speed number : ℕ → ℕ) where
   many_held zero = refl
   many_held (suc m) = ap suc (many_held m)
 
-  car_held : (n k : ℕ) → k < n → nth_car (cars_held cell speed number n) k ≡ record { number = number (mirrored n k); cell = cell (mirrored n k); speed = speed (mirrored n k) }
+  pub car_held : (n k : ℕ) → k < n → nth_car (cars_held cell speed number n) k ≡ record { number = number (mirrored n k); cell = cell (mirrored n k); speed = speed (mirrored n k) }
   car_held zero k below = absurd (omega arith)
   car_held (suc m) zero below = let here : m ≡ suc m - (0 + 1) = omega arith in ap (λ i. record { number = number i; cell = cell i; speed = speed i }) here
   car_held (suc m) (suc k) below =

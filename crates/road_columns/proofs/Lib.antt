@@ -8,6 +8,7 @@ pub mod PackedCars
 pub mod EnteredWords
 pub mod ColumnMotion
 pub mod KeptPlaces
+pub mod SpeedAhead
 pub mod ColumnSpeeds
 pub mod RowColumns
 pub mod OneMoves

@@ -9,7 +9,7 @@ use Rattle.road_cells.specs.declared.car.TheConstants.{GREATEST_SPEED}
 use Rattle.road_cells.proofs.ArrayPlaces.{past_array, past_end, vehicle_at-array}
 use Rattle.road_ends.specs.Entries.{road_with_entries}
 use Rattle.road_ends.specs.Laws.{AgreeNear}
-use Rattle.road_ends.specs.Private.EntriesBetween.{entries_between, with_entry}
+use Rattle.road_ends.specs.EntriesBetween.{entries_between, with_entry}
 use Rattle.road_ends.specs.Span.{IsInputNear, Span}
 use Rattle.road_ends.proofs.EntriesBetween.{between-at, between-ends}
 use Rattle.road_columns.specs.UnderWay.{UnderWay, next_input}

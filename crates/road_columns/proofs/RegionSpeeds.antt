@@ -11,11 +11,11 @@ use Rattle.road_cells.specs.Gap.{ArePartedAt}
 use Rattle.road_cells.specs.declared.car.TheConstants.{GREATEST_SPEED}
 use Rattle.road_rules.specs.Speeds.{wanted_speed, slowed_speed, comes_about}
 use Rattle.road_ends.specs.Speed.{speeds}
-use Rattle.road_ends.specs.Private.PassPlaces.{AreOfZone, IsNthOrNowhere}
+use Rattle.road_columns.proofs.SpeedAhead.{IsNthOrNowhere}
 use Rattle.road_columns.specs.Columns.{AreColumnsOf, mirrored}
 use Rattle.road_columns.specs.Private.Motion.{chance_at}
 use Rattle.road_columns.specs.Private.Pieces.{IsHigh16At}
-use Rattle.road_columns.specs.Private.Regions.{IsInRegion, IsRegionOf, region_at, wish_at}
+use Rattle.road_columns.specs.Private.Regions.{AreOfZone, IsInRegion, IsRegionOf, region_at, wish_at}
 use Rattle.road_columns.specs.declared.regions.Region.{Region}
 use Rattle.road_columns.proofs.ColumnPlaces.{range_at, range_long}
 use Rattle.road_columns.proofs.ColumnSpeeds.{column_speed}

@@ -7,8 +7,7 @@ use Rattle.road_plan.specs.Plan.{Plan, exit_start, zone_of}
 use Rattle.road_plan.specs.Settings.{Settings}
 use Rattle.road_cells.specs.Gap.{ArePartedAt}
 use Rattle.road_cells.specs.declared.car.TheConstants.{GREATEST_SPEED}
-use Rattle.road_ends.specs.Private.PassPlaces.{AreOfZone}
-use Rattle.road_columns.specs.Private.Regions.{IsRegionOf, region_at}
+use Rattle.road_columns.specs.Private.Regions.{AreOfZone, IsRegionOf, region_at}
 use Rattle.road_columns.specs.Private.Step.{AreRegionsOf}
 use Rattle.road_columns.specs.declared.regions.Region.{Region}
 

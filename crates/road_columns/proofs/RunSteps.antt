@@ -8,7 +8,7 @@ use Rattle.road_cells.specs.Array.{Array, vehicle_at}
 use Rattle.road_cells.specs.declared.car.TheConstants.{GREATEST_SPEED}
 use Rattle.road_rules.specs.Motion.{arrival_at}
 use Rattle.road_ends.specs.Input.{input_next}
-use Rattle.road_ends.specs.Private.EntriesBetween.{entries_between, input_between}
+use Rattle.road_ends.specs.EntriesBetween.{entries_between, input_between}
 use Rattle.road_ends.specs.Speed.{speed}
 use Rattle.road_columns.specs.Columns.{AreColumnsOf}
 use Rattle.road_columns.specs.Private.Held.{StandOn, road_in}

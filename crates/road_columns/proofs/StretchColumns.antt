@@ -12,7 +12,7 @@ use Rattle.road_cells.specs.Array.{Array, Vehicle, vehicle_at, array}
 use Rattle.road_cells.specs.Cars.{array_of, cars_from}
 use Rattle.road_cells.proofs.ArrayPlaces.{past_array, past_end, vehicle_at-array}
 use Rattle.road_ends.specs.Entries.{entry_at, road_with_entries}
-use Rattle.road_ends.specs.Private.EntriesBetween.{entries_between, with_entry}
+use Rattle.road_ends.specs.EntriesBetween.{entries_between, with_entry}
 use Rattle.road_ends.proofs.EntriesBetween.{whole-entries}
 use Rattle.road_columns.specs.Columns.{AreColumnsOf}
 use Rattle.road_columns.specs.Private.CarsAt.{AreCarsAt, from_place}

@@ -16,7 +16,7 @@ use Rattle.road_cells.proofs.CarLists.{rise-cars_from, vehicle_among-below, vehi
 use Rattle.road_cells.proofs.CarPlaces.{vehicle_among-at}
 use Rattle.road_detector.specs.Rows.{HaveDigits}
 use Rattle.road_rules.specs.Motion.{arrival_at}
-use Rattle.road_ends.specs.Private.EntriesBetween.{entries_between, with_entry}
+use Rattle.road_ends.specs.EntriesBetween.{entries_between, with_entry}
 use Rattle.road_ends.specs.Run.{road_after_motion}
 use Rattle.road_ends.specs.Speed.{speed}
 use Rattle.road_ends.proofs.EntriesBetween.{between-ends}

@@ -1,5 +1,5 @@
 -- A run under way.
-use Rattle.std.specs.Prelude.{ℕ, ◌+◌, ◌^◌, ◌<◌, ◌≤◌, List, [], length, map, min}
+use Rattle.std.specs.Prelude.{◌≡◌, ℕ, ◌+◌, ◌^◌, ◌<◌, ◌≤◌, List, [], length, map, min}
 use Rattle.std.specs.List.{All, range_with_len, slice_index_or}
 use Rattle.road_plan.specs.Plan.{Plan, exit_start}
 use Rattle.road_plan.specs.Settings.{Settings}
@@ -8,7 +8,7 @@ use Rattle.road_cells.specs.Cars.{cars_of}
 use Rattle.road_cells.specs.declared.car.Car.{Car}
 use Rattle.road_cells.specs.declared.car.TheConstants.{GREATEST_SPEED}
 use Rattle.road_ends.specs.Input.{StepInput, input_next, input_speeds}
-use Rattle.road_ends.specs.Private.EntriesBetween.{input_between}
+use Rattle.road_ends.specs.EntriesBetween.{input_between}
 use Rattle.road_detector.specs.Passes.{no_totals, passes_at, plus}
 use Rattle.road_detector.specs.declared.counts.Totals.{Totals}
 
@@ -35,6 +35,13 @@ pub record CanRun (lo hi exit : ℕ) (car : Car) : Type 0 where
 -- a run can go on from a road on these cells: it can have each of its cars
 abbrev pub IsRunnable : ℕ → ℕ → Plan → Array → Type 0
 IsRunnable lo hi p a = All (CanRun lo hi (exit_start p)) (cars_of a)
+
+-- a run stands before a step on its plan's whole road, which is this one
+pub record IsAt (t : ℕ) (a : Array) (run : UnderWay) : Type 0 where
+  pub step : run.step ≡ t
+  pub lo : run.lo ≡ 0
+  pub hi : run.hi ≡ run.plan.cells
+  pub road : run.road ≡ a
 
 -- the input of a run's next step: the road with the cars that enter on its cells, of what stands on these cells alone
 abbrev pub next_input : UnderWay → StepInput

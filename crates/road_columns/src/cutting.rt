@@ -5,7 +5,7 @@ ghost use Rattle.road_plan.specs.Plan.{exit_start, zone_of};
 ghost use Rattle.road_plan.specs.Settings.{Fits};
 ghost use Rattle.road_cells.specs.Gap.{ArePartedAt};
 ghost use Rattle.road_cells.specs.declared.car.TheConstants.{GREATEST_SPEED};
-ghost use Rattle.road_ends.specs.Private.PassPlaces.{AreOfZone};
+ghost use Rattle.road_columns.specs.Private.Regions.{AreOfZone};
 ghost use Rattle.road_columns.specs.Private.Step.{AreRegionsOf};
 
 use crate::motion::Chances;

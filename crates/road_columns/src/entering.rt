@@ -9,7 +9,7 @@ ghost use Rattle.road_words.specs.Words.{word};
 ghost use Rattle.road_cells.specs.Array.{Array, vehicle_at};
 ghost use Rattle.road_ends.specs.Entries.{inlet_stream, is_admitting};
 ghost use Rattle.road_rules.specs.Speeds.{comes_about};
-ghost use Rattle.road_ends.specs.Private.EntriesBetween.{entries_between};
+ghost use Rattle.road_ends.specs.EntriesBetween.{entries_between};
 ghost use Rattle.road_columns.specs.Private.CarsAt.{AreCarsAt, IsPlaceAt, from_place, is_between};
 ghost use Rattle.road_columns.specs.Private.Entering.{IsPutIn, place_beside, place_on, AreWordsOfInlets};
 ghost use Rattle.road_columns.specs.Private.Entering.{AreCellsOfInlets};
@@ -27,9 +27,9 @@ use road_cells::is_blocked;
 use road_plan::limits::{CERTAIN, MOST_INLETS};
 use road_plan::{Plan, Settings};
 
-/// Puts a value in at a place of a column, before `tail`.
+/// Inserts a value at a place of a column, before `tail`.
 #[inline(always)]
-pub fn put<T: Copy>(column: &mut [T], place: usize, tail: usize, value: T)
+pub fn insert<T: Copy>(column: &mut [T], place: usize, tail: usize, value: T)
     requires order { place ≤ tail }
     requires room { tail < length column.old }
     ensures long { length column.new ≡ length column.old }
@@ -205,9 +205,9 @@ pub fn enter(
                     batches,
                     between,
                 );
-                put(cells, place, end, cell);
-                put(speeds, place, end, 0);
-                put(numbers, place, end, number);
+                insert(cells, place, end, cell);
+                insert(speeds, place, end, 0);
+                insert(numbers, place, end, number);
                 move_places(sites, places, cell);
                 end += 1;
             }

@@ -96,3 +96,44 @@ pub fn road_held(
     }
     Ok(Road::of(cars))
 }
+
+/// Answers whether the places from `head` to before `tail` hold the cars of a road. It takes no memory.
+#[inline(never)]
+pub fn is_held(
+    road: &Road,
+    cells: &[u16],
+    speeds: &[u8],
+    numbers: &[u32],
+    head: usize,
+    tail: usize,
+) -> bool
+    requires order { head ≤ tail }
+    requires inside { tail ≤ length cells.now }
+    requires speeds { length speeds.now ≡ length cells.now }
+    requires numbers { length numbers.now ≡ length cells.now }
+    requires falling { AreFalling cells.now head tail }
+    ensures { IsTrue result ↔ (road_in cells.now speeds.now numbers.now head tail ≡ road.now) }
+{
+    let cars = road.cars();
+    if cars.len() != tail - head {
+        return false;
+    }
+    for place in 0..cars.len() {
+        let mirrored = tail - 1 - place;
+        if !is_car(
+            &cars[place],
+            cells[mirrored],
+            speeds[mirrored],
+            numbers[mirrored],
+        ) {
+            return false;
+        }
+    }
+    true
+}
+
+fn is_car(car: &Car, cell: u16, speed: u8, number: u32) -> bool
+    ensures { IsTrue result ↔ (car.now ≡ record { number = number; cell = cell; speed = speed }) }
+{
+    car.cell == u32::from(cell) && car.speed == speed && car.number == u64::from(number)
+}

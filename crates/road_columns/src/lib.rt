@@ -37,4 +37,4 @@ mod turning;
 mod under_way;
 mod words;
 
-pub use under_way::UnderWay;
+pub use under_way::{UnderWay, is_runnable};

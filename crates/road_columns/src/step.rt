@@ -6,7 +6,7 @@ ghost use Rattle.road_plan.specs.Plan.{IsWithinLimits, exit_start};
 ghost use Rattle.road_plan.specs.Settings.{Fits};
 ghost use Rattle.road_words.specs.Words.{word};
 ghost use Rattle.road_cells.specs.Array.{Array, vehicle_at};
-ghost use Rattle.road_ends.specs.Private.EntriesBetween.{input_between};
+ghost use Rattle.road_ends.specs.EntriesBetween.{input_between};
 ghost use Rattle.road_ends.specs.Input.{input_next, input_speeds};
 ghost use Rattle.road_detector.specs.Passes.{passes_at, plus};
 ghost use Rattle.road_columns.specs.Columns.{AreColumnsOf};

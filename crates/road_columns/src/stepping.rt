@@ -10,7 +10,7 @@ ghost use Rattle.road_words.specs.Words.{word};
 ghost use Rattle.road_cells.specs.Array.{Array};
 ghost use Rattle.road_cells.specs.declared.car.TheConstants.{GREATEST_SPEED};
 ghost use Rattle.road_ends.specs.Input.{input_next, input_speeds};
-ghost use Rattle.road_ends.specs.Private.EntriesBetween.{input_between};
+ghost use Rattle.road_ends.specs.EntriesBetween.{input_between};
 ghost use Rattle.road_detector.specs.Passes.{no_totals, passes_at, plus};
 ghost use Rattle.road_columns.specs.Columns.{AreColumnsOf};
 ghost use Rattle.road_columns.specs.Private.Drawn.{drawn_word};

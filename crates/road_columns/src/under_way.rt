@@ -7,11 +7,11 @@ ghost use Rattle.road_plan.specs.Settings.{Fits};
 ghost use Rattle.road_plan.specs.declared.limits.TheConstants.{GREATEST_HORIZON};
 ghost use Rattle.road_ends.specs.Row.{row_of};
 ghost use Rattle.road_detector.specs.Passes.{no_totals};
-ghost use Rattle.road_columns.specs.UnderWay.{IsRunnable, begun, nothing_counted, stepped};
+ghost use Rattle.road_columns.specs.UnderWay.{IsAt, IsRunnable, begun, nothing_counted, stepped};
 
 use crate::counts::{clear_counts, totals_now};
 use crate::finding::find_places;
-use crate::holding::{can_hold, hold, road_held};
+use crate::holding::{can_hold, hold, is_held, road_held};
 use crate::kept::Kept;
 use crate::regions::Region;
 use crate::shifting::FIRST;
@@ -20,7 +20,7 @@ use crate::stepping::run_step;
 use crate::words::{Batch, SPAN, Source};
 use road_cells::{Car, GREATEST_SPEED, Road};
 use road_detector::{Totals, row_text};
-use road_ends::{OutOfMemory, Stretch};
+use road_ends::{OutOfMemory, Stretch, are_same_settings, is_same_plan};
 use road_plan::{Plan, Settings};
 use std::alloc::Global;
 use std::marker::Model;
@@ -62,6 +62,14 @@ impl Model for UnderWay {
     ghost view = { run_of };
 
     ghost invariant = { IsRunning };
+}
+
+/// Answers whether runs can go on from a road on the cells of a stretch: [`UnderWay::take_up`] says from which. It takes
+/// no memory.
+pub fn is_runnable(plan: &Plan, stretch: Stretch, road: &Road) -> bool
+    ensures { IsTrue result ↔ IsRunnable stretch.first stretch.end plan.now road.now }
+{
+    can_hold(road.cars(), stretch, plan.length() - plan.exit())
 }
 
 impl UnderWay {
@@ -298,10 +306,42 @@ impl UnderWay {
         clear_counts(&mut self.passes, &mut self.totals);
     }
 
+    /// Answers whether it is a run of this plan. It takes no memory.
+    pub fn is_of(&self, plan: &Plan) -> bool
+        ensures { IsTrue result ↔ (self.now.plan ≡ plan.now) }
+    {
+        is_same_plan(&self.plan, plan)
+    }
+
+    /// Answers whether it stands before a step on its plan's whole road, which is this one. It takes no memory.
+    pub fn is_at(&self, step: u32, road: &Road) -> bool
+        ensures { IsTrue result ↔ IsAt step road.now self.now }
+    {
+        self.step == step
+            && self.stretch.first == 0
+            && self.stretch.end == self.plan.length()
+            && is_held(
+                road,
+                &self.cells,
+                &self.speeds,
+                &self.numbers,
+                self.extent.head,
+                self.extent.tail,
+            )
+    }
+
+    /// Answers whether its next step is under these settings. It takes no memory.
+    pub fn is_under(&self, settings: &Settings) -> bool
+        ensures { IsTrue result ↔ (self.now.settings ≡ settings.now) }
+    {
+        are_same_settings(&self.settings, settings)
+    }
+
     /// Returns the step that is made next.
     pub fn next_step(&self) -> u32
         ensures { result ≡ self.now.step }
     {
-        self.step
+        let UnderWay { step, .. } = self;
+        *step
     }
 }

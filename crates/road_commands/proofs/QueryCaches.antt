@@ -17,7 +17,8 @@ use Rattle.road_world.specs.Events.{World, WorldReplica, message_of_event, openi
 use Rattle.road_world.specs.declared.event.Event.{Event}
 use Rattle.road_world.specs.declared.event.Event.TheVariants.{Edit, Withdraw, Import, Send, Heads, Beyond, Take, Advance}
 use Rattle.road_world.specs.declared.message.Message.{Message}
-use Rattle.road_sheet.specs.QueryCaches.{CachedState, IsCacheOf}
+use Rattle.road_sheet.specs.QueryCaches.{IsCacheOf}
+use Rattle.road_sheet.specs.declared.query_cache.QueryCache.{QueryCache}
 use Rattle.road_sheet.proofs.CachedRuns as cache_runs
 use Rattle.road_commands.specs.Private.Caching.{IsCached}
 use Rattle.road_commands.specs.Laboratory.{Laboratory}
@@ -90,7 +91,7 @@ won_edits v w q won same =
 -- ---- one cache
 
 -- of the run of one plan and edits, it is so of the run of the same
-same_run : (v w : World) (q : ℕ) (kept : CachedState) → v.plan ≡ w.plan → SameEdits v w q → IsCacheOf (sheet_at w q) kept → IsCacheOf (sheet_at v q) kept
+same_run : (v w : World) (q : ℕ) (kept : QueryCache) → v.plan ≡ w.plan → SameEdits v w q → IsCacheOf (sheet_at w q) kept → IsCacheOf (sheet_at v q) kept
 same_run v w q kept plan same is = cache_runs.same_run (sheet_at w q) (sheet_at v q) kept (sym plan) (sym same) is
 
 -- an event keeps the plan
@@ -104,12 +105,12 @@ as_many e w = length-map (world_after_event e w).replicas replica_of_winners ∙
 -- ---- all caches
 
 -- the cache of a replica, as it is read
-pub cached_read : (names : List (List ℕ)) (w : World) (runs : List CachedState) (r : ℕ) (run : CachedState) (sheet : Sheet) → IsCached names w runs → r < length runs → run ≡ slice_index_or runs r run → sheet ≡ sheet_at w r → IsCacheOf sheet run
+pub cached_read : (names : List (List ℕ)) (w : World) (runs : List QueryCache) (r : ℕ) (run : QueryCache) (sheet : Sheet) → IsCached names w runs → r < length runs → run ≡ slice_index_or runs r run → sheet ≡ sheet_at w r → IsCacheOf sheet run
 cached_read names w runs r run sheet kept below is same =
     subst (λ (s : Sheet). IsCacheOf s run) (sym same) (kept.cached r run (slice_get_read runs (length runs) r run refl below is))
 
 -- after an event that keeps edits
-pub cached_on : (names : List (List ℕ)) (w v : World) (runs : List CachedState) (e : Event) → IsCached names w runs → v ≡ world_of_winners (world_after_event e w) → keeps_edits e ≡ true → IsCached names v runs
+pub cached_on : (names : List (List ℕ)) (w v : World) (runs : List QueryCache) (e : Event) → IsCached names w runs → v ≡ world_of_winners (world_after_event e w) → keeps_edits e ≡ true → IsCached names v runs
 cached_on names w v runs e kept is keeps =
     let after : IsCached names (world_of_winners (world_after_event e w)) runs = record {
       few = kept.few;
@@ -122,7 +123,7 @@ cached_on names w v runs e kept is keeps =
     subst (λ (u : World). IsCached names u runs) (sym is) after
 
 -- after any event, where the cache of its replica becomes one of every run of the plan
-pub cached_but_one : (names : List (List ℕ)) (w v : World) (runs : List CachedState) (e : Event) (r : ℕ) (old new : CachedState) → IsCached names w runs → v ≡ world_of_winners (world_after_event e w) → r ≡ replica_number e
+pub cached_but_one : (names : List (List ℕ)) (w v : World) (runs : List QueryCache) (e : Event) (r : ℕ) (old new : QueryCache) → IsCached names w runs → v ≡ world_of_winners (world_after_event e w) → r ≡ replica_number e
     → r < length runs → old ≡ slice_index_or runs r old → ((before after : Sheet) → before.plan ≡ after.plan → IsCacheOf before old → IsCacheOf after new) → IsCached names v (slice_set runs r new)
 cached_but_one names w v runs e r old new kept is here below was restarts =
     let u : World = world_of_winners (world_after_event e w) in
@@ -138,7 +139,7 @@ cached_but_one names w v runs e r old new kept is here below was restarts =
     subst (λ (x : World). IsCached names x (slice_set runs r new)) (sym is) after
 
 -- after a query, of which the cache is another one of the run
-pub cached_shown : (names : List (List ℕ)) (w : World) (runs : List CachedState) (r : ℕ) (new : CachedState) (sheet : Sheet) → IsCached names w runs → sheet ≡ sheet_at w r → IsCacheOf sheet new → IsCached names w (slice_set runs r new)
+pub cached_shown : (names : List (List ℕ)) (w : World) (runs : List QueryCache) (r : ℕ) (new : QueryCache) (sheet : Sheet) → IsCached names w runs → sheet ≡ sheet_at w r → IsCacheOf sheet new → IsCached names w (slice_set runs r new)
 cached_shown names w runs r new sheet kept same is = record {
   few = kept.few;
   replicas = kept.replicas;
@@ -148,15 +149,15 @@ cached_shown names w runs r new sheet kept same is = record {
 }
 
 -- before any command
-pub cached_opening : (names : List (List ℕ)) (plan : Plan) (w : World) (runs : List CachedState) (count : ℕ) → w ≡ opening_world plan count → count ≡ length names → length runs ≡ count
-    → length names ≤ MOST_REPLICAS → ((sheet : Sheet) → sheet.plan ≡ plan → All (IsCacheOf sheet) runs) → IsCached names w runs
+pub cached_opening : (names : List (List ℕ)) (plan : Plan) (w : World) (runs : List QueryCache) (count : ℕ) → w ≡ opening_world plan count → count ≡ length names → length runs ≡ count
+    → length names ≤ MOST_REPLICAS → ((sheet : Sheet) → All (IsCacheOf sheet) runs) → IsCached names w runs
 cached_opening names plan w runs count is named each few opening =
     let first : IsCached names (opening_world plan count) runs = record {
       few = few;
       replicas = length-replicate count opening_replica ∙ named;
       winners = opening_world-of_winners plan count;
       each = each ∙ named;
-      cached = λ q run at. all_at (IsCacheOf (sheet_at (opening_world plan count) q)) runs q run (opening (sheet_at (opening_world plan count) q) refl) at;
+      cached = λ q run at. all_at (IsCacheOf (sheet_at (opening_world plan count) q)) runs q run (opening (sheet_at (opening_world plan count) q)) at;
     } in
     subst (λ (u : World). IsCached names u runs) (sym is) first
 
@@ -166,7 +167,7 @@ cached_opening names plan w runs count is named each few opening =
 abbrev pub laboratory_with : List (List ℕ) → List (List ℕ) → World → Laboratory
 laboratory_with names messages w = record { replica_names = names; message_names = messages; world = w }
 
-module _ (names messages : List (List ℕ)) (w : World) (runs : List CachedState) (lab : Laboratory) (view_is : laboratory_with names messages w ≡ lab) (kept : IsCached names w runs) where
+module _ (names messages : List (List ℕ)) (w : World) (runs : List QueryCache) (lab : Laboratory) (view_is : laboratory_with names messages w ≡ lab) (kept : IsCached names w runs) where
   -- a number below how many names there are is that of a cache
   pub run_below : (r : ℕ) → r < length lab.replica_names → r < length runs
   run_below r below =

@@ -45,8 +45,7 @@ use std::hash::BuildHasher;
 use std::marker::Model;
 use std::sync::Arc;
 
-/// Names the replicas and the messages of a world, and caches the queries of each replica: some 140 bytes for each of its
-/// cars.
+/// Names the replicas and the messages of a world, and caches the queries of each replica.
 #[derive(Drop)]
 pub struct Laboratory<S: BuildHasher> {
     replicas: Names<S>,
@@ -90,7 +89,7 @@ impl<S: BuildHasher + Copy> Laboratory<S> {
         let replicas = Names::of(alloc, line.names, hasher)?;
         let count = replicas.len();
         let plan = Arc::new(alloc, line.plan)?;
-        let caches = opening_caches(alloc, &plan, count)?;
+        let caches = opening_caches(alloc, count)?;
         let world = World::open(alloc, plan, count as u32)?;
         Ok(Laboratory {
             replicas,
@@ -402,25 +401,20 @@ impl<S: BuildHasher + Copy> Laboratory<S> {
     {
         let reply = self.world.apply(alloc, event, crew, &mut self.meter)?;
         if !keeps_edits(event) {
-            self.caches[event.replica() as usize].restart(alloc);
+            self.caches[event.replica() as usize].restart();
         }
         Ok(reply)
     }
 }
 
 // Makes the caches of replicas before any command.
-fn opening_caches(
-    alloc: Global,
-    plan: &Arc<Plan>,
-    count: usize,
-) -> Result<Vec<QueryCache>, OutOfMemory>
+fn opening_caches(alloc: Global, count: usize) -> Result<Vec<QueryCache>, OutOfMemory>
     ensures each { IfOk result (λ caches. length caches.items ≡ count) }
-    ensures cached { IfOk result (λ caches. (sheet : Sheet) → sheet.plan ≡ arc_value plan.now →
-        All (IsCacheOf sheet) caches.items) }
+    ensures cached { IfOk result (λ caches. (sheet : Sheet) → All (IsCacheOf sheet) caches.items) }
 {
     let mut caches = Vec::with_capacity(alloc, count)?;
     for made in 0..count {
-        caches.push(QueryCache::of(alloc, plan))?;
+        caches.push(QueryCache::new())?;
     }
     Ok(caches)
 }

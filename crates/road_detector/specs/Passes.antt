@@ -5,7 +5,7 @@ use Rattle.std.specs.List.{filter, slice_index_or, range_with_len}
 use Rattle.road_plan.specs.Plan.{Plan}
 use Rattle.road_plan.specs.Settings.{Settings}
 use Rattle.road_cells.specs.Array.{Array}
-use Rattle.road_cells.specs.Cars.{cars_before, cars_of}
+use Rattle.road_cells.specs.Cars.{cars_of}
 use Rattle.road_cells.specs.declared.car.Car.{Car}
 use Rattle.road_ends.specs.Input.{StepInput, input_of, input_speeds}
 use Rattle.road_ends.specs.Run.{Course, run, road_after_steps}
@@ -44,12 +44,6 @@ abbrev pub passes_at : StepInput → List ℕ → ℕ → Totals
 passes_at input speeds d =
     if slice_index_or input.settings.watched d false
     then totals_of (slice_index input.plan.detectors d) (drives (cars_of input.road) speeds) else no_totals
-
--- how many cars stand before a detector's site: none are counted where it is off
-abbrev pub before_at : StepInput → ℕ → ℕ
-before_at input d =
-    if slice_index_or input.settings.watched d false
-    then cars_before (slice_index input.plan.detectors d) (cars_of input.road) else 0
 
 -- what a detector counts in step t from an array
 abbrev pub passes_from : Plan → Settings → ℕ → Array → ℕ → Totals

@@ -17,7 +17,7 @@ pub mod laws;
 mod ran;
 mod rows;
 
-pub use counts::{Passed, Totals, greatest_speed, passes, passes_from};
+pub use counts::{Totals, passes};
 pub use ran::Ran;
 pub use rows::row_text;
 /// Out of memory: an allocation failed.

@@ -1,5 +1,5 @@
 -- The road with its entries between two cells: on the whole road it is all of it, and it agrees with it there.
-use Rattle.std.specs.Prelude.{◌≡◌, ℕ, zero, suc, ◌+◌, ◌-◌, ◌*◌, ◌<◌, ◌≤◌, List, [], ◌∷◌, length, map, max, min, IfOk, refl}
+use Rattle.std.specs.Prelude.{◌≡◌, ℕ, zero, suc, ◌+◌, ◌-◌, ◌*◌, ◌<◌, ◌≤◌, List, [], ◌∷◌, length, map, min, IfOk}
 use Rattle.std.specs.List.{range_with_len}
 use Rattle.std.specs.declared.option.Option.{Option}
 use Rattle.std.specs.declared.option.Option.TheVariants.{None, Some}
@@ -15,11 +15,11 @@ use Rattle.road_cells.specs.Cars.{AreRising, AreRisingFrom, array_of, cars_from,
 use Rattle.road_cells.specs.declared.car.Car.{Car}
 use Rattle.road_cells.specs.declared.car.TheConstants.{GREATEST_SPEED}
 use Rattle.road_cells.proofs.ArrayPlaces.{length-array, past_array, past_end, vehicle_at-array}
-use Rattle.road_cells.proofs.CarLists.{array_of-cars_from, rise-cars_from, vehicle_at-array_of, vehicle_among-cars_from, vehicle_among-past}
+use Rattle.road_cells.proofs.CarLists.{array_of-cars_from, rise-cars_from, vehicle_at-array_of, vehicle_among-cars_from}
 use Rattle.road_ends.specs.Entries.{road_with_entries}
 use Rattle.road_ends.specs.Input.{StepInput, input_of}
-use Rattle.road_ends.specs.Laws.{AgreeBetween, AgreeNear}
-use Rattle.road_ends.specs.Private.EntriesBetween.{entries_between, input_between, with_entry}
+use Rattle.road_ends.specs.Laws.{AgreeNear}
+use Rattle.road_ends.specs.EntriesBetween.{entries_between, input_between, with_entry}
 use Rattle.road_ends.specs.Span.{Span, IsInputNear}
 
 -- what follows of an answer

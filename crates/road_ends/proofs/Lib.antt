@@ -11,4 +11,3 @@ pub mod PassOverCars
 pub mod SameInputs
 pub mod CellsBetweenInlets
 pub mod EntriesBetween
-pub mod CachedColumns

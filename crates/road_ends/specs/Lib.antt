@@ -3,7 +3,7 @@ pub mod Entries
 pub mod Speed
 pub mod Run
 pub mod Input
+pub mod EntriesBetween
 pub mod Row
 pub mod Laws
 pub mod Span
-pub mod Private

@@ -18,7 +18,6 @@
 
 mod alone;
 mod chance;
-mod columns;
 mod entries;
 mod input;
 pub mod laws;
@@ -29,16 +28,13 @@ mod span;
 mod step;
 mod step_settings;
 mod stretch;
-mod word_batches;
-mod word_cache;
 
 pub use alone::{Stepped, step_alone};
-pub use input::sameness::are_same_cars;
+pub use input::sameness::{are_same_cars, are_same_settings, is_same_plan};
 pub use input::{StepInput, enter};
 pub use letters::{BLOCKED, EMPTY, STANDING};
 pub use meter::Meter;
 pub use span::Span;
-pub use word_cache::WordCache;
 /// Out of memory: an allocation failed.
 pub use std::alloc::AllocError as OutOfMemory;
 pub use step::{finish, leave};

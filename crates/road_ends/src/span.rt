@@ -8,6 +8,7 @@ ghost use Rattle.road_plan.specs.declared.limits.TheConstants.{GREATEST_HORIZON}
 
 use crate::OutOfMemory;
 use crate::input::sameness::{are_same_settings, is_same_plan};
+use road_plan::limits::GREATEST_LENGTH;
 use road_plan::{Plan, Settings};
 use std::marker::Model;
 use std::sync::Arc;
@@ -48,7 +49,7 @@ impl Span {
         ensures { result ≡ record
             { plan = arc_value plan; settings = arc_value settings; step = step; steps = steps } }
     {
-        let _ = plan.length();
+        prove!(plan.length() <= GREATEST_LENGTH);
         Span {
             plan,
             settings,

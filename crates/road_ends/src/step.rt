@@ -7,10 +7,9 @@ ghost use Rattle.road_ends.specs.Run.{road_before_exit};
 
 use crate::OutOfMemory;
 use crate::input::StepInput;
-use crate::word_cache::WordCache;
 use road_cells::Road;
 use road_plan::Plan;
-use road_rules::{moved, moved_in_place};
+use road_rules::moved;
 use std::alloc::Global;
 
 /// Deletes the cars in the road's deleted zone or past it. It takes no memory.
@@ -38,28 +37,4 @@ pub fn finish(alloc: Global, input: &StepInput, speeds: &[u8]) -> Result<Road, O
 {
     let moved = moved(alloc, input.road(), speeds)?;
     Ok(leave(input.plan(), moved))
-}
-
-impl WordCache {
-    /// Makes the road after a step, as [`finish`], in memory that these words keep where there is some. The speeds must
-    /// be those that [`StepInput::speeds`] gives.
-    ///
-    /// # Errors
-    ///
-    /// `OutOfMemory` where the allocation of the new road failed. The words are as before.
-    pub fn finish(
-        &mut self,
-        alloc: Global,
-        input: &StepInput,
-        speeds: &[u8],
-    ) -> Result<Road, OutOfMemory>
-        requires { speeds.now ≡ input_speeds input.now }
-        ensures step { IfOk result (λ later. later ≡ input_next input.now) }
-        ensures unchanged { self.new ≡ self.old }
-    {
-        let mut cars = self.list(alloc);
-        cars.extend_from_slice(input.road().cars())?;
-        let moved = moved_in_place(Road::of(cars), speeds);
-        Ok(leave(input.plan(), moved))
-    }
 }

@@ -180,7 +180,7 @@ impl Replica {
             step,
             value: Value::Put(value),
         };
-        self.put(alloc, local, crew, meter)
+        self.make_edit(alloc, local, crew, meter)
     }
 
     /// Withdraws what is put for an object at a step: from there on the latest earlier number is in force, or the
@@ -210,7 +210,7 @@ impl Replica {
             step,
             value: Value::Withdrawn,
         };
-        self.put(alloc, local, crew, meter)
+        self.make_edit(alloc, local, crew, meter)
     }
 
     /// Makes an edit: it puts a number, as [`Replica::edit`], or withdraws what is put, as [`Replica::withdraw`], and
@@ -219,7 +219,7 @@ impl Replica {
     /// # Errors
     ///
     /// As for [`Replica::edit`].
-    pub fn put<C: Crew>(
+    pub fn make_edit<C: Crew>(
         &mut self,
         alloc: Global,
         local: LocalEdit,
@@ -240,12 +240,12 @@ impl Replica {
         Ok(stamp)
     }
 
-    /// Makes the edit that [`Replica::put`] makes, as a scenario that has it alone, and its stamp. The scenario fits the
+    /// Makes the edit that [`Replica::make_edit`] makes, as a scenario that has it alone, and its stamp. The scenario fits the
     /// plan, and the replica does not hold it until it is joined ([`Replica::join`]).
     ///
     /// # Errors
     ///
-    /// The named causes of [`Replica::put`], else `OutOfMemory` where an allocation failed.
+    /// The named causes of [`Replica::make_edit`], else `OutOfMemory` where an allocation failed.
     pub fn new_edit(
         &self,
         alloc: Global,
@@ -320,7 +320,7 @@ impl Replica {
     }
 
     /// Joins a scenario, which must fit the plan (`Scenario::fits` gives none). It is the one way of all writes of edits:
-    /// [`Replica::put`], [`Replica::import`] and [`Replica::take`] ask for the named causes, and then join. The answer is
+    /// [`Replica::make_edit`], [`Replica::import`] and [`Replica::take`] ask for the named causes, and then join. The answer is
     /// the first step at which other numbers are put than before.
     ///
     /// # Errors
@@ -501,7 +501,7 @@ impl Replica {
         ensures accepted { IfOk result (λ _. refusals.rows_fault self.now.sheet from to ≡ None) }
         ensures refused { IfErr result (IsRefusal (refusals.rows_fault self.now.sheet from to)) }
     {
-        let mut cache = QueryCache::of(alloc, self.sheet.plan());
+        let mut cache = QueryCache::new();
         Ok(cache.rows(alloc, &self.sheet, from, to)?)
     }
 }

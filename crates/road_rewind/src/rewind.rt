@@ -16,9 +16,8 @@ use road_ends::{Meter, OutOfMemory, Span};
 use road_scenario::Scenario;
 use road_scenario::laws::winners_agree;
 use road_sheet::{Draft, Sheet};
-use road_workers::Crew;
+use road_workers::{Crew, KeptRun};
 use std::alloc::Global;
-use std::mem;
 
 /// Joins a scenario into a sheet and simulates at least up to the step `to`: the new sheet is that of the joined scenario,
 /// at the greater of the old horizon and `to`. The old sheet stays as it is, and the new one shares with it each whole
@@ -115,11 +114,11 @@ fn simulate<C: Crew>(
     ensures few { TicksAtMost (to - draft.old.horizon) meter.old meter.new }
     ensures gone { CountsGone result (C.times_gone crew.old) (C.times_gone crew.new) }
 {
-    let mut speeds = Vec::new(alloc);
+    let mut kept = KeptRun::none();
     let mut step = draft.horizon();
     while step < to {
         let span = draft.next_span(alloc, to)?;
-        simulate_span(alloc, draft, &span, crew, &mut speeds, meter)?;
+        simulate_span(alloc, draft, &span, crew, &mut kept, meter)?;
         step += span.steps();
     }
     Ok(())
@@ -132,7 +131,7 @@ fn simulate_span<C: Crew>(
     draft: &mut Draft,
     span: &Span,
     crew: &mut C,
-    speeds: &mut Vec<u8>,
+    kept: &mut KeptRun,
     meter: &mut Meter,
 ) -> Result<(), GrownFault>
     requires next { IsNextSpan draft.old span.now }
@@ -141,7 +140,7 @@ fn simulate_span<C: Crew>(
     ensures few { TicksAtMost span.now.steps meter.old meter.new }
     ensures gone { CountsGone result (C.times_gone crew.old) (C.times_gone crew.new) }
 {
-    match crew.run(alloc, span, draft.road()) {
+    match crew.run(alloc, span, draft.road(), kept) {
         Ok(Some(ran)) => {
             draft.push_span(alloc, span, ran)?;
             meter.count(span.steps());
@@ -149,7 +148,7 @@ fn simulate_span<C: Crew>(
         }
         Ok(None) => {
             let end = draft.horizon() + span.steps();
-            simulate_steps(alloc, draft, end, crew, speeds, meter)
+            simulate_steps(alloc, draft, end, crew, meter)
         }
         Err(fault) => Err(fault),
     }
@@ -161,7 +160,6 @@ fn simulate_steps<C: Crew>(
     draft: &mut Draft,
     to: u32,
     crew: &mut C,
-    speeds: &mut Vec<u8>,
     meter: &mut Meter,
 ) -> Result<(), GrownFault>
     requires before { draft.old.horizon ≤ to }
@@ -172,28 +170,21 @@ fn simulate_steps<C: Crew>(
     ensures gone { CountsGone result (C.times_gone crew.old) (C.times_gone crew.new) }
 {
     for step in draft.horizon()..to {
-        one_step(alloc, draft, crew, speeds)?;
+        one_step(alloc, draft, crew)?;
         meter.tick();
     }
     Ok(())
 }
 
-// Adds one more step. The list of its speeds takes the place of the last step's.
-fn one_step<C: Crew>(
-    alloc: Global,
-    draft: &mut Draft,
-    crew: &mut C,
-    speeds: &mut Vec<u8>,
-) -> Result<(), GrownFault>
+// Adds one more step.
+fn one_step<C: Crew>(alloc: Global, draft: &mut Draft, crew: &mut C) -> Result<(), GrownFault>
     requires within_limit { draft.old.horizon < GREATEST_HORIZON }
     ensures grown { OnOk result (draft.new ≡ sheet_after_step draft.old) }
     ensures unchanged { OnErr result (draft.new ≡ draft.old) }
     ensures gone { CountsGone result (C.times_gone crew.old) (C.times_gone crew.new) }
 {
     let input = draft.input(alloc)?;
-    let list = mem::replace(speeds, Vec::new(alloc));
-    let new = crew.speeds_in(alloc, &input, list)?;
-    draft.advance(alloc, input, &new)?;
-    *speeds = new;
+    let speeds = crew.speeds(alloc, &input)?;
+    draft.push(alloc, &input, &speeds)?;
     Ok(())
 }

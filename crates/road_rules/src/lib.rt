@@ -1,8 +1,7 @@
 //! The four rules of the traffic automaton of Nagel and Schreckenberg (J. Phys. I France 2 (1992) 2221).
 //!
-//! [`wanted`] is acceleration and slowing as one, [`two_rules`] the two as in 1992, [`slowed`] randomization,
-//! [`moved`] motion, and [`moved_in_place`] the same where the road before it is no longer needed. Speeds and limits
-//! are in cells per step.
+//! [`wanted`] is acceleration and slowing as one, [`two_rules`] the two as in 1992, [`slowed`] randomization, and
+//! [`moved`] motion. Speeds and limits are in cells per step.
 //!
 //! ```
 //! // A car of speed 2 under limit 3 with four free cells in front wishes to drive 3 cells; chance 65,536 slows it.
@@ -19,7 +18,7 @@
 mod motion;
 mod speeds;
 
-pub use motion::{moved, moved_in_place};
+pub use motion::moved;
 pub use speeds::{slowed, two_rules, wanted};
 /// Out of memory: an allocation failed.
 pub use std::alloc::AllocError as OutOfMemory;

@@ -30,8 +30,8 @@ pub fn moved(alloc: Global, road: &Road, speeds: &[u8]) -> Result<Road, OutOfMem
     Ok(moved_in_place(road.copied()?, speeds))
 }
 
-/// Applies rule 4 as [`moved`], under the same conditions, to the list of cars that the road kept. It takes no memory.
-pub fn moved_in_place(road: Road, speeds: &[u8]) -> Road
+// Applies rule 4 as [`moved`], under the same conditions, to the list of cars that the road kept. It takes no memory.
+fn moved_in_place(road: Road, speeds: &[u8]) -> Road
     requires low { length road ≤ 65536 }
     requires may { MayMove road speeds.now }
     ensures motion { result ≡ array_after_motion_at speeds.now road }

@@ -18,7 +18,7 @@ use crate::edit::Edit;
 use crate::faults::EditFault;
 use crate::listing::{all_edits, count_edits, fault_of_first};
 use crate::registers::{RegistersByObject, register_of};
-use crate::settings::{number_of, put_all, setting_without};
+use crate::settings::{number_of, put_last_numbers, setting_without};
 use crate::touched::{first_change, first_change_by};
 use lattice_core::lattice::Lattice;
 use lattice_core::map::LatMap;
@@ -171,7 +171,7 @@ impl Scenario {
         ensures fits { IfOk result (λ settings. Fits plan.now settings) }
     {
         let mut settings = Settings::of_plan(alloc, plan)?;
-        put_all(&mut settings, &self.registers, step)?;
+        put_last_numbers(&mut settings, &self.registers, step)?;
         Ok(settings)
     }
 
@@ -249,6 +249,7 @@ impl Scenario {
 pub fn scenarios_hold_winners(scenario: &Scenario)
     ensures { AreWinners scenario.now }
 {
+    // The borrow alone shows a proof what holds of a scenario's fields.
     let _ = &scenario.registers;
 }
 

@@ -46,6 +46,6 @@ pub use std::alloc::AllocError as OutOfMemory;
 pub mod laws {
     pub use crate::held::Held;
     pub use crate::merging::{journals_hold_what_was_written, journals_merge};
-    pub use crate::shared::opened;
+    pub use crate::shared::open_held;
     pub use crate::wish::Wish;
 }

@@ -110,7 +110,7 @@ pub fn open<J: Naming, R: Wait + Drop>(
     ensures { IfOk result (λ opened. (length opened.1.items ≡ prepared.sessions) × AreNewSessions 0 opened.1.items) }
 {
     let count = prepared.sessions;
-    let (held, sessions) = opened::<J, R>(prepared)?;
+    let (held, sessions) = open_held::<J, R>(prepared)?;
     let shared = Shared {
         held: Mutex::new(held),
         sessions: count,
@@ -123,7 +123,7 @@ pub fn open<J: Naming, R: Wait + Drop>(
 /// # Errors
 ///
 /// As for [`open`].
-pub fn opened<J: Naming, R: Wait + Drop>(
+pub fn open_held<J: Naming, R: Wait + Drop>(
     prepared: Prepared<R>,
 ) -> Result<(Held<J, R>, Vec<Session<J>>), OpenFault>
     requires book { prepared.book ≡ J.book }
@@ -197,8 +197,5 @@ fn new_store<J: Naming>(
     ensures shown { IfOk result (λ writer. writer.desk.shown.value ≡ first) }
     ensures refused { IfErr result (λ fault. fault ≡ openings.OutOfMemory) }
 {
-    match Writer::new(alloc, first, second, readers as usize) {
-        Ok(writer) => Ok(writer),
-        Err(_refused) => Err(OpenFault::OutOfMemory),
-    }
+    Ok(Writer::new(alloc, first, second, readers as usize)?)
 }

@@ -6,6 +6,7 @@ pub mod CachedRuns
 pub mod RunTotals
 pub mod SameRuns
 pub mod Shelves
+pub mod ShownRuns
 pub mod SheetIntervals
 pub mod SmallCars
 pub mod Spans

@@ -5,6 +5,6 @@ pub mod Spans
 pub mod Commands
 pub mod Drafts
 pub mod SettingsCaches
-pub mod RunCaches
+pub mod ShownRuns
 pub mod QueryCaches
 pub mod Private

@@ -9,13 +9,12 @@ ghost use Rattle.road_detector.specs.Passes.{span_totals};
 ghost use Rattle.road_sheet.specs.Sheets.{next_input, sheet_after_step, state_of};
 ghost use Rattle.road_sheet.specs.Spans.{IsNextSpan, sheet_after_span};
 
-use crate::run_cache::RunCache;
+use crate::settings_cache::SettingsCache;
 use crate::sheet::Sheet;
 use road_cells::Road;
 use road_detector::Ran;
-use road_ends::{Span, StepInput};
+use road_ends::{Span, StepInput, finish};
 use road_plan::OutOfMemory;
-use road_plan::limits::MOST_DETECTORS;
 use std::alloc::Global;
 use std::marker::Model;
 use std::sync::Arc;
@@ -24,9 +23,7 @@ use std::sync::Arc;
 #[derive(Drop)]
 pub struct Draft {
     pub(crate) sheet: Sheet,
-    pub(crate) cache: RunCache,
-    // For each detector how many cars stood before its site in the last step.
-    pub(crate) places: [usize; MOST_DETECTORS],
+    pub(crate) settings: SettingsCache,
 }
 
 impl Model for Draft {
@@ -41,9 +38,9 @@ impl Model for Draft {
 
     ghost view = { λ d. d.sheet };
 
-    ghost use Rattle.road_sheet.specs.RunCaches.{IsOfRun};
+    ghost use Rattle.road_sheet.specs.SettingsCaches.{AreCached};
 
-    ghost invariant = { λ d. IsOfRun d.sheet.plan d.sheet.edits d.cache };
+    ghost invariant = { λ d. AreCached d.sheet.plan d.sheet.edits d.settings };
 }
 
 impl Draft {
@@ -63,7 +60,7 @@ impl Draft {
         ensures input { IfOk result (λ input. arc_value input ≡ next_input self.old) }
         ensures unchanged { self.new ≡ self.old }
     {
-        self.sheet.next_input(alloc, &mut self.cache)
+        self.sheet.next_input(alloc)
     }
 
     /// Adds one more step, from its input and the new speeds of its cars. The input must be that of the next step, the
@@ -84,34 +81,8 @@ impl Draft {
         ensures grown { OnOk result (self.new ≡ sheet_after_step self.old) }
         ensures unchanged { OnErr result (self.new ≡ self.old) }
     {
-        let road = self.cache.finish(alloc, input, speeds)?;
-        let places = &mut self.places;
-        let last = self.sheet.grow(alloc, input, speeds, places, road)?;
-        self.cache.reuse(last);
-        Ok(())
-    }
-
-    /// Adds one more step, as [`Draft::push`], and keeps its input, to make the next one of it where nobody else has
-    /// it. The input, the speeds and the horizon must be as there.
-    ///
-    /// # Errors
-    ///
-    /// `OutOfMemory` where an allocation failed. The draft is then as it was.
-    pub fn advance(
-        &mut self,
-        alloc: Global,
-        input: Arc<StepInput>,
-        speeds: &[u8],
-    ) -> Result<(), OutOfMemory>
-        requires input { arc_value input ≡ next_input self.old }
-        requires speeds { speeds.now ≡ input_speeds (arc_value input) }
-        requires within_limit { self.old.horizon < GREATEST_HORIZON }
-        ensures grown { OnOk result (self.new ≡ sheet_after_step self.old) }
-        ensures unchanged { OnErr result (self.new ≡ self.old) }
-    {
-        self.push(alloc, &input, speeds)?;
-        self.cache.keep_input(input);
-        Ok(())
+        let road = finish(alloc, input, speeds)?;
+        self.sheet.grow(alloc, input, speeds, road)
     }
 
     /// Returns the road at the horizon.
@@ -136,7 +107,7 @@ impl Draft {
         ensures before { IfOk result (λ span. self.old.horizon + span.steps ≤ to) }
         ensures unchanged { self.new ≡ self.old }
     {
-        self.sheet.next_span(alloc, &mut self.cache, to)
+        self.sheet.next_span(alloc, &mut self.settings, to)
     }
 
     /// Adds the steps of a span at once, from what they come to. The span must be of the next steps, the road that after
@@ -152,10 +123,7 @@ impl Draft {
         ensures grown { OnOk result (self.new ≡ sheet_after_span span.now self.old) }
         ensures unchanged { OnErr result (self.new ≡ self.old) }
     {
-        let last = self.sheet.grow_by(alloc, span, ran)?;
-        self.cache.jump();
-        self.cache.reuse(last);
-        Ok(())
+        self.sheet.grow_by(alloc, span, ran)
     }
 
     /// Returns the sheet.

@@ -6,9 +6,8 @@ ghost use Rattle.road_cells.specs.Cars.{cars_of};
 ghost use Rattle.road_detector.specs.Passes.{no_totals, passes_at, plus};
 
 use crate::checkpoint::Checkpoint;
-use road_detector::{OutOfMemory, Totals, greatest_speed, passes_from};
+use road_detector::{OutOfMemory, Totals, passes};
 use road_ends::StepInput;
-use road_plan::limits::MOST_DETECTORS;
 use std::alloc::Global;
 
 /// How many steps a whole interval has.
@@ -44,14 +43,8 @@ impl Interval {
         Ok(Interval { start, totals })
     }
 
-    // Counts one more step. `places` has for each detector how many cars stood before its site in the last step, near
-    // which they are looked for. It allocates nothing.
-    pub(crate) fn count(
-        &mut self,
-        input: &StepInput,
-        speeds: &[u8],
-        places: &mut [usize; MOST_DETECTORS],
-    )
+    // Counts one more step. It allocates nothing.
+    pub(crate) fn count(&mut self, input: &StepInput, speeds: &[u8])
         requires one_each { length speeds.now ≡ length (cars_of input.now.road) }
         requires each { length self.old.totals.items ≡ length input.now.plan.detectors }
         requires cars { (d : ℕ) → d < length self.old.totals.items →
@@ -65,12 +58,9 @@ impl Interval {
             slice_index_or self.new.totals.items d no_totals
             ≡ plus (slice_index_or self.old.totals.items d no_totals) (passes_at input.now speeds.now d) }
     {
-        let greatest = greatest_speed(speeds);
         for detector in 0..input.plan().detectors().len() {
-            let near = places[detector];
-            let passed = passes_from(input, speeds, detector as u32, greatest, near);
-            self.totals[detector] = self.totals[detector].plus(passed.totals);
-            places[detector] = passed.before;
+            let passed = passes(input, speeds, detector as u32);
+            self.totals[detector] = self.totals[detector].plus(passed);
         }
     }
 

@@ -19,11 +19,11 @@ mod draft;
 mod faults;
 mod interval;
 mod query_cache;
-mod run_cache;
 mod settings_cache;
 mod shared_intervals;
 mod sheet;
 mod shelf;
+mod shown_run;
 pub mod simulation;
 
 pub use draft::Draft;

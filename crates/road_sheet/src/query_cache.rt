@@ -1,72 +1,59 @@
-//! The one reader of a sheet. A query resumes from the nearest state that is known, by the words and the settings that
-//! its run has, so queries at rising steps compute no step twice, draw no word twice and make no settings twice.
+//! The one reader of a sheet. It keeps the run of its last query under way, so queries at rising steps compute no step
+//! twice, draw no word twice and make no settings twice.
 
-ghost use Rattle.std.specs.Prelude.{◌≡◌, ◌<◌, ◌≤◌, ◌+◌, ◌-◌, ◌%◌, IfErr, IfOk, IsOk, IsTrue, None, OnOk};
+ghost use Rattle.std.specs.Prelude.{◌≡◌, ◌<◌, ◌≤◌, ◌+◌, ◌-◌, ◌%◌, IfErr, IfOk, IsOk, None};
 ghost use Rattle.std.specs.Prelude.{length, map, string_bytes};
-ghost use Rattle.std.specs.Arc.{arc_value};
 ghost use Rattle.road_plan.specs.declared.limits.TheConstants.{GREATEST_HORIZON};
-ghost use Rattle.road_scenario.specs.Settings.{settings_of};
-ghost use Rattle.road_detector.specs.Passes.{passes};
-ghost use Rattle.road_ends.specs.Input.{input_of};
 ghost use Rattle.road_sheet.specs.Sheets.{AreWholeIntervals, IsRefusalBy, Sheet, rows_fault, rows_of, sheet_row};
 ghost use Rattle.road_sheet.specs.Sheets.{state_fault, state_of, total_of, totals_fault};
 
 use crate::faults::SheetFault;
 use crate::interval::INTERVAL_STEPS;
-use crate::run_cache::RunCache;
 use crate::sheet::Sheet;
-use crate::simulation::State;
+use crate::shown_run::ShownRun;
 use road_cells::Road;
-use road_detector::laws::{cars_have_digits, cars_pass_one_by_one, totals_are_bounded};
-use road_detector::{Totals, passes, row_text};
-use road_ends::Stepped;
+use road_columns::UnderWay;
+use road_detector::Totals;
+use road_detector::laws::totals_are_bounded;
+use road_plan::OutOfMemory;
 use road_plan::limits::MOST_ROWS;
-use road_plan::{OutOfMemory, Plan};
 use std::alloc::Global;
-use std::marker::Model;
 use std::mem;
-use std::sync::Arc;
 
 // The most steps that are counted one after another, and not by the intervals of the sheet, which takes as many on the
 // average.
 const MOST_COUNTED_STEPS: u32 = INTERVAL_STEPS;
 
-/// The last state that a query computed, and what its run uses from a step to the next: the settings made last, and the
-/// words drawn for the steps round it, some 140 bytes for each car that could move in them, and for each inlet.
+/// The run that the last query left under way, or the memory of one of other edits.
 #[derive(Drop)]
 pub struct QueryCache {
-    state: State,
-    run: RunCache,
-}
-
-impl Model for QueryCache {
-    ghost use Rattle.road_sheet.specs.QueryCaches.{CachedState};
-
-    ghost Value = { CachedState };
-
-    ghost view = { λ cache. record { step = cache.state.step; road = cache.state.road; run = cache.run } };
+    run: Option<ShownRun>,
+    // A run of the plan that is shown no longer.
+    spare: Option<UnderWay>,
 }
 
 impl QueryCache {
     ghost use Rattle.road_sheet.specs.QueryCaches.{IsCacheOf};
+    ghost use Rattle.road_sheet.specs.ShownRuns.{IsShownBy};
 
-    /// Makes the cache of a plan's run of which nothing is computed yet. It takes no memory.
-    pub fn of(alloc: Global, plan: &Arc<Plan>) -> QueryCache
-        ensures { (sheet : Sheet) → sheet.plan ≡ arc_value plan.now → IsCacheOf sheet result }
+    /// Makes the cache of a run of which nothing is computed yet. It takes no memory.
+    pub fn new() -> QueryCache
+        ensures { (sheet : Sheet) → IsCacheOf sheet result }
     {
         QueryCache {
-            state: State::opening(alloc),
-            run: RunCache::of(alloc, plan),
+            run: None,
+            spare: None,
         }
     }
 
-    /// Forgets the state and the settings, since other edits are in force. The words stay, since no edit changes them.
-    pub fn restart(&mut self, alloc: Global)
+    /// Forgets the run, since other edits are in force. Its memory stays.
+    pub fn restart(&mut self)
         ensures { (before after : Sheet) → before.plan ≡ after.plan →
             IsCacheOf before self.old → IsCacheOf after self.new }
     {
-        self.state = State::opening(alloc);
-        self.run.forget_edits();
+        if let Some(shown) = mem::replace(&mut self.run, None) {
+            self.spare = Some(shown.into_run());
+        }
     }
 
     /// Returns the road at a step.
@@ -81,24 +68,10 @@ impl QueryCache {
         ensures refused { IfErr result (λ fault. IsRefusalBy (state_fault sheet.now step) fault) }
         ensures cached { IsCacheOf sheet.now self.new }
     {
-        self.show(alloc, sheet, step)?;
-        Ok(self.state.road.copied()?)
-    }
-
-    // Returns the same, where no other query follows.
-    pub(crate) fn into_state(
-        mut self,
-        alloc: Global,
-        sheet: &Sheet,
-        step: u32,
-    ) -> Result<Road, SheetFault>
-        requires { IsCacheOf sheet.now self }
-        ensures state { IfOk result (λ road. road ≡ state_of sheet.now step) }
-        ensures accepted { IfOk result (λ _. state_fault sheet.now step ≡ None) }
-        ensures refused { IfErr result (λ fault. IsRefusalBy (state_fault sheet.now step) fault) }
-    {
-        self.show(alloc, sheet, step)?;
-        Ok(self.state.road)
+        let shown = self.shown_at(alloc, sheet, step)?;
+        let road = shown.road(alloc)?;
+        self.run = Some(shown);
+        Ok(road)
     }
 
     /// Returns the row of a step, with the blocks of its step.
@@ -113,8 +86,10 @@ impl QueryCache {
         ensures refused { IfErr result (λ fault. IsRefusalBy (state_fault sheet.now step) fault) }
         ensures cached { IsCacheOf sheet.now self.new }
     {
-        self.show(alloc, sheet, step)?;
-        Ok(self.row_here(alloc, sheet)?)
+        let mut shown = self.shown_at(alloc, sheet, step)?;
+        let row = shown.row(alloc, sheet)?;
+        self.run = Some(shown);
+        Ok(row)
     }
 
     /// Returns what a detector counts in the steps from one up to another, that one not among them. The counts of whole
@@ -177,16 +152,16 @@ impl QueryCache {
         if sheet.horizon() < to {
             return Err(SheetFault::NotSimulated);
         }
-        self.go_to(alloc, sheet, from)?;
-        Ok(self.rows_to(alloc, sheet, to)?)
+        Ok(self.rows_between(alloc, sheet, from, to)?)
     }
 
-    // ---- the state, and what is seen on its way
+    // ---- the run under way
 
-    // Computes the state at a step, where that is simulated.
-    fn show(&mut self, alloc: Global, sheet: &Sheet, step: u32) -> Result<(), SheetFault>
+    // Takes the run under way out, at a step, where that is simulated.
+    fn shown_at(&mut self, alloc: Global, sheet: &Sheet, step: u32) -> Result<ShownRun, SheetFault>
         requires { IsCacheOf sheet.now self.old }
-        ensures step { OnOk result (self.new.step ≡ step) }
+        ensures step { IfOk result (λ shown. shown.run.step ≡ step) }
+        ensures shown { IfOk result (IsShownBy sheet.now) }
         ensures accepted { IfOk result (λ _. state_fault sheet.now step ≡ None) }
         ensures refused { IfErr result (λ fault. IsRefusalBy (state_fault sheet.now step) fault) }
         ensures cached { IsCacheOf sheet.now self.new }
@@ -194,117 +169,47 @@ impl QueryCache {
         if sheet.horizon() < step {
             return Err(SheetFault::NotSimulated);
         }
-        Ok(self.go_to(alloc, sheet, step)?)
+        Ok(self.run_at(alloc, sheet, step)?)
     }
 
-    // Computes the state at a step: from the last one where that is the nearest before it, and else from what the sheet
-    // keeps, the road at the first step of each interval and at the horizon. Words drawn for another way through the
-    // interval are let go then.
-    fn go_to(&mut self, alloc: Global, sheet: &Sheet, step: u32) -> Result<(), OutOfMemory>
+    // Takes the run under way out, at a step. It is lost where memory is refused.
+    fn run_at(&mut self, alloc: Global, sheet: &Sheet, step: u32) -> Result<ShownRun, OutOfMemory>
         requires simulated { step ≤ sheet.now.horizon }
         requires horizon { step ≤ GREATEST_HORIZON }
         requires cached { IsCacheOf sheet.now self.old }
-        ensures step { OnOk result (self.new.step ≡ step) }
+        ensures step { IfOk result (λ shown. shown.run.step ≡ step) }
+        ensures shown { IfOk result (IsShownBy sheet.now) }
         ensures cached { IsCacheOf sheet.now self.new }
     {
-        if !self.is_nearest(sheet, step) {
-            self.run.jump();
-            self.state = sheet.kept_state(alloc, step)?;
-        }
-        for now in self.state.step..step {
-            self.step_on(alloc, sheet)?;
-        }
-        Ok(())
+        let mut shown = match mem::replace(&mut self.run, None) {
+            Some(shown) => shown,
+            None => {
+                let spare = mem::replace(&mut self.spare, None);
+                ShownRun::begun(alloc, sheet, spare, step)?
+            }
+        };
+        shown.go_to(alloc, sheet, step)?;
+        Ok(shown)
     }
 
-    // Answers whether the state is nearer before a step than what the sheet keeps.
-    fn is_nearest(&self, sheet: &Sheet, step: u32) -> bool
-        ensures { IsTrue result → self.now.step ≤ step }
-    {
-        let last = self.state.step;
-        last <= step && step - last < step % INTERVAL_STEPS && step < sheet.horizon()
-    }
-
-    // Takes the state to the next step.
-    fn step_on(&mut self, alloc: Global, sheet: &Sheet) -> Result<(), OutOfMemory>
-        requires horizon { self.old.step < GREATEST_HORIZON }
-        requires cached { IsCacheOf sheet.now self.old }
-        ensures step { OnOk result (self.new.step ≡ self.old.step + 1) }
-        ensures cached { IsCacheOf sheet.now self.new }
-    {
-        let State { step, road } = &self.state;
-        let done = self.run.step(alloc, sheet, *step, road)?;
-        self.keep(done);
-        Ok(())
-    }
-
-    // Takes the state to the next step, and returns what a detector counts on the way.
-    fn step_counted(
+    // Writes the rows from the one of a step up to that of another, both of them.
+    fn rows_between(
         &mut self,
         alloc: Global,
         sheet: &Sheet,
-        detector: u32,
-    ) -> Result<Totals, OutOfMemory>
-        requires in_plan { detector < length sheet.now.plan.detectors }
-        requires horizon { self.old.step < GREATEST_HORIZON }
-        requires cached { IsCacheOf sheet.now self.old }
-        ensures passed { IfOk result (λ passed. passed
-            ≡ passes sheet.now.plan (settings_of sheet.now.plan sheet.now.edits) detector self.old.step) }
-        ensures step { OnOk result (self.new.step ≡ self.old.step + 1) }
-        ensures cached { IsCacheOf sheet.now self.new }
-    {
-        let State { step, road } = &self.state;
-        let done = self.run.step(alloc, sheet, *step, road)?;
-        let passed = passes(&done.input, &done.speeds, detector);
-        self.keep(done);
-        Ok(passed)
-    }
-
-    // Keeps the step after the state.
-    fn keep(&mut self, done: Stepped)
-        requires { self.old.step < GREATEST_HORIZON }
-        ensures step { self.new.step ≡ self.old.step + 1 }
-        ensures cached { (sheet : Sheet) → IsCacheOf sheet self.old
-            → arc_value done.input
-            ≡ input_of sheet.plan (settings_of sheet.plan sheet.edits self.old.step) self.old.step self.old.road
-            → done.road ≡ state_of sheet (self.old.step + 1) → IsCacheOf sheet self.new }
-    {
-        let road = self.run.keep(done);
-        let last = mem::replace(&mut self.state.road, road);
-        self.run.reuse(last);
-        self.state.step += 1;
-    }
-
-    // Writes the row of the state.
-    #[tactic(auto, unfolding(crate::specs::Shown::row_at))]
-    fn row_here(&mut self, alloc: Global, sheet: &Sheet) -> Result<String, OutOfMemory>
-        requires { IsCacheOf sheet.now self.old }
-        ensures row { IfOk result (λ row. string_bytes row ≡ sheet_row sheet.now self.old.step) }
-        ensures step { self.new.step ≡ self.old.step }
-        ensures cached { IsCacheOf sheet.now self.new }
-    {
-        let plan = sheet.plan();
-        cars_have_digits(plan);
-        let settings = self.run.settings_at(alloc, sheet, self.state.step)?;
-        row_text(alloc, &self.state.road, settings.blocks(), plan.length())
-    }
-
-    // Writes the rows from the state's up to that of a step, both of them.
-    fn rows_to(&mut self, alloc: Global, sheet: &Sheet, to: u32) -> Result<Vec<String>, OutOfMemory>
-        requires before { self.old.step ≤ to }
+        from: u32,
+        to: u32,
+    ) -> Result<Vec<String>, OutOfMemory>
+        requires order { from ≤ to }
+        requires simulated { to ≤ sheet.now.horizon }
         requires horizon { to ≤ GREATEST_HORIZON }
         requires cached { IsCacheOf sheet.now self.old }
-        ensures rows { IfOk result (λ rows. map string_bytes rows.items ≡ rows_of sheet.now self.old.step to) }
+        ensures rows { IfOk result (λ rows. map string_bytes rows.items ≡ rows_of sheet.now from to) }
         ensures cached { IsCacheOf sheet.now self.new }
     {
-        let mut rows = Vec::new(alloc);
-        let first = self.row_here(alloc, sheet)?;
-        rows.push(first)?;
-        for step in self.state.step..to {
-            self.step_on(alloc, sheet)?;
-            let row = self.row_here(alloc, sheet)?;
-            rows.push(row)?;
-        }
+        let mut shown = self.run_at(alloc, sheet, from)?;
+        let rows = shown.rows_to(alloc, sheet, to)?;
+        self.run = Some(shown);
         Ok(rows)
     }
 
@@ -396,15 +301,9 @@ impl QueryCache {
         ensures totals { IfOk result (λ totals. totals ≡ total_of sheet.now detector from to) }
         ensures cached { IsCacheOf sheet.now self.new }
     {
-        let plan = sheet.plan();
-        cars_pass_one_by_one(plan);
-        totals_are_bounded(plan);
-        self.go_to(alloc, sheet, from)?;
-        let mut totals = Totals { cars: 0, speeds: 0 };
-        for step in from..to {
-            let passed = self.step_counted(alloc, sheet, detector)?;
-            totals = totals.plus(passed);
-        }
+        let mut shown = self.run_at(alloc, sheet, from)?;
+        let totals = shown.count_to(alloc, sheet, detector, to)?;
+        self.run = Some(shown);
         Ok(totals)
     }
 }

@@ -8,6 +8,7 @@ ghost use Rattle.road_scenario.specs.Edits.{Edits};
 ghost use Rattle.road_scenario.specs.Faults.{AreInRange};
 ghost use Rattle.road_scenario.specs.Settings.{settings_of};
 
+use crate::sheet::Sheet;
 use road_plan::{OutOfMemory, Plan, Settings};
 use road_scenario::Scenario;
 use std::alloc::Global;
@@ -72,25 +73,23 @@ impl SettingsCache {
         SettingsCache { last: None }
     }
 
-    // Returns the settings of a step: the cached ones where no edit is dated since, and else new ones.
+    // Returns the settings of a sheet's step: the cached ones where no edit is dated since, and else new ones.
     pub(crate) fn at(
         &mut self,
         alloc: Global,
-        plan: &Arc<Plan>,
-        scenario: &Scenario,
+        sheet: &Sheet,
         step: u32,
     ) -> Result<Arc<Settings>, OutOfMemory>
-        requires fits { AreInRange (arc_value plan.now) scenario.now }
-        requires cached { AreCached (arc_value plan.now) scenario.now self.old }
+        requires { AreCached sheet.now.plan sheet.now.edits self.old }
         ensures settings { IfOk result (λ settings.
-            arc_value settings ≡ settings_of (arc_value plan.now) scenario.now step) }
-        ensures fits { IfOk result (λ settings. Fits (arc_value plan.now) (arc_value settings)) }
-        ensures cached { AreCached (arc_value plan.now) scenario.now self.new }
+            arc_value settings ≡ settings_of sheet.now.plan sheet.now.edits step) }
+        ensures fits { IfOk result (λ settings. Fits sheet.now.plan (arc_value settings)) }
+        ensures cached { AreCached sheet.now.plan sheet.now.edits self.new }
     {
         if let Some(settings) = self.cached(step)? {
             return Ok(settings);
         }
-        self.renewed(alloc, plan, scenario, step)
+        self.renewed(alloc, sheet.plan(), sheet.scenario(), step)
     }
 
     // Answers whether the cached settings are in force at two steps.

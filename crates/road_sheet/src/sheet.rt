@@ -24,7 +24,7 @@ use crate::draft::Draft;
 use crate::faults::SheetFault;
 use crate::interval::{INTERVAL_STEPS, Interval};
 use crate::query_cache::QueryCache;
-use crate::run_cache::RunCache;
+use crate::settings_cache::SettingsCache;
 use crate::shared_intervals::SharedIntervals;
 use crate::simulation::State;
 use lattice_core::both::Both;
@@ -33,14 +33,12 @@ use road_cells::Road;
 use road_detector::laws::{cars_pass_one_by_one, totals_are_bounded};
 use road_detector::{Ran, Totals};
 use road_ends::laws::{cars_stay_on_road, runs_depend_on_earlier_settings};
-use road_ends::{Span, StepInput};
-use road_plan::limits::MOST_DETECTORS;
+use road_ends::{Span, StepInput, enter};
 use road_plan::{OutOfMemory, Plan};
 use road_scenario::Scenario;
 use road_scenario::laws::{scenarios_hold_winners, settings_stay_before_touched};
 use std::alloc::Global;
 use std::marker::Model;
-use std::mem;
 use std::sync::Arc;
 
 /// A scenario, a horizon, and the run so far: it shows the road at each step up to the horizon, and what the
@@ -82,7 +80,7 @@ impl Model for Sheet {
 }
 
 impl Sheet {
-    ghost use Rattle.road_sheet.specs.RunCaches.{IsOfRun};
+    ghost use Rattle.road_sheet.specs.SettingsCaches.{AreCached};
 
     /// Makes the sheet without edits, of which no step is simulated.
     ///
@@ -137,7 +135,8 @@ impl Sheet {
         }
     }
 
-    /// Returns the road at a step. It computes at most 63 steps, from the nearest checkpoint.
+    /// Returns the road at a step. It computes at most 63 steps, from the nearest checkpoint, and none where the sheet
+    /// keeps the road.
     ///
     /// # Errors
     ///
@@ -147,7 +146,13 @@ impl Sheet {
         ensures accepted { IfOk result (λ _. state_fault self.now step ≡ None) }
         ensures refused { IfErr result (λ fault. IsRefusalBy (state_fault self.now step) fault) }
     {
-        QueryCache::of(alloc, &self.plan).into_state(alloc, self, step)
+        if step <= self.horizon() {
+            let kept = self.kept_state(alloc, step)?;
+            if kept.step == step {
+                return Ok(kept.road);
+            }
+        }
+        QueryCache::new().state(alloc, self, step)
     }
 
     /// Returns what a detector counts in the steps from one up to another, that one not among them. It computes the
@@ -171,7 +176,7 @@ impl Sheet {
         ensures kept { totals_fault self.now detector from to ≡ None → AreWholeIntervals self.now from to
             → IsOk result }
     {
-        QueryCache::of(alloc, &self.plan).totals(alloc, self, detector, from, to)
+        QueryCache::new().totals(alloc, self, detector, from, to)
     }
 
     // Copies the last state that is kept and not after a step: that at the horizon, or at the first step of the step's
@@ -269,12 +274,8 @@ impl Sheet {
         } else {
             self.resume_at_checkpoint(alloc, joined, keep / INTERVAL_STEPS)?
         };
-        let cache = RunCache::of(alloc, sheet.plan());
-        Ok(Draft {
-            sheet,
-            cache,
-            places: [0; MOST_DETECTORS],
-        })
+        let settings = SettingsCache::none();
+        Ok(Draft { sheet, settings })
     }
 
     // Replaces the edits by others, which give the same run up to the horizon.
@@ -347,17 +348,12 @@ impl Sheet {
     }
 
     // Makes the input of the next step.
-    pub(crate) fn next_input(
-        &self,
-        alloc: Global,
-        cache: &mut RunCache,
-    ) -> Result<Arc<StepInput>, OutOfMemory>
-        requires { IsOfRun self.now.plan self.now.edits cache.old }
-        ensures input { IfOk result (λ input. arc_value input ≡ next_input self.now) }
-        ensures cached { IsOfRun self.now.plan self.now.edits cache.new }
+    pub(crate) fn next_input(&self, alloc: Global) -> Result<Arc<StepInput>, OutOfMemory>
+        ensures { IfOk result (λ input. arc_value input ≡ next_input self.now) }
     {
         let step = self.horizon();
-        cache.enter(alloc, self, step, &self.at_horizon)
+        let settings = self.scenario().settings_at(alloc, &self.plan, step)?;
+        enter(alloc, &self.plan, settings, step, &self.at_horizon)
     }
 
     // Returns the road at the horizon.
@@ -371,33 +367,32 @@ impl Sheet {
     pub(crate) fn next_span(
         &self,
         alloc: Global,
-        cache: &mut RunCache,
+        cache: &mut SettingsCache,
         to: u32,
     ) -> Result<Span, OutOfMemory>
         requires before { self.now.horizon < to }
         requires within_limit { to ≤ GREATEST_HORIZON }
-        requires cached { IsOfRun self.now.plan self.now.edits cache.old }
+        requires cached { AreCached self.now.plan self.now.edits cache.old }
         ensures next { IfOk result (λ span. IsNextSpan self.now span) }
         ensures before { IfOk result (λ span. self.now.horizon + span.steps ≤ to) }
-        ensures cached { IsOfRun self.now.plan self.now.edits cache.new }
+        ensures cached { AreCached self.now.plan self.now.edits cache.new }
     {
         let first = self.horizon();
         let end = (first - first % INTERVAL_STEPS + INTERVAL_STEPS).min(to);
-        let (settings, until) = cache.settings_until(alloc, self, first, end)?;
+        let settings = cache.at(alloc, self, first)?;
+        let until = cache.until(first, end);
         let plan = Arc::try_clone(&self.plan)?;
         Ok(Span::new(plan, settings, first, until - first))
     }
 
-    // Adds one more step, whose road is made already, and returns the road before it. What can fail for memory is done
-    // before the sheet is changed.
+    // Adds one more step, whose road is made already. What can fail for memory is done before the sheet is changed.
     pub(crate) fn grow(
         &mut self,
         alloc: Global,
         input: &StepInput,
         speeds: &[u8],
-        places: &mut [usize; MOST_DETECTORS],
         road: Road,
-    ) -> Result<Road, OutOfMemory>
+    ) -> Result<(), OutOfMemory>
         requires input { input.now ≡ next_input self.old }
         requires speeds { speeds.now ≡ input_speeds input.now }
         requires within_limit { self.old.horizon < GREATEST_HORIZON }
@@ -406,19 +401,14 @@ impl Sheet {
         ensures unchanged { OnErr result (self.new ≡ self.old) }
     {
         if (self.horizon() + 1) % INTERVAL_STEPS == 0 {
-            return self.step_to_end(alloc, input, speeds, places, road);
+            return self.step_to_end(alloc, input, speeds, road);
         }
-        Ok(self.step_within(input, speeds, places, road))
+        self.step_within(input, speeds, road);
+        Ok(())
     }
 
-    // Adds one more step that does not end the interval, and returns the road before it.
-    fn step_within(
-        &mut self,
-        input: &StepInput,
-        speeds: &[u8],
-        places: &mut [usize; MOST_DETECTORS],
-        road: Road,
-    ) -> Road
+    // Adds one more step that does not end the interval.
+    fn step_within(&mut self, input: &StepInput, speeds: &[u8], road: Road)
         requires input { input.now ≡ next_input self.old }
         requires speeds { speeds.now ≡ input_speeds input.now }
         requires within_limit { self.old.horizon < GREATEST_HORIZON }
@@ -429,10 +419,9 @@ impl Sheet {
         cars_pass_one_by_one(&self.plan);
         totals_are_bounded(&self.plan);
         let horizon = self.horizon() + 1;
-        self.open_interval.count(input, speeds, places);
-        let last = mem::replace(&mut self.at_horizon, road);
+        self.open_interval.count(input, speeds);
+        self.at_horizon = road;
         self.known.second = Greatest::Of(horizon);
-        last
     }
 
     // Begins the interval of a road whose cars are small enough to be kept.
@@ -447,15 +436,14 @@ impl Sheet {
         Interval::begin(alloc, kept, detectors)
     }
 
-    // Adds one more step that ends the interval, and returns the road before it.
+    // Adds one more step that ends the interval.
     fn step_to_end(
         &mut self,
         alloc: Global,
         input: &StepInput,
         speeds: &[u8],
-        places: &mut [usize; MOST_DETECTORS],
         road: Road,
-    ) -> Result<Road, OutOfMemory>
+    ) -> Result<(), OutOfMemory>
         requires input { input.now ≡ next_input self.old }
         requires speeds { speeds.now ≡ input_speeds input.now }
         requires within_limit { self.old.horizon < GREATEST_HORIZON }
@@ -467,18 +455,17 @@ impl Sheet {
         cars_pass_one_by_one(&self.plan);
         totals_are_bounded(&self.plan);
         let mut ended = self.open_interval.copied()?;
-        ended.count(input, speeds, places);
+        ended.count(input, speeds);
         self.end_interval(alloc, self.horizon() + 1, ended, road)
     }
 
-    // Adds the steps of a span, from the road after it and what each detector counts in it, and returns the road before
-    // it.
+    // Adds the steps of a span, from the road after it and what each detector counts in it.
     pub(crate) fn grow_by(
         &mut self,
         alloc: Global,
         span: &Span,
         ran: Ran,
-    ) -> Result<Road, OutOfMemory>
+    ) -> Result<(), OutOfMemory>
         requires next { IsNextSpan self.old span.now }
         requires road { ran.road ≡ span_road span.now (state_of self.old self.old.horizon) }
         requires totals { ran.totals.items ≡ span_totals span.now (state_of self.old self.old.horizon) }
@@ -489,11 +476,12 @@ impl Sheet {
         if end % INTERVAL_STEPS == 0 {
             return self.span_to_end(alloc, end, ran);
         }
-        Ok(self.span_within(end, ran))
+        self.span_within(end, ran);
+        Ok(())
     }
 
-    // Adds the steps up to one that does not end the interval, and returns the road before them.
-    fn span_within(&mut self, end: u32, ran: Ran) -> Road
+    // Adds the steps up to one that does not end the interval.
+    fn span_within(&mut self, end: u32, ran: Ran)
         requires within { IsWithinInterval self.old end }
         requires within_interval { end % INTERVAL_STEPS ≢ 0 }
         requires road { ran.road ≡ state_of self.old end }
@@ -502,13 +490,12 @@ impl Sheet {
     {
         totals_are_bounded(&self.plan);
         self.open_interval.add(&ran.totals);
-        let last = mem::replace(&mut self.at_horizon, ran.road);
+        self.at_horizon = ran.road;
         self.known.second = Greatest::Of(end);
-        last
     }
 
-    // Adds the steps up to the end of the interval, and returns the road before them.
-    fn span_to_end(&mut self, alloc: Global, end: u32, ran: Ran) -> Result<Road, OutOfMemory>
+    // Adds the steps up to the end of the interval.
+    fn span_to_end(&mut self, alloc: Global, end: u32, ran: Ran) -> Result<(), OutOfMemory>
         requires within { IsWithinInterval self.old end }
         requires at_end { end % INTERVAL_STEPS ≡ 0 }
         requires road { ran.road ≡ state_of self.old end }
@@ -522,15 +509,15 @@ impl Sheet {
         self.end_interval(alloc, end, ended, ran.road)
     }
 
-    // Ends the interval at a step, from the interval up to there and the road there, and returns the road at the
-    // horizon before. What can fail for memory is done before the sheet is changed.
+    // Ends the interval at a step, from the interval up to there and the road there. What can fail for memory is done
+    // before the sheet is changed.
     fn end_interval(
         &mut self,
         alloc: Global,
         end: u32,
         ended: Interval,
         road: Road,
-    ) -> Result<Road, OutOfMemory>
+    ) -> Result<(), OutOfMemory>
         requires within { IsWithinInterval self.old end }
         requires at_end { end % INTERVAL_STEPS ≡ 0 }
         requires road { road ≡ state_of self.old end }
@@ -543,9 +530,9 @@ impl Sheet {
         let next = self.next_interval(alloc, &road)?;
         self.intervals.push(alloc, ended)?;
         self.open_interval = next;
-        let last = mem::replace(&mut self.at_horizon, road);
+        self.at_horizon = road;
         self.known.second = Greatest::Of(end);
-        Ok(last)
+        Ok(())
     }
 }
 

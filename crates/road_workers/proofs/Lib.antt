@@ -6,3 +6,6 @@ pub mod NearSteps
 pub mod Cuts
 pub mod StretchCars
 pub mod SideBySide
+pub mod WholeRuns
+pub mod NearRuns
+pub mod NearCars

@@ -1,5 +1,5 @@
 -- The cars of a stretch: they depend on the cells near it alone, and stretches side by side are the road.
-use Rattle.std.specs.Prelude.{◌≡◌, ℕ, zero, suc, ◌+◌, ◌-◌, ◌*◌, ◌<◌, ◌≤◌, ◌&&◌, Bool, true, false, if◌then◌else◌, List, [], ◌∷◌, map, nat_le, nat_lt, slice_index, refl}
+use Rattle.std.specs.Prelude.{◌≡◌, ℕ, zero, suc, ◌+◌, ◌-◌, ◌<◌, ◌≤◌, ◌&&◌, Bool, true, false, if◌then◌else◌, List, [], ◌∷◌, map, nat_le, nat_lt, slice_index, refl}
 use Rattle.std.specs.List.{range_with_len}
 use Rattle.std.specs.declared.option.Option.{Option}
 use Rattle.std.proofs.Common.{sym, ap, subst, ◌∙◌, arith}
@@ -7,7 +7,6 @@ use Rattle.std.proofs.lemmas.Bool.Decides.{nat_tests}
 use Rattle.road_cells.specs.Array.{Array, Vehicle, vehicle_at}
 use Rattle.road_cells.specs.Cars.{AreRising, AreRisingFrom, array_of, cars_from, vehicle_among}
 use Rattle.road_cells.specs.declared.car.Car.{Car}
-use Rattle.road_cells.specs.declared.car.TheConstants.{GREATEST_SPEED}
 use Rattle.road_cells.proofs.CarLists.{vehicle_at-array_of, vehicle_among-cars_from, rise-cars_from}
 use Rattle.road_ends.specs.Laws.{AgreeBetween, AgreeNear}
 use Rattle.road_ends.specs.Span.{Span, span_road}

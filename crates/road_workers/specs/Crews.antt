@@ -1,6 +1,9 @@
--- What is counted of a crew.
-use Rattle.std.specs.Prelude.{ℕ, ◌+◌, ◌-◌, ◌^◌, min, Result}
+-- What is counted of a crew, and what it runs.
+use Rattle.std.specs.Prelude.{ℕ, ◌+◌, ◌-◌, ◌^◌, ◌<◌, min, Result}
 use Rattle.std.specs.declared.result.Result.TheVariants.{Ok, Err}
+use Rattle.road_cells.specs.Array.{Array}
+use Rattle.road_ends.specs.Span.{Span}
+use Rattle.road_columns.specs.UnderWay.{IsRunnable}
 use Rattle.road_workers.specs.declared.faults.CrewFault.{CrewFault}
 use Rattle.road_workers.specs.declared.faults.CrewFault.TheVariants.{WorkersGone, OutOfMemory}
 
@@ -15,3 +18,7 @@ abbrev pub gone_after : {A : Type 0} → Result A CrewFault → ℕ → ℕ
 gone_after (Ok speeds) n = n
 gone_after (Err WorkersGone) n = min (n + 1) (2 ^ 64 - 1)
 gone_after (Err OutOfMemory) n = n
+
+-- the steps of a span can be run from a road: there are some, and a run can have each of its cars
+abbrev pub CanBeRun : Span → Array → Type 0
+CanBeRun span a = (0 < span.steps) × IsRunnable 0 span.plan.cells span.plan a

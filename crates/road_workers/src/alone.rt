@@ -1,14 +1,20 @@
 //! The crew of one.
 
-ghost use Rattle.std.specs.Prelude.{◌≡◌, ◌≢◌, IfOk, Err};
+ghost use Rattle.std.specs.Prelude.{◌≡◌, ◌≢◌, IfOk, IfSome, IsSome, Err};
 ghost use Rattle.std.specs.Arc.{arc_value};
 ghost use Rattle.road_ends.specs.Input.{input_speeds};
-ghost use Rattle.road_workers.specs.Crews.{gone_after};
+ghost use Rattle.road_ends.specs.Span.{span_road};
+ghost use Rattle.road_detector.specs.Passes.{span_totals};
+ghost use Rattle.road_workers.specs.Crews.{CanBeRun, gone_after};
 ghost use Rattle.road_workers.specs.declared.faults.CrewFault.TheVariants.{WorkersGone};
 
 use crate::crew::Crew;
 use crate::faults::CrewFault;
-use road_ends::StepInput;
+use crate::kept_run::KeptRun;
+use crate::whole::run_whole;
+use road_cells::Road;
+use road_detector::Ran;
+use road_ends::{Span, StepInput};
 use std::alloc::Global;
 use std::sync::Arc;
 
@@ -29,17 +35,20 @@ impl Crew for Alone {
         Ok(input.speeds(alloc)?)
     }
 
-    fn speeds_in(
+    fn run(
         &mut self,
         alloc: Global,
-        input: &Arc<StepInput>,
-        list: Vec<u8>,
-    ) -> Result<Vec<u8>, CrewFault>
-        ensures speeds { IfOk result (λ new. new.items ≡ input_speeds (arc_value input.now)) }
+        span: &Span,
+        road: &Road,
+        kept: &mut KeptRun,
+    ) -> Result<Option<Ran>, CrewFault>
+        ensures road { IfOk result (λ done. IfSome done (λ ran. ran.road ≡ span_road span.now road.now)) }
+        ensures totals { IfOk result (λ done. IfSome done (λ ran. ran.totals.items ≡ span_totals span.now road.now)) }
+        ensures some { IfOk result (λ done. CanBeRun span.now road.now → IsSome done) }
         ensures gone { ⟦<Alone as Crew>⟧.times_gone self.new
             ≡ gone_after result (⟦<Alone as Crew>⟧.times_gone self.old) }
         ensures memory_at_most { result ≢ Err WorkersGone }
     {
-        Ok(input.speeds_in(alloc, list)?)
+        Ok(run_whole(alloc, span, road, kept)?)
     }
 }

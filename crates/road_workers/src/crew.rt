@@ -8,6 +8,7 @@ ghost use Rattle.road_detector.specs.Passes.{span_totals};
 ghost use Rattle.road_workers.specs.Crews.{gone_after};
 
 use crate::faults::CrewFault;
+use crate::kept_run::KeptRun;
 use road_cells::Road;
 use road_detector::Ran;
 use road_ends::{Span, StepInput};
@@ -29,31 +30,20 @@ pub trait Crew {
         ensures speeds { IfOk result (λ new. new.items ≡ input_speeds (arc_value input.now)) }
         ensures gone { times_gone self.new ≡ gone_after result (times_gone self.old) };
 
-    /// Computes them as [`Crew::speeds`]. A crew may write them into the memory of this list, which is no longer
-    /// needed.
+    /// Runs all steps of a span from the road before them, where this crew computes several steps at once. It may go on
+    /// with the run that is lent to it, and leave another there. None where it runs no spans, or not this one: then it is
+    /// to be asked for the speeds of each step.
     ///
     /// # Errors
     ///
     /// Those of [`Crew::speeds`].
-    fn speeds_in(
+    fn run(
         &mut self,
-        alloc: Global,
-        input: &Arc<StepInput>,
-        _list: Vec<u8>,
-    ) -> Result<Vec<u8>, CrewFault>
-        ensures speeds { IfOk result (λ new. new.items ≡ input_speeds (arc_value input.now)) }
-        ensures gone { times_gone self.new ≡ gone_after result (times_gone self.old) }
-    {
-        self.speeds(alloc, input)
-    }
-
-    /// Runs all steps of a span from the road before them, where this crew computes several steps at once. None where
-    /// it does not: then it is to be asked for the speeds of each step.
-    ///
-    /// # Errors
-    ///
-    /// Those of [`Crew::speeds`].
-    fn run(&mut self, _alloc: Global, span: &Span, road: &Road) -> Result<Option<Ran>, CrewFault>
+        _alloc: Global,
+        span: &Span,
+        road: &Road,
+        _kept: &mut KeptRun,
+    ) -> Result<Option<Ran>, CrewFault>
         ensures road { IfOk result (λ done. IfSome done (λ ran. ran.road ≡ span_road span.now road.now)) }
         ensures totals { IfOk result (λ done. IfSome done (λ ran. ran.totals.items ≡ span_totals span.now road.now)) }
         ensures gone { times_gone self.new ≡ gone_after result (times_gone self.old) }

@@ -20,14 +20,17 @@ mod alone;
 mod crew;
 mod faults;
 mod gate;
+mod kept_run;
 mod piece;
 mod pool;
 mod scoped;
 mod stretch;
+mod whole;
 
 pub use alone::Alone;
 pub use crew::Crew;
 pub use faults::CrewFault;
 pub use gate::{Gate, NoGate};
+pub use kept_run::KeptRun;
 pub use pool::Pool;
 pub use scoped::{Scoped, SharedGate};

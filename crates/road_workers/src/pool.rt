@@ -1,12 +1,12 @@
 //! The crew of lasting workers.
 
-ghost use Rattle.std.specs.Prelude.{◌≡◌, ◌<◌, ◌≤◌, vec_len, IfOk, IfSome, IsOk, Err};
+ghost use Rattle.std.specs.Prelude.{◌≡◌, ◌<◌, ◌≤◌, vec_len, IfOk, IfSome, IsOk, IsSome, Err};
 ghost use Rattle.std.specs.Arc.{arc_value};
 ghost use Rattle.road_plan.specs.declared.limits.TheConstants.{MOST_WORKERS};
 ghost use Rattle.road_ends.specs.Input.{input_speeds};
 ghost use Rattle.road_ends.specs.Span.{span_road};
 ghost use Rattle.road_detector.specs.Passes.{span_totals};
-ghost use Rattle.road_workers.specs.Crews.{gone_after};
+ghost use Rattle.road_workers.specs.Crews.{CanBeRun, gone_after};
 ghost use Rattle.road_workers.specs.declared.faults.CrewFault.TheVariants.{WorkersGone};
 
 mod gathering;
@@ -23,11 +23,11 @@ mod working;
 use crate::crew::{Crew, gone_after};
 use crate::faults::CrewFault;
 use crate::gate::{Gate, NoGate};
+use crate::kept_run::KeptRun;
 use crate::pool::job::{Job, Reply};
 use crate::pool::spin::{Lookout, has_processors};
 use crate::pool::stepping::speeds_by;
 use crate::pool::working::{Ends, work};
-use crate::stretch::running::RunMemory;
 use crossbeam_channel::{Receiver, Sender, bounded};
 use road_cells::Road;
 use road_detector::Ran;
@@ -61,8 +61,6 @@ pub struct Pool<R> {
     is_helped: bool,
     // How often it has answered `WorkersGone`. After the first time no worker is asked.
     gone: u64,
-    // What the caller keeps of the runs that it computes itself.
-    kept: Option<RunMemory>,
 }
 
 impl<R> Model for Pool<R> {
@@ -126,7 +124,6 @@ impl<R: Threads + Wait + Clone + Drop + Send + 'static> Pool<R> {
             lookout,
             is_helped,
             gone: 0,
-            kept: None,
         })
     }
 
@@ -168,25 +165,16 @@ impl<R: Wait> Crew for Pool<R> {
         answer
     }
 
-    fn speeds_in(
+    fn run(
         &mut self,
         alloc: Global,
-        input: &Arc<StepInput>,
-        list: Vec<u8>,
-    ) -> Result<Vec<u8>, CrewFault>
-        ensures speeds { IfOk result (λ new. new.items ≡ input_speeds (arc_value input.now)) }
-        ensures gone { ⟦<Pool<R> as Crew>⟧.times_gone self.new
-            ≡ gone_after result (⟦<Pool<R> as Crew>⟧.times_gone self.old) }
-        ensures stays_gone { 0 < ⟦<Pool<R> as Crew>⟧.times_gone self.old → result ≡ Err WorkersGone }
-        ensures workers { self.new.workers ≡ self.old.workers }
-    {
-        let _ = list;
-        self.speeds(alloc, input)
-    }
-
-    fn run(&mut self, alloc: Global, span: &Span, road: &Road) -> Result<Option<Ran>, CrewFault>
+        span: &Span,
+        road: &Road,
+        kept: &mut KeptRun,
+    ) -> Result<Option<Ran>, CrewFault>
         ensures road { IfOk result (λ done. IfSome done (λ ran. ran.road ≡ span_road span.now road.now)) }
         ensures totals { IfOk result (λ done. IfSome done (λ ran. ran.totals.items ≡ span_totals span.now road.now)) }
+        ensures some { IfOk result (λ done. CanBeRun span.now road.now → IsSome done) }
         ensures gone { ⟦<Pool<R> as Crew>⟧.times_gone self.new
             ≡ gone_after result (⟦<Pool<R> as Crew>⟧.times_gone self.old) }
         ensures stays_gone { 0 < ⟦<Pool<R> as Crew>⟧.times_gone self.old → result ≡ Err WorkersGone }
@@ -195,7 +183,7 @@ impl<R: Wait> Crew for Pool<R> {
         let done = if self.gone > 0 {
             Err(CrewFault::WorkersGone)
         } else {
-            self.run_spans(alloc, span, road)
+            self.run_spans(alloc, span, road, kept)
         };
         self.gone = gone_after(&done, self.gone);
         done

@@ -1,27 +1,25 @@
 //! Stretches of road, each of which is run alone for the steps of a span: no car drives farther in a step than 9 cells,
 //! nor looks farther.
 
-ghost use Rattle.std.specs.Prelude.{◌≡◌, ◌<◌, ◌≤◌, ◌+◌, ◌-◌, ◌*◌, length, IfOk, IsTrue};
+ghost use Rattle.std.specs.Prelude.{◌≡◌, ◌<◌, ◌≤◌, ◌+◌, ◌-◌, ◌*◌, length, min, IfOk, IsTrue};
 ghost use Rattle.road_plan.specs.declared.limits.TheConstants.{GREATEST_HORIZON, GREATEST_LENGTH};
 ghost use Rattle.road_cells.specs.Cars.{cars_of, cell_at};
 ghost use Rattle.road_cells.specs.declared.car.TheConstants.{GREATEST_SPEED};
 ghost use Rattle.road_ends.specs.Laws.{AgreeNear};
-ghost use Rattle.road_ends.specs.Span.{span_road};
-ghost use Rattle.road_detector.specs.Passes.{span_totals};
-ghost use Rattle.road_workers.specs.Private.Stretches.{IsRunOf, cars_between, cut, has_site};
+ghost use Rattle.road_columns.specs.UnderWay.{IsRunnable};
+ghost use Rattle.road_workers.specs.Private.Stretches.{IsRunnableNear, IsRunOf, cars_between, cut, has_site};
 
-pub(crate) mod counting;
+pub(crate) mod cutting;
 pub(crate) mod joining;
-pub(crate) mod running;
 
-use crate::stretch::joining::road_of;
-use crate::stretch::running::{RunMemory, ran};
+use crate::kept_run::KeptRun;
+use crate::stretch::cutting::cut_out;
+use crate::whole::{is_taken_up, make_steps, run_of};
 use road_cells::{Car, GREATEST_SPEED, Road};
-use road_detector::{Ran, Totals};
+use road_detector::Totals;
 use road_ends::{OutOfMemory, Span, Stretch, are_same_cars};
 use road_plan::Plan;
 use std::alloc::Global;
-use std::mem;
 
 // What the steps of a span come to on a stretch: its cars after them, and what each detector has counted, those outside
 // it nothing.
@@ -54,45 +52,60 @@ pub(crate) fn has_site(stretch: Stretch, plan: &Plan, detector: usize) -> bool
     stretch.first <= site && site < stretch.end
 }
 
-// Runs a stretch for all steps of a span, from the cars on it, and for each step 9 cells farther behind it and ahead.
+// Runs a stretch for all steps of a span, from the cars on it, and for each step 9 cells farther behind it and ahead, in
+// a run that is kept.
 pub(crate) fn run_stretch(
     alloc: Global,
     span: &Span,
     road: &Road,
     stretch: Stretch,
-    memory: &mut RunMemory,
+    kept: &mut KeptRun,
 ) -> Result<StretchRun, OutOfMemory>
     requires order { stretch.first ≤ stretch.end }
     requires short { stretch.end ≤ GREATEST_LENGTH }
-    requires words { memory.old.words ≡ span.now.plan.words }
-    ensures run { IfOk result (λ done. IsRunOf stretch.first stretch.end span.now road.now done) }
-    ensures unchanged { memory.new.words ≡ memory.old.words }
+    requires runnable { IsRunnable 0 span.now.plan.cells span.now.plan road.now }
+    ensures { IfOk result (λ done. IsRunOf stretch.first stretch.end span.now road.now done) }
 {
     let near = road_near(alloc, span, road, stretch)?;
-    let run = run_near(alloc, span, &near, stretch, memory)?;
+    let run = run_near(alloc, span, &near, stretch, kept)?;
     Ok(run)
 }
 
-// Runs a stretch for all steps of a span, from the cars near it.
+// Runs a stretch for all steps of a span, from the cars near it, in a run that is kept.
 pub(crate) fn run_near(
     alloc: Global,
     span: &Span,
     near: &Road,
     stretch: Stretch,
-    memory: &mut RunMemory,
+    kept: &mut KeptRun,
 ) -> Result<StretchRun, OutOfMemory>
     requires order { stretch.first ≤ stretch.end }
-    requires words { memory.old.words ≡ span.now.plan.words }
-    ensures run { IfOk result (λ done. IsRunOf stretch.first stretch.end span.now near.now done) }
-    ensures unchanged { memory.new.words ≡ memory.old.words }
+    requires short { stretch.end ≤ GREATEST_LENGTH }
+    requires runnable { IsRunnableNear stretch.first stretch.end span.now near.now }
+    ensures { IfOk result (λ done. IsRunOf stretch.first stretch.end span.now near.now done) }
 {
-    let ran = ran(alloc, span, near, stretch, memory)?;
-    let mut cars = Vec::new(alloc);
-    cars.extend_from_slice(ran.road.between(stretch.first, stretch.end))?;
-    Ok(StretchRun {
-        cars,
-        totals: ran.totals,
-    })
+    let mut run = run_of(alloc, span, kept.run.take())?;
+    if !is_taken_up(alloc, span, with_margins(span, stretch), near, &mut run)? {
+        unreachable!();
+    }
+    make_steps(span, &mut run);
+    let done = cut_out(alloc, span, near, stretch, &run)?;
+    kept.run = Some(run);
+    Ok(done)
+}
+
+// Returns a stretch with the cells behind it and ahead that may matter there in the steps of a span, as far as the road
+// goes.
+fn with_margins(span: &Span, stretch: Stretch) -> Stretch
+    requires { stretch.end ≤ GREATEST_LENGTH }
+    ensures first { result.first ≡ stretch.first - GREATEST_SPEED * span.now.steps }
+    ensures end { result.end ≡ min (stretch.end + GREATEST_SPEED * span.now.steps) span.now.plan.cells }
+{
+    let margin = margin_of(span);
+    Stretch {
+        first: stretch.first.saturating_sub(margin),
+        end: (stretch.end + margin).min(span.plan().length()),
+    }
 }
 
 // Makes the road of the cars near a stretch.
@@ -104,7 +117,9 @@ pub(crate) fn road_near(
 ) -> Result<Road, OutOfMemory>
     requires order { stretch.first ≤ stretch.end }
     requires short { stretch.end ≤ GREATEST_LENGTH }
-    ensures { IfOk result (λ near. AgreeNear span.now.steps stretch.first stretch.end near road.now) }
+    ensures agrees { IfOk result (λ near. AgreeNear span.now.steps stretch.first stretch.end near road.now) }
+    ensures runnable { IsRunnable 0 span.now.plan.cells span.now.plan road.now
+        → IfOk result (IsRunnableNear stretch.first stretch.end span.now) }
 {
     let mut cars = Vec::new(alloc);
     cars.extend_from_slice(cars_near(span, road, stretch))?;
@@ -163,23 +178,4 @@ fn margin_of(span: &Span) -> u32
     ensures small { result ≤ GREATEST_SPEED * GREATEST_HORIZON }
 {
     u32::from(GREATEST_SPEED) * span.steps()
-}
-
-// Runs the whole road for all steps of a span, of which it has some.
-pub(crate) fn run_whole(
-    alloc: Global,
-    span: &Span,
-    road: &Road,
-    kept: &mut Option<RunMemory>,
-) -> Result<Ran, OutOfMemory>
-    requires { 0 < span.now.steps }
-    ensures road { IfOk result (λ ran. ran.road ≡ span_road span.now road.now) }
-    ensures totals { IfOk result (λ ran. ran.totals.items ≡ span_totals span.now road.now) }
-{
-    let mut memory = RunMemory::ready(alloc, mem::replace(kept, None), span);
-    let end = span.plan().length();
-    let run = run_near(alloc, span, road, Stretch { first: 0, end }, &mut memory);
-    memory.note(span.step() + span.steps());
-    *kept = Some(memory);
-    Ok(road_of(span, road, end, run?))
 }

@@ -336,7 +336,7 @@ impl World {
         ensures gone { C.times_gone crew.new ≡ gone_after_answer result (C.times_gone crew.old) }
     {
         let replica = &mut self.replicas[at as usize];
-        let stamp = replica.put(alloc, local, crew, meter)?;
+        let stamp = replica.make_edit(alloc, local, crew, meter)?;
         Ok(Reply::Stamped(stamp))
     }
 

@@ -11,19 +11,6 @@ fn one_worker_gives_the_worked_rows(rt: HostRuntime) -> Result<(), Fail> {
     gives_all(&rt, rt.alloc(), &mut Alone)
 }
 
-/// What a list held before does not show.
-#[test]
-fn speeds_are_written_over_a_list(rt: HostRuntime) -> Result<(), Fail> {
-    let input = first_input(rt.alloc(), &FREE)?;
-    let speeds = Alone.speeds(rt.alloc(), &input)?;
-    for count in 0..3 {
-        let list = vec![in rt.alloc(); 9; count]?;
-        let again = Alone.speeds_in(rt.alloc(), &input, list)?;
-        assert!(rt; again.as_slice() == speeds.as_slice());
-    }
-    Ok(())
-}
-
 /// Nobody stands on the road, and nobody enters.
 const CLOSED: Parts = Parts {
     inlets: &[(0, 0)],

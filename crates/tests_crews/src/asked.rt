@@ -5,7 +5,7 @@ ghost use Rattle.std.specs.Prelude.{◌<◌, ◌≤◌};
 use crate::rows::shared_plan;
 use crate::sizes::queue;
 use crate::spans::span_of;
-use road_workers::{Crew, Pool};
+use road_workers::{Crew, KeptRun, Pool};
 use std::alloc::Global;
 use std::process::Abort;
 use std::sync::{Arc, Wait};
@@ -28,7 +28,8 @@ fn asked<R: Threads + Wait + Clone + Drop + Send + 'static>(
     let gate = Arc::new(alloc, Counter::new())?;
     let mut crew = Pool::start_gated(rt.clone()?, alloc, workers, Arc::try_clone(&gate)?)?;
     let span = span_of(alloc, &shared_plan(alloc, parts)?, 0, 0, steps)?;
-    let ran = crew.run(alloc, &span, &queue(alloc, cells)?)?;
+    let road = queue(alloc, cells)?;
+    let ran = crew.run(alloc, &span, &road, &mut KeptRun::none())?;
     crew.finish();
     if ran.is_some() == (steps == 0) {
         return Err(Fail::new("a run of the wrong kind"));

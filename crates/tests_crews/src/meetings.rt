@@ -6,7 +6,7 @@ use crate::rows::{gives, shared_plan};
 use crate::sizes::queue;
 use crate::spans::span_of;
 use road_ends::OutOfMemory;
-use road_workers::{Crew, Gate, Pool, Scoped};
+use road_workers::{Crew, Gate, KeptRun, Pool, Scoped};
 use std::alloc::Global;
 use std::process::Abort;
 use std::sync::{Arc, Wait};
@@ -72,8 +72,9 @@ fn meet_in_runs<R: Threads + Wait + Clock + Abort + Clone + Drop + Send + Sync +
     let mut crew = Pool::start_gated(rt.clone()?, alloc, workers, Arc::try_clone(&meeting)?)?;
     let road = queue(alloc, 4_096)?;
     let span = span_of(alloc, &shared_plan(alloc, &LONG)?, 0, 0, 64)?;
+    let mut kept = KeptRun::none();
     for _ in 0..2 {
-        let ran = crew.run(alloc, &span, &road)?;
+        let ran = crew.run(alloc, &span, &road, &mut kept)?;
         assert!(*rt; ran.is_some());
     }
     crew.finish();

@@ -11,7 +11,7 @@ use std::process::Abort;
 use std::sync::{Arc, Wait};
 use std::test::Fail;
 use std::thread::Threads;
-use tests_plans::{FREE, Parts};
+use tests_plans::{FREE, Parts, road_of};
 
 /// The longest road, where nobody enters and no car is slowed.
 const LONG: Parts = Parts {
@@ -33,7 +33,7 @@ pub(crate) fn queue(alloc: Global, cells: u32) -> Result<Road, OutOfMemory> {
             })?;
         }
     }
-    Ok(Road::of(cars))
+    road_of(alloc, &cars)
 }
 
 /// How many cells are taken so, with 5, 63 and 8,064 cars: the first are fewer than workers, the second no multiple of

@@ -4,20 +4,19 @@ ghost use Rattle.std.specs.Prelude.{◌<◌, ◌≤◌, IfOk};
 ghost use Rattle.std.specs.Arc.{arc_value};
 ghost use Rattle.road_plan.specs.Settings.{Fits};
 
-use crate::roads::random_settings;
 use crate::rows::shared_plan;
 use crate::sizes::queue;
 use road_cells::Road;
 use road_detector::{Ran, Totals, passes};
-use road_ends::{Meter, Span, Stretch, WordCache, step_alone};
+use road_ends::{Meter, Span, step_alone};
 use road_plan::{Plan, Settings};
-use road_workers::{Crew, Pool};
+use road_workers::{Alone, Crew, KeptRun, Pool};
 use std::alloc::Global;
 use std::process::Abort;
 use std::sync::{Arc, Wait};
 use std::test::Fail;
 use std::thread::Threads;
-use tests_plans::LONG;
+use tests_plans::{FREE, LONG, random_settings};
 
 /// Cells on both sides of where the road may be cut.
 const BLOCKS: &[u32] = &[
@@ -144,19 +143,20 @@ pub(crate) fn worked<'a>(
     })
 }
 
-// Compares what a crew makes of these spans.
+// Compares what a crew makes of these spans, in the run that is lent to it.
 fn runs_as_one_by_one<C: Crew>(
     rt: &impl Abort,
     alloc: Global,
     crew: &mut C,
     plan: &Arc<Plan>,
     course: &Course<'_>,
+    kept: &mut KeptRun,
 ) -> Result<(), Fail> {
     let mut road = course.queue.copied()?;
     let mut step = 0_u32;
     for ((kind, steps), wanted) in course.spans.iter().zip(course.ran.iter()) {
         let span = span_of(alloc, plan, *kind, step, *steps)?;
-        let Some(ran) = crew.run(alloc, &span, &road)? else {
+        let Some(ran) = crew.run(alloc, &span, &road, kept)? else {
             return Err(Fail::new("a crew that runs no spans"));
         };
         assert!(rt;
@@ -185,8 +185,9 @@ pub(crate) fn pool_runs<R: Threads + Wait + Abort + Clone + Drop + Send + 'stati
     requires few { workers ≤ 16 }
 {
     let mut crew = Pool::start(rt.clone()?, alloc, workers)?;
+    let mut kept = KeptRun::none();
     for course in courses {
-        runs_as_one_by_one(rt, alloc, &mut crew, plan, course)?;
+        runs_as_one_by_one(rt, alloc, &mut crew, plan, course, &mut kept)?;
     }
     crew.finish();
     Ok(())
@@ -195,14 +196,36 @@ pub(crate) fn pool_runs<R: Threads + Wait + Abort + Clone + Drop + Send + 'stati
 /// How many cells are taken at first: none, a few, and so many that each worker has a stretch.
 const QUEUES: &[u32] = &[0, 200, 3_000];
 
+// Makes what these spans come to from each queue.
+fn courses_of(alloc: Global, plan: &Arc<Plan>) -> Result<Vec<Course<'static>>, Fail> {
+    let mut courses = Vec::new(alloc);
+    for cells in QUEUES {
+        courses.push(worked(alloc, plan, *cells, SPANS)?)?;
+    }
+    Ok(courses)
+}
+
+/// One course after another, in a run that is kept, and in a new one for each; between them a road of another plan.
+#[test]
+fn one_runs_spans_as_they_are_one_by_one(rt: HostRuntime) -> Result<(), Fail> {
+    let alloc = rt.alloc();
+    let plan = shared_plan(alloc, &LONG)?;
+    let other = shared_plan(alloc, &FREE)?;
+    let mut kept = KeptRun::none();
+    for course in &courses_of(alloc, &plan)? {
+        runs_as_one_by_one(&rt, alloc, &mut Alone, &plan, course, &mut kept)?;
+        runs_as_one_by_one(&rt, alloc, &mut Alone, &plan, course, &mut KeptRun::none())?;
+        let free = worked(alloc, &other, 0, &[(0, 64), (0, 1)])?;
+        runs_as_one_by_one(&rt, alloc, &mut Alone, &other, &free, &mut kept)?;
+    }
+    Ok(())
+}
+
 #[test]
 fn lasting_workers_run_spans_as_they_are_one_by_one(rt: HostRuntime) -> Result<(), Fail> {
     let alloc = rt.alloc();
     let plan = shared_plan(alloc, &LONG)?;
-    let mut courses = Vec::new(alloc);
-    for cells in QUEUES {
-        courses.push(worked(alloc, &plan, *cells, SPANS)?)?;
-    }
+    let courses = courses_of(alloc, &plan)?;
     pool_runs(&rt, alloc, 1, &plan, &courses)?;
     pool_runs(&rt, alloc, 2, &plan, &courses)?;
     pool_runs(&rt, alloc, 3, &plan, &courses)?;
@@ -210,26 +233,17 @@ fn lasting_workers_run_spans_as_they_are_one_by_one(rt: HostRuntime) -> Result<(
     pool_runs(&rt, alloc, 16, &plan, &courses)
 }
 
-// Counts the cars that enter an empty road near the cells from 100 to before `end`, with so many steps left.
-fn entered_near(alloc: Global, steps: u32, end: u32) -> Result<usize, Fail> {
-    let plan = shared_plan(alloc, &LONG)?;
-    let span = span_of(alloc, &plan, 0, 0, steps)?;
-    if span.steps() == 0 {
-        return Err(Fail::new("a span of no step"));
-    }
-    let mut words = WordCache::of(alloc, span.plan());
-    let road = Road::empty(alloc);
-    let stretch = Stretch { first: 100, end };
-    let input = words.enter_near(alloc, &span, 0, &road, stretch, None)?;
-    Ok(input.road().cars().len())
-}
-
-// The inlet at cell 511 always lets in; it is 9 cells past cell 502, and 18 past cell 493.
+/// Where a car stands in the exit, which no run of a plan has, nobody runs a span.
 #[test]
-fn nobody_enters_farther_off_than_it_may_matter(rt: HostRuntime) -> Result<(), Fail> {
-    assert!(rt; entered_near(rt.alloc(), 1, 502)? == 0);
-    assert!(rt; entered_near(rt.alloc(), 1, 503)? == 1);
-    assert!(rt; entered_near(rt.alloc(), 2, 493)? == 0);
-    assert!(rt; entered_near(rt.alloc(), 2, 494)? == 1);
+fn a_car_in_the_exit_is_not_run(rt: HostRuntime) -> Result<(), Fail> {
+    let alloc = rt.alloc();
+    let plan = shared_plan(alloc, &LONG)?;
+    let span = span_of(alloc, &plan, 0, 0, 64)?;
+    let road = queue(alloc, plan.length())?;
+    let mut crew = Pool::start(rt.clone()?, alloc, 2)?;
+    let mut kept = KeptRun::none();
+    assert!(rt; crew.run(alloc, &span, &road, &mut kept)?.is_none());
+    assert!(rt; Alone.run(alloc, &span, &road, &mut kept)?.is_none());
+    crew.finish();
     Ok(())
 }

@@ -7,7 +7,7 @@ use crate::verdict::{Until, Verdict, accepted, judged};
 use road_cells::Road;
 use road_ends::{Meter, Span, StepInput, enter, step_alone};
 use road_plan::{Plan, Settings, WordKind};
-use road_workers::{Alone, Crew, CrewFault, NoGate, Pool, Scoped};
+use road_workers::{Alone, Crew, CrewFault, KeptRun, NoGate, Pool, Scoped};
 use std::alloc::Global;
 use std::sync::{Arc, Wait};
 use std::thread::Threads;
@@ -124,7 +124,7 @@ fn gives<C: Crew>(alloc: Global, crew: &mut C, task: &Task) -> Result<bool, Crew
         Task::Speeds(input) => Ok(crew.speeds(alloc, input)?.as_slice() == SPEEDS),
         Task::Steps(span, road, gate) => {
             let before = gate.passed();
-            let ran = crew.run(alloc, span, road)?;
+            let ran = crew.run(alloc, span, road, &mut KeptRun::none())?;
             Ok(ran.is_some() && gate.passed() == before.saturating_add(WORKERS))
         }
     }

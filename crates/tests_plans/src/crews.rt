@@ -6,7 +6,7 @@ ghost use Rattle.road_workers.specs.Crews.{gone_after};
 use road_cells::Road;
 use road_detector::Ran;
 use road_ends::{Span, StepInput};
-use road_workers::{Crew, CrewFault};
+use road_workers::{Crew, CrewFault, KeptRun};
 use std::alloc::Global;
 use std::sync::Arc;
 
@@ -142,10 +142,16 @@ impl<C: Crew> Crew for Running<C> {
         answer
     }
 
-    fn run(&mut self, alloc: Global, span: &Span, road: &Road) -> Result<Option<Ran>, CrewFault> {
+    fn run(
+        &mut self,
+        alloc: Global,
+        span: &Span,
+        road: &Road,
+        kept: &mut KeptRun,
+    ) -> Result<Option<Ran>, CrewFault> {
         let answer = match self.fault_of_run() {
             Some(fault) => Err(fault),
-            None => self.crew.run(alloc, span, road),
+            None => self.crew.run(alloc, span, road, kept),
         };
         if let Ok(Some(_)) = &answer {
             self.steps = self.steps.saturating_add(u64::from(span.steps()));

@@ -1,15 +1,19 @@
-//! Plans, their worked rows, cars, objects, edits, events, crews and gates that the crates of tests share.
+//! Plans, their worked rows, random roads, cars, objects, edits, events, crews and gates that the crates of tests share.
 #![tactic(auto)]
 
 ghost use Rattle.std.specs.Prelude.{◌≡◌};
 
 mod crews;
 mod gates;
+mod roads;
+mod rows;
 
 pub use crews::{Counting, Leaving, Running, StepByStep};
 pub use gates::{Counter, Meeting};
 use road_cells::Car;
 use road_plan::{Object, OutOfMemory, Plan, PlanFault, PlanParts, WordKind};
+pub use roads::{Dice, random_plan, random_road, random_settings, road_of};
+pub use rows::row_of;
 use std::alloc::Global;
 
 /// Lists pairs: what is given, and what is wanted of it.

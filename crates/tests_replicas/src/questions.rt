@@ -133,12 +133,12 @@ fn a_diagram_has_at_most_1024_rows(rt: HostRuntime) -> Result<(), Fail> {
 
 // Tells whether a cache answers one query after another as worked, where the cell 8 is blocked from step 4 on.
 fn answers_from_cache(alloc: Global, sheet: &Sheet) -> Result<bool, ReplicaFault> {
-    let mut cache = QueryCache::of(alloc, sheet.plan());
+    let mut cache = QueryCache::new();
     let is_row = cache.row(alloc, sheet, 4)?.as_str() == "0..2...2#...";
     let has_cars = cache.state(alloc, sheet, 5)?.cars().len() == 3;
     let totals = cache.totals(alloc, sheet, 0, 0, 3)?;
     let is_counted = (totals.cars, totals.speeds) == (1, 2);
-    cache.restart(alloc);
+    cache.restart();
     let rows = cache.rows(alloc, sheet, 4, 6)?;
     Ok(is_row && has_cars && is_counted && are_rows(&rows, BLOCKED))
 }

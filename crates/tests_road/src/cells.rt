@@ -116,9 +116,10 @@ fn rises(blocks: &[u32]) -> bool
 // A car of a road has so many free cells in front of it.
 fn sees(rt: &impl Abort, road: &Road, place: usize, (blocks, gap): &(&[u32], u8)) {
     assert!(rt; place < road.cars().len() && rises(blocks));
-    assert_eq!(rt;
-        road.gap(place, blocks),
-        *gap,
+    let reached = reached_blocks(blocks, road.cars()[place].cell);
+    let gaps = (road.gap(place, blocks), road.gap_to(place, blocks, reached));
+    assert!(rt;
+        gaps == (*gap, *gap),
         "{} blocks before car {place}",
         blocks.len()
     );

@@ -15,7 +15,7 @@ use std::alloc::Global;
 use std::process::Abort;
 use std::sync::Arc;
 use std::test::Fail;
-use tests_plans::{BLOCK, FREE, Running, edit, plan_of};
+use tests_plans::{BLOCK, FREE, Running, StepByStep, edit, plan_of};
 
 /// The late edit that closes cell 8 from step 4 on.
 const CLOSING: &[Edit] = &[edit!(BLOCK, 4, (1, 0), 1)];
@@ -80,13 +80,14 @@ fn cars_by<C: Crew>(
     Ok(grown.state(alloc, END)?)
 }
 
-// Answers whether a crew makes of a sheet what one alone makes of it, and all its steps are counted.
+// Answers whether a crew makes of a sheet what one alone makes of it step by step, and all its steps are counted.
 fn grows<C: Crew>(alloc: Global, sheet: &Sheet, crew: &mut Running<C>) -> Result<bool, Fail> {
     let (before, mut meter) = (crew.steps, Meter::new());
     let road = cars_by(alloc, sheet, crew, &mut meter)?;
     let steps = u64::from(END);
     let is_counted = meter.ticks() == steps && crew.steps.saturating_sub(before) == steps;
-    let wanted = cars_by(alloc, sheet, &mut Alone, &mut Meter::new())?;
+    let mut alone = StepByStep { crew: Alone };
+    let wanted = cars_by(alloc, sheet, &mut alone, &mut Meter::new())?;
     Ok(is_counted && road.cars() == wanted.cars())
 }
 

@@ -1,12 +1,14 @@
 //! Scripts of edits and advances at steps round the ends of intervals, the first ones and the last ones: each state and each
 //! total against a run from step zero. One script in two has steady words, each other one seeded words of its own.
 
+ghost use Rattle.road_sheet.specs.QueryCaches.{IsCacheOf};
+
 use crate::sheets::{grow, opening};
 use road_detector::{Totals, passes};
 use road_ends::{Meter, step_alone};
 use road_plan::{Object, WordKind};
 use road_scenario::{Edit, Stamp, Value};
-use road_sheet::simulation::State;
+use road_sheet::simulation::{State, row_of};
 use road_sheet::{QueryCache, Sheet};
 use std::alloc::Global;
 use std::test::Fail;
@@ -132,7 +134,7 @@ fn copied(state: &State) -> Result<State, Fail> {
 // Tells whether a sheet shows the states that the run has at some steps, which goes on from its first state to each of
 // them: by one cache for all, and by none.
 fn states_agree(alloc: Global, sheet: &Sheet, first: &State, steps: &[u32]) -> Result<bool, Fail> {
-    let mut cache = QueryCache::of(alloc, sheet.plan());
+    let mut cache = QueryCache::new();
     let mut last = copied(first)?;
     for place in steps {
         let step = (*place).min(sheet.horizon());
@@ -159,7 +161,7 @@ fn totals_agree(
     let mut state = copied(first)?;
     let _ = go_on(alloc, sheet, &mut state, detector, from)?;
     let counted = go_on(alloc, sheet, &mut state, detector, to)?;
-    let mut cache = QueryCache::of(alloc, sheet.plan());
+    let mut cache = QueryCache::new();
     let cached = cache.totals(alloc, sheet, detector, from, to)?;
     let again = cache.totals(alloc, sheet, detector, from, to)?;
     let fresh = sheet.totals(alloc, detector, from, to)?;
@@ -270,5 +272,85 @@ fn scripts_of_the_last_steps_agree_with_runs_from_zero(rt: HostRuntime) -> Resul
     for seed in 0..LATE_SCRIPTS {
         assert!(rt; late_script_agrees(rt.alloc(), seed)?, "{seed}");
     }
+    Ok(())
+}
+
+/// Edits dated at, before and after the ends of intervals, and at steps that follow each other.
+const DATED: &[Edit] = &[
+    edit!(Object::Limit(0), 5, (1, 1), 1),
+    edit!(Object::Slow(1), 6, (1, 1), 50_000),
+    edit!(Object::Block(9), 63, (1, 1), 1),
+    edit!(Object::Inflow(1), 64, (1, 1), 65_536),
+    edit!(Object::Watch(0), 65, (1, 1), 0),
+    edit!(Object::Block(9), 80, (2, 1), 0),
+    edit!(Object::Start(0), 127, (1, 1), 40_000),
+    edit!(Object::Watch(0), 129, (2, 1), 1),
+];
+
+/// Edits that come later, and act from the middle of an interval on.
+const LATER: &[Edit] = &[
+    edit!(Object::Limit(1), 30, (3, 1), 0),
+    edit!(Object::Limit(1), 31, (3, 1), 5),
+    edit!(Object::Block(3), 100, (3, 1), 1),
+];
+
+// Tells whether a cache shows a state of a run, its row and what a detector counts in the step after it, and takes the
+// state to that step.
+fn step_agrees(
+    alloc: Global,
+    sheet: &Sheet,
+    cache: &mut QueryCache,
+    state: &mut State,
+) -> Result<bool, Fail>
+    requires { IsCacheOf sheet.now cache.old }
+    ensures { IsCacheOf sheet.now cache.new }
+{
+    let step = state.step;
+    let road = cache.state(alloc, sheet, step)?;
+    let row = cache.row(alloc, sheet, step)?;
+    let plain = State {
+        step,
+        road: sheet.state(alloc, step)?,
+    };
+    let shown = row_of(alloc, sheet.plan(), sheet.scenario(), &plain)?;
+    let agrees = road.cars() == state.road.cars() && row.as_str() == shown.as_str();
+    let next = step.saturating_add(1).min(sheet.horizon());
+    let counted = go_on(alloc, sheet, state, step % 2, next)?;
+    let totals = cache.totals(alloc, sheet, step % 2, step, next)?;
+    Ok(agrees && totals == counted)
+}
+
+// Tells whether a cache shows all steps of a sheet, one after another.
+fn steps_agree(alloc: Global, sheet: &Sheet, cache: &mut QueryCache) -> Result<bool, Fail>
+    requires { IsCacheOf sheet.now cache.old }
+    ensures { IsCacheOf sheet.now cache.new }
+{
+    let mut state = State::opening(alloc);
+    for step in 0..sheet.horizon() {
+        if !step_agrees(alloc, sheet, cache, &mut state)? {
+            return Ok(false);
+        }
+    }
+    Ok(true)
+}
+
+// Tells whether a cache that is kept shows the steps of a road of some words: twice, as it goes back to step 0, and then
+// under other edits.
+fn cache_agrees(alloc: Global, words: WordKind) -> Result<bool, Fail> {
+    let opening = opening(alloc, &Parts { words, ..MIXED })?;
+    let sheet = grow(alloc, &opening, DATED, 200)?.sheet;
+    let mut cache = QueryCache::new();
+    if !steps_agree(alloc, &sheet, &mut cache)? || !steps_agree(alloc, &sheet, &mut cache)? {
+        return Ok(false);
+    }
+    let other = grow(alloc, &sheet, LATER, 200)?.sheet;
+    cache.restart();
+    steps_agree(alloc, &other, &mut cache)
+}
+
+#[test]
+fn a_kept_cache_shows_each_step(rt: HostRuntime) -> Result<(), Fail> {
+    assert!(rt; cache_agrees(rt.alloc(), WordKind::Steady)?);
+    assert!(rt; cache_agrees(rt.alloc(), WordKind::Seeded(7))?);
     Ok(())
 }

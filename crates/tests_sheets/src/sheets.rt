@@ -1,5 +1,7 @@
 //! Sheets that grow, by a crew that counts its calls.
 
+ghost use Rattle.std.specs.Prelude.{◌≡◌, IfOk};
+
 use road_ends::Meter;
 use road_rewind::grown;
 use road_scenario::{Edit, Scenario};
@@ -28,7 +30,9 @@ pub(crate) fn opening(alloc: Global, parts: &Parts) -> Result<Sheet, Fail> {
 }
 
 /// Returns the sheet with some edits, simulated up to a step.
-pub(crate) fn grow(alloc: Global, sheet: &Sheet, edits: &[Edit], to: u32) -> Result<Trial, Fail> {
+pub(crate) fn grow(alloc: Global, sheet: &Sheet, edits: &[Edit], to: u32) -> Result<Trial, Fail>
+    ensures { IfOk result (λ trial. trial.sheet.plan ≡ sheet.now.plan) }
+{
     let scenario = Scenario::of_edits(alloc, edits)?;
     if to > 1_048_576 || scenario.fits(sheet.plan()).is_some() {
         return Err(Fail::new("no such step, or no such edit"));

@@ -1,6 +1,5 @@
 //! Counts and rows of worked roads.
 
-use crate::rows::row_of;
 use road_cells::{Car, Road};
 use road_detector::{Totals, passes};
 use road_ends::{OutOfMemory, StepInput, enter, finish};
@@ -9,7 +8,7 @@ use std::alloc::Global;
 use std::process::Abort;
 use std::sync::Arc;
 use std::test::Fail;
-use tests_plans::{FREE, Parts, cars, pairs, plan_of};
+use tests_plans::{FREE, Parts, cars, pairs, plan_of, row_of};
 
 // Makes the input of a step on a road, where the first detector is on or off.
 fn input_of(
@@ -185,7 +184,7 @@ const ROWS: &[(&[u32], &str)] = &[
 // Checks that the cars of a road are drawn as each row says.
 fn rows_are_drawn(rt: &impl Abort, alloc: Global, road: &Road) -> Result<(), Fail> {
     for (row, (blocks, text)) in ROWS.iter().enumerate() {
-        let drawn = row_of(rt, alloc, road, blocks, 12)?;
+        let drawn = row_of(alloc, road, blocks, 12)?;
         assert_eq!(rt; drawn.as_str(), *text, "row {row}");
     }
     Ok(())

@@ -6,6 +6,4 @@ mod detector;
 #[cfg(test)]
 mod plain;
 #[cfg(test)]
-mod rows;
-#[cfg(test)]
 mod steps;

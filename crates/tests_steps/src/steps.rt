@@ -1,7 +1,6 @@
 //! Runs worked out by hand or by a program of another author, stepped alone and by the plain program.
 
 use crate::plain;
-use crate::rows::row_of;
 use road_cells::{Car, Road};
 use road_ends::{Meter, OutOfMemory, StepInput, enter, finish, step_alone};
 use road_plan::{Plan, Settings, WordKind};
@@ -13,7 +12,7 @@ use std::test::Fail;
 use tests_plans::{
     BLOCKED_ROWS, BLOCKED_UNDER_ROWS, CARS_AT_SIX, DENSE, DENSE_START, FREE, FREE_ROWS,
     HALF_SLOWED, LOWERED_ROWS, Parts, QUICK_TO_START_ROWS, RANDOM, RANDOM_ROWS, SLOW_TO_START_ROWS,
-    SLOWED_ROWS, cars, pairs, parts, parts_of, plan_of,
+    SLOWED_ROWS, cars, pairs, parts, parts_of, plan_of, row_of,
 };
 
 /// A road and its rows at rising steps. From a step on the only zone has another limit, from a step on a cell is
@@ -231,7 +230,6 @@ fn stepped(
 
 // Draws the row of an example's road at a step.
 fn drawn(
-    rt: &impl Abort,
     alloc: Global,
     plan: &Plan,
     example: &Example,
@@ -239,7 +237,7 @@ fn drawn(
     road: &Road,
 ) -> Result<String, OutOfMemory> {
     let settings = settings_of(alloc, plan, example, step)?;
-    row_of(rt, alloc, road, settings.blocks(), plan.length())
+    row_of(alloc, road, settings.blocks(), plan.length())
 }
 
 // Steps the road of an example from one step to another.
@@ -267,7 +265,7 @@ fn is_drawn(
     (step, text): (u32, &str),
     road: &Road,
 ) -> Result<(), OutOfMemory> {
-    let row = drawn(rt, alloc, plan, example, step, road)?;
+    let row = drawn(alloc, plan, example, step, road)?;
     assert_eq!(rt; row.as_str(), text, "step {step}");
     Ok(())
 }

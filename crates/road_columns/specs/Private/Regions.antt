@@ -6,8 +6,13 @@ use Rattle.road_plan.specs.Settings.{Settings}
 use Rattle.road_cells.specs.Gap.{ArePartedAt}
 use Rattle.road_cells.specs.declared.car.TheConstants.{GREATEST_SPEED}
 use Rattle.road_rules.specs.Speeds.{wanted_speed}
-use Rattle.road_ends.specs.Private.PassPlaces.{AreOfZone}
 use Rattle.road_columns.specs.declared.regions.Region.{Region}
+
+-- the speed limit of a zone and its slowing chances, of standing and of moving cars
+pub record AreOfZone (limits starts chances : List ℕ) (zone limit standing moving : ℕ) : Type 0 where
+  pub limit_is : limit ≡ slice_index limits zone
+  pub standing_is : standing ≡ slice_index starts zone
+  pub moving_is : moving ≡ slice_index chances zone
 
 -- the region at a place of a list of them
 abbrev pub region_at : List Region → ℕ → Region

@@ -3,16 +3,17 @@ use Rattle.std.specs.Prelude.{◌≡◌, ◌≤◌, ℕ, List, length}
 use Rattle.std.specs.List.{slice_get}
 use Rattle.std.specs.declared.option.Option.TheVariants.{Some}
 use Rattle.road_plan.specs.declared.limits.TheConstants.{MOST_REPLICAS}
-use Rattle.road_sheet.specs.QueryCaches.{CachedState, IsCacheOf}
+use Rattle.road_sheet.specs.QueryCaches.{IsCacheOf}
+use Rattle.road_sheet.specs.declared.query_cache.QueryCache.{QueryCache}
 use Rattle.road_world.specs.Answers.{sheet_at}
 use Rattle.road_world.specs.Events.{World, world_of_winners}
 
 -- each replica has a cache of its run
-abbrev pub AreCachesOf : World → List CachedState → Type 0
-AreCachesOf w caches = (r : ℕ) (cache : CachedState) → slice_get caches r ≡ Some cache → IsCacheOf (sheet_at w r) cache
+abbrev pub AreCachesOf : World → List QueryCache → Type 0
+AreCachesOf w caches = (r : ℕ) (cache : QueryCache) → slice_get caches r ≡ Some cache → IsCacheOf (sheet_at w r) cache
 
 -- each name has a replica, and each replica a cache; replicas and messages have winners alone
-pub record IsCached (names : List (List ℕ)) (w : World) (caches : List CachedState) : Type 0 where
+pub record IsCached (names : List (List ℕ)) (w : World) (caches : List QueryCache) : Type 0 where
   pub few : length names ≤ MOST_REPLICAS
   pub replicas : length w.replicas ≡ length names
   pub winners : world_of_winners w ≡ w

@@ -5,7 +5,6 @@ ghost use Rattle.road_cells.specs.Cars.{cars_of};
 ghost use Rattle.road_ends.specs.Input.{input_speeds_between};
 
 use crate::OutOfMemory;
-use crate::columns::Columns;
 use crate::input::StepInput;
 use crate::pass::speeds_between;
 use std::alloc::Global;
@@ -18,7 +17,6 @@ impl StepInput {
     /// # Errors
     ///
     /// `OutOfMemory` where the allocation of their list failed.
-    #[tactic(auto, using(crate::proofs::CachedColumns::no_high16s, crate::proofs::CachedColumns::no_columns))]
     pub fn speeds_between(
         &self,
         alloc: Global,
@@ -29,13 +27,6 @@ impl StepInput {
         requires within { end ≤ length (cars_of self.now.road) }
         ensures { IfOk result (λ new. new.items ≡ input_speeds_between self.now first end) }
     {
-        let list = Vec::new(alloc);
-        match &self.columns {
-            Some(columns) => speeds_between(self.at(), &self.road, columns, first, end, list),
-            None => {
-                let none = Columns::empty(alloc);
-                speeds_between(self.at(), &self.road, &none, first, end, list)
-            }
-        }
+        speeds_between(alloc, self.at(), &self.road, first, end)
     }
 }

@@ -1,16 +1,54 @@
 -- Runs of a span that are under way.
-use Rattle.std.specs.Prelude.{ℕ, ◌-◌, IfSome}
-use Rattle.std.specs.Option.{unwrap_or}
-use Rattle.std.specs.Arc.{arc_value}
+use Rattle.std.specs.Prelude.{◌≡◌, ℕ, zero, suc, ◌+◌, ◌-◌, ◌*◌, ◌<◌, ◌≤◌, length, min, slice_index_or, if◌then◌else◌}
 use Rattle.road_cells.specs.Array.{Array}
+use Rattle.road_cells.specs.declared.car.TheConstants.{GREATEST_SPEED}
 use Rattle.road_ends.specs.Laws.{AgreeNear}
-use Rattle.road_ends.specs.Span.{Span, IsOfSpan}
-use Rattle.road_workers.specs.Private.Stretches.{AreTotalsOn, road_after}
-use Rattle.road_workers.specs.declared.stretch.running.Running.{Running}
+use Rattle.road_ends.specs.Span.{Span}
+use Rattle.road_detector.specs.Passes.{no_totals, total_from}
+use Rattle.road_columns.specs.UnderWay.{UnderWay, nothing_counted, stepped}
+use Rattle.road_workers.specs.Private.Stretches.{has_site, road_after, total_on}
 
--- k steps of a span are computed, from an array, wherever they may matter on the cells from lo to before hi in those
--- that are left, and counted on these cells
-pub record IsAfter (lo hi : ℕ) (span : Span) (k : ℕ) (a : Array) (running : Running) : Type 0 where
-  pub road : AgreeNear (span.steps - k) lo hi (unwrap_or running.road a) (road_after span k a)
-  pub last : IfSome running.last (λ input. IsOfSpan span (arc_value input))
-  pub totals : AreTotalsOn lo hi span k a running.totals.items
+-- a run stands before the steps of a span, under its settings, on the cells from lo to before hi, with this road
+pub record IsReady (lo hi : ℕ) (span : Span) (a : Array) (run : UnderWay) : Type 0 where
+  pub plan : run.plan ≡ span.plan
+  pub settings : run.settings ≡ span.settings
+  pub step : run.step ≡ span.step
+  pub from : run.lo ≡ lo
+  pub to : run.hi ≡ hi
+  pub road : run.road ≡ a
+
+-- a run whose counts begin anew
+abbrev pub uncounted : UnderWay → UnderWay
+uncounted run = record run { totals = nothing_counted run.plan }
+
+-- a run after so many more steps
+abbrev pub after_steps : ℕ → UnderWay → UnderWay
+after_steps zero run = run
+after_steps (suc k) run = stepped (after_steps k run)
+
+-- k steps of a span are made on the whole road, from an array, and counted
+pub record IsWhole (span : Span) (k : ℕ) (a : Array) (run : UnderWay) : Type 0 where
+  pub plan : run.plan ≡ span.plan
+  pub settings : run.settings ≡ span.settings
+  pub step : run.step ≡ span.step + k
+  pub from : run.lo ≡ 0
+  pub to : run.hi ≡ span.plan.cells
+  pub road : run.road ≡ road_after span k a
+  pub each : length run.totals ≡ length span.plan.detectors
+  pub counted : (d : ℕ) → d < length run.totals → slice_index_or run.totals d no_totals
+      ≡ total_from span.plan (λ _. span.settings) span.step k a d
+
+-- k steps of a span are made, from an array, wherever they may matter on the cells from lo to before hi in those that
+-- are left, and counted on these cells
+pub record IsAfter (lo hi : ℕ) (span : Span) (k : ℕ) (a : Array) (run : UnderWay) : Type 0 where
+  pub plan : run.plan ≡ span.plan
+  pub settings : run.settings ≡ span.settings
+  pub step : run.step ≡ span.step + k
+  pub from : run.lo ≤ lo - GREATEST_SPEED * (span.steps - k)
+  pub to : min (hi + GREATEST_SPEED * (span.steps - k)) span.plan.cells ≤ run.hi
+  pub on_road : run.hi ≤ span.plan.cells
+  pub road : AgreeNear (span.steps - k) lo hi run.road (road_after span k a)
+  pub each : length run.totals ≡ length span.plan.detectors
+  pub counted : (d : ℕ) → d < length run.totals
+      → (if has_site lo hi span.plan d then slice_index_or run.totals d no_totals else no_totals)
+      ≡ total_on lo hi span k a d

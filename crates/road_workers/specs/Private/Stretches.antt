@@ -1,16 +1,19 @@
 -- Stretches of road, each of which somebody runs alone.
-use Rattle.std.specs.Prelude.{◌≡◌, ℕ, ◌-◌, ◌*◌, ◌/◌, ◌<◌, ◌&&◌, Bool, List, length, map, min, nat_eq, nat_le, nat_lt}
+use Rattle.std.specs.Prelude.{◌≡◌, ℕ, ◌+◌, ◌-◌, ◌*◌, ◌/◌, ◌<◌, ◌&&◌, Bool, List, length, map, min}
+use Rattle.std.specs.Prelude.{nat_eq, nat_le, nat_lt}
 use Rattle.std.specs.Prelude.{slice_index, slice_index_or, if◌then◌else◌}
 use Rattle.std.specs.List.{range_with_len}
 use Rattle.road_plan.specs.Plan.{Plan}
 use Rattle.road_cells.specs.Array.{Array, vehicle_at}
 use Rattle.road_cells.specs.Cars.{cars_from, cell_at}
 use Rattle.road_cells.specs.declared.car.Car.{Car}
+use Rattle.road_cells.specs.declared.car.TheConstants.{GREATEST_SPEED}
 use Rattle.road_ends.specs.Input.{StepInput}
 use Rattle.road_ends.specs.Run.{road_after_steps}
 use Rattle.road_ends.specs.Span.{Span, span_road}
 use Rattle.road_detector.specs.Passes.{no_totals, passes_at, total_from}
 use Rattle.road_detector.specs.declared.counts.Totals.{Totals}
+use Rattle.road_columns.specs.UnderWay.{IsRunnable}
 use Rattle.road_workers.specs.declared.stretch.StretchRun.{StretchRun}
 
 -- the cars of an array at the cells from lo to before hi
@@ -43,6 +46,11 @@ pub record AreTotalsOn (lo hi : ℕ) (span : Span) (k : ℕ) (a : Array) (totals
 pub record IsRunOf (lo hi : ℕ) (span : Span) (a : Array) (done : StretchRun) : Type 0 where
   pub cars : done.cars.items ≡ cars_between lo hi (span_road span a)
   pub totals : AreTotalsOn lo hi span span.steps a done.totals.items
+
+-- a run can have the cars near a stretch: up to 9 cells behind it and ahead for each step of a span
+abbrev pub IsRunnableNear : ℕ → ℕ → Span → Array → Type 0
+IsRunnableNear lo hi span near = IsRunnable (lo - GREATEST_SPEED * span.steps)
+    (min (hi + GREATEST_SPEED * span.steps) span.plan.cells) span.plan near
 
 -- where the stretch at place w of n begins, of a road of so many cells: at the car that has w n-th parts of the cars
 -- behind it; the first begins with the road, and the last ends with it

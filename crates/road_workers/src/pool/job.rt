@@ -3,17 +3,17 @@
 ghost use Rattle.std.specs.Prelude.{◌≡◌, ◌≤◌, length, IfOk};
 ghost use Rattle.std.specs.Arc.{arc_value};
 ghost use Rattle.std.proofs.Props.{props};
+ghost use Rattle.road_plan.specs.declared.limits.TheConstants.{GREATEST_LENGTH};
 ghost use Rattle.road_cells.specs.Cars.{cars_of};
 ghost use Rattle.road_ends.specs.Input.{input_speeds_between};
-ghost use Rattle.road_workers.specs.Private.Stretches.{IsRunOf};
+ghost use Rattle.road_workers.specs.Private.Stretches.{IsRunnableNear, IsRunOf};
 
+use crate::kept_run::KeptRun;
 use crate::piece::{Piece, PieceAnswer};
-use crate::stretch::running::RunMemory;
 use crate::stretch::{StretchRun, run_near};
 use road_cells::Road;
 use road_ends::{OutOfMemory, Span, StepInput, Stretch};
 use std::alloc::Global;
-use std::mem;
 use std::sync::Arc;
 
 // What a worker is to compute.
@@ -65,6 +65,8 @@ pub(crate) struct StretchJob {
     near: Road,
     stretch: Stretch,
     ghost order: { stretch.first ≤ stretch.end },
+    ghost short: { stretch.end ≤ GREATEST_LENGTH },
+    ghost runnable: { IsRunnableNear stretch.first stretch.end span near } by { Prim.hlevel props },
 }
 
 // What a stretch comes to, or out of memory.
@@ -82,8 +84,8 @@ pub(crate) struct StretchDone {
 }
 
 impl Job {
-    // Does the job, in what the worker keeps from earlier ones.
-    pub fn done(self, alloc: Global, kept: &mut Option<RunMemory>) -> Done {
+    // Does the job. The worker keeps a run.
+    pub fn done(self, alloc: Global, kept: &mut KeptRun) -> Done {
         match self {
             Job::Piece(job) => Done::Piece(job.done(alloc)),
             Job::Stretch(job) => Done::Stretch(job.done(alloc, kept)),
@@ -115,7 +117,9 @@ impl PieceJob {
 impl StretchJob {
     // Makes the job of a stretch.
     pub fn new(span: Span, near: Road, stretch: Stretch) -> StretchJob
-        requires { stretch.first ≤ stretch.end }
+        requires order { stretch.first ≤ stretch.end }
+        requires short { stretch.end ≤ GREATEST_LENGTH }
+        requires runnable { IsRunnableNear stretch.first stretch.end span near }
     {
         StretchJob {
             span,
@@ -124,16 +128,14 @@ impl StretchJob {
         }
     }
 
-    // Runs the stretch, in what the worker keeps from earlier ones.
-    fn done(self, alloc: Global, kept: &mut Option<RunMemory>) -> StretchDone {
+    // Runs the stretch, in the run that the worker keeps.
+    fn done(self, alloc: Global, kept: &mut KeptRun) -> StretchDone {
         let StretchJob {
             span,
             near,
             stretch,
         } = self;
-        let mut memory = RunMemory::ready(alloc, mem::replace(kept, None), &span);
-        let answer = run_near(alloc, &span, &near, stretch, &mut memory);
-        *kept = Some(memory);
+        let answer = run_near(alloc, &span, &near, stretch, kept);
         StretchDone {
             span,
             near,

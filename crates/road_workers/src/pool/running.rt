@@ -1,14 +1,17 @@
 //! A span, run by the workers of a pool, a stretch of road each; the caller runs one more where it has a processor.
 
-ghost use Rattle.std.specs.Prelude.{◌≡◌, ◌<◌, ◌≤◌, length, vec_len, IfOk, IfSome, IsOk, OnOk};
+ghost use Rattle.std.specs.Prelude.{◌≡◌, ◌<◌, ◌≤◌, length, vec_len, IfOk, IfSome, IsOk, IsSome, OnOk};
 ghost use Rattle.road_plan.specs.declared.limits.TheConstants.{GREATEST_LENGTH, MOST_WORKERS};
 ghost use Rattle.road_cells.specs.Cars.{cars_of};
 ghost use Rattle.road_ends.specs.Span.{span_road};
 ghost use Rattle.road_detector.specs.Passes.{span_totals};
+ghost use Rattle.road_columns.specs.UnderWay.{IsRunnable};
+ghost use Rattle.road_workers.specs.Crews.{CanBeRun};
 ghost use Rattle.road_workers.specs.Private.Gathered.{AreRun, AreThere};
 ghost use Rattle.road_workers.specs.Private.Stretches.{IsRunOf, cut};
 
 use crate::faults::CrewFault;
+use crate::kept_run::KeptRun;
 use crate::pool::job::{Done, Job, Reply, StretchAnswer, StretchJob};
 use crate::pool::messages::{next_done, sent};
 use crate::pool::places::{are_there, places_for};
@@ -17,14 +20,14 @@ use crate::pool::side_by_side::{is_run_taken, put_side_by_side};
 use crate::pool::spin::Lookout;
 use crate::pool::{Pool, Worker};
 use crate::stretch::joining::{nothing_run, road_of};
-use crate::stretch::running::RunMemory;
-use crate::stretch::{StretchRun, road_near, run_stretch, run_whole, stretch_at};
+use crate::stretch::{StretchRun, road_near, run_stretch, stretch_at};
+use crate::whole::run_whole;
 use crossbeam_channel::{Receiver, Sender};
 use road_cells::Road;
+use road_columns::is_runnable;
 use road_detector::Ran;
 use road_ends::{Span, Stretch};
 use std::alloc::Global;
-use std::mem;
 use std::sync::Wait;
 
 impl<R: Wait> Pool<R> {
@@ -34,9 +37,11 @@ impl<R: Wait> Pool<R> {
         alloc: Global,
         span: &Span,
         road: &Road,
+        kept: &mut KeptRun,
     ) -> Result<Option<Ran>, CrewFault>
         ensures road { IfOk result (λ done. IfSome done (λ ran. ran.road ≡ span_road span.now road.now)) }
         ensures totals { IfOk result (λ done. IfSome done (λ ran. ran.totals.items ≡ span_totals span.now road.now)) }
+        ensures some { IfOk result (λ done. CanBeRun span.now road.now → IsSome done) }
         ensures unchanged { self.new ≡ self.old }
     {
         if span.steps() == 0 {
@@ -45,10 +50,17 @@ impl<R: Wait> Pool<R> {
         let (cars, cells) = (road.cars().len(), span.plan().length());
         let own = u32::from(self.is_helped);
         let count = own + self.workers.len() as u32;
-        if is_shared(cars, cells, span.steps(), count) {
-            return Ok(Some(self.run_by_stretches(alloc, span, road, own)?));
+        if !is_shared(cars, cells, span.steps(), count) {
+            return Ok(run_whole(alloc, span, road, kept)?);
         }
-        Ok(Some(run_whole(alloc, span, road, &mut self.kept)?))
+        let whole = Stretch {
+            first: 0,
+            end: cells,
+        };
+        if !is_runnable(span.plan(), whole, road) {
+            return Ok(None);
+        }
+        Ok(Some(self.run_by_stretches(alloc, span, road, own, kept)?))
     }
 
     // Runs a span by a stretch for each worker, and one for the caller where it helps.
@@ -58,9 +70,11 @@ impl<R: Wait> Pool<R> {
         span: &Span,
         road: &Road,
         own: u32,
+        kept: &mut KeptRun,
     ) -> Result<Ran, CrewFault>
         requires own { own ≤ 1 }
         requires some { 0 < span.now.steps }
+        requires runnable { IsRunnable 0 span.now.plan.cells span.now.plan road.now }
         ensures road { IfOk result (λ ran. ran.road ≡ span_road span.now road.now) }
         ensures totals { IfOk result (λ ran. ran.totals.items ≡ span_totals span.now road.now) }
         ensures unchanged { self.new ≡ self.old }
@@ -75,7 +89,7 @@ impl<R: Wait> Pool<R> {
             workers,
             &self.replies,
             &mut self.lookout,
-            &mut self.kept,
+            kept,
         )?;
         Ok(road_of(span, road, span.plan().length(), whole))
     }
@@ -92,11 +106,12 @@ fn whole_run<R: Wait>(
     workers: &[Worker],
     replies: &Receiver<Reply>,
     lookout: &mut Lookout,
-    kept: &mut Option<RunMemory>,
+    kept: &mut KeptRun,
 ) -> Result<StretchRun, CrewFault>
     requires own { own ≤ 1 }
     requires some { 0 < length workers.now }
     requires few { length workers.now ≤ MOST_WORKERS }
+    requires runnable { IsRunnable 0 span.now.plan.cells span.now.plan road.now }
     ensures { IfOk result (IsRunOf 0 span.now.plan.cells span.now road.now) }
 {
     let count = workers.len() as u32;
@@ -119,6 +134,7 @@ fn send_stretches<R: Wait>(
 ) -> (u32, Result<(), CrewFault>)
     requires own { own ≤ 1 }
     requires few { length workers.now ≤ MOST_WORKERS }
+    requires runnable { IsRunnable 0 span.now.plan.cells span.now.plan road.now }
     ensures sent { result.0 ≤ length workers.now }
     ensures all { IsOk result.1 → result.0 ≡ length workers.now }
 {
@@ -143,23 +159,25 @@ fn send_stretch<R: Wait>(
 ) -> Result<(), CrewFault>
     requires order { stretch.first ≤ stretch.end }
     requires short { stretch.end ≤ GREATEST_LENGTH }
+    requires runnable { IsRunnable 0 span.now.plan.cells span.now.plan road.now }
 {
     let near = road_near(alloc, span, road, stretch)?;
     let job = StretchJob::new(span.copied()?, near, stretch);
     sent(jobs.send(rt, Job::Stretch(job)))
 }
 
-// Runs the caller's stretch, the first of so many, in what it keeps from earlier ones. Where it has none, that is nothing.
+// Runs the caller's stretch, the first of so many, in the run that is lent to it. Where it has none, that is nothing.
 fn own_run(
     alloc: Global,
     span: &Span,
     road: &Road,
     own: u32,
     count: u32,
-    kept: &mut Option<RunMemory>,
+    kept: &mut KeptRun,
 ) -> StretchAnswer
     requires own { own ≤ 1 }
     requires count { own < count }
+    requires runnable { IsRunnable 0 span.now.plan.cells span.now.plan road.now }
     ensures { IfOk result
         (IsRunOf 0 (cut span.now.plan.cells (cars_of road.now) count own) span.now road.now) }
 {
@@ -167,10 +185,7 @@ fn own_run(
         return nothing_run(alloc, span);
     }
     let first = stretch_at(road, span.plan().length(), count, 0);
-    let mut memory = RunMemory::ready(alloc, mem::replace(kept, None), span);
-    let answer = run_stretch(alloc, span, road, first, &mut memory);
-    *kept = Some(memory);
-    answer
+    run_stretch(alloc, span, road, first, kept)
 }
 
 // Takes what so many workers, from the first on, answer for this span. What comes twice or from elsewhere is dropped.

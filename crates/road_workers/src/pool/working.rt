@@ -7,6 +7,7 @@ ghost use Rattle.crossbeam_channel.specs.declared.err.SendError.TheVariants.{Dis
 ghost use Rattle.road_workers.specs.declared.pool.job.Reply.{Reply};
 
 use crate::gate::Gate;
+use crate::kept_run::KeptRun;
 use crate::pool::job::{Job, Reply};
 use crate::pool::spin::Lookout;
 use crossbeam_channel::{Receiver, SendError, Sender};
@@ -36,7 +37,7 @@ pub(crate) fn say_gone<R: Wait>(rt: &R, replies: &Sender<Reply>) {
 // and passes the gate before each, which may be an empty piece or stretch.
 fn do_jobs<R: Wait, G: Gate>(rt: &R, alloc: Global, worker: u32, gate: &G, ends: &Ends) {
     let mut lookout = ends.lookout;
-    let mut kept = None;
+    let mut kept = KeptRun::none();
     for _ in rt.forever() {
         lookout.spin_for_message(&ends.jobs);
         let Ok(job) = ends.jobs.recv(rt) else {

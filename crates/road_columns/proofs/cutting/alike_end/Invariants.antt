@@ -1,6 +1,6 @@
 -- The walk up the zones that are alike.
 use Rattle.std.proofs.Common.{◌≤◌, ◌<◌, ◌-◌, ℕ, length, slice_index}
-use Rattle.road_ends.specs.Private.PassPlaces.{AreOfZone}
+use Rattle.road_columns.specs.Private.Regions.{AreOfZone}
 use Rattle.road_columns.proofs.cutting.alike_end.Given as goal
 
 -- the zones so far are alike

@@ -5,7 +5,7 @@ use Rattle.std.proofs.Math.Nat.{lt-div-mul-add}
 use Rattle.std.proofs.lemmas.Bool.{cases_lt}
 use Rattle.road_plan.specs.Plan.{Plan, IsWithinLimits, exit_start}
 use Rattle.road_plan.specs.Settings.{Fits, Settings}
-use Rattle.road_ends.proofs.PassOverCars.{zone_up_to}
+use Rattle.road_columns.proofs.SpeedAhead.{zone_up_to}
 use Rattle.road_ends.proofs.StepByCars.{not_falling, zone_below}
 use Rattle.road_columns.proofs.cutting.cut_at.Goals as goal
 

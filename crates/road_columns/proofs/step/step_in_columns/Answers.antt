@@ -2,7 +2,7 @@
 use Rattle.std.proofs.Common.{◌≡◌, ◌≢◌, ◌*◌, ◌/◌, ◌%◌, ◌<◌, ℕ, List, length, slice_index, slice_set, get_or-set_other, get_or-set_same, arith}
 use Rattle.std.proofs.lemmas.List.{length-set}
 use Rattle.road_plan.specs.Plan.{exit_start}
-use Rattle.road_ends.specs.Private.EntriesBetween.{entries_between, with_entry}
+use Rattle.road_ends.specs.EntriesBetween.{entries_between, with_entry}
 use Rattle.road_ends.proofs.EntriesBetween.{between-ends}
 use Rattle.road_columns.specs.Private.EnteredList.{entered_in}
 use Rattle.road_columns.proofs.CarsEntered.{cars_entered, inlets_before_exit}

@@ -1,7 +1,7 @@
 -- Columns are made ready, the cars step, and the step ends.
 use Rattle.std.proofs.Common.{◌∙◌, ◌+◌, ◌*◌, ◌/◌, ◌%◌, length, slice_index, sym, subst, arith}
 use Rattle.road_ends.specs.Input.{input_speeds}
-use Rattle.road_ends.specs.Private.EntriesBetween.{input_between}
+use Rattle.road_ends.specs.EntriesBetween.{input_between}
 use Rattle.road_detector.specs.Passes.{passes_at}
 use Rattle.road_columns.specs.Private.EnteredList.{entered_in}
 use Rattle.road_columns.specs.Private.Held.{road_in}

@@ -1,6 +1,5 @@
 -- What the loop keeps that makes a cache for each replica.
 use Rattle.std.proofs.Common.{◌≡◌, length}
-use Rattle.std.specs.Arc.{arc_value}
 use Rattle.std.specs.List.{All}
 use Rattle.road_sheet.specs.Sheets.{Sheet}
 use Rattle.road_sheet.specs.QueryCaches.{IsCacheOf}
@@ -8,4 +7,4 @@ use Rattle.road_commands.proofs.laboratory.opening_caches.Given as goal
 
 -- so many caches so far, of which nothing is computed
 abbrev pub invariant-loop-made : goal.invariant-loop-made
-invariant-loop-made l = (length l.caches.items ≡ l.made) × ((sheet : Sheet) → sheet.plan ≡ arc_value l.plan → All (IsCacheOf sheet) l.caches.items)
+invariant-loop-made l = (length l.caches.items ≡ l.made) × ((sheet : Sheet) → All (IsCacheOf sheet) l.caches.items)

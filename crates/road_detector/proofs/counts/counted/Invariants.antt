@@ -1,13 +1,13 @@
--- The loop that counts cars from the site backward.
+-- The loop that counts the cars that pass.
 use Rattle.std.proofs.Common.{◌≡◌, ◌+◌, ◌*◌, ◌≤◌, length, drop, sum}
-use Rattle.road_cells.specs.Cars.{cars_before}
 use Rattle.road_detector.specs.Passes.{drives, passing_speeds}
 use Rattle.road_detector.proofs.counts.counted.Given as goal
 
+-- with those that are still to be counted they are all
 abbrev pub invariant-loop-place : goal.invariant-loop-place
 invariant-loop-place l = record {
-  cars : l.totals.cars ≡ length (passing_speeds l.site (drop l.place (drives l.cars l.speeds)));
-  speeds : l.totals.speeds ≡ sum (passing_speeds l.site (drop l.place (drives l.cars l.speeds)));
-  few : l.totals.cars + l.place ≤ cars_before l.site l.cars;
+  cars : l.totals.cars + length (passing_speeds l.site (drop l.place (drives l.cars l.speeds))) ≡ length (passing_speeds l.site (drives l.cars l.speeds));
+  speeds : l.totals.speeds + sum (passing_speeds l.site (drop l.place (drives l.cars l.speeds))) ≡ sum (passing_speeds l.site (drives l.cars l.speeds));
+  few : l.totals.cars ≤ l.place;
   slow : l.totals.speeds ≤ 255 * l.totals.cars;
 }

@@ -2,5 +2,5 @@
 use Rattle.road_workers.proofs.StretchCars.{run-nearby}
 use Rattle.road_workers.proofs.stretch.run_stretch.Goals as goal
 
-pub returns-clause-run : goal.returns-clause-run
-returns-clause-run c = run-nearby c.args.stretch.first c.args.stretch.end c.args.span.now c.in_ok-near.near c.args.road.now _ c.requires.order c.in_ok-near.ensures c.in_ok-run.ensures.run
+pub returns : goal.returns
+returns c = run-nearby c.args.stretch.first c.args.stretch.end c.args.span.now c.in_ok-near.near c.args.road.now _ c.requires.order c.in_ok-near.ensures.agrees c.in_ok-run.ensures

@@ -7,7 +7,7 @@ use Rattle.road_plan.specs.Plan.{IsWithinLimits, Plan, exit_start}
 use Rattle.road_plan.specs.Settings.{Fits}
 use Rattle.road_words.specs.Words.{word}
 use Rattle.road_ends.specs.Input.{StepInput, input_next, input_speeds}
-use Rattle.road_ends.specs.Private.EntriesBetween.{input_between}
+use Rattle.road_ends.specs.EntriesBetween.{input_between}
 use Rattle.road_detector.specs.Passes.{no_totals, passes_at, plus}
 use Rattle.road_detector.specs.declared.counts.Totals.{Totals}
 use Rattle.road_columns.specs.UnderWay.{UnderWay, stepped}

@@ -11,4 +11,4 @@ grow-requires-clause-input c = c.requires.input ∙ ap next_input (sym c.self.vi
 pub grow-requires-clause-road : goal.grow-requires-clause-road
 grow-requires-clause-road c =
     let s = c.self.inside.sheet in
-    c.in_ok-road.ensures.road ∙ ap input_next (c.requires.input ∙ ap next_input (sym c.self.view_is)) ∙ sym (ap (state_of s) (add-one s.horizon))
+    c.in_ok-road.ensures.step ∙ ap input_next (c.requires.input ∙ ap next_input (sym c.self.view_is)) ∙ sym (ap (state_of s) (add-one s.horizon))

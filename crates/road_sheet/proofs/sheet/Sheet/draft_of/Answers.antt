@@ -2,7 +2,6 @@
 use Rattle.std.proofs.Common.{◌∙◌, ap, subst, arith, ◌/◌, ◌*◌}
 use Rattle.road_ends.specs.Laws.{DependOnEarlierSettings}
 use Rattle.road_sheet.specs.Sheets.{Sheet}
-use Rattle.road_sheet.proofs.RunStates.{of_edits}
 use Rattle.road_sheet.proofs.SameRuns.{same_run}
 use Rattle.road_sheet.proofs.SheetIntervals.{same_less}
 use Rattle.road_sheet.proofs.sheet.Sheet.draft_of.Goals as goal
@@ -20,6 +19,3 @@ resume_at_checkpoint-requires-clause-same c =
     let same = same_run s.plan s.edits c.args.joined c.args.keep (subst DependOnEarlierSettings (c.deref.ensures ∙ ap (λ (x : Sheet). x.plan) c.self.view_is) c.runs_depend_on_earlier_settings.ensures)
     (c.settings_stay_before_touched.ensures s.plan s.edits c.args.joined) c.requires.untouched in
     same_less s.plan s.edits c.args.joined c.args.keep (64 * (c.args.keep / 64)) (omega arith) same
-
-pub invariant_of-result : goal.invariant_of-result
-invariant_of-result c = of_edits _ _ _ _ (c.deref-2.ensures ∙ c.plan.ensures) c.of-cache.ensures

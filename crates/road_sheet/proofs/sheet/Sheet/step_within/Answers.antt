@@ -1,5 +1,5 @@
 -- A step within the interval that the horizon cuts.
-use Rattle.std.proofs.Common.{◌+◌, ◌∙◌, ap, subst, refl, ℕ}
+use Rattle.std.proofs.Common.{◌+◌, ap, subst, refl, ℕ}
 use Rattle.road_detector.specs.Laws.{PassOneByOne, BoundTotals}
 use Rattle.road_sheet.proofs.SheetIntervals.{counted_next, next_cars_fit, next_speeds_fit, one_more, stays_in_interval}
 use Rattle.road_sheet.proofs.sheet.Sheet.step_within.Goals as goal
@@ -17,6 +17,6 @@ count-requires-clause-speeds c =
 pub invariant_of-self : goal.invariant_of-self
 invariant_of-self c =
     let end = ap (λ (h : ℕ). h + 1) c.horizon-horizon.ensures.horizon in
-    stays_in_interval _ c.args.self.now (c.args.self.now.horizon + 1) (c.horizon-horizon.result + 1) _ c.self.inside.open_interval c.count.new.self _ c.replace-last.new.dest c.self.invariant c.self.view_is (one_more c.args.self.now c.requires.within_limit) (c.replace-last.ensures.after ∙ c.requires.road)
+    stays_in_interval _ c.args.self.now (c.args.self.now.horizon + 1) (c.horizon-horizon.result + 1) _ c.self.inside.open_interval c.count.new.self _ c.args.road c.self.invariant c.self.view_is (one_more c.args.self.now c.requires.within_limit) c.requires.road
     (counted_next _ c.args.self.now _ c.self.inside.open_interval _ c.args.input.now c.args.speeds.now c.self.inside.open_interval.totals.items c.count.new.self.totals.items c.self.invariant c.self.view_is c.requires.input c.requires.speeds refl c.count.ensures.each c.count.ensures.totals)
     c.requires.within_interval end c.count.ensures.start

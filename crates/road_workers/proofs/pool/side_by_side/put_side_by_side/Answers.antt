@@ -1,6 +1,5 @@
 -- One stretch more is the road up to its end.
-use Rattle.std.proofs.Common.{rules, arith, ◌≡◌, ◌<◌, ◌+◌, length, slice_index_or, vec_len, sym, ap, subst, ◌∙◌, IfOk, IfSome, IsSome, ◌++◌, ◌∷◌, []}
-use Rattle.std.specs.declared.option.Option.TheVariants.{Some}
+use Rattle.std.proofs.Common.{rules, arith, ◌≡◌, ◌<◌, ◌+◌, length, slice_index_or, vec_len, ap, subst, ◌∙◌, IfOk, IfSome, IsSome, ◌++◌, ◌∷◌, []}
 use Rattle.std.specs.Vec.Iter.{into_iter_items}
 use Rattle.std.proofs.lemmas.List.{length-append}
 use Rattle.road_cells.specs.Cars.{cars_of}

@@ -1,0 +1,19 @@
+-- The run has made the steps on the whole road.
+use Rattle.std.proofs.Common.{◌∙◌, ap}
+use Rattle.road_columns.specs.UnderWay.{UnderWay}
+use Rattle.road_workers.proofs.WholeRuns.{all_counted, whole_after, whole_ready}
+use Rattle.road_workers.proofs.whole.ran_on.Goals as goal
+
+pub returns-clause-road : goal.returns-clause-road
+returns-clause-road c =
+    let span = c.args.span.now in
+    let road = c.args.road.now in
+    let whole = whole_after span span.steps road _ (whole_ready span road c.args.run.now c.requires) in
+    c.in_ok-road.ensures ∙ ap (λ (run : UnderWay). run.road) c.make_steps.ensures ∙ whole.road
+
+pub returns-clause-totals : goal.returns-clause-totals
+returns-clause-totals c =
+    let span = c.args.span.now in
+    let road = c.args.road.now in
+    let whole = whole_after span span.steps road _ (whole_ready span road c.args.run.now c.requires) in
+    c.in_ok-totals.ensures ∙ ap (λ (run : UnderWay). run.totals) c.make_steps.ensures ∙ all_counted span road _ whole

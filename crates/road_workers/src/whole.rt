@@ -1,0 +1,127 @@
+//! A span of the whole road, run by one thread alone.
+
+ghost use Rattle.std.specs.Prelude.{◌≡◌, ◌+◌, ◌≤◌, IfOk, IfSome, IsSome, IsTrue};
+ghost use Rattle.std.specs.Arc.{arc_value};
+ghost use Rattle.road_plan.specs.Plan.{Plan};
+ghost use Rattle.road_plan.specs.declared.limits.TheConstants.{GREATEST_HORIZON};
+ghost use Rattle.road_ends.specs.Span.{span_road};
+ghost use Rattle.road_detector.specs.Passes.{span_totals};
+ghost use Rattle.road_columns.specs.UnderWay.{IsRunnable};
+ghost use Rattle.road_workers.specs.Crews.{CanBeRun};
+ghost use Rattle.road_workers.specs.Private.RunsUnderWay.{IsReady, after_steps, uncounted};
+
+use crate::kept_run::KeptRun;
+use road_cells::Road;
+use road_columns::UnderWay;
+use road_detector::Ran;
+use road_ends::{OutOfMemory, Span, Stretch};
+use std::alloc::Global;
+use std::sync::Arc;
+
+// Runs the whole road for the steps of a span, and keeps the run. None where the span has no step, or runs cannot have a
+// car of the road.
+pub(crate) fn run_whole(
+    alloc: Global,
+    span: &Span,
+    road: &Road,
+    kept: &mut KeptRun,
+) -> Result<Option<Ran>, OutOfMemory>
+    ensures road { IfOk result (λ done. IfSome done (λ ran. ran.road ≡ span_road span.now road.now)) }
+    ensures totals { IfOk result (λ done. IfSome done (λ ran. ran.totals.items ≡ span_totals span.now road.now)) }
+    ensures some { IfOk result (λ done. CanBeRun span.now road.now → IsSome done) }
+{
+    if span.steps() == 0 {
+        return Ok(None);
+    }
+    let mut run = run_of(alloc, span, kept.run.take())?;
+    if !is_ready(alloc, span, road, &mut run)? {
+        return Ok(None);
+    }
+    let ran = ran_on(alloc, span, road, &mut run)?;
+    kept.run = Some(run);
+    Ok(Some(ran))
+}
+
+// Returns a run of a span's plan: the one that is kept, where it is of it.
+pub(crate) fn run_of(
+    alloc: Global,
+    span: &Span,
+    kept: Option<UnderWay>,
+) -> Result<UnderWay, OutOfMemory>
+    ensures { IfOk result (λ run. run.plan ≡ span.now.plan) }
+{
+    match kept {
+        Some(run) if run.is_of(span.plan()) => Ok(run),
+        _ => {
+            let plan = Arc::try_clone(span.plan())?;
+            let settings = Arc::try_clone(span.settings())?;
+            UnderWay::new(alloc, plan, settings)
+        }
+    }
+}
+
+// Makes a run stand before the steps of a span, under its settings: where it does not go on, it takes the road up.
+// Answers whether it does; else it cannot have a car of the road.
+fn is_ready(
+    alloc: Global,
+    span: &Span,
+    road: &Road,
+    run: &mut UnderWay,
+) -> Result<bool, OutOfMemory>
+    requires { run.old.plan ≡ span.now.plan }
+    ensures ready { IfOk result (λ is. IsTrue is → IsReady 0 span.now.plan.cells span.now road.now run.new) }
+    ensures some { IfOk result (λ is. IsRunnable 0 span.now.plan.cells span.now.plan road.now → IsTrue is) }
+{
+    if !run.is_at(span.step(), road) {
+        let end = span.plan().length();
+        return is_taken_up(alloc, span, Stretch { first: 0, end }, road, run);
+    }
+    if !run.is_under(span.settings()) {
+        run.change(alloc, Arc::try_clone(span.settings())?)?;
+    }
+    Ok(true)
+}
+
+// Makes a run take a road up on the cells of a stretch, before the steps of a span. Answers whether it did; else it cannot
+// have a car of the road.
+pub(crate) fn is_taken_up(
+    alloc: Global,
+    span: &Span,
+    stretch: Stretch,
+    road: &Road,
+    run: &mut UnderWay,
+) -> Result<bool, OutOfMemory>
+    requires plan { run.old.plan ≡ span.now.plan }
+    requires on_road { stretch.end ≤ span.now.plan.cells }
+    ensures ready { IfOk result (λ is. IsTrue is → IsReady stretch.first stretch.end span.now road.now run.new) }
+    ensures some { IfOk result (λ is. IsRunnable stretch.first stretch.end span.now.plan road.now → IsTrue is) }
+{
+    let _ = span.steps();
+    let settings = Arc::try_clone(span.settings())?;
+    run.take_up(alloc, settings, span.step(), stretch, road)
+}
+
+// Goes on with a run for the steps of a span.
+fn ran_on(alloc: Global, span: &Span, road: &Road, run: &mut UnderWay) -> Result<Ran, OutOfMemory>
+    requires { IsReady 0 span.now.plan.cells span.now road.now run.old }
+    ensures road { IfOk result (λ ran. ran.road ≡ span_road span.now road.now) }
+    ensures totals { IfOk result (λ ran. ran.totals.items ≡ span_totals span.now road.now) }
+{
+    let _ = road;
+    make_steps(span, run);
+    Ok(Ran {
+        road: run.road(alloc)?,
+        totals: run.totals(alloc)?,
+    })
+}
+
+// Makes the steps of a span, and counts in them alone.
+pub(crate) fn make_steps(span: &Span, run: &mut UnderWay)
+    requires { run.old.step ≡ span.now.step }
+    ensures { run.new ≡ after_steps span.now.steps (uncounted run.old) }
+{
+    run.restart_counts();
+    for _ in 0..span.steps() {
+        run.step();
+    }
+}

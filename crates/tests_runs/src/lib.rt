@@ -1,0 +1,15 @@
+//! Tests of runs under way.
+#![tactic(auto)]
+
+#[cfg(test)]
+mod beside;
+#[cfg(test)]
+mod counts;
+#[cfg(test)]
+mod refused;
+#[cfg(test)]
+mod roads;
+#[cfg(test)]
+mod stretches;
+#[cfg(test)]
+mod worked;
