@@ -1,40 +1,24 @@
 -- The road with its entries between two cells: on the whole road it is all of it, and it agrees with it there.
-use Rattle.std.specs.Prelude.{◌≡◌, ℕ, zero, suc, ◌+◌, ◌-◌, ◌*◌, ◌<◌, ◌≤◌, List, [], ◌∷◌, length, map, min, IfOk}
+use Rattle.std.specs.Prelude.{◌≡◌, ℕ, zero, suc, ◌+◌, ◌-◌, ◌*◌, ◌<◌, ◌≤◌, List, [], ◌∷◌, length, map, min}
 use Rattle.std.specs.List.{range_with_len}
 use Rattle.std.specs.declared.option.Option.{Option}
 use Rattle.std.specs.declared.option.Option.TheVariants.{None, Some}
-use Rattle.std.specs.declared.result.Result.{Result}
-use Rattle.std.specs.declared.result.Result.TheVariants.{Ok, Err}
 use Rattle.std.proofs.Common.{sym, ap, subst, ◌∙◌, inl, inr, arith}
 use Rattle.std.proofs.lemmas.Bool.{cases_lt}
 use Rattle.std.proofs.lemmas.List.FromFn.{length-map-range_with_len}
 use Rattle.road_plan.specs.Plan.{Plan}
 use Rattle.road_plan.specs.Settings.{Settings}
 use Rattle.road_cells.specs.Array.{Array, Vehicle, vehicle_at}
-use Rattle.road_cells.specs.Cars.{AreRising, AreRisingFrom, array_of, cars_from, end_of, vehicle_among}
+use Rattle.road_cells.specs.Cars.{array_of, cars_from, end_of, vehicle_among}
 use Rattle.road_cells.specs.declared.car.Car.{Car}
 use Rattle.road_cells.specs.declared.car.TheConstants.{GREATEST_SPEED}
 use Rattle.road_cells.proofs.ArrayPlaces.{length-array, past_array, past_end, vehicle_at-array}
-use Rattle.road_cells.proofs.CarLists.{array_of-cars_from, rise-cars_from, vehicle_at-array_of, vehicle_among-cars_from}
+use Rattle.road_cells.proofs.CarLists.{array_of-cars_from, vehicle_at-array_of, vehicle_among-cars_from}
 use Rattle.road_ends.specs.Entries.{road_with_entries}
 use Rattle.road_ends.specs.Input.{StepInput, input_of}
 use Rattle.road_ends.specs.Laws.{AgreeNear}
 use Rattle.road_ends.specs.EntriesBetween.{entries_between, input_between, with_entry}
 use Rattle.road_ends.specs.Span.{Span, IsInputNear}
-
--- what follows of an answer
-pub if_made : {A E : Type 0} {P Q : A → Type 0} (r : Result A E) → ((x : A) → P x → Q x) → IfOk r P → IfOk r Q
-if_made (Ok x) f is = f x is
-if_made (Err e) f is = tt
-
--- cars that rise from a cell on rise
-pub rise_less : (k : ℕ) (cars : List Car) → AreRisingFrom k cars → AreRising cars
-rise_less k [] rise = tt
-rise_less k (car ∷ cars) rise = ((omega arith), rise.1)
-
--- so do those that a function gives between two cells
-pub rise-between : (f : ℕ → Option Vehicle) (lo hi : ℕ) → AreRising (cars_from lo (map f (range_with_len lo (hi - lo))))
-rise-between f lo hi = rise_less lo (cars_from lo (map f (range_with_len lo (hi - lo)))) (rise-cars_from lo (map f (range_with_len lo (hi - lo))))
 
 -- cars end where their places do
 pub end_of-cars_from : (k : ℕ) (places : List (Option Vehicle)) → end_of (cars_from k places) ≤ k + length places

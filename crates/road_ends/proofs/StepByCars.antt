@@ -181,10 +181,6 @@ module _ (f : ℕ → Option Vehicle) (n : ℕ) where
   unfolding cars_left
   all_here cell done all past rest = let none : n - cell ≡ 0 = omega arith in sym (append-nil done) ∙ ap (λ k. done ++ cars_from cell (map f (range_with_len cell k))) (sym none) ∙ rest
 
-  pub left_from : (cell : ℕ) → cars_left cell ≡ cars_from cell (map f (range_with_len cell (n - cell)))
-  unfolding cars_left
-  left_from cell = refl
-
   pub all_left : cars_left 0 ≡ cars_from 0 (map f (range_with_len 0 n))
   unfolding cars_left
   all_left = let all : n - 0 ≡ n = omega arith in ap (λ k. cars_from 0 (map f (range_with_len 0 k))) all
