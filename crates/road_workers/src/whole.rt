@@ -15,6 +15,7 @@ use road_cells::Road;
 use road_columns::UnderWay;
 use road_detector::Ran;
 use road_ends::{OutOfMemory, Span, Stretch};
+use road_plan::limits::GREATEST_HORIZON;
 use std::alloc::Global;
 use std::sync::Arc;
 
@@ -96,7 +97,7 @@ pub(crate) fn is_taken_up(
     ensures ready { IfOk result (λ is. IsTrue is → IsReady stretch.first stretch.end span.now road.now run.new) }
     ensures some { IfOk result (λ is. IsRunnable stretch.first stretch.end span.now.plan road.now → IsTrue is) }
 {
-    let _ = span.steps();
+    prove!(span.steps() <= GREATEST_HORIZON);
     let settings = Arc::try_clone(span.settings())?;
     run.take_up(alloc, settings, span.step(), stretch, road)
 }
@@ -107,7 +108,6 @@ fn ran_on(alloc: Global, span: &Span, road: &Road, run: &mut UnderWay) -> Result
     ensures road { IfOk result (λ ran. ran.road ≡ span_road span.now road.now) }
     ensures totals { IfOk result (λ ran. ran.totals.items ≡ span_totals span.now road.now) }
 {
-    let _ = road;
     make_steps(span, run);
     Ok(Ran {
         road: run.road(alloc)?,
