@@ -40,14 +40,10 @@ pub fn cars_have_digits(plan: &Plan)
 /// Locality in space: what a detector counts in a step depends on the 9 cells behind its site and as many from it on.
 pub fn counts_depend_on_cells_nearby(plan: &Plan)
     ensures { CountCellsNearby plan.now }
-{
-    let _ = plan;
-}
+{}
 
 /// So do its counts of some steps: they depend on the cells that are 9 for each step behind the site, and on as many from
 /// it on.
 pub fn totals_depend_on_cells_nearby(plan: &Plan)
     ensures { CountCellsNearbyInSteps plan.now }
-{
-    let _ = plan;
-}
+{}

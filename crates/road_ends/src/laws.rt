@@ -11,6 +11,7 @@ ghost use Rattle.road_ends.specs.Laws.{DependOnEarlierSettings};
 ghost use Rattle.road_ends.specs.Speed.{gap};
 
 use road_cells::Road;
+use road_plan::limits::GREATEST_LENGTH;
 use road_plan::{Plan, Settings};
 
 /// Counts the free cells in front of the car at a place of the road's list, by [`Road::gap`]: they are the gap of the
@@ -22,57 +23,46 @@ pub fn gap_on_road(plan: &Plan, settings: &Settings, road: &Road, place: usize) 
     requires car { place < length (cars_of road.now) }
     ensures { result ≡ gap plan.now settings.now road.now (cell_at (cars_of road.now) place) }
 {
-    let _ = plan;
     road.gap(place, settings.blocks())
 }
 
 /// No car is faster than the greatest speed, 9 cells per step.
 pub fn cars_keep_below_greatest_speed(plan: &Plan)
     ensures { HoldsInEachStep KeepBelowGreatestSpeed plan.now }
-{
-    let _ = plan;
-}
+{}
 
 /// A car stays behind the cell of the next one: no two cars share a cell, and none passes through another.
 pub fn cars_never_collide(plan: &Plan)
     ensures { HoldsInEachStep NeverCollide plan.now }
-{
-    let _ = plan;
-}
+{}
 
 /// At most one car comes to a cell.
 pub fn cars_arrive_alone(plan: &Plan)
     ensures { HoldsInEachStep ArriveAlone plan.now }
-{
-    let _ = plan;
-}
+{}
 
 /// Cars keep their order.
 pub fn cars_keep_order(plan: &Plan)
     ensures { HoldsInEachStep KeepOrder plan.now }
-{
-    let _ = plan;
-}
+{}
 
 /// No car drives onto a blocked cell of the road or past it, whatever the settings.
 pub fn cars_stop_at_blocks(plan: &Plan)
     ensures { HoldsInEachStep StopAtBlocks plan.now }
-{
-    let _ = plan;
-}
+{}
 
 /// No number is on the road twice.
 pub fn cars_have_own_numbers(plan: &Plan)
     ensures { HaveOwnNumbers plan.now }
 {
-    let _ = plan.length();
+    prove!(plan.length() <= GREATEST_LENGTH);
 }
 
 /// Each car is before the deleted zone, at most as fast as the greatest speed, and numbered by a step that was before.
 pub fn cars_stay_on_road(plan: &Plan)
     ensures { StayOnRoad plan.now }
 {
-    let _ = plan.length();
+    prove!(plan.length() <= GREATEST_LENGTH);
 }
 
 /// Up to the greatest horizon each car's number is below 2^24.
@@ -85,14 +75,10 @@ pub fn car_numbers_are_short(plan: &Plan)
 /// Locality: settings from a step on change no state up to that step.
 pub fn runs_depend_on_earlier_settings(plan: &Plan)
     ensures { DependOnEarlierSettings plan.now }
-{
-    let _ = plan;
-}
+{}
 
 /// Locality in space: nothing drives farther in a step than 9 cells, and no car looks farther ahead. So what stands on a
 /// stretch after some steps depends on its cells alone, and on so many more behind it and ahead of it.
 pub fn roads_depend_on_cells_nearby(plan: &Plan)
     ensures { DependOnCellsNearby plan.now }
-{
-    let _ = plan;
-}
+{}

@@ -15,7 +15,7 @@ use road_ends::{Span, StepInput};
 use std::alloc::Global;
 use std::sync::Arc;
 
-/// Whoever computes the speeds of a step.
+/// Whoever runs a road: the steps of a span at once, or one step after another.
 pub trait Crew {
     /// A count: how often it has answered `WorkersGone`, at most 2^64 - 1. Contracts alone see it.
     ghost times_gone: { Self → ℕ };
@@ -48,8 +48,6 @@ pub trait Crew {
         ensures totals { IfOk result (λ done. IfSome done (λ ran. ran.totals.items ≡ span_totals span.now road.now)) }
         ensures gone { times_gone self.new ≡ gone_after result (times_gone self.old) }
     {
-        let _ = span;
-        let _ = road;
         Ok(None)
     }
 }

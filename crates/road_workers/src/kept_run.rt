@@ -2,8 +2,9 @@
 
 use road_columns::UnderWay;
 
-/// A run under way that is kept from span to span, and lent to [`Crew::run`](crate::Crew::run). A span that begins where
-/// the last one ended goes on with it, so that no random word is drawn twice. What it holds changes no result.
+/// A run under way that is kept from span to span, and lent to [`Crew::run`](crate::Crew::run). A span of the whole road
+/// that begins where the last one ended goes on with it, so that no random word is drawn twice; a stretch takes it up
+/// anew. What it holds changes no result.
 #[derive(Drop)]
 pub struct KeptRun {
     pub(crate) run: Option<UnderWay>,

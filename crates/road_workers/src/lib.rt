@@ -1,4 +1,5 @@
-//! Crews: who computes the speeds of a step. Whoever it is, and with however many workers, the speeds are the same.
+//! Crews: who runs the steps of a span, or computes the speeds of one. Whoever it is, and with however many workers, it
+//! comes to the same.
 //!
 //! ```
 //! // One step of a road, its speeds computed by a crew. Its contract asks that the settings fit the plan.

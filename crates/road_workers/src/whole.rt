@@ -1,12 +1,12 @@
 //! A span of the whole road, run by one thread alone.
 
-ghost use Rattle.std.specs.Prelude.{◌≡◌, ◌+◌, ◌≤◌, IfOk, IfSome, IsSome, IsTrue};
+ghost use Rattle.std.specs.Prelude.{◌≡◌, ◌+◌, ◌≤◌, IfOk, IfSome, IsSome, IsSomeAnd, IsTrue, Ok, OnOk};
 ghost use Rattle.std.specs.Arc.{arc_value};
 ghost use Rattle.road_plan.specs.Plan.{Plan};
 ghost use Rattle.road_plan.specs.declared.limits.TheConstants.{GREATEST_HORIZON};
 ghost use Rattle.road_ends.specs.Span.{span_road};
 ghost use Rattle.road_detector.specs.Passes.{span_totals};
-ghost use Rattle.road_columns.specs.UnderWay.{IsRunnable};
+ghost use Rattle.road_columns.specs.UnderWay.{IsAt, IsRunnable};
 ghost use Rattle.road_workers.specs.Crews.{CanBeRun};
 ghost use Rattle.road_workers.specs.Private.RunsUnderWay.{IsReady, after_steps, uncounted};
 
@@ -15,6 +15,7 @@ use road_cells::Road;
 use road_columns::UnderWay;
 use road_detector::Ran;
 use road_ends::{OutOfMemory, Span, Stretch};
+use road_plan::limits::GREATEST_HORIZON;
 use std::alloc::Global;
 use std::sync::Arc;
 
@@ -29,6 +30,8 @@ pub(crate) fn run_whole(
     ensures road { IfOk result (λ done. IfSome done (λ ran. ran.road ≡ span_road span.now road.now)) }
     ensures totals { IfOk result (λ done. IfSome done (λ ran. ran.totals.items ≡ span_totals span.now road.now)) }
     ensures some { IfOk result (λ done. CanBeRun span.now road.now → IsSome done) }
+    ensures kept { IfOk result (λ done. IfSome done
+        (λ ran. IsSomeAnd kept.new.run (IsAt (span.now.step + span.now.steps) ran.road))) }
 {
     if span.steps() == 0 {
         return Ok(None);
@@ -48,7 +51,8 @@ pub(crate) fn run_of(
     span: &Span,
     kept: Option<UnderWay>,
 ) -> Result<UnderWay, OutOfMemory>
-    ensures { IfOk result (λ run. run.plan ≡ span.now.plan) }
+    ensures plan { IfOk result (λ run. run.plan ≡ span.now.plan) }
+    ensures goes_on { IfSome kept (λ run. run.plan ≡ span.now.plan → result ≡ Ok run) }
 {
     match kept {
         Some(run) if run.is_of(span.plan()) => Ok(run),
@@ -71,6 +75,8 @@ fn is_ready(
     requires { run.old.plan ≡ span.now.plan }
     ensures ready { IfOk result (λ is. IsTrue is → IsReady 0 span.now.plan.cells span.now road.now run.new) }
     ensures some { IfOk result (λ is. IsRunnable 0 span.now.plan.cells span.now.plan road.now → IsTrue is) }
+    ensures goes_on { IsAt span.now.step road.now run.old
+        → OnOk result (run.new ≡ record run.old { settings = span.now.settings }) }
 {
     if !run.is_at(span.step(), road) {
         let end = span.plan().length();
@@ -96,7 +102,7 @@ pub(crate) fn is_taken_up(
     ensures ready { IfOk result (λ is. IsTrue is → IsReady stretch.first stretch.end span.now road.now run.new) }
     ensures some { IfOk result (λ is. IsRunnable stretch.first stretch.end span.now.plan road.now → IsTrue is) }
 {
-    let _ = span.steps();
+    prove!(span.steps() <= GREATEST_HORIZON);
     let settings = Arc::try_clone(span.settings())?;
     run.take_up(alloc, settings, span.step(), stretch, road)
 }
@@ -106,8 +112,8 @@ fn ran_on(alloc: Global, span: &Span, road: &Road, run: &mut UnderWay) -> Result
     requires { IsReady 0 span.now.plan.cells span.now road.now run.old }
     ensures road { IfOk result (λ ran. ran.road ≡ span_road span.now road.now) }
     ensures totals { IfOk result (λ ran. ran.totals.items ≡ span_totals span.now road.now) }
+    ensures at { IfOk result (λ ran. IsAt (span.now.step + span.now.steps) ran.road run.new) }
 {
-    let _ = road;
     make_steps(span, run);
     Ok(Ran {
         road: run.road(alloc)?,

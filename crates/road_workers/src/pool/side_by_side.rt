@@ -11,6 +11,7 @@ use crate::stretch::joining::beside;
 use crate::stretch::{is_near, stretch_at};
 use road_cells::Road;
 use road_ends::{Span, Stretch};
+use road_plan::limits::GREATEST_HORIZON;
 
 // Takes what a stretch of this span comes to where it is still missing: it drops doubles and strangers. The caller runs so
 // many stretches itself, the first ones. Answers whether it took it; all other places stay as they were.
@@ -124,7 +125,7 @@ fn put_behind(
     requires next { IfOk next (IsRunOf stretch.first stretch.end span.now road.now) }
     ensures { IfOk result (IsRunOf 0 stretch.end span.now road.now) }
 {
-    let _ = span.steps();
+    prove!(span.steps() <= GREATEST_HORIZON);
     let front = front?;
     let next = next?;
     beside(span, road, 0, stretch, front, next)

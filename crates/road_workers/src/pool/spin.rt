@@ -4,8 +4,8 @@ use crossbeam_channel::Receiver;
 use std::hint::spin_loop;
 use std::thread::{Threads, available_parallelism};
 
-// How often a thread looks for a message before it sleeps. A look takes some 20 ns. What the caller does between two
-// jobs, which is most of a step, has to fit in: on a road of 8,192 cells it takes 40 to 90 microseconds.
+// How often a thread looks for a message before it sleeps. That is for spans of 64 steps that come one right after
+// another: what the caller does between two of them is to fit in. How long a look takes depends on the machine.
 const LOOKS: u32 = 5_000;
 
 // In how many waits at most a thread sleeps at once after it has looked in vain.
@@ -48,8 +48,8 @@ impl Lookout {
         }
     }
 
-    // Spins until a message is there, or it has looked in vain. To be woken may take a sleeping thread as long as the
-    // speeds of a road of 8,192 cells take. It does not yield the processor.
+    // Spins until a message is there, or it has looked in vain: a thread that spins need not be woken. It does not yield
+    // the processor.
     pub fn spin_for_message<T: Drop>(&mut self, messages: &Receiver<T>) {
         if self.left > 0 {
             self.left -= 1;

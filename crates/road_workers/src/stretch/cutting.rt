@@ -25,7 +25,6 @@ pub(crate) fn cut_out(
     requires after { IsAfter stretch.first stretch.end span.now span.now.steps near.now run.now }
     ensures { IfOk result (IsRunOf stretch.first stretch.end span.now near.now) }
 {
-    let _ = near;
     let mut totals = run.totals(alloc)?;
     forget_outside(&mut totals, span.plan(), stretch);
     let road = run.road(alloc)?;

@@ -41,8 +41,6 @@ pub(crate) fn beside(
     requires run { IsRunOf stretch.first stretch.end span.now road.now run }
     ensures { IfOk result (λ both. IsRunOf first stretch.end span.now road.now both) }
 {
-    let _ = span;
-    let _ = road;
     let StretchRun {
         mut cars,
         mut totals,
@@ -77,8 +75,6 @@ pub(crate) fn road_of(span: &Span, road: &Road, cells: u32, run: StretchRun) -> 
     ensures road { result.road ≡ span_road span.now road.now }
     ensures totals { result.totals.items ≡ span_totals span.now road.now }
 {
-    let _ = span;
-    let _ = road;
     let StretchRun { cars, totals } = run;
     Ran {
         road: Road::of(cars),
