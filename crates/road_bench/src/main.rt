@@ -10,20 +10,21 @@
 //! each of the first zone's limit at the step that is 200 before the horizon. It writes how many steps were computed for
 //! the run, and for each edit, a line each.
 //!
-//! `road_bench crews STEPS TURNS` simulates a replica of the plan from step zero to STEPS by each crew in turn: by one
-//! alone, by 1, 2 and 4 threads made for each step, and by 1, 2 and 4 lasting workers; TURNS times. It writes a line for
-//! each: the crew, its workers, the steps, the cars on the road after them, and the nanoseconds. `road_bench alone STEPS
-//! TURNS` does so by the crew of one, and by no other.
+//! `road_bench crews STEPS TURNS` simulates a replica of the plan from step zero to STEPS by each crew in turn, step by
+//! step: by one alone, by 1, 2 and 4 threads made for each step, and by 1, 2 and 4 lasting workers; TURNS times. It writes
+//! a line for each: the crew, its workers, the steps, the cars on the road after them, and the nanoseconds. `road_bench
+//! alone STEPS TURNS` does so by the crew of one, and by no other, which runs an interval at once.
 //!
 //! `road_bench runs WORKERS RUNS` takes the dense road of 32 cells through its worked rows, RUNS times by a crew of threads
 //! made for each step, and RUNS times by one of lasting workers, each time from step zero by a new crew of 1 to 16 workers.
 //! It prints how many runs gave these rows.
 //!
 //! `road_bench meetings WORKERS RUNS` takes a long road to step 192, RUNS times, each time by a new crew of 1 to 16 lasting
-//! workers, who run a stretch each and wait for each other before that. It prints in how many runs they all met.
+//! workers, who run a stretch each, as the crew cuts this road by its own measure, and wait for each other before that. It
+//! prints in how many runs they all met.
 //!
-//! `road_bench checks WORKERS RUNS WRITES TIMES` is `runs WORKERS RUNS`, `meetings WORKERS RUNS` and then `sessions merge
-//! WRITES TIMES`: what the gate runs.
+//! `road_bench checks WORKERS RUNS WRITES TIMES` is `runs WORKERS RUNS`, `meetings` of 2, of 4 and of WORKERS workers, RUNS
+//! times each, and then `sessions merge WRITES TIMES`: what the gate runs.
 //!
 //! `road_bench sessions merge WRITES RUNS`: eight sessions make WRITES writes each, an edit and an advance by turns, and look
 //! after each; RUNS times. It prints in how many runs the journal was the merge of their writes, and each look had the
@@ -90,7 +91,9 @@ fn work<R: Threads + Wait + Clock + Input + Print + Clone + Drop + Send + Sync +
         ("meetings", [workers, runs]) => meetings::run(rt, alloc, *workers, *runs),
         ("checks", [workers, runs, writes, times]) => {
             dense::run(rt, alloc, *workers, *runs)?;
-            meetings::run(rt, alloc, *workers, *runs)?;
+            for met in [2, 4, *workers] {
+                meetings::run(rt, alloc, met, *runs)?;
+            }
             sessions::work(rt, alloc, "merge", &[*writes, *times])
         }
         _ => Ok(()),

@@ -1,4 +1,4 @@
-//! Runs of a long road, in which all lasting workers are to meet.
+//! Runs of a long road, in which all lasting workers are to meet: the crew cuts the road where that pays by its own measure.
 
 ghost use Rattle.std.specs.Prelude.{◌<◌, ◌≤◌};
 
@@ -57,7 +57,7 @@ fn run_on<R: Threads + Wait + Clock + Print + Clone + Drop + Send + Sync + 'stat
             met = met.saturating_add(1);
         }
     }
-    println!(rt; "in {met} of {runs} runs of a long road all lasting workers met")?;
+    println!(rt; "in {met} of {runs} runs of a long road all {workers} lasting workers met")?;
     Ok(())
 }
 

@@ -98,7 +98,7 @@ fn sheet_at_70(alloc: Global) -> Result<Sheet, Fail> {
     Ok(grow(alloc, &opening, &[], 70, &mut Alone, &mut Meter::new())??)
 }
 
-// Lets each run fail in turn, and then none.
+// Lets each run fail in turn; there is none behind them.
 fn grows_at_last<C: Crew>(
     rt: &impl Abort,
     alloc: Global,
@@ -112,7 +112,8 @@ fn grows_at_last<C: Crew>(
             "at run {runs}"
         );
     }
-    assert!(rt; grows(alloc, sheet, crew)?);
+    crew.fail_after(RUNS, fault);
+    assert!(rt; grows(alloc, sheet, crew)? && crew.fault.is_some());
     Ok(())
 }
 
