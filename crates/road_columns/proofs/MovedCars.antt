@@ -1,7 +1,8 @@
 -- The cars of all regions move by the speeds of the definition, and none comes to the car in front of it.
-use Rattle.std.specs.Prelude.{◌≡◌, ℕ, zero, suc, ◌⊎◌, ◌+◌, ◌-◌, ◌*◌, ◌/◌, ◌%◌, ◌<◌, ◌≤◌, Bool, true, false, List, length, min, slice_index, slice_range}
+use Rattle.std.specs.Prelude.{◌≡◌, ℕ, ◌⊎◌, ◌+◌, ◌-◌, ◌*◌, ◌/◌, ◌%◌, ◌<◌, ◌≤◌, Bool, true, false, List, length, min, nat_eq, slice_index, slice_range, if◌then◌else◌}
 use Rattle.std.proofs.Common.{ap, ◌∙◌, arith, inl, inr, refl, subst, sym}
 use Rattle.std.proofs.lemmas.Bool.{cases_lt}
+use Rattle.std.proofs.lemmas.Bool.Decides.{nat_tests}
 use Rattle.std.specs.List.Sorted.{IsNonDecreasing}
 use Rattle.road_plan.specs.Plan.{Plan, exit_start}
 use Rattle.road_plan.specs.Settings.{Settings, Fits}
@@ -33,6 +34,16 @@ slowed_small wish false = omega arith
 wish_small : (limit block q : ℕ) (cells old : List ℕ) → limit ≤ GREATEST_SPEED
     → (wish_at limit block cells old q ≤ min (slice_index cells (q - 1)) block - (slice_index cells q + 1)) × (wish_at limit block cells old q ≤ GREATEST_SPEED)
 wish_small limit block q cells old few = ((omega arith), omega arith)
+
+none_comes : (word chance : ℕ) → chance ≡ 0 → comes_about word chance ≡ false
+none_comes word chance none = grind (arith, nat_tests)
+
+chance_none : (speed standing moving : ℕ) → standing ≡ 0 → moving ≡ 0 → chance_at speed standing moving ≡ 0
+chance_none speed standing moving none_standing none_moving = either (nat_eq speed 0)
+  where
+    either : (is : Bool) → (if is then standing else moving) ≡ 0
+    either true = none_standing
+    either false = none_moving
 
 -- in front of a region's cells is its next blocked cell
 pub block_ahead : (p : Plan) (s : Settings) (regions : List Region) (r c : ℕ) → p.cells ≤ 65520 → AreRegionsOf p s regions → IsInRegion regions r c → c < exit_start p → c < (region_at regions r).block
@@ -68,15 +79,11 @@ module _ (p : Plan) (s : Settings) (t : ℕ) (regions : List Region) (cells old 
 
   -- a chance of 0 never comes about
   never : (chance : ℕ) → chance ≡ 0 → (u w wish : ℕ) → slowed_speed wish (comes_about u chance) ≡ slowed_speed wish (comes_about w chance)
-  never chance none u w wish = let a : comes_about u chance ≡ false = ap (comes_about u) none in let b : comes_about w chance ≡ false = ap (comes_about w) none in
+  never chance none u w wish = let a : comes_about u chance ≡ false = none_comes u chance none in let b : comes_about w chance ≡ false = none_comes w chance none in
       ap (slowed_speed wish) (a ∙ sym b)
 
   no_chance : (r q : ℕ) → r < length regions → AreFree regions → chance_at (slice_index old q) (region_at regions r).chances.standing (region_at regions r).chances.moving ≡ 0
   no_chance r q within none = chance_none (slice_index old q) (region_at regions r).chances.standing (region_at regions r).chances.moving (none r within).0 (none r within).1
-    where
-      chance_none : (v start drive : ℕ) → start ≡ 0 → drive ≡ 0 → chance_at v start drive ≡ 0
-      chance_none zero start drive a b = a
-      chance_none (suc v) start drive a b = b
 
   -- the new speed is that by the word of the car
   by_word : (q r : ℕ) → head ≤ q → q < tail → IsOfRegion (length regions) ends r q → (w : ℕ)
@@ -85,13 +92,13 @@ module _ (p : Plan) (s : Settings) (t : ℕ) (regions : List Region) (cells old 
       (comes_about w (chance_at (slice_index old q) (region_at regions r).chances.standing (region_at regions r).chances.moving))
   by_word q r low high of w right = elim (bool_cases worded) as (λ _. slice_index vs q ≡ slowed_speed (wish_at (region_at regions r).chances.limit (region_at regions r).block cells old q)
       (comes_about w (chance_at (slice_index old q) (region_at regions r).chances.standing (region_at regions r).chances.moving))) [
-    | inl is ↦ by_regions r q of low w (λ moves. subst (λ h. IsHigh16At (slice_range rows (t % 64 * width) (t % 64 * width + width)) (4 * (t % 64 % 16) + t % 64 / 16) n beside batches q h) (right moves) (drawn is q r low high moves))
-    | inr not ↦
-        let some = some_high16 (slice_range rows (t % 64 * width) (t % 64 * width + width)) (4 * (t % 64 % 16) + t % 64 / 16) n beside batches q places in
-        let whole : some.0 ≡ some.0 * 65536 / 65536 = omega arith in
-        by_regions r q of low (some.0 * 65536) (λ _. subst (λ h. IsHigh16At (slice_range rows (t % 64 * width) (t % 64 * width + width)) (4 * (t % 64 % 16) + t % 64 / 16) n beside batches q h) whole some.1)
-        ∙ never (chance_at (slice_index old q) (region_at regions r).chances.standing (region_at regions r).chances.moving) (no_chance r q of.within (free not)) (some.0 * 65536) w (wish_at (region_at regions r).chances.limit (region_at regions r).block cells old q)
-  ]
+        | inl is ↦ by_regions r q of low w (λ moves. subst (λ h. IsHigh16At (slice_range rows (t % 64 * width) (t % 64 * width + width)) (4 * (t % 64 % 16) + t % 64 / 16) n beside batches q h) (right moves) (drawn is q r low high moves))
+        | inr not ↦
+            let some = some_high16 (slice_range rows (t % 64 * width) (t % 64 * width + width)) (4 * (t % 64 % 16) + t % 64 / 16) n beside batches q places in
+            let whole : some.0 ≡ some.0 * 65536 / 65536 = omega arith in
+            by_regions r q of low (some.0 * 65536) (λ _. subst (λ h. IsHigh16At (slice_range rows (t % 64 * width) (t % 64 * width + width)) (4 * (t % 64 % 16) + t % 64 / 16) n beside batches q h) whole some.1)
+            ∙ never (chance_at (slice_index old q) (region_at regions r).chances.standing (region_at regions r).chances.moving) (no_chance r q of.within (free not)) (some.0 * 65536) w (wish_at (region_at regions r).chances.limit (region_at regions r).block cells old q)
+      ]
     where
       bool_cases : (b : Bool) → (b ≡ true) ⊎ (b ≡ false)
       bool_cases true = inl refl

@@ -1,7 +1,7 @@
 //! The cars of a step enter the road in columns.
 
 ghost use Rattle.std.specs.Prelude.{◌≡◌, ◌≢◌, ◌<◌, ◌≤◌, ◌+◌, ◌-◌, ◌*◌, ◌/◌, ◌%◌, ◌^◌, ◌⊎◌, ◌&&◌, ℕ, None, length};
-ghost use Rattle.std.specs.Prelude.{slice_index, slice_range};
+ghost use Rattle.std.specs.Prelude.{slice_index, slice_range, IsTrue};
 ghost use Rattle.std.specs.List.{slice_index_or};
 ghost use Rattle.road_plan.specs.Settings.{Fits};
 ghost use Rattle.road_plan.specs.declared.limits.TheConstants.{MOST_INLETS};

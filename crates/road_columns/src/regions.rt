@@ -28,9 +28,7 @@ pub struct Region {
 pub fn are_slowing(regions: &[Region]) -> bool
     ensures { IsFalse result → AreFree regions.now }
 {
-    regions
-        .iter()
-        .any(|region| region.chances.standing > 0 || region.chances.moving > 0)
+    regions.iter().any(|region| region.chances.standing > 0 || region.chances.moving > 0)
 }
 
 /// Moves the cars at the places from `head` to before `tail`, region by region from the near end on. `ends` has for

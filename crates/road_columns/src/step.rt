@@ -156,8 +156,24 @@ pub fn step_in_columns(
     );
     cells[tail] = 0;
     let head = move_cars(
-        plan, settings, regions, step, cells, speeds, numbers, head, tail, rows, width, beside,
-        batches, entered, extent.worded, sites, places, passes,
+        plan,
+        settings,
+        regions,
+        step,
+        cells,
+        speeds,
+        numbers,
+        head,
+        tail,
+        rows,
+        width,
+        beside,
+        batches,
+        entered,
+        extent.worded,
+        sites,
+        places,
+        passes,
     );
     Extent {
         head,

@@ -53,8 +53,8 @@ returns-clause-span c goes =
 
 -- what makes the one true leaves it false where the other is
 still_false : (a b : Bool) → (a ≡ true → b ≡ true) → b ≡ false → a ≡ false
-still_false false b makes no = refl
-still_false true b makes no = sym (makes refl) ∙ no
+still_false false b makes is = refl
+still_false true b makes is = sym (makes refl) ∙ is
 
 pub step_in_columns-done-requires-clause-free : goal.step_in_columns-done-requires-clause-free
-step_in_columns-done-requires-clause-free c no = c.are_slowing-slowing.ensures (still_false c.are_slowing-slowing.result c.ready-begun.result.worded c.ready-begun.ensures.worded no)
+step_in_columns-done-requires-clause-free c is = c.are_slowing-slowing.ensures (still_false c.are_slowing-slowing.result c.ready-begun.result.worded c.ready-begun.ensures.worded is)
