@@ -42,6 +42,7 @@ pub mod StepSites
 pub mod RegionsCut
 pub mod CarsEntered
 pub mod HeldLists
+pub mod HighWords
 pub mod HeldCars
 pub mod ShiftedColumns
 pub mod SpanStarts

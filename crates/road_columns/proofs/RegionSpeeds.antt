@@ -14,7 +14,6 @@ use Rattle.road_ends.specs.Speed.{speeds}
 use Rattle.road_columns.proofs.SpeedAhead.{IsNthOrNowhere}
 use Rattle.road_columns.specs.Columns.{AreColumnsOf, mirrored}
 use Rattle.road_columns.specs.Private.Motion.{chance_at}
-use Rattle.road_columns.specs.Private.Pieces.{IsHigh16At}
 use Rattle.road_columns.specs.Private.Regions.{AreOfZone, IsInRegion, IsRegionOf, region_at, wish_at}
 use Rattle.road_columns.specs.declared.regions.Region.{Region}
 use Rattle.road_columns.proofs.ColumnPlaces.{range_at, range_long}
@@ -28,12 +27,11 @@ module _ (p : Plan) (s : Settings) (t : ℕ) (a : Array) (cells old numbers : Li
   abbrev wish : ℕ
   wish = wish_at (region_at regions r).chances.limit (region_at regions r).block cells old q
 
-  pub region_speed : (v : ℕ) (row : List ℕ) (index n : ℕ) (beside : List ℕ) (batches : List (List ℕ))
-      → (0 < wish → IsHigh16At row index n beside batches q (word p.words (slice_index numbers q) t / 65536))
-      → ((word : ℕ) → (0 < wish → IsHigh16At row index n beside batches q (word / 65536))
-      → v ≡ slowed_speed wish (comes_about word (chance_at (slice_index old q) (region_at regions r).chances.standing (region_at regions r).chances.moving)))
+  pub region_speed : (v : ℕ)
+      → ((w : ℕ) → (0 < wish → word p.words (slice_index numbers q) t / 65536 ≡ w / 65536)
+      → v ≡ slowed_speed wish (comes_about w (chance_at (slice_index old q) (region_at regions r).chances.standing (region_at regions r).chances.moving)))
       → v ≡ slice_index (speeds p s t a) (mirrored (length (slice_range cells head tail)) (q - head))
-  region_speed v row index n beside batches drawn is = elim (cases_lt region.reached (length s.blocks)) as (λ _. v ≡ slice_index (speeds p s t a) (mirrored (length (slice_range cells head tail)) (q - head))) [
+  region_speed v is = elim (cases_lt region.reached (length s.blocks)) as (λ _. v ≡ slice_index (speeds p s t a) (mirrored (length (slice_range cells head tail)) (q - head))) [
     | inl some ↦
         let b = region.block_is some in
         by_front (slice_index s.blocks region.reached) (record { here = λ _. refl; none = λ past. absurd (omega arith) })
@@ -82,7 +80,7 @@ module _ (p : Plan) (s : Settings) (t : ℕ) (a : Array) (cells old numbers : Li
           (subst (λ c. AreOfZone s.limits s.starts s.chances (zone_of p c) (region_at regions r).chances.limit (region_at regions r).chances.standing (region_at regions r).chances.moving) (sym cell_is)
           (region.alike (slice_index cells q) in_region on_road))
           (λ _. refl)
-          (λ w right. is w (λ moves. subst (λ h. IsHigh16At row index n beside batches q h) (ap (λ m. word p.words m t / 65536) (sym number_is) ∙ right (subst (λ m. 0 < m) (sym wish_is) moves)) (drawn moves))
+          (λ w right. is w (λ moves. ap (λ m. word p.words m t / 65536) (sym number_is) ∙ right (subst (λ m. 0 < m) (sym wish_is) moves))
           ∙ (λ j. slowed_speed (sym wish_is j) (comes_about w (chance_at (sym speed_is j) (region_at regions r).chances.standing (region_at regions r).chances.moving))))
 
       -- in front is a car, or nobody far off

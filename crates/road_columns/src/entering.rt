@@ -1,7 +1,7 @@
 //! The cars of a step enter the road in columns.
 
 ghost use Rattle.std.specs.Prelude.{◌≡◌, ◌≢◌, ◌<◌, ◌≤◌, ◌+◌, ◌-◌, ◌*◌, ◌/◌, ◌%◌, ◌^◌, ◌⊎◌, ◌&&◌, ℕ, None, length};
-ghost use Rattle.std.specs.Prelude.{slice_index, slice_range};
+ghost use Rattle.std.specs.Prelude.{slice_index, slice_range, IsTrue};
 ghost use Rattle.std.specs.List.{slice_index_or};
 ghost use Rattle.road_plan.specs.Settings.{Fits};
 ghost use Rattle.road_plan.specs.declared.limits.TheConstants.{MOST_INLETS};
@@ -21,7 +21,7 @@ ghost use Rattle.road_columns.specs.Private.Entered.{AreInOrder};
 ghost use Rattle.road_columns.specs.Private.EnteredList.{ArePlacesRising, entered_in};
 ghost use Rattle.road_columns.specs.Private.LooseWords.{AreFalling, HaveLooseWords};
 
-use crate::entered::enter_words;
+use crate::entered::keep_words;
 use crate::words::{Batch, Source};
 use road_cells::is_blocked;
 use road_plan::limits::{CERTAIN, MOST_INLETS};
@@ -108,10 +108,11 @@ fn comes(high16: u16, chance: u32) -> bool
     chance >= CERTAIN || u32::from(high16) < chance
 }
 
-/// Lets the cars of a step enter between two cells, one inlet after another, and keeps the words of each at the steps
-/// that are left of the span. The cars stand at the places from `head` to before `tail` of the columns, the one at the
-/// far end first; in front of them a cell past the road's end. Of the sites, whose kept places move on, the first ones
-/// are the inlets' cells. Returns the new tail, and how many have entered between others in the span.
+/// Lets the cars of a step enter between two cells, one inlet after another, and, where `worded`, keeps the words of
+/// each at the steps that are left of the span. The cars stand at the places from `head` to before `tail` of the
+/// columns, the one at the far end first; in front of them a cell past the road's end. Of the sites, whose kept places
+/// move on, the first ones are the inlets' cells. Returns the new tail, and how many have entered between others in the
+/// span.
 #[inline(never)]
 pub fn enter(
     plan: &Plan,
@@ -133,6 +134,7 @@ pub fn enter(
     beside: &mut [u32],
     batches: &mut [Batch],
     entered: usize,
+    worded: bool,
 ) -> (usize, usize)
     requires fits { Fits plan.now settings.now }
     requires step { step < 2 ^ 27 }
@@ -178,7 +180,7 @@ pub fn enter(
         (slice_range numbers.old head tail)
         → AreColumnsOf (entries_between lo hi plan.now settings.now step a) (slice_range cells.new head result.0)
         (slice_range speeds.new head result.0) (slice_range numbers.new head result.0) }
-    ensures kept_words { (kind : WordKind)
+    ensures kept_words { IsTrue worded → (kind : WordKind)
         → ((stream place : ℕ) → drawn_word source stream place ≡ word kind stream place)
         → HaveLooseWords kind (64 * (step / 64)) width (step % 64) rows.old
         (entered_in entered beside.old batches.old) head tail cells.old (slice_index numbers.old)
@@ -193,17 +195,8 @@ pub fn enter(
             let place = places[inlet] as usize;
             if cells[place - 1] != cell {
                 let number = step * MOST_INLETS as u32 + inlet as u32;
-                let words = source.batch(u64::from(number), step / 64);
-                between = enter_words(
-                    &words,
-                    rows,
-                    width,
-                    (step % 64) as usize,
-                    place,
-                    end,
-                    beside,
-                    batches,
-                    between,
+                between = keep_words(
+                    worded, source, number, step, rows, width, place, end, beside, batches, between,
                 );
                 insert(cells, place, end, cell);
                 insert(speeds, place, end, 0);

@@ -1,13 +1,13 @@
 //! The motion of the cars in all regions of the road.
 
-ghost use Rattle.std.specs.Prelude.{◌≡◌, ◌<◌, ◌≤◌, ◌+◌, ◌-◌, ◌/◌, ◌⊎◌, ℕ, length, min, slice_index};
+ghost use Rattle.std.specs.Prelude.{◌≡◌, ◌<◌, ◌≤◌, ◌+◌, ◌-◌, ◌/◌, ◌⊎◌, ℕ, length, min, slice_index, IsFalse};
 ghost use Rattle.road_cells.specs.declared.car.TheConstants.{GREATEST_SPEED};
 ghost use Rattle.road_rules.specs.Speeds.{comes_about, slowed_speed};
 ghost use Rattle.road_columns.specs.Private.EnteredList.{ArePlacesRising};
 ghost use Rattle.road_columns.specs.Private.LooseWords.{AreFalling};
 ghost use Rattle.road_columns.specs.Private.Motion.{chance_at};
 ghost use Rattle.road_columns.specs.Private.Pieces.{IsHigh16At};
-ghost use Rattle.road_columns.specs.Private.Regions.{IsOfRegion, region_at, wish_at};
+ghost use Rattle.road_columns.specs.Private.Regions.{AreFree, IsOfRegion, region_at, wish_at};
 
 use crate::motion::Chances;
 use crate::pieces::advance_between;
@@ -22,6 +22,13 @@ pub struct Region {
     pub chances: Chances,
     /// The first blocked cell in front of its cells, or a cell past all roads.
     pub block: u16,
+}
+
+/// Answers whether cars are slowed in a region.
+pub fn are_slowing(regions: &[Region]) -> bool
+    ensures { IsFalse result → AreFree regions.now }
+{
+    regions.iter().any(|region| region.chances.standing > 0 || region.chances.moving > 0)
 }
 
 /// Moves the cars at the places from `head` to before `tail`, region by region from the near end on. `ends` has for

@@ -1,12 +1,15 @@
 //! A span's start.
 
 ghost use Rattle.std.specs.Prelude.{◌≡◌, ◌<◌, ◌≤◌, ◌+◌, ◌-◌, ◌*◌, ◌/◌, ◌^◌, ℕ, List, length, slice_index, slice_range};
+ghost use Rattle.std.specs.Prelude.{IsTrue, []};
+ghost use Rattle.road_plan.specs.declared.parts.WordKind.{WordKind};
 ghost use Rattle.road_plan.specs.Plan.{IsWithinLimits};
 ghost use Rattle.road_words.specs.Words.{word};
 ghost use Rattle.road_cells.specs.Array.{Array};
 ghost use Rattle.road_columns.specs.Columns.{AreColumnsOf};
 ghost use Rattle.road_columns.specs.Private.Drawn.{drawn_word};
 ghost use Rattle.road_columns.specs.Private.Entering.{ArePlacesFrom};
+ghost use Rattle.road_columns.specs.Private.LooseWords.{AreFalling, HaveLooseWords};
 ghost use Rattle.road_columns.specs.Private.Spans.{HaveSpan};
 ghost use Rattle.road_columns.specs.Private.Step.{AreCarsInColumn};
 
@@ -16,8 +19,8 @@ use crate::spans::draw_cars;
 use crate::words::{Batch, Source};
 use road_plan::Plan;
 
-/// Makes columns ready for the steps of a span that are left from one on: moves them back, and draws the words of all
-/// cars and inlets. Returns the place behind the last car.
+/// Makes columns ready for the steps of a span that are left from one on: moves them back, and draws the words of the
+/// inlets and, where `worded`, of all cars. Returns the place behind the last car.
 pub fn start_span(
     plan: &Plan,
     step: u32,
@@ -30,6 +33,7 @@ pub fn start_span(
     places: &mut [u32],
     head: usize,
     tail: usize,
+    worded: bool,
 ) -> usize
     requires step { step < 2 ^ 27 }
     requires within { IsWithinLimits plan.now }
@@ -57,11 +61,12 @@ pub fn start_span(
         → AreColumnsOf a (slice_range cells.new FIRST result) (slice_range speeds.new FIRST result)
         (slice_range numbers.new FIRST result) }
     ensures span { (beside : List ℕ) → (batches : List (List ℕ)) → HaveSpan plan.now step (length cells.new + 8) FIRST
-        result 0 cells.new numbers.new rows.new beside batches inlets.new }
+        result 0 worded cells.new numbers.new rows.new beside batches inlets.new }
 {
     let end = shift_back(cells, speeds, numbers, places, head, tail);
     draw_inlets(source, step / 64, inlets);
-    draw_cars(
+    draw_where(
+        worded,
         source,
         step / 64,
         cells,
@@ -72,4 +77,35 @@ pub fn start_span(
         end,
     );
     end
+}
+
+// Draws the words of the cars at the places from `head` to before `tail`, where `worded`.
+#[inline(always)]
+fn draw_where(
+    worded: bool,
+    source: Source,
+    span: u32,
+    cells: &[u16],
+    numbers: &[u32],
+    rows: &mut [u16],
+    width: usize,
+    head: usize,
+    tail: usize,
+)
+    requires span { span < 2 ^ 26 }
+    requires order { head ≤ tail }
+    requires inside { tail ≤ length cells.now }
+    requires numbers { length numbers.now ≡ length cells.now }
+    requires falling { AreFalling cells.now head tail }
+    requires within { tail + 8 ≤ width }
+    requires rows { length rows.old ≡ 64 * width }
+    requires room { width < 65536 }
+    ensures long { length rows.new ≡ length rows.old }
+    ensures words { IsTrue worded
+        → (kind : WordKind) → ((stream place : ℕ) → drawn_word source stream place ≡ word kind stream place)
+        → (k : ℕ) → HaveLooseWords kind (64 * span) width k rows.new [] head tail cells.now (slice_index numbers.now) }
+{
+    if worded {
+        draw_cars(source, span, cells, numbers, rows, width, head, tail);
+    }
 }

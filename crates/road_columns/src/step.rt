@@ -1,7 +1,7 @@
 //! One step of the cars in columns: entries, motion, counting, exit.
 
 ghost use Rattle.std.specs.Prelude.{◌≡◌, ◌<◌, ◌≤◌, ◌+◌, ◌-◌, ◌*◌, ◌/◌, ◌%◌, ◌^◌, ◌⊎◌, ℕ, None, length, slice_index};
-ghost use Rattle.std.specs.Prelude.{slice_range};
+ghost use Rattle.std.specs.Prelude.{IsFalse, IsTrue, slice_range};
 ghost use Rattle.road_plan.specs.Plan.{IsWithinLimits, exit_start};
 ghost use Rattle.road_plan.specs.Settings.{Fits};
 ghost use Rattle.road_words.specs.Words.{word};
@@ -15,6 +15,7 @@ ghost use Rattle.road_columns.specs.Private.Entered.{AreInOrder};
 ghost use Rattle.road_columns.specs.Private.EnteredList.{ArePlacesRising, entered_in};
 ghost use Rattle.road_columns.specs.Private.Entering.{ArePlacesFrom, AreWordsOfInlets};
 ghost use Rattle.road_columns.specs.Private.LooseWords.{HaveLooseWords};
+ghost use Rattle.road_columns.specs.Private.Regions.{AreFree};
 ghost use Rattle.road_columns.specs.Private.Sites.{IsOfSteps, unpacked};
 ghost use Rattle.road_columns.specs.Private.Step.{AreCarsInColumn, AreRegionsOf, AreSitesOf};
 
@@ -35,6 +36,8 @@ pub struct Extent {
     pub tail: usize,
     /// How many cars have entered in the span between others.
     pub entered: usize,
+    /// Whether the words of the cars are there: where no car is slowed none are needed.
+    pub worded: bool,
 }
 
 /// Computes one step of the cars in columns, on the cells of a stretch: entries, motion, counting, exit. All cars must
@@ -83,8 +86,10 @@ pub fn step_in_columns(
     requires rising { ArePlacesRising extent.entered beside.old }
     requires in_order { AreInOrder (entered_in extent.entered beside.old batches.old) extent.tail }
     requires few { extent.entered ≤ extent.tail }
-    requires words { HaveLooseWords plan.now.words (64 * (step / 64)) width (step % 64) rows.old
+    requires words { IsTrue extent.worded
+        → HaveLooseWords plan.now.words (64 * (step / 64)) width (step % 64) rows.old
         (entered_in extent.entered beside.old batches.old) extent.head extent.tail cells.old (slice_index numbers.old) }
+    requires free { IsFalse extent.worded → AreFree regions.now }
     requires sites { AreSitesOf plan.now regions.now sites.now }
     requires places { ArePlacesFrom cells.old extent.head extent.tail sites.now places.old }
     requires passes { length passes.old ≡ length plan.now.detectors }
@@ -104,7 +109,9 @@ pub fn step_in_columns(
     ensures rising { ArePlacesRising result.entered beside.new }
     ensures in_order { AreInOrder (entered_in result.entered beside.new batches.new) result.tail }
     ensures few { result.entered ≤ result.tail }
-    ensures words { HaveLooseWords plan.now.words (64 * (step / 64)) width (step % 64 + 1) rows.new
+    ensures worded { result.worded ≡ extent.worded }
+    ensures words { IsTrue extent.worded
+        → HaveLooseWords plan.now.words (64 * (step / 64)) width (step % 64 + 1) rows.new
         (entered_in result.entered beside.new batches.new) result.head result.tail cells.new (slice_index numbers.new) }
     ensures places { ArePlacesFrom cells.new result.head result.tail sites.now places.new }
     ensures counted { (d : ℕ) → d < length passes.old → IsOfSteps (step % 64 + 1) (slice_index passes.new d) }
@@ -145,16 +152,34 @@ pub fn step_in_columns(
         beside,
         batches,
         extent.entered,
+        extent.worded,
     );
     cells[tail] = 0;
     let head = move_cars(
-        plan, settings, regions, step, cells, speeds, numbers, head, tail, rows, width, beside,
-        batches, entered, sites, places, passes,
+        plan,
+        settings,
+        regions,
+        step,
+        cells,
+        speeds,
+        numbers,
+        head,
+        tail,
+        rows,
+        width,
+        beside,
+        batches,
+        entered,
+        extent.worded,
+        sites,
+        places,
+        passes,
     );
     Extent {
         head,
         tail,
         entered,
+        worded: extent.worded,
     }
 }
 
@@ -178,6 +203,7 @@ fn move_cars(
     beside: &[u32],
     batches: &[Batch],
     entered: usize,
+    worded: bool,
     sites: &[u16],
     places: &mut [u32],
     passes: &mut [u32],
@@ -193,8 +219,10 @@ fn move_cars(
     requires batches { length batches.now ≡ length beside.now }
     requires rising { ArePlacesRising entered beside.now }
     requires in_order { AreInOrder (entered_in entered beside.now batches.now) tail }
-    requires words { HaveLooseWords plan.now.words (64 * (step / 64)) width (step % 64) rows.now
+    requires words { IsTrue worded
+        → HaveLooseWords plan.now.words (64 * (step / 64)) width (step % 64) rows.now
         (entered_in entered beside.now batches.now) head tail cells.old (slice_index numbers.now) }
+    requires free { IsFalse worded → AreFree regions.now }
     requires sites { AreSitesOf plan.now regions.now sites.now }
     requires places { ArePlacesFrom cells.old head tail sites.now places.old }
     requires passes { length passes.old ≡ length plan.now.detectors }
@@ -206,7 +234,8 @@ fn move_cars(
     ensures as_many_passes { length passes.new ≡ length passes.old }
     ensures cars { AreCarsInColumn plan.now result tail cells.new }
     ensures places { ArePlacesFrom cells.new result tail sites.now places.new }
-    ensures words { HaveLooseWords plan.now.words (64 * (step / 64)) width (step % 64 + 1) rows.now
+    ensures words { IsTrue worded
+        → HaveLooseWords plan.now.words (64 * (step / 64)) width (step % 64 + 1) rows.now
         (entered_in entered beside.now batches.now) result tail cells.new (slice_index numbers.now) }
     ensures counted { (d : ℕ) → d < length passes.old → IsOfSteps (step % 64 + 1) (slice_index passes.new d) }
     ensures road { (b : Array) → length b ≤ plan.now.cells

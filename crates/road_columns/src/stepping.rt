@@ -22,7 +22,7 @@ ghost use Rattle.road_columns.specs.Private.Step.{AreCarsInColumn, AreRegionsOf,
 
 use crate::counts::add_counts;
 use crate::inlets::words_at;
-use crate::regions::Region;
+use crate::regions::{Region, are_slowing};
 use crate::shifting::FIRST;
 use crate::starting::start_span;
 use crate::step::{Extent, step_in_columns};
@@ -71,7 +71,7 @@ pub(crate) fn run_step(
         (road_in cells.old speeds.old numbers.old extent.head extent.tail) }
     requires counts { AreCounts (length plan.now.detectors) step passes.old totals.old }
     requires span { IsTrue drawn → HaveSpan plan.now step (length cells.old + 8) extent.head extent.tail extent.entered
-        cells.old numbers.old rows.old beside.old batches.old inlets.old }
+        extent.worded cells.old numbers.old rows.old beside.old batches.old inlets.old }
     ensures room { HaveRoom plan.now cells.new speeds.new numbers.new rows.new beside.new batches.new inlets.new
         high16s.new }
     ensures places { ArePlacesFrom cells.new result.0.head result.0.tail sites.now places.new }
@@ -81,7 +81,7 @@ pub(crate) fn run_step(
         (road_in cells.new speeds.new numbers.new result.0.head result.0.tail) }
     ensures counts { AreCounts (length plan.now.detectors) (step + 1) passes.new totals.new }
     ensures span { IsTrue result.1 → HaveSpan plan.now (step + 1) (length cells.new + 8) result.0.head result.0.tail
-        result.0.entered cells.new numbers.new rows.new beside.new batches.new inlets.new }
+        result.0.entered result.0.worded cells.new numbers.new rows.new beside.new batches.new inlets.new }
     ensures road { road_in cells.new speeds.new numbers.new result.0.head result.0.tail ≡ input_next
         (input_between stretch.first stretch.end plan.now settings.now step
         (road_in cells.old speeds.old numbers.old extent.head extent.tail)) }
@@ -92,9 +92,22 @@ pub(crate) fn run_step(
         (passes_at input (input_speeds input) d))
         (range_with_len 0 (length (totals_in passes.old totals.old))) }
 {
+    let slowing = are_slowing(regions);
     let begun = ready(
-        plan, step, source, cells, speeds, numbers, rows, beside, batches, inlets, places, extent,
-        drawn,
+        plan,
+        step,
+        source,
+        cells,
+        speeds,
+        numbers,
+        rows,
+        beside,
+        batches,
+        inlets,
+        places,
+        extent,
+        drawn && (extent.worded || !slowing),
+        slowing,
     );
     words_at(inlets, (step % 64) as usize, high16s);
     let width = cells.len() + 8;
@@ -106,7 +119,8 @@ pub(crate) fn run_step(
     (done, is_ready)
 }
 
-// Makes columns ready for a step: draws the words of its span, where they are not there.
+// Makes columns ready for a step: draws the words of its span, where they are not there, those of the cars where some
+// car is slowed. They are there where `drawn`, those of the cars too where one is slowed.
 fn ready(
     plan: &Plan,
     step: u32,
@@ -121,6 +135,7 @@ fn ready(
     places: &mut [u32],
     extent: Extent,
     drawn: bool,
+    slowing: bool,
 ) -> Extent
     requires step { step < 2 ^ 27 }
     requires within { IsWithinLimits plan.now }
@@ -134,7 +149,8 @@ fn ready(
     requires inlets { length inlets.old ≡ length plan.now.inlets }
     requires places { (d : ℕ) → d < length places.old → extent.head ≤ slice_index places.old d }
     requires span { IsTrue drawn → HaveSpan plan.now step (length cells.old + 8) extent.head extent.tail extent.entered
-        cells.old numbers.old rows.old beside.now batches.now inlets.old }
+        extent.worded cells.old numbers.old rows.old beside.now batches.now inlets.old }
+    requires worded { IsTrue drawn → IsTrue slowing → IsTrue extent.worded }
     ensures cells_each { length cells.new ≡ length cells.old }
     ensures speeds_each { length speeds.new ≡ length speeds.old }
     ensures numbers_each { length numbers.new ≡ length numbers.old }
@@ -149,8 +165,9 @@ fn ready(
         (slice_range speeds.old extent.head extent.tail) (slice_range numbers.old extent.head extent.tail)
         → AreColumnsOf a (slice_range cells.new result.head result.tail)
         (slice_range speeds.new result.head result.tail) (slice_range numbers.new result.head result.tail) }
-    ensures span { HaveSpan plan.now step (length cells.new + 8) result.head result.tail result.entered cells.new
-        numbers.new rows.new beside.now batches.now inlets.new }
+    ensures worded { IsTrue slowing → IsTrue result.worded }
+    ensures span { HaveSpan plan.now step (length cells.new + 8) result.head result.tail result.entered result.worded
+        cells.new numbers.new rows.new beside.now batches.now inlets.new }
 {
     if drawn {
         return extent;
@@ -167,11 +184,13 @@ fn ready(
         places,
         extent.head,
         extent.tail,
+        slowing,
     );
     Extent {
         head: FIRST,
         tail,
         entered: 0,
+        worded: slowing,
     }
 }
 

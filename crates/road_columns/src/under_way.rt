@@ -122,6 +122,7 @@ impl UnderWay {
                 head: FIRST,
                 tail,
                 entered: 0,
+                worded: false,
             },
             cells,
             speeds,
@@ -188,6 +189,7 @@ impl UnderWay {
             head: FIRST,
             tail,
             entered: 0,
+            worded: false,
         };
         self.drawn = false;
         self.step = step;

@@ -1,7 +1,7 @@
 //! Random roads, whose settings change at, before and after multiples of 64.
 
 use crate::beside::Beside;
-use road_ends::Stretch;
+use road_ends::{OutOfMemory, Stretch};
 use road_plan::{Plan, Settings};
 use std::alloc::Global;
 use std::process::Abort;
@@ -106,6 +106,59 @@ fn a_run_goes_on_from_any_road_at_any_step(rt: HostRuntime) -> Result<(), Fail> 
         takes_up(&rt, alloc, &mut dice, &plan, &mut beside, *length)?;
         takes_up(&rt, alloc, &mut dice, &plan, &mut beside, length / 3)?;
         takes_up(&rt, alloc, &mut dice, &plan, &mut beside, length / 20)?;
+    }
+    Ok(())
+}
+
+/// For how many steps cars that stand and cars that move are slowed by these chances: no car is at first, then some are
+/// from the middle of a span on, and so on.
+const TURNS: &[(u32, u32, u32)] = &[
+    (20, 0, 0),
+    (20, 0, 30_000),
+    (10, 0, 0),
+    (30, 40_000, 0),
+    (3, 0, 0),
+    (46, 0, 0),
+    (1, 65_535, 1),
+    (6, 0, 0),
+    (60, 20_000, 20_000),
+];
+
+// Makes settings that slow cars that stand and cars that move by these chances.
+fn slowed_by(
+    alloc: Global,
+    plan: &Plan,
+    seed: u32,
+    standing: u32,
+    moving: u32,
+) -> Result<Settings, OutOfMemory> {
+    let mut settings = random_settings(alloc, plan, seed)?;
+    for chance in settings.starts.iter_mut() {
+        *chance = standing;
+    }
+    for chance in settings.chances.iter_mut() {
+        *chance = moving;
+    }
+    Ok(settings)
+}
+
+#[test]
+fn cars_are_slowed_from_the_middle_of_a_span_on(rt: HostRuntime) -> Result<(), Fail> {
+    let alloc = rt.alloc();
+    let mut dice = Dice::of(3);
+    for length in TAKEN {
+        let plan = Arc::new(alloc, random_plan(alloc, &mut dice, *length)?)?;
+        let mut beside = Beside::begin(alloc, &plan, Settings::of_plan(alloc, &plan)?)?;
+        for (steps, standing, moving) in TURNS {
+            beside.change(alloc, slowed_by(alloc, &plan, *length, *standing, *moving)?)?;
+            for step in 0..*steps {
+                beside.step(alloc)?;
+                assert!(rt;
+                    beside.are_same(alloc)?,
+                    "slowed by {standing} and {moving}, after step {step} of {steps}"
+                );
+            }
+        }
     }
     Ok(())
 }

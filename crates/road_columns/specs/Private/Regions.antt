@@ -19,6 +19,11 @@ abbrev pub region_at : List Region → ℕ → Region
 region_at regions r = slice_index_or regions r
     (record { first = 0; chances = record { limit = 0; standing = 0; moving = 0 }; block = 0 })
 
+-- no car is slowed on any cell of these regions
+abbrev pub AreFree : List Region → Type 0
+AreFree regions = (r : ℕ) → r < length regions
+    → ((region_at regions r).chances.standing ≡ 0) × ((region_at regions r).chances.moving ≡ 0)
+
 -- the car at this place stands in region r of so many, where `ends` has for each region the place of the first car
 -- before it
 pub record IsOfRegion (count : ℕ) (ends : List ℕ) (r q : ℕ) : Type 0 where

@@ -47,8 +47,8 @@ pub record AreRunning (p : Plan) (s : Settings) (t lo hi : ℕ) (source : Source
   pub cars : AreCarsInColumn p extent.head extent.tail cells
   pub stand : StandOn lo hi (road_in cells speeds numbers extent.head extent.tail)
   pub counts : AreCounts (length p.detectors) t passes totals
-  pub span : drawn ≡ true → HaveSpan p t (length cells + 8) extent.head extent.tail extent.entered cells numbers rows
-      beside batches inlets
+  pub span : drawn ≡ true → HaveSpan p t (length cells + 8) extent.head extent.tail extent.entered extent.worded cells
+      numbers rows beside batches inlets
 
 -- the parts of this one
 abbrev pub IsRunning : Inside → Type 0

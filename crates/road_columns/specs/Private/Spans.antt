@@ -1,5 +1,5 @@
 -- What columns keep in the steps of a span.
-use Rattle.std.specs.Prelude.{◌≡◌, ℕ, ◌+◌, ◌*◌, ◌/◌, ◌%◌, ◌<◌, ◌≤◌, List, length, map, slice_index}
+use Rattle.std.specs.Prelude.{◌≡◌, ℕ, Bool, true, ◌+◌, ◌*◌, ◌/◌, ◌%◌, ◌<◌, ◌≤◌, List, length, map, slice_index}
 use Rattle.std.specs.List.{range_with_len, slice_index_or}
 use Rattle.road_plan.specs.Plan.{Plan, exit_start}
 use Rattle.road_words.specs.Words.{word}
@@ -11,17 +11,17 @@ use Rattle.road_columns.specs.Private.EnteredList.{ArePlacesRising, entered_in, 
 use Rattle.road_columns.specs.Private.LooseWords.{HaveLooseWords}
 use Rattle.road_columns.specs.Private.Sites.{IsOfSteps, unpacked}
 
--- before step t the words of its span are there for all cars that may move, and for the inlets; of the cars that have
--- entered in the span there are no more than its inlets let in
-pub record HaveSpan (p : Plan) (t width head tail entered : ℕ) (cells numbers rows beside : List ℕ)
+-- before step t the words of its span are there for the inlets and, where `worded`, for all cars that may move; of the
+-- cars that have entered in the span there are no more than its inlets let in
+pub record HaveSpan (p : Plan) (t width head tail entered : ℕ) (worded : Bool) (cells numbers rows beside : List ℕ)
     (batches inlets : List (List ℕ)) : Type 0 where
   pub few : tail ≤ 8 + exit_start p + length p.inlets * (t % 64)
   pub few_beside : entered ≤ length p.inlets * (t % 64)
   pub few_in_tail : entered ≤ tail
   pub rising : ArePlacesRising entered beside
   pub in_order : AreInOrder (entered_in entered beside batches) tail
-  pub words : HaveLooseWords p.words (64 * (t / 64)) width (t % 64) rows (entered_in entered beside batches) head tail
-      cells (slice_index numbers)
+  pub words : worded ≡ true → HaveLooseWords p.words (64 * (t / 64)) width (t % 64) rows
+      (entered_in entered beside batches) head tail cells (slice_index numbers)
   pub inlet_words : (i r : ℕ) → i < length inlets → r < 64
       → high16_in inlets i r ≡ word p.words (inlet_stream i) (64 * (t / 64) + r) / 65536
 

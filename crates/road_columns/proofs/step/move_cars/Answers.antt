@@ -134,7 +134,7 @@ leave-requires-clause-one c = λ i above below.
     let few = rises_from c.args.entered c.args.beside.now c.requires.rising in
     let moved = c.advance_regions.ensures.cells in
     let free = apart p s c.args.step c.args.regions.now cells c.args.speeds.now vs new c.args.numbers.now head tail c.args.width c.args.rows.now c.args.entered c.args.beside.now c.args.batches.now ends
-    c.requires.fits short rising c.requires.regions cars wide few c.requires.words from each c.advance_regions.ensures.speeds moved in
+    c.requires.fits short rising c.requires.regions cars wide few c.requires.rising c.args.worded c.requires.words c.requires.free from each c.advance_regions.ensures.speeds moved in
     let exit : c.length.result - c.exit.result ≡ exit_start c.args.plan.now = let a = c.length.ensures.cells in let b = c.exit.ensures in omega arith in
     subst (λ e. slice_index c.advance_regions.new.cells i < e) (sym exit) (one_leaves cells new head tail (exit_start c.args.plan.now) cars.before_exit free i above below)
 
@@ -161,7 +161,7 @@ returns-clause-cars c =
     let few = rises_from c.args.entered c.args.beside.now c.requires.rising in
     let moved = c.advance_regions.ensures.cells in
     let free = apart p s c.args.step c.args.regions.now cells c.args.speeds.now vs new c.args.numbers.now head tail c.args.width c.args.rows.now c.args.entered c.args.beside.now c.args.batches.now ends
-    c.requires.fits short rising c.requires.regions cars wide few c.requires.words from each c.advance_regions.ensures.speeds moved in
+    c.requires.fits short rising c.requires.regions cars wide few c.requires.rising c.args.worded c.requires.words c.requires.free from each c.advance_regions.ensures.speeds moved in
     let last = c.leave.new.cells in
     let exit : c.length.result - c.exit.result ≡ exit_start c.args.plan.now = let a = c.length.ensures.cells in let b = c.exit.ensures in omega arith in
     let long = c.advance_regions.ensures.as_many_cells in
@@ -193,7 +193,7 @@ returns-clause-places c =
     let few = rises_from c.args.entered c.args.beside.now c.requires.rising in
     let moved = c.advance_regions.ensures.cells in
     let free = apart p s c.args.step c.args.regions.now cells c.args.speeds.now vs new c.args.numbers.now head tail c.args.width c.args.rows.now c.args.entered c.args.beside.now c.args.batches.now ends
-    c.requires.fits short rising c.requires.regions cars wide few c.requires.words from each c.advance_regions.ensures.speeds moved in
+    c.requires.fits short rising c.requires.regions cars wide few c.requires.rising c.args.worded c.requires.words c.requires.free from each c.advance_regions.ensures.speeds moved in
     let last = c.leave.new.cells in
     let exit : c.length.result - c.exit.result ≡ exit_start c.args.plan.now = let a = c.length.ensures.cells in let b = c.exit.ensures in omega arith in
     let long = c.advance_regions.ensures.as_many_cells in
@@ -204,7 +204,7 @@ returns-clause-places c =
     (c.move_on.ensures.long ∙ c.requires.places.as_many) (sites_before_exit c.args.plan.now c.args.regions.now c.args.sites.now c.requires.sites s within c.requires.regions) c.move_on.ensures.places
 
 pub returns-clause-words : goal.returns-clause-words
-returns-clause-words c =
+returns-clause-words c is =
     let p = c.args.plan.now in
     let s = c.args.settings.now in
     let cells = c.args.cells.now in
@@ -226,7 +226,7 @@ returns-clause-words c =
     let few = rises_from c.args.entered c.args.beside.now c.requires.rising in
     let moved = c.advance_regions.ensures.cells in
     let free = apart p s c.args.step c.args.regions.now cells c.args.speeds.now vs new c.args.numbers.now head tail c.args.width c.args.rows.now c.args.entered c.args.beside.now c.args.batches.now ends
-    c.requires.fits short rising c.requires.regions cars wide few c.requires.words from each c.advance_regions.ensures.speeds moved in
+    c.requires.fits short rising c.requires.regions cars wide few c.requires.rising c.args.worded c.requires.words c.requires.free from each c.advance_regions.ensures.speeds moved in
     let last = c.leave.new.cells in
     let exit : c.length.result - c.exit.result ≡ exit_start c.args.plan.now = let a = c.length.ensures.cells in let b = c.exit.ensures in omega arith in
     let long = c.advance_regions.ensures.as_many_cells in
@@ -234,7 +234,7 @@ returns-clause-words c =
     let gone : (i : ℕ) → c.args.head ≤ i → i < c.leave.result → exit_start c.args.plan.now ≤ slice_index c.advance_regions.new.cells i = λ i above below. subst (λ e. e ≤ slice_index c.advance_regions.new.cells i) exit (c.leave.ensures.left i above below) in
     let stay : (i : ℕ) → c.leave.result ≤ i → i < c.args.tail → slice_index c.advance_regions.new.cells i < exit_start c.args.plan.now = λ i above below. subst (λ e. slice_index c.advance_regions.new.cells i < e) exit (c.leave.ensures.stay i above below) in
     words_stepped p cells vs new last head c.leave.result tail short cars long long_last c.leave.ensures.from c.leave.ensures.to c.leave.ensures.order moved free c.advance_regions.ensures.other_cells c.leave.ensures.kept c.leave.ensures.rest c.leave.ensures.front gone stay c.args.plan.now.words (64 * (c.args.step / 64)) c.args.width (c.args.step % 64) c.args.rows.now (entered_in c.args.entered c.args.beside.now c.args.batches.now) (slice_index c.args.numbers.now)
-    (omega arith) c.requires.words
+    (omega arith) (c.requires.words is)
 
 pub returns-clause-road : goal.returns-clause-road
 returns-clause-road c = λ b on_road columns.
@@ -259,7 +259,7 @@ returns-clause-road c = λ b on_road columns.
     let few = rises_from c.args.entered c.args.beside.now c.requires.rising in
     let moved = c.advance_regions.ensures.cells in
     let free = apart p s c.args.step c.args.regions.now cells c.args.speeds.now vs new c.args.numbers.now head tail c.args.width c.args.rows.now c.args.entered c.args.beside.now c.args.batches.now ends
-    c.requires.fits short rising c.requires.regions cars wide few c.requires.words from each c.advance_regions.ensures.speeds moved in
+    c.requires.fits short rising c.requires.regions cars wide few c.requires.rising c.args.worded c.requires.words c.requires.free from each c.advance_regions.ensures.speeds moved in
     let last = c.leave.new.cells in
     let exit : c.length.result - c.exit.result ≡ exit_start c.args.plan.now = let a = c.length.ensures.cells in let b = c.exit.ensures in omega arith in
     let long = c.advance_regions.ensures.as_many_cells in
@@ -268,7 +268,7 @@ returns-clause-road c = λ b on_road columns.
     let stay : (i : ℕ) → c.leave.result ≤ i → i < c.args.tail → slice_index c.advance_regions.new.cells i < exit_start c.args.plan.now = λ i above below. subst (λ e. slice_index c.advance_regions.new.cells i < e) exit (c.leave.ensures.stay i above below) in
     road_stepped p cells vs new last head c.leave.result tail short cars long long_last c.leave.ensures.from c.leave.ensures.to c.leave.ensures.order moved free c.advance_regions.ensures.other_cells c.leave.ensures.kept c.leave.ensures.rest c.leave.ensures.front gone stay s c.args.step b c.args.speeds.now c.args.numbers.now on_road columns
     (speed_is p s c.args.step c.args.regions.now cells c.args.speeds.now vs new c.args.numbers.now head tail c.args.width c.args.rows.now c.args.entered c.args.beside.now c.args.batches.now ends
-    c.requires.fits short rising c.requires.regions cars wide few c.requires.words from each c.advance_regions.ensures.speeds moved b on_road columns)
+    c.requires.fits short rising c.requires.regions cars wide few c.requires.rising c.args.worded c.requires.words c.requires.free from each c.advance_regions.ensures.speeds moved b on_road columns)
 
 pub returns-clause-counted : goal.returns-clause-counted
 returns-clause-counted c = λ d below.
@@ -293,10 +293,10 @@ returns-clause-counted c = λ d below.
     let few = rises_from c.args.entered c.args.beside.now c.requires.rising in
     let moved = c.advance_regions.ensures.cells in
     let free = apart p s c.args.step c.args.regions.now cells c.args.speeds.now vs new c.args.numbers.now head tail c.args.width c.args.rows.now c.args.entered c.args.beside.now c.args.batches.now ends
-    c.requires.fits short rising c.requires.regions cars wide few c.requires.words from each c.advance_regions.ensures.speeds moved in
+    c.requires.fits short rising c.requires.regions cars wide few c.requires.rising c.args.worded c.requires.words c.requires.free from each c.advance_regions.ensures.speeds moved in
     let none = c.advance_regions.ensures.other_cells tail (inr (omega arith)) ∙ cars.behind in
     let slow : (q : ℕ) → c.args.head ≤ q → q < c.args.tail → slice_index c.advance_regions.new.speeds q ≤ 9 = λ q above below. let v = slow_enough p s c.args.step c.args.regions.now cells c.args.speeds.now vs new c.args.numbers.now head tail c.args.width c.args.rows.now c.args.entered c.args.beside.now c.args.batches.now ends
-    c.requires.fits short rising c.requires.regions cars wide few c.requires.words from each c.advance_regions.ensures.speeds moved q above below in omega arith in
+    c.requires.fits short rising c.requires.regions cars wide few c.requires.rising c.args.worded c.requires.words c.requires.free from each c.advance_regions.ensures.speeds moved q above below in omega arith in
     let first = ap length c.inlets-inlets.ensures.inlets in
     let many = ap length c.detectors.ensures.detectors in
     let sites = c.requires.sites.as_many in
@@ -344,10 +344,10 @@ returns-clause-passes c = λ b on_road columns d below.
     let few = rises_from c.args.entered c.args.beside.now c.requires.rising in
     let moved = c.advance_regions.ensures.cells in
     let free = apart p s c.args.step c.args.regions.now cells c.args.speeds.now vs new c.args.numbers.now head tail c.args.width c.args.rows.now c.args.entered c.args.beside.now c.args.batches.now ends
-    c.requires.fits short rising c.requires.regions cars wide few c.requires.words from each c.advance_regions.ensures.speeds moved in
+    c.requires.fits short rising c.requires.regions cars wide few c.requires.rising c.args.worded c.requires.words c.requires.free from each c.advance_regions.ensures.speeds moved in
     let none = c.advance_regions.ensures.other_cells tail (inr (omega arith)) ∙ cars.behind in
     let slow : (q : ℕ) → c.args.head ≤ q → q < c.args.tail → slice_index c.advance_regions.new.speeds q ≤ 9 = λ q above below. let v = slow_enough p s c.args.step c.args.regions.now cells c.args.speeds.now vs new c.args.numbers.now head tail c.args.width c.args.rows.now c.args.entered c.args.beside.now c.args.batches.now ends
-    c.requires.fits short rising c.requires.regions cars wide few c.requires.words from each c.advance_regions.ensures.speeds moved q above below in omega arith in
+    c.requires.fits short rising c.requires.regions cars wide few c.requires.rising c.args.worded c.requires.words c.requires.free from each c.advance_regions.ensures.speeds moved q above below in omega arith in
     let first = ap length c.inlets-inlets.ensures.inlets in
     let many = ap length c.detectors.ensures.detectors in
     let sites = c.requires.sites.as_many in
@@ -372,5 +372,5 @@ returns-clause-passes c = λ b on_road columns d below.
     let as_many = c.advance_regions.ensures.as_many_cells in
     ap unpacked counted
     ∙ count_is cells vs new head tail cars.order none slow p s c.args.step b c.args.speeds.now c.args.numbers.now on_road (omega arith) (omega arith) columns moved free (speed_is p s c.args.step c.args.regions.now cells c.args.speeds.now vs new c.args.numbers.now head tail c.args.width c.args.rows.now c.args.entered c.args.beside.now c.args.batches.now ends
-    c.requires.fits short rising c.requires.regions cars wide few c.requires.words from each c.advance_regions.ensures.speeds moved b on_road columns)
+    c.requires.fits short rising c.requires.regions cars wide few c.requires.rising c.args.worded c.requires.words c.requires.free from each c.advance_regions.ensures.speeds moved b on_road columns)
     d (slice_index c.args.places.now (length c.inlets-inlets.result.now + d)) (c.args.step % 64) (slice_index c.args.passes.now d) some site_from site_each (omega arith) (c.requires.counted d below)

@@ -31,11 +31,11 @@ move_cars-head-requires-clause-cars c =
     (λ i other. set_other c.enter-tail.new.cells c.enter-tail.result.0 0 i other) (set_here c.enter-tail.new.cells c.enter-tail.result.0 0 (omega arith))
 
 pub move_cars-head-requires-clause-words : goal.move_cars-head-requires-clause-words
-move_cars-head-requires-clause-words c =
+move_cars-head-requires-clause-words c is =
     words_same c.args.plan.now.words (64 * (c.args.step / 64)) c.args.width (c.args.step % 64) c.enter-tail.new.rows (entered_in c.enter-tail.result.1 c.enter-tail.new.beside c.enter-tail.new.batches)
     c.args.extent.head c.enter-tail.result.0 c.enter-tail.new.cells (slice_set c.enter-tail.new.cells c.enter-tail.result.0 0) (slice_index c.enter-tail.new.numbers)
     (λ i above below. set_other c.enter-tail.new.cells c.enter-tail.result.0 0 i (λ same. absurd (omega arith)))
-    (c.enter-tail.ensures.kept_words c.args.plan.now.words c.requires.source c.requires.words)
+    (c.enter-tail.ensures.kept_words is c.args.plan.now.words c.requires.source (c.requires.words is))
 
 pub returns-clause-road : goal.returns-clause-road
 returns-clause-road c = λ a near columns.

@@ -1,5 +1,5 @@
 -- Columns are made ready, the cars step, and the step ends.
-use Rattle.std.proofs.Common.{◌∙◌, ◌+◌, ◌*◌, ◌/◌, ◌%◌, length, slice_index, sym, subst, arith}
+use Rattle.std.proofs.Common.{◌≡◌, Bool, true, false, refl, ◌∙◌, ◌+◌, ◌*◌, ◌/◌, ◌%◌, length, slice_index, sym, subst, arith}
 use Rattle.road_ends.specs.Input.{input_speeds}
 use Rattle.road_ends.specs.EntriesBetween.{input_between}
 use Rattle.road_detector.specs.Passes.{passes_at}
@@ -43,10 +43,18 @@ returns-clause-span c goes =
     let few_beside = c.ready-begun.ensures.span.few_beside in
     let tail = c.step_in_columns-done.ensures.tail in
     let entered = c.step_in_columns-done.ensures.entered in
-    span_on c.args.plan.now c.args.step (length c.step_in_columns-done.new.cells + 8) c.step_in_columns-done.result.head c.step_in_columns-done.result.tail c.step_in_columns-done.result.entered
+    span_on c.args.plan.now c.args.step (length c.step_in_columns-done.new.cells + 8) c.step_in_columns-done.result.head c.step_in_columns-done.result.tail c.step_in_columns-done.result.entered c.step_in_columns-done.result.worded
     c.step_in_columns-done.new.cells c.step_in_columns-done.new.numbers c.step_in_columns-done.new.rows c.step_in_columns-done.new.beside c.step_in_columns-done.new.batches c.ready-begun.new.inlets
     (c.end_step-is_ready.ensures.goes_on goes) (omega arith) (omega arith) c.step_in_columns-done.ensures.few c.step_in_columns-done.ensures.rising c.step_in_columns-done.ensures.in_order
-    (subst (λ n. HaveLooseWords c.args.plan.now.words (64 * (c.args.step / 64)) (n + 8) (c.args.step % 64 + 1) c.step_in_columns-done.new.rows
+    (λ is. subst (λ n. HaveLooseWords c.args.plan.now.words (64 * (c.args.step / 64)) (n + 8) (c.args.step % 64 + 1) c.step_in_columns-done.new.rows
     (entered_in c.step_in_columns-done.result.entered c.step_in_columns-done.new.beside c.step_in_columns-done.new.batches) c.step_in_columns-done.result.head c.step_in_columns-done.result.tail c.step_in_columns-done.new.cells (slice_index c.step_in_columns-done.new.numbers))
-    (sym c.step_in_columns-done.ensures.cells_each) c.step_in_columns-done.ensures.words)
+    (sym c.step_in_columns-done.ensures.cells_each) (c.step_in_columns-done.ensures.words (sym c.step_in_columns-done.ensures.worded ∙ is)))
     begun.inlet_words
+
+-- what makes the one true leaves it false where the other is
+still_false : (a b : Bool) → (a ≡ true → b ≡ true) → b ≡ false → a ≡ false
+still_false false b makes is = refl
+still_false true b makes is = sym (makes refl) ∙ is
+
+pub step_in_columns-done-requires-clause-free : goal.step_in_columns-done-requires-clause-free
+step_in_columns-done-requires-clause-free c is = c.are_slowing-slowing.ensures (still_false c.are_slowing-slowing.result c.ready-begun.result.worded c.ready-begun.ensures.worded is)

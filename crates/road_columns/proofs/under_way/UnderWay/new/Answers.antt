@@ -56,7 +56,7 @@ invariant_of-result c =
     let none_counted : (d : ℕ) → d < length (arc_value c.args.plan).detectors → slice_index_or c.in_ok-totals.totals.items d no_totals ≡ no_totals = λ d below. ap (λ xs. slice_index_or xs d no_totals) (c.in_ok-totals.ensures.items_if_clones_equal (λ y e. e)) ∙ get_or-replicate (length c.detectors-detectors.result.now) d no_totals no_totals (omega arith) in
     let end : (arc_value c.args.plan).cells ≡ c.length-end.result = let a = c.length-end.ensures.cells in let b = ap (λ (p : Plan). p.cells) c.deref-9.ensures in omega arith in
     let few : (arc_value c.args.plan).cells ≤ 65525 = let most = within.short_enough in omega arith in
-    transport (λ j. AreRunning (arc_value c.args.plan) (arc_value c.args.settings) 0 0 (end j) c.of-source.result false (record { head = 8; tail = c.hold-tail.result; entered = 0 })
+    transport (λ j. AreRunning (arc_value c.args.plan) (arc_value c.args.settings) 0 0 (end j) c.of-source.result false (record { head = 8; tail = c.hold-tail.result; entered = 0; worded = false })
     (sym cells_is j) (sym speeds_is j) (sym numbers_is j) c.in_ok-rows.rows.items c.in_ok-beside.beside.items c.in_ok-batches.batches.items c.in_ok-inlet_words.inlet_words.items c.in_ok-high16s.high16s.items
     c.in_ok-kept.kept.regions.items c.in_ok-kept.kept.sites.items (sym places_is j) c.in_ok-passes.passes.items c.in_ok-totals.totals.items)
     (record {

@@ -84,7 +84,7 @@ invariant_of-self c =
     let size_speeds = c.self.invariant.room.speeds_each in
     let size_numbers = c.self.invariant.room.numbers_each in
     let size_rows = c.self.invariant.room.rows_each in
-    transport (λ j. AreRunning (c.deref-3.ensures j) (c.deref-4.ensures j) c.args.step c.args.stretch.first c.args.stretch.end x.source false (record { head = 8; tail = c.hold-tail.result; entered = 0 })
+    transport (λ j. AreRunning (c.deref-3.ensures j) (c.deref-4.ensures j) c.args.step c.args.stretch.first c.args.stretch.end x.source false (record { head = 8; tail = c.hold-tail.result; entered = 0; worded = false })
     (sym cells_is j) (sym speeds_is j) (sym numbers_is j) x.rows.items x.beside.items x.batches.items x.inlets.items x.high16s.items c.in_ok-kept.kept.regions.items c.in_ok-kept.kept.sites.items (sym places_is j) (sym passes_is j) (sym totals_is j))
     (record {
       up_to = c.requires.up_to;
