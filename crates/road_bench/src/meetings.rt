@@ -16,11 +16,12 @@ use tests_plans::{LONG, Meeting, plan_of};
 // How often a worker looks for the others at most.
 const TURNS: u32 = 1_000_000;
 
-// The steps that the caller runs alone, until there are cars.
-const ALONE: u32 = 64;
+// The steps that the caller runs alone, until there are cars enough for two workers, beside whom the caller runs nothing
+// where it has no processor.
+const ALONE: u32 = 128;
 
 // Two intervals later: the workers are asked for each.
-const END: u32 = 192;
+const END: u32 = 256;
 
 // Answers whether all workers of a new lasting crew meet in each of two intervals of a new replica of the road.
 fn meet<R: Threads + Wait + Clock + Clone + Drop + Send + Sync + 'static>(
