@@ -1,19 +1,22 @@
 //! A run under way beside the plain steps of the same road.
 
-ghost use Rattle.std.specs.Prelude.{◌≡◌, OnErr, IfOk, IsTrue, ◌↔◌};
+ghost use Rattle.std.specs.Prelude.{◌≡◌, IfOk};
 ghost use Rattle.std.specs.Arc.{arc_value};
+ghost use Rattle.road_plan.specs.Settings.{Fits};
 
-use road_cells::{Car, Road};
+use crate::plain::{add, cars_on, copy_of, counted_in, counts_agree, nothing};
+use road_cells::Road;
 use road_columns::UnderWay;
-use road_detector::{Totals, passes};
+use road_detector::Totals;
 use road_ends::{Meter, OutOfMemory, Stretch, step_alone};
 use road_plan::limits::GREATEST_HORIZON;
 use road_plan::{Plan, Settings};
 use std::alloc::Global;
 use std::marker::Model;
+use std::process::Abort;
 use std::sync::Arc;
 use std::test::Fail;
-use tests_plans::{road_of, row_of};
+use tests_plans::{Parts, plan_of, row_of};
 
 /// A run under way, and beside it the road that plain steps come to, with what the detectors have counted in them.
 #[derive(Drop)]
@@ -40,28 +43,39 @@ impl Model for Beside {
 
 impl Beside {
     /// Begins both at step 0 on the empty road.
-    pub(crate) fn begin(
-        alloc: Global,
-        plan: &Arc<Plan>,
-        settings: Settings,
-    ) -> Result<Beside, Fail> {
-        let own = copy_of(&settings)?;
-        if !own.fits(plan) {
-            return Err(unfit());
-        }
-        let run = UnderWay::new(alloc, Arc::try_clone(plan)?, Arc::new(alloc, own)?)?;
+    pub(crate) fn begin(alloc: Global, plan: Plan, settings: Settings) -> Result<Beside, Fail> {
+        let plan = Arc::new(alloc, plan)?;
+        let run = run_of(alloc, &plan, &settings)?;
+        let totals = nothing(alloc, &plan)?;
         Ok(Beside {
-            plan: Arc::try_clone(plan)?,
+            plan,
             settings,
             run,
             step: 0,
             road: Road::empty(alloc),
-            totals: nothing(alloc, plan)?,
+            totals,
         })
     }
 
-    /// Goes on from a road at a step, the run under way with those of its cars that stand on a stretch. Answers whether
-    /// it can.
+    /// Begins both on the empty road of a plan, by its own settings.
+    pub(crate) fn of_plan(alloc: Global, plan: Plan) -> Result<Beside, Fail> {
+        let settings = Settings::of_plan(alloc, &plan)?;
+        Beside::begin(alloc, plan, settings)
+    }
+
+    /// Begins both on the empty road of the plan of these parts, by its own settings.
+    pub(crate) fn of_parts(alloc: Global, parts: &Parts) -> Result<Beside, Fail> {
+        let plan = plan_of(alloc, parts)?;
+        Beside::of_plan(alloc, plan)
+    }
+
+    /// Returns their plan.
+    pub(crate) fn plan(&self) -> &Plan {
+        &self.plan
+    }
+
+    /// Goes on from a road at a step, the run under way with those of its cars that stand on a stretch. Fails where it
+    /// cannot.
     pub(crate) fn take_up(
         &mut self,
         alloc: Global,
@@ -69,17 +83,27 @@ impl Beside {
         step: u32,
         stretch: Stretch,
         road: &Road,
-    ) -> Result<bool, Fail> {
+    ) -> Result<(), Fail> {
         let near = cars_on(alloc, road, stretch)?;
-        let taken = self.try_take_up(alloc, &settings, step, stretch, &near)?;
-        if taken {
-            let totals = nothing(alloc, &self.plan)?;
-            self.settings = settings;
-            self.step = step;
-            self.road = road.copied()?;
-            self.totals = totals;
+        if !self.try_take_up(alloc, &settings, step, stretch, &near)? {
+            return Err(Fail::new("a road that a run cannot go on from"));
         }
-        Ok(taken)
+        self.begin_plainly(alloc, settings, step, road)
+    }
+
+    // Lets the plain steps alone go on from a road at a step.
+    fn begin_plainly(
+        &mut self,
+        alloc: Global,
+        settings: Settings,
+        step: u32,
+        road: &Road,
+    ) -> Result<(), Fail> {
+        self.totals = nothing(alloc, &self.plan)?;
+        self.road = road.copied()?;
+        self.settings = settings;
+        self.step = step;
+        Ok(())
     }
 
     /// Lets the run under way alone go on from a road at a step, if it can.
@@ -91,21 +115,17 @@ impl Beside {
         stretch: Stretch,
         road: &Road,
     ) -> Result<bool, Fail> {
-        let own = copy_of(settings)?;
-        if !own.fits(&self.plan) || step > GREATEST_HORIZON || stretch.end > self.plan.length() {
-            return Err(unfit());
+        let own = Arc::new(alloc, fitting(&self.plan, settings)?)?;
+        if step > GREATEST_HORIZON || stretch.end > self.plan.length() {
+            return Err(Fail::new("a step or a stretch beyond the end"));
         }
-        let own = Arc::new(alloc, own)?;
         Ok(self.run.take_up(alloc, own, step, stretch, road)?)
     }
 
     /// Takes other settings from the next step on.
     pub(crate) fn change(&mut self, alloc: Global, settings: Settings) -> Result<(), Fail> {
-        let own = copy_of(&settings)?;
-        if !own.fits(&self.plan) {
-            return Err(unfit());
-        }
-        self.run.change(alloc, Arc::new(alloc, own)?)?;
+        let own = Arc::new(alloc, fitting(&self.plan, &settings)?)?;
+        self.run.change(alloc, own)?;
         self.settings = settings;
         Ok(())
     }
@@ -115,7 +135,7 @@ impl Beside {
         &mut self,
         settings: &Settings,
         stretch: Stretch,
-    ) -> Result<(), Fail> {
+    ) -> Result<(), OutOfMemory> {
         let mut closed = copy_of(settings)?;
         let inlets = self.plan.inlets().iter();
         for (inflow, inlet) in closed.inflows.iter_mut().zip(inlets) {
@@ -132,76 +152,68 @@ impl Beside {
         if self.run.next_step() >= GREATEST_HORIZON {
             return Err(Fail::new("a step beyond the greatest horizon"));
         }
-        let settings = copy_of(&self.settings)?;
-        if !settings.fits(&self.plan) {
-            return Err(unfit());
-        }
+        self.run.step();
+        self.step_plainly(alloc)
+    }
+
+    // Makes a plain step alone.
+    fn step_plainly(&mut self, alloc: Global) -> Result<(), Fail> {
+        let settings = fitting(&self.plan, &self.settings)?;
         let mut meter = Meter::new();
         let done = step_alone(
             alloc, &self.plan, settings, self.step, &self.road, &mut meter,
         )?;
-        let mut totals = Vec::new(alloc);
-        for detector in 0..done.input.plan().detectors().len() {
-            let counted = passes(&done.input, &done.speeds, detector as u32);
-            totals.push(counted)?;
-        }
-        self.add(&totals);
+        let counted = counted_in(alloc, &done.input, &done.speeds)?;
+        add(&mut self.totals, &counted);
         self.road = done.road;
         self.step = self.step.saturating_add(1);
-        self.run.step();
         Ok(())
     }
 
-    // Adds what the detectors have counted in a plain step.
-    fn add(&mut self, counted: &[Totals])
-        ensures { self.new ≡ self.old }
-    {
-        for (total, more) in self.totals.iter_mut().zip(counted) {
-            total.cars = total.cars.saturating_add(more.cars);
-            total.speeds = total.speeds.saturating_add(more.speeds);
-        }
-    }
-
     /// Begins all counts anew.
-    pub(crate) fn restart_counts(&mut self, alloc: Global) -> Result<(), Fail> {
+    pub(crate) fn restart_counts(&mut self, alloc: Global) -> Result<(), OutOfMemory> {
         self.totals = nothing(alloc, &self.plan)?;
         self.run.restart_counts();
         Ok(())
     }
 
     /// Answers whether both are at the same step, on the same road, with the same row and counts.
-    pub(crate) fn are_same(&self, alloc: Global) -> Result<bool, Fail> {
-        let row = row_of(
-            alloc,
-            &self.road,
-            self.settings.blocks(),
-            self.plan.length(),
-        )?;
-        Ok(
-            self.run.next_step() == self.step
-                && self.run.road(alloc)?.cars() == self.road.cars()
-                && self.run.totals(alloc)? == self.totals
-                && self.run.row(alloc)? == row,
-        )
+    pub(crate) fn are_same(&self, alloc: Global) -> Result<bool, OutOfMemory> {
+        let cars_are = self.have_same_cars(alloc)?;
+        let counts_are = self.have_same_counts(alloc)?;
+        let rows_are = self.have_same_row(alloc)?;
+        Ok(self.run.next_step() == self.step && cars_are && counts_are && rows_are)
     }
 
-    /// Answers whether they have the same cars on the cells from one to before another, and have counted the same there.
-    pub(crate) fn are_same_between(
-        &self,
-        alloc: Global,
-        from: u32,
-        end: u32,
-    ) -> Result<bool, Fail> {
-        let inner = Stretch { first: from, end };
-        let cars = cars_on(alloc, &self.run.road(alloc)?, inner)?;
-        let wanted = cars_on(alloc, &self.road, inner)?;
+    fn have_same_cars(&self, alloc: Global) -> Result<bool, OutOfMemory> {
+        let road = self.run.road(alloc)?;
+        Ok(road.cars() == self.road.cars())
+    }
+
+    fn have_same_counts(&self, alloc: Global) -> Result<bool, OutOfMemory> {
         let totals = self.run.totals(alloc)?;
-        let sites = self.plan.detectors().iter();
-        let counts_are = sites.zip(totals.iter().zip(self.totals.iter())).all(|(
-            site,
-            (total, plain),
-        )| *site < from || end <= *site || total == plain);
-        Ok(counts_are && cars.cars() == wanted.cars())
+        Ok(totals == self.totals)
+    }
+
+    fn have_same_row(&self, alloc: Global) -> Result<bool, OutOfMemory> {
+        let blocks = self.settings.blocks();
+        let plain = row_of(alloc, &self.road, blocks, self.plan.length())?;
+        let row = self.run.row(alloc)?;
+        Ok(row == plain)
+    }
+
+    /// Answers whether they have the same cars on a stretch, and have counted the same there.
+    pub(crate) fn are_same_on(&self, alloc: Global, stretch: Stretch) -> Result<bool, OutOfMemory> {
+        let cars_are = self.have_same_cars_on(alloc, stretch)?;
+        let totals = self.run.totals(alloc)?;
+        Ok(cars_are && counts_agree(self.plan.detectors(), stretch, &totals, &self.totals))
+    }
+
+    fn have_same_cars_on(&self, alloc: Global, stretch: Stretch) -> Result<bool, OutOfMemory> {
+        let road = self.run.road(alloc)?;
+        let cars = cars_on(alloc, &road, stretch)?;
+        let plain = cars_on(alloc, &self.road, stretch)?;
+        Ok(cars.cars() == plain.cars())
     }
 
     /// Returns the road that the plain steps have come to.
@@ -220,34 +232,57 @@ impl Beside {
     }
 }
 
-fn unfit() -> Fail {
-    Fail::new("settings or a stretch that do not fit the plan")
+// Begins a run of a plan.
+fn run_of(alloc: Global, plan: &Arc<Plan>, settings: &Settings) -> Result<UnderWay, Fail>
+    ensures { IfOk result (λ run. run.plan ≡ arc_value plan.now) }
+{
+    let own = Arc::new(alloc, fitting(plan, settings)?)?;
+    let plan = Arc::try_clone(plan)?;
+    Ok(UnderWay::new(alloc, plan, own)?)
 }
 
-// Copies settings.
-fn copy_of(settings: &Settings) -> Result<Settings, OutOfMemory> {
-    Ok(Settings {
-        limits: settings.limits.clone()?,
-        chances: settings.chances.clone()?,
-        inflows: settings.inflows.clone()?,
-        blocks: settings.blocks.clone()?,
-        watched: settings.watched.clone()?,
-        starts: settings.starts.clone()?,
-    })
-}
-
-// Lists no count for each detector.
-fn nothing(alloc: Global, plan: &Plan) -> Result<Vec<Totals>, OutOfMemory> {
-    vec![in alloc; Totals { cars: 0, speeds: 0 }; plan.detectors().len()]
-}
-
-/// Makes the road of the cars that stand on a stretch.
-pub(crate) fn cars_on(alloc: Global, road: &Road, stretch: Stretch) -> Result<Road, OutOfMemory> {
-    let mut cars = Vec::new(alloc);
-    for car in road.cars() {
-        if stretch.first <= car.cell && car.cell < stretch.end {
-            cars.push(*car)?;
-        }
+// Copies settings that fit a plan.
+fn fitting(plan: &Plan, settings: &Settings) -> Result<Settings, Fail>
+    ensures { IfOk result (λ own. Fits plan.now own) }
+{
+    let own = copy_of(settings)?;
+    if !own.fits(plan) {
+        return Err(Fail::new("settings that do not fit the plan"));
     }
-    road_of(alloc, &cars)
+    Ok(own)
+}
+
+/// Where two runs are compared: a name and a number for the message, and the steps that have been made.
+#[derive(Clone, Copy)]
+pub(crate) struct Place<'a> {
+    /// The name of what is tried.
+    pub(crate) name: &'a str,
+    /// Which one it is.
+    pub(crate) number: u32,
+    /// The steps so far.
+    pub(crate) done: u32,
+}
+
+/// Checks that something holds at a place.
+pub(crate) fn holds_at(rt: &impl Abort, holds: bool, place: Place<'_>) {
+    let Place { name, number, done } = place;
+    assert!(rt; holds, "{name} {number}, after {done} steps");
+}
+
+/// Makes so many steps of both, and checks that they are the same before the first and after each.
+pub(crate) fn are_same_throughout(
+    rt: &impl Abort,
+    alloc: Global,
+    beside: &mut Beside,
+    steps: u32,
+    name: &str,
+    number: u32,
+) -> Result<(), Fail> {
+    for done in 0..steps {
+        holds_at(rt, beside.are_same(alloc)?, Place { name, number, done });
+        beside.step(alloc)?;
+    }
+    let done = steps;
+    holds_at(rt, beside.are_same(alloc)?, Place { name, number, done });
+    Ok(())
 }

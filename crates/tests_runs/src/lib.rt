@@ -6,10 +6,14 @@ mod beside;
 #[cfg(test)]
 mod counts;
 #[cfg(test)]
+mod plain;
+#[cfg(test)]
 mod refused;
 #[cfg(test)]
 mod roads;
 #[cfg(test)]
 mod stretches;
+#[cfg(test)]
+mod turns;
 #[cfg(test)]
 mod worked;

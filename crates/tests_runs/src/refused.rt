@@ -1,18 +1,19 @@
 //! Roads that a run does not go on from.
 
-use crate::beside::Beside;
+use crate::beside::{Beside, are_same_throughout};
 use road_cells::Road;
-use road_ends::Stretch;
-use road_plan::{Plan, Settings};
+use road_ends::{OutOfMemory, Stretch};
 use std::alloc::Global;
 use std::process::Abort;
-use std::sync::Arc;
 use std::test::Fail;
-use tests_plans::{LONG, car, plan_of, random_settings, road_of};
+use tests_plans::{LONG, car, random_settings, road_of};
+
+/// A car, a stretch, and whether a run goes on from them.
+type Row = ((u64, u32, u8), (u32, u32), bool);
 
 /// The number, cell and speed of a car, the first cell of a stretch and the one behind its last, and whether a run of the
 /// longest road goes on from them: its exit begins at cell 8,189.
-const CARS: &[((u64, u32, u8), (u32, u32), bool)] = &[
+const CARS: &[Row] = &[
     ((0, 0, 0), (0, 8_192), true),
     ((0, 8_188, 9), (0, 8_192), true),
     ((0, 8_189, 0), (0, 8_192), false),
@@ -36,7 +37,7 @@ fn road_with(
     alloc: Global,
     (number, cell, speed): (u64, u32, u8),
     stretch: Stretch,
-) -> Result<Road, Fail> {
+) -> Result<Road, OutOfMemory> {
     let mut cars = Vec::new(alloc);
     if stretch.first < cell && cell < stretch.end {
         cars.push(car(1, stretch.first, 3))?;
@@ -45,50 +46,45 @@ fn road_with(
     if cell < 8_180 && cell.saturating_add(1) < stretch.end {
         cars.push(car(2, cell.saturating_add(1), 3))?;
     }
-    Ok(road_of(alloc, &cars)?)
+    road_of(alloc, &cars)
 }
 
-// Begins a run of the longest road and takes it to the middle of a span.
-fn begun(alloc: Global, plan: &Arc<Plan>) -> Result<Beside, Fail> {
-    let mut beside = Beside::begin(alloc, plan, Settings::of_plan(alloc, plan)?)?;
+// Takes both to the middle of a span, and tells whether the run goes on from there from the road of a car on a stretch.
+fn goes_on(
+    alloc: Global,
+    beside: &mut Beside,
+    car: (u64, u32, u8),
+    stretch: Stretch,
+) -> Result<bool, Fail> {
     for _ in 0..20 {
         beside.step(alloc)?;
     }
-    Ok(beside)
+    let settings = random_settings(alloc, beside.plan(), 5)?;
+    let road = road_with(alloc, car, stretch)?;
+    beside.try_take_up(alloc, &settings, 5, stretch, &road)
 }
 
-// Checks that a refusal has changed nothing, neither the road nor what comes of it.
-fn goes_on_as_before(
+// Checks whether a run goes on from a row's road, and that a refusal has changed nothing, neither the road nor what comes
+// of it.
+fn holds(
     rt: &impl Abort,
     alloc: Global,
-    beside: &mut Beside,
-    row: usize,
+    number: u32,
+    (car, (first, end), wanted): Row,
 ) -> Result<(), Fail> {
-    assert!(rt; beside.are_same(alloc)?, "row {row}");
-    for _ in 0..50 {
-        beside.step(alloc)?;
+    let mut beside = Beside::of_parts(alloc, &LONG)?;
+    let taken = goes_on(alloc, &mut beside, car, Stretch { first, end })?;
+    assert!(rt; taken == wanted, "row {number}");
+    if taken {
+        return Ok(());
     }
-    assert!(rt; beside.are_same(alloc)?, "row {row}, 50 steps later");
-    Ok(())
+    are_same_throughout(rt, alloc, &mut beside, 50, "row", number)
 }
 
 #[test]
 fn a_run_goes_on_from_a_road_just_where_it_can_have_each_car(rt: HostRuntime) -> Result<(), Fail> {
-    let alloc = rt.alloc();
-    let plan = Arc::new(alloc, plan_of(alloc, &LONG)?)?;
-    let settings = random_settings(alloc, &plan, 5)?;
-    for (row, (car, (first, end), wanted)) in CARS.iter().enumerate() {
-        let stretch = Stretch {
-            first: *first,
-            end: *end,
-        };
-        let road = road_with(alloc, *car, stretch)?;
-        let mut beside = begun(alloc, &plan)?;
-        let taken = beside.try_take_up(alloc, &settings, 5, stretch, &road)?;
-        assert_eq!(rt; taken, *wanted, "row {row}");
-        if !taken {
-            goes_on_as_before(&rt, alloc, &mut beside, row)?;
-        }
+    for (number, row) in CARS.iter().enumerate() {
+        holds(&rt, rt.alloc(), number as u32, *row)?;
     }
     Ok(())
 }

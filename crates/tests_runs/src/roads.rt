@@ -1,11 +1,9 @@
 //! Random roads, whose settings change at, before and after multiples of 64.
 
-use crate::beside::Beside;
-use road_ends::{OutOfMemory, Stretch};
-use road_plan::{Plan, Settings};
+use crate::beside::{Beside, are_same_throughout};
+use road_ends::Stretch;
 use std::alloc::Global;
 use std::process::Abort;
-use std::sync::Arc;
 use std::test::Fail;
 use tests_plans::{Dice, random_plan, random_road, random_settings};
 
@@ -27,35 +25,31 @@ const SPANS: &[(u32, u32)] = &[
 const LENGTHS: &[u32] = &[8, 9, 23, 65, 300, 700, 2_500, 8_192];
 
 // Takes both through the spans, and compares them after each step.
-fn runs_spans(
-    rt: &impl Abort,
-    alloc: Global,
-    plan: &Plan,
-    beside: &mut Beside,
-    name: &str,
-) -> Result<(), Fail> {
+fn runs_spans(rt: &impl Abort, alloc: Global, beside: &mut Beside) -> Result<(), Fail> {
     for (seed, steps) in SPANS {
-        beside.change(alloc, random_settings(alloc, plan, *seed)?)?;
-        assert!(rt; beside.are_same(alloc)?, "{name}, settings {seed}");
-        for step in 0..*steps {
-            beside.step(alloc)?;
-            assert!(rt;
-                beside.are_same(alloc)?,
-                "{name}, settings {seed}, after step {step} of {steps}"
-            );
-        }
+        let settings = random_settings(alloc, beside.plan(), *seed)?;
+        beside.change(alloc, settings)?;
+        are_same_throughout(rt, alloc, beside, *steps, "settings", *seed)?;
     }
     Ok(())
 }
 
+// Takes both through the spans on a road of so many cells, from the empty road.
+fn runs_empty_road(
+    rt: &impl Abort,
+    alloc: Global,
+    dice: &mut Dice,
+    length: u32,
+) -> Result<(), Fail> {
+    let mut beside = Beside::of_plan(alloc, random_plan(alloc, dice, length)?)?;
+    runs_spans(rt, alloc, &mut beside)
+}
+
 #[test]
 fn a_run_from_the_empty_road_is_the_plain_steps(rt: HostRuntime) -> Result<(), Fail> {
-    let alloc = rt.alloc();
     let mut dice = Dice::of(1);
     for length in LENGTHS {
-        let plan = Arc::new(alloc, random_plan(alloc, &mut dice, *length)?)?;
-        let mut beside = Beside::begin(alloc, &plan, Settings::of_plan(alloc, &plan)?)?;
-        runs_spans(&rt, alloc, &plan, &mut beside, "empty road")?;
+        runs_empty_road(&rt, rt.alloc(), &mut dice, *length)?;
     }
     Ok(())
 }
@@ -64,31 +58,34 @@ fn a_run_from_the_empty_road_is_the_plain_steps(rt: HostRuntime) -> Result<(), F
 /// span that the tests come to.
 const STARTS: &[u32] = &[0, 1, 37, 63, 64, 1_048_300];
 
-// Goes on from a road with so many cars at each of these steps.
+// Goes on from a road with about so many cars at a step.
 fn takes_up(
-    rt: &impl Abort,
     alloc: Global,
     dice: &mut Dice,
-    plan: &Plan,
     beside: &mut Beside,
     cars: u32,
+    step: u32,
 ) -> Result<(), Fail> {
     let whole = Stretch {
         first: 0,
-        end: plan.length(),
+        end: beside.plan().length(),
     };
+    let road = random_road(alloc, dice, beside.plan(), cars)?;
+    let settings = random_settings(alloc, beside.plan(), dice.below(1_000))?;
+    beside.take_up(alloc, settings, step, whole, &road)
+}
+
+// Goes on from a road with about so many cars at each of these steps.
+fn takes_up_each(
+    rt: &impl Abort,
+    alloc: Global,
+    dice: &mut Dice,
+    beside: &mut Beside,
+    cars: u32,
+) -> Result<(), Fail> {
     for step in STARTS {
-        let road = random_road(alloc, dice, plan, cars)?;
-        let settings = random_settings(alloc, plan, dice.below(1_000))?;
-        assert!(rt; beside.take_up(alloc, settings, *step, whole, &road)?);
-        for done in 0..70u32 {
-            assert!(rt;
-                beside.are_same(alloc)?,
-                "{cars} cars from step {step}, after {done}"
-            );
-            beside.step(alloc)?;
-        }
-        assert!(rt; beside.are_same(alloc)?, "{cars} cars from step {step}");
+        takes_up(alloc, dice, beside, cars, *step)?;
+        are_same_throughout(rt, alloc, beside, 70, "begun at step", *step)?;
     }
     Ok(())
 }
@@ -96,69 +93,24 @@ fn takes_up(
 /// The lengths of such roads.
 const TAKEN: &[u32] = &[8, 40, 500, 3_000];
 
+// Goes on from full, thinner and thin roads of so many cells.
+fn takes_up_roads(
+    rt: &impl Abort,
+    alloc: Global,
+    dice: &mut Dice,
+    length: u32,
+) -> Result<(), Fail> {
+    let mut beside = Beside::of_plan(alloc, random_plan(alloc, dice, length)?)?;
+    takes_up_each(rt, alloc, dice, &mut beside, length)?;
+    takes_up_each(rt, alloc, dice, &mut beside, length / 3)?;
+    takes_up_each(rt, alloc, dice, &mut beside, length / 20)
+}
+
 #[test]
 fn a_run_goes_on_from_any_road_at_any_step(rt: HostRuntime) -> Result<(), Fail> {
-    let alloc = rt.alloc();
     let mut dice = Dice::of(2);
     for length in TAKEN {
-        let plan = Arc::new(alloc, random_plan(alloc, &mut dice, *length)?)?;
-        let mut beside = Beside::begin(alloc, &plan, Settings::of_plan(alloc, &plan)?)?;
-        takes_up(&rt, alloc, &mut dice, &plan, &mut beside, *length)?;
-        takes_up(&rt, alloc, &mut dice, &plan, &mut beside, length / 3)?;
-        takes_up(&rt, alloc, &mut dice, &plan, &mut beside, length / 20)?;
-    }
-    Ok(())
-}
-
-/// For how many steps cars that stand and cars that move are slowed by these chances: no car is at first, then some are
-/// from the middle of a span on, and so on.
-const TURNS: &[(u32, u32, u32)] = &[
-    (20, 0, 0),
-    (20, 0, 30_000),
-    (10, 0, 0),
-    (30, 40_000, 0),
-    (3, 0, 0),
-    (46, 0, 0),
-    (1, 65_535, 1),
-    (6, 0, 0),
-    (60, 20_000, 20_000),
-];
-
-// Makes settings that slow cars that stand and cars that move by these chances.
-fn slowed_by(
-    alloc: Global,
-    plan: &Plan,
-    seed: u32,
-    standing: u32,
-    moving: u32,
-) -> Result<Settings, OutOfMemory> {
-    let mut settings = random_settings(alloc, plan, seed)?;
-    for chance in settings.starts.iter_mut() {
-        *chance = standing;
-    }
-    for chance in settings.chances.iter_mut() {
-        *chance = moving;
-    }
-    Ok(settings)
-}
-
-#[test]
-fn cars_are_slowed_from_the_middle_of_a_span_on(rt: HostRuntime) -> Result<(), Fail> {
-    let alloc = rt.alloc();
-    let mut dice = Dice::of(3);
-    for length in TAKEN {
-        let plan = Arc::new(alloc, random_plan(alloc, &mut dice, *length)?)?;
-        let mut beside = Beside::begin(alloc, &plan, Settings::of_plan(alloc, &plan)?)?;
-        for (steps, standing, moving) in TURNS {
-            beside.change(alloc, slowed_by(alloc, &plan, *length, *standing, *moving)?)?;
-            for step in 0..*steps {
-                beside.step(alloc)?;
-                assert!(rt;
-                    beside.are_same(alloc)?,
-                    "slowed by {standing} and {moving}, after step {step} of {steps}"
-                );
-            }
-        }
+        takes_up_roads(&rt, rt.alloc(), &mut dice, *length)?;
     }
     Ok(())
 }

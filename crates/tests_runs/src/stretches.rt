@@ -1,89 +1,184 @@
 //! Runs on stretches of a road, beside the stretch alone and the whole road.
 
-use crate::beside::{Beside, cars_on};
+use crate::beside::{Beside, Place, holds_at};
+use crate::plain::{cars_on, count_on};
 use road_cells::{GREATEST_SPEED, Road};
 use road_ends::Stretch;
-use road_plan::{Plan, Settings};
 use std::alloc::Global;
 use std::process::Abort;
-use std::sync::Arc;
 use std::test::Fail;
 use tests_plans::{Dice, random_plan, random_road, random_settings};
 
-// Runs a stretch for so many steps, and compares after each the cells that nothing beyond it can have reached: those 9
-// cells more inside for each step, but at an end of the road. Returns how many cars were compared.
-fn runs_stretch(
-    rt: &impl Abort,
+/// Where a run on a stretch begins: the seed of its settings, its first step, and for how many steps it goes on.
+#[derive(Clone, Copy)]
+struct Course {
+    seed: u32,
+    step: u32,
+    steps: u32,
+}
+
+// Returns the cells of a stretch that nothing beyond it can have reached after a step: those 9 cells more inside, but at
+// an end of the road.
+fn narrowed(stretch: Stretch, length: u32) -> Stretch {
+    let far = u32::from(GREATEST_SPEED);
+    let Stretch { mut first, mut end } = stretch;
+    if first > 0 {
+        first = first.saturating_add(far);
+    }
+    if end < length {
+        end = end.saturating_sub(far);
+    }
+    Stretch { first, end }
+}
+
+// Returns the cells that the cars of a stretch can have reached after a step: it ends 9 cells later, but at the end of the
+// road.
+fn widened(stretch: Stretch, length: u32) -> Stretch {
+    let end = stretch.end.saturating_add(u32::from(GREATEST_SPEED));
+    Stretch {
+        first: stretch.first,
+        end: end.min(length),
+    }
+}
+
+// Goes on from the cars of a road on a stretch.
+fn take_up(
     alloc: Global,
-    plan: &Plan,
     beside: &mut Beside,
-    (seed, step): (u32, u32),
+    course: Course,
     stretch: Stretch,
     road: &Road,
-    steps: u32,
+) -> Result<(), Fail> {
+    let settings = random_settings(alloc, beside.plan(), course.seed)?;
+    beside.take_up(alloc, settings, course.step, stretch, road)
+}
+
+// Compares both on a stretch, and returns how many cars stand on it.
+fn compared_on(
+    rt: &impl Abort,
+    alloc: Global,
+    beside: &Beside,
+    stretch: Stretch,
+    place: Place<'_>,
 ) -> Result<usize, Fail> {
-    let settings = random_settings(alloc, plan, seed)?;
-    assert!(rt; beside.take_up(alloc, settings, step, stretch, road)?);
-    let mut inner = stretch;
+    if stretch.first >= stretch.end {
+        return Ok(0);
+    }
+    holds_at(rt, beside.are_same_on(alloc, stretch)?, place);
+    Ok(count_on(beside.road(), stretch))
+}
+
+// Runs a stretch, and compares after each step the cells that nothing beyond it can have reached. Returns how many cars
+// were compared.
+fn runs_as_the_whole_road(
+    rt: &impl Abort,
+    alloc: Global,
+    beside: &mut Beside,
+    course: Course,
+    mut stretch: Stretch,
+    road: &Road,
+) -> Result<usize, Fail> {
+    take_up(alloc, beside, course, stretch, road)?;
+    let number = stretch.first;
+    let length = beside.plan().length();
     let mut compared = 0_usize;
-    for done in 0..steps {
+    for done in 0..course.steps {
         beside.step(alloc)?;
-        if inner.first > 0 {
-            inner.first = inner.first.saturating_add(u32::from(GREATEST_SPEED));
-        }
-        if inner.end < plan.length() {
-            inner.end = inner.end.saturating_sub(u32::from(GREATEST_SPEED));
-        }
-        if inner.first < inner.end {
-            assert!(rt;
-                beside.are_same_between(alloc, inner.first, inner.end)?,
-                "cells {} to {}, settings {seed}, step {done} from {step}",
-                stretch.first,
-                stretch.end
-            );
-            let cars = beside.road().cars().iter();
-            compared = compared.saturating_add(
-                cars.filter(|car| inner.first <= car.cell && car.cell < inner.end)
-                    .count(),
-            );
-        }
+        stretch = narrowed(stretch, length);
+        let name = "in the whole road, the stretch from cell";
+        let place = Place { name, number, done };
+        let cars = compared_on(rt, alloc, beside, stretch, place)?;
+        compared = compared.saturating_add(cars);
     }
     Ok(compared)
 }
 
-// Runs a stretch for so many steps, and compares after each the whole road with plain steps in which nobody enters
-// elsewhere: the stretch ends 9 cells later after each.
-fn runs_alone(
+// Runs a stretch, and compares after each step the whole road with plain steps in which nobody enters elsewhere.
+fn runs_as_alone(
     rt: &impl Abort,
     alloc: Global,
-    plan: &Plan,
     beside: &mut Beside,
-    (seed, step): (u32, u32),
+    course: Course,
     mut stretch: Stretch,
     road: &Road,
-    steps: u32,
 ) -> Result<(), Fail> {
     let near = cars_on(alloc, road, stretch)?;
-    let settings = random_settings(alloc, plan, seed)?;
-    let own = random_settings(alloc, plan, seed)?;
-    assert!(rt; beside.take_up(alloc, own, step, stretch, &near)?);
-    for done in 0..steps {
+    take_up(alloc, beside, course, stretch, &near)?;
+    let settings = random_settings(alloc, beside.plan(), course.seed)?;
+    let number = stretch.first;
+    let length = beside.plan().length();
+    for done in 0..course.steps {
         beside.close_outside(&settings, stretch)?;
         beside.step(alloc)?;
-        assert!(rt;
-            beside.are_same(alloc)?,
-            "cells {} to {}, settings {seed}, step {done} from {step}",
-            stretch.first,
-            stretch.end
-        );
-        let end = stretch.end.saturating_add(u32::from(GREATEST_SPEED));
-        stretch.end = end.min(plan.length());
+        let name = "alone, the stretch from cell";
+        holds_at(rt, beside.are_same(alloc)?, Place { name, number, done });
+        stretch = widened(stretch, length);
     }
     Ok(())
 }
 
-// Cuts a road at each so many cells, and runs the stretches before the cut, behind it and round it.
+// Cuts a road at a cell, and runs the stretches before the cut, behind it and round it. Returns how many cars were
+// compared.
+fn runs_stretches(
+    rt: &impl Abort,
+    alloc: Global,
+    beside: &mut Beside,
+    course: Course,
+    cut: u32,
+    road: &Road,
+) -> Result<usize, Fail> {
+    let length = beside.plan().length();
+    let middle = length.min(cut.saturating_add(length / 2));
+    let mut compared = 0_usize;
+    for (first, end) in [(0, cut), (cut, length), (cut, middle)] {
+        let stretch = Stretch { first, end };
+        runs_as_alone(rt, alloc, beside, course, stretch, road)?;
+        let cars = runs_as_the_whole_road(rt, alloc, beside, course, stretch, road)?;
+        compared = compared.saturating_add(cars);
+    }
+    Ok(compared)
+}
+
+// Runs the stretches of a random road on both sides of a cell for so many steps.
+fn cut_at(
+    rt: &impl Abort,
+    alloc: Global,
+    dice: &mut Dice,
+    beside: &mut Beside,
+    cut: u32,
+    steps: u32,
+) -> Result<usize, Fail> {
+    let cars = dice.below(beside.plan().length());
+    let road = random_road(alloc, dice, beside.plan(), cars)?;
+    let course = Course {
+        seed: dice.below(100),
+        step: dice.below(200),
+        steps,
+    };
+    runs_stretches(rt, alloc, beside, course, cut, &road)
+}
+
+// Cuts a road at each so many cells.
 fn cut_everywhere(
+    rt: &impl Abort,
+    alloc: Global,
+    dice: &mut Dice,
+    beside: &mut Beside,
+    apart: u32,
+    steps: u32,
+) -> Result<usize, Fail> {
+    let length = beside.plan().length();
+    let mut compared = 0_usize;
+    for part in 0..length.checked_div(apart).unwrap_or(0) {
+        let cut = part.saturating_mul(apart);
+        let cars = cut_at(rt, alloc, dice, beside, cut, steps)?;
+        compared = compared.saturating_add(cars);
+    }
+    Ok(compared)
+}
+
+// Cuts a random road of so many cells at each so many of them.
+fn cut_road(
     rt: &impl Abort,
     alloc: Global,
     dice: &mut Dice,
@@ -91,38 +186,18 @@ fn cut_everywhere(
     apart: u32,
     steps: u32,
 ) -> Result<usize, Fail> {
-    let plan = Arc::new(alloc, random_plan(alloc, dice, length)?)?;
-    let mut beside = Beside::begin(alloc, &plan, Settings::of_plan(alloc, &plan)?)?;
-    let mut compared = 0_usize;
-    for part in 0..length.checked_div(apart).unwrap_or(0) {
-        let cut = part.saturating_mul(apart);
-        let cars = dice.below(length);
-        let road = random_road(alloc, dice, &plan, cars)?;
-        let at = (dice.below(100), dice.below(200));
-        let stretches = [
-            (0, cut),
-            (cut, length),
-            (cut, length.min(cut.saturating_add(length / 2))),
-        ];
-        for (first, end) in stretches {
-            let stretch = Stretch { first, end };
-            runs_alone(rt, alloc, &plan, &mut beside, at, stretch, &road, steps)?;
-            let cars = runs_stretch(rt, alloc, &plan, &mut beside, at, stretch, &road, steps)?;
-            compared = compared.saturating_add(cars);
-        }
-    }
-    Ok(compared)
+    let mut beside = Beside::of_plan(alloc, random_plan(alloc, dice, length)?)?;
+    cut_everywhere(rt, alloc, dice, &mut beside, apart, steps)
 }
 
 #[test]
 fn a_stretch_of_a_small_road_is_run_as_alone_and_as_the_whole_road(
     rt: HostRuntime,
 ) -> Result<(), Fail> {
-    let alloc = rt.alloc();
     let mut dice = Dice::of(3);
     let mut compared = 0_usize;
     for length in 8..60u32 {
-        let cars = cut_everywhere(&rt, alloc, &mut dice, length, 1, 3)?;
+        let cars = cut_road(&rt, rt.alloc(), &mut dice, length, 1, 3)?;
         compared = compared.saturating_add(cars);
     }
     assert!(rt; compared > 1_000, "{compared} cars");
@@ -133,10 +208,9 @@ fn a_stretch_of_a_small_road_is_run_as_alone_and_as_the_whole_road(
 fn a_stretch_of_a_long_road_is_run_as_alone_and_as_the_whole_road(
     rt: HostRuntime,
 ) -> Result<(), Fail> {
-    let alloc = rt.alloc();
     let mut dice = Dice::of(4);
     for length in [900, 3_000] {
-        let compared = cut_everywhere(&rt, alloc, &mut dice, length, 300, 40)?;
+        let compared = cut_road(&rt, rt.alloc(), &mut dice, length, 300, 40)?;
         assert!(rt;
             compared > 1_000,
             "a road of {length} cells with {compared} cars"

@@ -1,10 +1,10 @@
 //! Rows that were worked out by hand or by another program.
 
 use crate::beside::Beside;
+use road_ends::OutOfMemory;
 use road_plan::{Plan, Settings};
 use std::alloc::Global;
 use std::process::Abort;
-use std::sync::Arc;
 use std::test::Fail;
 use tests_plans::{
     BLOCKED_ROWS, BLOCKED_UNDER_ROWS, DENSE, DENSE_ROWS, DENSE_START, DENSE_START_ROWS, FREE,
@@ -74,83 +74,124 @@ const EXAMPLES: &[Example] = &[
 ];
 
 // Changes settings.
-fn changed(alloc: Global, settings: &mut Settings, change: Change) -> Result<(), Fail> {
+fn changed(alloc: Global, mut settings: Settings, change: Change) -> Result<Settings, OutOfMemory> {
     match change {
         Change::Limit(limit) => settings.limits = vec![in alloc; limit]?,
         Change::Block(cell) => settings.blocks = vec![in alloc; cell]?,
         Change::Start(chance) => settings.starts = vec![in alloc; chance]?,
     }
-    Ok(())
+    Ok(settings)
 }
 
 // Makes the changes of an example before a step.
 fn change_before(
     alloc: Global,
-    plan: &Plan,
     beside: &mut Beside,
-    example: &Example,
+    changes: &[(u32, Change)],
     step: u32,
 ) -> Result<(), Fail> {
-    for (at, change) in example.changes {
+    for (at, change) in changes {
         if *at == step {
-            let mut settings = Settings::of_plan(alloc, plan)?;
-            changed(alloc, &mut settings, *change)?;
-            beside.change(alloc, settings)?;
+            let settings = Settings::of_plan(alloc, beside.plan())?;
+            beside.change(alloc, changed(alloc, settings, *change)?)?;
         }
     }
     Ok(())
 }
 
-// Compares the rows of an example.
-fn has_rows(rt: &impl Abort, alloc: Global, example: &Example) -> Result<(), Fail> {
-    let plan = Arc::new(alloc, plan_of(alloc, &example.parts)?)?;
-    let mut beside = Beside::begin(alloc, &plan, Settings::of_plan(alloc, &plan)?)?;
-    for step in 0..80u32 {
-        change_before(alloc, &plan, &mut beside, example, step)?;
-        for (at, row) in example.rows {
-            assert!(rt;
-                *at != step || beside.row(alloc)?.as_str() == *row,
-                "{row} at {step}"
-            );
+// Compares the row of the run.
+fn has_row(rt: &impl Abort, alloc: Global, beside: &Beside, wanted: &str) -> Result<(), Fail> {
+    let row = beside.row(alloc)?;
+    assert!(rt; row.as_str() == wanted, "{row} for {wanted}");
+    Ok(())
+}
+
+// Compares the row of the run, if there is one of the step it stands at.
+fn has_row_of(
+    rt: &impl Abort,
+    alloc: Global,
+    beside: &Beside,
+    rows: &[Row],
+    step: u32,
+) -> Result<(), Fail> {
+    for (at, row) in rows {
+        if *at == step {
+            has_row(rt, alloc, beside, row)?;
         }
+    }
+    Ok(())
+}
+
+// Makes the changes of an example, and compares its rows.
+fn has_rows(
+    rt: &impl Abort,
+    alloc: Global,
+    beside: &mut Beside,
+    example: &Example,
+) -> Result<(), Fail> {
+    for step in 0..80u32 {
+        change_before(alloc, beside, example.changes, step)?;
+        has_row_of(rt, alloc, beside, example.rows, step)?;
         beside.step(alloc)?;
     }
     Ok(())
 }
 
+// Runs an example.
+fn runs(rt: &impl Abort, alloc: Global, example: &Example) -> Result<(), Fail> {
+    let mut beside = Beside::of_parts(alloc, &example.parts)?;
+    has_rows(rt, alloc, &mut beside, example)
+}
+
 #[test]
 fn runs_the_examples(rt: HostRuntime) -> Result<(), Fail> {
     for example in EXAMPLES {
-        has_rows(&rt, rt.alloc(), example)?;
+        runs(&rt, rt.alloc(), example)?;
     }
     Ok(())
 }
 
-// Compares the rows after each step of a road, where standing cars may have a slowing chance of their own.
+// Makes the settings of a plan, where standing cars may have a slowing chance of their own.
+fn settings_of(alloc: Global, plan: &Plan, start: Option<u32>) -> Result<Settings, OutOfMemory> {
+    let settings = Settings::of_plan(alloc, plan)?;
+    match start {
+        Some(chance) => changed(alloc, settings, Change::Start(chance)),
+        None => Ok(settings),
+    }
+}
+
+// Compares the rows after each step.
 fn has_rows_one_by_one(
+    rt: &impl Abort,
+    alloc: Global,
+    beside: &mut Beside,
+    rows: &[&str],
+) -> Result<(), Fail> {
+    for row in rows {
+        beside.step(alloc)?;
+        has_row(rt, alloc, beside, row)?;
+    }
+    Ok(())
+}
+
+// Runs the road of these parts, whose rows are compared after each step.
+fn runs_one_by_one(
     rt: &impl Abort,
     alloc: Global,
     parts: &Parts,
     start: Option<u32>,
     rows: &[&str],
 ) -> Result<(), Fail> {
-    let plan = Arc::new(alloc, plan_of(alloc, parts)?)?;
-    let mut settings = Settings::of_plan(alloc, &plan)?;
-    if let Some(chance) = start {
-        changed(alloc, &mut settings, Change::Start(chance))?;
-    }
-    let mut beside = Beside::begin(alloc, &plan, settings)?;
-    for row in rows {
-        beside.step(alloc)?;
-        assert!(rt; beside.row(alloc)?.as_str() == *row, "{row}");
-    }
-    Ok(())
+    let plan = plan_of(alloc, parts)?;
+    let settings = settings_of(alloc, &plan, start)?;
+    let mut beside = Beside::begin(alloc, plan, settings)?;
+    has_rows_one_by_one(rt, alloc, &mut beside, rows)
 }
 
 #[test]
 fn runs_by_steady_words(rt: HostRuntime) -> Result<(), Fail> {
     let alloc = rt.alloc();
-    has_rows_one_by_one(&rt, alloc, &HALF_SLOWED, None, HALF_SLOWED_ROWS)?;
-    has_rows_one_by_one(&rt, alloc, &DENSE, None, DENSE_ROWS)?;
-    has_rows_one_by_one(&rt, alloc, &DENSE, Some(DENSE_START), DENSE_START_ROWS)
+    runs_one_by_one(&rt, alloc, &HALF_SLOWED, None, HALF_SLOWED_ROWS)?;
+    runs_one_by_one(&rt, alloc, &DENSE, None, DENSE_ROWS)?;
+    runs_one_by_one(&rt, alloc, &DENSE, Some(DENSE_START), DENSE_START_ROWS)
 }

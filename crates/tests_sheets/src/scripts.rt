@@ -1,15 +1,16 @@
 //! Scripts of edits and advances at steps round the ends of intervals, the first ones and the last ones: each state and each
 //! total against a run from step zero. One script in two has steady words, each other one seeded words of its own.
 
+ghost use Rattle.std.specs.Prelude.{◌<◌, length};
 ghost use Rattle.road_sheet.specs.QueryCaches.{IsCacheOf};
 
 use crate::sheets::{grow, opening};
 use road_detector::{Totals, passes};
-use road_ends::{Meter, step_alone};
+use road_ends::{Meter, OutOfMemory, step_alone};
 use road_plan::{Object, WordKind};
 use road_scenario::{Edit, Stamp, Value};
 use road_sheet::simulation::{State, row_of};
-use road_sheet::{QueryCache, Sheet};
+use road_sheet::{QueryCache, Sheet, SheetFault};
 use std::alloc::Global;
 use std::test::Fail;
 use tests_plans::{Parts, edit};
@@ -96,6 +97,21 @@ impl Dice {
     }
 }
 
+// Takes a state to the next step of a sheet's run, by a step that one caller computes, and returns what a detector counts
+// in it.
+fn step_on(alloc: Global, sheet: &Sheet, state: &mut State, detector: u32) -> Result<Totals, Fail>
+    requires { detector < length sheet.now.plan.detectors }
+{
+    let (plan, step) = (sheet.plan(), state.step);
+    let mut meter = Meter::new();
+    let settings = sheet.scenario().settings_at(alloc, plan, step)?;
+    let done = step_alone(alloc, plan, settings, step, &state.road, &mut meter)?;
+    let passed = passes(&done.input, &done.speeds, detector);
+    state.road = done.road;
+    state.step = step.saturating_add(1);
+    Ok(passed)
+}
+
 // Takes a state to a later step of a sheet's run, by steps that one caller computes, and returns what a detector counts
 // in them.
 fn go_on(
@@ -105,30 +121,39 @@ fn go_on(
     detector: u32,
     to: u32,
 ) -> Result<Totals, Fail> {
-    let (plan, scenario) = (sheet.plan(), sheet.scenario());
-    let mut meter = Meter::new();
-    let mut totals = Totals { cars: 0, speeds: 0 };
-    if plan.detectors().len() <= detector as usize {
+    if sheet.plan().detectors().len() <= detector as usize {
         return Err(Fail::new("no such detector"));
     }
-    for step in state.step..to {
-        let settings = scenario.settings_at(alloc, plan, step)?;
-        let done = step_alone(alloc, plan, settings, step, &state.road, &mut meter)?;
-        let passed = passes(&done.input, &done.speeds, detector);
+    let mut totals = Totals { cars: 0, speeds: 0 };
+    for _ in state.step..to {
+        let passed = step_on(alloc, sheet, state, detector)?;
         totals.cars = totals.cars.saturating_add(passed.cars);
         totals.speeds = totals.speeds.saturating_add(passed.speeds);
-        state.road = done.road;
-        state.step = step + 1;
     }
     Ok(totals)
 }
 
 // Copies a state.
-fn copied(state: &State) -> Result<State, Fail> {
+fn copied(state: &State) -> Result<State, OutOfMemory> {
     Ok(State {
         step: state.step,
         road: state.road.copied()?,
     })
+}
+
+// Tells whether a sheet shows the road of a state: by a cache, and by none.
+fn state_agrees(
+    alloc: Global,
+    sheet: &Sheet,
+    cache: &mut QueryCache,
+    state: &State,
+) -> Result<bool, SheetFault>
+    requires { IsCacheOf sheet.now cache.old }
+    ensures { IsCacheOf sheet.now cache.new }
+{
+    let cached = cache.state(alloc, sheet, state.step)?;
+    let fresh = sheet.state(alloc, state.step)?;
+    Ok(cached.cars() == state.road.cars() && fresh.cars() == state.road.cars())
 }
 
 // Tells whether a sheet shows the states that the run has at some steps, which goes on from its first state to each of
@@ -137,35 +162,42 @@ fn states_agree(alloc: Global, sheet: &Sheet, first: &State, steps: &[u32]) -> R
     let mut cache = QueryCache::new();
     let mut last = copied(first)?;
     for place in steps {
-        let step = (*place).min(sheet.horizon());
-        let _ = go_on(alloc, sheet, &mut last, 0, step)?;
-        let cached = cache.state(alloc, sheet, step)?;
-        let fresh = sheet.state(alloc, step)?;
-        if cached.cars() != last.road.cars() || fresh.cars() != last.road.cars() {
+        let _ = go_on(alloc, sheet, &mut last, 0, (*place).min(sheet.horizon()))?;
+        if !state_agrees(alloc, sheet, &mut cache, &last)? {
             return Ok(false);
         }
     }
     Ok(true)
 }
 
-// Tells whether what a detector counts in some steps is what it counts in them in the run that goes on from its first
-// state: asked twice by one cache, and by none.
-fn totals_agree(
+// Tells whether a detector counts so in some steps of a sheet: asked twice by one cache, and by none.
+fn counts_so(
     alloc: Global,
     sheet: &Sheet,
-    first: &State,
     detector: u32,
-    from: u32,
-    to: u32,
-) -> Result<bool, Fail> {
-    let mut state = copied(first)?;
-    let _ = go_on(alloc, sheet, &mut state, detector, from)?;
-    let counted = go_on(alloc, sheet, &mut state, detector, to)?;
+    (from, to): (u32, u32),
+    counted: Totals,
+) -> Result<bool, SheetFault> {
     let mut cache = QueryCache::new();
     let cached = cache.totals(alloc, sheet, detector, from, to)?;
     let again = cache.totals(alloc, sheet, detector, from, to)?;
     let fresh = sheet.totals(alloc, detector, from, to)?;
     Ok(cached == counted && again == counted && fresh == counted)
+}
+
+// Tells whether what a detector counts in some steps is what it counts in them in the run that goes on from its first
+// state.
+fn totals_agree(
+    alloc: Global,
+    sheet: &Sheet,
+    first: &State,
+    detector: u32,
+    (from, to): (u32, u32),
+) -> Result<bool, Fail> {
+    let mut state = copied(first)?;
+    let _ = go_on(alloc, sheet, &mut state, detector, from)?;
+    let counted = go_on(alloc, sheet, &mut state, detector, to)?;
+    Ok(counts_so(alloc, sheet, detector, (from, to), counted)?)
 }
 
 // Tells whether a sheet agrees with the run from its first state: its states, and what a detector counts from a random
@@ -181,7 +213,7 @@ fn sheet_agrees(
     }
     let to = dice.step().min(sheet.horizon());
     let from = dice.step().min(to);
-    totals_agree(alloc, sheet, first, dice.below(2), from, to)
+    totals_agree(alloc, sheet, first, dice.below(2), (from, to))
 }
 
 // Makes a sheet with none, one or two more edits, simulated up to a random step.
@@ -294,6 +326,40 @@ const LATER: &[Edit] = &[
     edit!(Object::Block(3), 100, (3, 1), 1),
 ];
 
+// Tells whether a cache and a sheet show the same row at a step.
+fn row_agrees(
+    alloc: Global,
+    sheet: &Sheet,
+    cache: &mut QueryCache,
+    step: u32,
+) -> Result<bool, SheetFault>
+    requires { IsCacheOf sheet.now cache.old }
+    ensures { IsCacheOf sheet.now cache.new }
+{
+    let cached = cache.row(alloc, sheet, step)?;
+    let road = sheet.state(alloc, step)?;
+    let fresh = row_of(alloc, sheet.plan(), sheet.scenario(), &State { step, road })?;
+    Ok(cached == fresh)
+}
+
+// Takes a state to the next step of a run, if there is one up to the horizon, and tells whether a cache shows what a
+// detector counts in it.
+fn totals_of_step_agree(
+    alloc: Global,
+    sheet: &Sheet,
+    cache: &mut QueryCache,
+    state: &mut State,
+) -> Result<bool, Fail>
+    requires { IsCacheOf sheet.now cache.old }
+    ensures { IsCacheOf sheet.now cache.new }
+{
+    let step = state.step;
+    let next = step.saturating_add(1).min(sheet.horizon());
+    let totals = cache.totals(alloc, sheet, step % 2, step, next)?;
+    let counted = go_on(alloc, sheet, state, step % 2, next)?;
+    Ok(totals == counted)
+}
+
 // Tells whether a cache shows a state of a run, its row and what a detector counts in the step after it, and takes the
 // state to that step.
 fn step_agrees(
@@ -305,19 +371,10 @@ fn step_agrees(
     requires { IsCacheOf sheet.now cache.old }
     ensures { IsCacheOf sheet.now cache.new }
 {
-    let step = state.step;
-    let road = cache.state(alloc, sheet, step)?;
-    let row = cache.row(alloc, sheet, step)?;
-    let plain = State {
-        step,
-        road: sheet.state(alloc, step)?,
-    };
-    let shown = row_of(alloc, sheet.plan(), sheet.scenario(), &plain)?;
-    let agrees = road.cars() == state.road.cars() && row.as_str() == shown.as_str();
-    let next = step.saturating_add(1).min(sheet.horizon());
-    let counted = go_on(alloc, sheet, state, step % 2, next)?;
-    let totals = cache.totals(alloc, sheet, step % 2, step, next)?;
-    Ok(agrees && totals == counted)
+    let state_is = state_agrees(alloc, sheet, cache, state)?;
+    let row_is = row_agrees(alloc, sheet, cache, state.step)?;
+    let totals_are = totals_of_step_agree(alloc, sheet, cache, state)?;
+    Ok(state_is && row_is && totals_are)
 }
 
 // Tells whether a cache shows all steps of a sheet, one after another.
@@ -334,18 +391,25 @@ fn steps_agree(alloc: Global, sheet: &Sheet, cache: &mut QueryCache) -> Result<b
     Ok(true)
 }
 
-// Tells whether a cache that is kept shows the steps of a road of some words: twice, as it goes back to step 0, and then
-// under other edits.
+// Tells whether a cache shows all steps of a sheet twice, as it goes back to step 0.
+fn steps_agree_twice(alloc: Global, sheet: &Sheet, cache: &mut QueryCache) -> Result<bool, Fail>
+    requires { IsCacheOf sheet.now cache.old }
+    ensures { IsCacheOf sheet.now cache.new }
+{
+    let once = steps_agree(alloc, sheet, cache)?;
+    let twice = steps_agree(alloc, sheet, cache)?;
+    Ok(once && twice)
+}
+
+// Tells whether a cache that is kept shows the steps of a road of some words, and then under other edits.
 fn cache_agrees(alloc: Global, words: WordKind) -> Result<bool, Fail> {
     let opening = opening(alloc, &Parts { words, ..MIXED })?;
     let sheet = grow(alloc, &opening, DATED, 200)?.sheet;
     let mut cache = QueryCache::new();
-    if !steps_agree(alloc, &sheet, &mut cache)? || !steps_agree(alloc, &sheet, &mut cache)? {
-        return Ok(false);
-    }
+    let agrees = steps_agree_twice(alloc, &sheet, &mut cache)?;
     let other = grow(alloc, &sheet, LATER, 200)?.sheet;
     cache.restart();
-    steps_agree(alloc, &other, &mut cache)
+    Ok(steps_agree(alloc, &other, &mut cache)? && agrees)
 }
 
 #[test]

@@ -1,0 +1,66 @@
+//! Settings under which nothing is left to chance, and others, that take turns in the middle of spans.
+
+use crate::beside::{Beside, are_same_throughout};
+use road_plan::{OutOfMemory, Plan, Settings};
+use std::alloc::Global;
+use std::process::Abort;
+use std::test::Fail;
+use tests_plans::{DENSE, LONG, Parts, RANDOM};
+
+/// For how many steps settings hold, and by them the slowing chance of moving cars, that of standing ones and the inflow
+/// chance: nothing up to the middle of the first span, then each kind of chance, alone and with others, and back, within
+/// a span and over the end of one; certain chances; chances that hardly ever miss.
+const TURNS: &[(u32, (u32, u32, u32))] = &[
+    (30, (0, 0, 65_536)),
+    (10, (30_000, 30_000, 65_536)),
+    (40, (0, 0, 65_536)),
+    (20, (0, 30_000, 65_536)),
+    (9, (0, 0, 65_536)),
+    (1, (30_000, 0, 65_536)),
+    (12, (0, 0, 20_000)),
+    (64, (0, 0, 65_536)),
+    (20, (65_535, 1, 40_000)),
+    (30, (65_536, 0, 65_536)),
+    (5, (0, 65_536, 65_536)),
+    (7, (20_000, 0, 65_536)),
+    (70, (0, 0, 40_000)),
+    (3, (10_000, 50_000, 0)),
+    (11, (0, 0, 0)),
+    (25, (1, 65_535, 65_536)),
+];
+
+// Makes the plan's settings but for these chances.
+fn settings_of(
+    alloc: Global,
+    plan: &Plan,
+    (moving, standing, inflow): (u32, u32, u32),
+) -> Result<Settings, OutOfMemory> {
+    let mut settings = Settings::of_plan(alloc, plan)?;
+    settings.chances = vec![in alloc; moving; plan.zones().len()]?;
+    settings.starts = vec![in alloc; standing; plan.zones().len()]?;
+    settings.inflows = vec![in alloc; inflow; plan.inlets().len()]?;
+    Ok(settings)
+}
+
+// Takes both through the turns, and compares them after each step.
+fn takes_turns(rt: &impl Abort, alloc: Global, beside: &mut Beside) -> Result<(), Fail> {
+    for (turn, (steps, chances)) in TURNS.iter().enumerate() {
+        let settings = settings_of(alloc, beside.plan(), *chances)?;
+        beside.change(alloc, settings)?;
+        are_same_throughout(rt, alloc, beside, *steps, "turn", turn as u32)?;
+    }
+    Ok(())
+}
+
+// Takes both through the turns on the empty road of these parts.
+fn takes_turns_on(rt: &impl Abort, alloc: Global, parts: &Parts) -> Result<(), Fail> {
+    let mut beside = Beside::of_parts(alloc, parts)?;
+    takes_turns(rt, alloc, &mut beside)
+}
+
+#[test]
+fn chances_begin_and_end_in_the_middle_of_spans(rt: HostRuntime) -> Result<(), Fail> {
+    takes_turns_on(&rt, rt.alloc(), &LONG)?;
+    takes_turns_on(&rt, rt.alloc(), &RANDOM)?;
+    takes_turns_on(&rt, rt.alloc(), &DENSE)
+}
