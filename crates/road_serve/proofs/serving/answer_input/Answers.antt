@@ -52,7 +52,7 @@ returns-in-Some-over g c =
     let more : ReadMore s1 s2 c.in_ok-count.count c.read.new.piece = record { bytes = e.bytes.0; fits = e.within; ended = e.ended; well = e.well } in
     rw (c.fault-in-Some-over.ensures)
     (over c.args.limits.lines c.args.limits.bytes l.room c.in_ok-count.count c.fitting-within.result _ s1 s2 _ _ k2 _ _ l.dialogue c.take.new.self c.read.new.piece c.in-Some-over.end l.invariant.0 more c.if-count-eq0.false c.fitting-within.ensures
-    (c.in_ok-take.ensures.answered c.args.limits.lines l.invariant.0.input _ l.invariant.0.answered) c.in_ok-take.ensures.none_wait c.in_ok-take.ensures.flushed (sym c.over-2.ensures ∙ c.in-Some-over.is) (c.in_ok-take.ensures.kept ∙ l.invariant.1))
+    (c.in_ok-take.ensures.answered c.args.limits.lines l.invariant.0.input _ l.invariant.0.answered) c.in_ok-take.ensures.none_wait c.in_ok-take.ensures.flushed (sym c.over-in-loop-count.ensures ∙ c.in-Some-over.is) (c.in_ok-take.ensures.kept ∙ l.invariant.1))
 
 pub returns-then-within-count : goal.returns-then-within-count
 returns-then-within-count g c =
@@ -63,7 +63,7 @@ returns-then-within-count g c =
     let k2 = sink_view g.W.Sink c.take.new.writer in
     let more : ReadMore s1 s2 c.in_ok-count.count c.read.new.piece = record { bytes = e.bytes.0; fits = e.within; ended = e.ended; well = e.well } in
     past c.args.limits.lines c.args.limits.bytes l.room c.in_ok-count.count c.fitting-within.result _ s1 s2 _ _ k2 _ _ l.dialogue c.take.new.self c.read.new.piece l.invariant.0 more c.if-count-eq0.false c.fitting-within.ensures c.if-within-count.true
-    (c.in_ok-take.ensures.answered c.args.limits.lines l.invariant.0.input _ l.invariant.0.answered) c.in_ok-take.ensures.none_wait c.in_ok-take.ensures.flushed (sym c.over-2.ensures ∙ c.in_default-over.is) (c.in_ok-take.ensures.kept ∙ l.invariant.1)
+    (c.in_ok-take.ensures.answered c.args.limits.lines l.invariant.0.input _ l.invariant.0.answered) c.in_ok-take.ensures.none_wait c.in_ok-take.ensures.flushed (sym c.over-in-loop-count.ensures ∙ c.in_default-over.is) (c.in_ok-take.ensures.kept ∙ l.invariant.1)
 
 pub loop-count-preserved : goal.loop-count-preserved
 loop-count-preserved g c =
@@ -74,7 +74,7 @@ loop-count-preserved g c =
     let k2 = sink_view g.W.Sink c.take.new.writer in
     let more : ReadMore s1 s2 c.in_ok-count.count c.read.new.piece = record { bytes = e.bytes.0; fits = e.within; ended = e.ended; well = e.well } in (
       read_on c.args.limits.lines c.args.limits.bytes l.room _ c.in_ok-count.count c.fitting-within.result _ s1 s2 _ _ k2 l.dialogue c.take.new.self c.read.new.piece l.invariant.0 more c.fitting-within.ensures c.if-within-count.false refl
-          (c.in_ok-take.ensures.answered c.args.limits.lines l.invariant.0.input _ l.invariant.0.answered) (sym c.over-2.ensures ∙ c.in_default-over.is) c.in_ok-take.ensures.none_wait,
+          (c.in_ok-take.ensures.answered c.args.limits.lines l.invariant.0.input _ l.invariant.0.answered) (sym c.over-in-loop-count.ensures ∙ c.in_default-over.is) c.in_ok-take.ensures.none_wait,
       c.in_ok-take.ensures.kept ∙ l.invariant.1,
     )
 

@@ -11,13 +11,13 @@ returns-in-Some-clause-answered g c lines bytes on few =
     let after : Dialogue = record {
       laboratory = Some c.later_reply.new.laboratory;
       line = c.clear.new.self;
-      left = c.saturating_sub-self.result;
+      left = c.saturating_sub-self-inside.result;
       waiting = c.self.inside.waiting.items;
       over = c.self.inside.over;
     } in
     later_step lines bytes (string_bytes c.in_ok-reply.reply) _ after c.in-Some.laboratory c.later_reply.new.laboratory (subst Family (sym c.self.view_is) on) c.in-Some.is few
     c.in_ok-reply.ensures.text c.in_ok-reply.ensures.after
-    refl c.saturating_sub-self.ensures c.clear.ensures (ap (λ (d : Dialogue). d.over) c.self.view_is ∙ c.requires)
+    refl c.saturating_sub-self-inside.ensures c.clear.ensures (ap (λ (d : Dialogue). d.over) c.self.view_is ∙ c.requires)
 
 -- the plan line is refused
 pub returns-then-is_none-clause-answered : goal.returns-then-is_none-clause-answered
