@@ -12,11 +12,12 @@ use Rattle.road_format.specs.declared.refusal.Refusal.{Refusal}
 use Rattle.road_format.proofs.CutLines.{lines_go_on}
 use Rattle.road_commands.specs.Laboratory.{Laboratory, opening_laboratory}
 use Rattle.road_commands.proofs.PlanStays.{plan-after}
-use Rattle.road_serve.specs.Answers.{command_reading, gathers, gathers_by, has_crowd, has_more_lines, laboratory_after_line, lines_gather, plan_reading, reading_unless}
+use Rattle.road_serve.specs.Answers.{command_reading, gathers, gathers_by, has_crowd, has_more_lines, laboratory_after_line, lines_gather, plan_reading}
 use Rattle.road_serve.specs.Dialogue.{GoesOn, HasAnswered, HasFinished, Holds, IsAfterLines, IsStopped, laboratory_after_lines}
 use Rattle.road_serve.specs.Private.KeptLaboratory.{gathers_at, holds_crowd}
+use Rattle.road_serve.specs.Private.Readings.{read_held}
 use Rattle.road_serve.specs.StreamViews.{SinkView}
-use Rattle.road_serve.specs.declared.dialogue.Dialogue.{Dialogue}
+use Rattle.road_serve.specs.Dialogue.{Dialogue}
 use Rattle.road_serve.specs.declared.faults.ServeFault.{ServeFault}
 use Rattle.road_serve.proofs.AnswersGrow.{take_front, whole_few}
 use Rattle.road_serve.proofs.CutBytes.{EndsAt, cut-newline}
@@ -72,7 +73,7 @@ crowd_ended n a some =
     ∙ ap (λ (ls : List (List ℕ)). lines_gather false (take (suc n) ls)) (sym (newline_lines a))
 
 -- a last line that is answered or where a call fails, at the end of the input
-pub line_ends : {S H : Type 0} (n : ℕ) (a : List ℕ) (first sink : SinkView) (d : Dialogue S H) (r : Result (Unit {0}) ServeFault) (gone later : ℕ) → has_more_lines n a ≡ false → 0 < length (pieces_of a).1
+pub line_ends : (n : ℕ) (a : List ℕ) (first sink : SinkView) (d : Dialogue) (r : Result (Unit {0}) ServeFault) (gone later : ℕ) → has_more_lines n a ≡ false → 0 < length (pieces_of a).1
     → MatchResult r (λ _. HasAnswered n (a ++ newline ∷ []) first sink d) (λ fault. IsStopped n (a ++ newline ∷ []) false first sink fault gone later)
     → MatchResult r (λ _. HasFinished n a first sink d) (λ fault. IsStopped n a true first sink fault gone later)
 line_ends n a first sink d (Ok done) gone later few some h = line_finished n a first sink d few some h
@@ -99,13 +100,13 @@ last_gathers plan later l is =
     let test : List ℕ → Bool = λ line. gathers plan.plan (command_reading line) in
     list_any-append test later (l ∷ []) ∙ true_or (list_any test later) (list_any test (l ∷ [])) (or_true (test l) false is)
 
-held_gathers : (n : ℕ) (ls : List (List ℕ)) (lab : Option Laboratory) (held : List ℕ) (long : Bool) (left : ℕ) (l : List ℕ) → IsAfterLines n ls lab left → Holds held long l
-    → gathers_at lab (reading_unless long (command_of held)) ≡ true → lines_gather false (ls ++ l ∷ []) ≡ true
-held_gathers n ls None held long left l after holds is = absurd (cc)
-held_gathers n [] (Some kept) held long left l after holds is = absurd after
-held_gathers n (first ∷ later) (Some kept) held long left l after holds is =
+held_gathers : (n : ℕ) (ls : List (List ℕ)) (lab : Option Laboratory) (held : Option (List ℕ)) (left : ℕ) (l : List ℕ) → IsAfterLines n ls lab left → Holds held l
+    → gathers_at lab (read_held command_of held) ≡ true → lines_gather false (ls ++ l ∷ []) ≡ true
+held_gathers n ls None held left l after holds is = absurd (cc)
+held_gathers n [] (Some kept) held left l after holds is = absurd after
+held_gathers n (first ∷ later) (Some kept) held left l after holds is =
     let same : kept.world.plan ≡ after.0.plan = ap (λ (k : Laboratory). k.world.plan) after.2 ∙ lines_keep (opening_laboratory after.0) later in
-    let read = held_reading command_of held long l holds in
+    let read = held_reading command_of held l holds in
     let line : gathers after.0.plan (command_reading l) ≡ true =
     ap (λ (p : Plan). gathers p (command_reading l)) (sym same) ∙ ap (λ (r : Result Command Refusal). gathers kept.world.plan r) (sym read) ∙ is in
     ap (λ (r : Result PlanLine Refusal). gathers_by (Some r) (later ++ l ∷ [])) after.1 ∙ last_gathers after.0 later l line
@@ -114,7 +115,7 @@ whole_lines : (n : ℕ) (a : List ℕ) → length (pieces_of a).0 ≤ suc n → 
 unfolding has_crowd
 whole_lines n a few = ap (λ (ls : List (List ℕ)). lines_gather false (take (suc n) ls)) (append-nil (pieces_of a).0) ∙ ap (lines_gather false) (take_all (suc n) (pieces_of a).0 few)
 
-pub crowd_held : {S H : Type 0} (n : ℕ) (a : List ℕ) (d : Dialogue S H) → GoesOn n a d → has_more_lines n (a ++ newline ∷ []) ≡ false → holds_crowd d ≡ true → has_crowd n (a ++ newline ∷ []) false ≡ true
+pub crowd_held : (n : ℕ) (a : List ℕ) (d : Dialogue) → GoesOn n a d → has_more_lines n (a ++ newline ∷ []) ≡ false → holds_crowd d ≡ true → has_crowd n (a ++ newline ∷ []) false ≡ true
 crowd_held n a d on few is =
     whole_lines n (a ++ newline ∷ []) (whole_few n (a ++ newline ∷ []) few) ∙ ap (λ (p : Pieces). lines_gather false p.0) (cut-newline a)
-    ∙ held_gathers n (pieces_of a).0 d.laboratory d.line.bytes.items d.line.long d.left (pieces_of a).1 on.after on.holds is
+    ∙ held_gathers n (pieces_of a).0 d.laboratory d.line d.left (pieces_of a).1 on.after on.holds is

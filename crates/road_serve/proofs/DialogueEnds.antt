@@ -1,5 +1,5 @@
 -- What holds of a dialogue at the end of the input.
-use Rattle.std.proofs.Common.{◌≡◌, ◌<◌, ℕ, suc, List, [], ◌∷◌, ◌++◌, length, take, Bool, true, false, IsSome, Option, Some, None, Result, Ok, Err, refl, ap, sym, subst, ◌∙◌, append-nil, length-append, arith}
+use Rattle.std.proofs.Common.{◌≡◌, ◌<◌, ℕ, suc, List, [], ◌∷◌, ◌++◌, length, take, true, false, IsSome, Option, Some, None, Result, Ok, Err, refl, ap, sym, subst, ◌∙◌, append-nil, length-append, arith}
 use Rattle.std.specs.Prelude.{IfErr, MatchResult}
 use Rattle.std.specs.Io.KnownBytes.{Appends}
 use Rattle.road_format.specs.Cut.{newline, Pieces, pieces_of, last_line, lines_of}
@@ -10,7 +10,7 @@ use Rattle.road_serve.specs.Answers.{first_reading, line_replies, answers, has_c
 use Rattle.road_serve.specs.Dialogue.{IsAfterLines, Holds, Whole, TooLong, GoesOn, Stands, StandsAtEnd, HasAnswered, HasFinished, IsStopped}
 use Rattle.road_serve.specs.Faults.{CountsGone}
 use Rattle.road_serve.specs.StreamViews.{SinkView, Stops}
-use Rattle.road_serve.specs.declared.dialogue.Dialogue.{Dialogue}
+use Rattle.road_serve.specs.Dialogue.{Dialogue}
 use Rattle.road_serve.specs.declared.faults.EarlyEnd.{EarlyEnd}
 use Rattle.road_serve.specs.declared.faults.EarlyEnd.TheVariants as ends
 use Rattle.road_serve.specs.declared.faults.ServeFault.{ServeFault}
@@ -23,14 +23,14 @@ use Rattle.road_serve.proofs.SinkTexts.{takes_same, takes_more, stops_after}
 
 -- ---- what is left of the last line
 
-has_rest : (held : List ℕ) (long : Bool) (r : List ℕ) → Holds held long r → (held ≡ [] → long ≡ false → ⊥) → 0 < length r
-has_rest held long [] (Whole e l n) some = absurd (some e n)
-has_rest held long (x ∷ r) h some = omega arith
-has_rest held long [] (TooLong l y) some = omega arith
+has_rest : (held : Option (List ℕ)) (r : List ℕ) → Holds held r → (held ≡ Some [] → ⊥) → 0 < length r
+has_rest held [] (Whole e l) some = absurd (some e)
+has_rest held (x ∷ r) h some = omega arith
+has_rest held [] (TooLong e l) some = omega arith
 
-no_rest : (held : List ℕ) (long : Bool) (r : List ℕ) → Holds held long r → held ≡ [] → long ≡ false → r ≡ []
-no_rest held long r (Whole e l n) none short = sym e ∙ none
-no_rest held long r (TooLong l y) none short = absurd (cc)
+no_rest : (held : Option (List ℕ)) (r : List ℕ) → Holds held r → held ≡ Some [] → r ≡ []
+no_rest held r (Whole e l) none = let same : Some r ≡ Some [] = sym e ∙ none in cc
+no_rest held r (TooLong e l) none = absurd (cc)
 
 one_last : (r : List ℕ) → 0 < length r → last_line true r ≡ r ∷ []
 one_last [] some = absurd (omega arith)
@@ -76,7 +76,7 @@ accepted_lines n [] lab left after some = absurd (omega arith)
 accepted_lines n (first ∷ later) None left after some = absurd after
 accepted_lines n (first ∷ later) (Some kept) left after some = rw (after.1) refl
 
-stands_accepted : {S H : Type 0} (n : ℕ) (a : List ℕ) (d : Dialogue S H) (ls : List (List ℕ)) → lines_of a true ≡ ls → has_more_lines n a ≡ false → IsAfterLines n ls d.laboratory d.left → 0 < length ls → StandsAtEnd n a d None
+stands_accepted : (n : ℕ) (a : List ℕ) (d : Dialogue) (ls : List (List ℕ)) → lines_of a true ≡ ls → has_more_lines n a ≡ false → IsAfterLines n ls d.laboratory d.left → 0 < length ls → StandsAtEnd n a d None
 unfolding is_plan_refused
 stands_accepted n a d ls e few after some =
     let Family : List (List ℕ) → Type 0 = λ x. IsAfterLines n x d.laboratory d.left in (
@@ -85,7 +85,7 @@ stands_accepted n a d ls e few after some =
       subst Family (sym e) after,
     )
 
-stands_line : {S H : Type 0} (n : ℕ) (a : List ℕ) (d : Dialogue S H) (o : Option EarlyEnd) → has_more_lines n a ≡ false → 0 < length (pieces_of a).1 → Stands n (a ++ newline ∷ []) d o → StandsAtEnd n a d o
+stands_line : (n : ℕ) (a : List ℕ) (d : Dialogue) (o : Option EarlyEnd) → has_more_lines n a ≡ false → 0 < length (pieces_of a).1 → Stands n (a ++ newline ∷ []) d o → StandsAtEnd n a d o
 stands_line n a d None few some on =
     let Family : List (List ℕ) → Type 0 = λ ls. IsAfterLines n ls d.laboratory d.left in
     let after = subst Family (ap (λ (p : Pieces). p.0) (cut-newline a)) on.after in
@@ -93,10 +93,10 @@ stands_line n a d None few some on =
 stands_line n a d (Some ends.BadPlan) few some refused = (refused_ended a some ∙ refused.0, refused.1, refused.2)
 stands_line n a d (Some ends.TooMany) few some many = let no = last_few n a few some in let yes_ = many.1 in absurd (cc)
 
-pub rest_of : {S H : Type 0} (n : ℕ) (a : List ℕ) (d : Dialogue S H) → GoesOn n a d → (d.line.bytes.items ≡ [] → d.line.long ≡ false → ⊥) → 0 < length (pieces_of a).1
-rest_of n a d on some = has_rest d.line.bytes.items d.line.long (pieces_of a).1 on.holds some
+pub rest_of : (n : ℕ) (a : List ℕ) (d : Dialogue) → GoesOn n a d → (d.line ≡ Some [] → ⊥) → 0 < length (pieces_of a).1
+rest_of n a d on some = has_rest d.line (pieces_of a).1 on.holds some
 
-pub line_finished : {S H : Type 0} (n : ℕ) (a : List ℕ) (first sink : SinkView) (d : Dialogue S H) → has_more_lines n a ≡ false → 0 < length (pieces_of a).1 → HasAnswered n (a ++ newline ∷ []) first sink d → HasFinished n a first sink d
+pub line_finished : (n : ℕ) (a : List ℕ) (first sink : SinkView) (d : Dialogue) → has_more_lines n a ≡ false → 0 < length (pieces_of a).1 → HasAnswered n (a ++ newline ∷ []) first sink d → HasFinished n a first sink d
 line_finished n a first sink d few some h = record {
   answered = takes_same first sink _ _ _ _ (sym (answers_ended n a some)) refl h.answered;
   well = h.well;
@@ -123,10 +123,10 @@ answers_clear n a clear some =
     ap (λ (ls : List (List ℕ)). line_replies true (take (suc n) ls)) (clear_lines a clear) ∙ replies_clear n (pieces_of a).0 some
     ∙ ap (λ (ls : List (List ℕ)). line_replies false (take (suc n) ls)) (sym (append-nil (pieces_of a).0))
 
-pub clear_ends : {S H : Type 0} (n : ℕ) (a : List ℕ) (first sink : SinkView) (d : Dialogue S H) → HasAnswered n a first sink d → d.over ≡ None → d.line.bytes.items ≡ [] → d.line.long ≡ false → IsSome d.laboratory → HasFinished n a first sink d
-clear_ends n a first sink d h none held short kept =
+pub clear_ends : (n : ℕ) (a : List ℕ) (first sink : SinkView) (d : Dialogue) → HasAnswered n a first sink d → d.over ≡ None → d.line ≡ Some [] → IsSome d.laboratory → HasFinished n a first sink d
+clear_ends n a first sink d h none empty kept =
     let on = goes_on n a first sink d h none in
-    let clear = no_rest d.line.bytes.items d.line.long (pieces_of a).1 on.holds held short in
+    let clear = no_rest d.line (pieces_of a).1 on.holds empty in
     let some = some_kept n (pieces_of a).0 d.laboratory d.left on.after kept in
     let Family : Option EarlyEnd → Type 0 = λ o. StandsAtEnd n a d o in
     record {
@@ -164,53 +164,53 @@ refused_none a none = ap (λ (ls : List (List ℕ)). is_refusal (first_reading t
 abbrev NoPlanFacts : ℕ → List ℕ → Type 0
 NoPlanFacts n a = (answers n a true ≡ answers n a false ++ reply (Refused refusals.NoPlan)) × (is_plan_refused a true ≡ true)
 
-no_plan_facts : {S H : Type 0} (n : ℕ) (a : List ℕ) (d : Dialogue S H) → GoesOn n a d → d.line.bytes.items ≡ [] → d.line.long ≡ false → d.laboratory ≡ None → NoPlanFacts n a
-no_plan_facts n a d on held short kept =
-    let clear = no_rest d.line.bytes.items d.line.long (pieces_of a).1 on.holds held short in
+no_plan_facts : (n : ℕ) (a : List ℕ) (d : Dialogue) → GoesOn n a d → d.line ≡ Some [] → d.laboratory ≡ None → NoPlanFacts n a
+no_plan_facts n a d on empty kept =
+    let clear = no_rest d.line (pieces_of a).1 on.holds empty in
     let whole = no_lines n (pieces_of a).0 d.laboratory d.left on.after kept in
     let none = none_at_all a clear whole in
     (answers_none n a none whole, refused_none a none)
 
-pub no_plan_ends : {S H : Type 0} (n : ℕ) (a text all : List ℕ) (first sink sink' : SinkView) (d d' : Dialogue S H) (r : Result (Unit {0}) ServeFault) (count later : ℕ) → HasAnswered n a first sink d → d.over ≡ None → d.line.bytes.items ≡ [] → d.line.long ≡ false → d.laboratory ≡ None
-    → text ≡ reply (Refused refusals.NoPlan) → all ≡ d.waiting.items ++ text → Put sink sink' all d'.waiting.items r → d'.over ≡ Some ends.BadPlan → d'.laboratory ≡ d.laboratory → d'.left ≡ d.left
+pub no_plan_ends : (n : ℕ) (a text all : List ℕ) (first sink sink' : SinkView) (d d' : Dialogue) (r : Result (Unit {0}) ServeFault) (count later : ℕ) → HasAnswered n a first sink d → d.over ≡ None → d.line ≡ Some [] → d.laboratory ≡ None
+    → text ≡ reply (Refused refusals.NoPlan) → all ≡ d.waiting ++ text → Put sink sink' all d'.waiting r → d'.over ≡ Some ends.BadPlan → d'.laboratory ≡ d.laboratory → d'.left ≡ d.left
     → IfErr r (λ fault. CountsGone fault (has_crowd n a true) count later) → MatchResult r (λ _. HasFinished n a first sink' d') (λ fault. IsStopped n a true first sink' fault count later)
-no_plan_ends n a text all first sink sink' d d' (Ok done) count later h none held short kept says e put over lab left counts =
-    let f = no_plan_facts n a d (goes_on n a first sink d h none) held short kept in
+no_plan_ends n a text all first sink sink' d d' (Ok done) count later h none empty kept says e put over lab left counts =
+    let f = no_plan_facts n a d (goes_on n a first sink d h none) empty kept in
     let Family : Option EarlyEnd → Type 0 = λ o. StandsAtEnd n a d' o in
     record {
       answered = takes_same first sink' _ _ _ _ (ap (λ (t : List ℕ). answers n a false ++ t) says ∙ sym f.0) refl
-          (takes_more first sink sink' (answers n a false) d.waiting.items text d'.waiting.items h.answered (takes_same sink sink' all _ _ _ e refl put.0));
+          (takes_more first sink sink' (answers n a false) d.waiting text d'.waiting h.answered (takes_same sink sink' all _ _ _ e refl put.0));
       well = put.1 ∙ h.well;
       stands = subst Family (sym over) (f.1, lab ∙ kept, left ∙ all_left n (pieces_of a).0 d.laboratory d.left (goes_on n a first sink d h none).after kept);
     }
-no_plan_ends n a text all first sink sink' d d' (Err fault) count later h none held short kept says e put over lab left counts =
-    let f = no_plan_facts n a d (goes_on n a first sink d h none) held short kept in
+no_plan_ends n a text all first sink sink' d d' (Err fault) count later h none empty kept says e put over lab left counts =
+    let f = no_plan_facts n a d (goes_on n a first sink d h none) empty kept in
     record {
       stops = stops_same first sink' _ _ fault (ap (λ (t : List ℕ). answers n a false ++ t) says ∙ sym f.0)
-          (stops_after first sink sink' (answers n a false) d.waiting.items text fault h.answered h.well (stops_same sink sink' all _ fault e put.2));
+          (stops_after first sink sink' (answers n a false) d.waiting text fault h.answered h.well (stops_same sink sink' all _ fault e put.2));
       counts = counts;
     }
 
 -- ---- what waits is flushed
 
-stands_end_same : {S H : Type 0} (n : ℕ) (a : List ℕ) (d d' : Dialogue S H) (o : Option EarlyEnd) → d'.laboratory ≡ d.laboratory → d'.left ≡ d.left → StandsAtEnd n a d o → StandsAtEnd n a d' o
+stands_end_same : (n : ℕ) (a : List ℕ) (d d' : Dialogue) (o : Option EarlyEnd) → d'.laboratory ≡ d.laboratory → d'.left ≡ d.left → StandsAtEnd n a d o → StandsAtEnd n a d' o
 stands_end_same n a d d' None lab left s = (s.0, s.1, after_same n _ _ d.laboratory d'.laboratory d.left d'.left refl (sym lab) (sym left) s.2)
 stands_end_same n a d d' (Some ends.BadPlan) lab left s = (s.0, lab ∙ s.1, left ∙ s.2)
 stands_end_same n a d d' (Some ends.TooMany) lab left s = s
 
-pub finished_flushed : {S H : Type 0} (n : ℕ) (a : List ℕ) (first sink sink' : SinkView) (d d' : Dialogue S H) → HasFinished n a first sink d → Appends sink.contents sink'.contents d.waiting.items → sink'.failures ≡ sink.failures → d'.waiting.items ≡ []
+pub finished_flushed : (n : ℕ) (a : List ℕ) (first sink sink' : SinkView) (d d' : Dialogue) → HasFinished n a first sink d → Appends sink.contents sink'.contents d.waiting → sink'.failures ≡ sink.failures → d'.waiting ≡ []
     → d'.laboratory ≡ d.laboratory → d'.left ≡ d.left → d'.over ≡ d.over → HasFinished n a first sink' d'
 finished_flushed n a first sink sink' d d' h all well none lab left over =
     let Family : Option EarlyEnd → Type 0 = λ o. StandsAtEnd n a d' o in
     record {
-      answered = flush_ends first sink sink' (answers n a true) d.waiting.items d'.waiting.items h.answered all none;
+      answered = flush_ends first sink sink' (answers n a true) d.waiting d'.waiting h.answered all none;
       well = well ∙ h.well;
       stands = subst Family (sym over) (stands_end_same n a d d' d.over lab left h.stands);
     }
 
 -- ---- there is no memory
 
-pub memory_at_end : {S H : Type 0} (n : ℕ) (a : List ℕ) (first sink : SinkView) (d : Dialogue S H) → HasAnswered n a first sink d → Stops first sink (answers n a true) faults.OutOfMemory
+pub memory_at_end : (n : ℕ) (a : List ℕ) (first sink : SinkView) (d : Dialogue) → HasAnswered n a first sink d → Stops first sink (answers n a true) faults.OutOfMemory
 memory_at_end n a first sink d h = stops_same first sink _ _ faults.OutOfMemory (ap (λ (x : List ℕ). answers n x true) (append-nil a)) (stops_memory n a [] true first sink d h)
 
 -- ---- nobody was refused who goes on
@@ -220,5 +220,5 @@ refused_after n [] lab left after = refl
 refused_after n (first ∷ later) None left after = absurd after
 refused_after n (first ∷ later) (Some kept) left after = rw (after.1) refl
 
-pub going_accepted : {S H : Type 0} (n : ℕ) (a : List ℕ) (d : Dialogue S H) → GoesOn n a d → is_plan_refused a false ≡ false
+pub going_accepted : (n : ℕ) (a : List ℕ) (d : Dialogue) → GoesOn n a d → is_plan_refused a false ≡ false
 going_accepted n a d on = refused_whole a ∙ refused_after n (pieces_of a).0 d.laboratory d.left on.after

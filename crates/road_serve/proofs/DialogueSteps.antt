@@ -1,16 +1,17 @@
 -- What holds of a dialogue as bytes come.
-use Rattle.std.proofs.Common.{◌≡◌, ◌≢◌, ◌≤◌, ◌<◌, ◌-◌, ℕ, zero, suc, List, [], ◌∷◌, ◌++◌, length, Bool, true, false, IsSome, Option, Some, None, refl, ap, sym, subst, ◌∙◌, length-append, arith}
+use Rattle.std.proofs.Common.{◌≡◌, ◌≢◌, ◌≤◌, ◌<◌, ◌-◌, ℕ, zero, suc, List, [], ◌∷◌, ◌++◌, length, true, false, IsSome, Option, Some, None, refl, ap, sym, subst, ◌∙◌, length-append, arith}
 use Rattle.std.proofs.lemmas.List.{take_all}
 use Rattle.road_format.specs.Cut.{newline, Pieces, pieces_of, last_line, lines_of}
 use Rattle.road_format.specs.CommandGrammar.{command_of}
 use Rattle.road_format.specs.PlanGrammar.{plan_line_of}
 use Rattle.road_format.specs.Replies.{reply}
 use Rattle.road_commands.specs.Laboratory.{Laboratory}
-use Rattle.road_serve.specs.Answers.{reading_unless, opening_answer, line_answer, first_reading, line_replies, answers, is_refusal, is_plan_refused, has_more_lines}
+use Rattle.road_serve.specs.Answers.{opening_answer, line_answer, first_reading, line_replies, answers, is_refusal, is_plan_refused, has_more_lines}
 use Rattle.road_serve.specs.Dialogue.{IsAfterLines, Holds, GoesOn, Stands, HasAnswered}
 use Rattle.road_serve.specs.Private.KeptLaboratory.{kept_after_line, opened_laboratory}
+use Rattle.road_serve.specs.Private.Readings.{read_held}
 use Rattle.road_serve.specs.StreamViews.{SinkView}
-use Rattle.road_serve.specs.declared.dialogue.Dialogue.{Dialogue}
+use Rattle.road_serve.specs.Dialogue.{Dialogue}
 use Rattle.road_serve.specs.declared.faults.EarlyEnd.{EarlyEnd}
 use Rattle.road_serve.specs.declared.faults.EarlyEnd.TheVariants as ends
 use Rattle.road_serve.proofs.CutBytes.{IsLine, cut-more, cut-newline}
@@ -27,7 +28,7 @@ after_same n ls ls' lab lab' left left' e f g h =
 
 -- ---- over: further bytes change nothing
 
-stands_over : {S H : Type 0} (n : ℕ) (a b : List ℕ) (d : Dialogue S H) (o : Option EarlyEnd) → IsSome o → Stands n a d o → Stands n (a ++ b) d o × (answers n (a ++ b) false ≡ answers n a false)
+stands_over : (n : ℕ) (a b : List ℕ) (d : Dialogue) (o : Option EarlyEnd) → IsSome o → Stands n a d o → Stands n (a ++ b) d o × (answers n (a ++ b) false ≡ answers n a false)
 stands_over n a b d None some s = absurd (cc)
 stands_over n a b d (Some ends.BadPlan) some s = ((refused_stays a b false true (refused_some a s.0) s.0, s.1, s.2), answers_refused n a b false s.0)
 stands_over n a b d (Some ends.TooMany) some s =
@@ -44,19 +45,19 @@ stands_over n a b d (Some ends.TooMany) some s =
       answers_full n a b (omega arith),
     )
 
-pub over_more : {S H : Type 0} (n : ℕ) (a b : List ℕ) (first sink : SinkView) (d : Dialogue S H) → HasAnswered n a first sink d → IsSome d.over → HasAnswered n (a ++ b) first sink d
+pub over_more : (n : ℕ) (a b : List ℕ) (first sink : SinkView) (d : Dialogue) → HasAnswered n a first sink d → IsSome d.over → HasAnswered n (a ++ b) first sink d
 over_more n a b first sink d h some =
     let s = stands_over n a b d d.over some h.stands in
-    record { answered = takes_same first sink _ _ d.waiting.items d.waiting.items (sym s.1) refl h.answered; well = h.well; stands = s.0 }
+    record { answered = takes_same first sink _ _ d.waiting d.waiting (sym s.1) refl h.answered; well = h.well; stands = s.0 }
 
 -- ---- going on
 
-pub goes_on : {S H : Type 0} (n : ℕ) (a : List ℕ) (first sink : SinkView) (d : Dialogue S H) → HasAnswered n a first sink d → d.over ≡ None → GoesOn n a d
+pub goes_on : (n : ℕ) (a : List ℕ) (first sink : SinkView) (d : Dialogue) → HasAnswered n a first sink d → d.over ≡ None → GoesOn n a d
 goes_on n a first sink d h none =
     let Family : Option EarlyEnd → Type 0 = λ o. Stands n a d o in
     subst Family none h.stands
 
-pub stands_on : {S H : Type 0} (n : ℕ) (a : List ℕ) (d : Dialogue S H) → d.over ≡ None → GoesOn n a d → Stands n a d d.over
+pub stands_on : (n : ℕ) (a : List ℕ) (d : Dialogue) → d.over ≡ None → GoesOn n a d → Stands n a d d.over
 stands_on n a d none on =
     let Family : Option EarlyEnd → Type 0 = λ o. Stands n a d o in
     subst Family (sym none) on
@@ -71,7 +72,7 @@ accepted_full n ls None left after some none = absurd (cc)
 accepted_full n [] (Some kept) left after some none = absurd after
 accepted_full n (first ∷ later) (Some kept) left after some none = (omega (arith, after.3), rw (after.1) refl)
 
-pub full_more : {S H : Type 0} (n : ℕ) (a b : List ℕ) (first sink : SinkView) (d d' : Dialogue S H) → HasAnswered n a first sink d → d.over ≡ None → IsSome d.laboratory → d.left ≡ 0 → 0 < length b
+pub full_more : (n : ℕ) (a b : List ℕ) (first sink : SinkView) (d d' : Dialogue) → HasAnswered n a first sink d → d.over ≡ None → IsSome d.laboratory → d.left ≡ 0 → 0 < length b
     → d'.over ≡ Some ends.TooMany → d'.waiting ≡ d.waiting → d'.laboratory ≡ d.laboratory → d'.left ≡ d.left → HasAnswered n (a ++ b) first sink d'
 full_more n a b first sink d d' h none some spent more over waits lab left =
     let g = goes_on n a first sink d h none in
@@ -84,7 +85,7 @@ full_more n a b first sink d d' h none some spent more over waits lab left =
     let lines = sym (lines_full n a b (omega (arith, f.0)) ∙ take_all (suc n) (pieces_of a).0 (omega (arith, f.0))) in
     let Family : Option EarlyEnd → Type 0 = λ o. Stands n (a ++ b) d' o in
     record {
-      answered = takes_same first sink _ _ _ _ (sym same) (ap (λ w. w.items) (sym waits)) h.answered;
+      answered = takes_same first sink _ _ _ _ (sym same) (sym waits) h.answered;
       well = h.well;
       stands = subst Family (sym over) (refused, many, after_same n _ _ d.laboratory d'.laboratory d.left d'.left lines (sym lab) (sym left) g.after);
     }
@@ -98,32 +99,32 @@ some_room n (first ∷ later) None left after open_ = absurd after
 some_room n (first ∷ later) (Some kept) zero after open_ = absurd (open_ refl refl)
 some_room n (first ∷ later) (Some kept) (suc left) after open_ = omega (arith, after.3)
 
-pub room_line : {S H : Type 0} (n : ℕ) (a b : List ℕ) (d : Dialogue S H) → GoesOn n a d → (IsSome d.laboratory → d.left ≡ 0 → ⊥) → IsLine b → has_more_lines n (a ++ b) ≡ false
+pub room_line : (n : ℕ) (a b : List ℕ) (d : Dialogue) → GoesOn n a d → (IsSome d.laboratory → d.left ≡ 0 → ⊥) → IsLine b → has_more_lines n (a ++ b) ≡ false
 room_line n a b d g open_ line =
     let room = some_room n (pieces_of a).0 d.laboratory d.left g.after open_ in
     are_few n (a ++ b) (omega (arith, room, len_line a b line))
 
-pub room_newline : {S H : Type 0} (n : ℕ) (a b : List ℕ) (d : Dialogue S H) → GoesOn n a d → (IsSome d.laboratory → d.left ≡ 0 → ⊥) → IsLine b → has_more_lines n ((a ++ b) ++ newline ∷ []) ≡ false
+pub room_newline : (n : ℕ) (a b : List ℕ) (d : Dialogue) → GoesOn n a d → (IsSome d.laboratory → d.left ≡ 0 → ⊥) → IsLine b → has_more_lines n ((a ++ b) ++ newline ∷ []) ≡ false
 room_newline n a b d g open_ line =
     let room = some_room n (pieces_of a).0 d.laboratory d.left g.after open_ in
     let same = ap (λ (p : Pieces). length p.0) (cut-more a b line) in
     are_few n ((a ++ b) ++ newline ∷ []) (omega (arith, room, same, len_newline (a ++ b)))
 
-holds_same : (held held' : List ℕ) (long long' : Bool) (line line' : List ℕ) → line ≡ line' → Holds held long line → Holds held long line'
-holds_same held held' long long' line line' e h = let Family : List ℕ → Type 0 = λ x. Holds held long x in subst Family e h
+holds_same : (held : Option (List ℕ)) (line line' : List ℕ) → line ≡ line' → Holds held line → Holds held line'
+holds_same held line line' e h = let Family : List ℕ → Type 0 = λ x. Holds held x in subst Family e h
 
-pub held_more : {S H : Type 0} (n : ℕ) (a b : List ℕ) (first sink : SinkView) (d d' : Dialogue S H) → HasAnswered n a first sink d → d.over ≡ None → has_more_lines n (a ++ b) ≡ false → IsLine b
-    → d'.laboratory ≡ d.laboratory → d'.left ≡ d.left → d'.waiting ≡ d.waiting → d'.over ≡ d.over → Holds d'.line.bytes.items d'.line.long ((pieces_of a).1 ++ b) → HasAnswered n (a ++ b) first sink d'
+pub held_more : (n : ℕ) (a b : List ℕ) (first sink : SinkView) (d d' : Dialogue) → HasAnswered n a first sink d → d.over ≡ None → has_more_lines n (a ++ b) ≡ false → IsLine b
+    → d'.laboratory ≡ d.laboratory → d'.left ≡ d.left → d'.waiting ≡ d.waiting → d'.over ≡ d.over → Holds d'.line ((pieces_of a).1 ++ b) → HasAnswered n (a ++ b) first sink d'
 held_more n a b first sink d d' h none few line lab left waits over holds =
     let g = goes_on n a first sink d h none in
     let c = cut-more a b line in
     let on : GoesOn n (a ++ b) d' = record {
       after = after_same n (pieces_of a).0 (pieces_of (a ++ b)).0 d.laboratory d'.laboratory d.left d'.left (ap (λ (p : Pieces). p.0) (sym c)) (sym lab) (sym left) g.after;
-      holds = holds_same d'.line.bytes.items d'.line.bytes.items d'.line.long d'.line.long _ _ (ap (λ (p : Pieces). p.1) (sym c)) holds;
+      holds = holds_same d'.line _ _ (ap (λ (p : Pieces). p.1) (sym c)) holds;
       few = few;
     } in
     record {
-      answered = takes_same first sink _ _ _ _ (sym (answers_line n a b line)) (ap (λ w. w.items) (sym waits)) h.answered;
+      answered = takes_same first sink _ _ _ _ (sym (answers_line n a b line)) (sym waits) h.answered;
       well = h.well;
       stands = stands_on n (a ++ b) d' (over ∙ none) on;
     }
@@ -140,57 +141,57 @@ answers_step n a text few few' one =
 len_step : (n : ℕ) (a : List ℕ) → has_more_lines n (a ++ newline ∷ []) ≡ false → length ((pieces_of a).0 ++ (pieces_of a).1 ∷ []) ≤ suc n
 len_step n a few = omega (arith, few_lines n (a ++ newline ∷ []) few, len_newline a, length-append (pieces_of a).0 ((pieces_of a).1 ∷ []))
 
-goes_on_cleared : {S H : Type 0} (n : ℕ) (a : List ℕ) (d : Dialogue S H) (lab : Option Laboratory) (left : ℕ) → has_more_lines n (a ++ newline ∷ []) ≡ false → IsAfterLines n ((pieces_of a).0 ++ (pieces_of a).1 ∷ []) lab left
-    → d.laboratory ≡ lab → d.left ≡ left → d.line.bytes.items ≡ [] → d.line.long ≡ false → GoesOn n (a ++ newline ∷ []) d
-goes_on_cleared n a d lab left few after k l held short =
+goes_on_cleared : (n : ℕ) (a : List ℕ) (d : Dialogue) (lab : Option Laboratory) (left : ℕ) → has_more_lines n (a ++ newline ∷ []) ≡ false → IsAfterLines n ((pieces_of a).0 ++ (pieces_of a).1 ∷ []) lab left
+    → d.laboratory ≡ lab → d.left ≡ left → d.line ≡ Some [] → GoesOn n (a ++ newline ∷ []) d
+goes_on_cleared n a d lab left few after k l clear =
     let c = cut-newline a in
     record {
       after = after_same n _ (pieces_of (a ++ newline ∷ [])).0 lab d.laboratory left d.left (ap (λ (p : Pieces). p.0) (sym c)) (sym k) (sym l) after;
-      holds = holds_same d.line.bytes.items d.line.bytes.items d.line.long d.line.long [] _ (ap (λ (p : Pieces). p.1) (sym c)) (no_bytes d.line.bytes.items d.line.long held short);
+      holds = holds_same d.line [] _ (ap (λ (p : Pieces). p.1) (sym c)) (no_bytes d.line clear);
       few = few;
     }
 
-lab_after : {S H : Type 0} (n : ℕ) (a : List ℕ) (d : Dialogue S H) (lab : Option Laboratory) → GoesOn n a d → d.laboratory ≡ lab → IsAfterLines n (pieces_of a).0 lab d.left
+lab_after : (n : ℕ) (a : List ℕ) (d : Dialogue) (lab : Option Laboratory) → GoesOn n a d → d.laboratory ≡ lab → IsAfterLines n (pieces_of a).0 lab d.left
 lab_after n a d lab g is = after_same n _ _ d.laboratory lab d.left d.left refl is refl g.after
 
-pub later_step : {S H : Type 0} (n : ℕ) (a text : List ℕ) (d d' : Dialogue S H) (kept kept' : Laboratory) → GoesOn n a d → d.laboratory ≡ Some kept → has_more_lines n (a ++ newline ∷ []) ≡ false
-    → text ≡ reply (line_answer kept (reading_unless d.line.long (command_of d.line.bytes.items))) → kept' ≡ kept_after_line kept (reading_unless d.line.long (command_of d.line.bytes.items))
-    → d'.laboratory ≡ Some kept' → d'.left ≡ d.left - 1 → d'.line.bytes.items ≡ [] → d'.line.long ≡ false → d'.over ≡ None
+pub later_step : (n : ℕ) (a text : List ℕ) (d d' : Dialogue) (kept kept' : Laboratory) → GoesOn n a d → d.laboratory ≡ Some kept → has_more_lines n (a ++ newline ∷ []) ≡ false
+    → text ≡ reply (line_answer kept (read_held command_of d.line)) → kept' ≡ kept_after_line kept (read_held command_of d.line)
+    → d'.laboratory ≡ Some kept' → d'.left ≡ d.left - 1 → d'.line ≡ Some [] → d'.over ≡ None
     → (answers n (a ++ newline ∷ []) false ≡ answers n a false ++ text) × Stands n (a ++ newline ∷ []) d' d'.over
-later_step n a text d d' kept kept' g is few says kept_is lab left held short over =
+later_step n a text d d' kept kept' g is few says kept_is lab left clear over =
     let after = lab_after n a d (Some kept) g is in
-    let one = later_replied n (pieces_of a).0 kept d.line.bytes.items d.line.long d.left (pieces_of a).1 after g.holds in
-    let next = later_kept n (pieces_of a).0 kept d.line.bytes.items d.line.long d.left (pieces_of a).1 after g.holds (len_step n a few) in (
+    let one = later_replied n (pieces_of a).0 kept d.line d.left (pieces_of a).1 after g.holds in
+    let next = later_kept n (pieces_of a).0 kept d.line d.left (pieces_of a).1 after g.holds (len_step n a few) in (
       answers_step n a text g.few few (one ∙ ap (λ (t : List ℕ). line_replies false (pieces_of a).0 ++ t) (sym says)),
-      stands_on n (a ++ newline ∷ []) d' over (goes_on_cleared n a d' _ _ few next (lab ∙ ap (λ (k : Laboratory). Some k) kept_is) left held short),
+      stands_on n (a ++ newline ∷ []) d' over (goes_on_cleared n a d' _ _ few next (lab ∙ ap (λ (k : Laboratory). Some k) kept_is) left clear),
     )
 
-pub opening_step : {S H : Type 0} (n : ℕ) (a text : List ℕ) (d d' : Dialogue S H) → GoesOn n a d → d.laboratory ≡ None → has_more_lines n (a ++ newline ∷ []) ≡ false
-    → text ≡ reply (opening_answer (reading_unless d.line.long (plan_line_of d.line.bytes.items))) → d'.laboratory ≡ opened_laboratory (reading_unless d.line.long (plan_line_of d.line.bytes.items)) → d'.laboratory ≢ None
-    → d'.left ≡ d.left → d'.line.bytes.items ≡ [] → d'.line.long ≡ false → d'.over ≡ None
+pub opening_step : (n : ℕ) (a text : List ℕ) (d d' : Dialogue) → GoesOn n a d → d.laboratory ≡ None → has_more_lines n (a ++ newline ∷ []) ≡ false
+    → text ≡ reply (opening_answer (read_held plan_line_of d.line)) → d'.laboratory ≡ opened_laboratory (read_held plan_line_of d.line) → d'.laboratory ≢ None
+    → d'.left ≡ d.left → d'.line ≡ Some [] → d'.over ≡ None
     → (answers n (a ++ newline ∷ []) false ≡ answers n a false ++ text) × Stands n (a ++ newline ∷ []) d' d'.over
-opening_step n a text d d' g is few says lab some left held short over =
+opening_step n a text d d' g is few says lab some left clear over =
     let after = lab_after n a d None g is in
-    let one = opening_replied n (pieces_of a).0 d.line.bytes.items d.line.long d.left (pieces_of a).1 after g.holds in
-    let next = opened_after n (pieces_of a).0 d'.laboratory d.line.bytes.items d.line.long d.left (pieces_of a).1 after g.holds lab some in (
+    let one = opening_replied n (pieces_of a).0 d.line d.left (pieces_of a).1 after g.holds in
+    let next = opened_after n (pieces_of a).0 d'.laboratory d.line d.left (pieces_of a).1 after g.holds lab some in (
       answers_step n a text g.few few (one ∙ ap (λ (t : List ℕ). line_replies false (pieces_of a).0 ++ t) (sym says)),
-      stands_on n (a ++ newline ∷ []) d' over (goes_on_cleared n a d' _ _ few next refl left held short),
+      stands_on n (a ++ newline ∷ []) d' over (goes_on_cleared n a d' _ _ few next refl left clear),
     )
 
 none_left : (n : ℕ) (ls : List (List ℕ)) (left : ℕ) → IsAfterLines n ls None left → left ≡ n
 none_left n [] left after = after
 none_left n (first ∷ later) left after = absurd after
 
-pub refused_step : {S H : Type 0} (n : ℕ) (a text : List ℕ) (d : Dialogue S H) (lab : Option Laboratory) → GoesOn n a d → d.laboratory ≡ None → has_more_lines n (a ++ newline ∷ []) ≡ false
-    → text ≡ reply (opening_answer (reading_unless d.line.long (plan_line_of d.line.bytes.items))) → lab ≡ opened_laboratory (reading_unless d.line.long (plan_line_of d.line.bytes.items)) → lab ≡ None
+pub refused_step : (n : ℕ) (a text : List ℕ) (d : Dialogue) (lab : Option Laboratory) → GoesOn n a d → d.laboratory ≡ None → has_more_lines n (a ++ newline ∷ []) ≡ false
+    → text ≡ reply (opening_answer (read_held plan_line_of d.line)) → lab ≡ opened_laboratory (read_held plan_line_of d.line) → lab ≡ None
     → (answers n (a ++ newline ∷ []) false ≡ answers n a false ++ text) × ((is_plan_refused (a ++ newline ∷ []) false ≡ true) × (lab ≡ None) × (d.left ≡ n))
 refused_step n a text d lab g is few says kept none =
     let after = lab_after n a d None g is in
-    let one = opening_replied n (pieces_of a).0 d.line.bytes.items d.line.long d.left (pieces_of a).1 after g.holds in (
+    let one = opening_replied n (pieces_of a).0 d.line d.left (pieces_of a).1 after g.holds in (
       answers_step n a text g.few few (one ∙ ap (λ (t : List ℕ). line_replies false (pieces_of a).0 ++ t) (sym says)),
       (
         refused_whole (a ++ newline ∷ []) ∙ ap (λ (p : Pieces). is_refusal (first_reading false p.0)) (cut-newline a)
-            ∙ opening_refused n (pieces_of a).0 d.line.bytes.items d.line.long d.left (pieces_of a).1 after g.holds (sym kept ∙ none),
+            ∙ opening_refused n (pieces_of a).0 d.line d.left (pieces_of a).1 after g.holds (sym kept ∙ none),
         none,
         none_left n (pieces_of a).0 d.left after,
       ),
@@ -202,13 +203,13 @@ no_answers : (n : ℕ) → answers n [] false ≡ []
 unfolding answers
 no_answers n = refl
 
-pub nothing_came : {S H : Type 0} (n : ℕ) (first : SinkView) (d : Dialogue S H) → d.laboratory ≡ None → d.left ≡ n → d.line.bytes.items ≡ [] → d.line.long ≡ false → d.over ≡ None → d.waiting.items ≡ [] → HasAnswered n [] first first d
-nothing_came n first d lab left held short over waits = record {
+pub nothing_came : (n : ℕ) (first : SinkView) (d : Dialogue) → d.laboratory ≡ None → d.left ≡ n → d.line ≡ Some [] → d.over ≡ None → d.waiting ≡ [] → HasAnswered n [] first first d
+nothing_came n first d lab left clear over waits = record {
   answered = takes_same first first [] _ [] _ (sym (no_answers n)) (sym waits) (takes_none first []);
   well = refl;
   stands = stands_on n [] d over (record {
     after = after_same n [] [] None d.laboratory n d.left refl (sym lab) (sym left) refl;
-    holds = no_bytes d.line.bytes.items d.line.long held short;
+    holds = no_bytes d.line clear;
     few = are_few n [] (omega arith);
   });
 }

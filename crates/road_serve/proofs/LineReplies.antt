@@ -14,6 +14,7 @@ use Rattle.road_world.specs.Events.{World}
 use Rattle.road_serve.specs.Answers.{is_long, reading_unless, plan_reading, command_reading, opening_answer, line_answer, laboratory_after_line, later_replies, input_replies, first_reading, line_replies, is_refusal}
 use Rattle.road_serve.specs.Dialogue.{laboratory_after_lines, IsAfterLines, Holds, Whole, TooLong}
 use Rattle.road_serve.specs.Private.KeptLaboratory.{kept_after_line, opened_laboratory}
+use Rattle.road_serve.specs.Private.Readings.{read_held}
 
 -- ---- later lines
 
@@ -54,16 +55,16 @@ later_more lab ls l =
 -- ---- the line that is held
 
 -- what is read of what is held is what the line is read as
-pub held_reading : {A : Type 0} (f : List ℕ → Result A Refusal) (held : List ℕ) (long : Bool) (line : List ℕ) → Holds held long line → reading_unless long (f held) ≡ reading_unless (is_long line) (f line)
-held_reading f held long line (Whole e l n) =
+pub held_reading : {A : Type 0} (f : List ℕ → Result A Refusal) (held : Option (List ℕ)) (line : List ℕ) → Holds held line → read_held f held ≡ reading_unless (is_long line) (f line)
+held_reading f held line (Whole e l) =
     let short : nat_lt LONGEST_LINE (length line) ≡ false = le-ltb _ _ l in
-    ap (λ (b : Bool). reading_unless b (f held)) n ∙ ap f e ∙ sym (ap (λ (b : Bool). reading_unless b (f line)) short)
-held_reading f held long line (TooLong l y) =
+    ap (read_held f) e ∙ sym (ap (λ (b : Bool). reading_unless b (f line)) short)
+held_reading f held line (TooLong e l) =
     let over : nat_lt LONGEST_LINE (length line) ≡ true = lt-ltb _ _ l in
-    ap (λ (b : Bool). reading_unless b (f held)) y ∙ sym (ap (λ (b : Bool). reading_unless b (f line)) over)
+    ap (read_held f) e ∙ sym (ap (λ (b : Bool). reading_unless b (f line)) over)
 
-pub no_bytes : (held : List ℕ) (long : Bool) → held ≡ [] → long ≡ false → Holds held long []
-no_bytes held long none short = Whole none (omega arith) short
+pub no_bytes : (held : Option (List ℕ)) → held ≡ Some [] → Holds held []
+no_bytes held none = Whole none (omega arith)
 
 -- ---- it ends as a later line
 
@@ -81,20 +82,20 @@ session-snoc plan (Ok read) later l is =
     ap (λ (t : List ℕ). opened ++ t) (later_more (opening_laboratory read) later l) ∙ sym (append_assoc opened (later_replies (opening_laboratory read) later) next)
     ∙ ap (λ (p : PlanLine). input_replies (Ok read) later ++ reply (line_answer (kept_after_lines p later) (command_reading l))) same
 
-pub later_replied : (n : ℕ) (ls : List (List ℕ)) (kept : Laboratory) (held : List ℕ) (long : Bool) (left : ℕ) (l : List ℕ) → IsAfterLines n ls (Some kept) left → Holds held long l
-    → line_replies false (ls ++ l ∷ []) ≡ line_replies false ls ++ reply (line_answer kept (reading_unless long (command_of held)))
-later_replied n [] kept held long left l after holds = absurd after
-later_replied n (first ∷ later) kept held long left l after holds =
-    let read = held_reading command_of held long l holds in
+pub later_replied : (n : ℕ) (ls : List (List ℕ)) (kept : Laboratory) (held : Option (List ℕ)) (left : ℕ) (l : List ℕ) → IsAfterLines n ls (Some kept) left → Holds held l
+    → line_replies false (ls ++ l ∷ []) ≡ line_replies false ls ++ reply (line_answer kept (read_held command_of held))
+later_replied n [] kept held left l after holds = absurd after
+later_replied n (first ∷ later) kept held left l after holds =
+    let read = held_reading command_of held l holds in
     session-snoc after.0 (plan_reading first) later l after.1
     ∙ ap (λ (k : Laboratory). input_replies (plan_reading first) later ++ reply (line_answer k (command_reading l))) (sym after.2)
     ∙ ap (λ (r : Result Command Refusal). input_replies (plan_reading first) later ++ reply (line_answer kept r)) (sym read)
 
-pub later_kept : (n : ℕ) (ls : List (List ℕ)) (kept : Laboratory) (held : List ℕ) (long : Bool) (left : ℕ) (l : List ℕ) → IsAfterLines n ls (Some kept) left → Holds held long l → length (ls ++ l ∷ []) ≤ suc n
-    → IsAfterLines n (ls ++ l ∷ []) (Some (kept_after_line kept (reading_unless long (command_of held)))) (left - 1)
-later_kept n [] kept held long left l after holds few = absurd after
-later_kept n (first ∷ later) kept held long left l after holds few =
-    let read = held_reading command_of held long l holds in
+pub later_kept : (n : ℕ) (ls : List (List ℕ)) (kept : Laboratory) (held : Option (List ℕ)) (left : ℕ) (l : List ℕ) → IsAfterLines n ls (Some kept) left → Holds held l → length (ls ++ l ∷ []) ≤ suc n
+    → IsAfterLines n (ls ++ l ∷ []) (Some (kept_after_line kept (read_held command_of held))) (left - 1)
+later_kept n [] kept held left l after holds few = absurd after
+later_kept n (first ∷ later) kept held left l after holds few =
+    let read = held_reading command_of held l holds in
     let lab = laboratory_after_lines (opening_laboratory after.0) later in (
       after.0,
       after.1,
@@ -110,10 +111,10 @@ unfolding later_replies
 opened (Err refusal) = refl
 opened (Ok plan) = append-nil (reply (opening_answer (Ok plan)))
 
-pub opening_replied : (n : ℕ) (ls : List (List ℕ)) (held : List ℕ) (long : Bool) (left : ℕ) (l : List ℕ) → IsAfterLines n ls None left → Holds held long l
-    → line_replies false (ls ++ l ∷ []) ≡ line_replies false ls ++ reply (opening_answer (reading_unless long (plan_line_of held)))
-opening_replied n [] held long left l after holds = opened (plan_reading l) ∙ ap (λ (r : Result PlanLine Refusal). reply (opening_answer r)) (sym (held_reading plan_line_of held long l holds))
-opening_replied n (first ∷ later) held long left l after holds = absurd after
+pub opening_replied : (n : ℕ) (ls : List (List ℕ)) (held : Option (List ℕ)) (left : ℕ) (l : List ℕ) → IsAfterLines n ls None left → Holds held l
+    → line_replies false (ls ++ l ∷ []) ≡ line_replies false ls ++ reply (opening_answer (read_held plan_line_of held))
+opening_replied n [] held left l after holds = opened (plan_reading l) ∙ ap (λ (r : Result PlanLine Refusal). reply (opening_answer r)) (sym (held_reading plan_line_of held l holds))
+opening_replied n (first ∷ later) held left l after holds = absurd after
 
 accepted : (n left : ℕ) (lab : Option Laboratory) (l : List ℕ) (reading : Result PlanLine Refusal) → plan_reading l ≡ reading → lab ≡ opened_laboratory reading → lab ≢ None → left ≡ n → IsAfterLines n (l ∷ []) lab left
 unfolding laboratory_after_lines
@@ -121,17 +122,17 @@ accepted n left None l reading read is some all = absurd (some refl)
 accepted n left (Some kept) l (Err refusal) read is some all = absurd (cc)
 accepted n left (Some kept) l (Ok plan) read is some all = let same : kept ≡ opening_laboratory plan = cc in (plan, read, same ∙ sym (opening-of_winners plan), omega arith)
 
-pub opened_after : (n : ℕ) (ls : List (List ℕ)) (lab : Option Laboratory) (held : List ℕ) (long : Bool) (left : ℕ) (l : List ℕ) → IsAfterLines n ls None left → Holds held long l
-    → lab ≡ opened_laboratory (reading_unless long (plan_line_of held)) → lab ≢ None → IsAfterLines n (ls ++ l ∷ []) lab left
-opened_after n [] lab held long left l after holds is some =
-    accepted n left lab l (plan_reading l) refl (is ∙ ap opened_laboratory (held_reading plan_line_of held long l holds)) some after
-opened_after n (first ∷ later) lab held long left l after holds is some = absurd after
+pub opened_after : (n : ℕ) (ls : List (List ℕ)) (lab : Option Laboratory) (held : Option (List ℕ)) (left : ℕ) (l : List ℕ) → IsAfterLines n ls None left → Holds held l
+    → lab ≡ opened_laboratory (read_held plan_line_of held) → lab ≢ None → IsAfterLines n (ls ++ l ∷ []) lab left
+opened_after n [] lab held left l after holds is some =
+    accepted n left lab l (plan_reading l) refl (is ∙ ap opened_laboratory (held_reading plan_line_of held l holds)) some after
+opened_after n (first ∷ later) lab held left l after holds is some = absurd after
 
 refused : (reading : Result PlanLine Refusal) → opened_laboratory reading ≡ None → is_refusal (Some reading) ≡ true
 refused (Err refusal) is = refl
 refused (Ok plan) is = absurd (cc)
 
-pub opening_refused : (n : ℕ) (ls : List (List ℕ)) (held : List ℕ) (long : Bool) (left : ℕ) (l : List ℕ) → IsAfterLines n ls None left → Holds held long l
-    → opened_laboratory (reading_unless long (plan_line_of held)) ≡ None → is_refusal (first_reading false (ls ++ l ∷ [])) ≡ true
-opening_refused n [] held long left l after holds is = refused (plan_reading l) (sym (ap opened_laboratory (held_reading plan_line_of held long l holds)) ∙ is)
-opening_refused n (first ∷ later) held long left l after holds is = absurd after
+pub opening_refused : (n : ℕ) (ls : List (List ℕ)) (held : Option (List ℕ)) (left : ℕ) (l : List ℕ) → IsAfterLines n ls None left → Holds held l
+    → opened_laboratory (read_held plan_line_of held) ≡ None → is_refusal (first_reading false (ls ++ l ∷ [])) ≡ true
+opening_refused n [] held left l after holds is = refused (plan_reading l) (sym (ap opened_laboratory (held_reading plan_line_of held l holds)) ∙ is)
+opening_refused n (first ∷ later) held left l after holds is = absurd after

@@ -18,7 +18,7 @@ use Rattle.road_serve.specs.Faults.{CountsGone, crew_fault, early_fault}
 use Rattle.road_serve.specs.Serving.{Serving, run_answers, WritesAll, Ends, AnswersInput}
 use Rattle.road_serve.specs.Statuses.{after_failed_read}
 use Rattle.road_serve.specs.StreamViews.{SourceView, SinkView, Stops}
-use Rattle.road_serve.specs.declared.dialogue.Dialogue.{Dialogue}
+use Rattle.road_serve.specs.Dialogue.{Dialogue}
 use Rattle.road_serve.specs.declared.faults.EarlyEnd.{EarlyEnd}
 use Rattle.road_serve.specs.declared.faults.EarlyEnd.TheVariants as ends
 use Rattle.road_serve.specs.declared.faults.ServeFault.{ServeFault}
@@ -118,16 +118,16 @@ past_lines lines limit z more = by_limit lines limit z (nat_lt limit (length z))
 
 -- ---- the loop: some input was read and answered, and no call failed
 
-pub record SoFar {S H : Type 0} (lines limit room : ℕ) (source source' : SourceView) (sink sink' : SinkView) (d : Dialogue S H) : Type 0 where
+pub record SoFar (lines limit room : ℕ) (source source' : SourceView) (sink sink' : SinkView) (d : Dialogue) : Type 0 where
   pub input : List ℕ
   pub read : Consumes source.remaining source'.remaining input
   pub answered : HasAnswered lines input sink sink' d
   pub going : d.over ≡ None
-  pub none_wait : d.waiting.items ≡ []
+  pub none_wait : d.waiting ≡ []
   pub room_left : length input + room ≡ limit
   pub reads_well : source'.failures ≡ source.failures
 
-pub at_first : {S H : Type 0} (lines limit : ℕ) (source : SourceView) (sink : SinkView) (d : Dialogue S H) → HasAnswered lines [] sink sink d → d.over ≡ None → d.waiting.items ≡ [] → SoFar lines limit limit source source sink sink d
+pub at_first : (lines limit : ℕ) (source : SourceView) (sink : SinkView) (d : Dialogue) → HasAnswered lines [] sink sink d → d.over ≡ None → d.waiting ≡ [] → SoFar lines limit limit source source sink sink d
 at_first lines limit source sink d h going none = record {
   input = [];
   read = Consumes-nil source.remaining;
@@ -145,8 +145,8 @@ pub record ReadMore (source source' : SourceView) (n : ℕ) (piece : List ℕ) :
   pub ended : source'.at_end ≡ (n == 0)
   pub well : source'.failures ≡ source.failures
 
-pub read_on : {S H : Type 0} (lines limit room room' n m : ℕ) (source s1 s2 : SourceView) (sink k1 k2 : SinkView) (d d' : Dialogue S H) (piece : List ℕ) (so : SoFar lines limit room source s1 sink k1 d) → ReadMore s1 s2 n piece
-    → m ≡ min room n → n ≤ m → room' ≡ room - n → HasAnswered lines (so.input ++ take m piece) sink k2 d' → d'.over ≡ None → d'.waiting.items ≡ [] → SoFar lines limit room' source s2 sink k2 d'
+pub read_on : (lines limit room room' n m : ℕ) (source s1 s2 : SourceView) (sink k1 k2 : SinkView) (d d' : Dialogue) (piece : List ℕ) (so : SoFar lines limit room source s1 sink k1 d) → ReadMore s1 s2 n piece
+    → m ≡ min room n → n ≤ m → room' ≡ room - n → HasAnswered lines (so.input ++ take m piece) sink k2 d' → d'.over ≡ None → d'.waiting ≡ [] → SoFar lines limit room' source s2 sink k2 d'
 read_on lines limit room room' n m source s1 s2 sink k1 k2 d d' piece so more least all less h going none =
     let same : m ≡ n = omega arith in
     let Family : ℕ → Type 0 = λ k. HasAnswered lines (so.input ++ take k piece) sink k2 d' in
@@ -175,11 +175,11 @@ run_of lines limit source source' sink sink' was gone result = record {
 
 -- ---- a read failed
 
-accepted_so_far : {S H : Type 0} (lines limit : ℕ) (h : List ℕ) (d : Dialogue S H) → length h ≤ limit → GoesOn lines h d → is_plan_refused_within limit h false ≡ false
+accepted_so_far : (lines limit : ℕ) (h : List ℕ) (d : Dialogue) → length h ≤ limit → GoesOn lines h d → is_plan_refused_within limit h false ≡ false
 accepted_so_far lines limit h d short on =
     refused_going limit h ∙ ap (λ (x : List ℕ). is_plan_refused x false) (whole limit h short) ∙ going_accepted lines h d on
 
-pub unread : {S H : Type 0} (lines limit room : ℕ) (source s1 s2 : SourceView) (sink k1 : SinkView) (was gone : ℕ) (d : Dialogue S H) → SoFar lines limit room source s1 sink k1 d → Keeps s1.remaining s2.remaining → RisesByOne s1.failures s2.failures
+pub unread : (lines limit room : ℕ) (source s1 s2 : SourceView) (sink k1 : SinkView) (was gone : ℕ) (d : Dialogue) → SoFar lines limit room source s1 sink k1 d → Keeps s1.remaining s2.remaining → RisesByOne s1.failures s2.failures
     → gone ≡ was → AnswersInput (run_of lines limit source s2 sink k1 was gone (Err faults.Read))
 unread lines limit room source s1 s2 sink k1 was gone d so keeps rises kept =
     let short : length so.input ≤ limit = omega (arith, so.room_left) in
@@ -212,7 +212,7 @@ not_zero : (n : ℕ) → (n ≡ 0 → ⊥) → (n == 0) ≡ false
 not_zero zero h = absurd (h refl)
 not_zero (suc m) h = eqb-suc-zero m
 
-pub stopped : {S H : Type 0} (lines limit room n m : ℕ) (source s1 s2 : SourceView) (sink k1 k2 : SinkView) (was gone : ℕ) (d : Dialogue S H) (piece : List ℕ) (fault : ServeFault) (so : SoFar lines limit room source s1 sink k1 d) → ReadMore s1 s2 n piece → (n ≡ 0 → ⊥)
+pub stopped : (lines limit room n m : ℕ) (source s1 s2 : SourceView) (sink k1 k2 : SinkView) (was gone : ℕ) (d : Dialogue) (piece : List ℕ) (fault : ServeFault) (so : SoFar lines limit room source s1 sink k1 d) → ReadMore s1 s2 n piece → (n ≡ 0 → ⊥)
     → m ≡ min room n → Stops sink k2 (answers lines (so.input ++ take m piece) false) fault → CountsGone fault (has_crowd lines (so.input ++ take m piece) false) was gone
     → AnswersInput (run_of lines limit source s2 sink k2 was gone (Err fault))
 stopped lines limit room n m source s1 s2 sink k1 k2 was gone d piece fault so more some least s counts =
@@ -230,7 +230,7 @@ stopped lines limit room n m source s1 s2 sink k1 k2 was gone d piece fault so m
 
 -- ---- the run is over before the end of its input
 
-over_ends : {S H : Type 0} (run : Serving) (input z : List ℕ) (d : Dialogue S H) (end : EarlyEnd) → take run.most_bytes input ≡ z → run.source_after.at_end ≡ false → WritesAll run input → Stands run.most_lines z d (Some end) → Ends run input (Err (early_fault end))
+over_ends : (run : Serving) (input z : List ℕ) (d : Dialogue) (end : EarlyEnd) → take run.most_bytes input ≡ z → run.source_after.at_end ≡ false → WritesAll run input → Stands run.most_lines z d (Some end) → Ends run input (Err (early_fault end))
 over_ends run input z d ends.BadPlan part going writes s =
     (writes, ap (is_plan_refused_within run.most_bytes input) going ∙ refused_going run.most_bytes input ∙ ap (λ (x : List ℕ). is_plan_refused x false) part ∙ s.0)
 over_ends run input z d ends.TooMany part going writes s = (
@@ -239,11 +239,11 @@ over_ends run input z d ends.TooMany part going writes s = (
   past_lines run.most_lines run.most_bytes input (ap (has_more_lines run.most_lines) part ∙ s.1),
 )
 
-stands_at : {S H : Type 0} (n : ℕ) (a : List ℕ) (d : Dialogue S H) (o o' : Option EarlyEnd) → o ≡ o' → Stands n a d o → Stands n a d o'
+stands_at : (n : ℕ) (a : List ℕ) (d : Dialogue) (o o' : Option EarlyEnd) → o ≡ o' → Stands n a d o → Stands n a d o'
 stands_at n a d o o' e s = let Family : Option EarlyEnd → Type 0 = λ x. Stands n a d x in subst Family e s
 
-writes_going : {S H : Type 0} (lines limit room n m : ℕ) (source s1 s2 : SourceView) (sink k1 k2 : SinkView) (was gone : ℕ) (d d' : Dialogue S H) (piece : List ℕ) (result : Result Served ServeFault) (so : SoFar lines limit room source s1 sink k1 d) → ReadMore s1 s2 n piece → (n ≡ 0 → ⊥)
-    → m ≡ min room n → HasAnswered lines (so.input ++ take m piece) sink k2 d' → d'.waiting.items ≡ [] → k2.flushed ≡ true → WritesAll (run_of lines limit source s2 sink k2 was gone result) (so.input ++ take n piece)
+writes_going : (lines limit room n m : ℕ) (source s1 s2 : SourceView) (sink k1 k2 : SinkView) (was gone : ℕ) (d d' : Dialogue) (piece : List ℕ) (result : Result Served ServeFault) (so : SoFar lines limit room source s1 sink k1 d) → ReadMore s1 s2 n piece → (n ≡ 0 → ⊥)
+    → m ≡ min room n → HasAnswered lines (so.input ++ take m piece) sink k2 d' → d'.waiting ≡ [] → k2.flushed ≡ true → WritesAll (run_of lines limit source s2 sink k2 was gone result) (so.input ++ take n piece)
 writes_going lines limit room n m source s1 s2 sink k1 k2 was gone d d' piece result so more some least h none flushed =
     let input = so.input ++ take n piece in
     let part = within limit room n m so.input piece (record { all = so.room_left; least = least; fits = more.fits }) in
@@ -257,8 +257,8 @@ writes_going lines limit room n m source s1 s2 sink k1 k2 was gone d d' piece re
       writes_well = h.well;
     }
 
-pub over : {S H : Type 0} (lines limit room n m : ℕ) (source s1 s2 : SourceView) (sink k1 k2 : SinkView) (was gone : ℕ) (d d' : Dialogue S H) (piece : List ℕ) (end : EarlyEnd) (so : SoFar lines limit room source s1 sink k1 d) → ReadMore s1 s2 n piece → (n ≡ 0 → ⊥)
-    → m ≡ min room n → HasAnswered lines (so.input ++ take m piece) sink k2 d' → d'.waiting.items ≡ [] → k2.flushed ≡ true → d'.over ≡ Some end → gone ≡ was → AnswersInput (run_of lines limit source s2 sink k2 was gone (Err (early_fault end)))
+pub over : (lines limit room n m : ℕ) (source s1 s2 : SourceView) (sink k1 k2 : SinkView) (was gone : ℕ) (d d' : Dialogue) (piece : List ℕ) (end : EarlyEnd) (so : SoFar lines limit room source s1 sink k1 d) → ReadMore s1 s2 n piece → (n ≡ 0 → ⊥)
+    → m ≡ min room n → HasAnswered lines (so.input ++ take m piece) sink k2 d' → d'.waiting ≡ [] → k2.flushed ≡ true → d'.over ≡ Some end → gone ≡ was → AnswersInput (run_of lines limit source s2 sink k2 was gone (Err (early_fault end)))
 over lines limit room n m source s1 s2 sink k1 k2 was gone d d' piece end so more some least h none flushed is kept =
     let run = run_of lines limit source s2 sink k2 was gone (Err (early_fault end)) in
     let input = so.input ++ take n piece in
@@ -272,8 +272,8 @@ over lines limit room n m source s1 s2 sink k1 k2 was gone d d' piece end so mor
 
 -- ---- more bytes than may come
 
-pub past : {S H : Type 0} (lines limit room n m : ℕ) (source s1 s2 : SourceView) (sink k1 k2 : SinkView) (was gone : ℕ) (d d' : Dialogue S H) (piece : List ℕ) (so : SoFar lines limit room source s1 sink k1 d) → ReadMore s1 s2 n piece → (n ≡ 0 → ⊥)
-    → m ≡ min room n → m < n → HasAnswered lines (so.input ++ take m piece) sink k2 d' → d'.waiting.items ≡ [] → k2.flushed ≡ true → d'.over ≡ None → gone ≡ was → AnswersInput (run_of lines limit source s2 sink k2 was gone (Err faults.TooMany))
+pub past : (lines limit room n m : ℕ) (source s1 s2 : SourceView) (sink k1 k2 : SinkView) (was gone : ℕ) (d d' : Dialogue) (piece : List ℕ) (so : SoFar lines limit room source s1 sink k1 d) → ReadMore s1 s2 n piece → (n ≡ 0 → ⊥)
+    → m ≡ min room n → m < n → HasAnswered lines (so.input ++ take m piece) sink k2 d' → d'.waiting ≡ [] → k2.flushed ≡ true → d'.over ≡ None → gone ≡ was → AnswersInput (run_of lines limit source s2 sink k2 was gone (Err faults.TooMany))
 past lines limit room n m source s1 s2 sink k1 k2 was gone d d' piece so more some least less h none flushed is kept =
     let input = so.input ++ take n piece in
     let part = within limit room n m so.input piece (record { all = so.room_left; least = least; fits = more.fits }) in
@@ -301,7 +301,7 @@ at_zero : (n : ℕ) → n ≡ 0 → (n == 0) ≡ true
 at_zero zero e = refl
 at_zero (suc n) e = absurd (omega arith)
 
-pub stopped_at_end : {S H : Type 0} (lines limit room n : ℕ) (source s1 s2 : SourceView) (sink k1 k2 : SinkView) (was gone : ℕ) (d : Dialogue S H) (piece : List ℕ) (fault : ServeFault) (so : SoFar lines limit room source s1 sink k1 d) → ReadMore s1 s2 n piece → n ≡ 0
+pub stopped_at_end : (lines limit room n : ℕ) (source s1 s2 : SourceView) (sink k1 k2 : SinkView) (was gone : ℕ) (d : Dialogue) (piece : List ℕ) (fault : ServeFault) (so : SoFar lines limit room source s1 sink k1 d) → ReadMore s1 s2 n piece → n ≡ 0
     → Stops sink k2 (answers lines so.input true) fault → CountsGone fault (has_crowd lines so.input true) was gone → AnswersInput (run_of lines limit source s2 sink k2 was gone (Err fault))
 stopped_at_end lines limit room n source s1 s2 sink k1 k2 was gone d piece fault so more none s counts =
     let ended : s2.at_end ≡ true = more.ended ∙ at_zero n none in
@@ -314,8 +314,8 @@ stopped_at_end lines limit room n source s1 s2 sink k1 k2 was gone d piece fault
       counts = counts_same fault _ _ was was gone (sym (crowd_ended_within lines limit so.input short) ∙ ap (has_crowd_within lines limit so.input) (sym ended)) refl counts;
     }
 
-writes_ended : {S H : Type 0} (lines limit room n : ℕ) (source s1 s2 : SourceView) (sink k1 k2 : SinkView) (was gone : ℕ) (d d' : Dialogue S H) (piece : List ℕ) (result : Result Served ServeFault) (so : SoFar lines limit room source s1 sink k1 d) → ReadMore s1 s2 n piece → n ≡ 0
-    → HasFinished lines so.input sink k2 d' → d'.waiting.items ≡ [] → k2.flushed ≡ true → WritesAll (run_of lines limit source s2 sink k2 was gone result) so.input
+writes_ended : (lines limit room n : ℕ) (source s1 s2 : SourceView) (sink k1 k2 : SinkView) (was gone : ℕ) (d d' : Dialogue) (piece : List ℕ) (result : Result Served ServeFault) (so : SoFar lines limit room source s1 sink k1 d) → ReadMore s1 s2 n piece → n ≡ 0
+    → HasFinished lines so.input sink k2 d' → d'.waiting ≡ [] → k2.flushed ≡ true → WritesAll (run_of lines limit source s2 sink k2 was gone result) so.input
 writes_ended lines limit room n source s1 s2 sink k1 k2 was gone d d' piece result so more none h waits flushed =
     let ended : s2.at_end ≡ true = more.ended ∙ at_zero n none in
     let short : length so.input ≤ limit = omega (arith, so.room_left) in
@@ -327,15 +327,15 @@ writes_ended lines limit room n source s1 s2 sink k1 k2 was gone d d' piece resu
       writes_well = h.well;
     }
 
-ends_at : {S H : Type 0} (n : ℕ) (a : List ℕ) (d : Dialogue S H) (o o' : Option EarlyEnd) → o ≡ o' → StandsAtEnd n a d o → StandsAtEnd n a d o'
+ends_at : (n : ℕ) (a : List ℕ) (d : Dialogue) (o o' : Option EarlyEnd) → o ≡ o' → StandsAtEnd n a d o → StandsAtEnd n a d o'
 ends_at n a d o o' e s = let Family : Option EarlyEnd → Type 0 = λ x. StandsAtEnd n a d x in subst Family e s
 
-refused_ends : {S H : Type 0} (run : Serving) (input : List ℕ) (d : Dialogue S H) (end : EarlyEnd) → run.source_after.at_end ≡ true → length input ≤ run.most_bytes → WritesAll run input → StandsAtEnd run.most_lines input d (Some end) → Ends run input (Err (early_fault end))
+refused_ends : (run : Serving) (input : List ℕ) (d : Dialogue) (end : EarlyEnd) → run.source_after.at_end ≡ true → length input ≤ run.most_bytes → WritesAll run input → StandsAtEnd run.most_lines input d (Some end) → Ends run input (Err (early_fault end))
 refused_ends run input d ends.BadPlan ended short writes s = (writes, ap (is_plan_refused_within run.most_bytes input) ended ∙ refused_ended run.most_bytes input short ∙ s.0)
 refused_ends run input d ends.TooMany ended short writes s = absurd s
 
-pub refused_at_end : {S H : Type 0} (lines limit room n : ℕ) (source s1 s2 : SourceView) (sink k1 k2 : SinkView) (was gone : ℕ) (d d' : Dialogue S H) (piece : List ℕ) (end : EarlyEnd) (so : SoFar lines limit room source s1 sink k1 d) → ReadMore s1 s2 n piece → n ≡ 0
-    → HasFinished lines so.input sink k2 d' → d'.waiting.items ≡ [] → k2.flushed ≡ true → d'.over ≡ Some end → gone ≡ was → AnswersInput (run_of lines limit source s2 sink k2 was gone (Err (early_fault end)))
+pub refused_at_end : (lines limit room n : ℕ) (source s1 s2 : SourceView) (sink k1 k2 : SinkView) (was gone : ℕ) (d d' : Dialogue) (piece : List ℕ) (end : EarlyEnd) (so : SoFar lines limit room source s1 sink k1 d) → ReadMore s1 s2 n piece → n ≡ 0
+    → HasFinished lines so.input sink k2 d' → d'.waiting ≡ [] → k2.flushed ≡ true → d'.over ≡ Some end → gone ≡ was → AnswersInput (run_of lines limit source s2 sink k2 was gone (Err (early_fault end)))
 refused_at_end lines limit room n source s1 s2 sink k1 k2 was gone d d' piece end so more none h waits flushed is kept = record {
   input = so.input;
   read = nothing_more source.remaining s1.remaining s2.remaining so.input piece n so.read more.bytes none;
@@ -350,8 +350,8 @@ left_after n [] (Some kept) left after = absurd after
 left_after n (first ∷ later) None left after = absurd after
 left_after n (first ∷ later) (Some kept) left after = after.3
 
-pub ended_well : {S H : Type 0} (lines limit room n : ℕ) (source s1 s2 : SourceView) (sink k1 k2 : SinkView) (was gone : ℕ) (d d' : Dialogue S H) (piece : List ℕ) (served : Served) (so : SoFar lines limit room source s1 sink k1 d) → ReadMore s1 s2 n piece → n ≡ 0
-    → IsAtEnd s2.remaining → HasFinished lines so.input sink k2 d' → d'.waiting.items ≡ [] → k2.flushed ≡ true → d'.over ≡ None → served.lines ≡ lines - d'.left → gone ≡ was → AnswersInput (run_of lines limit source s2 sink k2 was gone (Ok served))
+pub ended_well : (lines limit room n : ℕ) (source s1 s2 : SourceView) (sink k1 k2 : SinkView) (was gone : ℕ) (d d' : Dialogue) (piece : List ℕ) (served : Served) (so : SoFar lines limit room source s1 sink k1 d) → ReadMore s1 s2 n piece → n ≡ 0
+    → IsAtEnd s2.remaining → HasFinished lines so.input sink k2 d' → d'.waiting ≡ [] → k2.flushed ≡ true → d'.over ≡ None → served.lines ≡ lines - d'.left → gone ≡ was → AnswersInput (run_of lines limit source s2 sink k2 was gone (Ok served))
 ended_well lines limit room n source s1 s2 sink k1 k2 was gone d d' piece served so more none nothing h waits flushed is count kept =
     let ended : s2.at_end ≡ true = more.ended ∙ at_zero n none in
     let short : length so.input ≤ limit = omega (arith, so.room_left) in

@@ -9,10 +9,19 @@ use Rattle.road_serve.specs.Answers.{plan_reading, command_reading, laboratory_a
 use Rattle.road_serve.specs.Answers.{has_crowd, is_plan_refused, has_more_lines}
 use Rattle.road_serve.specs.Faults.{CountsGone}
 use Rattle.road_serve.specs.StreamViews.{SinkView, Stops, TakesAllBut}
-use Rattle.road_serve.specs.declared.dialogue.Dialogue.{Dialogue}
 use Rattle.road_serve.specs.declared.faults.EarlyEnd.{EarlyEnd}
 use Rattle.road_serve.specs.declared.faults.EarlyEnd.TheVariants as ends
 use Rattle.road_serve.specs.declared.faults.ServeFault.{ServeFault}
+
+-- what contracts see of a dialogue: the laboratory, once the plan line is accepted; what is held of the line that has
+-- not ended, none where it is too long; how many lines may still come; the replies that wait to be written; and why no
+-- further line is answered, if so
+pub record Dialogue : Type 0 where
+  pub laboratory : Option Laboratory
+  pub line : Option (List ℕ)
+  pub left : ℕ
+  pub waiting : List ℕ
+  pub over : Option EarlyEnd
 
 -- ---- whole lines
 
@@ -35,22 +44,22 @@ IsAfterLines lines (first ∷ later) (Some kept) left =
 
 -- ---- the line that has not ended
 
--- what is held of the line that has not ended: its bytes, or, where it is too long, only that it is
-pub data Holds (held : List ℕ) (long : Bool) (line : List ℕ) : Type 0 where
-  Whole : held ≡ line → length line ≤ LONGEST_LINE → long ≡ false → Holds held long line
-  TooLong : LONGEST_LINE < length line → long ≡ true → Holds held long line
+-- what is held of the line that has not ended: its bytes, or none, where it is too long
+pub data Holds (held : Option (List ℕ)) (line : List ℕ) : Type 0 where
+  Whole : held ≡ Some line → length line ≤ LONGEST_LINE → Holds held line
+  TooLong : held ≡ None → LONGEST_LINE < length line → Holds held line
 
 -- ---- after bytes
 
 -- the dialogue goes on: it is after the whole lines of these bytes, and holds the rest
-pub record GoesOn {S H : Type 0} (lines : ℕ) (bytes : List ℕ) (d : Dialogue S H) : Type 0 where
+pub record GoesOn (lines : ℕ) (bytes : List ℕ) (d : Dialogue) : Type 0 where
   pub after : IsAfterLines lines (pieces_of bytes).0 d.laboratory d.left
-  pub holds : Holds d.line.bytes.items d.line.long (pieces_of bytes).1
+  pub holds : Holds d.line (pieces_of bytes).1
   pub few : has_more_lines lines bytes ≡ false
 
 -- after these bytes the dialogue goes on, or why it does not: there is no plan, or it stands after the last line that
 -- may come
-abbrev pub Stands : {S H : Type 0} → ℕ → List ℕ → Dialogue S H → Option EarlyEnd → Type 0
+abbrev pub Stands : ℕ → List ℕ → Dialogue → Option EarlyEnd → Type 0
 Stands lines bytes d None = GoesOn lines bytes d
 Stands lines bytes d (Some ends.BadPlan) =
     (is_plan_refused bytes false ≡ true) × (d.laboratory ≡ None) × (d.left ≡ lines)
@@ -60,16 +69,16 @@ Stands lines bytes d (Some ends.TooMany) =
 
 -- These bytes came since the sink was as it was first, and each whole line of them is answered: in the sink, or in
 -- what waits to be written. No call of the sink failed.
-pub record HasAnswered {S H : Type 0} (lines : ℕ) (bytes : List ℕ) (first sink : SinkView) (d : Dialogue S H)
+pub record HasAnswered (lines : ℕ) (bytes : List ℕ) (first sink : SinkView) (d : Dialogue)
     : Type 0 where
-  pub answered : TakesAllBut first sink (answers lines bytes false) d.waiting.items
+  pub answered : TakesAllBut first sink (answers lines bytes false) d.waiting
   pub well : sink.failures ≡ first.failures
   pub stands : Stands lines bytes d d.over
 
 -- ---- the end of input
 
 -- the plan line was accepted, and the dialogue is after all lines; or there is no plan
-abbrev pub StandsAtEnd : {S H : Type 0} → ℕ → List ℕ → Dialogue S H → Option EarlyEnd → Type 0
+abbrev pub StandsAtEnd : ℕ → List ℕ → Dialogue → Option EarlyEnd → Type 0
 StandsAtEnd lines bytes d None =
     (is_plan_refused bytes true ≡ false) × (has_more_lines lines bytes ≡ false)
     × IsAfterLines lines (lines_of bytes true) d.laboratory d.left
@@ -79,9 +88,9 @@ StandsAtEnd lines bytes d (Some ends.TooMany) = ⊥
 
 -- The input has ended with these bytes, and all its lines are answered: in the sink, or in what waits to be written.
 -- No call of the sink failed.
-pub record HasFinished {S H : Type 0} (lines : ℕ) (bytes : List ℕ) (first sink : SinkView) (d : Dialogue S H)
+pub record HasFinished (lines : ℕ) (bytes : List ℕ) (first sink : SinkView) (d : Dialogue)
     : Type 0 where
-  pub answered : TakesAllBut first sink (answers lines bytes true) d.waiting.items
+  pub answered : TakesAllBut first sink (answers lines bytes true) d.waiting
   pub well : sink.failures ≡ first.failures
   pub stands : StandsAtEnd lines bytes d d.over
 

@@ -1,10 +1,9 @@
 //! What serves lines: bytes become lines, and lines replies.
 
 ghost use Rattle.std.specs.Prelude.{◌≡◌, ◌↔◌, ◌==◌, ◌++◌, ◌∷◌, ◌<◌, ◌≤◌, ℕ, List, [], IfOk, OnOk, MatchResult};
-ghost use Rattle.std.specs.Prelude.{IsTrue, IsSome, length, vec_len, take, true, false, None, Ok, Some, string_bytes};
+ghost use Rattle.std.specs.Prelude.{IsTrue, IsSome, is_some, length, vec_len, take, false, true, None, Ok, Some, string_bytes};
 ghost use Rattle.std.specs.List.{position};
 ghost use Rattle.road_format.specs.Cut.{newline};
-ghost use Rattle.road_plan.specs.declared.limits.TheConstants.{LONGEST_LINE};
 ghost use Rattle.road_replica.specs.declared.crowds.TheConstants.{MOST_CROWD_WRITES};
 ghost use Rattle.road_format.specs.CommandGrammar.{HasFewWrites, command_of};
 ghost use Rattle.std.specs.List.{IsDistinct};
@@ -14,11 +13,11 @@ ghost use Rattle.road_format.specs.Replies.{Refused, reply};
 ghost use Rattle.road_format.specs.Views.{texts, plan_line_view, command_view};
 ghost use Rattle.road_commands.specs.Laboratory.{answer_to, gone_after_command, is_gathered};
 ghost use Rattle.road_commands.specs.Laboratory.{laboratory_after, laboratory_of_winners};
-ghost use Rattle.road_serve.specs.Answers.{reading_unless, opening_answer, line_answer, gathers};
+ghost use Rattle.road_serve.specs.Answers.{opening_answer, line_answer, gathers};
 ghost use Rattle.road_serve.specs.Answers.{answers, has_more_lines};
 ghost use Rattle.road_serve.specs.Dialogue.{Holds, GoesOn, Stands, HasAnswered, HasFinished, IsStopped};
 ghost use Rattle.road_serve.specs.Private.KeptLaboratory.{holds_crowd, kept_after_line, opened_laboratory};
-ghost use Rattle.road_serve.specs.Private.Readings.{IfAccepted, IsRead};
+ghost use Rattle.road_serve.specs.Private.Readings.{IfAccepted, IsRead, read_held};
 ghost use Rattle.road_serve.specs.StreamViews.{SinkView, sink_view};
 
 use crate::faults::{EarlyEnd, ServeFault};
@@ -28,11 +27,11 @@ use crate::streams::Sink;
 use road_commands::Laboratory;
 use road_format::{Answer, Command, PlanLine, Refusal, read_command, read_plan, reply_line};
 use road_plan::OutOfMemory;
-use road_plan::limits::LONGEST_LINE;
 use road_replica::Crowds;
 use road_workers::{Crew, CrewFault};
 use std::alloc::Global;
 use std::hash::BuildHasher;
+use std::marker::Model;
 
 // What a line is read as.
 #[derive(Drop)]
@@ -44,15 +43,15 @@ enum LineRead<T: Drop> {
 }
 
 // Reads a line as the first one.
-fn first_line(alloc: Global, held: &[u8], long: bool) -> Result<LineRead<PlanLine>, OutOfMemory>
-    ensures read { IfOk result (λ read. IsRead plan_line_view read (reading_unless long (plan_line_of held.now))) }
+fn first_line(alloc: Global, held: &HeldLine) -> Result<LineRead<PlanLine>, OutOfMemory>
+    ensures read { IfOk result (λ read. IsRead plan_line_view read (read_held plan_line_of held.now)) }
     ensures few { IfOk result (λ read. IfAccepted read (λ line. vec_len line.names ≤ 64)) }
     ensures apart { IfOk result (λ read. IfAccepted read (λ line. IsDistinct bytes_eq (texts line.names.items))) }
 {
-    if long {
+    let Some(bytes) = held.bytes() else {
         return Ok(LineRead::Refused(Refusal::LineTooLong));
-    }
-    match read_plan(alloc, held) {
+    };
+    match read_plan(alloc, bytes) {
         Ok(line) => Ok(LineRead::Accepted(line)),
         Err(fault) => match fault.refusal() {
             Some(refusal) => Ok(LineRead::Refused(refusal)),
@@ -62,16 +61,15 @@ fn first_line(alloc: Global, held: &[u8], long: bool) -> Result<LineRead<PlanLin
 }
 
 // Reads a line as a later one.
-fn later_line(alloc: Global, held: &[u8], long: bool) -> Result<LineRead<Command>, OutOfMemory>
-    requires { length held.now ≤ LONGEST_LINE }
+fn later_line(alloc: Global, held: &HeldLine) -> Result<LineRead<Command>, OutOfMemory>
     ensures shares { IfOk result (λ read. IfAccepted read (λ command.
         HasFewWrites MOST_CROWD_WRITES (command_view command))) }
-    ensures read { IfOk result (λ read. IsRead command_view read (reading_unless long (command_of held.now))) }
+    ensures read { IfOk result (λ read. IsRead command_view read (read_held command_of held.now)) }
 {
-    if long {
+    let Some(bytes) = held.bytes() else {
         return Ok(LineRead::Refused(Refusal::LineTooLong));
-    }
-    match read_command(alloc, held) {
+    };
+    match read_command(alloc, bytes) {
         Ok(command) => Ok(LineRead::Accepted(command)),
         Err(fault) => match fault.refusal() {
             Some(refusal) => Ok(LineRead::Refused(refusal)),
@@ -83,18 +81,17 @@ fn later_line(alloc: Global, held: &[u8], long: bool) -> Result<LineRead<Command
 // Returns the reply to the plan line, and the laboratory where it is accepted.
 fn first_reply<S: BuildHasher + Copy>(
     alloc: Global,
-    held: &[u8],
-    long: bool,
+    held: &HeldLine,
     hasher: S,
 ) -> Result<(String, Option<Laboratory<S>>), OutOfMemory>
     ensures text { IfOk result (λ opened. string_bytes opened.0
-        ≡ reply (opening_answer (reading_unless long (plan_line_of held.now)))) }
+        ≡ reply (opening_answer (read_held plan_line_of held.now))) }
     ensures laboratory { IfOk result (λ opened. opened.1
-        ≡ opened_laboratory (reading_unless long (plan_line_of held.now))) }
+        ≡ opened_laboratory (read_held plan_line_of held.now)) }
 {
-    match first_line(alloc, held, long)? {
+    match first_line(alloc, held)? {
         LineRead::Accepted(line) => {
-            let (reply, laboratory) = opened(alloc, line, hasher)?;
+            let (reply, laboratory) = open_laboratory(alloc, line, hasher)?;
             Ok((reply, Some(laboratory)))
         }
         LineRead::Refused(refusal) => Ok((refusal_reply(alloc, refusal)?, None)),
@@ -102,7 +99,7 @@ fn first_reply<S: BuildHasher + Copy>(
 }
 
 // Opens the laboratory of a plan line that is accepted, and returns the reply too.
-fn opened<S: BuildHasher + Copy>(
+fn open_laboratory<S: BuildHasher + Copy>(
     alloc: Global,
     line: PlanLine,
     hasher: S,
@@ -129,20 +126,18 @@ fn refusal_reply(alloc: Global, refusal: Refusal) -> Result<String, OutOfMemory>
 fn later_reply<S: BuildHasher + Copy, C: Crew, K: Crowds>(
     alloc: Global,
     laboratory: &mut Laboratory<S>,
-    held: &[u8],
-    long: bool,
+    held: &HeldLine,
     crew: &mut C,
     crowds: &K,
 ) -> Result<String, CrewFault>
-    requires { length held.now ≤ LONGEST_LINE }
     ensures text { IfOk result (λ text. string_bytes text
-        ≡ reply (line_answer laboratory.old (reading_unless long (command_of held.now)))) }
+        ≡ reply (line_answer laboratory.old (read_held command_of held.now))) }
     ensures after { OnOk result (laboratory.new
-        ≡ kept_after_line laboratory.old (reading_unless long (command_of held.now))) }
+        ≡ kept_after_line laboratory.old (read_held command_of held.now)) }
     ensures gone { C.times_gone crew.new ≡ gone_after_command result
-        (gathers laboratory.old.world.plan (reading_unless long (command_of held.now))) (C.times_gone crew.old) }
+        (gathers laboratory.old.world.plan (read_held command_of held.now)) (C.times_gone crew.old) }
 {
-    match later_line(alloc, held, long)? {
+    match later_line(alloc, held)? {
         LineRead::Accepted(command) => command_reply(alloc, laboratory, command, crew, crowds),
         LineRead::Refused(refusal) => Ok(refusal_reply(alloc, refusal)?),
     }
@@ -179,20 +174,38 @@ fn line_end(bytes: &[u8]) -> Option<usize>
 /// At most 64 KiB of replies wait to be written.
 #[derive(Drop)]
 pub struct Dialogue<S: BuildHasher> {
-    /// What allocates the replies.
-    pub alloc: Global,
-    /// What makes the hashes of names.
-    pub hasher: S,
-    /// The laboratory, once the plan line is accepted.
-    pub laboratory: Option<Laboratory<S>>,
-    /// The line that has not ended.
-    pub line: HeldLine,
-    /// How many lines may still come after the plan line.
-    pub left: u32,
-    /// The replies that are not written yet.
-    pub waiting: Vec<u8>,
-    /// Why no further line is answered, if so.
-    pub over: Option<EarlyEnd>,
+    // What allocates the replies.
+    alloc: Global,
+    // What makes the hashes of names.
+    hasher: S,
+    // The laboratory, once the plan line is accepted.
+    laboratory: Option<Laboratory<S>>,
+    // The line that has not ended.
+    line: HeldLine,
+    // How many lines may still come after the plan line.
+    left: u32,
+    // The replies that are not written yet.
+    waiting: Vec<u8>,
+    // Why no further line is answered, if so.
+    over: Option<EarlyEnd>,
+}
+
+impl<S: BuildHasher> Model for Dialogue<S> {
+    ghost use Rattle.std.specs.Coded.{codes};
+    ghost use Rattle.road_scenario.specs.Instances.EditOrder.{edits_code};
+    ghost use Rattle.road_serve.specs.Dialogue.{Dialogue};
+
+    ghost Value = { Dialogue };
+
+    ghost coded = { Prim.hlevel (codes, edits_code) };
+
+    ghost view = { λ dialogue. record {
+      laboratory = dialogue.laboratory;
+      line = dialogue.line;
+      left = dialogue.left;
+      waiting = dialogue.waiting.items;
+      over = dialogue.over;
+    } };
 }
 
 impl<S: BuildHasher + Copy> Dialogue<S> {
@@ -201,7 +214,7 @@ impl<S: BuildHasher + Copy> Dialogue<S> {
     pub fn new(alloc: Global, lines: u32, hasher: S) -> Dialogue<S>
         ensures none_came { (first : SinkView) → HasAnswered lines [] first first result }
         ensures going { result.over ≡ None }
-        ensures none_wait { result.waiting.items ≡ [] }
+        ensures none_wait { result.waiting ≡ [] }
     {
         Dialogue {
             alloc,
@@ -214,34 +227,51 @@ impl<S: BuildHasher + Copy> Dialogue<S> {
         }
     }
 
+    /// Returns why no further line is answered, if so.
+    pub fn over(&self) -> Option<EarlyEnd>
+        ensures { result ≡ self.now.over }
+    {
+        self.over
+    }
+
+    /// Returns how many lines may still come after the plan line.
+    pub fn left(&self) -> u32
+        ensures { result ≡ self.now.left }
+    {
+        self.left
+    }
+
     // Holds more bytes of the line that has not ended.
     fn hold(&mut self, bytes: &[u8]) -> Result<(), OutOfMemory>
-        ensures holds { (line : List ℕ) → Holds self.old.line.bytes.items self.old.line.long line
-            → OnOk result (Holds self.new.line.bytes.items self.new.line.long (line ++ bytes.now)) }
+        ensures holds { (line : List ℕ) → Holds self.old.line line
+            → OnOk result (Holds self.new.line (line ++ bytes.now)) }
         ensures laboratory { self.new.laboratory ≡ self.old.laboratory }
         ensures left { self.new.left ≡ self.old.left }
         ensures waiting { self.new.waiting ≡ self.old.waiting }
         ensures over { self.new.over ≡ self.old.over }
     {
-        if self.line.long || bytes.len() > LONGEST_LINE.saturating_sub(self.line.bytes.len()) {
-            self.line.long = true;
-            return Ok(());
-        }
-        self.line.bytes.extend_from_slice(bytes)
+        self.line.hold(bytes)
+    }
+
+    // Returns whether the plan line is accepted.
+    fn is_open(&self) -> bool
+        ensures { result ≡ is_some self.now.laboratory }
+    {
+        self.laboratory.is_some()
     }
 
     // Returns whether no further line may come.
     fn is_spent(&self) -> bool
         ensures { IsTrue result ↔ (IsSome self.now.laboratory × (self.now.left ≡ 0)) }
     {
-        self.laboratory.is_some() && self.left == 0
+        self.is_open() && self.left == 0
     }
 
     // Returns whether nothing of the next line has come.
     fn is_clear(&self) -> bool
-        ensures { IsTrue result ↔ ((self.now.line.bytes.items ≡ []) × (self.now.line.long ≡ false)) }
+        ensures { IsTrue result ↔ (self.now.line ≡ Some []) }
     {
-        self.line.bytes.is_empty() && !self.line.long
+        self.line.is_empty()
     }
 
     // Returns the reply to the line that is held, which has ended.
@@ -257,25 +287,18 @@ impl<S: BuildHasher + Copy> Dialogue<S> {
             ≡ gone_after_command result (holds_crowd self.old) (C.times_gone crew.old) }
     {
         if let Some(laboratory) = &mut self.laboratory {
-            let held = self.line.bytes.as_slice();
-            let long = self.line.long;
-            let reply = later_reply(self.alloc, laboratory, held, long, crew, crowds)?;
+            let reply = later_reply(self.alloc, laboratory, &self.line, crew, crowds)?;
             self.left = self.left.saturating_sub(1);
-            self.line.clear();
+            self.line.clear(self.alloc);
             return Ok(reply);
         }
-        let (reply, laboratory) = first_reply(
-            self.alloc,
-            self.line.bytes.as_slice(),
-            self.line.long,
-            self.hasher,
-        )?;
+        let (reply, laboratory) = first_reply(self.alloc, &self.line, self.hasher)?;
         self.laboratory = laboratory;
         if self.laboratory.is_none() {
             self.over = Some(EarlyEnd::BadPlan);
             return Ok(reply);
         }
-        self.line.clear();
+        self.line.clear(self.alloc);
         Ok(reply)
     }
 
@@ -318,7 +341,7 @@ impl<S: BuildHasher + Copy> Dialogue<S> {
             (C.times_gone crew.old) (C.times_gone crew.new)) }
         ensures kept { OnOk result (C.times_gone crew.new ≡ C.times_gone crew.old) }
     {
-        if self.over.is_some() {
+        if self.over().is_some() {
             return Ok(bytes.len());
         }
         if self.is_spent() {
@@ -359,7 +382,7 @@ impl<S: BuildHasher + Copy> Dialogue<S> {
             (λ _. HasAnswered lines (before ++ bytes.now) first (sink_view W.Sink writer.new) self.new)
             (λ fault. IsStopped lines (before ++ bytes.now) false first (sink_view W.Sink writer.new) fault
             (C.times_gone crew.old) (C.times_gone crew.new)) }
-        ensures none_wait { OnOk result (self.new.waiting.items ≡ []) }
+        ensures none_wait { OnOk result (self.new.waiting ≡ []) }
         ensures flushed { OnOk result (W.flushed writer.new ≡ true) }
         ensures kept { OnOk result (C.times_gone crew.new ≡ C.times_gone crew.old) }
     {
@@ -390,7 +413,7 @@ impl<S: BuildHasher + Copy> Dialogue<S> {
         if !self.is_clear() {
             return self.answer(writer, crew, crowds);
         }
-        if self.laboratory.is_some() {
+        if self.is_open() {
             return Ok(());
         }
         let reply = refusal_reply(self.alloc, Refusal::NoPlan)?;
@@ -417,7 +440,7 @@ impl<S: BuildHasher + Copy> Dialogue<S> {
             (λ _. HasFinished lines bytes first (sink_view W.Sink writer.new) self.new)
             (λ fault. IsStopped lines bytes true first (sink_view W.Sink writer.new) fault
             (C.times_gone crew.old) (C.times_gone crew.new)) }
-        ensures none_wait { OnOk result (self.new.waiting.items ≡ []) }
+        ensures none_wait { OnOk result (self.new.waiting ≡ []) }
         ensures flushed { OnOk result (W.flushed writer.new ≡ true) }
         ensures kept { OnOk result (C.times_gone crew.new ≡ C.times_gone crew.old) }
     {

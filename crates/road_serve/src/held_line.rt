@@ -1,38 +1,94 @@
 //! The line that has not ended.
 
-ghost use Rattle.std.specs.Prelude.{◌≡◌, ◌≤◌, [], false, length};
+ghost use Rattle.std.specs.Prelude.{◌≡◌, ◌≤◌, ◌↔◌, ◌++◌, ℕ, List, [], IfSome, IsTrue, OnOk, Some, length, option_map};
 ghost use Rattle.road_plan.specs.declared.limits.TheConstants.{LONGEST_LINE};
+ghost use Rattle.road_serve.specs.Dialogue.{Holds};
 
+use road_plan::OutOfMemory;
+use road_plan::limits::LONGEST_LINE;
 use std::alloc::Global;
+use std::marker::Model;
 
-/// Holds the bytes of the line that has not ended: no more of them than the longest line has.
+// What has come of a line.
 #[derive(Drop)]
-pub struct HeldLine {
-    /// The bytes of the line.
-    pub bytes: Vec<u8>,
-    /// Whether the line is too long, so that its bytes are not held.
-    pub long: bool,
-    pub ghost few: { length bytes.items ≤ LONGEST_LINE },
+enum Held {
+    // Its bytes.
+    Bytes(Vec<u8>),
+    // More than the longest line has, none of them held.
+    TooLong,
+}
+
+// Holds the bytes of the line that has not ended: no more of them than the longest line has.
+#[derive(Drop)]
+pub(crate) struct HeldLine {
+    held: Held,
+}
+
+impl Model for HeldLine {
+    ghost use Rattle.std.specs.Prelude.{List, Option, ℕ};
+
+    ghost Value = { Option (List ℕ) };
+
+    ghost use Rattle.road_serve.specs.Private.HeldLines.{bytes_held, IsShort};
+
+    ghost view = { λ line. bytes_held line.held };
+
+    ghost invariant = { λ line. IsShort (bytes_held line.held) };
 }
 
 impl HeldLine {
-    /// Returns the line of which nothing has come.
+    // Returns the line of which nothing has come.
     pub fn new(alloc: Global) -> HeldLine
-        ensures bytes { result.bytes.items ≡ [] }
-        ensures short { result.long ≡ false }
+        ensures { result ≡ Some [] }
     {
         HeldLine {
-            bytes: Vec::new(alloc),
-            long: false,
+            held: Held::Bytes(Vec::new(alloc)),
         }
     }
 
-    /// Lets all go that has come.
-    pub fn clear(&mut self)
-        ensures bytes { self.new.bytes.items ≡ [] }
-        ensures short { self.new.long ≡ false }
+    // Holds more bytes of the line.
+    pub fn hold(&mut self, bytes: &[u8]) -> Result<(), OutOfMemory>
+        ensures { (line : List ℕ) → Holds self.old line → OnOk result (Holds self.new (line ++ bytes.now)) }
     {
-        self.bytes.clear();
-        self.long = false;
+        let Held::Bytes(held) = &mut self.held else {
+            return Ok(());
+        };
+        if bytes.len() > LONGEST_LINE.saturating_sub(held.len()) {
+            self.held = Held::TooLong;
+            return Ok(());
+        }
+        held.extend_from_slice(bytes)
+    }
+
+    // Returns the bytes of the line, where it is not too long.
+    pub fn bytes(&self) -> Option<&[u8]>
+        ensures bytes { option_map (λ bytes. bytes.now) result ≡ self.now }
+        ensures few { IfSome result (λ bytes. length bytes.now ≤ LONGEST_LINE) }
+    {
+        match &self.held {
+            Held::Bytes(bytes) => Some(bytes.as_slice()),
+            Held::TooLong => None,
+        }
+    }
+
+    // Returns whether nothing of the line has come.
+    pub fn is_empty(&self) -> bool
+        ensures { IsTrue result ↔ (self.now ≡ Some []) }
+    {
+        match &self.held {
+            Held::Bytes(bytes) => bytes.is_empty(),
+            Held::TooLong => false,
+        }
+    }
+
+    // Lets all go that has come.
+    pub fn clear(&mut self, alloc: Global)
+        ensures { self.new ≡ Some [] }
+    {
+        if let Held::Bytes(bytes) = &mut self.held {
+            bytes.clear();
+            return;
+        }
+        self.held = Held::Bytes(Vec::new(alloc));
     }
 }

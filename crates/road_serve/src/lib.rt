@@ -25,7 +25,6 @@ mod streams;
 
 pub use dialogue::Dialogue;
 pub use faults::{EarlyEnd, ReadFailed, ServeFault, WriteFailed};
-pub use held_line::HeldLine;
 pub use memory::{Failing, MemorySink, MemorySource};
 pub use running::{Ended, run, run_by};
 pub use serving::{Served, serve, serve_within};

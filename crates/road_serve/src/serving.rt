@@ -107,7 +107,7 @@ fn answer_input<R: Source, W: Sink, C: Crew, K: Crowds, S: BuildHasher + Copy>(
 ) -> Result<Served, ServeFault>
     requires none_came { (first : SinkView) → HasAnswered limits.lines [] first first dialogue.old }
     requires going { dialogue.old.over ≡ None }
-    requires none_wait { dialogue.old.waiting.items ≡ [] }
+    requires none_wait { dialogue.old.waiting ≡ [] }
     ensures { AnswersInput (record {
       most_lines = limits.lines;
       most_bytes = limits.bytes;
@@ -126,16 +126,16 @@ fn answer_input<R: Source, W: Sink, C: Crew, K: Crowds, S: BuildHasher + Copy>(
         let count = reader.read(&mut buffer)?;
         if count == 0 {
             dialogue.finish(writer, crew, crowds)?;
-            if let Some(end) = dialogue.over {
+            if let Some(end) = dialogue.over() {
                 return Err(end.fault());
             }
             return Ok(Served {
-                lines: limits.lines.saturating_sub(dialogue.left),
+                lines: limits.lines.saturating_sub(dialogue.left()),
             });
         }
         let within = fitting(room, count);
         dialogue.take(writer, &buffer[..within], crew, crowds)?;
-        if let Some(end) = dialogue.over {
+        if let Some(end) = dialogue.over() {
             return Err(end.fault());
         }
         if within < count {

@@ -123,10 +123,8 @@ const RUNS: &[Run] = pairs![
     ((3, 1000), (121, Failing::From(1)), (1000, ALL, ALL)) => ("Err(Read)", Some(11)),
     ((3, 1000), (7, Failing::Once(0)), (1000, ALL, ALL)) => ("Err(Read)", Some(0)),
     // Nothing is read past a limit: that read would fail.
-    // Nothing is read past a limit: that read would fail.
     ((2, 1000), (1000, Failing::From(1)), (1000, ALL, ALL)) => ("Err(TooMany)", Some(39)),
     ((3, 210), (1000, Failing::From(1)), (1000, ALL, ALL)) => ("Err(TooMany)", Some(39)),
-    // The read that would give the end of the input.
     // The read that would give the end of the input.
     ((3, 1000), (1000, Failing::Once(1)), (1000, ALL, ALL)) => ("Err(Read)", Some(53)),
 ];

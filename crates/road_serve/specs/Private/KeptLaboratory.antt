@@ -4,8 +4,9 @@ use Rattle.road_format.specs.CommandGrammar.{Command, command_of}
 use Rattle.road_format.specs.PlanGrammar.{PlanLine}
 use Rattle.road_format.specs.declared.refusal.Refusal.{Refusal}
 use Rattle.road_commands.specs.Laboratory.{Laboratory, laboratory_after, laboratory_of_winners, opening_laboratory}
-use Rattle.road_serve.specs.Answers.{gathers, reading_unless}
-use Rattle.road_serve.specs.declared.dialogue.Dialogue.{Dialogue}
+use Rattle.road_serve.specs.Answers.{gathers}
+use Rattle.road_serve.specs.Dialogue.{Dialogue}
+use Rattle.road_serve.specs.Private.Readings.{read_held}
 
 -- the laboratory after the plan line, where it is accepted
 abbrev pub opened_laboratory : Result PlanLine Refusal → Option Laboratory
@@ -23,5 +24,5 @@ gathers_at None reading = false
 gathers_at (Some kept) reading = gathers kept.world.plan reading
 
 -- whether what is held, were it a line, is a crowd that nothing refuses
-abbrev pub holds_crowd : {S H : Type 0} → Dialogue S H → Bool
-holds_crowd d = gathers_at d.laboratory (reading_unless d.line.long (command_of d.line.bytes.items))
+abbrev pub holds_crowd : Dialogue → Bool
+holds_crowd d = gathers_at d.laboratory (read_held command_of d.line)

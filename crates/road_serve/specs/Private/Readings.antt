@@ -1,8 +1,14 @@
 -- What the code reads, beside what the definitions read.
-use Rattle.std.specs.Prelude.{◌≡◌, Result, Ok, Err}
+use Rattle.std.specs.Prelude.{◌≡◌, ℕ, List, Option, Some, None, Result, Ok, Err}
 use Rattle.road_format.specs.declared.refusal.Refusal.{Refusal}
+use Rattle.road_format.specs.declared.refusal.Refusal.TheVariants as refusals
 use Rattle.road_serve.specs.declared.dialogue.LineRead.{LineRead}
 use Rattle.road_serve.specs.declared.dialogue.LineRead.TheVariants.{Accepted, Refused}
+
+-- what a held line is read as: one that is too long is refused unread
+abbrev pub read_held : {A : Type 0} → (List ℕ → Result A Refusal) → Option (List ℕ) → Result A Refusal
+read_held reading None = Err refusals.LineTooLong
+read_held reading (Some line) = reading line
 
 -- a line was read as the definition reads it
 abbrev pub IsRead : {X Y : Type 0} → (X → Y) → LineRead X → Result Y Refusal → Type 0

@@ -7,4 +7,4 @@ use Rattle.road_serve.proofs.dialogue.later_line.Goals as goal
 
 pub returns-in-Ok-clause-shares : goal.returns-in-Ok-clause-shares
 returns-in-Ok-clause-shares c =
-    few_within (length c.args.held.now) MOST_CROWD_WRITES (omega (arith, c.requires)) (command_view c.in-Ok.command) c.in-Ok.ensures.shares
+    few_within (length c.in-Some.bytes.now) MOST_CROWD_WRITES (omega (arith, c.in-Some.ensures.few)) (command_view c.in-Ok.command) c.in-Ok.ensures.shares

@@ -1,5 +1,5 @@
 -- Each way out of the loop that reads an input ends the run as it promises.
-use Rattle.std.proofs.Common.{◌<◌, ◌∙◌, length, refl, arith}
+use Rattle.std.proofs.Common.{◌<◌, ◌-◌, ◌∙◌, ℕ, length, refl, ap, sym, arith}
 use Rattle.std.proofs.lemmas.Result.{err_from_is_err_and}
 use Rattle.road_serve.specs.StreamViews.{source_view, sink_view}
 use Rattle.road_serve.proofs.RunEnds.{at_first, ReadMore, read_on, unread, stopped, over, past, stopped_at_end, refused_at_end, ended_well}
@@ -52,7 +52,7 @@ returns-in-Some-over g c =
     let more : ReadMore s1 s2 c.in_ok-count.count c.read.new.piece = record { bytes = e.bytes.0; fits = e.within; ended = e.ended; well = e.well } in
     rw (c.fault-in-Some-over.ensures)
     (over c.args.limits.lines c.args.limits.bytes l.room c.in_ok-count.count c.fitting-within.result _ s1 s2 _ _ k2 _ _ l.dialogue c.take.new.self c.read.new.piece c.in-Some-over.end l.invariant.0 more c.if-count-eq0.false c.fitting-within.ensures
-    (c.in_ok-take.ensures.answered c.args.limits.lines l.invariant.0.input _ l.invariant.0.answered) c.in_ok-take.ensures.none_wait c.in_ok-take.ensures.flushed c.in-Some-over.is (c.in_ok-take.ensures.kept ∙ l.invariant.1))
+    (c.in_ok-take.ensures.answered c.args.limits.lines l.invariant.0.input _ l.invariant.0.answered) c.in_ok-take.ensures.none_wait c.in_ok-take.ensures.flushed (sym c.over-in-loop-count.ensures ∙ c.in-Some-over.is) (c.in_ok-take.ensures.kept ∙ l.invariant.1))
 
 pub returns-then-within-count : goal.returns-then-within-count
 returns-then-within-count g c =
@@ -63,7 +63,7 @@ returns-then-within-count g c =
     let k2 = sink_view g.W.Sink c.take.new.writer in
     let more : ReadMore s1 s2 c.in_ok-count.count c.read.new.piece = record { bytes = e.bytes.0; fits = e.within; ended = e.ended; well = e.well } in
     past c.args.limits.lines c.args.limits.bytes l.room c.in_ok-count.count c.fitting-within.result _ s1 s2 _ _ k2 _ _ l.dialogue c.take.new.self c.read.new.piece l.invariant.0 more c.if-count-eq0.false c.fitting-within.ensures c.if-within-count.true
-    (c.in_ok-take.ensures.answered c.args.limits.lines l.invariant.0.input _ l.invariant.0.answered) c.in_ok-take.ensures.none_wait c.in_ok-take.ensures.flushed c.in_default-over.is (c.in_ok-take.ensures.kept ∙ l.invariant.1)
+    (c.in_ok-take.ensures.answered c.args.limits.lines l.invariant.0.input _ l.invariant.0.answered) c.in_ok-take.ensures.none_wait c.in_ok-take.ensures.flushed (sym c.over-in-loop-count.ensures ∙ c.in_default-over.is) (c.in_ok-take.ensures.kept ∙ l.invariant.1)
 
 pub loop-count-preserved : goal.loop-count-preserved
 loop-count-preserved g c =
@@ -74,7 +74,7 @@ loop-count-preserved g c =
     let k2 = sink_view g.W.Sink c.take.new.writer in
     let more : ReadMore s1 s2 c.in_ok-count.count c.read.new.piece = record { bytes = e.bytes.0; fits = e.within; ended = e.ended; well = e.well } in (
       read_on c.args.limits.lines c.args.limits.bytes l.room _ c.in_ok-count.count c.fitting-within.result _ s1 s2 _ _ k2 l.dialogue c.take.new.self c.read.new.piece l.invariant.0 more c.fitting-within.ensures c.if-within-count.false refl
-          (c.in_ok-take.ensures.answered c.args.limits.lines l.invariant.0.input _ l.invariant.0.answered) c.in_default-over.is c.in_ok-take.ensures.none_wait,
+          (c.in_ok-take.ensures.answered c.args.limits.lines l.invariant.0.input _ l.invariant.0.answered) (sym c.over-in-loop-count.ensures ∙ c.in_default-over.is) c.in_ok-take.ensures.none_wait,
       c.in_ok-take.ensures.kept ∙ l.invariant.1,
     )
 
@@ -89,7 +89,7 @@ returns-in-Some g c =
     let more : ReadMore s1 s2 c.in_ok-count.count c.read.new.piece = record { bytes = e.bytes.0; fits = e.within; ended = e.ended; well = e.well } in
     rw (c.fault.ensures)
     (refused_at_end c.args.limits.lines c.args.limits.bytes l.room c.in_ok-count.count _ s1 s2 _ _ k2 _ _ l.dialogue c.finish.new.self c.read.new.piece c.in-Some.end l.invariant.0 more c.if-count-eq0.true
-    (c.in_ok-finish.ensures.answered c.args.limits.lines l.invariant.0.input _ l.invariant.0.answered) c.in_ok-finish.ensures.none_wait c.in_ok-finish.ensures.flushed c.in-Some.is (c.in_ok-finish.ensures.kept ∙ l.invariant.1))
+    (c.in_ok-finish.ensures.answered c.args.limits.lines l.invariant.0.input _ l.invariant.0.answered) c.in_ok-finish.ensures.none_wait c.in_ok-finish.ensures.flushed (sym c.over.ensures ∙ c.in-Some.is) (c.in_ok-finish.ensures.kept ∙ l.invariant.1))
 
 -- it was accepted
 pub returns-then-count-eq0 : goal.returns-then-count-eq0
@@ -102,4 +102,4 @@ returns-then-count-eq0 g c =
     let more : ReadMore s1 s2 c.in_ok-count.count c.read.new.piece = record { bytes = e.bytes.0; fits = e.within; ended = e.ended; well = e.well } in
     let some : 0 < length c.read.new.piece = omega arith in
     ended_well c.args.limits.lines c.args.limits.bytes l.room c.in_ok-count.count _ s1 s2 _ _ k2 _ _ l.dialogue c.finish.new.self c.read.new.piece _ l.invariant.0 more c.if-count-eq0.true (e.bytes.1 c.if-count-eq0.true some)
-    (c.in_ok-finish.ensures.answered c.args.limits.lines l.invariant.0.input _ l.invariant.0.answered) c.in_ok-finish.ensures.none_wait c.in_ok-finish.ensures.flushed c.in_default.is c.saturating_sub.ensures (c.in_ok-finish.ensures.kept ∙ l.invariant.1)
+    (c.in_ok-finish.ensures.answered c.args.limits.lines l.invariant.0.input _ l.invariant.0.answered) c.in_ok-finish.ensures.none_wait c.in_ok-finish.ensures.flushed (sym c.over.ensures ∙ c.in_default.is) (c.saturating_sub.ensures ∙ ap (λ (left : ℕ). c.args.limits.lines - left) c.left.ensures) (c.in_ok-finish.ensures.kept ∙ l.invariant.1)

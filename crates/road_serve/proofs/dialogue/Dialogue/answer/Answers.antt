@@ -1,9 +1,10 @@
 -- The reply to a line is put behind those that wait, or the run stops at it.
-use Rattle.std.proofs.Common.{◌∙◌, ◌++◌, ◌∷◌, [], ℕ, List, refl, ap, string_bytes}
+use Rattle.std.proofs.Common.{◌∙◌, ◌++◌, ◌∷◌, [], ℕ, List, ap, string_bytes}
 use Rattle.std.proofs.lemmas.Result.{err_from_is_err_and}
 use Rattle.std.specs.Prelude.{String}
 use Rattle.std.specs.declared.alloc.Global.{Global}
 use Rattle.road_format.specs.Cut.{newline}
+use Rattle.road_serve.specs.Dialogue.{Dialogue}
 use Rattle.road_serve.specs.StreamViews.{sink_view}
 use Rattle.road_serve.proofs.DialogueSteps.{goes_on}
 use Rattle.road_serve.proofs.DialogueCalls.{stops_unanswered, answer_ends}
@@ -24,8 +25,17 @@ pub returns-clause-answered : goal.returns-clause-answered
 returns-clause-answered g c lines bytes first h few =
     let sink = sink_view g.W.Sink c.args.writer.now in
     let step = c.in_ok-reply.ensures.answered lines bytes (goes_on lines bytes first sink c.args.self.now h c.requires) few in
-    answer_ends lines bytes (newline ∷ []) (string_bytes c.in_ok-reply.reply) (c.reply.new.self.waiting.items ++ c.as_bytes.result.now) first sink (sink_view g.W.Sink c.append_reply.new.writer) c.args.self.now c.reply.new.self
-    (record c.reply.new.self { waiting = c.append_reply.new.waiting }) c.append_reply.result _ _ h step.0 step.1
-    (ap (λ w. w.items ++ c.as_bytes.result.now) c.in_ok-reply.ensures.waiting ∙ ap (λ (t : List ℕ). c.args.self.now.waiting.items ++ t) c.as_bytes.ensures.value)
-    (c.append_reply.ensures.ok, c.append_reply.ensures.well, c.append_reply.ensures.err) refl refl refl refl refl
+    let seen = c.self.view_is in
+    let after : Dialogue = record {
+      laboratory = c.self.inside.laboratory;
+      line = c.self.inside.line;
+      left = c.self.inside.left;
+      waiting = c.append_reply.new.waiting.items;
+      over = c.self.inside.over;
+    } in
+    answer_ends lines bytes (newline ∷ []) (string_bytes c.in_ok-reply.reply) (c.self.inside.waiting.items ++ c.as_bytes.result.now) first sink (sink_view g.W.Sink c.append_reply.new.writer) c.args.self.now c.reply.new.self
+    after c.append_reply.result _ _ h step.0 step.1
+    (ap (λ (d : Dialogue). d.waiting ++ c.as_bytes.result.now) seen ∙ ap (λ (w : List ℕ). w ++ c.as_bytes.result.now) c.in_ok-reply.ensures.waiting ∙ ap (λ (t : List ℕ). c.args.self.now.waiting ++ t) c.as_bytes.ensures.value)
+    (c.append_reply.ensures.ok, c.append_reply.ensures.well, c.append_reply.ensures.err)
+    (ap (λ (d : Dialogue). d.laboratory) seen) (ap (λ (d : Dialogue). d.left) seen) (ap (λ (d : Dialogue). d.line) seen) (ap (λ (d : Dialogue). d.over) seen)
     (counts_none c.append_reply.result _ _ _ c.append_reply.ensures.no_crew c.in_ok-reply.ensures.gone)

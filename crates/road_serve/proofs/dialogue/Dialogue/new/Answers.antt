@@ -4,4 +4,4 @@ use Rattle.road_serve.proofs.DialogueSteps.{nothing_came}
 use Rattle.road_serve.proofs.dialogue.Dialogue.new.Goals as goal
 
 pub returns-clause-none_came : goal.returns-clause-none_came
-returns-clause-none_came g c first = nothing_came c.args.lines first _ refl refl c.new.ensures.bytes c.new.ensures.short refl c.new-2.ensures.items
+returns-clause-none_came g c first = nothing_came c.args.lines first _ refl refl c.new.ensures refl c.new-2.ensures.items

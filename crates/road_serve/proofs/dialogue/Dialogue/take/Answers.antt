@@ -1,8 +1,9 @@
 -- One piece more is taken and answered, and all is written by the flush.
-use Rattle.std.proofs.Common.{◌≡◌, ◌∙◌, ◌++◌, ℕ, List, false, take, length, refl, ap, arith, length-drop}
+use Rattle.std.proofs.Common.{◌≡◌, ◌∙◌, ◌++◌, ℕ, List, false, take, length, refl, ap, sym, subst, arith, length-drop}
 use Rattle.std.proofs.lemmas.List.{take_all}
 use Rattle.std.proofs.lemmas.Result.{err_from_is_err_and}
 use Rattle.road_serve.specs.Answers.{answers, has_crowd}
+use Rattle.road_serve.specs.Dialogue.{Dialogue, HasAnswered}
 use Rattle.road_serve.specs.StreamViews.{sink_view}
 use Rattle.road_serve.proofs.ByteParts.{from_place}
 use Rattle.road_serve.proofs.DialogueCalls.{answered_same, stops_same, part_then_part, both_parts, flush_stops, flushed}
@@ -42,8 +43,9 @@ returns-in_err-flush-clause-answered g c lines before first h =
     let i = c.loop-done.invariant in
     let whole : take done b ≡ b = take_all done b (omega (arith, i.0, c.loop-done-test.false)) in
     let p = err_from_is_err_and c.from_residual-in_err-flush.result c.from_residual-in_err-flush.ensures.1 in
-    let all = answered_same lines _ (before ++ b) first _ c.loop-done.self (ap (λ (x : List ℕ). before ++ x) whole) (i.1 lines before first h) in
-    rw (p.1, p.2) (record { stops = flush_stops first _ _ _ c.loop-done.self.waiting.items all.answered all.well c.in_err-flush.ensures.front c.in_err-flush.ensures.failed; counts = i.2 })
+    let Family : Dialogue → Type 0 = λ d. HasAnswered lines (before ++ b) first (sink_view g.W.Sink c.loop-done.writer) d in
+    let all = subst Family (sym c.self.view_is) (answered_same lines _ (before ++ b) first _ c.loop-done.self (ap (λ (x : List ℕ). before ++ x) whole) (i.1 lines before first h)) in
+    rw (p.1, p.2) (record { stops = flush_stops first _ _ _ c.self.inside.waiting.items all.answered all.well c.in_err-flush.ensures.front c.in_err-flush.ensures.failed; counts = i.2 })
 
 pub returns-clause-answered : goal.returns-clause-answered
 returns-clause-answered g c lines before first h =
@@ -51,6 +53,14 @@ returns-clause-answered g c lines before first h =
     let b = c.args.bytes.now in
     let i = c.loop-done.invariant in
     let whole : take done b ≡ b = take_all done b (omega (arith, i.0, c.loop-done-test.false)) in
-    let all = answered_same lines _ (before ++ b) first _ c.loop-done.self (ap (λ (x : List ℕ). before ++ x) whole) (i.1 lines before first h) in
-    flushed lines (before ++ b) first (sink_view g.W.Sink c.loop-done.writer) (sink_view g.W.Sink c.flush.new.writer) c.loop-done.self (record c.loop-done.self { waiting = c.flush.new.waiting })
-    all c.in_ok-flush.ensures.all c.in_ok-flush.ensures.well c.in_ok-flush.ensures.none_wait refl refl refl refl refl
+    let Family : Dialogue → Type 0 = λ d. HasAnswered lines (before ++ b) first (sink_view g.W.Sink c.loop-done.writer) d in
+    let all = subst Family (sym c.self.view_is) (answered_same lines _ (before ++ b) first _ c.loop-done.self (ap (λ (x : List ℕ). before ++ x) whole) (i.1 lines before first h)) in
+    let after : Dialogue = record {
+      laboratory = c.self.inside.laboratory;
+      line = c.self.inside.line;
+      left = c.self.inside.left;
+      waiting = c.flush.new.waiting.items;
+      over = c.self.inside.over;
+    } in
+    flushed lines (before ++ b) first (sink_view g.W.Sink c.loop-done.writer) (sink_view g.W.Sink c.flush.new.writer) _ after
+    all c.in_ok-flush.ensures.all c.in_ok-flush.ensures.well c.in_ok-flush.ensures.none_wait refl refl refl refl

@@ -1,7 +1,9 @@
 -- The bytes up to the end of a line are taken: answered, held, or passed over where the dialogue is over.
-use Rattle.std.proofs.Common.{◌≡◌, ◌++◌, true, false, IsSome, is_some, take, refl, sym}
+use Rattle.std.proofs.Common.{◌≡◌, ◌++◌, true, false, IsSome, is_some, Some, take, refl, sym, ap}
 use Rattle.std.proofs.lemmas.Result.{err_from_is_err_and}
+use Rattle.road_serve.specs.Dialogue.{Dialogue}
 use Rattle.road_serve.specs.StreamViews.{sink_view}
+use Rattle.road_serve.specs.declared.faults.EarlyEnd.TheVariants.{TooMany}
 use Rattle.road_serve.proofs.CutBytes.{newline_found, no_newline}
 use Rattle.road_serve.proofs.Options.{not_some}
 use Rattle.road_serve.proofs.DialogueSteps.{over_more, full_more}
@@ -19,8 +21,17 @@ pub returns-then-is_spent-clause-answered : goal.returns-then-is_spent-clause-an
 returns-then-is_spent-clause-answered g c lines before first h =
     let isnt : is_some c.args.self.now.over ≡ false = cc in
     let spent = c.is_spent.ensures.0 c.if-is_spent.true in
-    answered_same lines _ _ first _ _ (all_taken before c.args.bytes.now)
-    (full_more lines before c.args.bytes.now first _ c.args.self.now _ h (not_some c.args.self.now.over isnt) spent.0 spent.1 c.requires refl refl refl refl)
+    let seen = c.self.view_is in
+    let after : Dialogue = record {
+      laboratory = c.self.inside.laboratory;
+      line = c.self.inside.line;
+      left = c.self.inside.left;
+      waiting = c.self.inside.waiting.items;
+      over = Some TooMany;
+    } in
+    answered_same lines _ _ first _ after (all_taken before c.args.bytes.now)
+    (full_more lines before c.args.bytes.now first _ c.args.self.now after h (not_some c.args.self.now.over isnt) spent.0 spent.1 c.requires
+    refl (ap (λ (d : Dialogue). d.waiting) seen) (ap (λ (d : Dialogue). d.laboratory) seen) (ap (λ (d : Dialogue). d.left) seen))
 
 pub returns-in_err-hold-in-Some-clause-answered : goal.returns-in_err-hold-in-Some-clause-answered
 returns-in_err-hold-in-Some-clause-answered g c lines before first h =
