@@ -156,33 +156,63 @@ fn state_agrees(
     Ok(cached.cars() == state.road.cars() && fresh.cars() == state.road.cars())
 }
 
-// Tells whether a sheet shows the states that the run has at some steps, which goes on from its first state to each of
-// them: by one cache for all, and by none.
-fn states_agree(alloc: Global, sheet: &Sheet, first: &State, steps: &[u32]) -> Result<bool, Fail> {
-    let mut cache = QueryCache::new();
-    let mut last = copied(first)?;
+// Tells whether a sheet shows the states that the run has at some steps, which goes on from this state to each of them: by
+// one cache for all, and by none.
+fn states_agree_from(
+    alloc: Global,
+    sheet: &Sheet,
+    cache: &mut QueryCache,
+    state: &mut State,
+    steps: &[u32],
+) -> Result<bool, Fail>
+    requires { IsCacheOf sheet.now cache.old }
+    ensures { IsCacheOf sheet.now cache.new }
+{
     for place in steps {
-        let _ = go_on(alloc, sheet, &mut last, 0, (*place).min(sheet.horizon()))?;
-        if !state_agrees(alloc, sheet, &mut cache, &last)? {
+        let _ = go_on(alloc, sheet, state, 0, (*place).min(sheet.horizon()))?;
+        if !state_agrees(alloc, sheet, cache, state)? {
             return Ok(false);
         }
     }
     Ok(true)
 }
 
-// Tells whether a detector counts so in some steps of a sheet: asked twice by one cache, and by none.
-fn counts_so(
+// Tells whether a sheet shows the states that the run has at some steps, which goes on from its first state to each of
+// them.
+fn states_agree(alloc: Global, sheet: &Sheet, first: &State, steps: &[u32]) -> Result<bool, Fail> {
+    let mut last = copied(first)?;
+    let mut cache = QueryCache::new();
+    states_agree_from(alloc, sheet, &mut cache, &mut last, steps)
+}
+
+// Tells whether a detector counts so in some steps of a sheet: asked twice by a cache, and by none.
+fn counts_so_by(
     alloc: Global,
     sheet: &Sheet,
+    cache: &mut QueryCache,
     detector: u32,
-    (from, to): (u32, u32),
+    steps: (u32, u32),
     counted: Totals,
-) -> Result<bool, SheetFault> {
-    let mut cache = QueryCache::new();
+) -> Result<bool, SheetFault>
+    requires { IsCacheOf sheet.now cache.old }
+{
+    let (from, to) = steps;
     let cached = cache.totals(alloc, sheet, detector, from, to)?;
     let again = cache.totals(alloc, sheet, detector, from, to)?;
     let fresh = sheet.totals(alloc, detector, from, to)?;
     Ok(cached == counted && again == counted && fresh == counted)
+}
+
+// Tells whether a detector counts so in some steps of a sheet, by a new cache and by none.
+fn counts_so(
+    alloc: Global,
+    sheet: &Sheet,
+    detector: u32,
+    steps: (u32, u32),
+    counted: Totals,
+) -> Result<bool, SheetFault> {
+    let mut cache = QueryCache::new();
+    counts_so_by(alloc, sheet, &mut cache, detector, steps, counted)
 }
 
 // Tells whether what a detector counts in some steps is what it counts in them in the run that goes on from its first
@@ -401,15 +431,29 @@ fn steps_agree_twice(alloc: Global, sheet: &Sheet, cache: &mut QueryCache) -> Re
     Ok(once && twice)
 }
 
+// Tells whether a cache that is kept shows the steps of a sheet under other edits.
+fn shows_later_edits(alloc: Global, sheet: &Sheet, cache: &mut QueryCache) -> Result<bool, Fail>
+    requires { IsCacheOf sheet.now cache.old }
+{
+    let other = grow(alloc, sheet, LATER, 200)?.sheet;
+    cache.restart();
+    steps_agree(alloc, &other, cache)
+}
+
+// Tells whether a cache that is kept shows the steps of a sheet, and then under other edits.
+fn shows_both(alloc: Global, sheet: &Sheet, cache: &mut QueryCache) -> Result<bool, Fail>
+    requires { IsCacheOf sheet.now cache.old }
+{
+    let agrees = steps_agree_twice(alloc, sheet, cache)?;
+    Ok(shows_later_edits(alloc, sheet, cache)? && agrees)
+}
+
 // Tells whether a cache that is kept shows the steps of a road of some words, and then under other edits.
 fn cache_agrees(alloc: Global, words: WordKind) -> Result<bool, Fail> {
     let opening = opening(alloc, &Parts { words, ..MIXED })?;
     let sheet = grow(alloc, &opening, DATED, 200)?.sheet;
     let mut cache = QueryCache::new();
-    let agrees = steps_agree_twice(alloc, &sheet, &mut cache)?;
-    let other = grow(alloc, &sheet, LATER, 200)?.sheet;
-    cache.restart();
-    Ok(steps_agree(alloc, &other, &mut cache)? && agrees)
+    shows_both(alloc, &sheet, &mut cache)
 }
 
 #[test]
