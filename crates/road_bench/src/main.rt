@@ -19,7 +19,7 @@
 //! made for each step, and RUNS times by one of lasting workers, each time from step zero by a new crew of 1 to 16 workers.
 //! It prints how many runs gave these rows.
 //!
-//! `road_bench meetings WORKERS RUNS` takes a long road to step 256, RUNS times, each time by a new crew of 1 to 16 lasting
+//! `road_bench meetings WORKERS RUNS` takes a long road to step 1,152, RUNS times, each time by a new crew of 1 to 16 lasting
 //! workers, who run a stretch each, as the crew cuts this road by its own measure, and wait for each other before that. It
 //! prints in how many runs they all met.
 //!

@@ -16,12 +16,12 @@ use tests_plans::{LONG, Meeting, plan_of};
 // How often a worker looks for the others at most.
 const TURNS: u32 = 1_000_000;
 
-// The steps that the caller runs alone, until there are cars enough for two workers, beside whom the caller runs nothing
-// where it has no processor.
-const ALONE: u32 = 128;
+// The steps that the caller runs alone, until there are cars enough for 2 to 16 workers that have a processor each, as they
+// are told.
+const ALONE: u32 = 1_024;
 
 // Two intervals later: the workers are asked for each.
-const END: u32 = 256;
+const END: u32 = 1_152;
 
 // Answers whether all workers of a new lasting crew meet in each of two intervals of a new replica of the road.
 fn meet<R: Threads + Wait + Clock + Clone + Drop + Send + Sync + 'static>(
@@ -36,7 +36,8 @@ fn meet<R: Threads + Wait + Clock + Clone + Drop + Send + Sync + 'static>(
     let mut replica = Replica::open(alloc, Arc::try_clone(plan)?, 0)?;
     replica.advance(alloc, ALONE, &mut Alone, &mut Meter::new())?;
     let meeting = Arc::new(alloc, Meeting::new(rt.clone()?, workers, TURNS))?;
-    let mut crew = Pool::start_gated(rt.clone()?, alloc, workers, Arc::try_clone(&meeting)?)?;
+    let their_gate = Arc::try_clone(&meeting)?;
+    let mut crew = Pool::start_on(rt.clone()?, alloc, workers, their_gate, workers)?;
     let advanced = replica.advance(alloc, END, &mut crew, &mut Meter::new());
     crew.finish();
     advanced?;

@@ -35,12 +35,14 @@ pub fn insert<T: Copy>(column: &mut [T], place: usize, tail: usize, value: T)
     ensures long { length column.new ≡ length column.old }
     ensures put_in { (d : T) → IsPutIn column.old column.new place tail value d }
 {
-    column.copy_within(place..tail, place + 1);
+    if place < tail {
+        column.copy_within(place..tail, place + 1);
+    }
     column[place] = value;
 }
 
 /// Moves the kept places of sites on, where a car enters at a cell.
-#[inline(never)]
+#[inline(always)]
 pub fn move_places(sites: &[u16], places: &mut [u32], cell: u16)
     requires places { length places.old ≡ length sites.now }
     requires room { (d : ℕ) → d < length sites.now → slice_index places.old d + 1 < 2 ^ 32 }
@@ -54,7 +56,7 @@ pub fn move_places(sites: &[u16], places: &mut [u32], cell: u16)
 }
 
 /// Moves the kept places of sites on after the motion: at most one car passes a site in a step.
-#[inline(never)]
+#[inline(always)]
 pub fn move_on(cells: &[u16], sites: &[u16], places: &mut [u32])
     requires few { length cells.now < 2 ^ 32 }
     requires places { length places.old ≡ length sites.now }

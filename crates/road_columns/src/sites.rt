@@ -7,7 +7,7 @@ ghost use Rattle.road_columns.specs.Private.Sites.{counted, passes_of};
 /// Counts the cars that have passed sites in a step, by the places of the first cars before them: at most one car
 /// passes a site in a step. A car is counted as 65,536, and its speed in cells per step is added; nothing where a site
 /// is not watched.
-#[inline(never)]
+#[inline(always)]
 pub fn count(
     cells: &[u16],
     speeds: &[u8],

@@ -46,7 +46,7 @@ pub struct Extent {
 /// has the upper 16 bits of the inlets' words. `sites` are the cells of the inlets and the detectors and the first ones
 /// of the regions, and `places` has for each the place of the first car before it. `passes` has for each detector what
 /// it has counted in the span, a car as 65,536 and its speed. It takes no memory.
-#[inline(never)]
+#[inline(always)]
 pub fn step_in_columns(
     plan: &Plan,
     settings: &Settings,
@@ -187,7 +187,7 @@ pub fn step_in_columns(
 /// stand at the places from `head` to before `tail` of the columns, the one at the far end first. Their words stand in
 /// `rows`, one row of `width` words for each step of the span, those of the `entered` cars that have entered between
 /// others in `batches`. Returns the new head.
-#[inline(never)]
+#[inline(always)]
 fn move_cars(
     plan: &Plan,
     settings: &Settings,

@@ -25,7 +25,7 @@ use crate::faults::CrewFault;
 use crate::gate::{Gate, NoGate};
 use crate::kept_run::KeptRun;
 use crate::pool::job::{Job, Reply};
-use crate::pool::spin::{Lookout, has_processors};
+use crate::pool::spin::{Lookout, processors_of};
 use crate::pool::stepping::speeds_by;
 use crate::pool::working::{Ends, work};
 use crossbeam_channel::{Receiver, Sender, bounded};
@@ -57,8 +57,8 @@ pub struct Pool<R> {
     replies: Receiver<Reply>,
     // How the caller looks for a reply before it sleeps.
     lookout: Lookout,
-    // Whether the caller runs a stretch too, for which there is a processor.
-    is_helped: bool,
+    // How many processors its threads have.
+    processors: u32,
     // How often it has answered `WorkersGone`. After the first time no worker is asked.
     gone: u64,
 }
@@ -107,22 +107,43 @@ impl<R: Threads + Wait + Clone + Drop + Send + 'static> Pool<R> {
         ensures workers { IfOk result (λ pool. pool.workers ≡ workers) }
         ensures gone { IfOk result (λ pool. ⟦<Pool<R> as Crew>⟧.times_gone pool ≡ 0) }
     {
+        let processors = processors_of(&rt);
+        Pool::start_on(rt, alloc, workers, gate, processors)
+    }
+
+    /// Starts such a crew as it is on a machine of so many processors, however many there are. Its speeds and runs are the
+    /// same; workers run stretches only where each has a processor, and the caller one more where it has one besides.
+    ///
+    /// # Errors
+    ///
+    /// `WorkersGone` where a thread cannot be started, else `OutOfMemory` where an allocation failed.
+    pub fn start_on<G: Gate + Drop + Send + Sync + 'static>(
+        rt: R,
+        alloc: Global,
+        workers: u32,
+        gate: Arc<G>,
+        processors: u32,
+    ) -> Result<Pool<R>, CrewFault>
+        requires some { 0 < workers }
+        requires few { workers ≤ MOST_WORKERS }
+        ensures workers { IfOk result (λ pool. pool.workers ≡ workers) }
+        ensures gone { IfOk result (λ pool. ⟦<Pool<R> as Crew>⟧.times_gone pool ≡ 0) }
+    {
         let mut started = Vec::with_capacity(alloc, workers as usize)?;
         let (reply, replies) = bounded(alloc, workers as usize)?;
-        let all = start_workers(&rt, alloc, workers, &gate, &reply, &mut started);
+        let lookout = Lookout::of(workers, processors);
+        let all = start_workers(&rt, alloc, workers, lookout, &gate, &reply, &mut started);
         drop(reply);
         if let Err(fault) = all {
             finish_workers(&rt, replies, started);
             return Err(fault);
         }
-        let lookout = Lookout::of(&rt, workers);
-        let is_helped = has_processors(&rt, workers + 1);
         Ok(Pool {
             rt,
             workers: started,
             replies,
-            lookout,
-            is_helped,
+            lookout: Lookout::of(workers + 1, processors),
+            processors,
             gone: 0,
         })
     }
@@ -195,7 +216,7 @@ fn no_gate(alloc: Global) -> Result<Arc<NoGate>, OutOfMemory> {
     Ok(Arc::new(alloc, NoGate)?)
 }
 
-// Starts the workers in their order, up to the first that cannot be started.
+// Starts the workers in their order, up to the first that cannot be started. Each looks for a job before it sleeps.
 fn start_workers<
     R: Threads + Wait + Clone + Drop + Send + 'static,
     G: Gate + Drop + Send + Sync + 'static,
@@ -203,6 +224,7 @@ fn start_workers<
     rt: &R,
     alloc: Global,
     workers: u32,
+    lookout: Lookout,
     gate: &Arc<G>,
     replies: &Sender<Reply>,
     started: &mut Vec<Worker>,
@@ -210,7 +232,6 @@ fn start_workers<
     requires { vec_len started.old ≡ 0 }
     ensures { IsOk result → vec_len started.new ≡ workers }
 {
-    let lookout = Lookout::of(rt, workers);
     for worker in 0..workers {
         let new = start_worker(rt, alloc, worker, lookout, gate, replies)?;
         if started.push(new).is_err() {

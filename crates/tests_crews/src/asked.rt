@@ -11,14 +11,15 @@ use std::process::Abort;
 use std::sync::{Arc, Wait};
 use std::test::Fail;
 use std::thread::Threads;
-use tests_plans::{Counter, LONG, Parts};
+use tests_plans::{Counter, LONG};
 
-// How often workers are asked in a run of so many steps of a road of these parts, from a queue on so many cells.
+// How often workers are asked, on so many processors, in a run of so many steps of the long road, from a queue on so many
+// cells.
 fn asked<R: Threads + Wait + Clone + Drop + Send + 'static>(
     rt: &R,
     alloc: Global,
     workers: u32,
-    parts: &Parts,
+    processors: u32,
     cells: u32,
     steps: u32,
 ) -> Result<u32, Fail>
@@ -26,8 +27,9 @@ fn asked<R: Threads + Wait + Clone + Drop + Send + 'static>(
     requires few { workers ≤ 16 }
 {
     let gate = Arc::new(alloc, Counter::new())?;
-    let mut crew = Pool::start_gated(rt.clone()?, alloc, workers, Arc::try_clone(&gate)?)?;
-    let span = span_of(alloc, &shared_plan(alloc, parts)?, 0, 0, steps)?;
+    let their_gate = Arc::try_clone(&gate)?;
+    let mut crew = Pool::start_on(rt.clone()?, alloc, workers, their_gate, processors)?;
+    let span = span_of(alloc, &shared_plan(alloc, &LONG)?, 0, 0, steps)?;
     let road = queue(alloc, cells)?;
     let ran = crew.run(alloc, &span, &road, &mut KeptRun::none())?;
     crew.finish();
@@ -37,20 +39,23 @@ fn asked<R: Threads + Wait + Clone + Drop + Send + 'static>(
     Ok(gate.passed())
 }
 
-/// On the long road each worker is asked once in a run.
+/// On the long road each worker is asked once in a run, whether the caller has a processor besides or not.
 #[test]
 fn each_worker_is_asked_where_workers_pay(rt: HostRuntime) -> Result<(), Fail> {
-    assert!(rt; asked(&rt, rt.alloc(), 2, &LONG, 4_096, 64)? == 2);
-    assert!(rt; asked(&rt, rt.alloc(), 3, &LONG, 4_096, 64)? == 3);
-    assert!(rt; asked(&rt, rt.alloc(), 16, &LONG, 4_096, 64)? == 16);
+    for workers in [2, 3, 16] {
+        assert!(rt; asked(&rt, rt.alloc(), workers, workers, 4_096, 64)? == workers);
+        assert!(rt; asked(&rt, rt.alloc(), workers, workers + 1, 4_096, 64)? == workers);
+    }
     Ok(())
 }
 
-/// Nobody is asked on it where it has few cars, nor for few steps, nor for none: such a run is none.
+/// Nobody is asked on it where it has few cars, nor for few steps, nor where a worker has no processor, nor for no step:
+/// such a run is none.
 #[test]
 fn nobody_is_asked_where_workers_do_not_pay(rt: HostRuntime) -> Result<(), Fail> {
-    assert!(rt; asked(&rt, rt.alloc(), 3, &LONG, 5, 64)? == 0);
-    assert!(rt; asked(&rt, rt.alloc(), 3, &LONG, 200, 1)? == 0);
-    assert!(rt; asked(&rt, rt.alloc(), 3, &LONG, 4_096, 0)? == 0);
+    assert!(rt; asked(&rt, rt.alloc(), 3, 4, 600, 64)? == 0);
+    assert!(rt; asked(&rt, rt.alloc(), 3, 4, 4_096, 1)? == 0);
+    assert!(rt; asked(&rt, rt.alloc(), 3, 2, 4_096, 64)? == 0);
+    assert!(rt; asked(&rt, rt.alloc(), 3, 4, 4_096, 0)? == 0);
     Ok(())
 }

@@ -69,7 +69,8 @@ fn meet_in_runs<R: Threads + Wait + Clock + Abort + Clone + Drop + Send + Sync +
     requires few { workers ≤ 16 }
 {
     let meeting = Arc::new(alloc, Meeting::new(rt.clone()?, workers, TURNS))?;
-    let mut crew = Pool::start_gated(rt.clone()?, alloc, workers, Arc::try_clone(&meeting)?)?;
+    let their_gate = Arc::try_clone(&meeting)?;
+    let mut crew = Pool::start_on(rt.clone()?, alloc, workers, their_gate, workers)?;
     let road = queue(alloc, 4_096)?;
     let span = span_of(alloc, &shared_plan(alloc, &LONG)?, 0, 0, 64)?;
     let mut kept = KeptRun::none();

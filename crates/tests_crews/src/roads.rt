@@ -26,14 +26,15 @@ fn lasting_workers_run_random_roads_as_they_are_one_by_one(rt: HostRuntime) -> R
     let mut dice = Dice::of(64);
     for length in LENGTHS {
         let plan = Arc::new(alloc, random_plan(alloc, &mut dice, *length)?)?;
-        let cells = dice.below(plan.length().saturating_sub(plan.exit()));
+        let most = plan.length().saturating_sub(plan.exit());
+        let cells = most.saturating_sub(dice.below(most / 2));
         let mut courses = Vec::new(alloc);
         courses.push(worked(alloc, &plan, cells, SPANS)?)?;
-        pool_runs(&rt, alloc, 1, &plan, &courses)?;
-        pool_runs(&rt, alloc, 2, &plan, &courses)?;
-        pool_runs(&rt, alloc, 3, &plan, &courses)?;
-        pool_runs(&rt, alloc, 7, &plan, &courses)?;
-        pool_runs(&rt, alloc, 16, &plan, &courses)?;
+        pool_runs(&rt, alloc, 1, 2, &plan, &courses)?;
+        pool_runs(&rt, alloc, 2, 2, &plan, &courses)?;
+        pool_runs(&rt, alloc, 3, 4, &plan, &courses)?;
+        pool_runs(&rt, alloc, 7, 8, &plan, &courses)?;
+        pool_runs(&rt, alloc, 16, 16, &plan, &courses)?;
     }
     Ok(())
 }

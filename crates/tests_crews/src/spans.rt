@@ -10,7 +10,7 @@ use road_cells::Road;
 use road_detector::{Ran, Totals, passes};
 use road_ends::{Meter, Span, step_alone};
 use road_plan::{Plan, Settings};
-use road_workers::{Alone, Crew, KeptRun, Pool};
+use road_workers::{Alone, Crew, KeptRun, NoGate, Pool};
 use std::alloc::Global;
 use std::process::Abort;
 use std::sync::{Arc, Wait};
@@ -109,7 +109,7 @@ fn one_by_one(
 }
 
 /// Spans, one after another: the kind of settings and the steps of each.
-const SPANS: &[(u32, u32)] = &[(0, 64), (1, 64), (2, 63), (3, 1), (1, 7), (3, 33), (2, 64)];
+const SPANS: &[(u32, u32)] = &[(0, 64), (1, 64), (2, 63), (3, 1), (1, 21), (3, 33), (2, 64)];
 
 /// What spans come to one by one, from a queue.
 #[derive(Drop)]
@@ -173,18 +173,20 @@ fn runs_as_one_by_one<C: Crew>(
     Ok(())
 }
 
-/// Compares what so many lasting workers make of them.
+/// Compares what so many lasting workers make of them, on so many processors.
 pub(crate) fn pool_runs<R: Threads + Wait + Abort + Clone + Drop + Send + 'static>(
     rt: &R,
     alloc: Global,
     workers: u32,
+    processors: u32,
     plan: &Arc<Plan>,
     courses: &[Course<'_>],
 ) -> Result<(), Fail>
     requires some { 0 < workers }
     requires few { workers ≤ 16 }
 {
-    let mut crew = Pool::start(rt.clone()?, alloc, workers)?;
+    let gate = Arc::new(alloc, NoGate)?;
+    let mut crew = Pool::start_on(rt.clone()?, alloc, workers, gate, processors)?;
     let mut kept = KeptRun::none();
     for course in courses {
         runs_as_one_by_one(rt, alloc, &mut crew, plan, course, &mut kept)?;
@@ -194,7 +196,7 @@ pub(crate) fn pool_runs<R: Threads + Wait + Abort + Clone + Drop + Send + 'stati
 }
 
 /// How many cells are taken at first: none, a few, and so many that each worker has a stretch.
-const QUEUES: &[u32] = &[0, 200, 3_000];
+const QUEUES: &[u32] = &[0, 200, 8_000];
 
 // Makes what these spans come to from each queue.
 fn courses_of(alloc: Global, plan: &Arc<Plan>) -> Result<Vec<Course<'static>>, Fail> {
@@ -226,11 +228,12 @@ fn lasting_workers_run_spans_as_they_are_one_by_one(rt: HostRuntime) -> Result<(
     let alloc = rt.alloc();
     let plan = shared_plan(alloc, &LONG)?;
     let courses = courses_of(alloc, &plan)?;
-    pool_runs(&rt, alloc, 1, &plan, &courses)?;
-    pool_runs(&rt, alloc, 2, &plan, &courses)?;
-    pool_runs(&rt, alloc, 3, &plan, &courses)?;
-    pool_runs(&rt, alloc, 7, &plan, &courses)?;
-    pool_runs(&rt, alloc, 16, &plan, &courses)
+    pool_runs(&rt, alloc, 1, 1, &plan, &courses)?;
+    pool_runs(&rt, alloc, 1, 2, &plan, &courses)?;
+    pool_runs(&rt, alloc, 2, 2, &plan, &courses)?;
+    pool_runs(&rt, alloc, 3, 4, &plan, &courses)?;
+    pool_runs(&rt, alloc, 7, 7, &plan, &courses)?;
+    pool_runs(&rt, alloc, 16, 17, &plan, &courses)
 }
 
 /// Where a car stands in the exit, which no run of a plan has, nobody runs a span.

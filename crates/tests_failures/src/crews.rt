@@ -4,14 +4,14 @@ ghost use Rattle.std.specs.Prelude.{◌≡◌};
 
 use crate::roads::shared_plan;
 use crate::verdict::{Until, Verdict, accepted, judged};
-use road_cells::Road;
-use road_ends::{Meter, Span, StepInput, enter, step_alone};
+use road_cells::{Car, Road};
+use road_ends::{Span, StepInput, enter};
 use road_plan::{Plan, Settings, WordKind};
 use road_workers::{Alone, Crew, CrewFault, KeptRun, NoGate, Pool, Scoped};
 use std::alloc::Global;
 use std::sync::{Arc, Wait};
 use std::thread::Threads;
-use tests_plans::{Counter, DENSE, Parts};
+use tests_plans::{Counter, DENSE, Parts, road_of};
 
 /// The new speeds of the dense road's first step.
 const SPEEDS: &[u8] = &[0, 1, 0, 1, 0, 0, 1, 0, 1];
@@ -42,8 +42,8 @@ const LONG: Parts = Parts {
     words: WordKind::Seeded(7),
 };
 
-/// After so many steps the long road has cars enough for two workers.
-const BEFORE: u32 = 40;
+/// So many of its cells are crowded: there are cars enough for two workers.
+const CROWDED: u32 = 8_000;
 
 /// What a crew is asked.
 #[derive(Drop)]
@@ -85,28 +85,27 @@ fn first_speeds(alloc: Global) -> Option<Task> {
     Some(Task::Speeds(input))
 }
 
-// Computes a step of a road alone. Returns the road after it.
-fn stepped(alloc: Global, plan: &Arc<Plan>, step: u32, road: &Road) -> Option<Road> {
-    let Ok(settings) = Settings::of_plan(alloc, plan) else {
-        return None;
-    };
-    let done = step_alone(alloc, plan, settings, step, road, &mut Meter::new()).ok()?;
-    Some(done.road)
-}
-
-// Runs the long road up to where workers share it.
-fn worked(alloc: Global, plan: &Arc<Plan>) -> Option<Road> {
-    let mut road = Road::empty(alloc);
-    for step in 0..BEFORE {
-        road = stepped(alloc, plan, step, &road)?;
+// Makes a road with a car on each second cell.
+fn crowded(alloc: Global) -> Option<Road> {
+    let mut cars = Vec::new(alloc);
+    for cell in 0..CROWDED {
+        if cell % 2 == 0 {
+            let number = u64::from(cell);
+            let car = Car {
+                number,
+                cell,
+                speed: 0,
+            };
+            cars.push(car).ok()?;
+        }
     }
-    Some(road)
+    road_of(alloc, &cars).ok()
 }
 
-// Makes the task to run so many steps of the long road from there as a crew runs together.
+// Makes the task to run so many steps of the long road, which is crowded, as a crew runs together.
 fn long_run(alloc: Global) -> Option<Task> {
     let plan = shared_plan(alloc, &LONG)?;
-    let road = worked(alloc, &plan)?;
+    let road = crowded(alloc)?;
     let Ok(settings) = Settings::of_plan(alloc, &plan) else {
         return None;
     };
@@ -114,7 +113,7 @@ fn long_run(alloc: Global) -> Option<Task> {
         return None;
     };
     let gate = Arc::new(alloc, Counter::new()).ok()?;
-    Some(Task::Steps(Span::new(plan, settings, BEFORE, 64), road, gate))
+    Some(Task::Steps(Span::new(plan, settings, 0, 64), road, gate))
 }
 
 // Answers whether a crew gives what it is asked: these speeds; or steps for which it asks each of its workers, and whose
@@ -169,7 +168,7 @@ fn tried_pool<R: Threads + Wait + Clone + Drop + Send + 'static>(
         Task::Speeds(_) => started(rt, alloc, false)?.ok()?,
         Task::Steps(_, _, gate) => {
             let gate = Arc::try_clone(gate).ok()?;
-            Pool::start_gated(rt.clone().ok()?, alloc, WORKERS, gate).ok()?
+            Pool::start_on(rt.clone().ok()?, alloc, WORKERS, gate, WORKERS).ok()?
         }
     };
     let verdict = tried_task(alloc, until, &mut pool, task);

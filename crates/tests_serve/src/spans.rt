@@ -91,11 +91,11 @@ fn a_crew_fails_at_each_run(rt: HostRuntime) -> Result<(), Fail> {
     given
 }
 
-/// The long road of the scripts: three intervals of 64 steps. The first begins with an empty road.
+/// The long road of the scripts: six intervals of 64 steps, of which the first four begin with too few cars to be shared.
 const LONG: &str =
     r##"{"detectors":[520,2730,4095,4096,4100,5461,7700],"exit":3,"inlets":[[0,65536],[512,65536],[1024,65536],[1536,65536],[2048,65536],[2560,65536],[3072,65536],[3584,65536],[4096,65536],[4608,65536],[5120,65536],[5632,65536],[6144,65536],[6656,65536],[7168,65536],[7680,65536]],"length":8192,"replicas":["A"],"words":7,"zone":1024,"zones":[[9,0],[5,16384],[9,1000],[3,0],[9,32768],[7,8192],[9,0],[5,20000]]}
 {"advance":{"at":"A","to":64}}
-{"advance":{"at":"A","to":192}}
+{"advance":{"at":"A","to":384}}
 "##;
 
 // How often lasting workers are asked in a script that is answered so.
@@ -110,7 +110,8 @@ fn asked_in<R: Threads + Wait + Clone + Drop + Send + 'static>(
     requires few { workers ≤ 16 }
 {
     let gate = Arc::new(alloc, Counter::new())?;
-    let mut crew = Pool::start_gated(rt.clone()?, alloc, workers, Arc::try_clone(&gate)?)?;
+    let their_gate = Arc::try_clone(&gate)?;
+    let mut crew = Pool::start_on(rt.clone()?, alloc, workers, their_gate, workers)?;
     let mut writer = sink(alloc)?;
     let mut reader = MemorySource::new(script.as_bytes(), usize::MAX, Failing::Never);
     let ended = served(alloc, &mut reader, &mut writer, &mut crew)?;
@@ -121,10 +122,10 @@ fn asked_in<R: Threads + Wait + Clone + Drop + Send + 'static>(
     Ok(gate.passed())
 }
 
-/// Three workers share the second interval and the third.
+/// Three workers, who have a processor each, share the last two intervals.
 #[test]
 fn workers_share_the_long_road(rt: HostRuntime) -> Result<(), Fail> {
-    let answers = "{\"open\":1}\n{\"horizon\":64}\n{\"horizon\":192}\n";
+    let answers = "{\"open\":1}\n{\"horizon\":64}\n{\"horizon\":384}\n";
     assert!(rt; asked_in(&rt, rt.alloc(), 3, LONG, answers)? == 6);
     Ok(())
 }

@@ -48,9 +48,9 @@ impl<R: Wait> Pool<R> {
             return Ok(None);
         }
         let (cars, cells) = (road.cars().len(), span.plan().length());
-        let own = u32::from(self.is_helped);
-        let count = own + self.workers.len() as u32;
-        if !is_shared(cars, cells, span.steps(), count) {
+        let workers = self.workers.len() as u32;
+        let own = u32::from(workers < self.processors);
+        if workers > self.processors || !is_shared(cars, cells, span.steps(), own + workers) {
             return Ok(run_whole(alloc, span, road, kept)?);
         }
         let whole = Stretch {

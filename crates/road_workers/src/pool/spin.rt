@@ -5,8 +5,9 @@ use std::hint::spin_loop;
 use std::thread::{Threads, available_parallelism};
 
 // How often a thread looks for a message before it sleeps. That is for spans of 64 steps that come one right after
-// another: what the caller does between two of them is to fit in. How long a look takes depends on the machine.
-const LOOKS: u32 = 5_000;
+// another: what other threads take longer for their stretches, and what the caller does between two spans, is to fit in.
+// How long a look takes depends on the machine: 10 to 60 nanoseconds.
+const LOOKS: u32 = 100_000;
 
 // In how many waits at most a thread sleeps at once after it has looked in vain.
 const MOST_PAUSE: u32 = 63;
@@ -24,25 +25,21 @@ pub(crate) struct Lookout {
     left: u32,
 }
 
-// Answers whether so many threads have a processor each.
-pub(super) fn has_processors<R: Threads>(rt: &R, threads: u32) -> bool {
+// Returns how many processors there are; where that is not known, one.
+pub(super) fn processors_of<R: Threads>(rt: &R) -> u32 {
     match available_parallelism(rt) {
-        Ok(processors) => processors.get() >= threads as usize,
-        Err(_) => false,
+        Ok(processors) => u32::try_from(processors.get()).unwrap_or(u32::MAX),
+        Err(_) => 1,
     }
 }
 
 impl Lookout {
-    // Returns how each thread of a crew of so many workers looks: not at all where these have no processor each, for a
+    // Returns how each of so many threads looks on so many processors: not at all where they have none each, for a
     // spinning thread would keep another one from its work.
-    pub fn of<R: Threads>(rt: &R, workers: u32) -> Lookout {
-        let looks = if has_processors(rt, workers) {
-            LOOKS
-        } else {
-            0
-        };
+    pub fn of(threads: u32, processors: u32) -> Lookout {
+        let has_own = threads <= processors;
         Lookout {
-            looks,
+            looks: if has_own { LOOKS } else { 0 },
             pause: 0,
             left: 0,
         }
