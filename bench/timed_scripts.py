@@ -122,5 +122,12 @@ def timed(program, script):
     return spent, ended.stdout
 
 
+def measured(program, script):
+    """The seconds that a program takes for a script, its answers, and its greatest memory in MiB."""
+    begin = time.perf_counter()
+    ended = subprocess.run(["/usr/bin/time", "-f", "%M", program], input=script.encode(), capture_output=True, check=True)
+    return time.perf_counter() - begin, ended.stdout, int(ended.stderr.split()[-1]) / 1024
+
+
 def load():
     return f"load {os.getloadavg()[0]:.1f}"

@@ -8,8 +8,8 @@
      FAIL_COUNTS  a file of zeros, as long as struct counts, where the counts are kept
    Reads are those of standard input and of the script, writes those to standard output; others are let through.
    A thread's start first allocates a block, which it hands to the new thread: the allocation is known by where in the program it is
-   called. The counts name these places, and that of the allocation that failed. A list that is collected asks first for all its
-   room, and where it is refused for less: the counts say whether whoever was refused asked again at once. */
+   called. The counts name these places, and that of the allocation that failed. A lasting worker offers a refused result again: the
+   counts say whether whoever was refused asked again at once. */
 #define _GNU_SOURCE
 #include <dlfcn.h>
 #include <errno.h>

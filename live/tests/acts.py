@@ -1,17 +1,30 @@
-"""What a tab can do: put, take back, share, take; who wins, who lost to whom, and what is hidden."""
+"""What a tab can do: put, change, withdraw, raise, take back, share, take; who covers whom, and what is told of it."""
 from __future__ import annotations
 
 import asyncio
+import csv
+import io
+import os
+import signal
 from typing import Any
 
-from client import Refused, Seat
+from server.client import Refused, Seat
 from running import SMALL, Case, until
 
 LIMIT = ["limit", 2, 50]
+CLOSED = ["block", 60, 69, 30, 60, 1]
+SLOW = ["limit", 1, 3, 20, 80, 2]
 
 
 async def put(seat: Seat, key: str, *edits: list[Any], **more: Any) -> list[int]:
+    """Raw edits."""
     stamp: list[int] = (await seat.ask("gesture", key=key, edits=list(edits), **more))["stamp"]
+    return stamp
+
+
+async def lay(seat: Seat, key: str, shape: list[Any] | None, **more: Any) -> list[int]:
+    """A shape, or what becomes of one."""
+    stamp: list[int] = (await seat.ask("gesture", key=key, shape=shape, **more))["stamp"]
     return stamp
 
 
@@ -21,163 +34,196 @@ async def limit_at(seat: Seat, at: str = "") -> Any:
     return next((edit[5] for edit in edits if edit[:3] == LIMIT), "-")
 
 
+async def numbers(seat: Seat, at: str = "") -> dict[tuple[Any, ...], int]:
+    """The numbers that are put."""
+    edits = (await seat.ask("scenario", **({"at": at} if at else {})))["edits"]
+    return {tuple(edit[:3]): edit[5] for edit in edits if edit[5] is not None}
+
+
+async def lines(seat: Seat, at: str = "") -> dict[tuple[int, int], Any]:
+    """The whole list, by names."""
+    found: dict[tuple[int, int], Any] = {}
+    after, more = 0, True
+    while more:
+        said = await seat.ask("layers", **({"at": at} if at else {}), **{"from": after})
+        found.update({tuple(one["name"]): one for one in said["layers"] if "gone" not in one})
+        after, more = said["next"], said["more"]
+    return found
+
+
+def closed(first: int, last: int, begin: int, end: int) -> dict[tuple[Any, ...], int]:
+    """The numbers of a closure alone."""
+    return {("block", cell, step): value for cell in range(first, last + 1) for step, value in ((begin, 1), (end, 0))}
+
+
 class Acts(Case):
     async def asyncSetUp(self) -> None:
         self.a6 = self.server()
         self.ada = await self.enterAsyncContext(self.a6.seat("Ada"))
         self.ben = await self.enterAsyncContext(self.a6.seat("Ben"))
 
-    async def test_a_gesture_has_one_stamp_and_touches_from_its_first_step(self) -> None:
+    # Shapes
+
+    async def test_a_shape_has_one_stamp_and_touches_from_its_first_step(self) -> None:
+        said = await self.ada.ask("gesture", key="1", shape=CLOSED, note=" Closed\n3\u202e km\x00 ")
+        stamp = said["stamp"]
+        self.assertEqual((stamp[1], said["touched"]), (65, 30))
+        self.assertEqual(await numbers(self.ada), closed(60, 69, 30, 60))
+        line, = said["layers"]
+        self.assertEqual(line, (await lines(self.ada))[tuple(stamp)])
+        self.assertEqual([line[name] for name in ("name", "shape", "kind", "who", "note", "standing", "shared", "height")],
+                         [stamp, CLOSED, "block", "Ada", "Closed 3 km", True, False, stamp])
+        self.assertEqual(line["shown"], [["block", 60, 69, 30, 60, 1, None]])
+        self.assertAlmostEqual(line["when"], self.ada.welcome["time"], delta=60)
+        again = await self.ada.ask("gesture", key="1", shape=SLOW)
+        self.assertEqual((again["stamp"], again["again"], again["layers"]), (stamp, True, []))
+        self.assertEqual(await numbers(self.ada), closed(60, 69, 30, 60))
+
+    async def test_of_two_closures_that_overlap_each_can_be_withdrawn(self) -> None:
+        first = await lay(self.ada, "1", ["block", 60, 60, 30, 60, 1])
+        second = await lay(self.ada, "2", ["block", 60, 60, 20, 40, 1])
+        self.assertEqual(await numbers(self.ada), closed(60, 60, 20, 60))
+        await lay(self.ada, "3", None, layer=first)
+        self.assertEqual(await numbers(self.ada), closed(60, 60, 20, 40))
+        await lay(self.ada, "4", None, layer=second)
+        self.assertEqual(await numbers(self.ada), {})
+        self.assertEqual(await lines(self.ada), {})  # it was private: nothing of it is left to list
+
+    async def test_who_covers_whom_from_when_to_when(self) -> None:
+        old = await lay(self.ada, "old", ["limit", 2, 2, 20, 80, 1], note="long")
+        said = await self.ada.ask("gesture", key="new", shape=["limit", 2, 2, 40, 50, 3])
+        new = said["stamp"]
+        self.assertEqual({tuple(one["name"]) for one in said["layers"]}, {tuple(old), tuple(new)})  # what is other now
+        shown = next(one["shown"] for one in said["layers"] if one["name"] == old)
+        self.assertEqual(shown, [["limit", 2, 2, 20, 40, 1, None], ["limit", 2, 2, 40, 50, 1, new],
+                                 ["limit", 2, 2, 50, 80, 1, None]])
+        changed = await lay(self.ada, "change", ["limit", 2, 2, 20, 90, 2], layer=old)  # it stays where it is
+        self.assertEqual(await numbers(self.ada), {("limit", 2, 20): 2, ("limit", 2, 40): 3, ("limit", 2, 50): 2,
+                                                   ("limit", 2, 90): 5})
+        top = await self.ada.ask("gesture", key="top", layer=old, top=True)
+        self.assertEqual(await numbers(self.ada), {("limit", 2, 20): 2, ("limit", 2, 90): 5})
+        held = await lines(self.ada)
+        self.assertEqual(held[tuple(new)]["shown"], [["limit", 2, 2, 40, 50, 3, old]])  # wholly covered
+        self.assertEqual([one["does"] for one in held[tuple(old)]["operations"]], ["put", "change", "top"])
+        self.assertEqual([one["stamp"] for one in held[tuple(old)]["operations"]], [old, changed, top["stamp"]])
+        gone = await self.ada.ask("gesture", key="gone", layer=new, shape=None)  # it can be withdrawn all the same
+        self.assertEqual((gone["touched"], gone["layers"]), (None, [{"name": new, "gone": True}]))
+
+    async def test_undo_gives_back_exactly_what_was(self) -> None:
+        old = await lay(self.ada, "old", ["limit", 2, 2, 20, 80, 1])
+        await lay(self.ada, "new", ["limit", 2, 2, 40, 50, 3])
+        before = await numbers(self.ada), await lines(self.ada)
+        gone = await self.ada.ask("gesture", key="gone", layer=old, shape=None)
+        self.assertEqual((gone["undo"], gone["redo"]), (gone["stamp"], None))
+        back = await self.ada.ask("undo", key="back", stamp=gone["stamp"])
+        self.assertEqual(await numbers(self.ada), before[0])
+        self.assertEqual(back["redo"], back["stamp"])
+        after = await lines(self.ada)
+        self.assertEqual({name: line["shown"] for name, line in after.items()},
+                         {name: line["shown"] for name, line in before[1].items()})
+        await self.ada.ask("undo", key="again", stamp=back["redo"])
+        self.assertEqual(await numbers(self.ada), {("limit", 2, 40): 3, ("limit", 2, 50): 5})
+
+    async def test_z_takes_back_one_after_the_other_and_redo_puts_them_again(self) -> None:
+        states, undo = [await numbers(self.ada)], None
+        for count in range(4):
+            undo = (await self.ada.ask("gesture", key=f"g{count}", shape=["limit", count % 2, 2, 20 + count, 80, 1]))["undo"]
+            states.append(await numbers(self.ada))
+        redo = None
+        for count in range(4):
+            said = await self.ada.ask("undo", key=f"u{count}", stamp=undo)
+            undo, redo = said["undo"], said["redo"]
+            self.assertEqual(await numbers(self.ada), states[3 - count])
+        self.assertIsNone(undo)
+        for count in range(4):
+            said = await self.ada.ask("undo", key=f"r{count}", stamp=redo)
+            undo, redo = said["undo"], said["redo"]
+            self.assertEqual(await numbers(self.ada), states[1 + count])
+        self.assertIsNone(redo)
+        await self.ada.ask("undo", key="last", stamp=undo)
+        self.assertEqual(await numbers(self.ada), states[3])
+
+    async def test_what_is_pending_is_named_by_its_key(self) -> None:
+        asked = [("gesture", {"key": "a", "shape": CLOSED}), ("gesture", {"key": "b", "layer": "a", "shape": SLOW}),
+                 ("gesture", {"key": "c", "layer": "a", "top": True}), ("undo", {"key": "d", "stamp": "b"}),
+                 ("undo", {"key": "e", "stamp": "c"}), ("undo", {"key": "f", "stamp": "b"})]
+        said = await asyncio.gather(*(self.ada.reply(verb, at=self.ada.at, **fields) for verb, fields in asked))
+        self.assertEqual([one.get("refused") for one in said], [None, None, None, "nothing to take back", None,
+                                                                "nothing to take back"])
+        self.assertEqual(await numbers(self.ada), {("limit", zone, step): value for zone in (1, 2, 3)
+                                                   for step, value in ((20, 2), (80, 5))})
+        self.a6.again()
+        async with self.a6.seat(key=self.ada.key) as ada:  # keys are known after a restart, too
+            await ada.ask("gesture", key="g", layer="a", shape=None)
+            self.assertEqual(await numbers(ada), {})
+
+    async def test_refusals_of_shapes(self) -> None:
+        for refusal, why, shape in (
+                ("NoObject", "no zone 6", ["limit", 5, 6, 0, None, 1]), ("NoObject", "before its first", ["limit", 3, 2, 0, 9, 1]),
+                ("NoObject", "no cell 120", ["block", 119, 120, 0, 9, 1]), ("Step", "at most", ["limit", 1, 1, 1_048_576, None, 1]),
+                ("Step", "ends at step", ["limit", 1, 1, 5, 1_048_576, 1]), ("Range", "behind its beginning", ["limit", 1, 1, 5, 5, 1]),
+                ("ValueOutOfRange", "0 to 9", ["limit", 1, 1, 5, 6, 10]), ("not a command", "no number", ["limit", 1, 1, 5, 6, None]),
+                ("not a command", "no [kind", ["limit", 1, 1, 5, 6]), ("not a command", "no [kind", None),
+                ("not a command", "does not exist", ["lane", 1, 1, 5, 6, 1])):
+            said = await self.ada.reply("gesture", at=self.ada.at, key="k", shape=shape)
+            self.assertEqual(said.get("refused"), refusal, (shape, said))
+            self.assertIn(why, said["why"])
+        for refusal, fields in (("no such change", {"layer": [7, 65], "shape": None}), ("no such change", {"layer": "x", "top": True}),
+                                ("not a command", {"layer": [7, 65]}), ("not a command", {"layer": 7, "shape": None}),
+                                ("not a command", {"layer": [7, 65], "top": 1})):
+            self.assertEqual((await self.ada.reply("gesture", at=self.ada.at, key="k", **fields))["refused"], refusal)
+        self.assertEqual((await self.ada.ask("scenario"))["edits"], [])
+
+    async def test_a_shape_has_at_most_600_objects(self) -> None:
+        server = self.server(plan={**SMALL, "length": 1_300, "zone": 100, "zones": [[5, 0]] * 13, "detectors": []})
+        async with server.seat() as ada:
+            said = await ada.reply("gesture", at=ada.at, key="k", shape=["block", 0, 600, 5, 9, 1])
+            self.assertEqual(said["refused"], "too many objects")
+            for count in range(4):  # and yet more edits than an import has
+                await lay(ada, f"k{count}", ["block", 0, 599, 10 * count, 10 * count + 5, 1])
+            said = await ada.ask("gesture", key="all", shape=["block", 0, 599, 0, 100, 1])
+            self.assertEqual(await numbers(ada), closed(0, 599, 0, 100))
+            await ada.ask("undo", key="u", stamp=said["stamp"])
+            self.assertEqual(len(await numbers(ada)), 4 * 1_200)
+
+    # Raw edits
+
+    async def test_raw_edits_have_one_stamp(self) -> None:
         edits = [["block", 60, 30, 1], ["block", 61, 20, 1], ["block", 61, 40, 0]]
         said = await self.ada.ask("gesture", key="1", edits=edits)
-        self.assertEqual((said["stamp"], said["touched"]), ([1, 65], 20))
+        self.assertEqual((said["stamp"][1], said["touched"]), (65, 20))
         held = (await self.ada.ask("scenario"))["edits"]
-        self.assertEqual(held, [["block", 60, 30, 1, 65, 1], ["block", 61, 20, 1, 65, 1], ["block", 61, 40, 1, 65, 0]])
-        again = await self.ada.ask("gesture", key="1", edits=[["block", 60, 30, 1]])
-        self.assertEqual((again["stamp"], again["again"]), ([1, 65], True))
-        self.assertEqual((await self.ada.ask("scenario"))["edits"], held)
-        self.assertEqual(await put(self.ben, "1", [*LIMIT, 3]), [1, 66])  # another's key is another
+        self.assertEqual(held, [[*edit[:3], *said["stamp"], edit[3]] for edit in edits])
+        line, = said["layers"]
+        self.assertEqual((line["edits"], line["shape"], line["kind"]), (edits, None, "block"))
+        self.assertEqual(line["shown"], [["block", 61, 61, 20, 40, 1, None], ["block", 60, 60, 30, None, 1, None],
+                                         ["block", 61, 61, 40, None, 0, None]])
 
-    async def test_shape_note_and_time_are_told_back(self) -> None:
-        shape = ["block", 60, 61, 20, None, 1]
-        await put(self.ada, "1", ["block", 60, 20, 1], note=" Closed\n3\u202e km\x00 ", shape=shape)
-        gesture, = (await self.ada.ask("gestures"))["gestures"]
-        self.assertEqual((gesture["note"], gesture["shape"], gesture["who"], gesture["shared"]),
-                         ("Closed 3 km", shape, "Ada", False))
-        self.assertAlmostEqual(gesture["when"], self.ada.welcome["time"], delta=60)
-
-    async def test_what_is_shared_is_taken_and_the_greater_count_wins(self) -> None:
-        await put(self.ada, "1", [*LIMIT, 1])
-        await put(self.ben, "1", ["limit", 0, 5, 4])
-        await put(self.ben, "2", [*LIMIT, 3], ["limit", 3, 50, 3])
-        said = await self.ben.ask("send", name="shared", title="two")
-        self.assertEqual((said["size"], said["stamps"], said["touched"]), (3, [[1, 66], [2, 66]], 5))
-        self.assertEqual(await limit_at(self.ada), 1)
-        news = [one["news"] for one in self.ada.told if "news" in one][-1]
-        self.assertEqual((news["size"], news["from"], news["touched"], news["shares"][0]["title"]), (2, ["Ben"], 5, "two"))
-        took = await self.ada.ask("take", message="shared")
-        self.assertEqual((took["size"], took["touched"]), (3, 5))
-        self.assertEqual(took["lost"], [[[*LIMIT, 1, 65, 1], [*LIMIT, 2, 66, 3], "Ben", ""]])
-        self.assertEqual(await limit_at(self.ada), 3)
-        self.assertEqual((await self.ada.ask("take", message="shared"))["size"], 0)
-        self.assertEqual(await put(self.ada, "2", [*LIMIT, 2]), [3, 65])  # above all that it holds
-
-    async def test_whole_gestures_are_shared_losers_too(self) -> None:
-        await put(self.ada, "1", [*LIMIT, 1], ["limit", 3, 50, 1])
-        await put(self.ada, "2", [*LIMIT, 2])
-        self.assertEqual((await self.ada.ask("send", name="shared", stamps=[[1, 65]]))["size"], 2)
-        self.assertEqual(await limit_at(self.ada, "shared"), 1)
-        self.assertEqual((await self.ada.ask("send", name="shared"))["stamps"], [[2, 65]])
-        self.assertEqual(await limit_at(self.ada, "shared"), 2)
-        self.assertEqual((await self.ada.ask("send", name="shared"))["size"], 0)
-        self.assertTrue(all(one["shared"] for one in (await self.ada.ask("gestures"))["gestures"]))
-
-    async def test_undo_gives_back_what_had_lost(self) -> None:
-        await put(self.ada, "1", [*LIMIT, 1])
-        await self.ada.ask("send", name="shared")
-        await self.ben.ask("take", message="shared")
-        stamp = await put(self.ben, "1", [*LIMIT, 4], ["limit", 3, 50, 4])
-        await self.ben.ask("undo", key="2", stamp=stamp)
-        held = {tuple(edit[:3]): edit[5] for edit in (await self.ben.ask("scenario"))["edits"]}
-        self.assertEqual(held, {("limit", 2, 50): 1, ("limit", 3, 50): None})
-        with self.assertRaisesRegex(Refused, "nothing to take back"):
-            await self.ben.ask("undo", key="3", stamp=stamp)
-        with self.assertRaisesRegex(Refused, "no such change"):
-            await self.ben.ask("undo", key="4", stamp=[77, 66])
-        await self.ben.ask("undo", key="5", stamp=[stamp[0] + 1, 66])  # the undoing taken back
-        self.assertEqual(await limit_at(self.ben), 4)
-        with self.assertRaisesRegex(Refused, "nothing to take back"):  # another's, which is not in force
-            await self.ben.ask("undo", key="6", stamp=[1, 65])
-        self.assertEqual(await limit_at(self.ben), 4)
-
-    async def test_anothers_shared_change_is_taken_back(self) -> None:
-        await put(self.ada, "1", [*LIMIT, 1])
-        await self.ada.ask("send", name="shared")
-        await self.ben.ask("take", message="shared")
-        await self.ben.ask("undo", key="1", stamp=[1, 65])
-        self.assertEqual((await self.ben.ask("send", name="shared"))["stamps"], [[2, 66]])
-        self.assertEqual((await self.ada.ask("take", message="shared"))["lost"],
-                         [[[*LIMIT, 1, 65, 1], [*LIMIT, 2, 66, None], "Ben", ""]])
-
-    async def test_of_two_undone_in_turn_none_comes_back(self) -> None:
-        first = await put(self.ada, "1", [*LIMIT, 1])
-        second = await put(self.ada, "2", [*LIMIT, 2])
-        with self.assertRaisesRegex(Refused, "nothing to take back"):  # it has lost
-            await self.ada.ask("undo", key="3", stamp=first)
-        await self.ada.ask("undo", key="4", stamp=second)
-        self.assertEqual(await limit_at(self.ada), 1)
-        await self.ada.ask("undo", key="5", stamp=first)
-        self.assertEqual(await limit_at(self.ada), None)
-
-    async def test_what_was_taken_back_in_private_is_not_shared_and_hides_nothing(self) -> None:
-        await put(self.ben, "1", [*LIMIT, 4])
-        for count in range(3):
-            await put(self.ada, f"a{count}", ["limit", 0, 5 + count, 3])
-        stamp = await put(self.ada, "b", [*LIMIT, 1])
-        await self.ada.ask("undo", key="u", stamp=stamp)
-        self.assertEqual((await self.ada.ask("send", name="shared"))["stamps"], [[1, 65], [2, 65], [3, 65]])
-        self.assertEqual(await limit_at(self.ada, "shared"), "-")
-        await self.ben.ask("send", name="shared")
-        took = await self.ada.ask("take", message="shared")
-        self.assertEqual(took["lost"], [])
-        self.assertEqual(await limit_at(self.ada), 4)  # Ben's count is 1, and the undoing's 5
-        self.assertEqual([one["seat"] for one in await self.seats() if one["private"]], [])
-        self.assertEqual([one["hidden"] for one in (await self.ada.ask("changes"))["changes"]],
-                         [False] * 3 + [True, True, False, True])
-
-    async def seats(self) -> Any:
-        return (await self.ada.say("seats"))["seats"]
-
-    async def test_what_was_taken_back_long_ago_is_forgotten_and_never_comes_back(self) -> None:
-        server = self.server(LIVE_MOST_UNDONE="70")
-        async with server.seat() as ada:
-            await put(ada, "first", [*LIMIT, 1])
-            for count in range(80):
-                stamp = await put(ada, f"g{count}", [*LIMIT, 2], ["limit", 0, count, 2])
-                await ada.ask("undo", key=f"u{count}", stamp=stamp)
-            before = (await ada.ask("gestures"))["next"]
-            await put(ada, "last", ["limit", 1, 7, 3])
-            self.assertEqual([one["stamp"][0] for one in (await ada.ask("gestures", **{"from": before}))["gestures"]], [162])
-
-            async def is_shorter() -> bool:
-                await ada.reply("cells", at=ada.at, step=0)
-                return len((await ada.ask("gestures"))["gestures"]) < 150
-            await until(is_shorter, "the oldest are forgotten")
-            held = (await ada.ask("gestures"))["gestures"]
-            self.assertTrue(20 <= len(held) < 150, len(held))
-            self.assertEqual((held[0]["stamp"], held[-1]["stamp"]), ([1, 65], [162, 65]))
-            self.assertEqual((await ada.ask("undo", key="redo", stamp=[161, 65]))["stamp"], [163, 65])
-            self.assertEqual(await limit_at(ada), 2)
-            self.assertEqual((await ada.ask("send", name="shared"))["stamps"], [[1, 65], [160, 65], [162, 65]])
-            key, held = ada.key, (await ada.ask("scenario", at="shared"))["edits"]
-        server.again()
-        async with server.seat(key=key) as ada:
-            self.assertEqual((await ada.ask("scenario", at="shared"))["edits"], held)
-            self.assertEqual(await limit_at(ada), 2)
-
-    async def test_put_mine_again(self) -> None:
-        await put(self.ada, "1", [*LIMIT, 1], note="mine")
-        await put(self.ben, "1", ["limit", 0, 5, 4])
-        await put(self.ben, "2", [*LIMIT, 3])
-        await self.ben.ask("send", name="shared")
-        await self.ada.ask("take", message="shared")
-        change = next(one for one in (await self.ada.ask("changes"))["changes"] if one["stamp"] == [1, 65])
-        self.assertEqual((change["wins"], change["size"], [one["who"] for one in change["lost"]]), (0, 1, ["Ben"]))
-        said = await self.ada.ask("again", key="again", stamp=[1, 65])
-        self.assertEqual(said["stamp"], [3, 65])
-        self.assertEqual(await limit_at(self.ada), 1)
-        self.assertEqual((await self.ada.ask("change", stamp=[3, 65]))["wins"], [True])
+    async def test_a_shape_takes_the_place_of_raw_edits(self) -> None:
+        line = await put(self.ada, "1", ["limit", 2, 50, 1], ["limit", 2, 60, 5], shape=["limit", 2, 2, 50, 60, 1])
+        self.assertEqual((await lines(self.ada))[tuple(line)]["shape"], ["limit", 2, 2, 50, 60, 1])
+        stamp = await lay(self.ada, "2", ["limit", 2, 2, 50, 70, 1], layer=line)
+        self.assertEqual(await numbers(self.ada), {("limit", 2, 50): 1, ("limit", 2, 70): 5})
+        self.assertEqual({name: one["shape"] for name, one in (await lines(self.ada)).items() if one["standing"]},
+                         {tuple(stamp): ["limit", 2, 2, 50, 70, 1]})
+        await self.ada.ask("undo", key="3", stamp=stamp)
+        self.assertEqual(await numbers(self.ada), {("limit", 2, 50): 1, ("limit", 2, 60): 5})
+        await lay(self.ada, "4", None, layer=line)
+        self.assertEqual(await numbers(self.ada), {})
 
     async def test_edit_and_withdraw_of_the_format(self) -> None:
-        self.assertEqual((await self.ada.ask("edit", object=["limit", 2], step=50, value=3))["stamp"], [1, 65])
-        self.assertEqual((await self.ada.ask("withdraw", object=["limit", 2], step=50))["stamp"], [2, 65])
+        first = (await self.ada.ask("edit", object=["limit", 2], step=50, value=3))["stamp"]
+        self.assertEqual(await limit_at(self.ada), 3)
+        self.assertGreater((await self.ada.ask("withdraw", object=["limit", 2], step=50))["stamp"], first)
         self.assertEqual(await limit_at(self.ada), None)
 
-    async def test_pages_of_gestures(self) -> None:
-        for count in range(3):
-            await put(self.ada, str(count), [*LIMIT, count])
-        said = await self.ada.ask("gestures", **{"from": 2})
-        self.assertEqual((len(said["gestures"]), said["next"], said["more"]), (1, 3, False))
+    async def test_raw_edits_are_the_formats_in_any_order(self) -> None:
+        for count, (step, value) in enumerate(((15, 1), (10, 2), (30, 4), (20, 3))):
+            await put(self.ada, f"{count}", ["limit", 2, step, value])
+        self.assertEqual(await numbers(self.ada), {("limit", 2, 10): 2, ("limit", 2, 15): 1, ("limit", 2, 20): 3,
+                                                   ("limit", 2, 30): 4})
+        await put(self.ada, "gone", ["limit", 2, 15, None])
+        self.assertEqual(await numbers(self.ada), {("limit", 2, 10): 2, ("limit", 2, 20): 3, ("limit", 2, 30): 4})
 
     async def test_refusals_have_sentences_and_change_nothing(self) -> None:
         many = [["block", cell, step, 1] for cell in range(100) for step in range(12)] + [["block", 100, 0, 1]]
@@ -196,48 +242,282 @@ class Acts(Case):
             self.assertEqual(said["refused"], refusal, edits[:1])
             self.assertIn(why, said["why"])
         self.assertEqual((await self.ada.ask("scenario"))["edits"], [])
-        self.assertEqual((await self.ada.ask("gesture", key="k", edits=many[:1_200]))["stamp"], [1, 65])
+        self.assertEqual(len((await self.ada.ask("gesture", key="k", edits=many[:1_200]))["layers"]), 1)
 
-    async def test_the_preview_says_what_sharing_would_change(self) -> None:
-        await self.ada.say("clock", to=100)
-        await put(self.ben, "1", ["block", 60, 30, 1], ["block", 60, 40, 0])
-        await self.ben.ask("send", name="shared")
-        await put(self.ada, "1", ["limit", 0, 1, 2], note="slow")
-        await put(self.ada, "2", ["block", 60, 30, 0], note="open")
-        said = await self.ada.ask("preview", **{"from": 0, "to": 100})
-        self.assertEqual(said["overrules"], [[["block", 60, 30, 1, 66, 1], ["block", 60, 30, 2, 65, 0], "Ada", "open"]])
-        self.assertEqual(said["loses"], [])
-        late = await self.ada.ask("preview", **{"from": 50, "to": 100})  # of a time that begins behind the changes
-        self.assertEqual((await self.ada.ask("scenario", at="shared"))["edits"][0][5], 1)
-        for seat, name in ((self.ben, "before"), (self.ada, "after")):  # the same by the replicas themselves
-            if seat is self.ada:
-                await seat.ask("take", message="shared")
-            await seat.ask("advance", to=100)
-            counts = (await seat.ask("counts", **{"from": 0, "to": 100}))["counts"]
-            self.assertEqual(said[name]["detectors"], counts)
-            cars = [(await seat.ask("cars", step=step))["cars"] for step in range(101)]
-            for found, first in ((said, 0), (late, 50)):
-                self.assertAlmostEqual(found[name]["vehicle_hours"], sum(map(len, cars[first:])) / 3_600)
-                numbers = {car[0] for row in cars[first:] for car in row if first <= car[0] // 16 < 100}
-                self.assertEqual(found[name]["entered"], len(numbers))
-        self.assertEqual((await self.ada.ask("preview", stamps=[[2, 65]], to=100))["size"], 1)
+    # Sharing and taking
 
-    async def test_the_preview_says_what_taking_would_change(self) -> None:
-        await self.ada.say("clock", to=100)
-        await put(self.ben, "1", ["block", 60, 30, 1], ["block", 60, 40, 0])
+    async def test_what_is_shared_is_taken_and_the_later_one_is_on_top(self) -> None:
+        mine = await lay(self.ada, "1", ["limit", 2, 2, 50, 70, 1], note="mine")
+        one = await lay(self.ben, "1", ["limit", 0, 0, 5, None, 4])
+        other = await lay(self.ben, "2", ["limit", 2, 3, 50, 60, 3], note="his")
+        said = await self.ben.ask("send", name="shared", title="two")
+        self.assertEqual((said["size"], said["stamps"], said["touched"]), (2, [one, other], 5))
+        self.assertEqual(await limit_at(self.ada), 1)
+        news = [one["news"] for one in self.ada.told if "news" in one][-1]
+        self.assertEqual((news["size"], news["from"], news["touched"], news["shares"][0]["title"]), (2, ["Ben"], 5, "two"))
+        self.assertEqual([one["note"] for one in news["changes"]], ["", "his"])
+        took = await self.ada.ask("take", message="shared")
+        self.assertEqual((took["size"], took["touched"]), (2, 5))
+        covered = next(line for line in took["layers"] if line["name"] == mine)
+        self.assertEqual(covered["shown"], [["limit", 2, 2, 50, 60, 1, other], ["limit", 2, 2, 60, 70, 1, None]])
+        self.assertEqual(await numbers(self.ada), {("limit", 0, 5): 4, ("limit", 2, 50): 3, ("limit", 2, 60): 1,
+                                                   ("limit", 2, 70): 5, ("limit", 3, 50): 3, ("limit", 3, 60): 5})
+        self.assertEqual((await self.ada.ask("take", message="shared"))["size"], 0)
+        self.assertGreater(await lay(self.ada, "2", SLOW), other)  # above all that it holds
+
+    async def test_anothers_shared_change_is_withdrawn_and_taken_back(self) -> None:
+        mine = await lay(self.ada, "1", CLOSED, note="mine")
+        await self.ada.ask("send", name="shared")
+        await self.ben.ask("take", message="shared")
+        gone = await lay(self.ben, "1", None, layer=mine, note="open")
+        line = (await lines(self.ben))[tuple(mine)]
+        self.assertEqual((line["who"], line["standing"], line["shared"]), ("Ada", False, False))
+        self.assertEqual((await self.ben.ask("send", name="shared"))["stamps"], [gone])
+        took = await self.ada.ask("take", message="shared")
+        line, = took["layers"]
+        self.assertEqual([(one["who"], one["does"], one["note"], one["lost"]) for one in line["operations"]],
+                         [("Ada", "put", "mine", None), ("Ben", "withdraw", "open", None)])
+        self.assertEqual(await numbers(self.ada), {})
+        with self.assertRaisesRegex(Refused, "Ben changed it since"):
+            await self.ada.ask("undo", key="2", stamp=mine)
+
+    async def test_two_at_once_on_one_line(self) -> None:
+        line = tuple(await lay(self.ada, "1", CLOSED))
+        await self.ada.ask("send", name="shared")
+        await self.ben.ask("take", message="shared")
+        change = await lay(self.ada, "2", ["block", 60, 69, 30, 70, 1], layer=list(line))
+        gone = await lay(self.ben, "2", None, layer=list(line))
+        self.assertEqual(change[0], gone[0])  # at one time: the greater number wins
         await self.ben.ask("send", name="shared")
-        await put(self.ada, "1", ["limit", 0, 1, 2], note="slow")
-        said = await self.ada.ask("preview", **{"from": 0, "to": 100, "take": True})
-        self.assertEqual((said["size"], said["overrules"], said["loses"]), (2, [], []))
-        for name in ("before", "after"):  # the same by the replica itself
-            if name == "after":
-                await self.ada.ask("take", message="shared")
-            await self.ada.ask("advance", to=100)
-            self.assertEqual(said[name]["detectors"], (await self.ada.ask("counts", **{"from": 0, "to": 100}))["counts"])
-            cars = [(await self.ada.ask("cars", step=step))["cars"] for step in range(101)]
-            self.assertAlmostEqual(said[name]["vehicle_hours"], sum(map(len, cars)) / 3_600)
-        self.assertNotEqual(said["before"], said["after"])
-        self.assertEqual((await self.ada.ask("preview", to=100, take=True))["size"], 0)
+        await self.ada.ask("take", message="shared")
+        self.assertEqual(await numbers(self.ada), {})
+        told = {tuple(one["stamp"]): one["lost"] for one in (await lines(self.ada))[line]["operations"]}
+        self.assertEqual(told, {line: None, tuple(change): gone, tuple(gone): None})
+        await self.ada.ask("again", key="3", stamp=change)
+        self.assertEqual(await numbers(self.ada), closed(60, 69, 30, 70))
+        await self.ada.ask("send", name="shared")
+        await self.ben.ask("take", message="shared")
+        self.assertEqual(await numbers(self.ben), closed(60, 69, 30, 70))
+
+    async def test_operations_are_shared_in_part(self) -> None:
+        first = await lay(self.ada, "1", CLOSED)
+        second = await lay(self.ada, "2", ["block", 65, 74, 40, 80, 1])
+        self.assertEqual((await self.ada.ask("send", name="shared", stamps=[second]))["stamps"], [second])
+        self.assertEqual(await numbers(self.ada, "shared"), closed(65, 74, 40, 80))
+        self.assertEqual((await self.ada.ask("send", name="shared"))["stamps"], [first])
+        self.assertEqual(await numbers(self.ada, "shared"), {**closed(60, 64, 30, 60), **closed(65, 69, 30, 80),
+                                                             **closed(70, 74, 40, 80)})
+        self.assertEqual((await self.ada.ask("send", name="shared"))["size"], 0)
+        self.assertTrue(all(one["shared"] for one in (await lines(self.ada)).values()))
+
+    async def test_a_change_is_shared_without_its_put(self) -> None:
+        line = await lay(self.ada, "1", CLOSED)
+        change = await lay(self.ada, "2", ["block", 60, 69, 30, 70, 1], layer=line)
+        await self.ada.ask("send", name="shared", stamps=[change])
+        await self.ben.ask("take", message="shared")
+        self.assertEqual(await numbers(self.ben), closed(60, 69, 30, 70))
+        self.assertEqual((await self.ada.ask("send", name="shared"))["size"], 0)  # nothing is other than there
+        await self.ada.ask("send", name="shared", stamps=[line])
+        self.assertEqual(await numbers(self.ada, "shared"), closed(60, 69, 30, 70))
+
+    async def test_what_was_taken_back_in_private_is_not_shared_and_hides_nothing(self) -> None:
+        his = await lay(self.ben, "1", ["limit", 2, 2, 50, 80, 4])
+        for count in range(3):
+            await lay(self.ada, f"a{count}", ["limit", 0, 0, 5 + 10 * count, 10 + 10 * count, 3])
+        stamp = await lay(self.ada, "b", ["limit", 2, 2, 40, 70, 1])
+        await self.ada.ask("undo", key="u", stamp=stamp)
+        gone = await lay(self.ada, "c", CLOSED)
+        await lay(self.ada, "d", None, layer=gone)
+        self.assertEqual((await self.ada.ask("send", name="shared"))["size"], 3)
+        self.assertEqual([edit for edit in (await self.ada.ask("scenario", at="shared"))["edits"] if edit[1] != 0], [])
+        await self.ben.ask("send", name="shared")
+        took = await self.ada.ask("take", message="shared")
+        self.assertEqual([line["shown"] for line in took["layers"] if line["name"] == his],
+                         [[["limit", 2, 2, 50, 80, 4, None]]])
+        self.assertEqual({key: value for key, value in (await numbers(self.ada)).items() if key[1] == 2},
+                         {("limit", 2, 50): 4, ("limit", 2, 80): 5})
+        self.assertEqual([one["seat"] for one in (await self.ada.say("seats"))["seats"] if one["private"]], [])
+
+    async def test_what_was_taken_back_long_ago_is_forgotten_and_never_comes_back(self) -> None:
+        server = self.server(LIVE_MOST_UNDONE="70")
+        async with server.seat() as ada, server.seat("Ben") as ben:
+            for count in range(30):
+                await lay(ben, f"b{count}", ["limit", 2, 3, 3 * count, 3 * count + 2, 3])
+            first = await lay(ada, "first", ["limit", 2, 2, 20, 60, 1])
+            for count in range(80):
+                stamp = await lay(ada, f"g{count}", ["limit", 1, 3, count, count + 30, 2])
+                await ada.ask("undo", key=f"u{count}", stamp=stamp)
+            last = await lay(ada, "last", ["limit", 1, 1, 7, None, 3])
+
+            async def is_shorter() -> bool:
+                await ada.reply("cells", at=ada.at, step=0)
+                return len((await ada.ask("gestures"))["gestures"]) < 150
+            await until(is_shorter, "the oldest are forgotten")
+            road = {("limit", 2, 20): 1, ("limit", 2, 60): 5, ("limit", 1, 7): 3}
+            self.assertEqual(await numbers(ada), road)
+            redo = await ada.ask("undo", key="redo", stamp="u79")
+            self.assertEqual((await numbers(ada))["limit", 3, 79], 2)
+            await ada.ask("undo", key="unredo", stamp=redo["stamp"])
+            await ben.ask("send", name="shared")  # what is older than what was forgotten
+            await ada.ask("take", message="shared")
+            for _ in range(2):
+                held = await numbers(ada)
+                ends = {(zone, step): 1 if zone == 2 and 20 <= step < 60 else 5 for zone in (2, 3) for step in range(2, 90, 3)}
+                self.assertEqual(held, {("limit", 1, 7): 3, **{("limit", *end): value for end, value in ends.items()},
+                                        **{("limit", zone, step): 3 for zone in (2, 3) for step in range(0, 90, 3)}})
+                os.kill(server.program, signal.SIGKILL)  # another program: the same
+            self.assertEqual((await ada.ask("send", name="shared"))["stamps"], [first, last])
+
+    # Lists
+
+    async def test_the_list_comes_in_pieces_and_what_changed_alone(self) -> None:
+        for count in range(3):
+            await lay(self.ada, str(count), ["limit", count, count, 20, 40, 1])
+        said = await self.ada.ask("layers")
+        self.assertEqual((len(said["layers"]), said["more"]), (3, False))
+        again = await self.ada.ask("layers", **{"from": said["next"]})
+        self.assertEqual((again["layers"], again["next"]), ([], said["next"]))
+        new = await self.ada.ask("gesture", key="3", shape=["limit", 0, 0, 30, 50, 2])
+        self.assertEqual((new["since"], len(new["layers"])), (said["next"], 2))
+        self.assertEqual((await self.ada.ask("layers", **{"from": said["next"]}))["layers"], new["layers"])
+        await self.ada.ask("send", name="shared", stamps=[new["stamp"]])
+        flags = (await self.ada.ask("layers", **{"from": new["next"]}))["layers"]
+        self.assertEqual([(one["name"], one["shared"]) for one in flags], [(new["stamp"], True)])
+
+    async def test_the_table_of_changes_has_each_operation_and_who_covers_it(self) -> None:
+        line = await lay(self.ada, "1", ["limit", 2, 2, 60, 240, 1], note="=long")
+        await lay(self.ben, "1", ["limit", 2, 2, 120, 180, 3], note="short")
+        await self.ben.ask("send", name="shared")
+        await self.ada.ask("take", message="shared")
+        gone = await lay(self.ada, "2", CLOSED, note="closed")
+        await self.ada.ask("send", name="shared")
+        await lay(self.ada, "3", None, layer=gone, note="open")
+        table = list(csv.DictReader(io.StringIO((await self.ada.ask("csv", what="changes"))["csv"])))
+        self.assertEqual([(one["who"], one["what"], one["does"], one["shared"]) for one in table], [
+            ("Ada", "'=long", "put", "True"), ("Ben", "short", "put", "True"), ("Ada", "closed", "put", "True"),
+            ("Ada", "open", "withdraw", "False")])
+        self.assertEqual([table[0]["count"], table[0]["number"]], [str(line[0]), "65"])
+        self.assertEqual(table[0]["in force"], "limit 2-2 = 1, 0:01:00 to 0:02:00; limit 2-2 = 1, 0:03:00 to 0:04:00")
+        self.assertEqual(table[0]["covered"], "limit 2-2 = 1, 0:02:00 to 0:03:00 by Ben: short")
+        self.assertEqual((table[3]["in force"], table[3]["covered"]), ("", ""))
+
+
+class Previews(Case):
+    """What sharing or taking would change, beside the same done."""
+
+    async def asyncSetUp(self) -> None:
+        self.a6 = self.server()
+        self.ada = await self.enterAsyncContext(self.a6.seat("Ada"))
+        self.ben = await self.enterAsyncContext(self.a6.seat("Ben"))
+        await self.ada.say("clock", to=200)
+        self.his = await lay(self.ben, "1", ["block", 60, 60, 30, 90, 1], note="works")
+        await self.ben.ask("send", name="shared")
+        self.slow = await lay(self.ada, "1", ["limit", 0, 1, 1, None, 2], note="slow")
+        self.mine = await lay(self.ada, "2", ["block", 60, 62, 50, 70, 0], note="open")
+
+    async def picture(self, at: str, to: int = 200) -> Any:
+        """Rows and counts of a road, by plain questions."""
+        await self.ada.ask("advance", at=at, to=to)
+        return (await self.ada.ask("diagram", at=at, **{"from": 0, "to": to}),
+                await self.ada.ask("counts", at=at, **{"from": 0, "to": to}),
+                await self.ada.ask("sums", at=at, **{"from": 0, "to": 180}))
+
+    def seen(self, picture: Any) -> Any:
+        return [{name: value for name, value in one.items() if name not in ("id", "us")} for one in picture]
+
+    async def figures_are(self, said: Any, name: str, at: str, first: int) -> None:
+        """The figures of a road are those of the replica, by its cars."""
+        cars = [(await self.ada.ask("cars", at=at, step=step))["cars"] for step in range(first, 201)]
+        self.assertAlmostEqual(said[name]["vehicle_hours"], sum(map(len, cars[1:])) / 3_600)
+        numbers = {car[0] for row in cars for car in row if first <= car[0] // 16 < 200}
+        entered = [sum(number % 16 == inlet for number in numbers) for inlet in (0, 1)]
+        self.assertEqual(said[name]["entered"], entered)
+        counts = (await self.ada.ask("counts", at=at, **{"from": first, "to": 200}))["counts"]
+        self.assertEqual(said[name]["detectors"], counts)
+
+    async def test_sharing_is_compared_with_what_is_shared(self) -> None:
+        said = await self.ada.ask("preview", what="share")
+        self.assertEqual((said["size"], said["touched"]), (2, 1))
+        told = {tuple(one["name"]): (one["was"], one["shown"]) for one in said["layers"]}
+        self.assertEqual(told, {
+            tuple(self.slow): (None, [["limit", 0, 1, 1, None, 2, None]]),
+            tuple(self.mine): (None, [["block", 60, 62, 50, 70, 0, None]]),
+            tuple(self.his): ([["block", 60, 60, 30, 90, 1, None]],
+                              [["block", 60, 60, 30, 50, 1, None], ["block", 60, 60, 50, 70, 1, self.mine],
+                               ["block", 60, 60, 70, 90, 1, None]])})
+        figures = [await self.ada.ask("figures", of="preview", **{"from": first, "to": 200}) for first in (0, 100)]
+        pictures = {name: await self.picture(name) for name in ("before", "after")}
+        before = await self.picture("shared")
+        self.assertEqual(self.seen(pictures["before"]), self.seen(before))
+        for found, first in zip(figures, (0, 100)):
+            await self.figures_are(found, "before", "shared", first)
+        await self.ada.ask("send", name="shared")
+        self.assertEqual(self.seen(pictures["after"]), self.seen(await self.picture("shared")))
+        self.assertNotEqual(self.seen(pictures["before"]), self.seen(pictures["after"]))
+        for found, first in zip(figures, (0, 100)):
+            await self.figures_are(found, "after", "shared", first)
+        self.assertEqual(self.seen(await self.picture("before")), self.seen(before))  # they stay as they were
+
+    async def test_taking_is_compared_with_what_is_held(self) -> None:
+        said = await self.ada.ask("preview", what="take")
+        self.assertEqual((said["size"], said["touched"]), (1, 30))
+        told = {tuple(one["name"]): (one["was"], one["shown"]) for one in said["layers"]}
+        self.assertEqual(told, {tuple(self.his): (None, [
+            ["block", 60, 60, 30, 50, 1, None], ["block", 60, 60, 50, 70, 1, self.mine],
+            ["block", 60, 60, 70, 90, 1, None]])})
+        figures = await self.ada.ask("figures", of="preview", **{"from": 0, "to": 200})
+        self.assertEqual(self.seen(await self.picture("before")), self.seen(await self.picture(self.ada.at)))
+        await self.figures_are(figures, "before", self.ada.at, 0)
+        after = await self.picture("after")
+        await self.ada.ask("take", message="shared")
+        self.assertEqual(self.seen(after), self.seen(await self.picture(self.ada.at)))
+        await self.figures_are(figures, "after", self.ada.at, 0)
+
+    async def test_mine_is_compared_with_what_is_shared(self) -> None:
+        figures = await self.ada.ask("figures", of="mine", **{"from": 0, "to": 200})
+        for name, at in (("before", "shared"), ("after", self.ada.at)):
+            await self.ada.ask("advance", at=at, to=200)
+            await self.figures_are(figures, name, at, 0)
+
+    async def test_a_part_is_shared_in_the_preview(self) -> None:
+        said = await self.ada.ask("preview", what="share", stamps=[self.mine])
+        self.assertEqual((said["size"], said["touched"]), (1, 50))
+        self.assertEqual({tuple(one["name"]) for one in said["layers"]}, {tuple(self.mine), tuple(self.his)})
+
+    async def test_a_preview_is_asked_for_first(self) -> None:
+        for verb, fields in (("cells", {"at": "after", "step": 0}), ("advance", {"at": "before", "to": 5}),
+                             ("figures", {"at": self.ada.at, "of": "preview", "from": 0, "to": 5})):
+            self.assertEqual((await self.ada.reply(verb, **fields))["refused"], "no preview")
+        await self.ada.ask("preview", what="share")
+        self.assertEqual((await self.ada.ask("cells", at="after", step=0))["cells"], "." * 120)
+        await self.ada.ask("preview", what=None)
+        self.assertEqual((await self.ada.reply("cells", at="after", step=0))["refused"], "no preview")
+        self.assertEqual((await self.ada.reply("cells", at="after", step=0))["refused"], "no preview")
+        self.assertEqual((await self.ben.reply("cells", at="after", step=0))["refused"], "no preview")
+
+    async def test_demand_that_could_not_enter(self) -> None:
+        """Where no car is slowed an inlet that always asks lets in a car in its first step, the next one in the step after it
+        (which stands once), and from then on one each other step: so what is asked for is known, and what is lost, too. A
+        demand that is lowered is not lost."""
+        plan = {**SMALL, "zones": [[5, 0]] * 6, "inlets": [[0, 65_536], [40, 0]]}
+        server = self.server(plan=plan)
+        async with server.seat() as ada:
+            await ada.say("clock", to=300)
+            await lay(ada, "1", ["block", 50, 50, 60, 200, 1])  # a jam before it, to both inlets
+            await lay(ada, "2", ["inflow", 1, 1, 100, 250, 65_536])
+            await lay(ada, "3", ["inflow", 0, 0, 200, None, 0])
+            said = await ada.ask("figures", of="mine", **{"from": 30, "to": 290})
+            self.assertEqual(said["before"]["asked"], [(290 - 30) // 2, 0])
+            self.assertEqual(said["before"]["lost"], [0, 0])
+            self.assertEqual(said["after"]["asked"], [(200 - 30) // 2, 1 + (250 - 100) // 2])
+            for side, at in (("before", "shared"), ("after", ada.at)):
+                await ada.ask("advance", at=at, to=290)
+                cars = {car[0] for step in range(31, 291) for car in (await ada.ask("cars", at=at, step=step))["cars"]
+                        if 30 <= car[0] // 16 < 290}
+                entered = [sum(number % 16 == inlet for number in cars) for inlet in (0, 1)]
+                self.assertEqual(said[side]["entered"], entered)
+                self.assertEqual(said[side]["lost"], [asked - there for asked, there in zip(said[side]["asked"], entered)])
+            self.assertGreater(sum(said["after"]["lost"]), 60)
 
 
 class Seats(Case):
@@ -280,11 +560,11 @@ class Seats(Case):
             async with server.seat("one more"):
                 pass
         for seat in seats:
-            await seat.ask("gesture", key="1", edits=[["limit", 0, seat.welcome["seat"], 1]])
+            await lay(seat, "1", ["limit", 0, 0, seat.welcome["seat"], seat.welcome["seat"] + 1, 1])
             await seat.ask("send", name="shared")
         await seats[62].ask("take", message="shared")
-        self.assertEqual([edit[3:5] for edit in (await seats[62].ask("scenario"))["edits"]],
-                         [[1, 64 + count] for count in range(1, 64)])
+        self.assertEqual({name[1] for name in await lines(seats[62])}, set(range(65, 128)))
+        self.assertEqual(await numbers(seats[62]), {("limit", 0, 1): 1, ("limit", 0, 64): 5})
 
     async def test_a_seat_without_anything_private_is_freed_and_clean_for_the_next(self) -> None:
         server = self.server(LIVE_DAY="1")

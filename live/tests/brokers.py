@@ -8,8 +8,7 @@ import shutil
 import signal
 from typing import Any
 
-from client import Seat
-from journal import packed
+from server.client import Seat
 from road_lab import Edit, Plan, RoadLab
 from running import SMALL, Broker, Case, Server, end, new_folder, until
 
@@ -28,9 +27,13 @@ async def shared(seat: Seat) -> list[Any]:
     return edits
 
 
-def told(seat: Seat) -> list[str]:
+def broker_of(seat: Seat) -> dict[str, Any]:
     """What the page shows of the broker."""
-    return next((one["broker"]["told"] for one in reversed(seat.told) if "broker" in one), [])
+    return next((one["broker"] for one in reversed(seat.told) if "broker" in one), {})
+
+
+def told(seat: Seat) -> list[str]:
+    return list(broker_of(seat).get("told", []))
 
 
 class Brokers(Case):
@@ -126,12 +129,12 @@ class Brokers(Case):
                     ('{"edits":[["limit",1,8,1,70,1]],"form":3}', "no list"),
                     ('{"edits":[["limit",99,8,1,70,1]],"form":2}', "no zone 99"),
                     ('{"edits":[["limit",1,8,1,3,1]],"form":2}', "is a replica's"),
-                    ('{"edits":[["limit",1,20,281474976710656,70,1]],"form":2}', "281474976710656 would spend the counts"),
-                    ('["limit",1,21,1048600,70,1]', "1048600 would spend the counts"),
+                    ('{"edits":[["limit",1,20,281474976710656,70,1]],"form":2}', "[281474976710656, 70] of number 70 is more than a day"),
+                    ('["limit",1,21,2764800001,70,1]', "[2764800001, 70] of number 70 is more than a day ahead"),
                     ('{"edits":[[{},1]],"form":2}', "is none"),
                     ('{"edits":[["limit",1,8,"1",70,1]],"form":2}', "is none"),
                     ('{"edits":[["limit",1,8,1,70,1]],"form":2,"note":"\\ud800"}', "no message"),
-                    (" " * 140_000, "bytes"),
+                    (" " * 2_100_000, "bytes"),
                     (json.dumps({"edits": [["block", 1, step, 1, 70, 1] for step in range(1_201)], "form": 2}), "no list")):
                 broker.say(topic, text)
                 await until(lambda: self.is_told(why, ada, sam), why)
@@ -143,17 +146,21 @@ class Brokers(Case):
                                           "note": 7, "shape": [1], "undoes": "x", "when": "now"}))
             await self.same(ada, sam, edits=5)
             came = (await ada.ask("gestures", at="shared"))["gestures"][-1]
-            self.assertLessEqual(len(came["who"]), 40)
+            self.assertLessEqual(len(came["who"]), 64)
             self.assertTrue(came["who"].isprintable())
 
     async def is_told(self, why: str, *seats: Seat) -> bool:
         return all(any(why in sentence for sentence in told(seat)) for seat in seats)
 
+    async def stays(self, why: str, *seats: Seat) -> bool:
+        """Whether a panel says so that stays."""
+        return all(any(why in sentence for sentence in broker_of(seat).get("stays", [])) for seat in seats)
+
     async def test_one_number_twice_is_told_and_nothing_is_mixed(self) -> None:
         broker = self.broker()
         first, second = self.site(broker, 7), self.site(broker, 7)
         async with first.seat("Ada") as ada, second.seat("Sam") as sam:
-            await until(lambda: self.is_told("has this site's number, 7", ada, sam), "one number twice")
+            await until(lambda: self.stays("has this site's number, 7", ada, sam), "one number twice")
             await put(ada, ["limit", 2, 80, 1])
             await put(sam, ["limit", 2, 80, 2])
             await asyncio.sleep(4)  # so long that both have announced themselves once more
@@ -171,13 +178,14 @@ class Brokers(Case):
         second = Server(copy, None, "--broker", broker.address)
         self.addCleanup(lambda: end(second.process))
         async with first.seat("Ada") as ada, second.seat("Sam") as sam:
-            await until(lambda: self.is_told("has this site's number, 7", ada, sam), "one number twice")
+            await until(lambda: self.stays("has this site's number, 7", ada, sam), "one number twice")
 
     async def test_another_seed_is_told(self) -> None:
         broker = self.broker()
         first, second = self.site(broker, 1), self.site(broker, 2, {**SMALL, "words": 2})
         async with first.seat("Ada") as ada, second.seat("Sam") as sam:
-            await until(lambda: self.is_told("has another road", ada, sam), "another road")
+            await until(lambda: self.stays("has another road", ada, sam), "another road")
+            self.assertEqual(broker_of(ada)["sites"], [])
             await put(ada, ["limit", 2, 80, 1])
             await until(lambda: self.broker_is(ada, "connected", 0), "it came back")
             self.assertEqual(await shared(sam), [])
@@ -209,4 +217,4 @@ def reference(server: Server) -> str:
     """By which sites know that they have the same road."""
     import hashlib
     plan = server.journal()[0]["lab"]["plan"]
-    return hashlib.sha256(packed({**plan, "replicas": 0}).encode()).hexdigest()[:16]
+    return hashlib.sha256(json.dumps({**plan, "replicas": 0}, sort_keys=True).encode()).hexdigest()[:16]

@@ -33,6 +33,15 @@ COLOURS = {"0": (0x44, 0x01, 0x54), "1": (0x41, 0x44, 0x87), "2": (0x2a, 0x78, 0
            "#": (0xe6, 0x61, 0x00), ".": (0xff, 0xff, 0xff)}
 
 
+# The page's modules, whose names are made known to the scripts of tests.
+MODULES = [path.name for path in sorted((LIVE / "page").glob("*.mjs")) if path.stem != "main"]
+MODULES_KNOWN = """
+    return Promise.all(arguments[0].map((name) => import(`/page/${name}`))).then((modules) => {
+      for (const {begin, ...names} of modules) Object.assign(window, names);
+      window.hasModules = true;
+    });"""
+
+
 def example_rows(which: int) -> list[str]:
     """The rows of a diagram of the example: 0 closed from step 12 on, 1 from 12 to 24; both begin at step 12, or 24."""
     with open(TOP / "examples" / "closed_cell.out", encoding="utf-8") as replies:
@@ -50,8 +59,8 @@ def gestures_of(server: Server) -> list[dict[str, Any]]:
 
 
 def edits_of(gesture: dict[str, Any]) -> list[list[Any]]:
-    """Its edits as [kind, index, step, value]."""
-    return [[*edit[:3], edit[-1]] for edit in gesture["edits"]]
+    """Its edits as [kind, index, step, value], by objects and steps."""
+    return sorted([*edit[:3], edit[-1]] for edit in gesture["edits"])
 
 
 class Tab:
@@ -79,6 +88,9 @@ class Tab:
     # What there is
 
     def script(self, text: str, *words: Any) -> Any:
+        """What a script returns, in which the names of the page's modules are known."""
+        if not self.driver.execute_script("return window.hasModules ?? !document.getElementById('diagram')"):
+            self.driver.execute_script(MODULES_KNOWN, MODULES)
         return self.driver.execute_script(text, *words)
 
     def part(self, ident: str) -> Any:
@@ -99,9 +111,9 @@ class Tab:
 
     def settled(self) -> None:
         """Waits until all is confirmed, asked for and drawn, and the figures say it."""
-        self.until(lambda: self.script("return live.pending.size === 0 && asking === 0 && !live.line.queue.length && "
-                                       "[...live.line.open.values()].every(({command}) => command.preview) && "
-                                       "!drawingAsked && !live.idle && !figures.asking"), "quiet")
+        self.until(lambda: self.script("return store.pending.size === 0 && store.asking === 0 && !store.line.waits() && "
+                                       "[...store.line.open.values()].every(({command}) => command.figures) && "
+                                       "!store.drawing && !store.idle && !store.figures.asking"), "quiet")
         self.driver.execute_async_script("const done = arguments[0];"
                                          "setTimeout(() => requestAnimationFrame(() => done()), 200)")
 
@@ -222,6 +234,15 @@ class Tab:
         ActionChains(self.driver, duration=0).move_to_element_with_offset(
             self.part("diagram"), *self.place(cell, step)).perform()
         return self.text("readout")
+
+
+def before_rows(tab: Tab) -> dict[str, tuple[float, ...]]:
+    """The table of what sharing or taking would change: now, then, the change."""
+    tab.until(lambda: tab.script("return document.querySelector('#before table') !== null"), "the figures")
+    rows = tab.script("return [...document.querySelectorAll('#before tbody tr')].map((line) => "
+                      "[...line.children].map((one) => one.textContent))")
+    number = lambda text: float(text.replace(",", "").replace("−", "-").replace("+", "") or "nan")
+    return {name: tuple(map(number, values)) for name, *values in rows}
 
 
 class BrowserCase(Test):

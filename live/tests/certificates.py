@@ -1,7 +1,10 @@
 """Other hosts reach the server by TLS alone."""
 from __future__ import annotations
 
+import asyncio
+import contextlib
 import os
+import socket
 import ssl
 import subprocess
 import sys
@@ -9,7 +12,7 @@ from typing import Any
 
 import aiohttp
 
-from client import Seat
+from server.client import Seat
 from running import LIVE, PATIENCE, Case, end, free_port, mosquitto, new_folder, started, until
 
 
@@ -34,6 +37,17 @@ class Certificates(Case):
             with self.assertRaises((aiohttp.ClientError, ssl.SSLError)):
                 async with Seat(address, self.authority, name="Ben"):
                     pass
+
+    async def test_who_does_not_shake_hands_is_not_waited_for(self) -> None:
+        server = self.server("--listen", "0.0.0.0", "--name", "localhost", "--certificate", self.both)
+        port = int(server.address.partition("/#")[0].rpartition(":")[2])
+        silent = [(await asyncio.open_connection("127.0.0.1", port)) for _ in range(300)]
+        async with Seat(server.address, self.authority, name="Ada") as ada:
+            self.assertEqual((await ada.reply("ping"))["pong"], {})
+        for reader, writer in silent:  # they are cut long before a minute is over
+            with contextlib.suppress(ConnectionError):
+                self.assertEqual(await asyncio.wait_for(reader.read(), 40), b"")
+            writer.close()
 
     async def test_a_broker_by_tls_and_a_password(self) -> None:
         folder, port = self.certificate.parent, free_port()
@@ -61,10 +75,24 @@ class Certificates(Case):
             self.assertEqual((await eve.ask("scenario", at="shared"))["edits"], [])
 
     def test_without_a_certificate_nobody_else_is_let_in(self) -> None:
-        for more, why in (([], "--listen wants --certificate"), (["--certificate", str(LIVE / "serve")], "no certificate")):
-            command = [sys.executable, LIVE / "serve", "--folder", new_folder(), "--port", "0", "--listen", "0.0.0.0"]
-            ran = subprocess.run([*command, *more], capture_output=True, text=True, timeout=PATIENCE, check=False)
-            self.assertNotEqual(ran.returncode, 0)
-            self.assertEqual(ran.stdout, "")
-            self.assertIn(why, ran.stderr)
-            self.assertNotIn("Traceback", ran.stderr)
+        self.refused("--listen wants --certificate", "--listen", "0.0.0.0")
+        self.refused("no certificate", "--listen", "0.0.0.0", "--name", "x", "--certificate", str(LIVE / "serve"))
+
+    def test_who_listens_everywhere_says_by_which_name(self) -> None:
+        for everywhere in ("0.0.0.0", "::"):
+            self.refused(f"--listen {everywhere} wants --name", "--listen", everywhere, "--certificate", self.both)
+
+    def test_a_port_in_use_names_the_option(self) -> None:
+        with socket.socket() as taken:
+            taken.bind(("127.0.0.1", 0))
+            taken.listen()
+            self.refused("Address already in use: another --port may be free", "--port", str(taken.getsockname()[1]))
+
+    def refused(self, why: str, *options: str) -> None:
+        """A server that does not start, and says why."""
+        command = [sys.executable, LIVE / "serve", "--folder", new_folder(), "--port", "0", *options]
+        ran = subprocess.run(command, capture_output=True, text=True, timeout=PATIENCE, check=False)
+        self.assertNotEqual(ran.returncode, 0)
+        self.assertEqual(ran.stdout, "")
+        self.assertIn(why, ran.stderr)
+        self.assertNotIn("Traceback", ran.stderr)

@@ -6,11 +6,11 @@ import os
 import random
 import signal
 import time
-from typing import Any
+from typing import Any, Callable
 
 from aiohttp import ClientError
 
-from client import Seat
+from server.client import Seat
 from running import PATIENCE, SMALL, Case, Server, until
 
 ROUNDS = 10
@@ -30,10 +30,10 @@ class Engineer:
     def seat(self, server: Server) -> Seat:
         return server.seat(key=self.key) if self.key else server.seat(self.name)
 
-    async def burst(self, seat: Seat) -> None:
-        """Until the server is gone."""
+    async def burst(self, seat: Seat, is_enough: Callable[[], bool] = lambda: False) -> None:
+        """Until the server is gone, or that is enough."""
         try:
-            while True:
+            while not is_enough():
                 key = f"{self.name}-{self._chance.getrandbits(60):x}"
                 step = self._chance.randrange(LAST)
                 self.sent[key] = [["block", self._chance.randrange(5, 55), step, 1],
@@ -45,6 +45,11 @@ class Engineer:
                     await seat.ask("take", message="shared")
         except (ConnectionError, ClientError):
             pass
+
+
+def raw_edits(gesture: dict[str, Any]) -> list[list[Any]]:
+    """What was sent of a gesture; its edits are those by which the road becomes so."""
+    return [[*name, value] for name, value, *_ in gesture["lays"]]
 
 
 class Crashes(Case):
@@ -85,8 +90,8 @@ class Crashes(Case):
                 held = {tuple(one["stamp"]): one for one in (await seat.ask("gestures"))["gestures"]}
                 shared = {tuple(one["stamp"]) for one in (await seat.ask("gestures", at="shared"))["gestures"]}
                 for key, stamp in engineer.confirmed.items():
-                    self.assertEqual(held[tuple(stamp)]["edits"], engineer.sent[key])
-                own = [stamp for stamp in held if stamp[1] == seat.welcome["number"]]
+                    self.assertEqual(raw_edits(held[tuple(stamp)]), engineer.sent[key])
+                own = [stamp for stamp, one in held.items() if stamp[1] == seat.welcome["number"] and "lays" in one]
                 self.assertEqual(len(own), len(engineer.confirmed))
                 self.assertLessEqual(engineer.shared, shared)
                 scenario = {tuple(edit[:3]): tuple(edit[3:5]) for edit in (await seat.ask("scenario"))["edits"]}
@@ -160,7 +165,7 @@ class Crashes(Case):
                 number += 1
                 if number % 50 == 49:
                     made += 1
-                    await ben.ask("gesture", key=f"k{number}", edits=[["limit", 2, made % LAST, 2]])
+                    await ben.ask("gesture", key=f"k{number}", edits=[["limit", 2, made % LAST, 1 + made % 2]])
                 said = await (ada, ben)[number % 2].ask("cells", step=number % 10)
                 self.assertEqual(said["cells"], rows["rows"][number % 10] if number % 2 == 0 else said["cells"])
             self.assertEqual((await ada.ask("diagram", **{"from": 0, "to": LAST}))["rows"], rows["rows"])

@@ -6,7 +6,7 @@ import random
 import unittest
 from typing import Any
 
-from turns import MORE, Job, Turns
+from server.turns import MORE, Job, Turns
 
 
 class FairTurns(unittest.IsolatedAsyncioTestCase):

@@ -3,13 +3,14 @@ from __future__ import annotations
 
 import asyncio
 import json
+import os
 import statistics
 import time
 from typing import Any
 
 import aiohttp
 
-from client import Seat
+from server.client import Seat
 from running import PATIENCE, Case, Server, until
 
 
@@ -59,7 +60,8 @@ class Frames(Case):
 
     async def test_no_other_files_are_served(self) -> None:
         for path in ("/serve", "/lab.py", "/token", "/plan.json", "/../token", "/%2e%2e/token", "/page/..%2f..%2ftoken",
-                     "/page/%2e%2e", "/page/../lab.py", "/page/a.py", "/tests/hostile.py", "/drawing.js/",
+                     "/page/%2e%2e", "/page/../lab.py", "/page/a.py", "/page/README.md", "/tests/hostile.py",
+                     "/tests/line.test.mjs", "/drawing.js/",
                      "//etc/passwd"):
             reader, writer = await asyncio.open_connection("127.0.0.1", int(self.base.rpartition(":")[2]))
             writer.write(f"GET {path} HTTP/1.1\r\nHost: {self.base[7:]}\r\nConnection: close\r\n\r\n".encode())
@@ -168,7 +170,7 @@ class Frames(Case):
                     ("diagram", {"at": bad.at, "from": 0, "to": 5}, "NotSimulated"),
                     ("diagram", {"at": bad.at, "from": 0, "to": 0, "every": 0}, "Range"),
                     ("diagram", {"at": bad.at, "from": 0, "to": 0, "cells": [0, 120]}, "Range"),
-                    ("means", {"at": bad.at, "from": 0, "to": 70_000, "every": 9, "wide": 9}, "Range"),
+                    ("means", {"at": bad.at, "from": 0, "to": 70, "every": 9, "wide": 9}, "not a command"),
                     ("sums", {"at": bad.at, "from": 0, "to": 7_260}, "Range"),
                     ("sums", {"at": bad.at, "from": 30, "to": 90}, "Range"),
                     ("sums", {"at": bad.at, "from": 0, "to": 60}, "NotSimulated"),
@@ -181,6 +183,14 @@ class Frames(Case):
                     ("gesture", {"at": bad.at, "edits": edits, "key": "k" * 41}, "not a command"),
                     ("gesture", {"at": bad.at, "edits": edits, "key": "k", "stamp": [9, 65]}, "not a command"),
                     ("gesture", {"at": bad.at, "edits": edits, "key": "k", "note": 7}, "not a command"),
+                    ("gesture", {"at": bad.at, "edits": [["limit", 1, -5, 1]], "key": "k"}, "not a command"),
+                    ("gesture", {"at": bad.at, "edits": [["limit", 1, 5, -1]], "key": "k"}, "not a command"),
+                    ("gesture", {"at": bad.at, "shape": ["block", 60, 61, -1, None, 1], "key": "k"}, "not a command"),
+                    ("gesture", {"at": bad.at, "shape": ["block", -1, 61, 5, None, 1], "key": "k"}, "not a command"),
+                    ("gesture", {"at": bad.at, "shape": ["block", 60, 120, 5, None, 1], "key": "k"}, "NoObject"),
+                    ("site", {"at": bad.at, "key": "k", "site": 1, "out": True}, "own site"),
+                    ("site", {"at": bad.at, "key": "k", "site": 0, "out": True}, "Range"),
+                    ("site", {"at": "shared", "key": "k", "site": 2, "out": True}, "not your replica"),
                     ("gesture", {"at": bad.at, "edits": edits, "key": "k", "shape": ["x"]}, "not a command"),
                     ("undo", {"at": bad.at, "stamp": [1 << 49, 65], "key": "k"}, "not a command")):
                 said = await bad.reply(verb, **fields) if isinstance(fields, dict) else await self.other(bad, verb, fields)
@@ -193,6 +203,31 @@ class Frames(Case):
     async def other(self, seat: Seat, verb: str, fields: Any) -> Any:
         replies = await self.raw(self.hello("other"), json.dumps({"id": 9, verb: fields}))
         return replies[1]
+
+
+class Crowds(Case):
+    async def test_sockets_without_a_token_lock_nobody_out(self) -> None:
+        """Many that ask nothing, that never end what they ask, and that never say hello; tabs that were there stay."""
+        server = self.server()
+        base, _, _ = server.address.partition("/#")
+        host = base.rpartition("/")[2]
+        async with server.seat("Ada") as ada:
+            head = f"GET /live HTTP/1.1\r\nHost: {host}\r\nOrigin: {base}\r\n"
+            upgrade = ("Upgrade: websocket\r\nConnection: Upgrade\r\nSec-WebSocket-Version: 13\r\n"
+                       "Sec-WebSocket-Key: AAAAAAAAAAAAAAAAAAAAAA==\r\n\r\n")
+            for said in ("", head, head + upgrade):
+                for _ in range(150):
+                    _, writer = await asyncio.open_connection("127.0.0.1", int(host.rpartition(":")[2]))
+                    self.addCleanup(writer.close)
+                    writer.write(said.encode())
+            async with server.seat("Ben") as ben:
+                self.assertEqual((await ben.reply("ping"))["pong"], {})
+            await until(lambda: self.are_few(server), "most of them are cut")
+            self.assertEqual((await ada.reply("ping"))["pong"], {})
+
+    async def are_few(self, server: Server) -> bool:
+        """Files and sockets that the server has open."""
+        return len(os.listdir(f"/proc/{server.process.pid}/fd")) < 110
 
 
 class Neighbours(Case):

@@ -2,8 +2,12 @@
 from __future__ import annotations
 
 import asyncio
+import binascii
+import contextlib
+import errno
 import itertools
 import json
+import os
 import resource
 import subprocess
 import sys
@@ -11,10 +15,11 @@ import unittest
 from typing import Any
 
 import running
-from client import Seat
-from journal import Broken, Journal, NotWritten, lock, read
-from running import LIVE, Case
-from state import State
+from faulty import Disk
+from server.client import Seat
+from server.journal import Broken, Journal, NotWritten, lock, put_in_place, read
+from running import LIVE, SMALL, Case
+from server.state import State
 
 GESTURES = [{"gesture": {"seat": 1, "key": f"k{count}", "stamp": [count, 65], "who": "Ada", "when": 1,
                          "note": "Closed é €",
@@ -22,8 +27,11 @@ GESTURES = [{"gesture": {"seat": 1, "key": f"k{count}", "stamp": [count, 65], "w
             for count in range(1, 4)]
 
 
-def line_of(entry: dict[str, Any]) -> bytes:
-    return json.dumps(entry, ensure_ascii=False, separators=(",", ":")).encode() + b"\n"
+def line_of(entry: dict[str, Any], sum_as: str | None = "crc") -> bytes:
+    """As `journal.py` says; without a checksum as older journals have it."""
+    text = json.dumps(entry, ensure_ascii=False, separators=(",", ":")).encode()
+    summed = f',"{sum_as}":"{binascii.crc32(text):08x}"}}'.encode() if sum_as else b"}"
+    return text[:-1] + summed + b"\n"
 
 
 class Reading(unittest.TestCase):
@@ -42,10 +50,34 @@ class Reading(unittest.TestCase):
             self.assertEqual(size, sum(map(len, self.lines[:whole])), cut)
 
     def test_a_broken_line_is_named(self) -> None:
-        for broken in (b"{\n", b"7\n", b'{"a":{},"b":{}}\n', b'{"gesture":[]}\n', b"\xff\n", b"[" * 3_000 + b"\n", b"\n"):
-            self.path.write_bytes(self.lines[0] + broken + self.lines[1])
-            with self.assertRaisesRegex(Broken, "line 2"):
-                read(self.path)
+        good = self.lines[1]
+        for broken in (b"{\n", b"7\n", b'{"a":{},"b":{}}\n', b'{"gesture":[]}\n', b"\xff\n", b"[" * 3_000 + b"\n", b"\n",
+                       good.replace(b"49", b"48"), good.replace(b'"crc":"', b'"crc":"0'), good[:20] + bytes(30) + good[50:]):
+            for more in (good, line_of(GESTURES[1], None), *([] if 0 in broken else [b""])):
+                self.path.write_bytes(self.lines[0] + broken + more)
+                with self.assertRaisesRegex(Broken, "line 2"):
+                    read(self.path)
+
+    def test_older_lines_have_no_checksum(self) -> None:
+        old = [line_of(entry, None) for entry in GESTURES[:2]]
+        self.path.write_bytes(b"".join([*old, self.lines[2]]))
+        self.assertEqual(read(self.path), (GESTURES, self.path.stat().st_size))
+        self.path.write_bytes(b"".join([*old, self.lines[2][:-9]]))
+        self.assertEqual(read(self.path), (GESTURES[:2], len(b"".join(old))))
+
+    def test_what_of_a_write_is_zero_was_never_confirmed(self) -> None:
+        """A disk that lost its current may have any of the blocks of the last write: the others are zero."""
+        whole, last = self.lines[0], line_of(GESTURES[1]) + line_of(GESTURES[2], "and")
+        for begin in range(0, len(last), 7):
+            for end in (begin + 1, begin + 40, len(last)):
+                torn = last[:begin] + bytes(len(last[begin:end])) + last[end:]
+                self.path.write_bytes(whole + torn)
+                entries, size = read(self.path)
+                kept = 1 + (begin >= len(line_of(GESTURES[1])))
+                self.assertEqual((entries, size), (GESTURES[:kept], sum(map(len, self.lines[:kept]))), (begin, end))
+        self.path.write_bytes(whole + bytes(len(last)) + self.lines[2])  # a later write: the zeros were confirmed
+        with self.assertRaisesRegex(Broken, "line 2"):
+            read(self.path)
 
     def test_a_folder_is_held_by_one(self) -> None:
         with lock(self.path.parent), self.assertRaisesRegex(Broken, "another server"), lock(self.path.parent):
@@ -71,16 +103,26 @@ class Writing(unittest.IsolatedAsyncioTestCase):
         resource.setrlimit(resource.RLIMIT_FSIZE, (journal.size + 20, old[1]))
         try:
             waiting = [journal.write(entry) for entry in GESTURES[1:]]
-            results = await asyncio.gather(*waiting, return_exceptions=True)
+            results = await asyncio.gather(*waiting, journal.settled(), return_exceptions=True)
+            with self.assertRaises(OSError):
+                await journal.mend(GESTURES[1])
         finally:
             resource.setrlimit(resource.RLIMIT_FSIZE, old)
-        self.assertEqual([type(one) for one in results], [NotWritten] * 2)
+        self.assertEqual([type(one) for one in results], [NotWritten] * 3)
         self.assertEqual(self.path.read_bytes(), line_of(GESTURES[0]))
         with self.assertRaises(NotWritten):  # what it stands on may not be there
             await journal.write(GESTURES[1])
-        self.assertEqual(journal.mend(), GESTURES[:1])
+        self.assertEqual(journal.confirmed(), GESTURES[:1])
+        await journal.mend(GESTURES[1])
         await journal.write(GESTURES[2])
-        self.assertEqual(read(self.path)[0], [GESTURES[0], GESTURES[2]])
+        self.assertEqual(read(self.path)[0], GESTURES)
+
+    async def test_lines_of_one_write_say_so(self) -> None:
+        journal = Journal(self.path, 0)
+        await journal.write(GESTURES[0])
+        await asyncio.gather(*map(journal.write, GESTURES[1:]))
+        self.assertEqual(self.path.read_bytes(),
+                         b"".join(map(line_of, GESTURES, ("crc", "crc", "and"))))
 
     async def test_compaction_loses_nothing_that_is_written_meanwhile(self) -> None:
         journal = Journal(self.path, 0)
@@ -91,6 +133,34 @@ class Writing(unittest.IsolatedAsyncioTestCase):
         await short
         self.assertEqual(read(self.path)[0], GESTURES[1:])
         self.assertEqual(journal.size, self.path.stat().st_size)
+        self.assertEqual(self.path.stat().st_mode & 0o777, 0o600)
+
+
+    async def test_a_shorter_journal_that_may_not_last_takes_nothing(self) -> None:
+        """Where the folder cannot be synced the old one may stand there again, without what came since."""
+        journal = Journal(self.path, 0)
+        await journal.write(GESTURES[0])
+        with Disk() as disk:
+            disk.fault = lambda _, name: errno.EIO if disk.calls[-2:] == ["rename", "fsync"] else None
+            await journal.compact(lambda: [GESTURES[1]])
+            with self.assertRaises(NotWritten):
+                await journal.write(GESTURES[2])
+            disk.fault = lambda *_: None
+            await journal.mend(GESTURES[2])
+        self.assertEqual(journal.confirmed(), GESTURES[1:])
+
+    async def test_what_is_put_in_place_is_whole_or_not_there(self) -> None:
+        """Whichever call fails: the old file or the new one."""
+        self.path.write_bytes(b"old")
+        with Disk() as disk:
+            disk.fault = lambda call, _: errno.ENOSPC if call == number else None
+            for number in range(1, 6):
+                disk.calls.clear()
+                with contextlib.suppress(OSError):
+                    os.close(put_in_place(self.path, [b"ne", b"w"]))
+                self.assertEqual(self.path.read_bytes(), b"new" if number > 4 else b"old", number)
+                self.assertEqual([one.name for one in self.path.parent.iterdir()], [self.path.name])
+            self.assertEqual(disk.calls, ["write", "write", "fsync", "rename"])
 
 
 def seen(state: State) -> Any:
@@ -139,6 +209,55 @@ class Folders(Case):
             with self.assertRaisesRegex(RuntimeError, "line 2"):
                 server.start()
             self.assertEqual(path.read_bytes(), good + broken + line_of({"clock": {"rate": 0, "now": 5}}))
+
+    async def test_a_token_is_written_whole_and_one_that_is_not_lets_nobody_in(self) -> None:
+        server = self.server()
+        server.kill()
+        path = server.folder / "token"
+        token = path.read_text()
+        self.assertEqual((len(token), path.stat().st_mode & 0o777), (24, 0o600))
+        for short in ("", "\n", token[:15]):
+            path.write_text(short)
+            with self.assertRaisesRegex(RuntimeError, "token has [0-9]+ signs.*nobody is let in"):
+                server.start()
+            self.assertEqual(path.read_text(), short)
+        path.unlink()
+        (server.folder / "token.new").write_text("half")  # a crash before it was renamed
+        server.start()
+        self.assertTrue(server.address.endswith(path.read_text()))
+        self.assertNotEqual(path.read_text(), token)
+        self.assertFalse((server.folder / "token.new").exists())
+
+    async def test_a_server_starts_where_little_can_be_written(self) -> None:
+        """What is there can be looked at."""
+        server = self.server()
+        async with server.seat() as seat:
+            await self.shared(seat, 1)
+        server.kill()
+        (server.folder / "address.new").mkdir()
+        size = (server.folder / "journal.jsonl").stat().st_size
+        old = resource.getrlimit(resource.RLIMIT_FSIZE)
+        server.log = running.new_folder() / "server.log"
+        resource.setrlimit(resource.RLIMIT_FSIZE, (size, old[1]))
+        try:
+            server.start()
+        finally:
+            resource.setrlimit(resource.RLIMIT_FSIZE, old)
+        async with server.seat(key=seat.key) as seat:
+            self.assertEqual(len((await seat.ask("scenario"))["edits"]), 1)
+            said = await seat.reply("gesture", at=seat.at, key="x", edits=[["limit", 2, 50, 1]])
+            self.assertEqual(said["refused"], "not written")
+
+    async def test_a_plan_that_is_refused_leaves_a_folder_that_can_be_used(self) -> None:
+        folder = running.new_folder()
+        for plan, why in (({**SMALL, "length": 7}, "the program refuses the plan: Length"), ({"a": 1}, "refuses the plan")):
+            with self.assertRaisesRegex(RuntimeError, why):
+                running.Server(folder, plan)
+        (folder / "journal.jsonl").write_bytes(line_of({"lab": {}})[:-3])  # what was begun was never confirmed
+        server = running.Server(folder, SMALL)
+        self.addCleanup(lambda: running.end(server.process))
+        async with server.seat() as seat:
+            self.assertEqual(seat.welcome["plan"]["length"], SMALL["length"])
 
     async def test_a_second_server_in_a_folder_says_so(self) -> None:
         server = self.server()
@@ -227,5 +346,5 @@ class Folders(Case):
             first.apply(entry)
         for entry in json.loads(json.dumps(list(first.entries()))):
             second.apply(entry)
-        self.assertEqual(len(first.unsent), 10)
+        self.assertEqual(len(first.unsent), 9)  # one of Ben is of a place where Ada has shared a later one
         self.assertEqual(seen(first), seen(second))

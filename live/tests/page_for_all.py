@@ -25,10 +25,10 @@ class ForAll(BrowserCase):
             "button", "radio", "checkbox", "combobox", "textbox", "spinbutton", "application", "table", "region",
             "complementary", "group", "list", "heading", "DisclosureTriangle", "link")]
         self.assertEqual(nameless, [])
-        for wanted in (("application", "Space-time diagram"), ("complementary", "Changes"), ("timer", ""),
+        for wanted in (("application", "Space-time diagram"), ("complementary", "Figures and changes"), ("timer", ""),
                        ("radio", "close C"), ("radio", "difference D"), ("spinbutton", None), ("list", "Not shared yet"),
                        ("button", "Withdraw: 54 km/h, 0–0.375 km, 0:20:00–0:30:00"), ("checkbox", "follow it"),
-                       ("textbox", "from km"), ("columnheader", "mine − shared"), ("status", ""), ("banner", ""), ("main", "")):
+                       ("textbox", "from km"), ("columnheader", "mine −\u00a0shared"), ("status", ""), ("banner", ""), ("main", "")):
             role, name = wanted
             if wanted == ("spinbutton", None):
                 continue
@@ -74,6 +74,36 @@ class ForAll(BrowserCase):
                 return [top, bottom];""")
             self.assertTrue(0 <= top < bottom <= height, (width, top, bottom))
             tab.press("Not now")
+
+    def test_all_is_in_sight_beside_the_picture(self) -> None:
+        tab, = self.open(FREEWAY)
+        tab.run_an_hour()
+        tab.tool("block")
+        tab.in_figures(kmFrom="3", kmTo="3.15", timeFrom="0:20", timeTo="0:30")
+        tab.script("$('others').textContent = ', with Benjamin, Cleopatra and Dorothea'")
+        self.addCleanup(tab.driver.execute_cdp_cmd, "Emulation.clearDeviceMetricsOverride", {})
+        for width, height in ((1366, 768), (1920, 1080)):
+            tab.driver.execute_cdp_cmd("Emulation.setDeviceMetricsOverride",
+                                       {"width": width, "height": height, "deviceScaleFactor": 1, "mobile": False})
+            tab.settled()
+            for kind in ("look", "block", "limit", "inflow", "slow", "start", "watch"):
+                tab.tool(kind)
+                boxes = tab.script("""
+                    const box = (one) => { const {left, top, right, bottom} = one.getBoundingClientRect();
+                                           return [left, top, right, bottom]; };
+                    const parts = (of) => [...document.querySelectorAll(of)]
+                      .filter((one) => one.checkVisibility() && one.getBoundingClientRect().height > 5).map(box);
+                    return {tools: parts("#tools, #values > *, #undo, #redo"), head: parts("header > *"),
+                            form: parts("#exact > *:not(.hidden)"), figures: parts("#figures tr"),
+                            diagram: parts("#diagram"), all: parts("html")};""")
+                for name in ("tools", "head", "form"):  # each a row: all of it stands beside each other
+                    self.assertLess(max(top for _, top, _, _ in boxes[name]),
+                                    min(bottom for _, _, _, bottom in boxes[name]), (name, kind, width))
+                (_, top, right, _), = boxes["diagram"]
+                for box in boxes["figures"]:
+                    self.assertTrue(right <= box[0] < box[2] <= width and 0 <= box[1] < box[3] <= height, (kind, width, box))
+            self.assertLessEqual(boxes["all"][0][3], height)  # the page itself does not scroll
+            self.assertLess(top, 160)
 
     def test_what_is_said_is_seen_beside_the_diagram(self) -> None:
         tab, = self.open(FREEWAY)
@@ -157,7 +187,7 @@ class ForAll(BrowserCase):
         tab.press("60×")
         seen, now = set[int](), 0
         while now < 600:
-            now, step = tab.script("return [live.now(), Math.round(look.step)]")
+            now, step = tab.script("return [now(), Math.round(store.look.step)]")
             seen.add(step)
         tab.press("Pause")
         # The diagram has stood still, or jumped by a quarter of its 300 seconds.

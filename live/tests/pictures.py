@@ -1,46 +1,22 @@
-"""Rows, mean speeds, counts and what is saved, beside the same by plain questions."""
+"""Rows, counts and what is saved, beside the same by plain questions."""
 from __future__ import annotations
 
 import csv
 import io
 import json
-import random
 import subprocess
 import unittest
 from typing import Any
 
-import rows
-import saving
-from program import LONG_ROAD, command_of
-from client import Refused
+from server import saving
+from server.program import LONG_ROAD, command_of
+from server.client import Refused
 from running import SMALL, Case, program
 
 LAST = 150
 
 
-def plain_mean(cells: str) -> str:
-    """The sign of a block, said as plainly as can be."""
-    speeds, is_closed = [int(cell) for cell in cells if cell.isdigit()], "#" in cells
-    if not speeds:
-        return "#" if is_closed else "."
-    return "!" if is_closed else rows.SIGNS.decode()[int(7 * sum(speeds) / len(speeds) + 0.5)]
-
-
-def plain_means(picture: list[str], every: int, wide: int) -> list[str]:
-    return ["".join(plain_mean("".join(row[left:left + wide] for row in picture[top:top + every]))
-                    for left in range(0, len(picture[0]), wide)) for top in range(0, len(picture), every)]
-
-
-class Means(unittest.TestCase):
-    def test_blocks_of_random_rows(self) -> None:
-        chance = random.Random(3)
-        for count, width, wide in ((1, 8, 3), (25, 50, 7), (26, 50, 50), (60, 33, 1), (7, 100, 99)):
-            picture = ["".join(chance.choice("..#012349" if chance.random() < 0.5 else ".") for _ in range(width))
-                       for _ in range(count)]
-            found = rows.means([row.encode() for row in picture], wide).decode()
-            self.assertEqual([found], plain_means(picture, count, wide))
-        self.assertEqual(rows.means([b"9" * 40] * 300, 40), b"_")  # no sum is too great
-
+class Programs(unittest.TestCase):
     def test_threads_are_for_long_roads(self) -> None:
         self.assertEqual(command_of("p", {"length": LONG_ROAD - 1}), ["p"])
         self.assertIn(command_of("p", {"length": LONG_ROAD})[1:2], ([], ["--workers"]))
@@ -67,24 +43,9 @@ class Pictures(Case):
                 found = await self.diagram(**{"from": first, "to": last, "every": every, "cells": [left, right]})
                 self.assertEqual(found, [row[left:right + 1] for row in self.picture[first:last + 1:every]], (every, first))
 
-    async def test_mean_speeds(self) -> None:
-        for every, wide, first, last, left, right in ((10, 10, 0, 149, 0, 119), (7, 9, 3, 100, 50, 118),
-                                                      (151, 120, 0, 150, 0, 119)):
-            fields = {"from": first, "to": last, "every": every, "wide": wide, "cells": [left, right]}
-            cut = [row[left:right + 1] for row in self.picture[first:last + 1]]
-            self.assertEqual((await self.ada.ask("means", **fields))["means"], plain_means(cut, every, wide))
-
     async def test_sums_of_minutes(self) -> None:
-        wanted = []
-        for first in (0, 60):
-            minute = self.picture[first:first + 60]
-            cars = sum(cell.isdigit() for row in minute for cell in row)
-            # No other cars are before the on-ramp at cell 40: the speeds up to there are those of who came in.
-            speeds = sum(int(cell) for row in minute for cell in row[:40] if cell.isdigit())
-            behind = [[int(cell) for row in minute for cell in row[begin:begin + 60] if cell.isdigit()]
-                      for begin in (0, 40)]
-            wanted.append([cars, round(speeds / 40, 3), sum(row[40] == "." for row in minute),
-                           *(figure for found in behind for figure in (len(found), sum(found)))])
+        """Steps 1 to 60 are the first minute's: the rows that its steps lead to."""
+        wanted = [sum(cell.isdigit() for row in self.picture[first + 1:first + 61] for cell in row) for first in (0, 60)]
         self.assertEqual((await self.ada.ask("sums", **{"from": 0, "to": 120}))["sums"], wanted)
         self.assertEqual((await self.ada.ask("sums", **{"from": 60, "to": 120}))["sums"], wanted[1:])
 
@@ -116,9 +77,6 @@ class Pictures(Case):
         wanted = [(50 * span, 50 * span + 50, detector, SMALL["detectors"][detector], *pair)
                   for span, pairs in enumerate(counts) for detector, pair in enumerate(pairs)]
         self.assertEqual(table[1:], [[str(cell) for cell in line] for line in wanted])
-        table = list(csv.reader(io.StringIO((await self.ada.ask("csv", what="changes"))["csv"])))
-        self.assertEqual(table[1][:4], ["1", "65", "Ada", "'=1+1"])
-        self.assertEqual(table[1][5:], ["False", "3", "30", "80"])
         for text in ("=a", "+a", "-a", "@a", " =a", "\t=a"):
             self.assertEqual(saving.harmless(text), "'" + text)
         self.assertEqual([saving.harmless(cell) for cell in ("a=", 7, "")], ["a=", 7, ""])

@@ -1,20 +1,24 @@
-"""Robots do random gestures, undoings, shares, takes; at each end the server answers as a fresh program that got the
-journal's edits before it ran."""
+"""Robots put, change, withdraw, raise and take back shapes and raw edits, share and take, on one server or on several with a
+broker; at each end every road is, row by row, that of a program that got what the shapes say, step by step."""
 from __future__ import annotations
 
 import random
 from typing import Any
 
-from client import Refused, Seat
-from road_lab import Edit, Plan, RoadLab
-from running import SMALL, Case, Server
+from server.client import Refused, Seat
+from server.state import Gesture
+from road_lab import Plan, RoadLab
+from histories import Oracle
+from running import ALL, SMALL, Case, Server, until
 
 LAST = 80
 ROBOTS = 4
-RUNS, ACTS = 5, 120
+RUNS, ACTS = (20 if ALL else 3), 100
+SITES = 12 if ALL else 3  # runs of several servers
 PLAN = {**SMALL, "length": 60, "zones": [[4, 9_000]] * 3, "inlets": [[0, 30_000], [25, 9_000]], "detectors": [20, 45]}
 OBJECTS = [("limit", 3, 5), ("slow", 3, 40_000), ("block", 60, 1), ("inflow", 2, 65_536), ("watch", 2, 1),
            ("start", 3, 50_000)]
+ORACLE = Oracle(PLAN, LAST)
 
 
 def random_edits(chance: random.Random) -> list[list[Any]]:
@@ -28,74 +32,133 @@ def random_edits(chance: random.Random) -> list[list[Any]]:
     return list(edits.values())
 
 
-class Robots(Case):
-    async def act(self, seat: Seat, chance: random.Random, number: int) -> None:
+def random_shape(chance: random.Random) -> list[Any]:
+    kind, there, most = chance.choice(OBJECTS)
+    first, begin = chance.randrange(there), chance.randrange(0, LAST, 5)
+    end = None if chance.random() < 0.2 else begin + chance.randrange(1, 40)
+    return [kind, first, min(there - 1, first + chance.randrange(12)), begin, end, chance.randint(0, most)]
+
+
+class Acts(Case):
+    """What robots do, and what must be so then."""
+
+    async def act(self, seat: Seat, chance: random.Random, key: str) -> None:
         what = chance.random()
         try:
-            if what < 0.5:
-                await seat.ask("gesture", key=f"k{number}", edits=random_edits(chance))
-            elif what < 0.65:
-                held = (await seat.ask("gestures"))["gestures"]
-                verb = chance.choice(["undo", "undo", "again"])
-                await seat.ask(verb, key=f"k{number}", stamp=chance.choice(held or [{"stamp": [1, 1]}])["stamp"])
+            if what < 0.25:
+                await seat.ask("gesture", key=key, shape=random_shape(chance))
+            elif what < 0.4:
+                await seat.ask("gesture", key=key, edits=random_edits(chance))
             elif what < 0.75:
-                await seat.ask("send", name="shared")
+                await self.act_on(seat, chance, key)
             elif what < 0.85:
+                await seat.ask("send", name="shared")
+            elif what < 0.95:
                 await seat.ask("take", message="shared")
             else:
                 await seat.ask("advance", to=chance.randrange(LAST + 1))
         except Refused as fault:
             self.assertIn(fault.reply["refused"], ("nothing to take back", "no such change"))
 
-    async def test_the_server_answers_as_a_fresh_program(self) -> None:
+    async def act_on(self, seat: Seat, chance: random.Random, key: str) -> None:
+        """Something that is done to what is there."""
+        held = (await seat.ask("layers"))["layers"]
+        if not held:
+            return
+        line = chance.choice(held)
+        what = chance.choice(["change", "change", "top", "withdraw", "undo", "again"])
+        if what in ("undo", "again"):
+            stamp = chance.choice(line.get("operations", [{"stamp": [1, 1]}]))["stamp"]
+            await seat.ask(what, key=key, stamp=stamp)
+        else:
+            fields = {"change": {"shape": random_shape(chance)}, "top": {"top": True}, "withdraw": {"shape": None}}[what]
+            await seat.ask("gesture", key=key, layer=line["name"], **fields)
+
+    async def compare(self, server: Server, seat: Seat, at: str) -> list[str]:
+        """A road beside one of the journal's operations alone: who holds what is worked out here again. Gives its rows."""
+        await seat.ask("advance", at=at, to=LAST)
+        values = ORACLE.by_layers(operations(server.journal(), at))
+        with RoadLab(Plan(**{**PLAN, "replicas": ["A"]})) as lab:
+            for (kind, index, step), value in values.items():
+                if step == 0 or values[kind, index, step - 1] != value:
+                    lab.edit("A", (kind, index), step, value)
+            lab.advance("A", LAST)
+            rows: list[str] = (await seat.ask("diagram", at=at, **{"from": 0, "to": LAST}))["rows"]
+            self.assertEqual(rows, lab.diagram("A", 0, LAST), at)
+            counts = (await seat.ask("counts", at=at, **{"from": 0, "to": LAST}))["counts"]
+            self.assertEqual(counts, [list(lab.count("A", detector, 0, LAST)) for detector in range(2)])
+            cars = (await seat.ask("cars", at=at, step=LAST))["cars"]
+            self.assertEqual(cars, [list(car) for car in lab.cars("A", LAST)])
+        return rows
+
+
+class Robots(Acts):
+    async def test_roads_are_those_of_the_shapes(self) -> None:
         for seed in range(RUNS):
             chance = random.Random(seed)
-            server = self.server(plan=PLAN, LIVE_MOST_LINES=str(chance.choice([50, 900_000])))
+            server = self.server(plan=PLAN, LIVE_MOST_LINES=str(chance.choice([50, 900_000])),
+                                 LIVE_MOST_UNDONE=str(chance.choice([10, 1_000])))
             seats = [await self.enterAsyncContext(server.seat(f"r{number}")) for number in range(ROBOTS)]
             await seats[0].say("clock", to=LAST)
             for number in range(ACTS):
-                await self.act(chance.choice(seats), chance, number)
-                if number in (40, 90) and seed % 2:
+                await self.act(chance.choice(seats), chance, f"k{number}")
+                if number in (40, 80) and seed % 2:
                     server.again()
                     seats = [await self.enterAsyncContext(server.seat(key=seat.key)) for seat in seats]
             for at, seat in [("shared", seats[0]), *((seat.at, seat) for seat in seats)]:
                 await self.compare(server, seat, at)
 
-    async def compare(self, server: Server, seat: Seat, at: str) -> None:
-        """By the journal's lines alone: who holds what is worked out here again."""
-        await seat.ask("advance", at=at, to=LAST)
-        with RoadLab(Plan(**{**PLAN, "replicas": ["A"]})) as lab:
-            lab.take_in("A", map(Edit.read, journal_edits(server.journal(), at)))
-            lab.advance("A", LAST)
-            self.assertEqual((await seat.ask("scenario", at=at))["edits"], [edit_of(one) for one in lab.scenario("A")])
-            rows = (await seat.ask("diagram", at=at, **{"from": 0, "to": LAST}))["rows"]
-            self.assertEqual(rows, lab.diagram("A", 0, LAST))
-            counts = (await seat.ask("counts", at=at, **{"from": 0, "to": LAST}))["counts"]
-            self.assertEqual(counts, [list(lab.count("A", detector, 0, LAST)) for detector in range(2)])
-            cars = (await seat.ask("cars", at=at, step=LAST))["cars"]
-            self.assertEqual(cars, [list(car) for car in lab.cars("A", LAST)])
+    async def test_roads_of_several_sites_are_those_of_the_shapes(self) -> None:
+        for seed in range(SITES):
+            chance = random.Random(seed)
+            broker = self.broker(keeps=bool(seed % 2))
+            sites = [self.server("--broker", broker.address, "--site", str(number + 1), plan=PLAN)
+                     for number in range(2 + seed % 3)]
+            seats = [(site, await self.enterAsyncContext(site.seat(f"{name} of {number}")))
+                     for number, site in enumerate(sites) for name in ("Ada", "Ben")]
+            for site, seat in seats:
+                await seat.say("clock", to=LAST)
+            for number in range(ACTS):
+                site, seat = chance.choice(seats)
+                await self.act(seat, chance, f"k{number}")
+                if number in (30, 60):
+                    broker.kill()
+                elif number in (40, 70):
+                    broker.start()
+            for site, seat in seats:
+                await seat.ask("send", name="shared")
+            await until(lambda: self.have_one_road([seat for _, seat in seats]), "all have the same")
+            roads = [await self.compare(site, seat, "shared") for site, seat in seats[::2]]
+            for site, seat in seats:
+                await seat.ask("take", message="shared")
+                roads.append(await self.compare(site, seat, seat.at))
+            self.assertEqual(roads, [roads[0]] * len(roads), seed)
+
+    async def have_one_road(self, seats: list[Seat]) -> bool:
+        """Whether all sites hold the same, and nothing is on its way."""
+        held = [(await seat.ask("scenario", at="shared"))["edits"] for seat in seats[::2]]
+        brokers = [next((one["broker"] for one in reversed(seat.told) if "broker" in one), {"unsent": 1})
+                   for seat in seats[::2]]
+        return all(one == held[0] for one in held) and not any(one["unsent"] for one in brokers)
 
 
-def edit_of(edit: Edit) -> list[Any]:
-    return edit.written()
-
-
-def journal_edits(entries: list[dict[str, Any]], at: str) -> list[list[Any]]:
-    """All edits that a replica has got, by the journal's entries."""
-    own: dict[int, list[tuple[list[int], list[list[Any]]]]] = {}
-    shared: list[tuple[list[int], list[list[Any]]]] = []
+def operations(entries: list[dict[str, Any]], at: str) -> list[Gesture]:
+    """All operations that a replica holds, by the journal's entries."""
+    own: dict[int, list[Gesture]] = {}
+    shared: list[Gesture] = []
     upto: dict[int, int] = {}
     for entry in entries:
-        (kind, value), = entry.items()
+        kind, value = next(iter(entry.items()))
         if kind == "gesture":
-            written = [[*edit[:3], *value["stamp"], edit[3]] for edit in value["edits"]]
-            own.setdefault(value["seat"], []).append((value["stamp"], written))
+            own.setdefault(value["seat"], []).append(Gesture.read(value))
         elif kind == "share":
-            shared += [one for one in own[value["seat"]] if one[0] in value["stamps"]]
+            shared += [one for one in own[value["seat"]] if list(one.stamp) in value["stamps"]]
+        elif kind == "came":
+            shared += map(Gesture.read, value["gestures"])
         elif kind == "take":
             upto[value["seat"]] = value["upto"]
+        shared += [Gesture.read(value["mending"])] if "mending" in value else []
     if at == "shared":
-        return [edit for _, edits in shared for edit in edits]
+        return shared
     seat = int(at.removeprefix("seat"))
-    held = own.get(seat, []) + shared[:upto.get(seat, 0)]
-    return [edit for _, edits in held for edit in edits]
+    return own.get(seat, []) + shared[:upto.get(seat, 0)]

@@ -20,7 +20,7 @@ import unittest
 from pathlib import Path
 from typing import Any, Awaitable, Callable, Iterator
 
-from client import Seat
+from server.client import Seat
 from road_lab import program_path
 
 LIVE = Path(__file__).resolve().parent.parent
@@ -28,6 +28,8 @@ PATIENCE = 120.0  # seconds; what is waited for comes far sooner where the machi
 SMALL: dict[str, Any] = {
     "length": 120, "exit": 1, "zone": 20, "zones": [[5, 6_554]] * 6, "inlets": [[0, 27_918], [40, 9_000]],
     "detectors": [30, 70, 110], "words": 1, "replicas": ["road"]}
+ALL = os.environ.get("LIVE_TEST") == "all"  # `live/test --all`
+FIXED = {"LIVE_MILLISECONDS": "0"}  # counts are the greatest that is held and one more, but where a test wants a clock
 STARTED: list[subprocess.Popen[Any]] = []
 FOLDERS: list[Path] = []
 logging.getLogger("asyncio").setLevel(logging.ERROR)  # it warns where the machine is slow
@@ -98,9 +100,9 @@ def new_folder() -> Path:
     return FOLDERS[-1]
 
 
-async def until(holds: Callable[[], Awaitable[Any]], what: str) -> None:
+async def until(holds: Callable[[], Awaitable[Any]], what: str, patience: float = PATIENCE) -> None:
     """Waits until something holds."""
-    end_of_patience = time.monotonic() + PATIENCE
+    end_of_patience = time.monotonic() + patience
     while not await holds():
         if time.monotonic() > end_of_patience:
             raise AssertionError(f"waited in vain: {what}")
@@ -123,7 +125,7 @@ class Server:
             self.process = started(
                 [sys.executable, str(LIVE / "serve"), "--folder", str(self.folder), "--port", "0", *self.arguments,
                  str(self.folder / "plan.json")], stdout=subprocess.PIPE, stderr=log, text=True,
-                env={**os.environ, **self.environment})
+                env={**os.environ, **FIXED, **self.environment})
         assert self.process.stdout is not None
         self.address = self.process.stdout.readline().strip()
         if not self.address:
@@ -154,7 +156,9 @@ class Server:
         return int(path.read_text().split()[0])
 
     def journal(self) -> list[dict[str, Any]]:
-        return [json.loads(line) for line in (self.folder / "journal.jsonl").read_bytes().splitlines()]
+        """Its entries, without their checksums."""
+        lines = map(json.loads, (self.folder / "journal.jsonl").read_bytes().splitlines())
+        return [{name: value for name, value in line.items() if name not in ("crc", "and")} for line in lines]
 
     def seat(self, name: str = "Ada", **hello: Any) -> Seat:
         return Seat(self.address, **(hello or {"name": name}))

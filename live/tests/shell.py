@@ -23,17 +23,31 @@ class Shell(Case):
         self.assertNotIn("Traceback", said.decode())
         return process.returncode or 0, out.decode().strip(), said.decode().strip()
 
+    async def test_names_of_64_signs_in_any_script_have_seats_of_their_own(self) -> None:
+        names = ["a b", "a_b", "a/b", "\U00013000" * 63 + "a", "\U00013000" * 63 + "b", "語" * 64]
+        for _ in range(2):  # the second time by the key that was kept
+            said = await asyncio.gather(*(self.road(name, "ask", '{"scenario":{}}') for name in names))
+            self.assertEqual([status for status, _, _ in said], [0] * 6)
+        async with self.a6.seat("Ada") as ada:
+            self.assertEqual({one["name"] for one in (await ada.say("seats"))["seats"]}, {*names, "Ada"})
+        async with self.a6.seat("é" * 65) as long:
+            self.assertEqual(long.welcome["name"], "é" * 64)
+            lines = (await long.ask("transcript", **{"from": 0, "to": 0}))["lines"]
+            self.assertNotIn("refused", lines)
+
     async def test_a_script_takes_part(self) -> None:
         self.assertEqual(await self.road("cron", "edit", "limit", "2", "50", "1"), (0, "[1, 65]", ""))
-        self.assertEqual((await self.road("cron", "share", "night"))[:2], (0, "shared 1 change, 1 edit"))
+        self.assertEqual((await self.road("cron", "share", "night"))[:2], (0, "shared 1 change"))
         self.assertEqual(await self.road("Ada", "edit", "limit", "0", "50", "4"), (0, "[1, 66]", ""))
         self.assertEqual(await self.road("Ada", "edit", "limit", "2", "50", "4"), (0, "[2, 66]", ""))
-        self.assertEqual((await self.road("Ada", "share"))[1], "shared 2 changes, 2 edits")
-        self.assertEqual((await self.road("cron", "take"))[1], "took 2 changes, 2 edits\nlost: limit 2 from step 50 on: "
-                         "1 of stamp [1,65] to 4 of stamp [2,66] of Ada")
+        self.assertEqual((await self.road("Ada", "share"))[1], "shared 2 changes")
+        self.assertEqual((await self.road("cron", "take"))[1], "took 2 changes\nchanged: limit of stamp [1, 65], by Ada")
         self.assertEqual(await self.road("cron", "withdraw", "limit", "2", "50"), (0, "[3, 65]", ""))
         self.assertEqual(json.loads((await self.road("cron", "ask", '{"scenario":{"at":"shared"}}'))[1])["edits"],
                          [["limit", 0, 50, 1, 66, 4], ["limit", 2, 50, 2, 66, 4]])
+        said = [await self.road("cron", *words) for words in (("out", "2"), ("in", "2"), ("out", "1"))]
+        self.assertEqual([status for status, _, _ in said], [0, 0, 1])
+        self.assertIn("1 is this site", said[2][2])
         self.assertEqual((await self.road("cron", "tell"))[:2], (0, "all came back"))
         self.broker.kill()
         await self.road("cron", "share")
@@ -51,7 +65,7 @@ class Shell(Case):
         async with self.a6.seat("Ada") as ada:
             await ada.ask("advance", to=200)
             for number in range(200):
-                await ada.ask("edit", object=["limit", number % 6], step=number, value=number % 6)
+                await ada.ask("edit", object=["limit", number % 6], step=number, value=number // 6 % 5)
             self.assertEqual(len((await ada.ask("scenario"))["edits"]), 200)
 
     async def test_faults_are_told(self) -> None:

@@ -62,7 +62,8 @@ class Figures:
         return self.replaced(path, ["sections", "stalled"])
 
     def replaced(self, path: Path, known: list[str] | None = None) -> Figures:
-        """With the figures of a file, a JSON object of those that are others; of all, or of some alone."""
+        """With the figures of a file, a JSON object of those that are others; of all, and then the sections among them, or of some
+        alone."""
         try:
             given = json.loads(path.read_text(encoding="utf-8"))
         except ValueError as fault:
@@ -74,6 +75,8 @@ class Figures:
         for name, kind in (("sections", Section), ("stalled", Stalled)):
             if name in given:
                 given[name] = [read(kind, one, f"{path}: {name}") for one in given[name]]
+        if known is None and "sections" not in given:
+            raise Fault(f"{path} has no sections: where no part of the road has another limit or other drivers, write \"sections\": []")
         return dataclasses.replace(self, **given)
 
 

@@ -4,10 +4,12 @@ import json
 import subprocess
 import sys
 from pathlib import Path
+from typing import Sequence
 
 sys.path.insert(0, str(Path(__file__).resolve().parent.parent / "python"))
+from intervals import Estimate, estimate  # noqa: E402
+from programs import NoProgram, program_path  # noqa: E402
 from refusals import Reasons  # noqa: E402
-from road_lab import NoProgram, program_path  # noqa: E402
 
 METRES, HOUR = 7.5, 3_600
 CELLS_A_KM, KMH = 1_000 / METRES, METRES * 3.6
@@ -16,6 +18,8 @@ ALWAYS = 65_536
 LIMIT = 5
 WARM = 1_000
 """Steps before a flow is measured."""
+PIECES = 25
+"""Of a long run, as many as its mean is taken over for its interval."""
 
 Inlets = list[tuple[int, int]]
 """Cells with inflow chances in 1/65,536, as in a plan."""
@@ -60,22 +64,42 @@ def answered(script: list[dict]) -> list[dict]:
     return replies
 
 
-@functools.lru_cache(None)
-def flows(inlets: tuple[tuple[int, int], ...], slow: int, seconds: int, most: int = LIMIT) -> tuple[float, ...]:
-    """Cars an hour that each inlet lets in on a road of one limit where cars are slowed by a chance: measured
-    over so many steps, as what passes some cells behind it, less what passes before it."""
+def let_in(inlets: Sequence[tuple[int, int]], slow: int, bounds: list[int], most: int) -> list[list[int]]:
+    """The cars that each inlet lets in between these steps, on a road of one limit where cars are slowed by a chance: what passes some
+    cells behind it, less what passes before it."""
     length = inlets[-1][0] + 100
     nexts = [cell for cell, _ in inlets[1:]] + [length]
     behind = [min(cell + 50, further) for (cell, _), further in zip(inlets, nexts)]
     sites = sorted({cell for cell, _ in inlets if cell} | set(behind))
-    count = {"at": "A", "from": WARM, "to": WARM + seconds}
-    counted = answered([
+    counted = iter(answered([
         {"length": length, "exit": 1, "zone": length, "zones": [[most, slow]], "inlets": inlets, "detectors": sites,
          "words": 1, "replicas": ["A"]},
-        {"advance": {"at": "A", "to": WARM + seconds}},
-        *({"count": {"detector": index, **count}} for index in range(len(sites)))])[2:]
-    passed = {0: 0, **{site: reply["cars"] for site, reply in zip(sites, counted)}}
-    return tuple((passed[site] - passed[cell]) * HOUR / seconds for site, (cell, _) in zip(behind, inlets))
+        {"advance": {"at": "A", "to": bounds[-1]}},
+        *({"count": {"detector": index, "at": "A", "from": first, "to": to}}
+          for first, to in zip(bounds, bounds[1:]) for index in range(len(sites)))])[2:])
+    found = []
+    for _ in bounds[1:]:
+        passed = {0: 0, **{site: next(counted)["cars"] for site in sites}}
+        found.append([passed[site] - passed[cell] for site, (cell, _) in zip(behind, inlets)])
+    return found
+
+
+@functools.lru_cache(None)
+def flows(inlets: tuple[tuple[int, int], ...], slow: int, seconds: int, most: int = LIMIT) -> tuple[float, ...]:
+    """Cars an hour that each inlet lets in, over so many steps."""
+    (cars,) = let_in(inlets, slow, [WARM, WARM + seconds], most)
+    return tuple(one * HOUR / seconds for one in cars)
+
+
+def in_the_long_run(inlets: Sequence[tuple[int, int]], slow: int, seconds: int, most: int = LIMIT) -> list[Estimate]:
+    """The same with their intervals, by the flows of pieces of the run, whose chances have nearly nothing to do with one another."""
+    bounds = [WARM + seconds * piece // PIECES for piece in range(PIECES + 1)]
+    return list(map(estimate, zip(*hourly(let_in(inlets, slow, bounds, most), bounds))))
+
+
+def hourly(pieces: list[list[int]], bounds: list[int]) -> list[list[float]]:
+    """Cars in each piece as cars an hour."""
+    return [[one * HOUR / (to - first) for one in cars] for cars, first, to in zip(pieces, bounds, bounds[1:])]
 
 
 def flow(inflow: int, slow: int, seconds: int, most: int = LIMIT) -> float:

@@ -10,16 +10,19 @@
 
 A car's number is its step of entry times 16, plus its inlet, and its random words go by its number: so cars
 of one number are the same car in both runs. Its time is the rows in which it stands, so many steps: a
-car that enters in step 5 and leaves in step 105 stands in rows 6 to 105, and takes 100.
+car that enters in step 5 and leaves in step 105 stands on the road of each step from 6 to 105, and takes 100.
 """
 from __future__ import annotations
 
+from collections import Counter
 from dataclasses import dataclass
 from typing import TYPE_CHECKING, Callable, Iterable, NamedTuple
 
 if TYPE_CHECKING:
     from road_lab import RoadLab
 
+FASTEST = 9
+"""The greatest limit, in cells a step."""
 INLETS = 16
 """A car's number is its step of entry times this, plus its inlet."""
 
@@ -31,6 +34,11 @@ def entry_of(number: int) -> int:
 
 def inlet_of(number: int) -> int:
     return number % INLETS
+
+
+def cars_of(row: str) -> int:
+    """How many cars a row has."""
+    return len(row) - row.count(".") - row.count("#")
 
 
 def vehicle_hours(steps: int, seconds: float = 1.0) -> float:
@@ -57,14 +65,33 @@ class Journeys:
             now = dict.fromkeys(numbers, step)
             begin = frozenset(now) if begin is None else begin
             last.update(now)
-        return cls(first, last, [len(row) - row.count(".") - row.count("#") for row in rows], begin or frozenset())
+        return cls(first, last, list(map(cars_of, rows)), begin or frozenset())
 
     @classmethod
     def of(cls, lab: RoadLab, at: str, to: int, first: int = 0) -> Journeys:
-        """Asks a replica for its cars and rows up to a step, which it has simulated."""
-        states = ([number for number, _, _ in lab.command("cars", at, step=step)["cars"]]
-                  for step in range(first, to + 1))
-        return cls.read(states, lab.diagram(at, first, to), first)
+        """Asks a replica for its rows up to a step, which it has simulated, and for its cars so often that each car is met."""
+        plan = lab.plan
+        far = plan["length"] - plan["exit"] - max(cell for cell, _ in plan["inlets"])
+        steps = [*range(first, to, max(far // FASTEST, 1)), to]
+        return cls.met({step: [car for car, _, _ in lab.command("cars", at, step=step)["cars"]] for step in steps},
+                       lab.diagram(at, first, to))
+
+    @classmethod
+    def met(cls, states: dict[int, list[int]], rows: Iterable[str]) -> Journeys:
+        """Reads the numbers of the cars, in rising cells, in some rows: the first, the last, and so many between them that each
+        car stands in one. How many leave in a step the rows tell, and they leave in the order in which they drive."""
+        steps, counts = sorted(states), [cars_of(row) for row in rows]
+        first, last = steps[0], dict.fromkeys(states[steps[-1]], steps[-1])
+        entered = Counter(map(entry_of, set().union(*states.values())))
+        for begin, end in zip(steps, steps[1:]):
+            there = set(states[end])
+            gone = [car for car in reversed(states[begin]) if car not in there]
+            left = [step for step in range(begin, end)
+                    for _ in range(counts[step - first] + entered[step] - counts[step + 1 - first])]
+            if len(gone) != len(left):
+                raise ArithmeticError(f"{len(gone)} cars have gone from row {begin} to {end}, and {len(left)} by the rows")
+            last.update(zip(gone, left))
+        return cls(first, last, counts, frozenset(states[first]))
 
     @property
     def horizon(self) -> int:

@@ -142,11 +142,11 @@ def closest(name: str, names: Iterable[str]) -> str | None:
 
 
 def whole(value: Any, most: int = GREATEST) -> Faults:
-    if type(value) is int:
+    if isinstance(value, NotWhole) or type(value) is int and value < 0:
+        yield f"{value} must be a whole number, written without sign, point and exponent"
+    elif type(value) is int:
         if value > most:
             yield f"{value} is above {most}"
-    elif isinstance(value, NotWhole):
-        yield f"{value} must be a whole number, written without sign, point and exponent"
     elif type(value) is str and value.strip().isdigit():
         yield f"{shown(value)} stands in quotes: a number has none"
     else:
@@ -428,6 +428,7 @@ class Reasons:
             yield f"there is no command `{verb}`: {told}"
         elif refusal == "not a command":
             yield from fields(given, COMMANDS[verb], f"`{verb}`")
+            yield from self._indexes_in_km(verb, given)
             if given and type(given) is dict and given.get("form") == 1:
                 yield "under form 1 there is no `start`: write form 2"
         elif refusal == "unknown form":
@@ -437,7 +438,7 @@ class Reasons:
 
     def _faults_by_name(self, verb: str, given: dict[str, Any], refusal: str) -> Faults:
         for called, edit in listed(verb, given):
-            fault = self._edit_fault(edit)
+            fault = self.edit_fault(edit)
             if fault and fault[0] == refusal:
                 yield called + fault[1]
                 return
@@ -448,7 +449,7 @@ class Reasons:
         if said:
             yield said(verb, given)
 
-    def _edit_fault(self, edit: list[Any]) -> tuple[str, str] | None:
+    def edit_fault(self, edit: list[Any]) -> tuple[str, str] | None:
         """The first fault of an edit, as the program names it, and in words."""
         kind, index, step, count, number, value = edit
         plan = self._plan or {}
@@ -469,6 +470,27 @@ class Reasons:
         if number is not None and number < 64:
             return "Insider", f"the number {number} is a replica's: edits from outside have 64 to 65535"
         return None
+
+    def _indexes_in_km(self, verb: str, given: Any) -> Faults:
+        """Of indexes with a point, which look like km, what they are an index of, and where that is."""
+        try:
+            things = [edit[:2] for _, edit in listed(verb, given)]
+        except (KeyError, TypeError, IndexError, ValueError):
+            return
+        for kind, index in things:
+            if type(kind) is str and kind in KINDS and isinstance(index, NotWhole):
+                what = {"block": "cell", "inflow": "inlet", "watch": "detector"}.get(kind, "zone")
+                yield f"`{kind}` has the index of {'an' if what == 'inlet' else 'a'} {what}, counted from 0{self._at_km(index, what)}"
+
+    def _at_km(self, km: str, what: str) -> str:
+        """Which cell and zone a number of km is."""
+        if what not in ("cell", "zone") or km.startswith("-") or not self._plan:
+            return ""
+        cell, length = round(float(km) * 1_000 / (self._units.metres or 7.5)), self._plan["length"]
+        known = "" if self._units.metres else " at 7.5 m a cell"
+        if cell >= length:
+            return f": km {km} would be cell {cell}{known}, and the last one is {length - 1}"
+        return f": km {km} is cell {cell}{known}" + f", in zone {cell // self._plan['zone']}" * (what == "zone")
 
     def _no_replica(self, verb: str, given: dict[str, Any]) -> str:
         return f"the plan has no replica {shown(given['at'])}: its replicas are {either(self._plan['replicas'])}"

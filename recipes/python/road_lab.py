@@ -11,7 +11,6 @@
 from __future__ import annotations
 
 import json
-import os
 import subprocess
 import sys
 from dataclasses import dataclass, field
@@ -19,6 +18,7 @@ from pathlib import Path
 from types import TracebackType
 from typing import TYPE_CHECKING, Any, Callable, Iterable, NamedTuple
 
+from programs import NoProgram as NoProgram, program_path as program_path
 from refusals import LAST_HORIZON, MOST_ROWS, Reasons
 
 if TYPE_CHECKING:
@@ -54,15 +54,6 @@ class Ended(Exception):
         super().__init__(f"the program ended with status {status}: "
                          f"{STATUSES.get(status) or said or 'it said nothing'}")
         self.status = status
-
-
-class NoProgram(Exception):
-    """There is no program to start."""
-
-    def __init__(self, path: Path | str) -> None:
-        super().__init__(f"no program at {path}: start `rt run < stdin` in crates/road_lab, which proves and builds it in half "
-                         "an hour, or let ROAD_LAB be the path of a built one; until then `rt try < SCRIPT` there runs a "
-                         "script unproved, in a minute or two")
 
 
 class Stamp(NamedTuple):
@@ -166,12 +157,6 @@ class Plan:
         return {**vars(self), "zone": zone}
 
 
-def program_path() -> Path:
-    """The program's path: ROAD_LAB, else where `rt run` leaves it in this repository."""
-    built = Path(__file__).resolve().parents[2] / "crates" / "road_lab" / "out" / "road_lab"
-    return Path(os.environ.get("ROAD_LAB") or built)
-
-
 def started(path: Path | str) -> subprocess.Popen[bytes]:
     """The program at a path, or `NoProgram`."""
     try:
@@ -190,8 +175,9 @@ class RoadLab:
     def __init__(self, plan: Plan | dict[str, Any], program: Path | str | None = None) -> None:
         self._process = started(program or program_path())
         self._reasons = Reasons()
+        self.plan = plan.written() if isinstance(plan, Plan) else plan
         try:
-            self.ask(plan.written() if isinstance(plan, Plan) else plan)
+            self.ask(self.plan)
         except BaseException:
             self.close()
             raise
@@ -332,7 +318,8 @@ class Bar:
 
     WIDTH = 40
 
-    def __init__(self) -> None:
+    def __init__(self, unit: str = "steps") -> None:
+        self._unit = unit
         self._wanted = sys.stderr.isatty()
         self._shown = False
 
@@ -341,7 +328,7 @@ class Bar:
             return
         full = self.WIDTH * done // whole
         bar = "#" * full + "." * (self.WIDTH - full)
-        sys.stderr.write(f"\r[{bar}] {done} of {whole} steps")
+        sys.stderr.write(f"\r[{bar}] {done} of {whole} {self._unit}")
         sys.stderr.flush()
         self._shown = True
 

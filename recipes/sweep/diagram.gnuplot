@@ -14,6 +14,6 @@ inflows = "6144 12288 20480 32768 65536"
 colours = "#000000 #0072b2 #009e73 #d55e00 #cc79a7"
 set samples 2
 plot 4.75 * x with lines dt 2 lc rgb "#767676" notitle, \
-     for [i = 1:5] table using ($2 == word(inflows, i) + 0 ? $6 : NaN):3 every ::1 \
+     for [i = 1:5] table using ($2 == word(inflows, i) + 0 ? $7 : NaN):3 every ::1 \
          with points pt (2 * i + 3) ps 1.4 lc rgb word(colours, i) \
          title sprintf("%.3f", word(inflows, i) / 65536.0)

@@ -2,6 +2,9 @@
 """The delay between two scripts of one plan, by the simulator: what recipes/delay/run prints, found in another way.
 
     tests/reference_simulator/delays.py BEFORE AFTER > recipes/delay/expected
+    tests/reference_simulator/delays.py BEFORE AFTER 5 > recipes/delay/days.expected
+
+With a number, over so many days: means and 95 % intervals, by Python's `statistics` and printed values of Student's t.
 
 Each script is a plan line, edits of one replica and an advance; both advance to the same step. The gates of a road
 are watched, not its rows: in which step each car enters, and in which it is gone. A car's time is the one less the
@@ -9,19 +12,24 @@ other, what all spend is the sum of the cars that have come and not gone, and a 
 gone in the last step. A step is a second, and entries are told minute by minute.
 """
 import json
+import math
+import statistics
 import sys
 
 sys.dont_write_bytecode = True
 from simulator import Plan, run
 
 MINUTE = 60
+STUDENT = {4: 2.776445, 8: 2.306004}
+"""The value that Student's t exceeds by a chance of 2.5 %, by degrees of freedom."""
 
 
-def gates(path):
+def gates(path, days=0, counted=None):
     """The plan, the steps of entry and of leaving by the cars' numbers, the last step, and the cars that have come and not
-    gone, summed over all steps."""
+    gone, summed over all steps; so many days after the plan's. What detectors count is put into a list."""
     with open(path, encoding="utf-8") as script:
         given, *commands = map(json.loads, script)
+    given["words"] += days
     plan, edits, to = Plan(given), [], None
     for command in commands:
         if "edit" in command:
@@ -30,7 +38,9 @@ def gates(path):
         else:
             to = command["advance"]["to"]
     come, gone, there, spent = {}, {}, set(), 0
-    for step, road, _, _ in run(plan, edits, 0, to):
+    for step, road, _, counts in run(plan, edits, 0, to):
+        if counted is not None and step < to:
+            counted.append([cars for cars, _ in counts])
         now = {car[0] for car in road if car}
         come.update({number: number // 16 for number in now - there})
         gone.update({number: step - 1 for number in there - now})
@@ -55,7 +65,44 @@ def most(values):
     return max(values) if values else ""
 
 
+def interval(values, freedom):
+    """Mean, and half of the interval."""
+    half = STUDENT[freedom] * statistics.stdev(values) / math.sqrt(len(values))
+    return [f"{statistics.mean(values):.3f}", f"{half:.3f}"]
+
+
+def day(paths, number):
+    """What a day has of each figure, before and after."""
+    counts = [], []
+    (plan, come, gone, _, spent), (_, other, left, _, spent_after) = (
+        gates(path, number, counted) for path, counted in zip(paths, counts))
+    both = gone.keys() & left.keys()
+    found = {"vehicle hours on the road": (spent / 3600, spent_after / 3600),
+             "vehicle hours of cars through in both": (sum(gone[car] - come[car] for car in both) / 3600,
+                                                       sum(left[car] - other[car] for car in both) / 3600),
+             "cars that came in (fewer: lost demand)": (len(come), len(other))}
+    sums = [[sum(cars) for cars in zip(*counted)] for counted in counts]
+    return {**found, **{f"cars at cell {cell}": pair for cell, pair in zip(plan.detectors, zip(*sums))}}
+
+
+def over_days(paths, number):
+    days = [day(paths, one) for one in range(number)]
+    comma("mean of a day", "before", "±", "after", "±", "difference", "±", "unpaired ±", "days of the other sign")
+    for name in days[0]:
+        before, after = ([found[name][which] for found in days] for which in (0, 1))
+        more = [late - early for early, late in zip(before, after)]
+        pooled = math.sqrt((statistics.variance(before) + statistics.variance(after)) / number)
+        positive = sum(one > 0 for one in more)
+        comma(name, *interval(before, number - 1), *interval(after, number - 1), *interval(more, number - 1),
+              f"{STUDENT[2 * number - 2] * pooled:.3f}",
+              number - positive - more.count(0) if statistics.mean(more) > 0 else positive if statistics.mean(more) < 0 else 0)
+    print()
+
+
 def main():
+    if len(sys.argv) > 3:
+        over_days(sys.argv[1:3], int(sys.argv[3]))
+        return
     (plan, come, gone, to, spent), (_, other, left, _, spent_after) = map(gates, sys.argv[1:])
     all_cars = set(come) | set(other)
     took = {car: gone.get(car, to) - come[car] for car in come}

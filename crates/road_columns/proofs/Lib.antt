@@ -40,12 +40,14 @@ pub mod CarsStepped
 pub mod CountsStepped
 pub mod StepSites
 pub mod RegionsCut
+pub mod CarsAdmitted
+pub mod CarsAdvanced
 pub mod CarsEntered
 pub mod HeldLists
 pub mod HighWords
 pub mod HeldCars
 pub mod ShiftedColumns
-pub mod SpanStarts
+pub mod IntervalStarts
 pub mod StretchSteps
 pub mod TotalsKept
 pub mod RunSteps

@@ -1,6 +1,6 @@
 -- One step of the road that columns hold.
-use Rattle.std.specs.Prelude.{◌≡◌, ℕ, ◌+◌, ◌<◌, ◌≤◌, ◌⊎◌, List, length, min, slice_range}
-use Rattle.std.proofs.Common.{sym, subst}
+use Rattle.std.specs.Prelude.{◌≡◌, ℕ, ◌+◌, ◌<◌, ◌≤◌, ◌⊎◌, min}
+use Rattle.std.proofs.Common.{sym, subst, arith}
 use Rattle.std.specs.declared.option.Option.TheVariants.{None}
 use Rattle.road_plan.specs.Plan.{Plan, exit_start}
 use Rattle.road_plan.specs.Settings.{Settings}
@@ -10,35 +10,29 @@ use Rattle.road_rules.specs.Motion.{arrival_at}
 use Rattle.road_ends.specs.Input.{input_next}
 use Rattle.road_ends.specs.EntriesBetween.{entries_between, input_between}
 use Rattle.road_ends.specs.Speed.{speed}
-use Rattle.road_columns.specs.Columns.{AreColumnsOf}
-use Rattle.road_columns.specs.Private.Held.{StandOn, road_in}
-use Rattle.road_columns.specs.Private.LooseWords.{AreFalling}
+use Rattle.road_columns.specs.Private.Cars.{AreCarsOf, road_of}
+use Rattle.road_columns.specs.Private.Held.{StandOn}
+use Rattle.road_columns.specs.Private.Step.{AreCarsInColumn}
+use Rattle.road_columns.specs.declared.cars.CarColumns.{CarColumns}
 use Rattle.road_columns.proofs.HeldCars.{columns_of_held, held_is}
 use Rattle.road_columns.proofs.StretchSteps.{nobody_outside, stand_after}
 
 -- columns before a step, made ready for it, and after it
-module _ (p : Plan) (s : Settings) (t lo hi : ℕ) (cells speeds numbers ready ready_speeds ready_numbers done done_speeds done_numbers : List ℕ) (head tail from to first end : ℕ)
-    (within : tail ≤ length cells) (falling : AreFalling cells head tail) (stand : StandOn lo hi (road_in cells speeds numbers head tail))
-    (made_ready : (a : Array) → AreColumnsOf a (slice_range cells head tail) (slice_range speeds head tail) (slice_range numbers head tail)
-    → AreColumnsOf a (slice_range ready from to) (slice_range ready_speeds from to) (slice_range ready_numbers from to)) where
-  -- the road that they hold
-  abbrev pub before : Array
-  before = road_in cells speeds numbers head tail
+module _ (p : Plan) (s : Settings) (t lo hi : ℕ) (cars ready done : CarColumns) (are : AreCarsInColumn p cars.head cars.tail cars.cells.items) (stand : StandOn lo hi (road_of cars))
+    (made_ready : (a : Array) → AreCarsOf a cars → AreCarsOf a ready) where
+  pub ready_cars : AreCarsOf (road_of cars) ready
+  ready_cars = made_ready (road_of cars) (columns_of_held cars.cells.items cars.speeds.items cars.numbers.items cars.head cars.tail (let inside = are.inside in omega arith) are.falling)
 
-  pub ready_columns : AreColumnsOf before (slice_range ready from to) (slice_range ready_speeds from to) (slice_range ready_numbers from to)
-  ready_columns = made_ready before (columns_of_held cells speeds numbers head tail within falling)
+  pub nobody_else : (c : ℕ) → (c < lo) ⊎ (hi ≤ c) → vehicle_at (road_of cars) c ≡ None
+  nobody_else = nobody_outside lo hi (road_of cars) stand
 
-  pub nobody_else : (c : ℕ) → (c < lo) ⊎ (hi ≤ c) → vehicle_at before c ≡ None
-  nobody_else = nobody_outside lo hi before stand
-
-  module _ (within' : end ≤ length done) (falling' : AreFalling done first end)
-      (next : (a : Array) → ((c : ℕ) → (c < lo) ⊎ (hi ≤ c) → vehicle_at a c ≡ None)
-      → AreColumnsOf a (slice_range ready from to) (slice_range ready_speeds from to) (slice_range ready_numbers from to)
-      → AreColumnsOf (input_next (input_between lo hi p s t a)) (slice_range done first end) (slice_range done_speeds first end) (slice_range done_numbers first end)) where
-    pub road_run : road_in done done_speeds done_numbers first end ≡ input_next (input_between lo hi p s t before)
+  module _ (after : AreCarsInColumn p done.head done.tail done.cells.items)
+      (next : (a : Array) → ((c : ℕ) → (c < lo) ⊎ (hi ≤ c) → vehicle_at a c ≡ None) → AreCarsOf a ready → AreCarsOf (input_next (input_between lo hi p s t a)) done) where
+    pub road_run : road_of done ≡ input_next (input_between lo hi p s t (road_of cars))
     road_run =
-        let entered = entries_between lo hi p s t before in
-        held_is (exit_start p) (arrival_at (speed p s t entered) entered) done done_speeds done_numbers first end within' falling' (next before nobody_else ready_columns)
+        let entered = entries_between lo hi p s t (road_of cars) in
+        held_is (exit_start p) (arrival_at (speed p s t entered) entered) done.cells.items done.speeds.items done.numbers.items done.head done.tail (let inside = after.inside in omega arith) after.falling
+        (next (road_of cars) nobody_else ready_cars)
 
-    pub stand_run : hi ≤ p.cells → StandOn lo (min (hi + GREATEST_SPEED) p.cells) (road_in done done_speeds done_numbers first end)
-    stand_run on_road = subst (StandOn lo (min (hi + GREATEST_SPEED) p.cells)) (sym road_run) (stand_after p s t lo hi before on_road)
+    pub stand_run : hi ≤ p.cells → StandOn lo (min (hi + GREATEST_SPEED) p.cells) (road_of done)
+    stand_run on_road = subst (StandOn lo (min (hi + GREATEST_SPEED) p.cells)) (sym road_run) (stand_after p s t lo hi (road_of cars) on_road)

@@ -6,7 +6,7 @@ use Rattle.std.proofs.lemmas.List.FromFn.{get_or-map-range_with_len, length-map-
 use Rattle.road_detector.specs.Passes.{no_totals, plus}
 use Rattle.road_detector.specs.declared.counts.Totals.{Totals}
 use Rattle.road_columns.specs.Private.Sites.{IsOfSteps, unpacked}
-use Rattle.road_columns.specs.Private.Spans.{AreCounts, total_in, totals_in}
+use Rattle.road_columns.specs.Private.Counts.{AreCounts, total_in, totals_in}
 
 -- functions that agree give the same list
 pub same_list : {X : Type 0} (f g : ℕ → X) (a n : ℕ) → ((d : ℕ) → a ≤ d → d < a + n → f d ≡ g d) → map f (range_with_len a n) ≡ map g (range_with_len a n)
@@ -70,7 +70,7 @@ module _ (n t : ℕ) (passes passes' : List ℕ) (totals totals' : List Totals) 
       record {
         passes_each = each;
         totals_each = totals_each;
-        of_span = λ d below. subst (λ k. IsOfSteps k (slice_index passes' d)) next (of_span d below);
+        of_interval = λ d below. subst (λ k. IsOfSteps k (slice_index passes' d)) next (of_span d below);
         cars_before = λ d below. let most = cars d below in omega arith;
         speeds_before = λ d below. let most = speeds d below in omega arith;
       }
@@ -86,7 +86,7 @@ module _ (n t : ℕ) (passes passes' : List ℕ) (totals totals' : List Totals) 
       record {
         passes_each = each;
         totals_each = totals_each;
-        of_span = λ d below. let none = empty d below in record { few = omega arith; short = omega arith };
+        of_interval = λ d below. let none = empty d below in record { few = omega arith; short = omega arith };
         cars_before = λ d below.
             let before = cars d below in
             let most = (counted_most 64 (slice_index passes d) (omega arith) (of_span d below)).0 in
@@ -104,7 +104,7 @@ module _ (n t : ℕ) (passes : List ℕ) (totals : List Totals) (each : length p
   counts_cleared = record {
     passes_each = each;
     totals_each = totals_each;
-    of_span = λ d below. let zero = empty d below in record { few = omega arith; short = omega arith };
+    of_interval = λ d below. let zero = empty d below in record { few = omega arith; short = omega arith };
     cars_before = λ d below. let zero = ap (λ (x : Totals). x.cars) (none d below) in omega arith;
     speeds_before = λ d below. let zero = ap (λ (x : Totals). x.speeds) (none d below) in omega arith;
   }

@@ -1,10 +1,13 @@
 -- What columns, rows and kept places keep from step to step: only calls over such slices name it.
+pub mod Cars
 pub mod CarsAt
+pub mod Counts
 pub mod Drawn
 pub mod Entered
 pub mod EnteredList
 pub mod Entering
 pub mod Held
+pub mod Interval
 pub mod Lanes
 pub mod LooseWords
 pub mod Motion
@@ -14,5 +17,4 @@ pub mod Regions
 pub mod Rows
 pub mod Running
 pub mod Sites
-pub mod Spans
 pub mod Step

@@ -1,18 +1,86 @@
-//! What the detectors have counted in a span, added to their totals.
+//! What the detectors have counted.
 
-ghost use Rattle.std.specs.Prelude.{◌≡◌, ◌<◌, ◌+◌, ◌^◌, ℕ, length, slice_index, IfOk};
+ghost use Rattle.std.specs.Prelude.{◌≡◌, ◌<◌, ◌≤◌, ◌+◌, ◌*◌, ◌/◌, ◌%◌, ◌^◌, ℕ, length, slice_index, IfOk, IsTrue};
 ghost use Rattle.std.specs.List.{slice_index_or};
 ghost use Rattle.road_detector.specs.Passes.{no_totals, plus};
-ghost use Rattle.road_columns.specs.Private.Sites.{unpacked};
-ghost use Rattle.road_columns.specs.Private.Spans.{total_in, totals_in};
+ghost use Rattle.road_columns.specs.Private.Sites.{IsOfSteps, unpacked};
+ghost use Rattle.road_columns.specs.Private.Counts.{AreCounts, total_in, totals_in};
 
+use crate::words::INTERVAL;
 use road_detector::Totals;
 use road_ends::OutOfMemory;
 use std::alloc::Global;
 
-/// Adds what each detector has counted, a car as 65,536 and its speed, to its totals, and begins the counts anew.
+/// What each detector has counted.
+#[derive(Drop)]
+pub struct Counts {
+    /// In the interval, a car as 65,536 and its speed,
+    pub passes: Vec<u32>,
+    /// and before it.
+    pub totals: Vec<Totals>,
+}
+
+impl Counts {
+    /// Makes counts of so many detectors, which have counted nothing.
+    ///
+    /// # Errors
+    ///
+    /// `OutOfMemory` where an allocation failed.
+    pub fn of(alloc: Global, detectors: usize) -> Result<Counts, OutOfMemory>
+        ensures passes_each { IfOk result (λ counts. length counts.passes.items ≡ detectors) }
+        ensures totals_each { IfOk result (λ counts. length counts.totals.items ≡ detectors) }
+        ensures passes { IfOk result (λ counts. (d : ℕ) → d < detectors → slice_index counts.passes.items d ≡ 0) }
+        ensures totals { IfOk result (λ counts. (d : ℕ) → d < detectors
+            → slice_index_or counts.totals.items d no_totals ≡ no_totals) }
+    {
+        let passes = vec![in alloc; 0u32; detectors]?;
+        let totals = vec![in alloc; Totals { cars: 0, speeds: 0 }; detectors]?;
+        Ok(Counts { passes, totals })
+    }
+
+    /// Ends a step: the last one of an interval adds what the detectors have counted in it. Answers whether the interval
+    /// goes on.
+    pub fn end_step(&mut self, step: u32) -> bool
+        requires step { step < 2 ^ 27 }
+        requires as_many { length self.old.totals.items ≡ length self.old.passes.items }
+        requires counted { (d : ℕ) → d < length self.old.passes.items
+            → IsOfSteps (step % 64 + 1) (slice_index self.old.passes.items d) }
+        requires cars { (d : ℕ) → d < length self.old.passes.items
+            → (slice_index_or self.old.totals.items d no_totals).cars ≤ 64 * (step / 64) }
+        requires speeds { (d : ℕ) → d < length self.old.passes.items
+            → (slice_index_or self.old.totals.items d no_totals).speeds ≤ 576 * (step / 64) }
+        ensures counts { AreCounts (length self.old.passes.items) (step + 1) self.new.passes.items
+            self.new.totals.items }
+        ensures totals { totals_in self.new.passes.items self.new.totals.items
+            ≡ totals_in self.old.passes.items self.old.totals.items }
+        ensures goes_on { IsTrue result → step % 64 < 63 }
+    {
+        end_step_of(step, &mut self.passes, &mut self.totals)
+    }
+}
+
+fn end_step_of(step: u32, passes: &mut [u32], totals: &mut [Totals]) -> bool
+    requires step { step < 2 ^ 27 }
+    requires as_many { length totals.old ≡ length passes.old }
+    requires counted { (d : ℕ) → d < length passes.old → IsOfSteps (step % 64 + 1) (slice_index passes.old d) }
+    requires cars { (d : ℕ) → d < length passes.old
+        → (slice_index_or totals.old d no_totals).cars ≤ 64 * (step / 64) }
+    requires speeds { (d : ℕ) → d < length passes.old
+        → (slice_index_or totals.old d no_totals).speeds ≤ 576 * (step / 64) }
+    ensures counts { AreCounts (length passes.old) (step + 1) passes.new totals.new }
+    ensures totals { totals_in passes.new totals.new ≡ totals_in passes.old totals.old }
+    ensures goes_on { IsTrue result → step % 64 < 63 }
+{
+    if step as usize % INTERVAL == INTERVAL - 1 {
+        add_counts(passes, totals);
+        return false;
+    }
+    true
+}
+
+// Adds what each detector has counted to its totals, and begins the counts anew.
 #[inline(never)]
-pub fn add_counts(passes: &mut [u32], totals: &mut [Totals])
+fn add_counts(passes: &mut [u32], totals: &mut [Totals])
     requires as_many { length totals.old ≡ length passes.old }
     requires cars { (d : ℕ) → d < length passes.old → (slice_index_or totals.old d no_totals).cars
         + (unpacked (slice_index passes.old d)).cars < 2 ^ 32 }
@@ -30,7 +98,7 @@ pub fn add_counts(passes: &mut [u32], totals: &mut [Totals])
     }
 }
 
-/// Lists what all detectors have counted: their totals, each with its count in the span.
+/// Lists what all detectors have counted: their totals, each with its count in the interval.
 ///
 /// # Errors
 ///

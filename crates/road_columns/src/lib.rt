@@ -1,7 +1,7 @@
 //! Runs under way: a road that is stepped again and again, whose callers see it as an array.
 //!
 //! Within, its cars stand in columns: one for the cells, one for the speeds, one for the numbers, the car at the far end
-//! first. Their random words for the 64 steps of a span stand in rows, one for each step, so that a step is a few
+//! first. Their random words for the 64 steps of an interval stand in rows, one for each step, so that a step is a few
 //! passes over contiguous memory.
 //!
 //! ```
@@ -15,6 +15,7 @@
 //! ```
 #![tactic(auto)]
 
+mod cars;
 mod counts;
 mod cutting;
 mod drawing;
@@ -23,16 +24,15 @@ mod entering;
 mod finding;
 mod holding;
 mod inlets;
-mod kept;
+mod interval;
+mod layout;
 mod motion;
+mod passing;
 mod pieces;
 mod regions;
 mod shifting;
-mod sites;
-mod spans;
 mod starting;
 mod step;
-mod stepping;
 mod turning;
 mod under_way;
 mod words;

@@ -10,8 +10,7 @@ ghost use Rattle.road_columns.specs.Private.Pieces.{IsHigh16At};
 ghost use Rattle.road_columns.specs.Private.Regions.{AreFree, IsOfRegion, region_at, wish_at};
 
 use crate::motion::Chances;
-use crate::pieces::advance_between;
-use crate::words::Batch;
+use crate::pieces::{Piece, StepWords, advance_between};
 
 /// Cells side by side that are alike for the cars on them, from the first one up to the next region.
 #[derive(Clone, Copy)]
@@ -24,7 +23,7 @@ pub struct Region {
     pub block: u16,
 }
 
-/// Answers whether cars are slowed in a region.
+/// Answers whether cars are slowed in any of these regions.
 pub fn are_slowing(regions: &[Region]) -> bool
     ensures { IsFalse result → AreFree regions.now }
 {
@@ -32,35 +31,29 @@ pub fn are_slowing(regions: &[Region]) -> bool
 }
 
 /// Moves the cars at the places from `head` to before `tail`, region by region from the near end on. `ends` has for
-/// each region the place of the first car before it. The cell at the place before `head` is one that nobody reaches. Of
-/// the cars, `entered` have entered in the span between others: their places are those in `beside`, and their words in
-/// `batches`.
+/// each region the place of the first car before it. The cell at the place before `head` is one that nobody reaches.
 #[inline(never)]
 pub fn advance_regions(
     cells: &mut [u16],
     speeds: &mut [u8],
-    row: &[u16],
-    beside: &[u32],
-    batches: &[Batch],
-    index: usize,
-    entered: usize,
+    words: &StepWords,
     head: usize,
     tail: usize,
     regions: &[Region],
     ends: &[u32],
 )
     requires limits { (r : ℕ) → r < length regions.now → (region_at regions.now r).chances.limit ≤ GREATEST_SPEED }
-    requires index { index < 64 }
+    requires index { words.now.index < 64 }
     requires low { 0 < head }
     requires order { head ≤ tail }
     requires within { tail ≤ length cells.old }
     requires speeds { length speeds.old ≡ length cells.old }
-    requires row { tail ≤ length row.now }
-    requires beside { entered ≤ length beside.now }
-    requires batches { length batches.now ≡ length beside.now }
-    requires rising { ArePlacesRising entered beside.now }
-    requires below_tail { (i : ℕ) → i < entered → slice_index beside.now i < tail }
-    requires places { (i : ℕ) → i < entered → i ≤ slice_index beside.now i }
+    requires row { tail ≤ length words.now.row.now }
+    requires beside { words.now.entered ≤ length words.now.beside.now }
+    requires batches { length words.now.batches.now ≡ length words.now.beside.now }
+    requires rising { ArePlacesRising words.now.entered words.now.beside.now }
+    requires below_tail { (i : ℕ) → i < words.now.entered → slice_index words.now.beside.now i < tail }
+    requires places { (i : ℕ) → i < words.now.entered → i ≤ slice_index words.now.beside.now i }
     requires falling { AreFalling cells.old head tail }
     requires front { head < tail → slice_index cells.old head < slice_index cells.old (head - 1) }
     requires ends { length ends.now ≡ length regions.now }
@@ -79,95 +72,75 @@ pub fn advance_regions(
     ensures speeds { (r q : ℕ) → IsOfRegion (length regions.now) ends.now r q → head ≤ q → (word : ℕ) →
         let region = region_at regions.now r in
         let wish = wish_at region.chances.limit region.block cells.old speeds.old q in
-        (0 < wish → IsHigh16At row.now index entered beside.now batches.now q (word / 65536))
+        (0 < wish → IsHigh16At words.now.row.now words.now.index words.now.entered words.now.beside.now
+        words.now.batches.now q (word / 65536))
         → slice_index speeds.new q ≡ slowed_speed wish
         (comes_about word (chance_at (slice_index speeds.old q) region.chances.standing region.chances.moving)) }
 {
-    let mut last = entered;
+    let mut last = words.entered;
     let mut to = tail;
     for place in 0..regions.len() {
         let from = region_from(ends, place, head);
-        let first = first_from(beside, last, from);
-        advance_region(
-            cells,
-            speeds,
-            row,
-            beside,
-            batches,
-            index,
-            first,
-            last,
+        let first = first_from(words.beside, last, from);
+        let piece = Piece {
             from,
             to,
-            regions[place],
-        );
+            first,
+            last,
+        };
+        advance_region(cells, speeds, words, piece, regions[place]);
         last = first;
         to = from;
     }
 }
 
-// Moves the cars of a region, at the places from `from` to before `to`.
+// Moves the cars of a region.
 #[inline(always)]
 fn advance_region(
     cells: &mut [u16],
     speeds: &mut [u8],
-    row: &[u16],
-    beside: &[u32],
-    batches: &[Batch],
-    index: usize,
-    first: usize,
-    last: usize,
-    from: usize,
-    to: usize,
+    words: &StepWords,
+    piece: Piece,
     region: Region,
 )
     requires limit { region.chances.limit ≤ GREATEST_SPEED }
-    requires index { index < 64 }
-    requires low { 0 < from }
-    requires order { from ≤ to }
-    requires within { to ≤ length cells.old }
+    requires index { words.now.index < 64 }
+    requires low { 0 < piece.from }
+    requires order { piece.from ≤ piece.to }
+    requires within { piece.to ≤ length cells.old }
     requires speeds { length speeds.old ≡ length cells.old }
-    requires row { to ≤ length row.now }
-    requires cars { first ≤ last }
-    requires beside { last ≤ length beside.now }
-    requires batches { length batches.now ≡ length beside.now }
-    requires rising { ArePlacesRising last beside.now }
-    requires before { (i : ℕ) → i < first → slice_index beside.now i < from }
-    requires after { (i : ℕ) → first ≤ i → i < last → from ≤ slice_index beside.now i }
-    requires high { (i : ℕ) → i < last → slice_index beside.now i < to }
-    requires places { (i : ℕ) → i < last → i ≤ slice_index beside.now i }
-    requires falling { (q : ℕ) → from ≤ q → q < to → slice_index cells.old q < slice_index cells.old (q - 1) }
-    requires block { (q : ℕ) → from ≤ q → q < to → slice_index cells.old q < region.block }
+    requires row { piece.to ≤ length words.now.row.now }
+    requires cars { piece.first ≤ piece.last }
+    requires beside { piece.last ≤ length words.now.beside.now }
+    requires batches { length words.now.batches.now ≡ length words.now.beside.now }
+    requires rising { ArePlacesRising piece.last words.now.beside.now }
+    requires before { (i : ℕ) → i < piece.first → slice_index words.now.beside.now i < piece.from }
+    requires after { (i : ℕ) → piece.first ≤ i → i < piece.last → piece.from ≤ slice_index words.now.beside.now i }
+    requires high { (i : ℕ) → i < piece.last → slice_index words.now.beside.now i < piece.to }
+    requires places { (i : ℕ) → i < piece.last → i ≤ slice_index words.now.beside.now i }
+    requires falling { (q : ℕ) → piece.from ≤ q → q < piece.to
+        → slice_index cells.old q < slice_index cells.old (q - 1) }
+    requires block { (q : ℕ) → piece.from ≤ q → q < piece.to → slice_index cells.old q < region.block }
     ensures as_many_cells { length cells.new ≡ length cells.old }
     ensures as_many_speeds { length speeds.new ≡ length speeds.old }
-    ensures other_cells { (q : ℕ) → (q < from) ⊎ (to ≤ q) → slice_index cells.new q ≡ slice_index cells.old q }
-    ensures other_speeds { (q : ℕ) → (q < from) ⊎ (to ≤ q) → slice_index speeds.new q ≡ slice_index speeds.old q }
-    ensures cells { (q : ℕ) → from ≤ q → q < to → slice_index cells.new q
+    ensures other_cells { (q : ℕ) → (q < piece.from) ⊎ (piece.to ≤ q)
+        → slice_index cells.new q ≡ slice_index cells.old q }
+    ensures other_speeds { (q : ℕ) → (q < piece.from) ⊎ (piece.to ≤ q)
+        → slice_index speeds.new q ≡ slice_index speeds.old q }
+    ensures cells { (q : ℕ) → piece.from ≤ q → q < piece.to → slice_index cells.new q
         ≡ slice_index cells.old q + slice_index speeds.new q }
-    ensures speeds { (q : ℕ) → from ≤ q → q < to → (word : ℕ) →
+    ensures speeds { (q : ℕ) → piece.from ≤ q → q < piece.to → (word : ℕ) →
         let wish = wish_at region.chances.limit region.block cells.old speeds.old q in
-        (0 < wish → IsHigh16At row.now index last beside.now batches.now q (word / 65536))
+        (0 < wish → IsHigh16At words.now.row.now words.now.index piece.last words.now.beside.now
+        words.now.batches.now q (word / 65536))
         → slice_index speeds.new q ≡ slowed_speed wish
         (comes_about word (chance_at (slice_index speeds.old q) region.chances.standing region.chances.moving)) }
 {
-    if from == to {
+    if piece.from == piece.to {
         return;
     }
-    let front = cells[from - 1].min(region.block);
-    advance_between(
-        cells,
-        speeds,
-        row,
-        beside,
-        batches,
-        index,
-        first,
-        last,
-        from,
-        to,
-        region.chances,
-        front,
-    );
+    let front = cells[piece.from - 1].min(region.block);
+    advance_between(cells, speeds, words, piece, region.chances, front);
 }
 
 // Finds the place of the first car of a region: that behind the last car of the next one, of the last region `head`.

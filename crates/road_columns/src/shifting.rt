@@ -1,69 +1,62 @@
-//! Columns moved back to their first places, once in a span: cars leave them at the one end and enter at the other.
+//! Columns moved back to their first places, once in an interval: cars leave them at the one end and enter at the other.
 
-ghost use Rattle.std.specs.Prelude.{◌≡◌, ◌<◌, ◌≤◌, ◌+◌, ◌-◌, ◌^◌, ℕ, List, length, slice_index, slice_range};
+ghost use Rattle.std.specs.Prelude.{◌≡◌, ◌<◌, ◌≤◌, ◌+◌, ◌-◌, ◌^◌, ℕ, List, length, slice_index};
 ghost use Rattle.std.specs.List.{slice_index_or};
 ghost use Rattle.road_plan.specs.Plan.{Plan};
 ghost use Rattle.road_cells.specs.Array.{Array};
-ghost use Rattle.road_columns.specs.Columns.{AreColumnsOf};
+ghost use Rattle.road_columns.specs.Private.Cars.{AreCarsOf};
 ghost use Rattle.road_columns.specs.Private.Entering.{ArePlacesFrom};
 ghost use Rattle.road_columns.specs.Private.Step.{AreCarsInColumn};
 
+use crate::cars::CarColumns;
 use crate::cutting::NOWHERE;
 
-/// The place of the car at the far end, at a span's start.
+/// The place of the car at the far end, at an interval's start.
 pub const FIRST: usize = 8;
 
-/// Moves the cars at the places from `head` to before `tail` back to those from [`FIRST`] on, with the kept places of
-/// sites. Returns the place behind the last one.
+/// Moves the cars back to the places from [`FIRST`] on, with the kept places of sites.
 #[inline(never)]
-pub fn shift_back(
-    cells: &mut [u16],
-    speeds: &mut [u8],
-    numbers: &mut [u32],
-    places: &mut [u32],
-    head: usize,
-    tail: usize,
-) -> usize
-    requires from { FIRST ≤ head }
-    requires order { head ≤ tail }
-    requires inside { tail < length cells.old }
-    requires short { length cells.old < 65536 }
-    requires speeds { length speeds.old ≡ length cells.old }
-    requires numbers { length numbers.old ≡ length cells.old }
-    requires places { (d : ℕ) → d < length places.old → head ≤ slice_index places.old d }
-    ensures tail { result ≡ FIRST + (tail - head) }
-    ensures cells_each { length cells.new ≡ length cells.old }
-    ensures speeds_each { length speeds.new ≡ length speeds.old }
-    ensures numbers_each { length numbers.new ≡ length numbers.old }
-    ensures places_each { length places.new ≡ length places.old }
-    ensures cars { (p : Plan) → p.cells ≤ 65525 → AreCarsInColumn p head tail cells.old
-        → AreCarsInColumn p FIRST result cells.new }
-    ensures places { (sites : List ℕ) → ArePlacesFrom cells.old head tail sites places.old
-        → ArePlacesFrom cells.new FIRST result sites places.new }
-    ensures road { (a : Array) → AreColumnsOf a (slice_range cells.old head tail) (slice_range speeds.old head tail)
-        (slice_range numbers.old head tail)
-        → AreColumnsOf a (slice_range cells.new FIRST result) (slice_range speeds.new FIRST result)
-        (slice_range numbers.new FIRST result) }
+pub fn shift_back(cars: &mut CarColumns)
+    requires from { FIRST ≤ cars.old.head }
+    requires order { cars.old.head ≤ cars.old.tail }
+    requires inside { cars.old.tail < length cars.old.cells.items }
+    requires short { length cars.old.cells.items < 65536 }
+    requires speeds { length cars.old.speeds.items ≡ length cars.old.cells.items }
+    requires numbers { length cars.old.numbers.items ≡ length cars.old.cells.items }
+    requires places { (d : ℕ) → d < length cars.old.places.items → cars.old.head ≤ slice_index cars.old.places.items d }
+    ensures head { cars.new.head ≡ FIRST }
+    ensures tail { cars.new.tail ≡ FIRST + (cars.old.tail - cars.old.head) }
+    ensures cells_each { length cars.new.cells.items ≡ length cars.old.cells.items }
+    ensures speeds_each { length cars.new.speeds.items ≡ length cars.old.speeds.items }
+    ensures numbers_each { length cars.new.numbers.items ≡ length cars.old.numbers.items }
+    ensures cars { (p : Plan) → p.cells ≤ 65525
+        → AreCarsInColumn p cars.old.head cars.old.tail cars.old.cells.items
+        → AreCarsInColumn p cars.new.head cars.new.tail cars.new.cells.items }
+    ensures places { (sites : List ℕ)
+        → ArePlacesFrom cars.old.cells.items cars.old.head cars.old.tail sites cars.old.places.items
+        → ArePlacesFrom cars.new.cells.items cars.new.head cars.new.tail sites cars.new.places.items }
+    ensures road { (a : Array) → AreCarsOf a cars.old → AreCarsOf a cars.new }
 {
-    let end = FIRST + (tail - head);
-    move_back(cells, head, tail);
-    move_back(speeds, head, tail);
-    move_back(numbers, head, tail);
-    cells[FIRST - 1] = NOWHERE;
-    cells[end] = 0;
-    places_back(places, (head - FIRST) as u32);
-    end
+    let end = FIRST + (cars.tail - cars.head);
+    move_back(&mut cars.cells, cars.head, cars.tail);
+    move_back(&mut cars.speeds, cars.head, cars.tail);
+    move_back(&mut cars.numbers, cars.head, cars.tail);
+    cars.cells[FIRST - 1] = NOWHERE;
+    cars.cells[end] = 0;
+    places_back(&mut cars.places, (cars.head - FIRST) as u32);
+    cars.head = FIRST;
+    cars.tail = end;
 }
 
 // Moves what stands at the places from `head` to before `tail` to those from the first on.
 #[inline(always)]
-fn move_back<T: Copy>(column: &mut [T], head: usize, tail: usize)
+fn move_back<T: Copy>(column: &mut Vec<T>, head: usize, tail: usize)
     requires from { FIRST ≤ head }
     requires order { head ≤ tail }
-    requires inside { tail ≤ length column.old }
-    ensures long { length column.new ≡ length column.old }
+    requires inside { tail ≤ length column.old.items }
+    ensures long { length column.new.items ≡ length column.old.items }
     ensures moved { (d : T) → (i : ℕ) → i < tail - head
-        → slice_index_or column.new (FIRST + i) d ≡ slice_index_or column.old (head + i) d }
+        → slice_index_or column.new.items (FIRST + i) d ≡ slice_index_or column.old.items (head + i) d }
 {
     column.copy_within(head..tail, FIRST);
 }

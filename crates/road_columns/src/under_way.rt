@@ -1,23 +1,30 @@
 //! A run under way, whose road stands in columns.
 
-ghost use Rattle.std.specs.Prelude.{◌≡◌, ◌↔◌, ◌<◌, ◌≤◌, IfOk, OnOk, OnErr, IsFalse, IsTrue};
+ghost use Rattle.std.specs.Prelude.{◌≡◌, ◌↔◌, ◌<◌, ◌≤◌, ◌+◌, ◌*◌, ◌^◌, ℕ, [], length, false};
+ghost use Rattle.std.specs.Prelude.{IfOk, OnOk, OnErr, IsFalse, IsTrue};
 ghost use Rattle.std.specs.Arc.{arc_value};
 ghost use Rattle.std.specs.String.{string_bytes};
+ghost use Rattle.road_plan.specs.Plan.{exit_start};
 ghost use Rattle.road_plan.specs.Settings.{Fits};
+ghost use Rattle.road_words.specs.Words.{word};
 ghost use Rattle.road_plan.specs.declared.limits.TheConstants.{GREATEST_HORIZON};
 ghost use Rattle.road_ends.specs.Row.{row_of};
 ghost use Rattle.road_detector.specs.Passes.{no_totals};
+ghost use Rattle.road_columns.specs.Private.Cars.{road_of};
+ghost use Rattle.road_columns.specs.Private.Drawn.{drawn_word};
+ghost use Rattle.road_columns.specs.Private.Entering.{ArePlacesFrom};
+ghost use Rattle.road_columns.specs.Private.Step.{AreCarsInColumn};
 ghost use Rattle.road_columns.specs.UnderWay.{IsAt, IsRunnable, begun, nothing_counted, stepped};
 
-use crate::counts::{clear_counts, totals_now};
+use crate::cars::CarColumns;
+use crate::counts::{Counts, clear_counts, totals_now};
 use crate::finding::find_places;
 use crate::holding::{can_hold, hold, is_held, road_held};
-use crate::kept::Kept;
-use crate::regions::Region;
+use crate::interval::IntervalWords;
+use crate::layout::{Kept, Layout};
 use crate::shifting::FIRST;
-use crate::step::Extent;
-use crate::stepping::run_step;
-use crate::words::{Batch, SPAN, Source};
+use crate::step::run_step;
+use crate::words::{INTERVAL, Source};
 use road_cells::{Car, GREATEST_SPEED, Road};
 use road_detector::{Totals, row_text};
 use road_ends::{OutOfMemory, Stretch, are_same_settings, is_same_plan};
@@ -33,23 +40,10 @@ pub struct UnderWay {
     settings: Arc<Settings>,
     step: u32,
     stretch: Stretch,
-    source: Source,
-    // Whether the words of the step's span are there.
-    drawn: bool,
-    extent: Extent,
-    cells: Vec<u16>,
-    speeds: Vec<u8>,
-    numbers: Vec<u32>,
-    rows: Vec<u16>,
-    beside: Vec<u32>,
-    batches: Vec<Batch>,
-    inlets: Vec<Batch>,
-    high16s: Vec<u16>,
-    regions: Vec<Region>,
-    sites: Vec<u16>,
-    places: Vec<u32>,
-    passes: Vec<u32>,
-    totals: Vec<Totals>,
+    kept: Kept,
+    cars: CarColumns,
+    words: IntervalWords,
+    counts: Counts,
 }
 
 impl Model for UnderWay {
@@ -88,55 +82,19 @@ impl UnderWay {
         ensures { IfOk result (λ run. run ≡ begun (arc_value plan) (arc_value settings)) }
     {
         let kept = Kept::of(alloc, &plan, &settings)?;
-        let inlets = plan.inlets().len();
-        let detectors = plan.detectors().len();
-        let length = (plan.length() - plan.exit()) as usize + SPAN * inlets + FIRST + 1;
-        let mut cells = vec![in alloc; 0u16; length]?;
-        let mut speeds = vec![in alloc; 0u8; length]?;
-        let mut numbers = vec![in alloc; 0u32; length]?;
-        let rows = vec![in alloc; 0u16; SPAN * (length + 8)]?;
-        let beside = vec![in alloc; 0u32; SPAN * inlets]?;
-        let batches = vec![in alloc; [0u16; SPAN]; SPAN * inlets]?;
-        let inlet_words = vec![in alloc; [0u16; SPAN]; inlets]?;
-        let high16s = vec![in alloc; 0u16; inlets]?;
-        let passes = vec![in alloc; 0u32; detectors]?;
-        let totals = vec![in alloc; Totals { cars: 0, speeds: 0 }; detectors]?;
-        let nobody: [Car; 0] = [];
-        let tail = hold(&nobody, &mut cells, &mut speeds, &mut numbers);
-        let Kept {
-            regions,
-            sites,
-            mut places,
-        } = kept;
-        find_places(&cells, FIRST, tail, &sites, &mut places);
+        let cars = columns_for(alloc, &plan, &kept.sites)?;
+        let words = words_for(alloc, &plan, cars.width())?;
+        let counts = Counts::of(alloc, plan.detectors().len())?;
         let end = plan.length();
-        let source = Source::of(plan.words());
         Ok(UnderWay {
             plan,
             settings,
             step: 0,
             stretch: Stretch { first: 0, end },
-            source,
-            drawn: false,
-            extent: Extent {
-                head: FIRST,
-                tail,
-                entered: 0,
-                worded: false,
-            },
-            cells,
-            speeds,
-            numbers,
-            rows,
-            beside,
-            batches,
-            inlets: inlet_words,
-            high16s,
-            regions,
-            sites,
-            places,
-            passes,
-            totals,
+            kept,
+            cars,
+            words,
+            counts,
         })
     }
 
@@ -176,28 +134,24 @@ impl UnderWay {
         if !can_hold(road.cars(), stretch, exit_start) {
             return Ok(false);
         }
-        let mut kept = Kept::of(alloc, &self.plan, &settings)?;
+        let kept = Kept::of(alloc, &self.plan, &settings)?;
+        let mut places = vec![in alloc; 0u32; kept.sites.len()]?;
         let tail = hold(
             road.cars(),
-            &mut self.cells,
-            &mut self.speeds,
-            &mut self.numbers,
+            &mut self.cars.cells,
+            &mut self.cars.speeds,
+            &mut self.cars.numbers,
         );
-        find_places(&self.cells, FIRST, tail, &kept.sites, &mut kept.places);
-        clear_counts(&mut self.passes, &mut self.totals);
-        self.extent = Extent {
-            head: FIRST,
-            tail,
-            entered: 0,
-            worded: false,
-        };
-        self.drawn = false;
+        find_places(&self.cars.cells, FIRST, tail, &kept.sites, &mut places);
+        clear_counts(&mut self.counts.passes, &mut self.counts.totals);
+        self.cars.head = FIRST;
+        self.cars.tail = tail;
+        self.cars.places = places;
+        self.words.drawn = false;
         self.step = step;
         self.stretch = stretch;
         self.settings = settings;
-        self.regions = kept.regions;
-        self.sites = kept.sites;
-        self.places = kept.places;
+        self.kept = kept;
         Ok(true)
     }
 
@@ -211,18 +165,18 @@ impl UnderWay {
         ensures changed { OnOk result (self.new ≡ record self.old { settings = arc_value later }) }
         ensures err { OnErr result (self.new ≡ self.old) }
     {
-        let mut kept = Kept::of(alloc, &self.plan, &later)?;
+        let kept = Kept::of(alloc, &self.plan, &later)?;
+        let mut places = vec![in alloc; 0u32; kept.sites.len()]?;
         find_places(
-            &self.cells,
-            self.extent.head,
-            self.extent.tail,
+            &self.cars.cells,
+            self.cars.head,
+            self.cars.tail,
             &kept.sites,
-            &mut kept.places,
+            &mut places,
         );
         self.settings = later;
-        self.regions = kept.regions;
-        self.sites = kept.sites;
-        self.places = kept.places;
+        self.kept = kept;
+        self.cars.places = places;
         Ok(())
     }
 
@@ -231,30 +185,21 @@ impl UnderWay {
         requires { self.old.step < GREATEST_HORIZON }
         ensures { self.new ≡ stepped self.old }
     {
-        let (extent, drawn) = run_step(
-            &self.plan,
-            &self.settings,
-            &self.regions,
+        let layout = Layout {
+            plan: &self.plan,
+            settings: &self.settings,
+            regions: &self.kept.regions,
+            slowing: self.kept.slowing,
+            sites: &self.kept.sites,
+        };
+        run_step(
+            &layout,
             self.step,
             self.stretch,
-            self.source,
-            self.drawn,
-            self.extent,
-            &mut self.cells,
-            &mut self.speeds,
-            &mut self.numbers,
-            &mut self.rows,
-            &mut self.beside,
-            &mut self.batches,
-            &mut self.inlets,
-            &mut self.high16s,
-            &self.sites,
-            &mut self.places,
-            &mut self.passes,
-            &mut self.totals,
+            &mut self.cars,
+            &mut self.words,
+            &mut self.counts,
         );
-        self.extent = extent;
-        self.drawn = drawn;
         self.stretch.end = (self.stretch.end + u32::from(GREATEST_SPEED)).min(self.plan.length());
         self.step += 1;
     }
@@ -269,11 +214,11 @@ impl UnderWay {
     {
         road_held(
             alloc,
-            &self.cells,
-            &self.speeds,
-            &self.numbers,
-            self.extent.head,
-            self.extent.tail,
+            &self.cars.cells,
+            &self.cars.speeds,
+            &self.cars.numbers,
+            self.cars.head,
+            self.cars.tail,
         )
     }
 
@@ -298,14 +243,14 @@ impl UnderWay {
     pub fn totals(&self, alloc: Global) -> Result<Vec<Totals>, OutOfMemory>
         ensures { IfOk result (λ totals. totals.items ≡ self.now.totals) }
     {
-        totals_now(alloc, &self.passes, &self.totals)
+        totals_now(alloc, &self.counts.passes, &self.counts.totals)
     }
 
     /// Begins all counts anew.
     pub fn restart_counts(&mut self)
         ensures { self.new ≡ record self.old { totals = nothing_counted self.old.plan } }
     {
-        clear_counts(&mut self.passes, &mut self.totals);
+        clear_counts(&mut self.counts.passes, &mut self.counts.totals);
     }
 
     /// Answers whether it is a run of this plan. It takes no memory.
@@ -324,11 +269,11 @@ impl UnderWay {
             && self.stretch.end == self.plan.length()
             && is_held(
                 road,
-                &self.cells,
-                &self.speeds,
-                &self.numbers,
-                self.extent.head,
-                self.extent.tail,
+                &self.cars.cells,
+                &self.cars.speeds,
+                &self.cars.numbers,
+                self.cars.head,
+                self.cars.tail,
             )
     }
 
@@ -346,4 +291,66 @@ impl UnderWay {
         let UnderWay { step, .. } = self;
         *step
     }
+}
+
+// Makes columns for all cars before a plan's exit and those that enter in an interval. No car is in them.
+fn columns_for(alloc: Global, plan: &Plan, sites: &[u16]) -> Result<CarColumns, OutOfMemory>
+    ensures cells { IfOk result (λ cars. length cars.cells.items
+        ≡ exit_start plan.now + 64 * length plan.now.inlets + 9) }
+    ensures short { IfOk result (λ cars. length cars.cells.items < 65520) }
+    ensures speeds { IfOk result (λ cars. length cars.speeds.items ≡ length cars.cells.items) }
+    ensures numbers { IfOk result (λ cars. length cars.numbers.items ≡ length cars.cells.items) }
+    ensures head { IfOk result (λ cars. cars.head ≡ FIRST) }
+    ensures cars { IfOk result (λ cars. AreCarsInColumn plan.now cars.head cars.tail cars.cells.items) }
+    ensures places { IfOk result (λ cars. ArePlacesFrom cars.cells.items cars.head cars.tail sites.now
+        cars.places.items) }
+    ensures road { IfOk result (λ cars. road_of cars ≡ []) }
+{
+    let length = (plan.length() - plan.exit()) as usize
+        + INTERVAL * plan.inlets().len()
+        + FIRST
+        + 1;
+    let mut cells = vec![in alloc; 0u16; length]?;
+    let mut speeds = vec![in alloc; 0u8; length]?;
+    let mut numbers = vec![in alloc; 0u32; length]?;
+    let mut places = vec![in alloc; 0u32; sites.len()]?;
+    let nobody: [Car; 0] = [];
+    let tail = hold(&nobody, &mut cells, &mut speeds, &mut numbers);
+    find_places(&cells, FIRST, tail, sites, &mut places);
+    Ok(CarColumns {
+        cells,
+        speeds,
+        numbers,
+        head: FIRST,
+        tail,
+        places,
+    })
+}
+
+// Makes room for the words of a plan's intervals, in rows of `width` words.
+fn words_for(alloc: Global, plan: &Plan, width: usize) -> Result<IntervalWords, OutOfMemory>
+    requires { width < 2 ^ 32 }
+    ensures source { IfOk result (λ words. (stream place : ℕ) → drawn_word words.source stream place
+        ≡ word plan.now.words stream place) }
+    ensures drawn { IfOk result (λ words. words.drawn ≡ false) }
+    ensures rows { IfOk result (λ words. length words.rows.items ≡ 64 * width) }
+    ensures beside { IfOk result (λ words. length words.beside.items ≡ 64 * length plan.now.inlets) }
+    ensures batches { IfOk result (λ words. length words.batches.items ≡ length words.beside.items) }
+    ensures inlets { IfOk result (λ words. length words.inlets.items ≡ length plan.now.inlets) }
+{
+    let inlets = plan.inlets().len();
+    let rows = vec![in alloc; 0u16; INTERVAL * width]?;
+    let beside = vec![in alloc; 0u32; INTERVAL * inlets]?;
+    let batches = vec![in alloc; [0u16; INTERVAL]; INTERVAL * inlets]?;
+    let inlet_words = vec![in alloc; [0u16; INTERVAL]; inlets]?;
+    Ok(IntervalWords {
+        source: Source::of(plan.words()),
+        drawn: false,
+        worded: false,
+        rows,
+        entered: 0,
+        beside,
+        batches,
+        inlets: inlet_words,
+    })
 }

@@ -14,7 +14,7 @@ ghost use Rattle.road_replica.specs.declared.crowds.TheConstants.{MOST_CROWD_WRI
 ghost use Rattle.road_world.specs.Answers.{IsAnswer, fault_of_event, gone_after_answer, replica_number};
 ghost use Rattle.road_world.specs.Answers.{reply_to_event, sheet_at};
 ghost use Rattle.road_world.specs.Applied.{IsMade};
-ghost use Rattle.road_world.specs.Events.{carried_edits, makes_message, message_of_event, world_after_event};
+ghost use Rattle.road_world.specs.Events.{carried_edits, makes_message, message_of_event, sending_event, world_after_event};
 ghost use Rattle.road_format.specs.CommandGrammar.{HasFewWrites};
 ghost use Rattle.road_format.specs.Views.{answer_view, command_view, plan_line_view, shares_view, texts};
 ghost use Rattle.road_commands.specs.Laboratory.{answer_to, beyond_outcome, change_outcome, crowd_outcome};
@@ -39,7 +39,7 @@ use road_replica::{Crowd, Crowds, Reply};
 use road_scenario::Edit;
 use road_sheet::QueryCache;
 use road_workers::{Crew, CrewFault};
-use road_world::{Event, Message, World, WorldFault};
+use road_world::{Event, Message, Sending, World, WorldFault};
 use std::alloc::Global;
 use std::hash::BuildHasher;
 use std::marker::Model;
@@ -226,8 +226,8 @@ impl<S: BuildHasher + Copy> Laboratory<S> {
                 self.change(alloc, &event, crew)
             }
             Command::Import { edits, .. } => self.change(alloc, &Event::Import { at, edits }, crew),
-            Command::Send { name, .. } => self.make(alloc, &Event::Send { at }, name),
-            Command::Heads { name, .. } => self.make(alloc, &Event::Heads { at }, name),
+            Command::Send { name, .. } => self.make(alloc, at, Sending::Whole, name),
+            Command::Heads { name, .. } => self.make(alloc, at, Sending::Asked, name),
             Command::Beyond { heads, name, .. } => self.beyond(alloc, at, &heads, name),
             Command::Take { message, .. } => self.take(alloc, at, &message, crew),
             Command::Advance { to, .. } => self.change(alloc, &Event::Advance { at, to }, crew),
@@ -324,19 +324,25 @@ impl<S: BuildHasher + Copy> Laboratory<S> {
             result self.old self.new gone gone }
     {
         match self.message_of(asked) {
-            Some(message) => self.make(alloc, &Event::Beyond { at, message }, name),
+            Some(asked) => self.make(alloc, at, Sending::Answer { asked }, name),
             None => Ok(Answer::Refused(Refusal::NoMessage)),
         }
     }
 
-    // Makes the message of an event, and names it.
-    fn make(&mut self, alloc: Global, event: &Event, name: String) -> Result<Answer, CrewFault>
-        requires there { replica_number event.now < length self.old.replica_names }
-        requires makes { makes_message event.now ≡ true }
-        ensures { (gone : ℕ) → IsOutcome (message_outcome self.old event.now (string_bytes name)
-            (made_answer self.old.world event.now (string_bytes name))) result self.old self.new gone gone }
+    // Makes a message of a replica, and names it.
+    fn make(
+        &mut self,
+        alloc: Global,
+        at: u32,
+        sending: Sending,
+        name: String,
+    ) -> Result<Answer, CrewFault>
+        requires there { at < length self.old.replica_names }
+        ensures { (gone : ℕ) → IsOutcome (message_outcome self.old (sending_event at sending) (string_bytes name)
+            (made_answer self.old.world (sending_event at sending) (string_bytes name)))
+            result self.old self.new gone gone }
     {
-        let message = match self.made(alloc, event) {
+        let message = match self.made(alloc, at, sending) {
             Ok(message) => message,
             Err(fault) => return told(fault),
         };
@@ -344,21 +350,20 @@ impl<S: BuildHasher + Copy> Laboratory<S> {
             return Ok(Answer::Refused(Refusal::NameTaken));
         }
         let answer = answer_of_message(alloc, &message, String::from_str(alloc, &name)?)?;
-        self.post(event, message, name)?;
+        self.post(&sending.event(at), message, name)?;
         Ok(answer)
     }
 
-    // Makes the message of an event at a replica that is there.
-    fn made(&self, alloc: Global, event: &Event) -> Result<Message, WorldFault>
-        requires there { replica_number event.now < length self.now.replica_names }
-        requires makes { makes_message event.now ≡ true }
-        ensures made { IsMade self.now.world event.now result }
+    // Makes a message of a replica that is there.
+    fn made(&self, alloc: Global, at: u32, sending: Sending) -> Result<Message, WorldFault>
+        requires there { at < length self.now.replica_names }
+        ensures made { IsMade self.now.world (sending_event at sending) result }
         ensures fits { IfOk result (λ message. FitsSomePlan (carried_edits (Some message))) }
         ensures no_crew { IfErr result (λ fault. (n : ℕ) → gone_after_answer (Err fault) n ≡ n) }
         ensures winners { laboratory_of_winners self.now ≡ self.now }
         ensures replicas { length self.now.world.replicas ≡ length self.now.replica_names }
     {
-        self.world.message_by(alloc, event)
+        self.world.message_by(alloc, at, sending)
     }
 
     // Applies an event whose message is made already, and names that message. No message may have the name.

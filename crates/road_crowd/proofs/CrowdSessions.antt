@@ -1,11 +1,11 @@
 -- The sessions of a crowd, with one more at their end.
-use Rattle.std.proofs.Common.{◌≡◌, ◌∙◌, ℕ, ◌+◌, ◌≤◌, List, [], ◌∷◌, ◌++◌, length, map, refl, sym, subst, ap, arith}
+use Rattle.std.proofs.Common.{◌≡◌, ◌∙◌, ℕ, ◌+◌, ◌<◌, ◌≤◌, List, [], ◌∷◌, ◌++◌, length, map, refl, sym, subst, ap, arith}
 use Rattle.std.specs.Prelude.{◌≢◌, Vec}
 use Rattle.std.specs.List.{AllByRecursion}
 use Rattle.std.specs.declared.alloc.Global.{Global}
 use Rattle.std.proofs.lemmas.List.{length-map, map_push}
 use Rattle.road_replica.specs.Crowds.{shares_of}
-use Rattle.road_sessions.specs.Closings.{AreAll}
+use Rattle.road_sessions.specs.Closings.{AreAll, AreApart}
 use Rattle.road_scenario.specs.declared.edit.Edit.{Edit}
 use Rattle.road_sessions.specs.Sessions.{AreNewSessions, Session, new_view, session_of}
 use Rattle.road_sessions.specs.declared.entry.Entry.{Entry}
@@ -51,16 +51,19 @@ above_less n [] above = tt
 above_less n (t ∷ ss) above = ((let up = above.0 in omega arith), above_less n ss above.1)
 
 all_from : (n : ℕ) (ss : List Session) (shares : List (List Edit)) (to : ℕ) → map work_of ss ≡ works_from n shares to
-    → AreAll (length shares) ss × AllByRecursion (λ (t : Session). n ≤ t.number) ss
-all_from n [] [] to work = ((refl, tt), tt)
+    → (length ss ≡ length shares) × AreApart ss × AllByRecursion (λ (t : Session). n ≤ t.number) ss
+    × AllByRecursion (λ (t : Session). t.number < n + length shares) ss
+all_from n [] [] to work = (refl, tt, tt, tt)
 all_from n [] (share ∷ shares) to work = let count = ap (λ (works : List (ℕ × List Entry)). length works) work in absurd (omega arith)
 all_from n (s ∷ ss) [] to work = let count = ap (λ (works : List (ℕ × List Entry)). length works) work in absurd (omega arith)
 all_from n (s ∷ ss) (share ∷ shares) to work =
     let is : s.number ≡ n = ap first_number work in
     let rest = all_from (n + 1) ss shares to (ap works_behind work) in
-    let count = rest.0.0 in (
-      ((omega arith), (others n s ss is rest.1, rest.0.1)),
-      ((omega arith), above_less n ss rest.1),
+    let count = rest.0 in (
+      omega arith,
+      (others n s ss is rest.2, rest.1),
+      ((omega arith), above_less n ss rest.2),
+      ((omega arith), subst (λ (k : ℕ). AllByRecursion (λ (t : Session). t.number < k) ss) (omega arith) rest.3),
     )
 
 -- sessions that have done the work of all shares are all that a store of so many has
@@ -68,4 +71,7 @@ pub all_given : (parts : ℕ) (ss : List Session) (vecs : List (Vec Edit Global)
     → map work_of ss ≡ works_from 0 (shares_of vecs) to → AreAll parts ss
 all_given parts ss vecs to is work =
     let same : length (shares_of vecs) ≡ parts = length-map vecs (λ (v : Vec Edit Global). v.items) ∙ sym is in
-    subst (λ (n : ℕ). AreAll n ss) same (all_from 0 ss (shares_of vecs) to work).0
+    let all = all_from 0 ss (shares_of vecs) to work in
+    let below : AllByRecursion (λ (t : Session). t.number < length (shares_of vecs)) ss =
+    subst (λ (k : ℕ). AllByRecursion (λ (t : Session). t.number < k) ss) (omega arith) all.3 in
+    subst (λ (n : ℕ). AreAll n ss) same (all.0, all.1, below)

@@ -9,12 +9,14 @@ ghost use Rattle.road_replica.specs.Crowds.{crowd_winners, crowd_writes, shares_
 ghost use Rattle.road_replica.specs.declared.crowds.TheConstants.{MOST_CROWD_WRITES};
 ghost use Rattle.road_sessions.specs.Journals.{replica_of_plan};
 
+use crate::faults::opening_fault;
 use crate::permit::Permit;
 use crate::threads::{Task, in_threads};
 use road_plan::Plan;
 use road_replica::{Crowd, write_count};
 use road_scenario::Edit;
 use road_sessions::{Closed, Naming, Prepared, close, open, prepare};
+use road_sheet::SheetFault;
 use road_sheet::simulation::{State, row_of};
 use road_workers::{CrewFault, Gate};
 use std::alloc::Global;
@@ -54,9 +56,9 @@ pub fn crowd<W: Threads + Wait, G: Gate + Sync>(
     let count = shares.len() as u32;
     let writes = write_count(shares);
     let plan_of_store = Arc::try_clone(plan)?;
-    let Ok(prepared) = prepare(Permit::of(rt), alloc, plan_of_store, 0, count, writes) else {
-        return Err(CrewFault::OutOfMemory);
-    };
+    let prepared = prepare(Permit::of(rt), alloc, plan_of_store, 0, count, writes).map_err(
+        opening_fault,
+    )?;
     let task = Task { alloc, gate, to };
     left::<Brand, _, W, G>(rt, prepared, plan, shares, &task)
 }
@@ -83,9 +85,7 @@ fn left<J: Naming + Send + Sync, R: Wait + Drop + Send, W: Threads + Wait, G: Ga
     ensures row { IfOk result (λ crowd. string_bytes crowd.row
         ≡ row_at (arc_value plan.now) (crowd_winners (shares_of shares.now)) task.now.to) }
 {
-    let Ok((shared, sessions)) = open::<J, R>(prepared) else {
-        return Err(CrewFault::OutOfMemory);
-    };
+    let (shared, sessions) = open::<J, R>(prepared).map_err(opening_fault)?;
     let sessions = in_threads(rt, &shared, sessions, shares, task)?;
     match close(shared, sessions) {
         Ok(closed) => shown(task.alloc, &closed, task.to),
@@ -104,8 +104,12 @@ fn shown(alloc: Global, closed: &Closed, to: u32) -> Result<Crowd, CrewFault>
         ≡ row_at (arc_value closed.now.sheet).plan (arc_value closed.now.sheet).edits to) }
 {
     let sheet = &closed.sheet;
-    let Ok(road) = sheet.state(alloc, to) else {
-        return Err(CrewFault::OutOfMemory);
+    let road = match sheet.state(alloc, to) {
+        Ok(road) => road,
+        Err(SheetFault::OutOfMemory) => return Err(CrewFault::OutOfMemory),
+        // The sheet is simulated up to this step.
+        Err(SheetFault::NoDetector | SheetFault::Range | SheetFault::NotSimulated) =>
+            unreachable!(),
     };
     let state = State { step: to, road };
     let row = row_of(alloc, sheet.plan(), sheet.scenario(), &state)?;

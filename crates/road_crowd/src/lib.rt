@@ -8,6 +8,7 @@
 //! ```
 #![tactic(auto)]
 
+mod faults;
 mod gathering;
 mod on_threads;
 mod permit;

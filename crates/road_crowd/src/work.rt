@@ -7,6 +7,7 @@ ghost use Rattle.road_sessions.specs.Merges.{entries_written};
 ghost use Rattle.road_sessions.specs.declared.entry.SheetCommand.TheVariants.{Advance, Take};
 ghost use Rattle.road_crowd.specs.Private.Works.{share_entries};
 
+use crate::faults::write_fault;
 use road_ends::Meter;
 use road_plan::OutOfMemory;
 use road_scenario::{Edit, Scenario};
@@ -53,8 +54,7 @@ fn take<J: Naming, R: Wait + Drop, W: Wait>(
     let scenario = single(alloc, edit)?;
     match session.take(rt, shared, &scenario, &mut Alone, meter) {
         Ok(_wrote) => Ok(()),
-        // The edit fits, the journal was opened with room for all, and the crew of one loses no worker: there was no memory.
-        Err(_fault) => Err(OutOfMemory),
+        Err(fault) => Err(write_fault(fault)),
     }
 }
 
@@ -79,7 +79,6 @@ fn advance<J: Naming, R: Wait + Drop, W: Wait>(
 {
     match session.advance(rt, shared, to, &mut Alone, meter) {
         Ok(_wrote) => Ok(()),
-        // The step is within the limit, and the rest is as for an edit: there was no memory.
-        Err(_fault) => Err(OutOfMemory),
+        Err(fault) => Err(write_fault(fault)),
     }
 }

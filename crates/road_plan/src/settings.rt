@@ -158,25 +158,41 @@ impl Settings {
 fn speed_limits_of(alloc: Global, zones: &[(u32, u32)]) -> Result<Vec<u32>, OutOfMemory>
     ensures { IfOk result (λ limits. limits.items ≡ map (λ zone. zone.0) zones.now) }
 {
-    zones.iter().map(|zone| zone.0).collect(alloc)
+    let mut limits = Vec::with_capacity(alloc, zones.len())?;
+    for zone in zones {
+        limits.push(zone.0)?;
+    }
+    Ok(limits)
 }
 
 fn chances_of(alloc: Global, zones: &[(u32, u32)]) -> Result<Vec<u32>, OutOfMemory>
     ensures { IfOk result (λ chances. chances.items ≡ map (λ zone. zone.1) zones.now) }
 {
-    zones.iter().map(|zone| zone.1).collect(alloc)
+    let mut chances = Vec::with_capacity(alloc, zones.len())?;
+    for zone in zones {
+        chances.push(zone.1)?;
+    }
+    Ok(chances)
 }
 
 fn inflows_of(alloc: Global, inlets: &[(u32, u32)]) -> Result<Vec<u32>, OutOfMemory>
     ensures { IfOk result (λ inflows. inflows.items ≡ map (λ inlet. inlet.1) inlets.now) }
 {
-    inlets.iter().map(|inlet| inlet.1).collect(alloc)
+    let mut inflows = Vec::with_capacity(alloc, inlets.len())?;
+    for inlet in inlets {
+        inflows.push(inlet.1)?;
+    }
+    Ok(inflows)
 }
 
 fn all_on(alloc: Global, detectors: &[u32]) -> Result<Vec<bool>, OutOfMemory>
     ensures { IfOk result (λ watched. watched.items ≡ map (λ site. true) detectors.now) }
 {
-    detectors.iter().map(|_| true).collect(alloc)
+    let mut watched = Vec::with_capacity(alloc, detectors.len())?;
+    for _site in detectors {
+        watched.push(true)?;
+    }
+    Ok(watched)
 }
 
 fn are_at_most(numbers: &[u32], most: u32) -> bool

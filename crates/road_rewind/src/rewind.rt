@@ -30,7 +30,7 @@ use std::alloc::Global;
 /// # Errors
 ///
 /// `WorkersGone` where the crew answers so, else `OutOfMemory` where an allocation failed. The meter has then counted
-/// no more steps than a call that succeeds may.
+/// the steps of what was finished, and none of the run of several steps that was refused: no more than where it succeeds.
 pub fn grown<C: Crew>(
     alloc: Global,
     sheet: &Sheet,
@@ -44,7 +44,7 @@ pub fn grown<C: Crew>(
     ensures sheet { IfOk result (λ done. done.sheet ≡ grown_sheet sheet.now scenario.now to) }
     ensures above { IfOk result (λ done. IsAtMost sheet.now done.sheet) }
     ensures touched { IfOk result (λ done. done.touched ≡ touched_step sheet.now scenario.now) }
-    // Each step that is computed is counted: those from where its run is taken up.
+    // Where it succeeds, each step that is computed is counted: those from where its run is taken up.
     ensures steps { IfOk result (λ _. meter.new
         ≡ meter_after meter.old (max sheet.now.horizon to - draft_start sheet.now.horizon
         (kept_step sheet.now.horizon (touched_step sheet.now scenario.now)))) }
@@ -99,7 +99,7 @@ fn kept_step(horizon: u32, touched: Option<u32>) -> u32
     }
 }
 
-// Simulates a draft up to a step. The meter counts each step.
+// Simulates a draft up to a step. The meter counts each step, several at once where they are one run.
 fn simulate<C: Crew>(
     alloc: Global,
     draft: &mut Draft,
@@ -125,7 +125,7 @@ fn simulate<C: Crew>(
 }
 
 // Simulates the next steps of a draft: by one run of the crew where it runs several steps, and else one after another.
-// The meter counts each step.
+// The meter counts all steps of a run once the draft has them, and none where the run or its taking is refused.
 fn simulate_span<C: Crew>(
     alloc: Global,
     draft: &mut Draft,
@@ -154,7 +154,8 @@ fn simulate_span<C: Crew>(
     }
 }
 
-// Simulates a draft up to a step, one step after another. The meter counts each.
+// Simulates a draft up to a step, one step after another. The meter counts each that the draft has, also before a
+// refusal.
 fn simulate_steps<C: Crew>(
     alloc: Global,
     draft: &mut Draft,

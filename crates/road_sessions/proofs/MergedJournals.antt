@@ -1,5 +1,5 @@
 -- A journal replayed leaves the winners of all edits that it takes, at the greatest step that it advances to.
-use Rattle.std.proofs.Common.{◌≡◌, ◌∙◌, max, List, [], ◌∷◌, sym, ap, arith}
+use Rattle.std.proofs.Common.{◌≡◌, ◌∙◌, max, List, [], ◌∷◌, sym, ap, arith, subst}
 use Rattle.std.specs.Prelude.{◌||◌}
 use Rattle.lattice_core.specs.Sets.{contains, empty, union}
 use Rattle.lattice_core.proofs.SetElements.{contains-empty, contains-union, same_set}
@@ -7,10 +7,11 @@ use Rattle.lattice_core.proofs.GreatestElements.{union-assoc, union-comm}
 use Rattle.road_scenario.specs.Edits.{Edits, edit_cmp}
 use Rattle.road_scenario.specs.Instances.EditOrder.{edit_total, edit_exact, winners_laws}
 use Rattle.road_scenario.specs.Winners.{AreWinners, join, winners}
+use Rattle.road_scenario.proofs.NoEdits.{winners-empty}
 use Rattle.road_sheet.specs.Commands as commands
 use Rattle.road_sheet.specs.Sheets.{Sheet}
 use Rattle.road_replica.specs.Replicas.{Replica, replica_after}
-use Rattle.road_sessions.specs.Journals.{entry_command, replay}
+use Rattle.road_sessions.specs.Journals.{entry_command, replay, replica_of_plan}
 use Rattle.road_sessions.specs.Merges.{command_edits, command_step, edits_taken, latest_step, merged_sheet}
 use Rattle.road_sessions.specs.declared.entry.SheetCommand.{SheetCommand}
 use Rattle.road_sessions.specs.declared.entry.SheetCommand.TheVariants.{Take, Advance}
@@ -69,3 +70,7 @@ same_sheet s t plan edits horizon = λ i. let u : Sheet = record { plan = plan i
 pub sheet_of_replay : (r : Replica) (journal : List Entry) → AreWinners r.sheet.edits → (replay r journal).sheet ≡ merged_sheet r journal
 sheet_of_replay r journal wins =
     same_sheet (replay r journal).sheet (merged_sheet r journal) (plan_kept r journal) (merges_edits journal r wins) (reaches_latest journal r)
+
+-- the same where the replica was just opened, and so holds no edit
+pub sheet_of_opened : (r : Replica) (journal : List Entry) → r ≡ replica_of_plan r.sheet.plan r.number → (replay r journal).sheet ≡ merged_sheet r journal
+sheet_of_opened r journal opened = sheet_of_replay r journal (subst (λ (q : Replica). AreWinners q.sheet.edits) (sym opened) winners-empty)

@@ -1,5 +1,5 @@
 -- What is left when a store is closed.
-use Rattle.std.specs.Prelude.{◌≡◌, ◌≢◌, ◌+◌, ℕ, List, [], ◌∷◌, length}
+use Rattle.std.specs.Prelude.{◌≡◌, ◌≢◌, ◌+◌, ◌<◌, ℕ, List, [], ◌∷◌, length}
 use Rattle.std.specs.List.{AllByRecursion}
 use mathlib.Core.List.{IsPrefix}
 use Rattle.road_sessions.specs.declared.entry.Entry.{Entry}
@@ -11,9 +11,9 @@ abbrev pub AreApart : List Session → Type 0
 AreApart [] = Unit {0}
 AreApart (s ∷ ss) = AllByRecursion (λ t. s.number ≢ t.number) ss × AreApart ss
 
--- these are all the sessions of a store that was opened with so many
+-- these are all the sessions of a store that was opened with so many: each number below the count is that of one
 abbrev pub AreAll : ℕ → List Session → Type 0
-AreAll count ss = (length ss ≡ count) × AreApart ss
+AreAll count ss = (length ss ≡ count) × AreApart ss × AllByRecursion (λ s. s.number < count) ss
 
 -- how many writes these sessions made together
 abbrev pub write_count : List Session → ℕ

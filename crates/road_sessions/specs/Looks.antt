@@ -1,12 +1,12 @@
 -- Looks, and what they answer.
-use Rattle.std.specs.Prelude.{◌≡◌, ◌⊎◌, ◌+◌}
+use Rattle.std.specs.Prelude.{◌≡◌, ◌⊎◌, ◌+◌, ◌<◌, length}
 use Rattle.std.specs.declared.option.Option.{Option}
-use Rattle.std.specs.declared.option.Option.TheVariants.{None, Some}
+use Rattle.std.specs.declared.option.Option.TheVariants.{None}
 use mathlib.Core.List.{IsPrefix}
 use Rattle.road_replica.specs.Replicas.{Replica}
-use Rattle.road_sheet.specs.Sheets.{Sheet}
+use Rattle.road_sheet.specs.Sheets.{IsRefusalBy, Sheet}
 use Rattle.road_sheet.specs.declared.faults.SheetFault.{SheetFault}
-use Rattle.road_sheet.specs.declared.faults.SheetFault.TheVariants as sheets
+use Rattle.road_sheet.specs.declared.faults.SheetFault.TheVariants.{OutOfMemory}
 use Rattle.road_sessions.specs.declared.faults.LookFault.{LookFault}
 use Rattle.road_sessions.specs.declared.faults.LookFault.TheVariants.{NotEntered, Sheet as OfSheet}
 use Rattle.road_sessions.specs.Journals.{IsLegal, AreInJournal, replay}
@@ -31,19 +31,19 @@ HasLooked r s t = HasEntered r s t × (t.seen ≡ t.view.found)
 abbrev pub sheet_seen : Replica → Session → Sheet
 sheet_seen r t = (replay r t.seen).sheet
 
--- a refused look: the store was not entered and nothing has changed; or it was entered and its sheet could not be had,
--- and the session has seen what was published, or what it had seen before
-abbrev pub IsLookRefusal : Replica → LookFault → Session → Session → Type 0
-IsLookRefusal r NotEntered s t = t ≡ s
-IsLookRefusal r (OfSheet sheets.OutOfMemory) s t = HasEntered r s t × ((t.seen ≡ t.view.found) ⊎ (t.seen ≡ s.seen))
-IsLookRefusal r (OfSheet fault) s t = ⊥
+-- what was found in the store is less than the session had seen, and it has seen no more
+abbrev pub HasFoundLess : Session → Session → Type 0
+HasFoundLess s t = (t.seen ≡ s.seen) × (length t.view.found < length s.seen)
 
--- a query that the sheet seen refuses for a named cause, or for out of memory where there is none
-abbrev pub IsSheetRefusal : Option SheetFault → LookFault → Type 0
-IsSheetRefusal (Some cause) fault = fault ≡ OfSheet cause
-IsSheetRefusal None fault = fault ≡ OfSheet sheets.OutOfMemory
-
--- a refused query: its look was refused; or the session looked, and the sheet seen refuses it
+-- a refused query. The store was not entered, and nothing has changed; or the session has looked, and the sheet that it
+-- has seen refuses the query, out of memory only where no named cause stands; or the store was entered, and less was
+-- found there than the session had seen, which is out of memory
 abbrev pub IsQueryRefusal : (Sheet → Option SheetFault) → Replica → LookFault → Session → Session → Type 0
-IsQueryRefusal cause_at r fault s t =
-    IsLookRefusal r fault s t ⊎ (HasLooked r s t × IsSheetRefusal (cause_at (sheet_seen r t)) fault)
+IsQueryRefusal cause_at r NotEntered s t = t ≡ s
+IsQueryRefusal cause_at r (OfSheet fault) s t =
+    (HasLooked r s t × IsRefusalBy (cause_at (sheet_seen r t)) fault)
+    ⊎ (HasEntered r s t × HasFoundLess s t × (fault ≡ OutOfMemory))
+
+-- a refused look: no named cause stands against it
+abbrev pub IsLookRefusal : Replica → LookFault → Session → Session → Type 0
+IsLookRefusal r fault s t = IsQueryRefusal (λ _. None) r fault s t

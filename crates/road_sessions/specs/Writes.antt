@@ -11,11 +11,12 @@ use Rattle.road_replica.specs.declared.faults.ReplicaFault.{ReplicaFault}
 use Rattle.road_replica.specs.declared.faults.ReplicaFault.TheVariants as causes
 use Rattle.road_replica.specs.declared.reply.Reply.{Reply}
 use Rattle.road_replica.specs.declared.reply.Reply.TheVariants.{Stamped, Touched, Horizon}
+use Rattle.road_scenario.specs.declared.edit.Value.TheVariants.{Put, Withdrawn}
 use Rattle.road_sessions.specs.declared.entry.SheetCommand.{SheetCommand}
 use Rattle.road_sessions.specs.declared.entry.SheetCommand.TheVariants as commands
 use Rattle.road_sessions.specs.declared.entry.Entry.{Entry}
 use Rattle.road_sessions.specs.declared.wish.Wish.{Wish}
-use Rattle.road_sessions.specs.declared.wish.Wish.TheVariants.{Take, Advance, Edit}
+use Rattle.road_sessions.specs.declared.wish.Wish.TheVariants.{Take, Advance, Edit, Withdraw}
 use Rattle.road_sessions.specs.declared.faults.WriteFault.{WriteFault}
 use Rattle.road_sessions.specs.declared.faults.WriteFault.TheVariants.{JournalFull, Replica as OfReplica}
 use Rattle.road_sessions.specs.Journals.{entry_command, replay}
@@ -24,13 +25,15 @@ use Rattle.road_sessions.specs.Journals.{entry_command, replay}
 abbrev pub wish_command : Wish → Replica → SheetCommand
 wish_command (Take edits) r = commands.Take edits.now
 wish_command (Advance to) r = commands.Advance to
-wish_command (Edit made) r = commands.Take (single_edit (edit_made r made.object made.step made.value))
+wish_command (Edit object step value) r = commands.Take (single_edit (edit_made r object step (Put value)))
+wish_command (Withdraw object step) r = commands.Take (single_edit (edit_made r object step Withdrawn))
 
 -- the reply to a wish: the touched step, the horizon, or the fresh stamp
 abbrev pub reply_to : Wish → Replica → Reply
 reply_to (Take edits) r = Touched (touched_step r.sheet edits.now)
 reply_to (Advance to) r = Horizon (max r.sheet.horizon to)
-reply_to (Edit made) r = Stamped (edit_made r made.object made.step made.value).stamp
+reply_to (Edit object step value) r = Stamped (edit_made r object step (Put value)).stamp
+reply_to (Withdraw object step) r = Stamped (edit_made r object step Withdrawn).stamp
 
 -- how many steps are computed for a wish where it is accepted
 abbrev pub steps_of_wish : Wish → Replica → ℕ
@@ -45,7 +48,8 @@ most_steps_of_wish wish r = most_steps_of_command (entry_command (wish_command w
 abbrev pub wish_fault : Wish → Replica → Option ReplicaFault
 wish_fault (Take edits) r = refusals.take_fault r.sheet.plan edits.now
 wish_fault (Advance to) r = refusals.advance_fault to
-wish_fault (Edit made) r = refusals.edit_fault r made.object made.step made.value
+wish_fault (Edit object step value) r = refusals.edit_fault r object step (Put value)
+wish_fault (Withdraw object step) r = refusals.edit_fault r object step Withdrawn
 
 -- the first named cause for which a write is refused, where the journal has room for so many entries
 abbrev pub write_fault : ℕ → Wish → Replica → List Entry → Option WriteFault
@@ -57,6 +61,14 @@ write_fault limit wish r journal =
 abbrev pub IsWriteRefusal : Option WriteFault → WriteFault → Type 0
 IsWriteRefusal (Some cause) fault = fault ≡ cause
 IsWriteRefusal None fault = (fault ≡ OfReplica causes.WorkersGone) ⊎ (fault ≡ OfReplica causes.OutOfMemory)
+
+-- a write is refused, where this is the first named cause that stands at what its session has seen: for that cause, or
+-- for a full journal. Where none stands there, what others wrote may have filled the journal or spent the counts; else
+-- workers were lost or it was out of memory
+abbrev pub IsRefusalAsSeen : Option WriteFault → WriteFault → Type 0
+IsRefusalAsSeen (Some cause) fault = (fault ≡ cause) ⊎ (fault ≡ JournalFull)
+IsRefusalAsSeen None fault =
+    ((fault ≡ JournalFull) ⊎ (fault ≡ OfReplica causes.CountsSpent)) ⊎ IsWriteRefusal None fault
 
 -- an accepted write behind a journal: no named cause stands, and the meter counts just the steps of the wish
 pub record IsAccepted (limit : ℕ) (wish : Wish) (r : Replica) (journal : List Entry) (meter later : ℕ) : Type 0 where

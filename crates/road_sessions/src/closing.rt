@@ -1,10 +1,11 @@
 //! The closing of a store.
-ghost use Rattle.std.specs.Prelude.{◌≡◌, ◌≢◌, ◌+◌, IfErr, IfOk, IsTrue, MatchBool, MatchResult, length};
+ghost use Rattle.std.specs.Prelude.{◌≡◌, ◌≢◌, ◌+◌, ◌<◌, IfErr, IfOk, IsTrue, MatchBool, MatchResult, length};
 ghost use Rattle.std.specs.Arc.{arc_value};
 ghost use Rattle.std.specs.List.{AllByRecursion};
 ghost use Rattle.road_sessions.specs.Closings.{AreAll, AreApart, IsWrittenBy, write_count};
 ghost use Rattle.road_sessions.specs.Private.ClosingSessions.{IsSessionOf};
 ghost use Rattle.road_sessions.specs.Journals.{replay};
+ghost use Rattle.road_sessions.specs.Merges.{merged_sheet};
 ghost use Rattle.road_sessions.specs.declared.faults.CloseCause.TheVariants as causes;
 
 use crate::entry::Entry;
@@ -44,7 +45,8 @@ where
 
 /// Closes a store whose sessions are all given, in any order. The journal is just what they wrote: it has as many
 /// entries as they made writes, those of each session's number are that session's, each once, at their places and in
-/// order, and what each session has seen is a prefix of it. The sheet is that of the journal replayed.
+/// order, and what each session has seen is a prefix of it. The sheet is that of the journal replayed: it has the winners
+/// of all edits that the journal takes, and its horizon is the greatest step that the journal advances to.
 ///
 /// # Errors
 ///
@@ -57,6 +59,7 @@ pub fn close<J: Naming, R: Wait + Drop>(
     ensures journal { IfOk result (λ closed. IsWrittenBy closed.journal.items sessions.items) }
     ensures sheet { IfOk result
         (λ closed. arc_value closed.sheet ≡ (replay J.replica closed.journal.items).sheet) }
+    ensures merged { IfOk result (λ closed. arc_value closed.sheet ≡ merged_sheet J.replica closed.journal.items) }
     ensures all { MatchResult result (λ _. AreAll J.parts sessions.items)
         (λ fault. (fault.cause ≡ causes.Missing) × ¬ AreAll J.parts sessions.items) }
     ensures unchanged { IfErr result (λ fault. (fault.shared ≡ shared) × (fault.sessions.items ≡ sessions.items)) }
@@ -103,6 +106,7 @@ fn are_apart<J: Naming>(sessions: &[Session<J>]) -> bool
 // Shows that what each of them has seen is a prefix of the history, where their writes stand then.
 fn know_all<J: Naming>(sessions: &[Session<J>], head: &Head<J>, history: &mut Whole<J>)
     ensures all { AllByRecursion (IsSessionOf history.old) sessions.now }
+    ensures below { AllByRecursion (λ s. s.number < J.parts) sessions.now }
     ensures same { history.new ≡ history.old }
 {
     if let Some((first, rest)) = sessions.split_first() {

@@ -10,7 +10,8 @@ ghost use Rattle.road_replica.specs.Replicas.{replica_after};
 ghost use Rattle.road_replica.specs.Writes.{IsAccepted as IsDone, most_steps_of_command};
 ghost use Rattle.road_replica.specs.declared.faults.ReplicaFault.TheVariants as replica_faults;
 ghost use Rattle.road_sessions.specs.declared.entry.TheConstants.{MOST_WRITES};
-ghost use Rattle.road_sessions.specs.Journals.{entry_command, entry, replay};
+ghost use Rattle.road_sessions.specs.Journals.{entry_command, entry, replay, replica_of_plan};
+ghost use Rattle.road_sessions.specs.Merges.{merged_sheet};
 ghost use Rattle.road_sessions.specs.Private.Errands.{IsNext, reply_to_command};
 ghost use Rattle.road_sessions.specs.Sessions.{AreNewSessions, IsAcceptedWrite, IsRefusedWrite, new_view, session_of};
 ghost use Rattle.road_sessions.specs.Writes.{CountsGone, IsAccepted, IsRefused, reply_to, wish_command};
@@ -66,6 +67,7 @@ where
     pub ghost few: { limit ≤ MOST_WRITES },
     pub ghost room: { limit ≡ J.limit },
     pub ghost spared: { (spare.parts ≡ 0) × (spare.amount ≡ 0) },
+    pub ghost opening: { J.replica ≡ replica_of_plan J.replica.sheet.plan J.replica.number },
 }
 
 impl<J: Naming, R: Wait + Drop> Drop for Held<J, R> {
@@ -274,6 +276,7 @@ impl<J: Naming, R: Wait + Drop> Held<J, R> {
     ) -> Result<Vec<Session<J>>, OpenFault>
         requires empty { self.now.journal.items ≡ [] }
         requires whole { (whole.parts ≡ count) × (whole.amount ≡ 0) }
+        requires all { count ≡ J.parts }
         ensures { IfOk result (λ sessions. (length sessions.items ≡ count) × AreNewSessions 0 sessions.items) }
     {
         let mut sessions = Vec::new(self.alloc);
@@ -302,6 +305,7 @@ impl<J: Naming, R: Wait + Drop> Held<J, R> {
     ) -> Result<Vec<Session<J>>, OpenFault>
         requires empty { self.old.journal.items ≡ [] }
         requires whole { (whole.parts ≡ count) × (whole.amount ≡ 0) }
+        requires all { count ≡ J.parts }
         ensures sessions { IfOk result (λ sessions. (length sessions.items ≡ count) × AreNewSessions 0 sessions.items) }
         ensures journal { self.new.journal ≡ self.old.journal }
         ensures limit { self.new.limit ≡ self.old.limit }
@@ -314,6 +318,7 @@ impl<J: Naming, R: Wait + Drop> Held<J, R> {
     pub(crate) fn into_sheet_and_journal(self) -> (Arc<Sheet>, Vec<Entry>)
         ensures journal { result.1 ≡ self.journal }
         ensures sheet { arc_value result.0 ≡ (replay J.replica result.1.items).sheet }
+        ensures merged { arc_value result.0 ≡ merged_sheet J.replica result.1.items }
     {
         let Held {
             rt,

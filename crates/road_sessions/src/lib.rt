@@ -25,6 +25,7 @@ mod history;
 mod merging;
 mod naming;
 mod perform;
+mod query;
 mod reader_view;
 mod reading;
 mod session;

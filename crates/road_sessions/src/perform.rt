@@ -14,7 +14,7 @@ use crate::wish::Wish;
 use road_ends::Meter;
 use road_plan::limits::GREATEST_HORIZON;
 use road_replica::{LocalEdit, Replica, ReplicaFault, Reply};
-use road_scenario::Stamp;
+use road_scenario::{Stamp, Value};
 use road_workers::Crew;
 use std::alloc::Global;
 
@@ -54,7 +54,26 @@ pub(crate) fn errand_of(
             command: SheetCommand::Advance(to),
             stamp: None,
         }),
-        Wish::Edit(local) => edit(alloc, replica, local),
+        Wish::Edit {
+            object,
+            step,
+            value,
+        } => {
+            let local = LocalEdit {
+                object,
+                step,
+                value: Value::Put(value),
+            };
+            edit(alloc, replica, local)
+        }
+        Wish::Withdraw { object, step } => {
+            let local = LocalEdit {
+                object,
+                step,
+                value: Value::Withdrawn,
+            };
+            edit(alloc, replica, local)
+        }
     }
 }
 

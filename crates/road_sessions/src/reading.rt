@@ -1,35 +1,51 @@
 //! What a session's reader does in the store.
-ghost use Rattle.std.specs.Prelude.{◌≡◌, IfSome, IfNone, MatchResult};
+ghost use Rattle.std.specs.Prelude.{◌≡◌, IfErr, IfOk, IfSome, IfNone, MatchResult};
 ghost use Rattle.std.specs.Arc.{arc_value};
 ghost use Rattle.left_right.specs.Sides.{view};
 ghost use Rattle.road_sessions.specs.Journals.{IsLegal, replay};
-ghost use Rattle.road_sessions.specs.Looks.{HasLooked, IsLookRefusal};
+ghost use Rattle.road_sheet.specs.Sheets.{IsRefusalBy};
+ghost use Rattle.road_sessions.specs.Looks.{HasLooked, IsQueryRefusal};
+ghost use Rattle.road_sessions.specs.Private.Queries.{query_fault};
 ghost use Rattle.road_sessions.specs.Private.Stores.{EntersAfterWrite, EntersToLook};
 ghost use Rattle.road_sessions.specs.Sessions.{IsSession, session_of};
 
 use crate::faults::LookFault;
 use crate::history::Prefix;
 use crate::naming::Naming;
+use crate::query::Query;
 use crate::store::{AfterWrite, StoreReader, ToLook};
 use core::mem::replace_with;
 use road_sheet::{Sheet, SheetFault};
 use std::sync::{Arc, Wait};
 
-// What was found in the store: a history, and its sheet where that can have an owner more.
-type Found<J> = (Prefix<J>, Option<Arc<Sheet>>);
+// What was found in the store: a history, and its sheet, or why that does not answer.
+type Found<J> = (Prefix<J>, Result<Arc<Sheet>, SheetFault>);
 
-// Enters the store to look; nothing is found where it lets no one in.
-fn enter<J: Naming>(reader: StoreReader<J>) -> (StoreReader<J>, Option<Found<J>>)
+// Makes an owner more of a sheet, of which something is asked: the named causes stand first.
+fn owner_for(query: &Query, sheet: &Arc<Sheet>) -> Result<Arc<Sheet>, SheetFault>
+    ensures same { IfOk result (λ owner. arc_value owner ≡ arc_value sheet.now) }
+    ensures refused { IfErr result (IsRefusalBy (query_fault query.now (arc_value sheet.now))) }
+{
+    if let Some(fault) = query.fault(sheet) {
+        return Err(fault);
+    }
+    Ok(Arc::try_clone(sheet)?)
+}
+
+// Enters the store to look, and asks something of the sheet there; nothing is found where it lets no one in.
+fn enter<J: Naming>(reader: StoreReader<J>, query: &Query) -> (StoreReader<J>, Option<Found<J>>)
     ensures entered { IfSome result.1 (λ found. EntersToLook (view reader.place) found.0 (view result.0.place)) }
-    ensures sheet { IfSome result.1
-        (λ found. IfSome found.1 (λ sheet. arc_value sheet ≡ (replay J.replica found.0).sheet)) }
+    ensures sheet { IfSome result.1 (λ found. IfOk found.1
+        (λ sheet. arc_value sheet ≡ (replay J.replica found.0).sheet)) }
+    ensures fault { IfSome result.1 (λ found. IfErr found.1
+        (IsRefusalBy (query_fault query.now (replay J.replica found.0).sheet))) }
     ensures refused { IfNone result.1 (view result.0.place ≡ view reader.place) }
 {
     match reader.enter_as::<ToLook>() {
         Ok(reading) => {
             let published = reading.get();
             let history = published.history().again();
-            let sheet = Arc::try_clone(published.sheet()).ok();
+            let sheet = owner_for(query, published.sheet());
             (reading.leave(), Some((history, sheet)))
         }
         Err(reader) => (reader, None),
@@ -37,32 +53,37 @@ fn enter<J: Naming>(reader: StoreReader<J>) -> (StoreReader<J>, Option<Found<J>>
 }
 
 // The same of a reader in its place.
-fn enter_here<J: Naming>(reader: &mut StoreReader<J>) -> Option<Found<J>>
+fn enter_here<J: Naming>(reader: &mut StoreReader<J>, query: &Query) -> Option<Found<J>>
     ensures entered { IfSome result (λ found. EntersToLook (view reader.old.place) found.0 (view reader.new.place)) }
-    ensures sheet { IfSome result
-        (λ found. IfSome found.1 (λ sheet. arc_value sheet ≡ (replay J.replica found.0).sheet)) }
+    ensures sheet { IfSome result (λ found. IfOk found.1
+        (λ sheet. arc_value sheet ≡ (replay J.replica found.0).sheet)) }
+    ensures fault { IfSome result (λ found. IfErr found.1
+        (IsRefusalBy (query_fault query.now (replay J.replica found.0).sheet))) }
     ensures refused { IfNone result (view reader.new.place ≡ view reader.old.place) }
 {
-    replace_with(reader, (), |reader, ()| enter(reader))
+    replace_with(reader, query, |reader, query| enter(reader, query))
 }
 
-// A session looks: it enters the store, and what is published there becomes what it has seen.
-pub(crate) fn look<J: Naming>(
+// A session finds the sheet that is published, of which something is asked: it enters the store, and the history there
+// becomes what it has seen.
+pub(crate) fn find<J: Naming>(
     _number: u32,
     seen: &mut Prefix<J>,
     reader: &mut StoreReader<J>,
+    query: &Query,
 ) -> Result<Arc<Sheet>, LookFault>
     requires { IsSession J.replica (session_of _number seen.old (view reader.old.place)) }
     ensures session { IsSession J.replica (session_of _number seen.new (view reader.new.place)) }
     ensures own { (view reader.new.place).own ≡ (view reader.old.place).own }
+    ensures sheet { IfOk result (λ sheet. arc_value sheet ≡ (replay J.replica seen.new).sheet) }
     ensures looked { MatchResult result
-        (λ sheet. HasLooked J.replica (session_of _number seen.old (view reader.old.place))
-        (session_of _number seen.new (view reader.new.place))
-        × (arc_value sheet ≡ (replay J.replica seen.new).sheet))
-        (λ fault. IsLookRefusal J.replica fault (session_of _number seen.old (view reader.old.place))
+        (λ _. HasLooked J.replica (session_of _number seen.old (view reader.old.place))
+        (session_of _number seen.new (view reader.new.place)))
+        (λ fault. IsQueryRefusal (query_fault query.now) J.replica fault
+        (session_of _number seen.old (view reader.old.place))
         (session_of _number seen.new (view reader.new.place))) }
 {
-    let Some((history, sheet)) = enter_here(reader) else {
+    let Some((history, sheet)) = enter_here(reader, query) else {
         return Err(LookFault::NotEntered);
     };
     // What is published goes on from all that the session has seen, since both are prefixes of the one history of the store, and
@@ -72,8 +93,8 @@ pub(crate) fn look<J: Naming>(
     }
     *seen = history;
     match sheet {
-        Some(sheet) => Ok(sheet),
-        None => Err(LookFault::Sheet(SheetFault::OutOfMemory)),
+        Ok(sheet) => Ok(sheet),
+        Err(fault) => Err(LookFault::Sheet(fault)),
     }
 }
 

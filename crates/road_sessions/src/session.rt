@@ -1,11 +1,11 @@
 //! Sessions: their writes under the lock, and their looks without it.
-ghost use Rattle.std.specs.Prelude.{◌≡◌, ◌⊎◌, [], IsTrue, MatchResult, None, length};
+ghost use Rattle.std.specs.Prelude.{◌≡◌, ◌<◌, ◌⊎◌, [], IfOk, IsTrue, MatchResult, None, length};
 ghost use Rattle.std.specs.Arc.{arc_value};
 ghost use mathlib.Core.List.{IsPrefix};
 ghost use Rattle.left_right.specs.Sides.{view as view_at};
-ghost use Rattle.road_scenario.specs.declared.edit.Value.TheVariants.{Put, Withdrawn};
 ghost use Rattle.road_sheet.specs.Sheets.{state_fault, state_of, total_of, totals_fault};
 ghost use Rattle.road_sessions.specs.Private.ClosingSessions.{IsSessionOf};
+ghost use Rattle.road_sessions.specs.Private.Queries.{query_fault};
 ghost use Rattle.road_sessions.specs.Looks.{HasLooked, IsLookRefusal, IsQueryRefusal, sheet_seen};
 ghost use Rattle.road_sessions.specs.Sessions.{IsAcceptedWrite, IsRefusedWrite, IsSession, new_view, session_of};
 ghost use Rattle.road_sessions.specs.Writes.{CountsGone};
@@ -14,6 +14,7 @@ ghost use Rattle.road_sessions.specs.declared.wish.Wish.TheVariants as wishes;
 use crate::faults::{LookFault, WriteFault};
 use crate::history::{Head, Prefix, Whole};
 use crate::naming::Naming;
+use crate::query::Query;
 use crate::reading;
 use crate::shared::{Of, Shared};
 use crate::store::StoreReader;
@@ -22,8 +23,8 @@ use road_cells::Road;
 use road_detector::Totals;
 use road_ends::Meter;
 use road_plan::Object;
-use road_replica::{LocalEdit, Reply};
-use road_scenario::{Scenario, Value};
+use road_replica::Reply;
+use road_scenario::Scenario;
 use road_sheet::Sheet;
 use road_workers::Crew;
 use std::alloc::Global;
@@ -81,7 +82,7 @@ pub(crate) struct Membership<J: Naming> {
 }
 
 impl<J: Naming> Model for Session<J> {
-    ghost use Rattle.std.specs.Prelude.{◌≡◌, length};
+    ghost use Rattle.std.specs.Prelude.{◌≡◌, ◌<◌, length};
     ghost use Rattle.left_right.specs.Sides.{view as view_at};
     ghost use Rattle.std.specs.Coded.{codes};
     ghost use Rattle.road_scenario.specs.Instances.EditOrder.{edits_code};
@@ -96,7 +97,8 @@ impl<J: Naming> Model for Session<J> {
     ghost invariant = { λ s.
         IsSession J.replica (session_of s.number s.membership.seen (view_at s.membership.reader.place))
         × (s.membership.share.parts ≡ 1)
-        × (s.membership.share.amount ≡ length (view_at s.membership.reader.place).own) };
+        × (s.membership.share.amount ≡ length (view_at s.membership.reader.place).own)
+        × (s.number < J.parts) };
 }
 
 impl<J: Naming> Session<J> {
@@ -104,14 +106,16 @@ impl<J: Naming> Session<J> {
     pub(crate) fn new(number: u32, membership: Membership<J>) -> Session<J>
         requires fresh { (membership.seen ≡ []) × (view_at membership.reader.place ≡ new_view) }
         requires share { (membership.share.parts ≡ 1) × (membership.share.amount ≡ 0) }
+        requires below { number < J.parts }
         ensures { result ≡ session_of number [] new_view }
     {
         Session { number, membership }
     }
 
-    /// Returns its number, from 0.
+    /// Returns its number, from 0: it is below the number of sessions that were opened.
     pub fn number(&self) -> u32
-        ensures { result ≡ self.now.number }
+        ensures number { result ≡ self.now.number }
+        ensures below { self.now.number < J.parts }
     {
         self.number
     }
@@ -186,20 +190,18 @@ impl<J: Naming> Session<J> {
         meter: &mut Meter,
     ) -> Result<Wrote<J>, WriteFault>
         ensures write { MatchResult result
-            (λ wrote. IsAcceptedWrite J.limit J.replica
-            (wishes.Edit (record { object = object; step = step; value = Put value }))
-            self.old wrote.place wrote.reply self.new meter.old meter.new × (wrote.receipt ≡ self.new.seen))
-            (λ fault. IsRefusedWrite J.limit J.replica
-            (wishes.Edit (record { object = object; step = step; value = Put value }))
-            self.old fault self.new meter.old meter.new) }
+            (λ wrote. IsAcceptedWrite J.limit J.replica (wishes.Edit object step value) self.old wrote.place
+            wrote.reply self.new meter.old meter.new × (wrote.receipt ≡ self.new.seen))
+            (λ fault. IsRefusedWrite J.limit J.replica (wishes.Edit object step value) self.old fault self.new
+            meter.old meter.new) }
         ensures gone { CountsGone result (C.times_gone crew.old) (C.times_gone crew.new) }
     {
-        let local = LocalEdit {
+        let wish = Wish::Edit {
             object,
             step,
-            value: Value::Put(value),
+            value,
         };
-        self.write(rt, shared, &Wish::Edit(local), crew, meter)
+        self.write(rt, shared, &wish, crew, meter)
     }
 
     /// Withdraws what is put for an object at a step. The reply is the withdrawal's stamp. The meter counts as for
@@ -219,20 +221,13 @@ impl<J: Naming> Session<J> {
         meter: &mut Meter,
     ) -> Result<Wrote<J>, WriteFault>
         ensures write { MatchResult result
-            (λ wrote. IsAcceptedWrite J.limit J.replica
-            (wishes.Edit (record { object = object; step = step; value = Withdrawn }))
-            self.old wrote.place wrote.reply self.new meter.old meter.new × (wrote.receipt ≡ self.new.seen))
-            (λ fault. IsRefusedWrite J.limit J.replica
-            (wishes.Edit (record { object = object; step = step; value = Withdrawn }))
-            self.old fault self.new meter.old meter.new) }
+            (λ wrote. IsAcceptedWrite J.limit J.replica (wishes.Withdraw object step) self.old wrote.place
+            wrote.reply self.new meter.old meter.new × (wrote.receipt ≡ self.new.seen))
+            (λ fault. IsRefusedWrite J.limit J.replica (wishes.Withdraw object step) self.old fault self.new
+            meter.old meter.new) }
         ensures gone { CountsGone result (C.times_gone crew.old) (C.times_gone crew.new) }
     {
-        let local = LocalEdit {
-            object,
-            step,
-            value: Value::Withdrawn,
-        };
-        self.write(rt, shared, &Wish::Edit(local), crew, meter)
+        self.write(rt, shared, &Wish::Withdraw { object, step }, crew, meter)
     }
 
     // Writes whatever is wished.
@@ -275,31 +270,30 @@ impl<J: Naming> Session<J> {
     /// `NotEntered` where the store did not let the session in, which is as before then; else `Sheet(OutOfMemory)` where
     /// the sheet can have no owner more.
     pub fn look<S: Of<J>>(&mut self, _shared: &S) -> Result<Arc<Sheet>, LookFault>
-        ensures { MatchResult result
-            (λ sheet. HasLooked J.replica self.old self.new × (arc_value sheet ≡ sheet_seen J.replica self.new))
+        ensures looked { MatchResult result (λ _. HasLooked J.replica self.old self.new)
             (λ fault. IsLookRefusal J.replica fault self.old self.new) }
+        ensures sheet { IfOk result (λ sheet. arc_value sheet ≡ sheet_seen J.replica self.new) }
     {
-        let Membership { seen, reader, .. } = &mut self.membership;
-        reading::look(self.number, seen, reader)
+        self.find(&Query::Look)
     }
 
     /// Returns the road at a step, by a look.
     ///
     /// # Errors
     ///
-    /// Those of the look, else `Sheet` of what `Sheet::state` refuses.
+    /// `NotEntered` as for [`Session::look`], else `Sheet` of what `Sheet::state` refuses: its named causes are asked first.
     pub fn state<S: Of<J>>(
         &mut self,
         alloc: Global,
-        shared: &S,
+        _shared: &S,
         step: u32,
     ) -> Result<Road, LookFault>
-        ensures { MatchResult result
-            (λ road. HasLooked J.replica self.old self.new × (road ≡ state_of (sheet_seen J.replica self.new) step)
-            × (state_fault (sheet_seen J.replica self.new) step ≡ None))
+        ensures looked { MatchResult result (λ _. HasLooked J.replica self.old self.new)
             (λ fault. IsQueryRefusal (λ sheet. state_fault sheet step) J.replica fault self.old self.new) }
+        ensures road { IfOk result (λ road. road ≡ state_of (sheet_seen J.replica self.new) step) }
+        ensures accepted { IfOk result (λ _. state_fault (sheet_seen J.replica self.new) step ≡ None) }
     {
-        let sheet = self.look(shared)?;
+        let sheet = self.find(&Query::State(step))?;
         match sheet.state(alloc, step) {
             Ok(road) => Ok(road),
             Err(fault) => Err(LookFault::Sheet(fault)),
@@ -310,27 +304,36 @@ impl<J: Naming> Session<J> {
     ///
     /// # Errors
     ///
-    /// Those of the look, else `Sheet` of what `Sheet::totals` refuses.
+    /// `NotEntered` as for [`Session::look`], else `Sheet` of what `Sheet::totals` refuses: its named causes are asked first.
     pub fn totals<S: Of<J>>(
         &mut self,
         alloc: Global,
-        shared: &S,
+        _shared: &S,
         detector: u32,
         from: u32,
         to: u32,
     ) -> Result<Totals, LookFault>
-        ensures { MatchResult result
-            (λ totals. HasLooked J.replica self.old self.new
-            × (totals ≡ total_of (sheet_seen J.replica self.new) detector from to)
-            × (totals_fault (sheet_seen J.replica self.new) detector from to ≡ None))
+        ensures looked { MatchResult result (λ _. HasLooked J.replica self.old self.new)
             (λ fault. IsQueryRefusal (λ sheet. totals_fault sheet detector from to) J.replica fault
             self.old self.new) }
+        ensures totals { IfOk result (λ totals. totals ≡ total_of (sheet_seen J.replica self.new) detector from to) }
+        ensures accepted { IfOk result (λ _. totals_fault (sheet_seen J.replica self.new) detector from to ≡ None) }
     {
-        let sheet = self.look(shared)?;
+        let sheet = self.find(&Query::Totals(detector, from, to))?;
         match sheet.totals(alloc, detector, from, to) {
             Ok(totals) => Ok(totals),
             Err(fault) => Err(LookFault::Sheet(fault)),
         }
+    }
+
+    // Finds the sheet that is published, of which something is asked.
+    fn find(&mut self, query: &Query) -> Result<Arc<Sheet>, LookFault>
+        ensures looked { MatchResult result (λ _. HasLooked J.replica self.old self.new)
+            (λ fault. IsQueryRefusal (query_fault query.now) J.replica fault self.old self.new) }
+        ensures sheet { IfOk result (λ sheet. arc_value sheet ≡ sheet_seen J.replica self.new) }
+    {
+        let Membership { seen, reader, .. } = &mut self.membership;
+        reading::find(self.number, seen, reader, query)
     }
 
     /// Tells the session of a history: from now on it has seen that, or what it had seen where that is longer.
@@ -350,6 +353,7 @@ impl<J: Naming> Session<J> {
     // Shows that all that it has seen is a prefix of the history, where its writes stand then.
     pub(crate) fn know_in(&self, head: &Head<J>, history: &mut Whole<J>)
         ensures of { IsSessionOf history.old self.now }
+        ensures below { self.now.number < J.parts }
         ensures same { history.new ≡ history.old }
     {
         history.know(head, &self.membership.seen);

@@ -2,6 +2,7 @@
 ghost use Rattle.std.specs.Prelude.{◌≡◌, ◌<◌, ◌≤◌, [], IfErr, IfOk, length};
 ghost use Rattle.std.specs.Arc.{arc_value};
 ghost use Rattle.road_plan.specs.declared.limits.TheConstants.{MOST_REPLICAS, MOST_SESSIONS};
+ghost use Rattle.road_sheet.specs.Sheets.{opening_sheet};
 ghost use Rattle.road_sessions.specs.declared.entry.TheConstants.{MOST_WRITES};
 ghost use Rattle.road_sessions.specs.declared.faults.OpenFault.TheVariants as openings;
 ghost use Rattle.road_sessions.specs.Journals.{replica_of_plan, replay};
@@ -55,6 +56,7 @@ pub struct Prepared<R: Wait + Drop> {
     /// The ledger of accepted writes, with a part for each session.
     pub ledger: Blank,
     pub ghost parts: { ledger.parts ≡ sessions },
+    pub ghost opening: { replica ≡ replica_of_plan replica.sheet.plan replica.number },
     pub ghost within_limits: { (0 < sessions) × (sessions ≤ MOST_SESSIONS) × (limit ≤ MOST_WRITES) },
 }
 
@@ -132,6 +134,8 @@ pub fn open_held<J: Naming, R: Wait + Drop>(
     requires limit { prepared.limit ≡ J.limit }
     ensures journal { IfOk result (λ opened. opened.0.journal.items ≡ []) }
     ensures limit { IfOk result (λ opened. opened.0.limit ≡ prepared.limit) }
+    ensures sheet { IfOk result (λ opened. opened.0.replica.sheet ≡ opening_sheet prepared.replica.sheet.plan) }
+    ensures published { IfOk result (λ opened. opened.0.writer.desk.shown.value ≡ []) }
     ensures sessions { IfOk result (λ opened. (length opened.1.items ≡ prepared.sessions)
         × AreNewSessions 0 opened.1.items) }
 {

@@ -11,7 +11,7 @@ ghost use Rattle.road_workers.specs.declared.faults.CrewFault.TheVariants.{Worke
 use crate::crew::Crew;
 use crate::faults::CrewFault;
 use crate::kept_run::KeptRun;
-use crate::whole::run_whole;
+use crate::whole::run_alone;
 use road_cells::Road;
 use road_detector::Ran;
 use road_ends::{Span, StepInput};
@@ -49,6 +49,6 @@ impl Crew for Alone {
             ≡ gone_after result (⟦<Alone as Crew>⟧.times_gone self.old) }
         ensures memory_at_most { result ≢ Err WorkersGone }
     {
-        Ok(run_whole(alloc, span, road, kept)?)
+        Ok(run_alone(alloc, span, road, kept)?)
     }
 }

@@ -21,7 +21,7 @@ use std::sync::Arc;
 
 // Runs the whole road for the steps of a span, and keeps the run. None where the span has no step, or runs cannot have a
 // car of the road.
-pub(crate) fn run_whole(
+pub(crate) fn run_alone(
     alloc: Global,
     span: &Span,
     road: &Road,

@@ -20,6 +20,8 @@ use Rattle.road_world.specs.declared.event.Event.TheVariants.{Edit, Withdraw, Im
 use Rattle.road_world.specs.declared.event.Event.TheVariants.{Heads, Beyond, Take, Advance}
 use Rattle.road_world.specs.declared.message.Message.{Message}
 use Rattle.road_world.specs.declared.message.Message.TheVariants.{Whole, Answer, Asked}
+use Rattle.road_world.specs.declared.sending.Sending.{Sending}
+use Rattle.road_world.specs.declared.sending.Sending.TheVariants as sendings
 use Rattle.road_world.specs.declared.faults.WorldFault.{WorldFault}
 
 -- a replica in a world: the edits that reached it, and the greatest step to which it was advanced
@@ -88,6 +90,12 @@ makes_message (Heads r) = true
 makes_message (Beyond r message) = true
 makes_message (Take r message) = false
 makes_message (Advance r to) = false
+
+-- the event by which replica r makes a message
+abbrev pub sending_event : ℕ → Sending → Event
+sending_event r sendings.Whole = Send r
+sending_event r sendings.Asked = Heads r
+sending_event r (sendings.Answer message) = Beyond r message
 
 -- the message that an event makes, by what its replica holds; none where the event is no making of a message
 abbrev pub message_of_event : World → Event → Option Message

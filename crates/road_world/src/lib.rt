@@ -23,6 +23,7 @@ mod faults;
 pub mod laws;
 mod message;
 mod playing;
+mod sending;
 mod world;
 
 pub use event::Event;
@@ -30,6 +31,7 @@ pub use faults::{PlayFault, WorldFault};
 pub use message::Message;
 pub use playing::{Played, play};
 pub use road_replica::Reply;
+pub use sending::Sending;
 /// Out of memory: an allocation failed.
 pub use std::alloc::AllocError as OutOfMemory;
 pub use world::World;

@@ -16,7 +16,7 @@ ghost use Rattle.road_world.specs.Answers.{IsQueryRefusal, edits_wanted_fault, f
 ghost use Rattle.road_world.specs.Answers.{heads_wanted_fault, query_fault, replica_number, sheet_at};
 ghost use Rattle.road_world.specs.Applied.{IsApplied, IsMade, posted_answer};
 ghost use Rattle.road_world.specs.Events as worlds;
-ghost use Rattle.road_world.specs.Events.{asked_heads, carried_edits, makes_message, message_of_event, messages_with};
+ghost use Rattle.road_world.specs.Events.{asked_heads, carried_edits, message_of_event, messages_with, sending_event};
 ghost use Rattle.road_world.specs.Events.{opening_world, replica_at, world_of_winners};
 ghost use Rattle.road_world.specs.Stamps.{IsNew, issued_stamp};
 ghost use Rattle.road_world.specs.Private.LocalEvents.{local_event};
@@ -26,6 +26,7 @@ ghost use Rattle.road_world.specs.declared.faults.WorldFault.TheVariants.{NoMess
 use crate::event::Event;
 use crate::faults::WorldFault;
 use crate::message::Message;
+use crate::sending::Sending;
 use road_cells::Road;
 use road_delta::Heads;
 use road_detector::Totals;
@@ -126,29 +127,28 @@ impl World {
         self.messages.get(number as usize)
     }
 
-    /// Makes the message of an event that makes one. The world stays as it is: [`World::post`] appends the message.
+    /// Makes a message of a replica. The world stays as it is: [`World::post`] appends the message.
     ///
     /// # Errors
     ///
     /// Those of [`World::apply`].
-    pub fn message_by(&self, alloc: Global, event: &Event) -> Result<Message, WorldFault>
-        requires { makes_message event.now ≡ true }
-        ensures made { IsMade self.now event.now result }
+    pub fn message_by(
+        &self,
+        alloc: Global,
+        at: u32,
+        sending: Sending,
+    ) -> Result<Message, WorldFault>
+        ensures made { IsMade self.now (sending_event at sending) result }
         ensures fits { IfOk result (λ message. FitsSomePlan (carried_edits (Some message))) }
         ensures no_crew { IfErr result (λ fault. (n : ℕ) → gone_after_answer (Err fault) n ≡ n) }
     {
-        if self.replicas.len() <= event.replica() as usize {
+        if self.replicas.len() <= at as usize {
             return Err(WorldFault::NoReplica);
         }
-        match event {
-            Event::Send { at } => self.whole(*at),
-            Event::Heads { at } => self.asked(alloc, *at),
-            Event::Beyond { at, message } => self.delta(alloc, *at, *message),
-            Event::Edit { .. } => unreachable!(),
-            Event::Withdraw { .. } => unreachable!(),
-            Event::Import { .. } => unreachable!(),
-            Event::Take { .. } => unreachable!(),
-            Event::Advance { .. } => unreachable!(),
+        match sending {
+            Sending::Whole => self.whole(at),
+            Sending::Asked => self.asked(alloc, at),
+            Sending::Answer { asked } => self.delta(alloc, at, asked),
         }
     }
 
@@ -311,9 +311,11 @@ impl World {
                 self.make_edit(alloc, *at, local, crew, meter)
             }
             Event::Import { at, edits } => self.import(alloc, *at, edits, crew, meter),
-            Event::Send { .. } => self.send(alloc, event),
-            Event::Heads { .. } => self.send(alloc, event),
-            Event::Beyond { .. } => self.send(alloc, event),
+            Event::Send { at } => self.send(alloc, *at, Sending::Whole),
+            Event::Heads { at } => self.send(alloc, *at, Sending::Asked),
+            Event::Beyond { at, message } => {
+                self.send(alloc, *at, Sending::Answer { asked: *message })
+            }
             Event::Take { at, message } => self.take(alloc, *at, *message, crew, meter),
             Event::Advance { at, to } => self.advance(alloc, *at, *to, crew, meter),
         }
@@ -399,14 +401,13 @@ impl World {
 
     // ---- messages, for which no meter and no crew is asked
 
-    // Makes the message of an event, and appends it.
-    fn send(&mut self, alloc: Global, event: &Event) -> Result<Reply, WorldFault>
-        requires { makes_message event.now ≡ true }
-        ensures applied { (meter : ℕ) → IsApplied event.now result self.old self.new meter meter }
+    // Makes a message of a replica, and appends it.
+    fn send(&mut self, alloc: Global, at: u32, sending: Sending) -> Result<Reply, WorldFault>
+        ensures applied { (meter : ℕ) → IsApplied (sending_event at sending) result self.old self.new meter meter }
         ensures no_crew { (n : ℕ) → gone_after_answer result n ≡ n }
     {
-        let message = self.message_by(alloc, event)?;
-        let number = self.post(event, message)?;
+        let message = self.message_by(alloc, at, sending)?;
+        let number = self.post(&sending.event(at), message)?;
         Ok(Reply::Message(number))
     }
 

@@ -3,15 +3,14 @@
 ghost use Rattle.std.specs.Prelude.{◌<◌, ◌≤◌};
 
 use crate::rows::shared_plan;
-use crate::sizes::queue;
-use crate::spans::span_of;
+use crate::spans::{is_run_of_one, span_of};
 use road_workers::{Crew, KeptRun, Pool};
 use std::alloc::Global;
 use std::process::Abort;
 use std::sync::{Arc, Wait};
 use std::test::Fail;
 use std::thread::Threads;
-use tests_plans::{Counter, LONG};
+use tests_plans::{Counter, LONG, queue};
 
 // How often workers are asked, on so many processors, in a run of so many steps of the long road, from a queue on so many
 // cells.
@@ -33,8 +32,8 @@ fn asked<R: Threads + Wait + Clone + Drop + Send + 'static>(
     let road = queue(alloc, cells)?;
     let ran = crew.run(alloc, &span, &road, &mut KeptRun::none())?;
     crew.finish();
-    if ran.is_some() == (steps == 0) {
-        return Err(Fail::new("a run of the wrong kind"));
+    if ran.is_some() == (steps == 0) || !is_run_of_one(alloc, &span, &road, &ran)? {
+        return Err(Fail::new("another run"));
     }
     Ok(gate.passed())
 }

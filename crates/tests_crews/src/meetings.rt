@@ -3,17 +3,17 @@
 ghost use Rattle.std.specs.Prelude.{◌<◌, ◌≤◌};
 
 use crate::rows::{gives, shared_plan};
-use crate::sizes::queue;
-use crate::spans::span_of;
+use crate::spans::{is_run_of_one, span_of};
 use road_ends::OutOfMemory;
 use road_workers::{Crew, Gate, KeptRun, Pool, Scoped};
 use std::alloc::Global;
 use std::process::Abort;
 use std::sync::{Arc, Wait};
 use std::test::Fail;
+use std::thread;
 use std::thread::Threads;
 use std::time::Clock;
-use tests_plans::{DENSE, DENSE_ROWS, LONG, Meeting};
+use tests_plans::{DENSE, DENSE_ROWS, InTurn, LONG, Meeting, queue};
 
 /// How often a worker looks for the others at most.
 const TURNS: u32 = 1_000_000;
@@ -59,7 +59,19 @@ fn lasting_workers_meet(rt: HostRuntime) -> Result<(), Fail> {
     Ok(())
 }
 
-// Lets so many lasting workers run 64 steps of the long road, which is cut for them, twice. Each time all of them meet.
+// Lets a crew run 64 steps of the long road twice, as one runs them.
+fn run_twice<C: Crew>(rt: &impl Abort, alloc: Global, crew: &mut C) -> Result<(), Fail> {
+    let road = queue(alloc, 4_096)?;
+    let span = span_of(alloc, &shared_plan(alloc, &LONG)?, 0, 0, 64)?;
+    let mut kept = KeptRun::none();
+    for _ in 0..2 {
+        let ran = crew.run(alloc, &span, &road, &mut kept)?;
+        assert!(rt; is_run_of_one(alloc, &span, &road, &ran)?);
+    }
+    Ok(())
+}
+
+// Lets so many lasting workers run the long road, which is cut for them. Each time all of them meet.
 fn meet_in_runs<R: Threads + Wait + Clock + Abort + Clone + Drop + Send + Sync + 'static>(
     rt: &R,
     alloc: Global,
@@ -71,13 +83,7 @@ fn meet_in_runs<R: Threads + Wait + Clock + Abort + Clone + Drop + Send + Sync +
     let meeting = Arc::new(alloc, Meeting::new(rt.clone()?, workers, TURNS))?;
     let their_gate = Arc::try_clone(&meeting)?;
     let mut crew = Pool::start_on(rt.clone()?, alloc, workers, their_gate, workers)?;
-    let road = queue(alloc, 4_096)?;
-    let span = span_of(alloc, &shared_plan(alloc, &LONG)?, 0, 0, 64)?;
-    let mut kept = KeptRun::none();
-    for _ in 0..2 {
-        let ran = crew.run(alloc, &span, &road, &mut kept)?;
-        assert!(*rt; ran.is_some());
-    }
+    run_twice(rt, alloc, &mut crew)?;
     crew.finish();
     let was_held = meeting.was_held(2);
     assert!(*rt; was_held, "{workers} workers");
@@ -90,13 +96,34 @@ fn lasting_workers_meet_in_a_run(rt: HostRuntime) -> Result<(), Fail> {
     meet_in_runs(&rt, rt.alloc(), 4)
 }
 
-/// One worker that computes two pieces, one after the other, passes the gate alone: so the gate tells it from two.
+/// As many lasting workers as the machine has processors, up to 16, are asked together: the crew asks the machine, as
+/// [`Pool::start`] does. On one processor a run is not shared.
 #[test]
-fn one_worker_waits_in_vain(rt: HostRuntime) -> Result<(), Fail> {
-    let meeting = Meeting::new(rt.clone()?, 2, 100);
-    meeting.arrive(0);
-    meeting.arrive(1);
-    let was_held = meeting.was_held(1);
+fn as_many_meet_as_there_are_processors(rt: HostRuntime) -> Result<(), Fail> {
+    let alloc = rt.alloc();
+    let processors = thread::available_parallelism(&rt)?.get().min(16) as u32;
+    let meeting = Arc::new(alloc, Meeting::new(rt.clone()?, processors, TURNS))?;
+    let mut crew = Pool::start_gated(rt.clone()?, alloc, processors, Arc::try_clone(&meeting)?)?;
+    run_twice(&rt, alloc, &mut crew)?;
+    crew.finish();
+    if processors == 1 {
+        println!(rt; "the machine has one processor: no run is shared")?;
+        assert!(rt; meeting.has_none());
+    } else {
+        assert!(rt; meeting.was_held(2), "{processors} workers");
+    }
+    Ok(())
+}
+
+/// A crew that computes two pieces one after the other gives the same rows, but the two wait for each other in vain: so
+/// the gate tells it from two workers at once.
+#[test]
+fn pieces_in_turn_do_not_meet(rt: HostRuntime) -> Result<(), Fail> {
+    let alloc = rt.alloc();
+    let meeting = Arc::new(alloc, Meeting::new(rt.clone()?, 2, 100))?;
+    let gate = Shared::of(&meeting)?;
+    gives(&rt, alloc, &mut InTurn { gate }, &DENSE, DENSE_ROWS)?;
+    let was_held = meeting.was_held(2);
     assert!(rt; !was_held);
     Ok(())
 }

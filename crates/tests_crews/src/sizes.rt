@@ -3,15 +3,14 @@
 ghost use Rattle.std.specs.Prelude.{◌<◌, ◌≤◌};
 
 use crate::rows::{input_of, shared_plan};
-use road_cells::{Car, Road};
-use road_ends::{OutOfMemory, StepInput};
+use road_ends::StepInput;
 use road_workers::{Alone, Crew, Pool};
 use std::alloc::Global;
 use std::process::Abort;
 use std::sync::{Arc, Wait};
 use std::test::Fail;
 use std::thread::Threads;
-use tests_plans::{FREE, Parts, road_of};
+use tests_plans::{FREE, Parts, queue};
 
 /// The longest road, where nobody enters and no car is slowed.
 const LONG: Parts = Parts {
@@ -21,22 +20,7 @@ const LONG: Parts = Parts {
     ..FREE
 };
 
-/// Makes a road whose first cells are taken by standing cars, but for each 64th.
-pub(crate) fn queue(alloc: Global, cells: u32) -> Result<Road, OutOfMemory> {
-    let mut cars = Vec::new(alloc);
-    for cell in 0..cells {
-        if cell % 64 != 63 {
-            cars.push(Car {
-                number: u64::from(cell),
-                cell,
-                speed: 0,
-            })?;
-        }
-    }
-    road_of(alloc, &cars)
-}
-
-/// How many cells are taken so, with 5, 63 and 8,064 cars: the first are fewer than workers, the second no multiple of
+/// How many cells are taken by a queue, with 5, 63 and 8,064 cars: the first are fewer than workers, the second no multiple of
 /// two.
 const CELLS: &[u32] = &[5, 64, 8_192];
 

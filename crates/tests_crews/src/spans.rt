@@ -5,18 +5,17 @@ ghost use Rattle.std.specs.Arc.{arc_value};
 ghost use Rattle.road_plan.specs.Settings.{Fits};
 
 use crate::rows::shared_plan;
-use crate::sizes::queue;
 use road_cells::Road;
 use road_detector::{Ran, Totals, passes};
 use road_ends::{Meter, Span, step_alone};
 use road_plan::{Plan, Settings};
-use road_workers::{Alone, Crew, KeptRun, NoGate, Pool};
+use road_workers::{Alone, Crew, KeptRun, Pool};
 use std::alloc::Global;
 use std::process::Abort;
 use std::sync::{Arc, Wait};
 use std::test::Fail;
 use std::thread::Threads;
-use tests_plans::{FREE, LONG, random_settings};
+use tests_plans::{Counter, FREE, LONG, queue, random_settings};
 
 /// Cells on both sides of where the road may be cut.
 const BLOCKS: &[u32] = &[
@@ -61,6 +60,25 @@ pub(crate) fn span_of(
     }
     let settings = Arc::new(alloc, settings_of(alloc, plan, kind)?)?;
     Ok(Span::new(Arc::try_clone(plan)?, settings, step, steps))
+}
+
+/// Answers whether a run is that of the crew of one: its cars, and what the detectors count.
+pub(crate) fn is_run_of_one(
+    alloc: Global,
+    span: &Span,
+    road: &Road,
+    ran: &Option<Ran>,
+) -> Result<bool, Fail> {
+    match (ran, Alone.run(alloc, span, road, &mut KeptRun::none())?) {
+        (Some(ran), Some(wanted)) => Ok(are_same(ran, &wanted)),
+        (None, None) => Ok(true),
+        _ => Ok(false),
+    }
+}
+
+// Answers whether two runs come to the same.
+fn are_same(ran: &Ran, other: &Ran) -> bool {
+    ran.road.cars() == other.road.cars() && ran.totals == other.totals
 }
 
 // Computes one step, and adds what the detectors count in it. Returns the road after it.
@@ -159,21 +177,14 @@ fn runs_as_one_by_one<C: Crew>(
         let Some(ran) = crew.run(alloc, &span, &road, kept)? else {
             return Err(Fail::new("a crew that runs no spans"));
         };
-        assert!(rt;
-            ran.road.cars() == wanted.road.cars(),
-            "the road of {steps} steps from {step}"
-        );
-        assert!(rt;
-            ran.totals == wanted.totals,
-            "the counts of {steps} steps from {step}"
-        );
+        assert!(rt; are_same(&ran, wanted), "{steps} steps from {step}");
         road = ran.road;
         step = step.saturating_add(*steps);
     }
     Ok(())
 }
 
-/// Compares what so many lasting workers make of them, on so many processors.
+/// Compares what so many lasting workers make of them, on so many processors. Returns how often one was asked.
 pub(crate) fn pool_runs<R: Threads + Wait + Abort + Clone + Drop + Send + 'static>(
     rt: &R,
     alloc: Global,
@@ -181,59 +192,98 @@ pub(crate) fn pool_runs<R: Threads + Wait + Abort + Clone + Drop + Send + 'stati
     processors: u32,
     plan: &Arc<Plan>,
     courses: &[Course<'_>],
-) -> Result<(), Fail>
+) -> Result<u32, Fail>
     requires some { 0 < workers }
     requires few { workers ≤ 16 }
 {
-    let gate = Arc::new(alloc, NoGate)?;
-    let mut crew = Pool::start_on(rt.clone()?, alloc, workers, gate, processors)?;
+    let gate = Arc::new(alloc, Counter::new())?;
+    let their_gate = Arc::try_clone(&gate)?;
+    let mut crew = Pool::start_on(rt.clone()?, alloc, workers, their_gate, processors)?;
     let mut kept = KeptRun::none();
     for course in courses {
         runs_as_one_by_one(rt, alloc, &mut crew, plan, course, &mut kept)?;
     }
     crew.finish();
-    Ok(())
+    Ok(gate.passed())
 }
 
-/// How many cells are taken at first: none, a few, and so many that each worker has a stretch.
-const QUEUES: &[u32] = &[0, 200, 8_000];
+/// How many cells are taken at first: none, a few, and so many that all spans but that of one step are shared.
+const FEW: &[u32] = &[0, 200];
+
+const MANY: &[u32] = &[8_000];
+
+/// The spans that are shared then.
+const SHARED: u32 = 6;
 
 // Makes what these spans come to from each queue.
-fn courses_of(alloc: Global, plan: &Arc<Plan>) -> Result<Vec<Course<'static>>, Fail> {
+fn courses_of(
+    alloc: Global,
+    plan: &Arc<Plan>,
+    queues: &[u32],
+) -> Result<Vec<Course<'static>>, Fail> {
     let mut courses = Vec::new(alloc);
-    for cells in QUEUES {
+    for cells in queues {
         courses.push(worked(alloc, plan, *cells, SPANS)?)?;
     }
     Ok(courses)
 }
 
-/// One course after another, in a run that is kept, and in a new one for each; between them a road of another plan.
-#[test]
-fn one_runs_spans_as_they_are_one_by_one(rt: HostRuntime) -> Result<(), Fail> {
-    let alloc = rt.alloc();
-    let plan = shared_plan(alloc, &LONG)?;
+// Lets one run courses, in a run that is kept, and in a new one for each; between them a road of another plan.
+fn one_runs(
+    rt: &impl Abort,
+    alloc: Global,
+    plan: &Arc<Plan>,
+    courses: &[Course<'_>],
+) -> Result<(), Fail> {
     let other = shared_plan(alloc, &FREE)?;
+    let free = worked(alloc, &other, 0, &[(0, 64), (0, 1)])?;
     let mut kept = KeptRun::none();
-    for course in &courses_of(alloc, &plan)? {
-        runs_as_one_by_one(&rt, alloc, &mut Alone, &plan, course, &mut kept)?;
-        runs_as_one_by_one(&rt, alloc, &mut Alone, &plan, course, &mut KeptRun::none())?;
-        let free = worked(alloc, &other, 0, &[(0, 64), (0, 1)])?;
-        runs_as_one_by_one(&rt, alloc, &mut Alone, &other, &free, &mut kept)?;
+    for course in courses {
+        runs_as_one_by_one(rt, alloc, &mut Alone, plan, course, &mut kept)?;
+        runs_as_one_by_one(rt, alloc, &mut Alone, plan, course, &mut KeptRun::none())?;
+        runs_as_one_by_one(rt, alloc, &mut Alone, &other, &free, &mut kept)?;
     }
     Ok(())
 }
 
 #[test]
-fn lasting_workers_run_spans_as_they_are_one_by_one(rt: HostRuntime) -> Result<(), Fail> {
+fn one_runs_spans_as_they_are_one_by_one(rt: HostRuntime) -> Result<(), Fail> {
     let alloc = rt.alloc();
     let plan = shared_plan(alloc, &LONG)?;
-    let courses = courses_of(alloc, &plan)?;
-    pool_runs(&rt, alloc, 1, 1, &plan, &courses)?;
-    pool_runs(&rt, alloc, 1, 2, &plan, &courses)?;
-    pool_runs(&rt, alloc, 2, 2, &plan, &courses)?;
-    pool_runs(&rt, alloc, 3, 4, &plan, &courses)?;
-    pool_runs(&rt, alloc, 7, 7, &plan, &courses)?;
-    pool_runs(&rt, alloc, 16, 17, &plan, &courses)
+    one_runs(&rt, alloc, &plan, &courses_of(alloc, &plan, FEW)?)?;
+    one_runs(&rt, alloc, &plan, &courses_of(alloc, &plan, MANY)?)
+}
+
+/// Where there are few cars, all are asked or nobody.
+#[test]
+fn lasting_workers_run_spans_of_few_cars_as_they_are_one_by_one(
+    rt: HostRuntime,
+) -> Result<(), Fail> {
+    let alloc = rt.alloc();
+    let plan = shared_plan(alloc, &LONG)?;
+    let courses = courses_of(alloc, &plan, FEW)?;
+    assert!(rt; pool_runs(&rt, alloc, 1, 1, &plan, &courses)? == 0);
+    assert!(rt; pool_runs(&rt, alloc, 3, 4, &plan, &courses)? % 3 == 0);
+    assert!(rt; pool_runs(&rt, alloc, 7, 7, &plan, &courses)? % 7 == 0);
+    assert!(rt; pool_runs(&rt, alloc, 16, 17, &plan, &courses)? % 16 == 0);
+    Ok(())
+}
+
+/// One who has no processor beside the caller's is not asked, and else all are asked in each span that is shared.
+#[test]
+fn lasting_workers_run_spans_of_many_cars_as_they_are_one_by_one(
+    rt: HostRuntime,
+) -> Result<(), Fail> {
+    let alloc = rt.alloc();
+    let plan = shared_plan(alloc, &LONG)?;
+    let courses = courses_of(alloc, &plan, MANY)?;
+    assert!(rt; pool_runs(&rt, alloc, 1, 1, &plan, &courses)? == 0);
+    assert!(rt; pool_runs(&rt, alloc, 1, 2, &plan, &courses)? == SHARED);
+    assert!(rt; pool_runs(&rt, alloc, 2, 2, &plan, &courses)? == 2 * SHARED);
+    assert!(rt; pool_runs(&rt, alloc, 3, 4, &plan, &courses)? == 3 * SHARED);
+    assert!(rt; pool_runs(&rt, alloc, 7, 7, &plan, &courses)? == 7 * SHARED);
+    assert!(rt; pool_runs(&rt, alloc, 16, 17, &plan, &courses)? == 16 * SHARED);
+    Ok(())
 }
 
 /// Where a car stands in the exit, which no run of a plan has, nobody runs a span.

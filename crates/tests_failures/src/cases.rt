@@ -204,23 +204,23 @@ const SHEETS: &[(&str, Case)] = pairs![
 const REPLICAS: &[(&str, Case)] = pairs![
     "replica-open" => Case::ReplicaOpening,
     "replica-edit" =>
-        Case::Write(WriteCase(&[TO_HORIZON_SIX], BLOCKS, Reply::Stamped(stamp!(1, 0)), TO_SIX, WITH_BLOCK)),
+        Case::Write(WriteCase(&[TO_HORIZON_SIX], BLOCKS, Reply::Stamped(stamp!(1, 0)), WITH_BLOCK)),
     "replica-withdraw" =>
-        Case::Write(WriteCase(&[TO_HORIZON_SIX, BLOCKS], OPENS, Reply::Stamped(stamp!(2, 0)), WITH_BLOCK, WITHDRAWN)),
+        Case::Write(WriteCase(&[TO_HORIZON_SIX, BLOCKS], OPENS, Reply::Stamped(stamp!(2, 0)), WITHDRAWN)),
     "replica-take" =>
-        Case::Write(WriteCase(&[TO_HORIZON_SIX], Write::Take(&[SLOW]), Reply::Touched(Some(3)), TO_SIX, SLOWED)),
+        Case::Write(WriteCase(&[TO_HORIZON_SIX], Write::Take(&[SLOW]), Reply::Touched(Some(3)), SLOWED)),
     // What was blocked and opened again comes back by an older message, and nothing changes.
     "replica-take-old" => Case::Write(WriteCase(
-        &[TO_HORIZON_SIX, BLOCKS, OPENS], Write::Take(&[BLOCKED]), Reply::Touched(None), WITHDRAWN, WITHDRAWN)),
+        &[TO_HORIZON_SIX, BLOCKS, OPENS], Write::Take(&[BLOCKED]), Reply::Touched(None), WITHDRAWN)),
     "replica-import" => Case::Write(WriteCase(
-        &[TO_HORIZON_SIX], Write::Import(IMPORTED), Reply::Touched(Some(3)), TO_SIX,
+        &[TO_HORIZON_SIX], Write::Import(IMPORTED), Reply::Touched(Some(3)),
         Shown(&[(5, ".1.1...1...."), (6, "00.0...0....")], IMPORTED))),
     "replica-import-again" => Case::Write(WriteCase(
         &[Write::Import(&[LESS])], Write::Import(&[GREATER]), Reply::Touched(Some(0)),
-        Shown(&[(0, "............")], &[LESS]), Shown(&[(0, "............")], &[GREATER]))),
-    "replica-advance" => Case::Write(WriteCase(&[], TO_HORIZON_SIX, Reply::Horizon(6), OPENING, TO_SIX)),
+        Shown(&[(0, "............")], &[GREATER]))),
+    "replica-advance" => Case::Write(WriteCase(&[], TO_HORIZON_SIX, Reply::Horizon(6), TO_SIX)),
     "replica-advance-less" =>
-        Case::Write(WriteCase(&[TO_HORIZON_SIX], Write::Advance(3), Reply::Horizon(6), TO_SIX, TO_SIX)),
+        Case::Write(WriteCase(&[TO_HORIZON_SIX], Write::Advance(3), Reply::Horizon(6), TO_SIX)),
     "replica-copied" => Case::Question(&[TO_HORIZON_SIX], Question::Copied(TO_SIX)),
     "replica-message" => Case::Question(EXCHANGE, Question::Message(HELD)),
     "replica-heads" => Case::Question(EXCHANGE, Question::Heads(
@@ -350,11 +350,11 @@ pub(crate) fn tried<R: Threads + Wait + Clone + Drop + Send + 'static>(
     case: Case,
 ) -> Option<Verdict> {
     match case {
-        Case::Line(case) => lines::tried(alloc, until, case),
+        Case::Line(case) => lines::tried_line(alloc, until, case),
         Case::Map(case) => scenarios::tried_map(alloc, until, case),
-        Case::Run(case) => steps::tried(alloc, until, &case),
-        Case::Crew(case) => crews::tried(rt, alloc, until, case),
-        Case::Scenario(making) => scenarios::tried(alloc, until, making),
+        Case::Run(case) => steps::tried_run(alloc, until, &case),
+        Case::Crew(case) => crews::tried_crew(rt, alloc, until, case),
+        Case::Scenario(making) => scenarios::tried_making(alloc, until, making),
         Case::ReplicaOpening => replicas::tried_opening(alloc, until),
         Case::Write(case) => replicas::tried_write(alloc, until, &case),
         Case::Question(writes, question) => {
@@ -374,6 +374,6 @@ pub(crate) fn tried<R: Threads + Wait + Clone + Drop + Send + 'static>(
         Case::StorePrepare => sessions::tried_prepare(rt, alloc, until),
         Case::StoreOpen => sessions::tried_open(rt, alloc, until),
         Case::Session(case, closing) => sessions::tried_call(rt, alloc, until, closing, &case),
-        Case::Crowd(case) => crowds::tried(rt, alloc, until, &case),
+        Case::Crowd(case) => crowds::tried_crowd(rt, alloc, until, &case),
     }
 }

@@ -1,49 +1,24 @@
 //! Crews: the speeds of a step of the dense road, 64 steps of a long one, and the start of lasting workers.
 
-ghost use Rattle.std.specs.Prelude.{◌≡◌};
-
 use crate::roads::shared_plan;
-use crate::verdict::{Until, Verdict, accepted, judged};
-use road_cells::{Car, Road};
+use crate::verdict::{Call, Refusal, Until, Verdict, Wrong, accepted, tried};
+use road_cells::Road;
 use road_ends::{Span, StepInput, enter};
-use road_plan::{Plan, Settings, WordKind};
+use road_plan::{Plan, Settings};
 use road_workers::{Alone, Crew, CrewFault, KeptRun, NoGate, Pool, Scoped};
 use std::alloc::Global;
 use std::sync::{Arc, Wait};
 use std::thread::Threads;
-use tests_plans::{Counter, DENSE, Parts, road_of};
+use tests_plans::{Counter, DENSE, LONG, queue};
 
 /// The new speeds of the dense road's first step.
 const SPEEDS: &[u8] = &[0, 1, 0, 1, 0, 0, 1, 0, 1];
 
-/// The longest road, with inlets all along it and detectors on both sides of its middle.
-const LONG: Parts = Parts {
-    road: (8_192, 1, 8_192),
-    zones: &[(5, 16_384)],
-    inlets: &[
-        (0, 65_536),
-        (512, 65_536),
-        (1_024, 65_536),
-        (1_536, 65_536),
-        (2_048, 65_536),
-        (2_560, 65_536),
-        (3_072, 65_536),
-        (3_584, 65_536),
-        (4_096, 65_536),
-        (4_608, 65_536),
-        (5_120, 65_536),
-        (5_632, 65_536),
-        (6_144, 65_536),
-        (6_656, 65_536),
-        (7_168, 65_536),
-        (7_680, 65_536),
-    ],
-    detectors: &[520, 4_100, 4_110, 7_700],
-    words: WordKind::Seeded(7),
-};
+/// So many cells of the long road are taken: there are cars enough for two workers.
+const TAKEN: u32 = 8_000;
 
-/// So many of its cells are crowded: there are cars enough for two workers.
-const CROWDED: u32 = 8_000;
+/// How many lasting workers are asked.
+const WORKERS: u32 = 2;
 
 /// What a crew is asked.
 #[derive(Drop)]
@@ -53,9 +28,6 @@ enum Task {
     /// Steps of the long road, and the gate that its workers pass.
     Steps(Span, Road, Arc<Counter>),
 }
-
-/// How many lasting workers are asked.
-const WORKERS: u32 = 2;
 
 /// What is tried of a crew.
 #[derive(Clone, Copy, PartialEq, Eq)]
@@ -85,61 +57,80 @@ fn first_speeds(alloc: Global) -> Option<Task> {
     Some(Task::Speeds(input))
 }
 
-// Makes a road with a car on each second cell.
-fn crowded(alloc: Global) -> Option<Road> {
-    let mut cars = Vec::new(alloc);
-    for cell in 0..CROWDED {
-        if cell % 2 == 0 {
-            let number = u64::from(cell);
-            let car = Car {
-                number,
-                cell,
-                speed: 0,
-            };
-            cars.push(car).ok()?;
-        }
-    }
-    road_of(alloc, &cars).ok()
-}
-
-// Makes the task to run so many steps of the long road, which is crowded, as a crew runs together.
-fn long_run(alloc: Global) -> Option<Task> {
-    let plan = shared_plan(alloc, &LONG)?;
-    let road = crowded(alloc)?;
+// Makes the span of the first steps of a plan.
+fn first_steps(alloc: Global, plan: Arc<Plan>) -> Option<Span> {
     let Ok(settings) = Settings::of_plan(alloc, &plan) else {
         return None;
     };
     let Ok(settings) = Arc::new(alloc, settings) else {
         return None;
     };
-    let gate = Arc::new(alloc, Counter::new()).ok()?;
-    Some(Task::Steps(Span::new(plan, settings, 0, 64), road, gate))
+    Some(Span::new(plan, settings, 0, 64))
 }
 
-// Answers whether a crew gives what it is asked: these speeds; or steps for which it asks each of its workers, and whose
-// road and totals its contract states.
+// Makes the task to run the first steps of the long road, many of whose cells are taken, as a crew runs together.
+fn long_run(alloc: Global) -> Option<Task> {
+    let gate = Arc::new(alloc, Counter::new()).ok()?;
+    let road = queue(alloc, TAKEN).ok()?;
+    let span = first_steps(alloc, shared_plan(alloc, &LONG)?)?;
+    Some(Task::Steps(span, road, gate))
+}
+
+// Answers whether a crew runs a span, and each of its workers passes the gate for that: the contract of the run states its
+// road and totals.
+fn runs<C: Crew>(
+    alloc: Global,
+    crew: &mut C,
+    span: &Span,
+    road: &Road,
+    gate: &Counter,
+) -> Result<bool, CrewFault> {
+    let before = gate.passed();
+    let ran = crew.run(alloc, span, road, &mut KeptRun::none())?;
+    Ok(ran.is_some() && gate.passed() == before.saturating_add(WORKERS))
+}
+
+// Answers whether a crew gives what it is asked.
 fn gives<C: Crew>(alloc: Global, crew: &mut C, task: &Task) -> Result<bool, CrewFault> {
     match task {
         Task::Speeds(input) => Ok(crew.speeds(alloc, input)?.as_slice() == SPEEDS),
-        Task::Steps(span, road, gate) => {
-            let before = gate.passed();
-            let ran = crew.run(alloc, span, road, &mut KeptRun::none())?;
-            Ok(ran.is_some() && gate.passed() == before.saturating_add(WORKERS))
-        }
+        Task::Steps(span, road, gate) => runs(alloc, crew, span, road, gate),
     }
 }
 
-/// Returns the verdict on a call that was refused so first, and gave the expected answer when it was made again.
-pub(crate) fn after(refused: CrewFault) -> Verdict {
-    match refused {
-        CrewFault::OutOfMemory => Verdict::Again,
-        CrewFault::WorkersGone => Verdict::Restarted,
+// What a crew is asked, and the crew.
+#[derive(Drop)]
+struct Asking<C> {
+    crew: C,
+    task: Task,
+}
+
+impl<C: Crew> Call for Asking<C> {
+    type Answer = bool;
+
+    type Fault = CrewFault;
+
+    fn make(&mut self, alloc: Global) -> Result<bool, CrewFault> {
+        gives(alloc, &mut self.crew, &self.task)
+    }
+
+    fn is_right(&mut self, _alloc: Global, is_given: bool) -> Option<bool> {
+        Some(is_given)
     }
 }
 
-// Tries a crew.
-fn tried_task<C: Crew>(alloc: Global, until: Until, crew: &mut C, task: &Task) -> Option<Verdict> {
-    judged!(until, gives(alloc, crew, task), fault => after(fault), true, is_right => is_right)
+// Tries one who computes alone.
+fn tried_alone(alloc: Global, until: Until) -> Option<Verdict> {
+    let task = first_speeds(alloc)?;
+    tried(alloc, until, &mut Asking { crew: Alone, task })
+}
+
+// Tries the speeds of two threads that are made for the call.
+fn tried_scoped<R: Threads + Wait>(rt: &R, alloc: Global, until: Until) -> Option<Verdict> {
+    let task = first_speeds(alloc)?;
+    let gate = Box::new(alloc, NoGate).ok()?;
+    let crew = Scoped::new(rt, WORKERS, gate);
+    tried(alloc, until, &mut Asking { crew, task })
 }
 
 // Starts two lasting workers, with a gate or without.
@@ -157,43 +148,63 @@ fn started<R: Threads + Wait + Clone + Drop + Send + 'static>(
     }
 }
 
-// Tries two lasting workers, who pass the gate of their task if it has one.
+// Starts those who do a task, and pass its gate if it has one.
+fn started_for<R: Threads + Wait + Clone + Drop + Send + 'static>(
+    rt: &R,
+    alloc: Global,
+    task: &Task,
+) -> Option<Pool<R>> {
+    match task {
+        Task::Speeds(_) => started(rt, alloc, false)?.ok(),
+        Task::Steps(_, _, gate) => {
+            let gate = Arc::try_clone(gate).ok()?;
+            Pool::start_on(rt.clone().ok()?, alloc, WORKERS, gate, WORKERS).ok()
+        }
+    }
+}
+
+// Tries two lasting workers.
 fn tried_pool<R: Threads + Wait + Clone + Drop + Send + 'static>(
     rt: &R,
     alloc: Global,
     until: Until,
-    task: &Task,
+    task: Task,
 ) -> Option<Verdict> {
-    let mut pool = match task {
-        Task::Speeds(_) => started(rt, alloc, false)?.ok()?,
-        Task::Steps(_, _, gate) => {
-            let gate = Arc::try_clone(gate).ok()?;
-            Pool::start_on(rt.clone().ok()?, alloc, WORKERS, gate, WORKERS).ok()?
-        }
-    };
-    let verdict = tried_task(alloc, until, &mut pool, task);
-    pool.finish();
+    let crew = started_for(rt, alloc, &task)?;
+    let mut asking = Asking { crew, task };
+    let verdict = tried(alloc, until, &mut asking);
+    let Asking { crew, .. } = asking;
+    crew.finish();
     verdict
 }
 
 // Judges workers that were started: they give the speeds. None where an allocation failed in that.
 fn judged_start<R: Threads + Wait + Clone + Drop + Send + 'static>(
     alloc: Global,
-    until: Until,
     mut pool: Pool<R>,
     task: &Task,
     verdict: Verdict,
 ) -> Option<Verdict> {
-    if until == Until::Called {
-        pool.finish();
-        return Some(Verdict::Left);
-    }
     let given = gives(alloc, &mut pool, task);
     pool.finish();
     match given {
         Ok(is_right) => Some(accepted(verdict, is_right)),
         Err(CrewFault::OutOfMemory) => None,
-        Err(_) => Some(Verdict::Wrong("the workers do not answer")),
+        Err(CrewFault::WorkersGone) => Some(Verdict::Wrong(Wrong::Workers)),
+    }
+}
+
+// Starts two lasting workers once more.
+fn started_again<R: Threads + Wait + Clone + Drop + Send + 'static>(
+    rt: &R,
+    alloc: Global,
+    is_gated: bool,
+    task: &Task,
+    verdict: Verdict,
+) -> Option<Verdict> {
+    match started(rt, alloc, is_gated)? {
+        Ok(pool) => judged_start(alloc, pool, task, verdict),
+        Err(_) => Some(Verdict::Wrong(Wrong::Again)),
     }
 }
 
@@ -209,34 +220,27 @@ fn tried_start<R: Threads + Wait + Clone + Drop + Send + 'static>(
         return Some(Verdict::Left);
     }
     match started(rt, alloc, is_gated)? {
-        Ok(pool) => judged_start(alloc, until, pool, &task, Verdict::Right),
-        Err(fault) => match started(rt, alloc, is_gated)? {
-            Ok(pool) => judged_start(alloc, until, pool, &task, after(fault)),
-            Err(_) => Some(Verdict::Wrong("it was refused again")),
-        },
+        Ok(pool) if until == Until::Called => {
+            pool.finish();
+            Some(Verdict::Left)
+        }
+        Ok(pool) => judged_start(alloc, pool, &task, Verdict::Right),
+        Err(fault) => started_again(rt, alloc, is_gated, &task, fault.due()?),
     }
 }
 
-// Tries the speeds of two threads that are made for the call.
-fn tried_scoped<R: Threads + Wait>(rt: &R, alloc: Global, until: Until) -> Option<Verdict> {
-    let task = first_speeds(alloc)?;
-    let gate = Box::new(alloc, NoGate).ok()?;
-    let mut crew = Scoped::new(rt, 2, gate);
-    tried_task(alloc, until, &mut crew, &task)
-}
-
 /// Tries a crew.
-pub(crate) fn tried<R: Threads + Wait + Clone + Drop + Send + 'static>(
+pub(crate) fn tried_crew<R: Threads + Wait + Clone + Drop + Send + 'static>(
     rt: &R,
     alloc: Global,
     until: Until,
     case: CrewCase,
 ) -> Option<Verdict> {
     match case {
-        CrewCase::Alone => tried_task(alloc, until, &mut Alone, &first_speeds(alloc)?),
+        CrewCase::Alone => tried_alone(alloc, until),
         CrewCase::Scoped => tried_scoped(rt, alloc, until),
-        CrewCase::Pool => tried_pool(rt, alloc, until, &first_speeds(alloc)?),
-        CrewCase::Run => tried_pool(rt, alloc, until, &long_run(alloc)?),
+        CrewCase::Pool => tried_pool(rt, alloc, until, first_speeds(alloc)?),
+        CrewCase::Run => tried_pool(rt, alloc, until, long_run(alloc)?),
         CrewCase::Start => tried_start(rt, alloc, until, false),
         CrewCase::StartGated => tried_start(rt, alloc, until, true),
     }

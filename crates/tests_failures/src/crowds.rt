@@ -1,15 +1,24 @@
 //! Crowds of the free road: each session works on a thread of its own, and its allocations are among those that fail.
 
-use crate::crews::after;
+ghost use Rattle.std.specs.Prelude.{◌≡◌, ◌<◌, ◌≤◌, None, length};
+ghost use Rattle.std.specs.Arc.{arc_value};
+ghost use Rattle.road_plan.specs.declared.limits.TheConstants.{MOST_SESSIONS};
+ghost use Rattle.road_replica.specs.Crowds.{crowd_writes, shares_fault, shares_of};
+ghost use Rattle.road_replica.specs.declared.crowds.TheConstants.{MOST_CROWD_WRITES};
+ghost use Rattle.tests_failures.specs.declared.crowds.TheConstants.{LAST};
+
 use crate::roads::free_plan;
-use crate::verdict::{Until, Verdict, judged};
+use crate::verdict::{Call, Until, Verdict, tried};
 use road_crowd::crowd;
+use road_plan::Plan;
+use road_replica::Crowd;
 use road_scenario::Edit;
-use road_workers::NoGate;
+use road_workers::{CrewFault, NoGate};
 use std::alloc::Global;
-use std::sync::Wait;
+use std::sync::{Arc, Wait};
 use std::thread::Threads;
 use tests_crowds::may_gather;
+use tests_portraits::Portrait;
 
 /// The shares of a crowd that works to step 6, and what is left of it: its edits, its writes and the last row.
 #[derive(Clone, Copy)]
@@ -23,27 +32,67 @@ pub(crate) struct CrowdCase(
 /// The step to which all sessions advance.
 const LAST: u32 = 6;
 
+// Copies the shares of a crowd.
+fn shares_of_case(alloc: Global, case: &CrowdCase) -> Option<Vec<Vec<Edit>>> {
+    let mut shares = Vec::new(alloc);
+    for share in case.0 {
+        shares.push(share.to_vec(alloc).ok()?).ok()?;
+    }
+    Some(shares)
+}
+
+// A crowd that may gather.
+#[derive(Drop)]
+struct Gathering<'a, R> {
+    rt: &'a R,
+    plan: Arc<Plan>,
+    shares: Vec<Vec<Edit>>,
+    case: CrowdCase,
+    ghost few: { (0 < length shares.items) × (length shares.items ≤ MOST_SESSIONS) },
+    ghost within: { crowd_writes (shares_of shares.items) ≤ MOST_CROWD_WRITES },
+    ghost accepted: { shares_fault (arc_value plan) (shares_of shares.items) LAST ≡ None },
+}
+
+impl<R: Threads + Wait> Call for Gathering<'_, R> {
+    type Answer = Crowd;
+
+    type Fault = CrewFault;
+
+    fn draw(&mut self, _alloc: Global, portrait: &mut Portrait) -> Option<()> {
+        for share in &self.shares {
+            portrait.draw_edits(share)?;
+        }
+        Some(())
+    }
+
+    fn make(&mut self, alloc: Global) -> Result<Crowd, CrewFault> {
+        crowd(self.rt, alloc, &self.plan, &self.shares, LAST, &NoGate)
+    }
+
+    fn is_right(&mut self, _alloc: Global, left: Crowd) -> Option<bool> {
+        let CrowdCase(_, edits, journal, row) = self.case;
+        let is_written = left.edits.as_slice() == edits && left.journal == journal;
+        Some(is_written && left.row.as_str() == row)
+    }
+}
+
 /// Tries a crowd.
-pub(crate) fn tried<R: Threads + Wait>(
+pub(crate) fn tried_crowd<R: Threads + Wait>(
     rt: &R,
     alloc: Global,
     until: Until,
     case: &CrowdCase,
 ) -> Option<Verdict> {
-    let CrowdCase(listed, edits, journal, row) = *case;
+    let shares = shares_of_case(alloc, case)?;
     let plan = free_plan(alloc)?;
-    let mut shares = Vec::new(alloc);
-    for share in listed {
-        shares.push(share.to_vec(alloc).ok()?).ok()?;
-    }
     if !may_gather(&plan, &shares, LAST) {
         return None;
     }
-    judged!(
-        until,
-        crowd(rt, alloc, &plan, &shares, LAST, &NoGate),
-        fault => after(fault),
-        true,
-        left => left.edits.as_slice() == edits && left.journal == journal && left.row.as_str() == row
-    )
+    let mut gathering = Gathering {
+        rt,
+        plan,
+        shares,
+        case: *case,
+    };
+    tried(alloc, until, &mut gathering)
 }

@@ -1,11 +1,14 @@
 //! Lines that are read, and replies that are written.
 
 use crate::roads::{BLOCKED, LESS, OPENED};
-use crate::verdict::{Until, Verdict, judged};
-use road_format::{Answer, Command, LineFault, PlanLineFault, read_command, read_plan, reply_line};
-use road_plan::PlanFault;
+use crate::verdict::{Call, Until, Verdict, tried};
+use road_format::{
+    Answer, Command, LineFault, PlanLine, PlanLineFault, read_command, read_plan, reply_line,
+};
+use road_plan::{OutOfMemory, Plan, PlanFault};
 use std::alloc::Global;
 use tests_plans::{BLOCK, FREE, plan_of, reads};
+use tests_portraits::Portrait;
 
 /// What is read or written.
 #[derive(Clone, Copy, PartialEq, Eq)]
@@ -32,6 +35,28 @@ const EDITS_REPLY: &str =
 
 const ROWS_REPLY: &str = "{\"rows\":[\"0..2...2#...\",\".1...2.0#...\"]}\n";
 
+// The making of a plan of its parts.
+#[derive(Clone, Copy)]
+struct Planning;
+
+impl Call for Planning {
+    type Answer = Plan;
+
+    type Fault = PlanFault;
+
+    fn make(&mut self, alloc: Global) -> Result<Plan, PlanFault> {
+        plan_of(alloc, &FREE)
+    }
+
+    fn is_right(&mut self, _alloc: Global, plan: Plan) -> Option<bool> {
+        Some(reads(&plan, &FREE))
+    }
+}
+
+// The reading of a plan line.
+#[derive(Clone, Copy)]
+struct ReadingPlan;
+
 // Answers whether names are those of the three replicas.
 fn are_names(names: &[String]) -> bool {
     names.len() == 3
@@ -40,6 +65,24 @@ fn are_names(names: &[String]) -> bool {
             .zip(["A", "B", "C"].as_slice())
             .all(|(name, wanted)| name.as_str() == *wanted)
 }
+
+impl Call for ReadingPlan {
+    type Answer = PlanLine;
+
+    type Fault = PlanLineFault;
+
+    fn make(&mut self, alloc: Global) -> Result<PlanLine, PlanLineFault> {
+        read_plan(alloc, PLAN_LINE.as_bytes())
+    }
+
+    fn is_right(&mut self, _alloc: Global, line: PlanLine) -> Option<bool> {
+        Some(are_names(&line.names) && reads(&line.plan, &FREE))
+    }
+}
+
+// The reading of a command.
+#[derive(Clone, Copy)]
+struct Reading(&'static str);
 
 // Answers whether a command is that of one of the two lines.
 fn is_command(command: &Command, line: &str) -> bool {
@@ -59,17 +102,64 @@ fn is_command(command: &Command, line: &str) -> bool {
     }
 }
 
-// Tries to read a command.
-fn tried_command(alloc: Global, until: Until, line: &str) -> Option<Verdict> {
-    judged!(
-        until, read_command(alloc, line.as_bytes()), LineFault::OutOfMemory,
-        command => is_command(&command, line)
-    )
+impl Call for Reading {
+    type Answer = Command;
+
+    type Fault = LineFault;
+
+    fn make(&mut self, alloc: Global) -> Result<Command, LineFault> {
+        read_command(alloc, self.0.as_bytes())
+    }
+
+    fn is_right(&mut self, _alloc: Global, command: Command) -> Option<bool> {
+        Some(is_command(&command, self.0))
+    }
+}
+
+// The writing of a reply.
+#[derive(Drop)]
+struct Replying {
+    answer: Answer,
+    case: LineCase,
+}
+
+// Returns the line of a reply.
+fn reply_of(case: LineCase) -> &'static str {
+    match case {
+        LineCase::Edits => EDITS_REPLY,
+        _ => ROWS_REPLY,
+    }
+}
+
+impl Call for Replying {
+    type Answer = String;
+
+    type Fault = OutOfMemory;
+
+    fn draw(&mut self, _alloc: Global, portrait: &mut Portrait) -> Option<()> {
+        match &self.answer {
+            Answer::Edits(edits) => portrait.draw_edits(edits),
+            _ => Some(()),
+        }
+    }
+
+    fn make(&mut self, alloc: Global) -> Result<String, OutOfMemory> {
+        reply_line(alloc, &self.answer)
+    }
+
+    fn is_right(&mut self, _alloc: Global, text: String) -> Option<bool> {
+        Some(text.as_str() == reply_of(self.case))
+    }
 }
 
 // Tries to write a reply.
-fn tried_reply(alloc: Global, until: Until, answer: &Answer, line: &str) -> Option<Verdict> {
-    judged!(until, reply_line(alloc, answer), _, text => text.as_str() == line)
+fn tried_reply(alloc: Global, until: Until, answer: Answer, case: LineCase) -> Option<Verdict> {
+    tried(alloc, until, &mut Replying { answer, case })
+}
+
+// Returns the edits of a reply.
+fn edits(alloc: Global) -> Option<Answer> {
+    Some(Answer::Edits([BLOCKED, OPENED].to_vec(alloc).ok()?))
 }
 
 // Returns the rows of a reply.
@@ -82,23 +172,13 @@ fn rows(alloc: Global) -> Option<Answer> {
 }
 
 /// Tries a line.
-pub(crate) fn tried(alloc: Global, until: Until, case: LineCase) -> Option<Verdict> {
+pub(crate) fn tried_line(alloc: Global, until: Until, case: LineCase) -> Option<Verdict> {
     match case {
-        LineCase::Plan => judged!(
-            until, plan_of(alloc, &FREE), PlanFault::OutOfMemory,
-            plan => reads(&plan, &FREE)
-        ),
-        LineCase::PlanLine => judged!(
-            until, read_plan(alloc, PLAN_LINE.as_bytes()),
-            (PlanLineFault::OutOfMemory | PlanLineFault::Plan(PlanFault::OutOfMemory)),
-            line => are_names(&line.names) && reads(&line.plan, &FREE)
-        ),
-        LineCase::Import => tried_command(alloc, until, IMPORT_LINE),
-        LineCase::Edit => tried_command(alloc, until, EDIT_LINE),
-        LineCase::Edits => {
-            let edits = [BLOCKED, OPENED].to_vec(alloc).ok()?;
-            tried_reply(alloc, until, &Answer::Edits(edits), EDITS_REPLY)
-        }
-        LineCase::Rows => tried_reply(alloc, until, &rows(alloc)?, ROWS_REPLY),
+        LineCase::Plan => tried(alloc, until, &mut Planning),
+        LineCase::PlanLine => tried(alloc, until, &mut ReadingPlan),
+        LineCase::Import => tried(alloc, until, &mut Reading(IMPORT_LINE)),
+        LineCase::Edit => tried(alloc, until, &mut Reading(EDIT_LINE)),
+        LineCase::Edits => tried_reply(alloc, until, edits(alloc)?, case),
+        LineCase::Rows => tried_reply(alloc, until, rows(alloc)?, case),
     }
 }

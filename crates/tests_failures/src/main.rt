@@ -14,7 +14,7 @@ mod cases;
 mod crews;
 mod crowds;
 mod lines;
-mod portraits;
+mod refusals;
 mod replicas;
 mod roads;
 mod scenarios;
@@ -39,7 +39,7 @@ fn tell<R: Print>(rt: &R, verdict: Option<Verdict>) -> io::Result<()> {
         Some(Verdict::Again) => println!(rt; "right again"),
         Some(Verdict::Restarted) => println!(rt; "right with new threads"),
         Some(Verdict::Refused) => println!(rt; "wrong: it was not made again"),
-        Some(Verdict::Wrong(what)) => println!(rt; "wrong: {what}"),
+        Some(Verdict::Wrong(wrong)) => println!(rt; "wrong: {}", wrong.text()),
         None => println!(rt; "not met"),
     }
 }

@@ -1,18 +1,18 @@
 //! Writes to a replica, and what it is asked.
 
-use crate::portraits::{is_as, portrait_of};
 use crate::roads::{OPENING, Shown, free_plan, holds, shows};
-use crate::verdict::{Until, Verdict, judged, kept};
+use crate::verdict::{Call, Until, Verdict, tried};
 use road_cells::Car;
-use road_delta::{Head, heads_of};
+use road_delta::{Head, Heads, heads_of};
 use road_detector::Totals;
 use road_ends::Meter;
-use road_plan::Object;
-use road_replica::{Replica, ReplicaFault, Reply};
+use road_plan::{Object, Plan};
+use road_replica::{OutOfMemory, Replica, ReplicaFault, Reply};
 use road_scenario::{Edit, Scenario};
 use road_workers::Alone;
 use std::alloc::Global;
 use std::sync::Arc;
+use tests_portraits::Portrait;
 
 /// A write to a replica.
 #[derive(Clone, Copy)]
@@ -40,28 +40,16 @@ impl Write {
     }
 }
 
-/// A write that is judged: those before it, its answer, and what the replica shows before and after it.
+/// A write that is judged: those before it, its answer, and what the replica shows after it.
 #[derive(Clone, Copy)]
 pub(crate) struct WriteCase(
     pub(crate) &'static [Write],
     pub(crate) Write,
     pub(crate) Reply,
     pub(crate) Shown,
-    pub(crate) Shown,
 );
 
-/// What a replica is asked, and what it tells.
-#[derive(Clone, Copy)]
-pub(crate) enum Question {
-    Copied(Shown),
-    Message(&'static [Edit]),
-    Heads(&'static [Head]),
-    /// What is beyond the heads of some edits.
-    Beyond(&'static [Edit], &'static [Edit]),
-    State(u32, &'static [Car]),
-    Totals(u32, u32, Totals),
-    Rows(u32, u32, &'static [&'static str]),
-}
+// ---- writes
 
 // Writes to a replica.
 fn written(
@@ -84,29 +72,95 @@ fn written(
     }
 }
 
-// Returns a replica of the free road after some writes.
-fn replica_after(alloc: Global, writes: &[Write]) -> Option<Replica> {
-    let mut replica = Replica::open(alloc, free_plan(alloc)?, 0).ok()?;
+// Writes to a replica that accepts it.
+fn accept(alloc: Global, replica: &mut Replica, write: &Write) -> Option<()> {
+    let given = write.given(alloc)?;
+    written(alloc, replica, write, &given).ok()?;
+    Some(())
+}
+
+// Writes to a replica that accepts all.
+fn accept_all(alloc: Global, replica: &mut Replica, writes: &[Write]) -> Option<()> {
     for write in writes {
-        let given = write.given(alloc)?;
-        written(alloc, &mut replica, write, &given).ok()?;
+        accept(alloc, replica, write)?;
     }
-    Some(replica)
+    Some(())
+}
+
+// A write to a replica.
+#[derive(Drop)]
+struct Writing {
+    replica: Replica,
+    given: Scenario,
+    case: WriteCase,
+}
+
+impl Call for Writing {
+    type Answer = Reply;
+
+    type Fault = ReplicaFault;
+
+    fn draw(&mut self, alloc: Global, portrait: &mut Portrait) -> Option<()> {
+        portrait.draw_sheet(alloc, self.replica.sheet())
+    }
+
+    fn writes(&self) -> bool {
+        true
+    }
+
+    fn make(&mut self, alloc: Global) -> Result<Reply, ReplicaFault> {
+        written(alloc, &mut self.replica, &self.case.1, &self.given)
+    }
+
+    fn is_right(&mut self, alloc: Global, reply: Reply) -> Option<bool> {
+        Some(reply == self.case.2 && shows(alloc, self.replica.sheet(), &self.case.3)?)
+    }
+}
+
+// Returns a replica of the free road that nobody has written to.
+fn new_replica(alloc: Global) -> Option<Replica> {
+    Replica::open(alloc, free_plan(alloc)?, 0).ok()
 }
 
 /// Tries a write.
 pub(crate) fn tried_write(alloc: Global, until: Until, case: &WriteCase) -> Option<Verdict> {
-    let WriteCase(prepared, write, reply, before, after) = *case;
-    let mut replica = replica_after(alloc, prepared)?;
-    let given = write.given(alloc)?;
-    let portrait = portrait_of(alloc, replica.sheet())?;
-    judged!(
-        until,
-        written(alloc, &mut replica, &write, &given),
-        ReplicaFault::OutOfMemory => Verdict::Again,
-        shows(alloc, replica.sheet(), &before)? && is_as(alloc, replica.sheet(), &portrait)?,
-        told => told == reply && shows(alloc, replica.sheet(), &after)?
-    )
+    let given = case.1.given(alloc)?;
+    let replica = new_replica(alloc)?;
+    let mut writing = Writing {
+        replica,
+        given,
+        case: *case,
+    };
+    accept_all(alloc, &mut writing.replica, case.0)?;
+    tried(alloc, until, &mut writing)
+}
+
+// Answers whether this is replica 0, and shows this.
+fn is_replica(alloc: Global, replica: &Replica, shown: &Shown) -> Option<bool> {
+    Some(replica.number() == 0 && shows(alloc, replica.sheet(), shown)?)
+}
+
+// ---- questions
+
+/// What a replica is asked, and what it tells.
+#[derive(Clone, Copy)]
+pub(crate) enum Question {
+    Copied(Shown),
+    Message(&'static [Edit]),
+    Heads(&'static [Head]),
+    /// What is beyond the heads of some edits.
+    Beyond(&'static [Edit], &'static [Edit]),
+    State(u32, &'static [Car]),
+    Totals(u32, u32, Totals),
+    Rows(u32, u32, &'static [&'static str]),
+}
+
+// What a replica tells: its copy, edits, or whether it is the expected answer.
+#[derive(Drop)]
+enum Told {
+    Copy(Replica),
+    Edits(Scenario),
+    Expected(bool),
 }
 
 // Answers whether these rows are those.
@@ -118,80 +172,143 @@ fn are_rows(rows: &[String], wanted: &[&str]) -> bool {
             .all(|(row, text)| row.as_str() == *text)
 }
 
-// Tries what is told of a replica's edits, or none where something else is asked.
-fn tried_edits(
+// Asks a replica for the cars of a step.
+fn has_cars(
     alloc: Global,
-    until: Until,
+    replica: &Replica,
+    step: u32,
+    cars: &[Car],
+) -> Result<Told, ReplicaFault> {
+    let road = replica.state(alloc, step)?;
+    Ok(Told::Expected(road.cars() == cars))
+}
+
+// Asks it for rows.
+fn has_rows(
+    alloc: Global,
+    replica: &Replica,
+    steps: (u32, u32),
+    rows: &[&str],
+) -> Result<Told, ReplicaFault> {
+    let told = replica.rows(alloc, steps.0, steps.1)?;
+    Ok(Told::Expected(are_rows(&told, rows)))
+}
+
+// Asks it for its heads.
+fn has_heads(alloc: Global, replica: &Replica, heads: &[Head]) -> Result<Told, ReplicaFault> {
+    let told = replica.heads(alloc)?;
+    Ok(Told::Expected(told.list() == heads))
+}
+
+// Asks a replica.
+fn tell(
+    alloc: Global,
     replica: &Replica,
     question: &Question,
-) -> Option<Verdict> {
+    heads: &Heads,
+) -> Result<Told, ReplicaFault> {
     match *question {
-        Question::Message(edits) => judged!(
-            until, replica.message(), ReplicaFault::OutOfMemory,
-            told => holds(alloc, &told, edits)?
-        ),
-        Question::Heads(heads) => judged!(
-            until, replica.heads(alloc), ReplicaFault::OutOfMemory,
-            told => told.list() == heads
-        ),
-        Question::Beyond(held, delta) => {
-            let held = Scenario::of_edits(alloc, held).ok()?;
-            let heads = heads_of(alloc, &held).ok()?;
-            judged!(
-                until, replica.beyond(alloc, &heads), ReplicaFault::OutOfMemory,
-                told => holds(alloc, &told, delta)?
-            )
+        Question::Copied(_) => Ok(Told::Copy(replica.copied()?)),
+        Question::Message(_) => Ok(Told::Edits(replica.message()?)),
+        Question::Beyond(_, _) => Ok(Told::Edits(replica.beyond(alloc, heads)?)),
+        Question::Heads(heads) => has_heads(alloc, replica, heads),
+        Question::State(step, cars) => has_cars(alloc, replica, step, cars),
+        Question::Rows(from, to, rows) => has_rows(alloc, replica, (from, to), rows),
+        Question::Totals(from, to, totals) => {
+            Ok(Told::Expected(replica.totals(alloc, 0, from, to)? == totals))
         }
-        _ => None,
     }
 }
 
-// Tries a question.
-fn tried_asking(
-    alloc: Global,
-    until: Until,
-    replica: &Replica,
-    question: &Question,
-) -> Option<Verdict> {
-    match *question {
-        Question::Copied(shown) => judged!(
-            until, replica.copied(), _,
-            copy => copy.number() == 0 && shows(alloc, copy.sheet(), &shown)?
-        ),
-        Question::State(step, cars) => judged!(
-            until, replica.state(alloc, step), ReplicaFault::OutOfMemory,
-            road => road.cars() == cars
-        ),
-        Question::Totals(from, to, totals) => judged!(
-            until, replica.totals(alloc, 0, from, to), ReplicaFault::OutOfMemory,
-            told => told == totals
-        ),
-        Question::Rows(from, to, rows) => judged!(
-            until, replica.rows(alloc, from, to), ReplicaFault::OutOfMemory,
-            told => are_rows(&told, rows)
-        ),
-        _ => tried_edits(alloc, until, replica, question),
+// Answers whether a replica told what a question expects.
+fn is_told(alloc: Global, question: &Question, told: &Told) -> Option<bool> {
+    match (told, question) {
+        (Told::Expected(is_expected), _) => Some(*is_expected),
+        (Told::Copy(copy), Question::Copied(shown)) => is_replica(alloc, copy, shown),
+        (Told::Edits(held), Question::Message(edits)) => holds(alloc, held, edits),
+        (Told::Edits(held), Question::Beyond(_, edits)) => holds(alloc, held, edits),
+        _ => Some(false),
     }
+}
+
+// A question to a replica, and the heads that come with it.
+#[derive(Drop)]
+struct Asking {
+    replica: Replica,
+    heads: Heads,
+    question: Question,
+}
+
+impl Call for Asking {
+    type Answer = Told;
+
+    type Fault = ReplicaFault;
+
+    fn draw(&mut self, alloc: Global, portrait: &mut Portrait) -> Option<()> {
+        portrait.draw_sheet(alloc, self.replica.sheet())
+    }
+
+    fn make(&mut self, alloc: Global) -> Result<Told, ReplicaFault> {
+        tell(alloc, &self.replica, &self.question, &self.heads)
+    }
+
+    fn is_right(&mut self, alloc: Global, told: Told) -> Option<bool> {
+        is_told(alloc, &self.question, &told)
+    }
+}
+
+// Returns the heads that a question brings.
+fn heads_with(alloc: Global, question: &Question) -> Option<Heads> {
+    let held: &[Edit] = match question {
+        Question::Beyond(held, _) => held,
+        _ => &[],
+    };
+    let scenario = Scenario::of_edits(alloc, held).ok()?;
+    heads_of(alloc, &scenario).ok()
 }
 
 /// Tries a question after some writes.
 pub(crate) fn tried_question(
     alloc: Global,
     until: Until,
-    prepared: &[Write],
+    writes: &[Write],
     question: &Question,
 ) -> Option<Verdict> {
-    let replica = replica_after(alloc, prepared)?;
-    let portrait = portrait_of(alloc, replica.sheet())?;
-    let verdict = tried_asking(alloc, until, &replica, question)?;
-    kept(alloc, verdict, replica.sheet(), &portrait)
+    let heads = heads_with(alloc, question)?;
+    let replica = new_replica(alloc)?;
+    let mut asking = Asking {
+        replica,
+        heads,
+        question: *question,
+    };
+    accept_all(alloc, &mut asking.replica, writes)?;
+    tried(alloc, until, &mut asking)
+}
+
+// ---- openings
+
+// The opening of a replica.
+#[derive(Drop)]
+struct Opening {
+    plan: Arc<Plan>,
+}
+
+impl Call for Opening {
+    type Answer = Replica;
+
+    type Fault = OutOfMemory;
+
+    fn make(&mut self, alloc: Global) -> Result<Replica, OutOfMemory> {
+        Replica::open(alloc, Arc::try_clone(&self.plan)?, 0)
+    }
+
+    fn is_right(&mut self, alloc: Global, replica: Replica) -> Option<bool> {
+        is_replica(alloc, &replica, &OPENING)
+    }
 }
 
 /// Tries the opening of a replica.
 pub(crate) fn tried_opening(alloc: Global, until: Until) -> Option<Verdict> {
     let plan = free_plan(alloc)?;
-    judged!(
-        until, Replica::open(alloc, Arc::try_clone(&plan).ok()?, 0), _,
-        replica => replica.number() == 0 && shows(alloc, replica.sheet(), &OPENING)?
-    )
+    tried(alloc, until, &mut Opening { plan })
 }

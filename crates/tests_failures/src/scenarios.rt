@@ -3,14 +3,18 @@
 use crate::roads::{
     BLOCKED, BLOCKED_SECOND, CLOSED, CLOSED_ELSEWHERE, HELD, HELD_ELSEWHERE, free_plan, holds,
 };
-use crate::verdict::{Until, Verdict, judged};
+use crate::verdict::{Call, Until, Verdict, tried};
+use lattice_core::OutOfMemory;
 use lattice_core::both::Both;
 use lattice_core::greatest::Greatest;
 use lattice_core::lattice::Lattice;
 use lattice_core::map::LatMap;
-use road_delta::{Head, beyond, heads_of};
+use road_delta::{Head, Heads, beyond, heads_of};
+use road_plan::Plan;
 use road_scenario::{Edit, Scenario};
 use std::alloc::Global;
+use std::sync::Arc;
+use tests_portraits::Portrait;
 
 /// What is made of scenarios: of what one replica holds and, where there are two, of what another one does.
 #[derive(Clone, Copy)]
@@ -59,70 +63,127 @@ fn are_heads(heads: &[Head], edits: &[Edit]) -> bool {
         })
 }
 
-// Tries what is read of a scenario.
-fn tried_reading(alloc: Global, until: Until, one: &Scenario, making: Making) -> Option<Verdict> {
-    match making {
-        Making::Edits => judged!(until, one.edits(alloc), _, edits => edits.as_slice() == HELD),
-        Making::Settings => {
-            let plan = free_plan(alloc)?;
-            if one.fits(&plan).is_some() {
-                return None;
-            }
-            judged!(
-                until, one.settings_at(alloc, &plan, 4), _,
-                settings => settings.blocks() == [8].as_slice()
-            )
-        }
-        Making::Heads =>
-            judged!(until, heads_of(alloc, one), _, heads => are_heads(heads.list(), HELD)),
-        Making::Beyond => {
-            let other = Scenario::of_edits(alloc, HELD_ELSEWHERE).ok()?;
-            let heads = heads_of(alloc, &other).ok()?;
-            judged!(
-                until, beyond(alloc, one, &heads), _,
-                delta => holds(alloc, &delta, &[CLOSED, BLOCKED_SECOND])?
-            )
-        }
-        _ => None,
+// What was made: a scenario, one with a horizon, or whether it is the expected answer.
+#[derive(Drop)]
+enum Made {
+    Scenario(Scenario),
+    Pair(Pair),
+    Expected(bool),
+}
+
+// What is made of scenarios, and what it needs.
+#[derive(Drop)]
+struct Work {
+    one: Pair,
+    other: Pair,
+    // The heads of the other one.
+    heads: Heads,
+    plan: Arc<Plan>,
+    making: Making,
+}
+
+// Answers whether the settings of a scenario at step 4 have cell 8 blocked.
+fn has_blocked(alloc: Global, scenario: &Scenario, plan: &Arc<Plan>) -> Result<bool, OutOfMemory> {
+    if scenario.fits(plan).is_some() {
+        return Ok(false);
+    }
+    let settings = scenario.settings_at(alloc, plan, 4)?;
+    Ok(settings.blocks() == [8].as_slice())
+}
+
+// Answers whether a scenario has the edits of one replica.
+fn has_held(alloc: Global, scenario: &Scenario) -> Result<bool, OutOfMemory> {
+    Ok(scenario.edits(alloc)?.as_slice() == HELD)
+}
+
+// Answers whether a scenario has their heads.
+fn has_heads(alloc: Global, scenario: &Scenario) -> Result<bool, OutOfMemory> {
+    Ok(are_heads(heads_of(alloc, scenario)?.list(), HELD))
+}
+
+// Reads a scenario.
+fn read(alloc: Global, work: &Work) -> Result<bool, OutOfMemory> {
+    let (one, other) = (&work.one, &work.other);
+    match work.making {
+        Making::Edits => has_held(alloc, &one.first),
+        Making::Settings => has_blocked(alloc, &one.first, &work.plan),
+        Making::Heads => has_heads(alloc, &one.first),
+        Making::GreatestJoined => Ok(one.second.joined(&other.second)? == one.second),
+        _ => Ok(one.second.copied()? == one.second),
     }
 }
 
-// Tries what is made of one scenario and its horizon, or of those of two.
-fn tried_pair(
-    alloc: Global,
-    until: Until,
-    one: &Pair,
-    other: &Pair,
-    making: Making,
-) -> Option<Verdict> {
-    match making {
-        Making::Joined => judged!(
-            until, one.first.joined(&other.first), _,
-            joined => holds(alloc, &joined, ALL)?
-        ),
-        Making::Copied => judged!(until, one.first.copied(), _, copy => holds(alloc, &copy, HELD)?),
-        Making::PairJoined =>
-            judged!(until, one.joined(other), _, pair => is_pair(alloc, &pair, ALL)?),
-        Making::PairCopied => judged!(until, one.copied(), _, pair => is_pair(alloc, &pair, HELD)?),
-        Making::GreatestJoined => judged!(
-            until, one.second.joined(&other.second), _,
-            joined => joined == one.second
-        ),
-        Making::GreatestCopied =>
-            judged!(until, one.second.copied(), _, copy => copy == one.second),
-        _ => tried_reading(alloc, until, &one.first, making),
+impl Call for Work {
+    type Answer = Made;
+
+    type Fault = OutOfMemory;
+
+    fn draw(&mut self, alloc: Global, portrait: &mut Portrait) -> Option<()> {
+        portrait.draw_scenario(alloc, &self.one.first)?;
+        portrait.draw_scenario(alloc, &self.other.first)
     }
+
+    fn make(&mut self, alloc: Global) -> Result<Made, OutOfMemory> {
+        let (one, other) = (&self.one, &self.other);
+        match &self.making {
+            Making::WithEdit(_, edit, _) => Ok(Made::Scenario(one.first.with_edit(edit)?)),
+            Making::Joined => Ok(Made::Scenario(one.first.joined(&other.first)?)),
+            Making::Copied => Ok(Made::Scenario(one.first.copied()?)),
+            Making::Beyond => Ok(Made::Scenario(beyond(alloc, &one.first, &self.heads)?)),
+            Making::PairJoined => Ok(Made::Pair(one.joined(other)?)),
+            Making::PairCopied => Ok(Made::Pair(one.copied()?)),
+            _ => Ok(Made::Expected(read(alloc, self)?)),
+        }
+    }
+
+    fn is_right(&mut self, alloc: Global, made: Made) -> Option<bool> {
+        is_made(alloc, &made, edits_of(&self.making))
+    }
+}
+
+// Returns the edits of what is made.
+fn edits_of(making: &Making) -> &'static [Edit] {
+    match making {
+        Making::WithEdit(_, _, made) => made,
+        Making::Joined | Making::PairJoined => ALL,
+        Making::Beyond => &[CLOSED, BLOCKED_SECOND],
+        _ => HELD,
+    }
+}
+
+// Answers whether what was made has these edits.
+fn is_made(alloc: Global, made: &Made, edits: &[Edit]) -> Option<bool> {
+    match made {
+        Made::Scenario(scenario) => holds(alloc, scenario, edits),
+        Made::Pair(pair) => is_pair(alloc, pair, edits),
+        Made::Expected(is_expected) => Some(*is_expected),
+    }
+}
+
+// Returns the heads of some edits.
+fn heads_with(alloc: Global, edits: &[Edit]) -> Option<Heads> {
+    let scenario = Scenario::of_edits(alloc, edits).ok()?;
+    heads_of(alloc, &scenario).ok()
 }
 
 /// Tries what is made of scenarios.
-pub(crate) fn tried(alloc: Global, until: Until, making: Making) -> Option<Verdict> {
-    if let Making::WithEdit(edits, edit, made) = making {
-        let scenario = Scenario::of_edits(alloc, edits).ok()?;
-        return judged!(until, scenario.with_edit(&edit), _, with => holds(alloc, &with, made)?);
-    }
-    let one = pair_of(alloc, HELD, 6)?;
+pub(crate) fn tried_making(alloc: Global, until: Until, making: Making) -> Option<Verdict> {
+    let held: &[Edit] = match &making {
+        Making::WithEdit(edits, _, _) => edits,
+        _ => HELD,
+    };
+    let heads = heads_with(alloc, HELD_ELSEWHERE)?;
+    let plan = free_plan(alloc)?;
+    let one = pair_of(alloc, held, 6)?;
     let other = pair_of(alloc, HELD_ELSEWHERE, 3)?;
-    tried_pair(alloc, until, &one, &other, making)
+    let mut work = Work {
+        one,
+        other,
+        heads,
+        plan,
+        making,
+    };
+    tried(alloc, until, &mut work)
 }
 
 // ---- maps of registers
@@ -197,39 +258,84 @@ fn has_even_and(map: &Registers, count: u32, three: &[u32]) -> bool {
     true
 }
 
-// Tries what is made of a map in one page.
-fn tried_page(alloc: Global, until: Until, case: MapCase) -> Option<Verdict> {
-    let one = map_of(alloc, &[(5, TWO), (9, THREE)])?;
-    let other = map_of(alloc, &[(3, TWO), (5, THREE)])?;
+// What is made of maps.
+#[derive(Drop)]
+struct Mapping {
+    one: Registers,
+    other: Registers,
+    case: MapCase,
+}
+
+// Draws a map of pairs.
+fn draw_map(portrait: &mut Portrait, map: &Registers) -> Option<()> {
+    for (step, register) in map.iter() {
+        portrait.draw_number(u64::from(*step))?;
+        match register {
+            Greatest::Nothing => portrait.draw_number(0)?,
+            Greatest::Of((count, value)) => {
+                portrait.draw_number(u64::from(*count))?;
+                portrait.draw_number(u64::from(*value))?;
+            }
+        }
+    }
+    Some(())
+}
+
+impl Call for Mapping {
+    type Answer = Registers;
+
+    type Fault = OutOfMemory;
+
+    fn draw(&mut self, _alloc: Global, portrait: &mut Portrait) -> Option<()> {
+        draw_map(portrait, &self.one)?;
+        draw_map(portrait, &self.other)
+    }
+
+    fn make(&mut self, _alloc: Global) -> Result<Registers, OutOfMemory> {
+        match self.case {
+            MapCase::With => self.one.with(3, &TWO),
+            MapCase::WithSplit => self.one.with(1, &THREE),
+            MapCase::Copied => self.one.copied(),
+            MapCase::Joined | MapCase::PagesJoined => self.one.joined(&self.other),
+        }
+    }
+
+    fn is_right(&mut self, _alloc: Global, map: Registers) -> Option<bool> {
+        Some(is_map(&map, self.case))
+    }
+}
+
+// Answers whether this is the map that is made.
+fn is_map(map: &Registers, case: MapCase) -> bool {
     match case {
-        MapCase::With => judged!(
-            until, one.with(3, &TWO), _,
-            map => has_registers(&map, &[(3, TWO), (5, TWO), (9, THREE)])
-        ),
-        MapCase::Copied =>
-            judged!(until, one.copied(), _, map => has_registers(&map, &[(5, TWO), (9, THREE)])),
-        _ => judged!(
-            until, one.joined(&other), _,
-            map => has_registers(&map, &[(3, TWO), (5, THREE), (9, THREE)])
-        ),
+        MapCase::With => has_registers(map, &[(3, TWO), (5, TWO), (9, THREE)]),
+        MapCase::WithSplit => has_even_and(map, 256, &[1]),
+        MapCase::Copied => has_registers(map, &[(5, TWO), (9, THREE)]),
+        MapCase::Joined => has_registers(map, &[(3, TWO), (5, THREE), (9, THREE)]),
+        MapCase::PagesJoined => has_even_and(map, 600, &[1, 1_100, 2_000]),
+    }
+}
+
+// Returns the map of which another one is made.
+fn first_map(alloc: Global, case: MapCase) -> Option<Registers> {
+    match case {
+        MapCase::WithSplit => even_steps(alloc, 256),
+        MapCase::PagesJoined => even_steps(alloc, 600),
+        _ => map_of(alloc, &[(5, TWO), (9, THREE)]),
+    }
+}
+
+// Returns the map that is joined in.
+fn second_map(alloc: Global, case: MapCase) -> Option<Registers> {
+    match case {
+        MapCase::PagesJoined => map_of(alloc, &[(1, THREE), (1_100, THREE), (2_000, THREE)]),
+        _ => map_of(alloc, &[(3, TWO), (5, THREE)]),
     }
 }
 
 /// Tries what is made of maps.
 pub(crate) fn tried_map(alloc: Global, until: Until, case: MapCase) -> Option<Verdict> {
-    match case {
-        MapCase::WithSplit => {
-            let one = even_steps(alloc, 256)?;
-            judged!(until, one.with(1, &THREE), _, map => has_even_and(&map, 256, &[1]))
-        }
-        MapCase::PagesJoined => {
-            let one = even_steps(alloc, 600)?;
-            let other = map_of(alloc, &[(1, THREE), (1_100, THREE), (2_000, THREE)])?;
-            judged!(
-                until, one.joined(&other), _,
-                map => has_even_and(&map, 600, &[1, 1_100, 2_000])
-            )
-        }
-        _ => tried_page(alloc, until, case),
-    }
+    let one = first_map(alloc, case)?;
+    let other = second_map(alloc, case)?;
+    tried(alloc, until, &mut Mapping { one, other, case })
 }

@@ -2,23 +2,24 @@
 
 ghost use Rattle.std.specs.Prelude.{◌≡◌};
 
-use crate::portraits::{Portrait, is_as, portrait_of};
 use crate::replicas::Write;
 use crate::roads::{OPENING, Shown, free_plan, holds, shows};
-use crate::verdict::{Until, Verdict, accepted, judged, kept};
+use crate::verdict::{Call, Refusal, Until, Verdict, Wrong, accepted, tried};
 use road_cells::Car;
 use road_detector::Totals;
 use road_ends::Meter;
-use road_replica::{ReplicaFault, Reply};
+use road_replica::Reply;
 use road_scenario::{Edit, Scenario};
 use road_sessions::{
-    Closed, Entry, Naming, OpenFault, Prepared, Session, Shared, SheetCommand, WriteFault, Wrote,
-    close, open, prepare,
+    Closed, Entry, LookFault, Naming, Of, OpenFault, Prepared, Session, Shared, SheetCommand,
+    WriteFault, Wrote, close, open, prepare,
 };
+use road_sheet::Sheet;
 use road_workers::Alone;
 use std::alloc::Global;
 use std::marker::Brand;
-use std::sync::Wait;
+use std::sync::{Arc, Wait};
+use tests_portraits::Portrait;
 
 /// What a session does, and what it is answered.
 #[derive(Clone, Copy)]
@@ -59,195 +60,320 @@ pub(crate) enum Closing {
     Refused,
 }
 
-// ---- calls
+// ---- what sessions are shown
 
-// Writes for a session.
-fn written<J: Naming, R: Wait + Drop, W: Wait>(
-    rt: &W,
-    shared: &Shared<J, R>,
+// A store and its two sessions.
+#[derive(Drop)]
+struct Store<J: Naming, S, W> {
+    rt: W,
+    shared: S,
+    sessions: Vec<Session<J>>,
+}
+
+// Answers whether a session that looks is shown this.
+fn is_shown<J: Naming, S: Of<J>>(
+    alloc: Global,
+    shared: &S,
     session: &mut Session<J>,
+    shown: &Shown,
+) -> Option<bool> {
+    match session.look(shared) {
+        Ok(sheet) => shows(alloc, &sheet, shown),
+        Err(_fault) => Some(false),
+    }
+}
+
+// Answers whether all sessions that look are shown this.
+fn are_shown<J: Naming, S: Of<J>>(
+    alloc: Global,
+    shared: &S,
+    sessions: &mut [Session<J>],
+    shown: &Shown,
+) -> Option<bool> {
+    for session in sessions {
+        if !is_shown(alloc, shared, session, shown)? {
+            return Some(false);
+        }
+    }
+    Some(true)
+}
+
+// Draws what a session is shown.
+fn draw_look<J: Naming, S: Of<J>>(
+    alloc: Global,
+    portrait: &mut Portrait,
+    shared: &S,
+    session: &mut Session<J>,
+) -> Option<()> {
+    let sheet = session.look(shared).ok()?;
+    portrait.draw_sheet(alloc, &sheet)
+}
+
+// Draws what each session is shown.
+fn draw_looks<J: Naming, S: Of<J>>(
+    alloc: Global,
+    portrait: &mut Portrait,
+    shared: &S,
+    sessions: &mut [Session<J>],
+) -> Option<()> {
+    for session in sessions {
+        draw_look(alloc, portrait, shared, session)?;
+    }
+    Some(())
+}
+
+// ---- writes
+
+/// Something that sessions write to.
+trait Writes<J: Naming>: Of<J> {
+    /// Writes for a session.
+    fn written<W: Wait>(
+        &self,
+        rt: &W,
+        session: &mut Session<J>,
+        write: &Write,
+        given: &Scenario,
+    ) -> Result<Wrote<J>, WriteFault>;
+}
+
+impl<J: Naming, R: Wait + Drop> Writes<J> for Shared<J, R> {
+    fn written<W: Wait>(
+        &self,
+        rt: &W,
+        session: &mut Session<J>,
+        write: &Write,
+        given: &Scenario,
+    ) -> Result<Wrote<J>, WriteFault> {
+        let (crew, meter) = (&mut Alone, &mut Meter::new());
+        match write {
+            Write::Edit(object, step, value) => {
+                session.edit(rt, self, *object, *step, *value, crew, meter)
+            }
+            Write::Withdraw(object, step) => {
+                session.withdraw(rt, self, *object, *step, crew, meter)
+            }
+            Write::Advance(to) => session.advance(rt, self, *to, crew, meter),
+            Write::Take(_) => session.take(rt, self, given, crew, meter),
+            Write::Import(_) => Err(WriteFault::JournalFull),
+        }
+    }
+}
+
+// Writes for the session of a number.
+fn written_by<J: Naming, S: Writes<J>, W: Wait>(
+    store: &mut Store<J, S, W>,
+    number: usize,
     write: &Write,
     given: &Scenario,
 ) -> Result<Wrote<J>, WriteFault> {
-    let (crew, meter) = (&mut Alone, &mut Meter::new());
-    match write {
-        Write::Edit(object, step, value) => {
-            session.edit(rt, shared, *object, *step, *value, crew, meter)
-        }
-        Write::Withdraw(object, step) => session.withdraw(rt, shared, *object, *step, crew, meter),
-        Write::Advance(to) => session.advance(rt, shared, *to, crew, meter),
-        Write::Take(_) => session.take(rt, shared, given, crew, meter),
-        Write::Import(_) => Err(WriteFault::JournalFull),
+    let Store {
+        rt,
+        shared,
+        sessions,
+    } = store;
+    match sessions.get_mut(number) {
+        Some(session) => shared.written(rt, session, write, given),
+        None => Err(WriteFault::JournalFull),
     }
 }
 
 // Writes for the first session, and tells the second one.
-fn is_written<J: Naming, R: Wait + Drop, W: Wait>(
-    rt: &W,
+fn accept<J: Naming, S: Writes<J>, W: Wait>(
     alloc: Global,
-    shared: &Shared<J, R>,
-    sessions: &mut [Session<J>],
+    store: &mut Store<J, S, W>,
     write: &Write,
 ) -> Option<()> {
     let given = write.given(alloc)?;
-    let first = sessions.get_mut(0)?;
-    let wrote = written(rt, shared, first, write, &given).ok()?;
-    let second = sessions.get_mut(1)?;
-    second.hear(wrote.receipt);
+    let Ok(wrote) = written_by(store, 0, write, &given) else {
+        return None;
+    };
+    store.sessions.get_mut(1)?.hear(wrote.receipt);
     Some(())
 }
 
-// Answers whether all sessions that look are shown this.
-fn are_shown<J: Naming, R: Wait + Drop>(
+// Writes all of these so.
+fn accept_all<J: Naming, S: Writes<J>, W: Wait>(
     alloc: Global,
-    shared: &Shared<J, R>,
-    sessions: &mut [Session<J>],
-    shown: &Shown,
-) -> Option<bool> {
-    let mut are_shown = true;
-    for session in sessions {
-        let Ok(sheet) = session.look(shared) else {
+    store: &mut Store<J, S, W>,
+    writes: &[Write],
+) -> Option<()> {
+    for write in writes {
+        accept(alloc, store, write)?;
+    }
+    Some(())
+}
+
+// A write of the second session.
+#[derive(Drop)]
+struct Writing<J: Naming, S, W> {
+    store: Store<J, S, W>,
+    given: Scenario,
+    case: SessionCase,
+}
+
+impl<J: Naming, S: Writes<J>, W: Wait> Call for Writing<J, S, W> {
+    type Answer = (u64, Reply);
+
+    type Fault = WriteFault;
+
+    fn draw(&mut self, alloc: Global, portrait: &mut Portrait) -> Option<()> {
+        let Store {
+            shared,
+            sessions,
+            ..
+        } = &mut self.store;
+        draw_looks(alloc, portrait, shared, sessions.as_mut_slice())
+    }
+
+    fn writes(&self) -> bool {
+        true
+    }
+
+    fn make(&mut self, _alloc: Global) -> Result<(u64, Reply), WriteFault> {
+        let Act::Write(write, _, _) = self.case.1 else {
+            return Err(WriteFault::JournalFull);
+        };
+        let wrote = written_by(&mut self.store, 1, &write, &self.given)?;
+        Ok((wrote.place, wrote.reply))
+    }
+
+    fn is_right(&mut self, alloc: Global, told: (u64, Reply)) -> Option<bool> {
+        let Act::Write(_, place, reply) = self.case.1 else {
             return Some(false);
         };
-        are_shown = are_shown && shows(alloc, &sheet, shown)?;
+        let Store {
+            shared,
+            sessions,
+            ..
+        } = &mut self.store;
+        let are_shown = are_shown(alloc, shared, sessions.as_mut_slice(), &self.case.3)?;
+        Some(are_shown && told == (place, reply))
     }
-    Some(are_shown)
 }
 
-// Draws what the first session is shown.
-fn drawn<J: Naming, R: Wait + Drop>(
+// Judges a write that is not made again where it is refused.
+fn judged_once<J: Naming, S: Writes<J>, W: Wait>(
     alloc: Global,
-    shared: &Shared<J, R>,
-    sessions: &mut [Session<J>],
-) -> Option<Portrait> {
-    let sheet = sessions.get_mut(0)?.look(shared).ok()?;
-    portrait_of(alloc, &sheet)
-}
-
-// Answers whether all sessions that look are shown what was drawn.
-fn are_as<J: Naming, R: Wait + Drop>(
-    alloc: Global,
-    shared: &Shared<J, R>,
-    sessions: &mut [Session<J>],
-    before: &Portrait,
-) -> Option<bool> {
-    let mut are_same = true;
-    for session in sessions {
-        let Ok(sheet) = session.look(shared) else {
-            return Some(false);
-        };
-        are_same = are_same && is_as(alloc, &sheet, before)?;
+    writing: &mut Writing<J, S, W>,
+    told: Result<(u64, Reply), WriteFault>,
+) -> Option<Verdict> {
+    match told {
+        Ok(told) => Some(accepted(Verdict::Right, writing.is_right(alloc, told)?)),
+        Err(fault) => match fault.due() {
+            Some(_) => Some(Verdict::Refused),
+            None => Some(Verdict::Wrong(Wrong::Cause)),
+        },
     }
-    Some(are_same)
 }
 
-// Tries a write of the second session.
-fn tried_write<J: Naming, R: Wait + Drop, W: Wait>(
-    rt: &W,
+// Tries such a write.
+fn tried_once<J: Naming, S: Writes<J>, W: Wait>(
     alloc: Global,
-    shared: &Shared<J, R>,
-    sessions: &mut [Session<J>],
     until: Until,
-    case: &SessionCase,
+    writing: &mut Writing<J, S, W>,
 ) -> Option<Verdict> {
-    let SessionCase(_, Act::Write(write, place, reply), before, after, _) = *case else {
-        return None;
-    };
-    let given = write.given(alloc)?;
-    let portrait = drawn(alloc, shared, sessions)?;
-    judged!(
-        until,
-        written(rt, shared, sessions.get_mut(1)?, &write, &given),
-        WriteFault::Replica(ReplicaFault::OutOfMemory) => Verdict::Again,
-        are_shown(alloc, shared, sessions, &before)? && are_as(alloc, shared, sessions, &portrait)?,
-        wrote => wrote.place == place && wrote.reply == reply && are_shown(alloc, shared, sessions, &after)?
-    )
-}
-
-// Tries a write of the second session, which is not made again.
-fn tried_once<J: Naming, R: Wait + Drop, W: Wait>(
-    rt: &W,
-    alloc: Global,
-    shared: &Shared<J, R>,
-    sessions: &mut [Session<J>],
-    until: Until,
-    case: &SessionCase,
-) -> Option<Verdict> {
-    let SessionCase(_, Act::Write(write, place, reply), _, _, _) = *case else {
-        return None;
-    };
-    let given = write.given(alloc)?;
     if until == Until::Prepared {
         return Some(Verdict::Left);
     }
-    let first = written(rt, shared, sessions.get_mut(1)?, &write, &given);
+    let told = writing.make(alloc);
     if until == Until::Called {
         return Some(Verdict::Left);
     }
-    Some(match first {
-        Ok(wrote) => accepted(Verdict::Right, wrote.place == place && wrote.reply == reply),
-        Err(WriteFault::Replica(ReplicaFault::OutOfMemory)) => Verdict::Refused,
-        Err(_) => Verdict::Wrong("it was refused for another cause"),
-    })
+    judged_once(alloc, writing, told)
 }
 
-// Tries a look of the second session, or a question to what it is shown.
-fn asked<J: Naming, R: Wait + Drop>(
+// Tries a write, once where the store is closed as soon as it is refused.
+fn tried_write<J: Naming, S: Writes<J>, W: Wait>(
     alloc: Global,
-    shared: &Shared<J, R>,
-    sessions: &mut [Session<J>],
     until: Until,
-    case: &SessionCase,
+    closing: Closing,
+    writing: &mut Writing<J, S, W>,
 ) -> Option<Verdict> {
-    match case.1 {
-        Act::Look => judged!(
-            until, sessions.get_mut(1)?.look(shared), _,
-            sheet => shows(alloc, &sheet, &case.3)?
-        ),
-        Act::State(step, cars) => judged!(
-            until, sessions.get_mut(1)?.state(alloc, shared, step), _,
-            road => road.cars() == cars
-        ),
-        Act::Totals(from, to, totals) => judged!(
-            until, sessions.get_mut(1)?.totals(alloc, shared, 0, from, to), _,
-            told => told == totals
-        ),
-        Act::Write(_, _, _) => None,
+    accept_all(alloc, &mut writing.store, writing.case.0)?;
+    if closing == Closing::Refused {
+        tried_once(alloc, until, writing)
+    } else {
+        tried(alloc, until, writing)
     }
 }
 
-// Tries the same, and whether all are shown then what was shown before.
-fn tried_question<J: Naming, R: Wait + Drop>(
-    alloc: Global,
-    shared: &Shared<J, R>,
-    sessions: &mut [Session<J>],
-    until: Until,
-    case: &SessionCase,
-) -> Option<Verdict> {
-    let portrait = drawn(alloc, shared, sessions)?;
-    let verdict = asked(alloc, shared, sessions, until, case)?;
-    let sheet = sessions.get_mut(0)?.look(shared).ok()?;
-    kept(alloc, verdict, &sheet, &portrait)
+// ---- questions
+
+// What a session is told: a sheet, or whether it is the expected answer.
+#[derive(Drop)]
+enum Told {
+    Sheet(Arc<Sheet>),
+    Expected(bool),
 }
 
-// Has the first session write, and tries what the second one does.
-fn acted<J: Naming, R: Wait + Drop, W: Wait>(
-    rt: &W,
+// A question of the second session.
+#[derive(Drop)]
+struct Asking<J: Naming, S, W> {
+    store: Store<J, S, W>,
+    case: SessionCase,
+}
+
+// Asks for a session.
+fn tell<J: Naming, S: Of<J>>(
     alloc: Global,
-    shared: &Shared<J, R>,
-    sessions: &mut [Session<J>],
+    shared: &S,
+    session: &mut Session<J>,
+    act: &Act,
+) -> Result<Told, LookFault> {
+    match *act {
+        Act::Look => Ok(Told::Sheet(session.look(shared)?)),
+        Act::State(step, cars) => Ok(Told::Expected(
+            session.state(alloc, shared, step)?.cars() == cars,
+        )),
+        Act::Totals(from, to, totals) => Ok(Told::Expected(
+            session.totals(alloc, shared, 0, from, to)? == totals,
+        )),
+        Act::Write(_, _, _) => Ok(Told::Expected(false)),
+    }
+}
+
+impl<J: Naming, S: Writes<J>, W: Wait> Call for Asking<J, S, W> {
+    type Answer = Told;
+
+    type Fault = LookFault;
+
+    fn draw(&mut self, alloc: Global, portrait: &mut Portrait) -> Option<()> {
+        let Store {
+            shared,
+            sessions,
+            ..
+        } = &mut self.store;
+        draw_looks(alloc, portrait, shared, sessions.as_mut_slice())
+    }
+
+    fn make(&mut self, alloc: Global) -> Result<Told, LookFault> {
+        let Store {
+            shared,
+            sessions,
+            ..
+        } = &mut self.store;
+        match sessions.get_mut(1) {
+            Some(session) => tell(alloc, shared, session, &self.case.1),
+            None => Ok(Told::Expected(false)),
+        }
+    }
+
+    fn is_right(&mut self, alloc: Global, told: Told) -> Option<bool> {
+        match told {
+            Told::Sheet(sheet) => shows(alloc, &sheet, &self.case.3),
+            Told::Expected(is_expected) => Some(is_expected),
+        }
+    }
+}
+
+// Tries a question.
+fn tried_question<J: Naming, S: Writes<J>, W: Wait>(
+    alloc: Global,
     until: Until,
-    is_once: bool,
-    case: &SessionCase,
+    asking: &mut Asking<J, S, W>,
 ) -> Option<Verdict> {
-    for write in case.0 {
-        is_written(rt, alloc, shared, sessions, write)?;
-    }
-    match case.1 {
-        Act::Write(_, _, _) if is_once => tried_once(rt, alloc, shared, sessions, until, case),
-        Act::Write(_, _, _) => tried_write(rt, alloc, shared, sessions, until, case),
-        _ => tried_question(alloc, shared, sessions, until, case),
-    }
+    accept_all(alloc, &mut asking.store, asking.case.0)?;
+    tried(alloc, until, asking)
 }
 
 // ---- what is left
@@ -286,18 +412,71 @@ fn judged_closed(
 ) -> Option<Verdict> {
     let SessionCase(_, _, before, after, journal) = *case;
     let is_right = match verdict {
-        Verdict::Wrong(_) => return Some(verdict),
+        Verdict::Wrong(_) | Verdict::Left => return Some(verdict),
         Verdict::Refused => is_left(alloc, closed, journal.split_last()?.1, &before)?,
         _ => is_left(alloc, closed, journal, &after)?,
     };
     Some(accepted(verdict, is_right))
 }
 
+// Closes a store after a call of this verdict, and judges what is left where that is asked.
+fn closed_after<J: Naming, R: Wait + Drop, W: Drop>(
+    alloc: Global,
+    until: Until,
+    store: Store<J, Shared<J, R>, W>,
+    verdict: Option<Verdict>,
+    case: &SessionCase,
+) -> Option<Verdict> {
+    let Store {
+        shared,
+        sessions,
+        ..
+    } = store;
+    let Ok(closed) = close(shared, sessions) else {
+        return Some(Verdict::Wrong(Wrong::Open));
+    };
+    if until == Until::Judged {
+        judged_closed(alloc, &closed, verdict?, case)
+    } else {
+        Some(Verdict::Left)
+    }
+}
+
+// Returns how far a call is tried whose store is closed then: wholly where the closing is what is tried.
+fn until_closing(until: Until, closing: Closing) -> Until {
+    match closing {
+        Closing::Tried => Until::Judged,
+        _ => until,
+    }
+}
+
+// Tries the call of a store, and closes it.
+fn acted<J: Naming, R: Wait + Drop, W: Wait + Drop>(
+    alloc: Global,
+    store: Store<J, Shared<J, R>, W>,
+    given: Scenario,
+    until: Until,
+    closing: Closing,
+    case: &SessionCase,
+) -> Option<Verdict> {
+    let (so_far, case) = (until_closing(until, closing), *case);
+    if let Act::Write(_, _, _) = case.1 {
+        let mut writing = Writing { store, given, case };
+        let verdict = tried_write(alloc, so_far, closing, &mut writing);
+        closed_after(alloc, until, writing.store, verdict, &case)
+    } else {
+        let mut asking = Asking { store, case };
+        let verdict = tried_question(alloc, so_far, &mut asking);
+        closed_after(alloc, until, asking.store, verdict, &case)
+    }
+}
+
 // Opens what was prepared, tries the call, or the closing after it, and judges what is left of the store.
-fn goes<J: Naming, R: Wait + Drop, W: Wait>(
-    rt: &W,
+fn goes<J: Naming, R: Wait + Drop, W: Wait + Drop>(
+    rt: W,
     alloc: Global,
     prepared: Prepared<R>,
+    given: Scenario,
     until: Until,
     closing: Closing,
     case: &SessionCase,
@@ -307,34 +486,23 @@ fn goes<J: Naming, R: Wait + Drop, W: Wait>(
     requires ledger { (prepared.ledger.name ≡ J.name) × (prepared.ledger.parts ≡ J.parts) }
     requires limit { prepared.limit ≡ J.limit }
 {
-    let Ok((shared, mut sessions)) = open::<J, R>(prepared) else {
+    let Ok((shared, sessions)) = open::<J, R>(prepared) else {
         return None;
     };
-    let so_far = if closing == Closing::Tried {
-        Until::Judged
-    } else {
-        until
-    };
-    let is_once = closing == Closing::Refused;
-    let verdict = acted(
+    let store = Store {
         rt,
-        alloc,
-        &shared,
-        sessions.as_mut_slice(),
-        so_far,
-        is_once,
-        case,
-    )?;
-    if verdict == Verdict::Left || until == Until::Prepared {
-        return Some(Verdict::Left);
-    }
-    let Ok(closed) = close(shared, sessions) else {
-        return Some(Verdict::Wrong("it was not closed"));
+        shared,
+        sessions,
     };
-    if until == Until::Called {
-        return Some(Verdict::Left);
+    acted(alloc, store, given, until, closing, case)
+}
+
+// Returns the scenario that a call hands over.
+fn given_by(alloc: Global, case: &SessionCase) -> Option<Scenario> {
+    match case.1 {
+        Act::Write(write, _, _) => write.given(alloc),
+        _ => Some(Scenario::empty(alloc)),
     }
-    judged_closed(alloc, &closed, verdict, case)
 }
 
 // Prepares a replica of the free road for two sessions and three writes.
@@ -350,8 +518,9 @@ fn tried_in_store<R: Wait + Drop + Copy>(
     closing: Closing,
     case: &SessionCase,
 ) -> Option<Verdict> {
+    let given = given_by(alloc, case)?;
     let prepared = prepared_for_two(rt, alloc)?;
-    goes::<Brand, R, R>(&rt, alloc, prepared, until, closing, case)
+    goes::<Brand, R, R>(rt, alloc, prepared, given, until, closing, case)
 }
 
 /// Tries a call of a session, or the closing of the store after it, which takes no memory. Where the store is closed as
@@ -394,19 +563,30 @@ fn opens<J: Naming, R: Wait + Drop>(
     if until == Until::Called {
         return Ok(Some(Verdict::Left));
     }
-    let are_two = sessions.len() == 2;
-    match are_shown(alloc, &shared, sessions.as_mut_slice(), &OPENING) {
-        Some(is_new) => Ok(Some(accepted(verdict, are_two && is_new))),
-        None => Ok(None),
-    }
+    Ok(judged_opening(alloc, &shared, sessions.as_mut_slice(), verdict))
 }
 
-// Prepares a store once more and opens it.
-fn opened_again<R: Wait + Drop + Copy>(rt: R, alloc: Global) -> Option<Verdict> {
+// Judges a store that was opened.
+fn judged_opening<J: Naming, R: Wait + Drop>(
+    alloc: Global,
+    shared: &Shared<J, R>,
+    sessions: &mut [Session<J>],
+    verdict: Verdict,
+) -> Option<Verdict> {
+    let are_two = sessions.len() == 2;
+    let is_new = are_shown(alloc, shared, sessions, &OPENING)?;
+    Some(accepted(verdict, are_two && is_new))
+}
+
+// Prepares a store once more and opens it, where it was refused so.
+fn opened_again<R: Wait + Drop + Copy>(rt: R, alloc: Global, fault: OpenFault) -> Option<Verdict> {
+    let Some(verdict) = fault.due() else {
+        return Some(Verdict::Wrong(Wrong::Cause));
+    };
     let prepared = prepared_for_two(rt, alloc)?;
-    match opens::<Brand, R>(alloc, prepared, Until::Judged, Verdict::Again) {
+    match opens::<Brand, R>(alloc, prepared, Until::Judged, verdict) {
         Ok(verdict) => verdict,
-        Err(_) => Some(Verdict::Wrong("it was refused again")),
+        Err(_) => Some(Verdict::Wrong(Wrong::Again)),
     }
 }
 
@@ -420,7 +600,7 @@ fn opened<R: Wait + Drop + Copy>(
     match opens::<Brand, R>(alloc, prepared, until, Verdict::Right) {
         Ok(verdict) => verdict,
         Err(_) if until == Until::Called => Some(Verdict::Left),
-        Err(_) => opened_again(rt, alloc),
+        Err(fault) => opened_again(rt, alloc, fault),
     }
 }
 
@@ -437,6 +617,19 @@ pub(crate) fn tried_open<R: Wait + Drop + Copy>(
     opened(rt, alloc, prepared, until)
 }
 
+// Judges what was prepared, or prepares it again: only memory can be wanted for that.
+fn judged_prepared<R: Wait + Drop + Copy>(
+    rt: R,
+    alloc: Global,
+    prepared: Result<Prepared<R>, OpenFault>,
+) -> Option<Verdict> {
+    match prepared {
+        Ok(prepared) => opened(rt, alloc, prepared, Until::Judged),
+        Err(OpenFault::OutOfMemory) => opened_again(rt, alloc, OpenFault::OutOfMemory),
+        Err(OpenFault::NoPlace) => Some(Verdict::Wrong(Wrong::Cause)),
+    }
+}
+
 /// Tries to prepare a store.
 pub(crate) fn tried_prepare<R: Wait + Drop + Copy>(
     rt: R,
@@ -447,12 +640,9 @@ pub(crate) fn tried_prepare<R: Wait + Drop + Copy>(
     if until == Until::Prepared {
         return Some(Verdict::Left);
     }
-    let first = prepare(rt, alloc, plan, 0, 2, 3);
+    let prepared = prepare(rt, alloc, plan, 0, 2, 3);
     if until == Until::Called {
         return Some(Verdict::Left);
     }
-    match first {
-        Ok(prepared) => opened(rt, alloc, prepared, until),
-        Err(_) => opened_again(rt, alloc),
-    }
+    judged_prepared(rt, alloc, prepared)
 }

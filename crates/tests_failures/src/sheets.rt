@@ -1,50 +1,55 @@
 //! Sheets: what they are asked, their drafts, and their growth.
 
-ghost use Rattle.std.specs.Prelude.{◌<◌};
+ghost use Rattle.std.specs.Prelude.{◌≡◌, ◌<◌, ◌≤◌};
 ghost use Rattle.road_plan.specs.declared.limits.TheConstants.{GREATEST_HORIZON};
+ghost use Rattle.road_ends.specs.Input.{input_speeds};
+ghost use Rattle.road_scenario.specs.Faults.{AreInRange};
+ghost use Rattle.road_sheet.specs.Sheets.{next_input};
 
-use crate::portraits::{is_as, portrait_of};
 use crate::roads::{OPENING, Shown, free_plan, shows, shows_row};
-use crate::verdict::{Until, Verdict, accepted, judged, kept};
+use crate::verdict::{Call, Until, Verdict, Wrong, accepted, tried};
 use road_cells::Car;
 use road_detector::Totals;
-use road_ends::Meter;
+use road_ends::{Meter, StepInput};
+use road_plan::Plan;
 use road_plan::limits::GREATEST_HORIZON;
-use road_rewind::{GrownFault, grown};
+use road_rewind::{Grown, GrownFault, grown};
 use road_scenario::{Edit, Scenario};
-use road_sheet::{Draft, Sheet, SheetFault};
+use road_sheet::{Draft, OutOfMemory, Sheet, SheetFault};
 use road_workers::Alone;
 use std::alloc::Global;
 use std::sync::Arc;
+use tests_portraits::Portrait;
+
+// ---- openings
+
+// The opening of a sheet.
+#[derive(Drop)]
+struct Opening {
+    plan: Arc<Plan>,
+}
+
+impl Call for Opening {
+    type Answer = Sheet;
+
+    type Fault = OutOfMemory;
+
+    fn make(&mut self, alloc: Global) -> Result<Sheet, OutOfMemory> {
+        Sheet::opening(alloc, Arc::try_clone(&self.plan)?)
+    }
+
+    fn is_right(&mut self, alloc: Global, sheet: Sheet) -> Option<bool> {
+        shows(alloc, &sheet, &OPENING)
+    }
+}
 
 /// Tries the opening of a sheet.
 pub(crate) fn tried_opening(alloc: Global, until: Until) -> Option<Verdict> {
     let plan = free_plan(alloc)?;
-    judged!(
-        until, Sheet::opening(alloc, Arc::try_clone(&plan).ok()?), _,
-        sheet => shows(alloc, &sheet, &OPENING)?
-    )
+    tried(alloc, until, &mut Opening { plan })
 }
 
-// Returns the sheet of the free road with some edits, simulated in one go up to a step.
-fn run_of(alloc: Global, edits: &[Edit], to: u32) -> Option<Sheet> {
-    let opening = Sheet::opening(alloc, free_plan(alloc)?).ok()?;
-    let scenario = Scenario::of_edits(alloc, edits).ok()?;
-    if to > GREATEST_HORIZON || scenario.fits(opening.plan()).is_some() {
-        return None;
-    }
-    match grown(
-        alloc,
-        &opening,
-        &scenario,
-        to,
-        &mut Alone,
-        &mut Meter::new(),
-    ) {
-        Ok(grown) => Some(grown.sheet),
-        Err(_) => None,
-    }
-}
+// ---- growth
 
 /// A growth that is judged: the horizon before it, the step that it goes to, the step that it touches, how many steps it
 /// computes, and what is shown after it.
@@ -58,7 +63,8 @@ pub(crate) struct GrowthCase(
 );
 
 // Returns how many steps a growth may compute: those behind the horizon, or from the touched step and 63 before it.
-fn most_steps(horizon: u32, to: u32, touched: Option<u32>) -> u64 {
+fn most_steps(case: &GrowthCase) -> u64 {
+    let GrowthCase(horizon, to, touched, _, _) = *case;
     let last = horizon.max(to);
     let steps = match touched {
         Some(touched) if touched < horizon => last.saturating_sub(touched).saturating_add(63),
@@ -67,28 +73,93 @@ fn most_steps(horizon: u32, to: u32, touched: Option<u32>) -> u64 {
     u64::from(steps)
 }
 
-/// Tries a growth.
-pub(crate) fn tried_growth(alloc: Global, until: Until, case: &GrowthCase) -> Option<Verdict> {
-    let GrowthCase(horizon, to, touched, ticks, shown) = *case;
-    let sheet = run_of(alloc, &[], horizon)?;
-    let scenario = Scenario::of_edits(alloc, shown.1).ok()?;
+// A growth of a sheet by some edits up to a step, and how many steps it has computed.
+#[derive(Drop)]
+struct Growing {
+    sheet: Sheet,
+    scenario: Scenario,
+    to: u32,
+    steps: u64,
+    case: GrowthCase,
+    ghost fits: { AreInRange sheet.plan scenario },
+    ghost within: { to ≤ GREATEST_HORIZON },
+}
+
+impl Call for Growing {
+    type Answer = Grown;
+
+    type Fault = GrownFault;
+
+    // It draws the sheet that grows, and whether more steps were computed than may be.
+    fn draw(&mut self, alloc: Global, portrait: &mut Portrait) -> Option<()> {
+        portrait.draw_number(self.steps.saturating_sub(most_steps(&self.case)))?;
+        portrait.draw_sheet(alloc, &self.sheet)
+    }
+
+    fn make(&mut self, alloc: Global) -> Result<Grown, GrownFault> {
+        let mut meter = Meter::new();
+        let done = grown(
+            alloc,
+            &self.sheet,
+            &self.scenario,
+            self.to,
+            &mut Alone,
+            &mut meter,
+        );
+        self.steps = meter.ticks();
+        done
+    }
+
+    fn is_right(&mut self, alloc: Global, done: Grown) -> Option<bool> {
+        let GrowthCase(_, _, touched, steps, shown) = self.case;
+        let is_counted = done.touched == touched && self.steps == steps;
+        Some(is_counted && shows(alloc, &done.sheet, &shown)?)
+    }
+}
+
+// Returns the growth of a sheet, where the edits fit its plan.
+fn growth_of(sheet: Sheet, scenario: Scenario, to: u32, case: GrowthCase) -> Option<Growing> {
     if to > GREATEST_HORIZON || scenario.fits(sheet.plan()).is_some() {
         return None;
     }
-    let portrait = portrait_of(alloc, &sheet)?;
-    let (mut first, mut again) = (Meter::new(), Meter::new());
-    let mut meter = &mut first;
-    judged!(
-        until, grown(alloc, &sheet, &scenario, to, &mut Alone, meter),
-        GrownFault::OutOfMemory => Verdict::Again,
-        {
-            let are_few = meter.ticks() <= most_steps(horizon, to, touched);
-            meter = &mut again;
-            are_few && is_as(alloc, &sheet, &portrait)?
-        },
-        done => done.touched == touched && meter.ticks() == ticks && shows(alloc, &done.sheet, &shown)?
+    Some(Growing {
+        sheet,
+        scenario,
+        to,
+        steps: 0,
+        case,
+    })
+}
+
+// Returns the sheet of the free road with some edits, simulated in one go up to a step.
+fn run_of(alloc: Global, edits: &[Edit], to: u32) -> Option<Sheet> {
+    let scenario = Scenario::of_edits(alloc, edits).ok()?;
+    let opening = Sheet::opening(alloc, free_plan(alloc)?).ok()?;
+    let case = GrowthCase(0, to, None, 0, OPENING);
+    let mut growing = growth_of(opening, scenario, to, case)?;
+    sheet_of(growing.make(alloc))
+}
+
+// Returns a sheet that has grown.
+fn sheet_of(grown: Result<Grown, GrownFault>) -> Option<Sheet> {
+    match grown {
+        Ok(grown) => Some(grown.sheet),
+        Err(_) => None,
+    }
+}
+
+/// Tries a growth.
+pub(crate) fn tried_growth(alloc: Global, until: Until, case: &GrowthCase) -> Option<Verdict> {
+    let scenario = Scenario::of_edits(alloc, case.4.1).ok()?;
+    let sheet = run_of(alloc, &[], case.0)?;
+    tried(
+        alloc,
+        until,
+        &mut growth_of(sheet, scenario, case.1, *case)?,
     )
 }
+
+// ---- questions
 
 /// What a sheet is asked, and what it tells.
 #[derive(Clone, Copy)]
@@ -97,22 +168,39 @@ pub(crate) enum Question {
     Totals(u32, u32, Totals),
 }
 
-// Tries a question to a sheet.
-fn tried_asking(
-    alloc: Global,
-    until: Until,
-    sheet: &Sheet,
-    question: &Question,
-) -> Option<Verdict> {
-    match *question {
-        Question::State(step, cars) => judged!(
-            until, sheet.state(alloc, step), SheetFault::OutOfMemory,
-            road => road.cars() == cars
-        ),
-        Question::Totals(from, to, totals) => judged!(
-            until, sheet.totals(alloc, 0, from, to), SheetFault::OutOfMemory,
-            told => told == totals
-        ),
+// A question to a sheet.
+#[derive(Drop)]
+struct Asking {
+    sheet: Sheet,
+    question: Question,
+}
+
+// Answers whether a sheet has these cars at a step.
+fn has_cars(alloc: Global, sheet: &Sheet, step: u32, cars: &[Car]) -> Result<bool, SheetFault> {
+    let road = sheet.state(alloc, step)?;
+    Ok(road.cars() == cars)
+}
+
+impl Call for Asking {
+    type Answer = bool;
+
+    type Fault = SheetFault;
+
+    fn draw(&mut self, alloc: Global, portrait: &mut Portrait) -> Option<()> {
+        portrait.draw_sheet(alloc, &self.sheet)
+    }
+
+    fn make(&mut self, alloc: Global) -> Result<bool, SheetFault> {
+        match self.question {
+            Question::State(step, cars) => has_cars(alloc, &self.sheet, step, cars),
+            Question::Totals(from, to, totals) => {
+                Ok(self.sheet.totals(alloc, 0, from, to)? == totals)
+            }
+        }
+    }
+
+    fn is_right(&mut self, _alloc: Global, is_expected: bool) -> Option<bool> {
+        Some(is_expected)
     }
 }
 
@@ -124,14 +212,15 @@ pub(crate) fn tried_question(
     question: &Question,
 ) -> Option<Verdict> {
     let sheet = run_of(alloc, edits, 6)?;
-    let portrait = portrait_of(alloc, &sheet)?;
-    let verdict = tried_asking(alloc, until, &sheet, question)?;
-    kept(alloc, verdict, &sheet, &portrait)
+    let question = *question;
+    tried(alloc, until, &mut Asking { sheet, question })
 }
 
+// ---- drafts
+
 // Adds one more step to a draft.
-fn with_step(alloc: Global, mut draft: Draft) -> Option<Draft>
-    requires { draft.horizon < GREATEST_HORIZON }
+fn add_step(alloc: Global, draft: &mut Draft) -> Option<()>
+    requires { draft.old.horizon < GREATEST_HORIZON }
 {
     let Ok(input) = draft.input(alloc) else {
         return None;
@@ -139,19 +228,18 @@ fn with_step(alloc: Global, mut draft: Draft) -> Option<Draft>
     let Ok(speeds) = input.speeds(alloc) else {
         return None;
     };
-    draft.push(alloc, &input, &speeds).ok()?;
-    Some(draft)
+    draft.push(alloc, &input, &speeds).ok()
 }
 
 // Simulates a draft up to a step.
-fn finished(alloc: Global, mut draft: Draft, to: u32) -> Option<Sheet> {
+fn finish(alloc: Global, draft: &mut Draft, to: u32) -> Option<()> {
     for _ in draft.horizon()..to {
         if draft.horizon() >= GREATEST_HORIZON {
             return None;
         }
-        draft = with_step(alloc, draft)?;
+        add_step(alloc, draft)?;
     }
-    Some(draft.sheet())
+    Some(())
 }
 
 // Begins a draft, where that is possible.
@@ -173,7 +261,36 @@ fn drafted(
     Ok(sheet.draft(alloc, scenario, keep)?)
 }
 
-/// Tries the beginning of a draft that shows this in the end, of a sheet up to there, whose run is kept up to a step.
+// The beginning of a draft that shows this in the end, of a sheet up to there, whose run is kept up to a step.
+#[derive(Drop)]
+struct Drafting {
+    sheet: Sheet,
+    scenario: Scenario,
+    keep: u32,
+    shown: Shown,
+}
+
+impl Call for Drafting {
+    type Answer = Draft;
+
+    type Fault = SheetFault;
+
+    fn draw(&mut self, alloc: Global, portrait: &mut Portrait) -> Option<()> {
+        portrait.draw_sheet(alloc, &self.sheet)
+    }
+
+    fn make(&mut self, alloc: Global) -> Result<Draft, SheetFault> {
+        drafted(alloc, &self.sheet, &self.scenario, self.keep)
+    }
+
+    fn is_right(&mut self, alloc: Global, mut draft: Draft) -> Option<bool> {
+        let is_kept = draft.horizon() <= self.keep;
+        finish(alloc, &mut draft, self.sheet.horizon())?;
+        Some(is_kept && shows(alloc, &draft.sheet(), &self.shown)?)
+    }
+}
+
+/// Tries the beginning of a draft.
 pub(crate) fn tried_draft(
     alloc: Global,
     until: Until,
@@ -181,20 +298,58 @@ pub(crate) fn tried_draft(
     shown: &Shown,
 ) -> Option<Verdict> {
     let (to, _) = *shown.0.last()?;
-    let sheet = run_of(alloc, &[], to)?;
     let scenario = Scenario::of_edits(alloc, shown.1).ok()?;
-    let portrait = portrait_of(alloc, &sheet)?;
-    judged!(
-        until, drafted(alloc, &sheet, &scenario, keep), SheetFault::OutOfMemory => Verdict::Again,
-        is_as(alloc, &sheet, &portrait)?,
-        draft => draft.horizon() <= keep && shows(alloc, &finished(alloc, draft, to)?, shown)?
-    )
+    let sheet = run_of(alloc, &[], to)?;
+    let mut drafting = Drafting {
+        sheet,
+        scenario,
+        keep,
+        shown: *shown,
+    };
+    tried(alloc, until, &mut drafting)
 }
 
 // Returns the draft of a run that goes on at a step.
 fn draft_at(alloc: Global, step: u32) -> Option<Draft> {
+    let scenario = Scenario::empty(alloc);
     let sheet = run_of(alloc, &[], step)?;
-    drafted(alloc, &sheet, &Scenario::empty(alloc), step).ok()
+    drafted(alloc, &sheet, &scenario, step).ok()
+}
+
+// Draws a draft.
+fn draw_draft(portrait: &mut Portrait, draft: &Draft) -> Option<()> {
+    portrait.draw_number(u64::from(draft.horizon()))?;
+    portrait.draw_cars(draft.road())
+}
+
+// The input of a draft's next step.
+#[derive(Drop)]
+struct Entering {
+    draft: Draft,
+    speeds: &'static [u8],
+}
+
+// Answers whether the cars of an input have these speeds.
+fn have_speeds(alloc: Global, input: &StepInput, speeds: &[u8]) -> Option<bool> {
+    Some(input.speeds(alloc).ok()?.as_slice() == speeds)
+}
+
+impl Call for Entering {
+    type Answer = Arc<StepInput>;
+
+    type Fault = OutOfMemory;
+
+    fn draw(&mut self, _alloc: Global, portrait: &mut Portrait) -> Option<()> {
+        draw_draft(portrait, &self.draft)
+    }
+
+    fn make(&mut self, alloc: Global) -> Result<Arc<StepInput>, OutOfMemory> {
+        self.draft.input(alloc)
+    }
+
+    fn is_right(&mut self, alloc: Global, input: Arc<StepInput>) -> Option<bool> {
+        have_speeds(alloc, &input, self.speeds)
+    }
 }
 
 /// Tries the input of the step after some steps: the speeds of its cars are these.
@@ -202,19 +357,61 @@ pub(crate) fn tried_input(
     alloc: Global,
     until: Until,
     steps: u32,
-    speeds: &[u8],
+    speeds: &'static [u8],
 ) -> Option<Verdict> {
-    let mut draft = draft_at(alloc, steps)?;
-    let road = draft.road().copied().ok()?;
-    judged!(
-        until, draft.input(alloc), _ => Verdict::Again, draft.horizon() == steps && draft.road().cars() == road.cars(),
-        input => input.speeds(alloc).ok()?.as_slice() == speeds
-    )
+    let draft = draft_at(alloc, steps)?;
+    tried(alloc, until, &mut Entering { draft, speeds })
 }
 
-// Adds one more step to a draft, at once or when it is added again: it then shows this row.
-fn pushed(alloc: Global, until: Until, mut draft: Draft, row: &str) -> Option<Verdict>
-    requires { draft.horizon < GREATEST_HORIZON }
+// Answers whether a draft is as it was drawn.
+fn is_drawn(alloc: Global, draft: &Draft, before: &Portrait) -> Option<bool> {
+    let mut after = Portrait::new(alloc);
+    draw_draft(&mut after, draft)?;
+    Some(after.is_same(before))
+}
+
+// Adds one more step to a draft, and once more where that is refused.
+fn push(
+    alloc: Global,
+    draft: &mut Draft,
+    input: &StepInput,
+    speeds: &[u8],
+    before: &Portrait,
+) -> Option<Verdict>
+    requires input { input.now ≡ next_input draft.old }
+    requires speeds { speeds.now ≡ input_speeds input.now }
+    requires within { draft.old.horizon < GREATEST_HORIZON }
+{
+    match draft.push(alloc, input, speeds) {
+        Ok(()) => Some(Verdict::Right),
+        Err(_) => push_again(alloc, draft, input, speeds, before),
+    }
+}
+
+// Adds the step to a draft that refused it, and must be as before.
+fn push_again(
+    alloc: Global,
+    draft: &mut Draft,
+    input: &StepInput,
+    speeds: &[u8],
+    before: &Portrait,
+) -> Option<Verdict>
+    requires input { input.now ≡ next_input draft.old }
+    requires speeds { speeds.now ≡ input_speeds input.now }
+    requires within { draft.old.horizon < GREATEST_HORIZON }
+{
+    if !is_drawn(alloc, draft, before)? {
+        return Some(Verdict::Wrong(Wrong::Changed));
+    }
+    Some(match draft.push(alloc, input, speeds) {
+        Ok(()) => Verdict::Again,
+        Err(_) => Verdict::Wrong(Wrong::Again),
+    })
+}
+
+// Draws a draft, and tries to add one more step to it.
+fn pushed(alloc: Global, until: Until, draft: &mut Draft) -> Option<Verdict>
+    requires { draft.old.horizon < GREATEST_HORIZON }
 {
     let Ok(input) = draft.input(alloc) else {
         return None;
@@ -222,20 +419,16 @@ fn pushed(alloc: Global, until: Until, mut draft: Draft, row: &str) -> Option<Ve
     let Ok(speeds) = input.speeds(alloc) else {
         return None;
     };
-    let (horizon, road) = (draft.horizon(), draft.road().copied().ok()?);
+    let mut before = Portrait::new(alloc);
+    draw_draft(&mut before, draft)?;
     if until == Until::Prepared {
         return Some(Verdict::Left);
     }
-    let (verdict, draft) = match draft.push(alloc, &input, &speeds) {
-        Ok(_) => (Verdict::Right, draft),
-        Err(_) if draft.horizon() != horizon || draft.road().cars() != road.cars() => {
-            return Some(Verdict::Wrong("the refused call changed something"));
-        }
-        Err(_) => (Verdict::Again, with_step(alloc, draft)?),
-    };
-    if until == Until::Called {
-        return Some(Verdict::Left);
-    }
+    push(alloc, draft, &input, &speeds, &before)
+}
+
+// Judges a draft to which a step was added: its last row is this.
+fn is_pushed(alloc: Global, draft: Draft, row: &str, verdict: Verdict) -> Option<Verdict> {
     let sheet = draft.sheet();
     let is_shown = shows_row(alloc, &sheet, sheet.horizon(), row)?;
     Some(accepted(verdict, is_shown))
@@ -243,9 +436,14 @@ fn pushed(alloc: Global, until: Until, mut draft: Draft, row: &str) -> Option<Ve
 
 /// Tries to add one more step after some steps: the row after it is this.
 pub(crate) fn tried_push(alloc: Global, until: Until, steps: u32, row: &str) -> Option<Verdict> {
-    let draft = draft_at(alloc, steps)?;
+    let mut draft = draft_at(alloc, steps)?;
     if draft.horizon() >= GREATEST_HORIZON {
         return None;
     }
-    pushed(alloc, until, draft, row)
+    let verdict = pushed(alloc, until, &mut draft)?;
+    if until == Until::Judged {
+        is_pushed(alloc, draft, row, verdict)
+    } else {
+        Some(Verdict::Left)
+    }
 }

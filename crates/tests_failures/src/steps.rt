@@ -1,22 +1,20 @@
 //! Runs stepped by one caller: the road after each step is copied and drawn, its cars enter, get their speeds and move,
 //! and all of that is done as one step.
 
-ghost use Rattle.std.specs.Prelude.{◌↔◌, IsTrue};
 ghost use Rattle.std.specs.Arc.{arc_value};
-ghost use Rattle.road_detector.specs.Rows.{HaveDigits};
 ghost use Rattle.road_scenario.specs.Faults.{AreInRange};
 
 use crate::roads::shared_plan;
-use crate::verdict::{Until, Verdict, accepted, both, made};
-use road_cells::{Car, Road};
-use road_detector::row_text;
+use crate::verdict::{Call, Until, Verdict, both, judged};
+use road_cells::Road;
 use road_ends::{Meter, OutOfMemory, StepInput, Stepped, enter, finish, leave, step_alone};
 use road_plan::Plan;
 use road_rules::moved;
 use road_scenario::{Edit, Scenario};
 use std::alloc::Global;
 use std::sync::Arc;
-use tests_plans::{Parts, Row};
+use tests_plans::{Parts, Row, row_of};
+use tests_portraits::Portrait;
 
 /// Rows of a run, of which the last is that after its last step.
 #[derive(Clone, Copy)]
@@ -65,20 +63,10 @@ struct Run {
     ghost fits: { AreInRange (arc_value plan) scenario },
 }
 
-// Answers whether all speeds have digits.
-fn have_digits(cars: &[Car]) -> bool
-    ensures { IsTrue result ↔ HaveDigits cars.now }
-{
-    cars.iter().all(|car| car.speed <= 9)
-}
-
-// Draws the road of a run at a step; no letter where a speed has no digit.
+// Draws the road of a run at a step.
 fn drawn(alloc: Global, run: &Run, step: u32, road: &Road) -> Result<String, OutOfMemory> {
-    if !have_digits(road.cars()) {
-        return Ok(String::new(alloc));
-    }
     let settings = run.scenario.settings_at(alloc, &run.plan, step)?;
-    row_text(alloc, road, settings.blocks(), run.plan.length())
+    row_of(alloc, road, settings.blocks(), run.plan.length())
 }
 
 // Makes the input of a step.
@@ -116,85 +104,175 @@ fn stepped(
     step_alone(alloc, &run.plan, settings, step, road, meter)
 }
 
-// Returns the roads of a run from step 0 to the last one.
-fn roads_of(alloc: Global, run: &Run, last: u32) -> Option<Vec<Road>> {
-    let mut roads = Vec::new(alloc);
-    let mut road = Road::empty(alloc);
-    for step in 0..last {
-        let done = stepped(alloc, run, step, &road, &mut Meter::new()).ok()?;
-        roads.push(road).ok()?;
-        road = done.road;
+/// A step of a run: the road before it, what enters it, and the road after it.
+#[derive(Drop)]
+struct Step {
+    number: u32,
+    road: Road,
+    input: Arc<StepInput>,
+    next: Road,
+}
+
+// What is called in each step.
+#[derive(Clone, Copy)]
+enum Part {
+    Copy,
+    Draw,
+    Enter,
+    Move,
+    Finish,
+    Step,
+}
+
+/// All of them.
+const PARTS: [Part; 6] = [
+    Part::Copy,
+    Part::Draw,
+    Part::Enter,
+    Part::Move,
+    Part::Finish,
+    Part::Step,
+];
+
+// A call in a step. Nothing that it is given can change.
+#[derive(Clone, Copy)]
+struct Stepping<'a> {
+    run: &'a Run,
+    rows: &'a Rows,
+    step: &'a Step,
+    part: Part,
+}
+
+// Answers whether the copy of the road after a step is that road.
+fn is_copied(step: &Step) -> Result<bool, OutOfMemory> {
+    Ok(step.next.copied()?.cars() == step.next.cars())
+}
+
+// Answers whether that road is drawn as is listed.
+fn is_drawn(alloc: Global, run: &Run, rows: &Rows, step: &Step) -> Result<bool, OutOfMemory> {
+    let later = step.number.saturating_add(1);
+    let row = drawn(alloc, run, later, &step.next)?;
+    Ok(rows.agree(later, row.as_str()))
+}
+
+// Answers whether an input is made with the cars of the one that was made before.
+fn is_entered(alloc: Global, run: &Run, step: &Step) -> Result<bool, OutOfMemory> {
+    let input = entered(alloc, run, step.number, &step.road)?;
+    Ok(input.step() == step.number && input.road().cars() == step.input.road().cars())
+}
+
+// Answers whether the cars that have moved, and are not in the exit, are those after the step.
+fn is_moved(alloc: Global, run: &Run, step: &Step) -> Result<bool, OutOfMemory> {
+    let road = motion(alloc, &step.input)?;
+    Ok(leave(&run.plan, road).cars() == step.next.cars())
+}
+
+// Answers whether a step is finished so.
+fn is_finished(alloc: Global, step: &Step) -> Result<bool, OutOfMemory> {
+    Ok(road_after(alloc, &step.input)?.cars() == step.next.cars())
+}
+
+// Answers whether a step is computed as a whole so, and is counted.
+fn is_stepped(alloc: Global, run: &Run, step: &Step) -> Result<bool, OutOfMemory> {
+    let mut meter = Meter::new();
+    let done = stepped(alloc, run, step.number, &step.road, &mut meter)?;
+    Ok(done.road.cars() == step.next.cars() && meter.ticks() == 1)
+}
+
+impl Call for Stepping<'_> {
+    type Answer = bool;
+
+    type Fault = OutOfMemory;
+
+    fn make(&mut self, alloc: Global) -> Result<bool, OutOfMemory> {
+        match self.part {
+            Part::Copy => is_copied(self.step),
+            Part::Draw => is_drawn(alloc, self.run, self.rows, self.step),
+            Part::Enter => is_entered(alloc, self.run, self.step),
+            Part::Move => is_moved(alloc, self.run, self.step),
+            Part::Finish => is_finished(alloc, self.step),
+            Part::Step => is_stepped(alloc, self.run, self.step),
+        }
     }
-    roads.push(road).ok()?;
-    Some(roads)
+
+    fn is_right(&mut self, _alloc: Global, is_expected: bool) -> Option<bool> {
+        Some(is_expected)
+    }
 }
 
-// Tries the copy and the row of the road at a step.
-fn tried_road(alloc: Global, run: &Run, rows: &Rows, step: u32, road: &Road) -> Option<Verdict> {
+// Prepares a step from a road.
+fn step_from(alloc: Global, run: &Run, number: u32, road: &Road) -> Option<Step> {
+    let done = stepped(alloc, run, number, road, &mut Meter::new()).ok()?;
+    Some(Step {
+        number,
+        road: road.copied().ok()?,
+        input: entered(alloc, run, number, road).ok()?,
+        next: done.road,
+    })
+}
+
+// Prepares the steps of a run up to the last one.
+fn steps_of(alloc: Global, run: &Run, last: u32) -> Option<Vec<Step>> {
+    let mut steps = Vec::new(alloc);
+    let mut road = Road::empty(alloc);
+    for number in 0..last {
+        let step = step_from(alloc, run, number, &road)?;
+        road = step.next.copied().ok()?;
+        steps.push(step).ok()?;
+    }
+    Some(steps)
+}
+
+// Tries the calls of a step.
+fn tried_step(alloc: Global, run: &Run, rows: &Rows, step: &Step) -> Option<Verdict> {
     let mut verdict = Verdict::Right;
-    let copy = made!(verdict, road.copied());
-    let row = made!(verdict, drawn(alloc, run, step, road));
-    let is_right = copy.cars() == road.cars() && rows.agree(step, row.as_str());
-    Some(accepted(verdict, is_right))
+    for part in PARTS {
+        let mut stepping = Stepping {
+            run,
+            rows,
+            step,
+            part,
+        };
+        let done = judged(alloc, &mut stepping, &Portrait::new(alloc))?;
+        verdict = both(verdict, done);
+    }
+    Some(verdict)
 }
 
-// Tries a step from one road to another, part by part and as a whole.
-fn tried_step(alloc: Global, run: &Run, step: u32, road: &Road, next: &Road) -> Option<Verdict> {
-    let (mut verdict, mut meter) = (Verdict::Right, Meter::new());
-    let input = made!(verdict, entered(alloc, run, step, road));
-    let motion = made!(verdict, motion(alloc, &input));
-    let after = made!(verdict, road_after(alloc, &input));
-    let done = made!(verdict, stepped(alloc, run, step, road, &mut meter));
-    let is_right = input.step() == step
-        && leave(&run.plan, motion).cars() == next.cars()
-        && after.cars() == next.cars()
-        && done.road.cars() == next.cars()
-        && meter.ticks() == 1;
-    Some(accepted(verdict, is_right))
-}
-
-// Tries a step, and what is done with the road after it.
-fn tried_next(alloc: Global, run: &Run, rows: &Rows, roads: &[Road], step: u32) -> Option<Verdict> {
-    let place = step as usize;
-    let road = roads.get(place)?;
-    let next = roads.get(place.saturating_add(1))?;
-    let done = tried_step(alloc, run, step, road, next)?;
-    let shown = tried_road(alloc, run, rows, step.saturating_add(1), next)?;
-    Some(both(done, shown))
-}
-
-// Tries the steps up to the last one, one after the other.
-fn tried_steps(
-    alloc: Global,
-    run: &Run,
-    rows: &Rows,
-    roads: &[Road],
-    last: u32,
-) -> Option<Verdict> {
+// Tries the steps of a run, one after the other.
+fn tried_steps(alloc: Global, run: &Run, rows: &Rows, steps: &[Step]) -> Option<Verdict> {
     let mut verdict = Verdict::Right;
-    for step in 0..last {
-        verdict = both(verdict, tried_next(alloc, run, rows, roads, step)?);
+    for step in steps {
+        verdict = both(verdict, tried_step(alloc, run, rows, step)?);
+    }
+    Some(verdict)
+}
+
+// Returns a run of these parts and edits.
+fn run_of(alloc: Global, case: &RunCase) -> Option<Run> {
+    let plan = shared_plan(alloc, &case.0)?;
+    let scenario = Scenario::of_edits(alloc, case.1).ok()?;
+    if scenario.fits(&plan).is_some() {
+        return None;
+    }
+    Some(Run { plan, scenario })
+}
+
+// Tries each step of a run.
+fn tried_from(alloc: Global, until: Until, run: &Run, rows: &Rows) -> Option<Verdict> {
+    let steps = steps_of(alloc, run, rows.last()?)?;
+    if until == Until::Prepared {
+        return Some(Verdict::Left);
+    }
+    let verdict = tried_steps(alloc, run, rows, &steps)?;
+    if until == Until::Called {
+        return Some(Verdict::Left);
     }
     Some(verdict)
 }
 
 /// Tries each step of a run.
-pub(crate) fn tried(alloc: Global, until: Until, case: &RunCase) -> Option<Verdict> {
-    let RunCase(parts, edits, rows) = *case;
-    let last = rows.last()?;
-    let plan = shared_plan(alloc, &parts)?;
-    let scenario = Scenario::of_edits(alloc, edits).ok()?;
-    if scenario.fits(&plan).is_some() {
-        return None;
-    }
-    let run = Run { plan, scenario };
-    let roads = roads_of(alloc, &run, last)?;
-    if until == Until::Prepared {
-        return Some(Verdict::Left);
-    }
-    let verdict = tried_steps(alloc, &run, &rows, &roads, last)?;
-    if until == Until::Called {
-        return Some(Verdict::Left);
-    }
-    Some(verdict)
+pub(crate) fn tried_run(alloc: Global, until: Until, case: &RunCase) -> Option<Verdict> {
+    let run = run_of(alloc, case)?;
+    tried_from(alloc, until, &run, &case.2)
 }

@@ -1,8 +1,7 @@
 //! What comes of a call, whether an allocation fails in it or not.
 
-use crate::portraits::{Portrait, is_as};
-use road_sheet::Sheet;
 use std::alloc::Global;
+use tests_portraits::Portrait;
 
 /// How far a call is tried, so that the allocations up to there can be counted.
 #[derive(Clone, Copy, PartialEq, Eq)]
@@ -26,10 +25,70 @@ pub(crate) enum Verdict {
     Again,
     /// It was refused since a thread could not be started, and gave the expected answer when it was made again.
     Restarted,
-    /// It was refused for out of memory, and not made again.
+    /// It was refused as is due, and not made again.
     Refused,
-    /// What is wrong.
-    Wrong(&'static str),
+    Wrong(Wrong),
+}
+
+/// What is wrong.
+#[derive(Clone, Copy, PartialEq, Eq)]
+pub(crate) enum Wrong {
+    /// The answer, or what the call leaves.
+    Answer,
+    /// It was refused for a cause that is not due.
+    Cause,
+    /// It was refused, and all is not as before.
+    Changed,
+    /// It was refused again.
+    Again,
+    /// A store was not closed.
+    Open,
+    /// Workers do not answer.
+    Workers,
+}
+
+impl Wrong {
+    /// Returns it in words.
+    pub(crate) fn text(self) -> &'static str {
+        match self {
+            Wrong::Answer => "the answer, or what it leaves, is another one",
+            Wrong::Cause => "it was refused for another cause",
+            Wrong::Changed => "the refused call changed something",
+            Wrong::Again => "it was refused again",
+            Wrong::Open => "it was not closed",
+            Wrong::Workers => "the workers do not answer",
+        }
+    }
+}
+
+/// Why a call is refused.
+pub(crate) trait Refusal {
+    /// Returns the verdict on a call that was refused so where an allocation failed, and then gave the expected answer;
+    /// none where no failed allocation is the cause.
+    fn due(&self) -> Option<Verdict>;
+}
+
+/// A call, with what it is called on and what it must answer.
+pub(crate) trait Call {
+    type Answer: Drop;
+
+    type Fault: Refusal + Copy;
+
+    /// Draws all that is shown of what it is called on; none, here and below, where memory was wanted for that.
+    fn draw(&mut self, _alloc: Global, _portrait: &mut Portrait) -> Option<()> {
+        Some(())
+    }
+
+    /// Answers whether it writes: else what it is called on is the same after it.
+    fn writes(&self) -> bool {
+        false
+    }
+
+    /// Makes the call.
+    fn make(&mut self, alloc: Global) -> Result<Self::Answer, Self::Fault>;
+
+    /// Answers whether this is the expected answer, and after a write all is as it must be.
+    fn is_right(&mut self, alloc: Global, answer: Self::Answer) -> Option<bool>;
 }
 
 /// Returns this verdict where an answer, and what the call left, are the expected ones.
@@ -37,7 +96,7 @@ pub(crate) fn accepted(verdict: Verdict, is_right: bool) -> Verdict {
     if is_right {
         verdict
     } else {
-        Verdict::Wrong("the answer, or what it leaves, is another one")
+        Verdict::Wrong(Wrong::Answer)
     }
 }
 
@@ -49,68 +108,66 @@ pub(crate) fn both(first: Verdict, second: Verdict) -> Verdict {
     }
 }
 
-/// Returns this verdict where what was asked is as it was drawn before.
-pub(crate) fn kept(
+/// Answers whether what a call is called on is as it was drawn.
+pub(crate) fn is_as<C: Call>(alloc: Global, call: &mut C, before: &Portrait) -> Option<bool> {
+    let mut after = Portrait::new(alloc);
+    call.draw(alloc, &mut after)?;
+    Some(after.is_same(before))
+}
+
+// Judges the answer of a call.
+fn answered<C: Call>(
     alloc: Global,
-    verdict: Verdict,
-    sheet: &Sheet,
+    call: &mut C,
     before: &Portrait,
+    verdict: Verdict,
+    answer: C::Answer,
 ) -> Option<Verdict> {
-    if verdict == Verdict::Left || is_as(alloc, sheet, before)? {
-        Some(verdict)
-    } else {
-        Some(Verdict::Wrong("the call changed what was asked"))
+    let is_right = call.is_right(alloc, answer)?;
+    let is_kept = call.writes() || is_as(alloc, call, before)?;
+    Some(accepted(verdict, is_right && is_kept))
+}
+
+// Judges a call that was refused: all must be as before, and then it is made again.
+fn refused<C: Call>(
+    alloc: Global,
+    call: &mut C,
+    before: &Portrait,
+    fault: C::Fault,
+) -> Option<Verdict> {
+    let Some(verdict) = fault.due() else {
+        return Some(Verdict::Wrong(Wrong::Cause));
+    };
+    if !is_as(alloc, call, before)? {
+        return Some(Verdict::Wrong(Wrong::Changed));
+    }
+    match call.make(alloc) {
+        Ok(answer) => answered(alloc, call, before, verdict, answer),
+        Err(_) => Some(Verdict::Wrong(Wrong::Again)),
     }
 }
 
-/// Makes a call, once more where it is refused for out of memory, which is noted then. It returns from a function that
-/// gives a verdict where it is refused again.
-macro_rules! made {
-    ($verdict:ident, $call:expr $(,)?) => {
-        match $call {
-            Ok(answer) => answer,
-            Err(_) => {
-                let Ok(answer) = $call else {
-                    return Some($crate::verdict::Verdict::Wrong("it was refused again"));
-                };
-                $verdict = $crate::verdict::Verdict::Again;
-                answer
-            }
-        }
-    };
+/// Makes a call, once more where it is refused, and judges it.
+pub(crate) fn judged<C: Call>(alloc: Global, call: &mut C, before: &Portrait) -> Option<Verdict> {
+    match call.make(alloc) {
+        Ok(answer) => answered(alloc, call, before, Verdict::Right, answer),
+        Err(fault) => refused(alloc, call, before, fault),
+    }
 }
 
-/// Makes a call, and judges its answer. Where it is refused by a fault for which it may be made again, it is, and its
-/// answer is judged then. It returns from a function that gives a verdict, or none where an allocation failed before
-/// the call or in the judging. It takes how far the call is tried; the call; the fault; the answer, and whether it is
-/// right. Behind the fault there may stand the verdict on a call that was made again, and whether all is as before it.
-macro_rules! judged {
-    ($until:expr, $call:expr, $fault:pat, $answer:pat => $is_right:expr $(,)?) => {
-        judged!($until, $call, $fault => $crate::verdict::Verdict::Again, true, $answer => $is_right)
-    };
-    ($until:expr, $call:expr, $fault:pat => $again:expr, $is_before:expr, $answer:pat => $is_right:expr $(,)?) => {{
-        if $until == $crate::verdict::Until::Prepared {
-            return Some($crate::verdict::Verdict::Left);
-        }
-        let first = $call;
-        if $until == $crate::verdict::Until::Called {
-            return Some($crate::verdict::Verdict::Left);
-        }
-        let (verdict, last) = match first {
-            Err($fault) => {
-                if !$is_before {
-                    return Some($crate::verdict::Verdict::Wrong("the refused call changed something"));
-                }
-                ($again, $call)
-            }
-            other => ($crate::verdict::Verdict::Right, other),
-        };
-        match last {
-            Ok($answer) => Some($crate::verdict::accepted(verdict, $is_right)),
-            Err(_) => Some($crate::verdict::Verdict::Wrong("it was refused for another cause, or again")),
-        }
-    }};
+// Makes a call.
+fn called<C: Call>(alloc: Global, call: &mut C) -> Verdict {
+    let _ = call.make(alloc);
+    Verdict::Left
 }
 
-pub(crate) use judged;
-pub(crate) use made;
+/// Draws what a call is called on, makes the call, and judges it.
+pub(crate) fn tried<C: Call>(alloc: Global, until: Until, call: &mut C) -> Option<Verdict> {
+    let mut before = Portrait::new(alloc);
+    call.draw(alloc, &mut before)?;
+    match until {
+        Until::Prepared => Some(Verdict::Left),
+        Until::Called => Some(called(alloc, call)),
+        Until::Judged => judged(alloc, call, &before),
+    }
+}

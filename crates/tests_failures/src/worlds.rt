@@ -1,18 +1,18 @@
 //! Events of a world of three replicas of the free road, and lists of them.
 
-use crate::portraits::{Portrait, portrait_of};
 use crate::roads::{free_plan, shows_row};
-use crate::verdict::{Until, Verdict, judged};
+use crate::verdict::{Call, Refusal, Until, Verdict, tried};
 use road_delta::Head;
 use road_ends::Meter;
 use road_plan::{Object, Plan};
-use road_replica::{ReplicaFault, Reply};
+use road_replica::{OutOfMemory, ReplicaFault, Reply};
 use road_scenario::{Edit, Stamp, Value};
 use road_workers::Alone;
 use road_world::{Event, Message, PlayFault, Played, World, WorldFault, play};
 use std::alloc::Global;
 use std::sync::Arc;
 use tests_plans::{BLOCK, LIMIT, edit, stamp};
+use tests_portraits::Portrait;
 
 /// An event, as tables have it.
 #[derive(Clone, Copy)]
@@ -114,82 +114,50 @@ pub(crate) const EXCHANGE: &[Told] = &[
 
 // ---- what a world shows
 
-/// What a message carries.
-#[derive(Drop)]
-enum Carried {
-    Whole(Vec<Edit>),
-    Answer(Vec<Edit>),
-    Asked(Vec<Head>),
+// Draws heads, as edits that withdraw.
+fn draw_heads(portrait: &mut Portrait, heads: &[Head]) -> Option<()> {
+    for head in heads {
+        let edit = Edit {
+            object: head.object,
+            step: head.step,
+            stamp: head.stamp,
+            value: Value::Withdrawn,
+        };
+        portrait.draw_edits(&[edit])?;
+    }
+    Some(())
 }
 
-impl Carried {
-    // Answers whether two messages carry the same.
-    fn is_same(&self, other: &Carried) -> bool {
-        match (self, other) {
-            (Carried::Whole(edits), Carried::Whole(others)) => edits.as_slice()
-                == others.as_slice(),
-            (Carried::Answer(edits), Carried::Answer(others)) => {
-                edits.as_slice() == others.as_slice()
-            }
-            (Carried::Asked(heads), Carried::Asked(others)) => heads.as_slice()
-                == others.as_slice(),
-            _ => false,
+// Draws what a message carries, and its kind.
+fn draw_message(alloc: Global, portrait: &mut Portrait, message: &Message) -> Option<()> {
+    match message {
+        Message::Whole(scenario) => {
+            portrait.draw_number(0)?;
+            portrait.draw_scenario(alloc, scenario)
+        }
+        Message::Answer(scenario) => {
+            portrait.draw_number(1)?;
+            portrait.draw_scenario(alloc, scenario)
+        }
+        Message::Asked(heads) => {
+            portrait.draw_number(2)?;
+            draw_heads(portrait, heads.list())
         }
     }
-}
-
-/// A portrait of each replica, and the messages.
-#[derive(Drop)]
-struct WorldPortrait {
-    replicas: Vec<Portrait>,
-    messages: Vec<Carried>,
-}
-
-impl WorldPortrait {
-    // Answers whether two worlds show the same.
-    fn is_same(&self, other: &WorldPortrait) -> bool {
-        self.replicas.len() == other.replicas.len()
-            && self.messages.len() == other.messages.len()
-            && self
-                .replicas
-                .iter()
-                .zip(&other.replicas)
-                .all(|(one, another)| one.is_same(another))
-            && self
-                .messages
-                .iter()
-                .zip(&other.messages)
-                .all(|(one, another)| one.is_same(another))
-    }
-}
-
-// Returns what a message carries.
-fn content_of(alloc: Global, message: &Message) -> Option<Carried> {
-    Some(match message {
-        Message::Whole(scenario) => Carried::Whole(scenario.edits(alloc).ok()?),
-        Message::Answer(scenario) => Carried::Answer(scenario.edits(alloc).ok()?),
-        Message::Asked(heads) => Carried::Asked(heads.list().to_vec(alloc).ok()?),
-    })
 }
 
 // Draws a world, which has no more messages than the exchange has events.
-fn world_portrait(alloc: Global, world: &World) -> Option<WorldPortrait> {
-    let (mut replicas, mut messages) = (Vec::new(alloc), Vec::new(alloc));
+fn draw_world(alloc: Global, portrait: &mut Portrait, world: &World) -> Option<()> {
+    portrait.draw_number(u64::from(world.replica_count()))?;
     for at in 0..world.replica_count() {
-        let portrait = portrait_of(alloc, world.replica(at)?.sheet())?;
-        replicas.push(portrait).ok()?;
+        portrait.draw_sheet(alloc, world.replica(at)?.sheet())?;
     }
     for number in 0..EXCHANGE.len() {
         if let Some(message) = world.message(number as u64) {
-            messages.push(content_of(alloc, message)?).ok()?;
+            draw_message(alloc, portrait, message)?;
         }
     }
-    Some(WorldPortrait { replicas, messages })
-}
-
-// Answers whether a world is as it was drawn.
-fn is_as(alloc: Global, world: &World, before: &WorldPortrait) -> Option<bool> {
-    Some(world_portrait(alloc, world)?.is_same(before))
+    Some(())
 }
 
 // Returns the row that a replica shows after the events of a list.
@@ -228,45 +196,174 @@ fn is_after(alloc: Global, world: &World, list: &[Told]) -> Option<bool> {
     Some(shows)
 }
 
-// Returns a world after the events of a list, all of which it accepts.
-fn world_after(alloc: Global, list: &[Told]) -> Option<World> {
-    let mut world = World::open(alloc, free_plan(alloc)?, 3).ok()?;
-    for told in list {
-        let event = told.event(alloc)?;
-        world
-            .apply(alloc, &event, &mut Alone, &mut Meter::new())
-            .ok()?;
-    }
-    Some(world)
+// ---- openings
+
+// The opening of a world.
+#[derive(Drop)]
+struct Opening {
+    plan: Arc<Plan>,
 }
 
-/// Tries the event of this place in the exchange.
-pub(crate) fn tried_event(alloc: Global, until: Until, place: usize) -> Option<Verdict> {
-    let exchange = EXCHANGE;
-    let told = *exchange.get(place)?;
-    let earlier = exchange.get(..place)?;
-    let event = told.event(alloc)?;
-    let mut world = world_after(alloc, earlier)?;
-    let portrait = world_portrait(alloc, &world)?;
-    judged!(
-        until,
-        world.apply(alloc, &event, &mut Alone, &mut Meter::new()),
-        WorldFault::Replica(ReplicaFault::OutOfMemory) => Verdict::Again,
-        is_after(alloc, &world, earlier)? && is_as(alloc, &world, &portrait)?,
-        reply => reply == told.2 && is_after(alloc, &world, exchange.get(..=place)?)?
-    )
+impl Call for Opening {
+    type Answer = World;
+
+    type Fault = OutOfMemory;
+
+    fn make(&mut self, alloc: Global) -> Result<World, OutOfMemory> {
+        World::open(alloc, Arc::try_clone(&self.plan)?, 3)
+    }
+
+    fn is_right(&mut self, alloc: Global, world: World) -> Option<bool> {
+        is_after(alloc, &world, &[])
+    }
 }
 
 /// Tries the opening of a world.
 pub(crate) fn tried_opening(alloc: Global, until: Until) -> Option<Verdict> {
     let plan = free_plan(alloc)?;
-    judged!(
-        until, World::open(alloc, Arc::try_clone(&plan).ok()?, 3), _,
-        world => is_after(alloc, &world, &[])?
-    )
+    tried(alloc, until, &mut Opening { plan })
+}
+
+// ---- events
+
+// Applies an event.
+fn applied(alloc: Global, world: &mut World, event: &Event) -> Result<Reply, WorldFault> {
+    world.apply(alloc, event, &mut Alone, &mut Meter::new())
+}
+
+// Applies the event of a list, which is accepted.
+fn accept(alloc: Global, world: &mut World, told: &Told) -> Option<()> {
+    let event = told.event(alloc)?;
+    applied(alloc, world, &event).ok()?;
+    Some(())
+}
+
+// Applies the events of a list, all of which are accepted.
+fn accept_all(alloc: Global, world: &mut World, list: &[Told]) -> Option<()> {
+    for told in list {
+        accept(alloc, world, told)?;
+    }
+    Some(())
+}
+
+// The event of a world at this place in the exchange.
+#[derive(Drop)]
+struct Applying {
+    world: World,
+    event: Event,
+    place: usize,
+}
+
+impl Call for Applying {
+    type Answer = Reply;
+
+    type Fault = WorldFault;
+
+    fn draw(&mut self, alloc: Global, portrait: &mut Portrait) -> Option<()> {
+        draw_world(alloc, portrait, &self.world)
+    }
+
+    fn writes(&self) -> bool {
+        true
+    }
+
+    fn make(&mut self, alloc: Global) -> Result<Reply, WorldFault> {
+        applied(alloc, &mut self.world, &self.event)
+    }
+
+    fn is_right(&mut self, alloc: Global, reply: Reply) -> Option<bool> {
+        let wanted = EXCHANGE.get(self.place)?.2;
+        let list = EXCHANGE.get(..=self.place)?;
+        Some(reply == wanted && is_after(alloc, &self.world, list)?)
+    }
+}
+
+// Returns a world before any event.
+fn new_world(alloc: Global) -> Option<World> {
+    World::open(alloc, free_plan(alloc)?, 3).ok()
+}
+
+/// Tries the event of this place in the exchange.
+pub(crate) fn tried_event(alloc: Global, until: Until, place: usize) -> Option<Verdict> {
+    let event = EXCHANGE.get(place)?.event(alloc)?;
+    let world = new_world(alloc)?;
+    let mut applying = Applying {
+        world,
+        event,
+        place,
+    };
+    accept_all(alloc, &mut applying.world, EXCHANGE.get(..place)?)?;
+    tried(alloc, until, &mut applying)
 }
 
 // ---- lists of events
+
+// Why a list is not played as it must be: it was refused, or its first event that was not answered as is wanted was, or
+// was answered otherwise.
+#[derive(Clone, Copy)]
+enum ListFault {
+    Play(PlayFault),
+    Event(WorldFault),
+    Reply,
+}
+
+impl Refusal for ListFault {
+    fn due(&self) -> Option<Verdict> {
+        match self {
+            ListFault::Play(fault) => fault.due(),
+            ListFault::Event(fault) => fault.due(),
+            ListFault::Reply => None,
+        }
+    }
+}
+
+// A list of events that is played.
+#[derive(Drop)]
+struct Playing {
+    plan: Arc<Plan>,
+    events: Vec<Event>,
+}
+
+// Returns what is wrong with the first event that was not answered as is wanted.
+fn fault_of(replies: &[Result<Reply, WorldFault>], list: &[Told]) -> Option<ListFault> {
+    for (reply, told) in replies.iter().zip(list) {
+        match reply {
+            Ok(reply) if *reply == told.2 => {}
+            Ok(_) => return Some(ListFault::Reply),
+            Err(fault) => return Some(ListFault::Event(*fault)),
+        }
+    }
+    None
+}
+
+// Returns what was played, where all events were answered as is wanted.
+fn all_answered(played: Played) -> Result<Played, ListFault> {
+    match fault_of(&played.replies, EXCHANGE) {
+        Some(fault) => Err(fault),
+        None => Ok(played),
+    }
+}
+
+impl Call for Playing {
+    type Answer = Played;
+
+    type Fault = ListFault;
+
+    fn make(&mut self, alloc: Global) -> Result<Played, ListFault> {
+        let Ok(plan) = Arc::try_clone(&self.plan) else {
+            return Err(ListFault::Play(PlayFault::OutOfMemory));
+        };
+        match play(alloc, plan, 3, &self.events, &mut Alone, &mut Meter::new()) {
+            Ok(played) => all_answered(played),
+            Err(fault) => Err(ListFault::Play(fault)),
+        }
+    }
+
+    fn is_right(&mut self, alloc: Global, played: Played) -> Option<bool> {
+        let are_all = played.replies.len() == EXCHANGE.len();
+        Some(are_all && is_after(alloc, &played.world, EXCHANGE)?)
+    }
+}
 
 // Returns the events of a list.
 fn events_of(alloc: Global, list: &[Told]) -> Option<Vec<Event>> {
@@ -277,31 +374,9 @@ fn events_of(alloc: Global, list: &[Told]) -> Option<Vec<Event>> {
     Some(events)
 }
 
-// Answers whether all events were replied to as is wanted.
-fn are_replied(replies: &[Result<Reply, WorldFault>], list: &[Told]) -> bool {
-    replies.len() == list.len()
-        && replies
-            .iter()
-            .zip(list)
-            .all(|(reply, told)| *reply == Ok(told.2))
-}
-
-// Plays the events of the exchange; where one of them found no memory, that is the answer.
-fn played(alloc: Global, plan: Arc<Plan>, events: &[Event]) -> Result<Played, PlayFault> {
-    let played = play(alloc, plan, 3, events, &mut Alone, &mut Meter::new())?;
-    let want = Err(WorldFault::Replica(ReplicaFault::OutOfMemory));
-    if played.replies.iter().any(|reply| *reply == want) {
-        return Err(PlayFault::OutOfMemory);
-    }
-    Ok(played)
-}
-
 /// Tries the exchange as one list of events.
 pub(crate) fn tried_list(alloc: Global, until: Until) -> Option<Verdict> {
     let plan = free_plan(alloc)?;
     let events = events_of(alloc, EXCHANGE)?;
-    judged!(
-        until, played(alloc, Arc::try_clone(&plan).ok()?, &events), _,
-        played => are_replied(&played.replies, EXCHANGE) && is_after(alloc, &played.world, EXCHANGE)?
-    )
+    tried(alloc, until, &mut Playing { plan, events })
 }

@@ -120,7 +120,10 @@ const FAULTS: &[(&str, &str, PlanLineFault)] = &[
 #[test]
 fn refuses_plan_lines(rt: HostRuntime) -> Result<(), Fail> {
     for (old, new, want) in FAULTS {
-        assert_eq!(rt; replaced_fault(rt.alloc(), old, new)?, Some(*want), "{new}");
+        assert!(rt;
+            replaced_fault(rt.alloc(), old, new)? == Some(*want),
+            "{new}"
+        );
     }
     Ok(())
 }
@@ -139,7 +142,7 @@ fn names_the_first_fault(rt: HostRuntime) -> Result<(), Fail> {
     for (old, new, want) in MORE_FAULTS {
         line = line.replacen(rt.alloc(), old, new, 1)?;
         let fault = plan_fault(rt.alloc(), &line)?;
-        assert_eq!(rt; fault, Some(*want), "{line}");
+        assert!(rt; fault == Some(*want), "{line}");
     }
     Ok(())
 }
@@ -159,7 +162,7 @@ const ZONES: &[(usize, Option<PlanLineFault>)] = &[(63, None), (64, Some(Plan(Pl
 #[test]
 fn bounds_zones(rt: HostRuntime) -> Result<(), Fail> {
     for (count, want) in ZONES {
-        assert_eq!(rt; zones_fault(rt.alloc(), *count)?, *want, "{count}");
+        assert!(rt; zones_fault(rt.alloc(), *count)? == *want, "{count}");
     }
     Ok(())
 }
@@ -419,7 +422,7 @@ fn read_text(alloc: Global, line: &str) -> Result<String, OutOfMemory> {
 fn reads_commands(rt: HostRuntime) -> Result<(), Fail> {
     for (line, want) in COMMANDS {
         let said = read_text(rt.alloc(), line)?;
-        assert_eq!(rt; said.as_str(), *want, "{line}");
+        assert!(rt; said.as_str() == *want, "{line}");
     }
     Ok(())
 }
@@ -432,9 +435,8 @@ fn are_refused(
     want: LineFault,
 ) -> Result<(), Fail> {
     for line in lines {
-        assert_eq!(rt;
-            command_fault(alloc, line.as_bytes())?,
-            Some(want),
+        assert!(rt;
+            command_fault(alloc, line.as_bytes())? == Some(want),
             "{line}"
         );
     }
@@ -461,7 +463,7 @@ fn long_crowd(alloc: Global, count: usize) -> Result<String, OutOfMemory> {
 fn refuses_long_crowds(rt: HostRuntime) -> Result<(), Fail> {
     let line = long_crowd(rt.alloc(), 21_800)?;
     let fault = command_fault(rt.alloc(), line.as_bytes())?;
-    assert_eq!(rt; fault, Some(LineFault::NotACommand));
+    assert!(rt; fault == Some(LineFault::NotACommand));
     Ok(())
 }
 
@@ -479,7 +481,7 @@ fn has_edits(rt: &impl Abort, command: &Command, count: usize) {
         Command::Import { edits, .. } => edits.as_slice(),
         _ => &[],
     };
-    assert_eq!(rt; edits.len(), count.saturating_add(1));
+    assert!(rt; edits.len() == count.saturating_add(1));
     assert!(rt;
         edits
             .iter()
@@ -515,9 +517,12 @@ fn brackets_fault(alloc: Global, depth: usize) -> Result<Option<LineFault>, Fail
 fn refuses_bytes_and_deep_values(rt: HostRuntime) -> Result<(), Fail> {
     let no_text = b"{\"advance\":{\"at\":\"\xff\",\"to\":6}}";
     let fault = command_fault(rt.alloc(), no_text)?;
-    assert_eq!(rt; fault, Some(LineFault::NotJson));
+    assert!(rt; fault == Some(LineFault::NotJson));
     for (depth, want) in DEEP {
-        assert_eq!(rt; brackets_fault(rt.alloc(), *depth)?, Some(*want), "{depth}");
+        assert!(rt;
+            brackets_fault(rt.alloc(), *depth)? == Some(*want),
+            "{depth}"
+        );
     }
     Ok(())
 }
@@ -699,7 +704,7 @@ fn reads_back_the_edits_that_it_writes(rt: HostRuntime) -> Result<(), Fail> {
 fn writes_answers(rt: HostRuntime) -> Result<(), Fail> {
     for (said, want) in ANSWERS {
         let line = line_of(rt.alloc(), said)?;
-        assert_eq!(rt; line.as_str(), *want);
+        assert!(rt; line.as_str() == *want);
     }
     Ok(())
 }
@@ -718,7 +723,7 @@ fn refusal_lines(
 fn writes_refusals(rt: HostRuntime) -> Result<(), Fail> {
     for (refusal, name) in REFUSALS {
         let (line, want) = refusal_lines(rt.alloc(), *refusal, name)?;
-        assert_eq!(rt; line.as_str(), want.as_str());
+        assert!(rt; line.as_str() == want.as_str());
     }
     Ok(())
 }

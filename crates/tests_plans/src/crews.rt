@@ -6,7 +6,7 @@ ghost use Rattle.road_workers.specs.Crews.{gone_after};
 use road_cells::Road;
 use road_detector::Ran;
 use road_ends::{Span, StepInput};
-use road_workers::{Crew, CrewFault, KeptRun};
+use road_workers::{Crew, CrewFault, Gate, KeptRun};
 use std::alloc::Global;
 use std::sync::Arc;
 
@@ -56,6 +56,26 @@ impl Crew for Counting {
 
     fn speeds(&mut self, alloc: Global, input: &Arc<StepInput>) -> Result<Vec<u8>, CrewFault> {
         self.calls = self.calls.saturating_add(1);
+        Ok(input.speeds(alloc)?)
+    }
+}
+
+/// Computes the pieces of two workers one after the other, each behind the gate, as one thread does.
+#[derive(Drop)]
+pub struct InTurn<G> {
+    /// What the two pass.
+    pub gate: G,
+}
+
+impl<G: Gate> Crew for InTurn<G> {
+    ghost times_gone = { λ _. 0 };
+
+    fn speeds(&mut self, alloc: Global, input: &Arc<StepInput>) -> Result<Vec<u8>, CrewFault> {
+        let cars = input.road().cars().len();
+        self.gate.arrive(0);
+        let _front = input.speeds_between(alloc, 0, cars / 2)?;
+        self.gate.arrive(1);
+        let _back = input.speeds_between(alloc, cars / 2, cars)?;
         Ok(input.speeds(alloc)?)
     }
 }

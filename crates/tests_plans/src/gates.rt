@@ -58,6 +58,11 @@ impl<R: Clock> Meeting<R> {
             && self.arrived.load(Ordering::SeqCst) == self.workers.saturating_mul(meetings)
             && self.missed.load(Ordering::SeqCst) == 0
     }
+
+    /// Answers whether nobody has arrived.
+    pub fn has_none(&self) -> bool {
+        self.arrived.load(Ordering::SeqCst) == 0
+    }
 }
 
 impl<R: Clock> Gate for Meeting<R> {

@@ -8,11 +8,11 @@ mod gates;
 mod roads;
 mod rows;
 
-pub use crews::{Counting, Leaving, Running, StepByStep};
+pub use crews::{Counting, InTurn, Leaving, Running, StepByStep};
 pub use gates::{Counter, Meeting};
 use road_cells::Car;
 use road_plan::{Object, OutOfMemory, Plan, PlanFault, PlanParts, WordKind};
-pub use roads::{Dice, random_plan, random_road, random_settings, road_of};
+pub use roads::{Dice, queue, random_plan, random_road, random_settings, road_of};
 pub use rows::row_of;
 use std::alloc::Global;
 

@@ -169,6 +169,26 @@ pub fn random_road(
     road_of(alloc, &cars)
 }
 
+/// Makes a road whose first cells are taken by standing cars, but for each 64th.
+///
+/// # Errors
+///
+/// `OutOfMemory` where an allocation failed.
+pub fn queue(alloc: Global, cells: u32) -> Result<Road, OutOfMemory> {
+    let mut cars = Vec::new(alloc);
+    for cell in 0..cells {
+        if cell % 64 != 63 {
+            let number = u64::from(cell);
+            cars.push(Car {
+                number,
+                cell,
+                speed: 0,
+            })?;
+        }
+    }
+    road_of(alloc, &cars)
+}
+
 /// Makes the road of these cars, but for those that do not stand in front of all before them.
 ///
 /// # Errors

@@ -6,8 +6,6 @@ mod crews;
 #[cfg(test)]
 mod examples;
 #[cfg(test)]
-mod messages;
-#[cfg(test)]
 mod questions;
 #[cfg(test)]
 mod replicas;

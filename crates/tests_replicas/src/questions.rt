@@ -1,29 +1,11 @@
-//! Cars, counts and diagrams, and the cache of queries.
+//! Diagrams, and the cache of queries.
 
 use crate::replicas::{Write, replica_after};
-use road_cells::Car;
-use road_plan::Object;
 use road_replica::{Replica, ReplicaFault};
 use road_sheet::{QueryCache, Sheet};
 use std::alloc::Global;
 use std::test::Fail;
-use tests_plans::{BLOCK, CARS_AT_SIX, cars};
-
-/// A detector and some steps, and the cars and speeds that are counted.
-type Count = ((u32, u32, u32), Result<(u32, u32), ReplicaFault>);
-
-/// The first car drives from cell 3 to 5 in step 2, the second one in step 4.
-const COUNTS: &[Count] = &[
-    ((0, 0, 3), Ok((1, 2))),
-    ((0, 0, 6), Ok((2, 4))),
-    ((0, 3, 6), Ok((1, 2))),
-    ((0, 2, 2), Ok((0, 0))),
-    ((0, 0, 7), Err(ReplicaFault::NotSimulated)),
-    ((0, 3, 2), Err(ReplicaFault::Range)),
-    ((0, 9, 8), Err(ReplicaFault::Range)),
-    ((1, 0, 6), Err(ReplicaFault::NoDetector)),
-    ((1, 9, 8), Err(ReplicaFault::NoDetector)),
-];
+use tests_plans::BLOCK;
 
 /// The first and the last row of a diagram, and how many rows it has where the horizon is 1,024.
 const DIAGRAMS: &[(u32, u32, Result<usize, ReplicaFault>)] = &[
@@ -37,71 +19,6 @@ const DIAGRAMS: &[(u32, u32, Result<usize, ReplicaFault>)] = &[
 
 /// The rows from 4 to 6 with the cell 8 blocked from step 4 on.
 const BLOCKED: &[&str] = &["0..2...2#...", ".1...2.0#...", "0..2..10#..."];
-
-// Tells whether a replica has these cars at a step.
-fn has_cars(
-    alloc: Global,
-    replica: &Replica,
-    step: u32,
-    cars: &[Car],
-) -> Result<bool, ReplicaFault> {
-    Ok(replica.state(alloc, step)?.cars() == cars)
-}
-
-// Tells whether a replica counts as a table says.
-fn counts(alloc: Global, replica: &Replica) -> bool {
-    for &((detector, from, to), counted) in COUNTS {
-        let totals = replica.totals(alloc, detector, from, to);
-        if totals.map(|totals| (totals.cars, totals.speeds)) != counted {
-            return false;
-        }
-    }
-    true
-}
-
-// Makes a replica of the free road at step 6.
-fn at_six(alloc: Global) -> Result<Replica, Fail> {
-    replica_after(alloc, 0, &[Write::Advance(6)])
-}
-
-// Tells whether it shows the worked cars, and none of a step that was not simulated.
-fn has_worked_cars(alloc: Global, replica: &Replica) -> Result<bool, ReplicaFault> {
-    Ok(
-        has_cars(alloc, replica, 6, CARS_AT_SIX)?
-            && replica.state(alloc, 7).err() == Some(ReplicaFault::NotSimulated),
-    )
-}
-
-#[test]
-fn shows_the_worked_cars(rt: HostRuntime) -> Result<(), Fail> {
-    let replica = at_six(rt.alloc())?;
-    assert!(&rt; has_worked_cars(rt.alloc(), &replica)?);
-    Ok(())
-}
-
-/// The inlet is closed but in the last step of the longest run.
-const OPENED_LAST: &[Write] = &[
-    Write::Edit(Object::Block(0), 0, 1),
-    Write::Advance(1_048_576),
-    Write::Edit(Object::Block(0), 1_048_575, 0),
-];
-
-/// Its number is 16 times the last step.
-const LAST_CAR: &[Car] = cars![(16_777_200, 1, 1)];
-
-#[test]
-fn shows_the_last_car_of_the_longest_run(rt: HostRuntime) -> Result<(), Fail> {
-    let replica = replica_after(rt.alloc(), 0, OPENED_LAST)?;
-    assert!(&rt; has_cars(rt.alloc(), &replica, 1_048_576, LAST_CAR)?);
-    Ok(())
-}
-
-#[test]
-fn counts_the_worked_cars(rt: HostRuntime) -> Result<(), Fail> {
-    let replica = at_six(rt.alloc())?;
-    assert!(&rt; counts(rt.alloc(), &replica));
-    Ok(())
-}
 
 // Tells whether the rows of a diagram are these.
 fn are_rows(rows: &[String], texts: &[&str]) -> bool {

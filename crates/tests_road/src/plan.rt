@@ -81,7 +81,7 @@ const FAULTS: &[Judged] = parts_pairs![
 fn are_judged(rt: &impl Abort, alloc: Global, table: &[Judged]) -> Result<(), OutOfMemory> {
     for (row, (parts, fault)) in table.iter().enumerate() {
         let judged = Plan::new(parts_of(alloc, parts)?).err();
-        assert_eq!(rt; judged, *fault, "row {row}");
+        assert!(rt; judged == *fault, "row {row}");
     }
     Ok(())
 }

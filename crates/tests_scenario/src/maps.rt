@@ -11,6 +11,7 @@ use std::collections::btree_map::Range;
 use std::ops::Bound;
 use std::process::Abort;
 use std::test::Fail;
+use tests_plans::Dice;
 
 /// One more than the greatest key.
 const KEYS: u32 = 2_000;
@@ -28,28 +29,12 @@ const ORDERS: &[Order] = &[Order::Rising, Order::Falling, Order::Mixed];
 /// How many entries are put one by one.
 const COUNTS: &[u32] = &[0, 1, 2, 255, 256, 257, 384, 1_000];
 
-/// Numbers that look random.
-#[derive(Drop)]
-struct Dice {
-    seed: u64,
-}
-
-impl Dice {
-    fn below(&mut self, most: u32) -> u32 {
-        self.seed = self
-            .seed
-            .wrapping_mul(6_364_136_223_846_793_005)
-            .wrapping_add(1_442_695_040_888_963_407);
-        (self.seed >> 40) as u32 % most.max(1)
-    }
-
-    // Returns the key that is put as the so-manieth.
-    fn key(&mut self, order: Order, place: u32) -> u32 {
-        match order {
-            Order::Rising => place.saturating_mul(2),
-            Order::Falling => KEYS.saturating_sub(place.saturating_mul(2)),
-            Order::Mixed => self.below(KEYS),
-        }
+// Returns the key that is put as the so-manieth.
+fn key(dice: &mut Dice, order: Order, place: u32) -> u32 {
+    match order {
+        Order::Rising => place.saturating_mul(2),
+        Order::Falling => KEYS.saturating_sub(place.saturating_mul(2)),
+        Order::Mixed => dice.below(KEYS),
     }
 }
 
@@ -74,7 +59,7 @@ impl Beside {
     fn of(alloc: Global, dice: &mut Dice, order: Order, count: u32) -> Result<Self, OutOfMemory> {
         let mut made = Beside::empty(alloc);
         for place in 0..count {
-            let (key, value) = (dice.key(order, place), dice.below(9));
+            let (key, value) = (key(dice, order, place), dice.below(9));
             made.map = made.map.with(key, &Greatest::Of(value))?;
             put(&mut made.held, key, value)?;
         }
@@ -175,7 +160,7 @@ fn gives_at_key(rt: &impl Abort, beside: &Beside, key: u32) {
 
 #[test]
 fn maps_give_what_was_put(rt: HostRuntime) -> Result<(), Fail> {
-    let mut dice = Dice { seed: 1 };
+    let mut dice = Dice::of(1);
     for order in ORDERS {
         for count in COUNTS {
             let made = Beside::of(rt.alloc(), &mut dice, *order, *count)?;
@@ -239,7 +224,7 @@ fn join_as_held(
 
 #[test]
 fn maps_join_as_held(rt: HostRuntime) -> Result<(), Fail> {
-    let mut dice = Dice { seed: 2 };
+    let mut dice = Dice::of(2);
     for order in ORDERS {
         for (ours, theirs) in [
             (0, 0),
@@ -260,7 +245,7 @@ fn maps_join_as_held(rt: HostRuntime) -> Result<(), Fail> {
 // A map that shares its pages with another one changes without it.
 #[test]
 fn a_map_stays_as_it_was(rt: HostRuntime) -> Result<(), Fail> {
-    let mut dice = Dice { seed: 3 };
+    let mut dice = Dice::of(3);
     let made = Beside::of(rt.alloc(), &mut dice, Order::Mixed, 1_000)?;
     for _ in 0..50 {
         let key = dice.below(KEYS);

@@ -16,6 +16,7 @@ use std::process::Abort;
 use std::sync::Arc;
 use std::test::Fail;
 use tests_plans::{BLOCK, FREE, Running, StepByStep, edit, plan_of};
+use tests_portraits::Portrait;
 
 /// The late edit that closes cell 8 from step 4 on.
 const CLOSING: &[Edit] = &[edit!(BLOCK, 4, (1, 0), 1)];
@@ -55,7 +56,17 @@ fn grow<C: Crew>(
     }
 }
 
-// Answers whether a sheet is refused by a crew that fails at the run behind so many: the steps of these are counted.
+// Draws a sheet.
+fn drawn(alloc: Global, sheet: &Sheet) -> Result<Portrait, Fail> {
+    let mut portrait = Portrait::new(alloc);
+    match portrait.draw_sheet(alloc, sheet) {
+        Some(()) => Ok(portrait),
+        None => Err(Fail::new("no memory for a portrait")),
+    }
+}
+
+// Answers whether a sheet is refused by a crew that fails at the run behind so many: the steps of these are counted, and
+// the sheet is as before.
 fn is_refused<C: Crew>(
     alloc: Global,
     sheet: &Sheet,
@@ -65,8 +76,13 @@ fn is_refused<C: Crew>(
 ) -> Result<bool, Fail> {
     crew.fail_after(runs, fault);
     let (before, mut meter) = (crew.steps, Meter::new());
+    let portrait = drawn(alloc, sheet)?;
     let refused = grow(alloc, sheet, CLOSING, END, crew, &mut meter)?.err();
-    Ok(refused == Some(fault) && meter.ticks() == crew.steps.saturating_sub(before))
+    Ok(
+        refused == Some(fault)
+            && meter.ticks() == crew.steps.saturating_sub(before)
+            && drawn(alloc, sheet)?.is_same(&portrait),
+    )
 }
 
 // Returns the cars at the end of a sheet that takes the late edit by a crew.
@@ -189,8 +205,8 @@ fn written<C: Crew>(
     }
 }
 
-// Answers whether a write is done, by a crew that may fail at one of its runs: the replica is then as it was, and the write
-// is done again. The meter counts the steps of the runs.
+// Answers whether a write is done, by a crew that may fail at one of its runs: the replica then shows all that it showed,
+// and the write is done again. The meter counts the steps of the runs.
 fn is_done<C: Crew>(
     alloc: Global,
     replica: &mut Replica,
@@ -199,9 +215,12 @@ fn is_done<C: Crew>(
     (write, before, after): (Write, Shown, Shown),
 ) -> Result<bool, Fail> {
     let (may_fail, steps, mut meter) = (crew.fault.is_some(), crew.steps, Meter::new());
+    let portrait = drawn(alloc, replica.sheet())?;
     let mut answer = written(alloc, replica, write, crew, &mut meter);
     if may_fail && crew.fault.is_none() {
-        if answer != Err(ReplicaFault::from(fault)) || !is_at(alloc, replica, before)? {
+        let is_same = is_at(alloc, replica, before)?
+            && drawn(alloc, replica.sheet())?.is_same(&portrait);
+        if answer != Err(ReplicaFault::from(fault)) || !is_same {
             return Ok(false);
         }
         answer = written(alloc, replica, write, crew, &mut meter);

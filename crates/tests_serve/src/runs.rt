@@ -21,10 +21,15 @@ const FREE_ROAD: &str =
     r#"{"detectors":[5],"exit":1,"inlets":[[0,65536]],"length":12,"replicas":["A","B","C"],"words":7,"zone":12,"zones":[[2,0]]}
 "#;
 
-/// Returns a sink with room for 1,000 bytes, so that none of its writes wants memory.
+/// Returns a sink with room for so many bytes, so that none of its writes wants memory.
+pub(crate) fn sink_for(alloc: Global, room: usize) -> Result<MemorySink, OutOfMemory> {
+    let bytes = Vec::with_capacity(alloc, room)?;
+    Ok(MemorySink::new(bytes, room, Failing::Never, Failing::Never))
+}
+
+/// Returns a sink with room for 1,000 bytes.
 pub(crate) fn sink(alloc: Global) -> Result<MemorySink, OutOfMemory> {
-    let bytes = Vec::with_capacity(alloc, 1000)?;
-    Ok(MemorySink::new(bytes, 1000, Failing::Never, Failing::Never))
+    sink_for(alloc, 1000)
 }
 
 /// Makes one hash for all names, so that each look-up goes by comparisons.

@@ -2,16 +2,16 @@
 
 ghost use Rattle.std.specs.Prelude.{◌<◌, ◌≤◌};
 
-use crate::runs::{AllAlike, Unmanned, served, sink};
+use crate::runs::{AllAlike, Unmanned, served, sink, sink_for};
 use crate::sweeps::{ANSWERS, STORED};
 use road_serve::{Failing, MemorySource, ServeFault, Served, serve};
-use road_workers::{Crew, CrewFault, Pool};
+use road_workers::{Alone, Crew, CrewFault, Pool};
 use std::alloc::Global;
 use std::process::Abort;
 use std::sync::{Arc, Wait};
 use std::test::Fail;
 use std::thread::Threads;
-use tests_plans::{Counter, Running};
+use tests_plans::{Counter, Running, StepByStep};
 
 /// The bytes that are written before each command of the stored run that asks the crew: an advance, an edit, a withdrawal,
 /// and an advance of another replica.
@@ -96,15 +96,29 @@ const LONG: &str =
     r##"{"detectors":[520,2730,4095,4096,4100,5461,7700],"exit":3,"inlets":[[0,65536],[512,65536],[1024,65536],[1536,65536],[2048,65536],[2560,65536],[3072,65536],[3584,65536],[4096,65536],[4608,65536],[5120,65536],[5632,65536],[6144,65536],[6656,65536],[7168,65536],[7680,65536]],"length":8192,"replicas":["A"],"words":7,"zone":1024,"zones":[[9,0],[5,16384],[9,1000],[3,0],[9,32768],[7,8192],[9,0],[5,20000]]}
 {"advance":{"at":"A","to":64}}
 {"advance":{"at":"A","to":384}}
+{"diagram":{"at":"A","from":383,"to":384}}
+{"count":{"at":"A","detector":0,"from":0,"to":384}}
+{"count":{"at":"A","detector":4,"from":320,"to":384}}
+{"count":{"at":"A","detector":6,"from":0,"to":384}}
 "##;
 
-// How often lasting workers are asked in a script that is answered so.
+// What is answered to a script by a crew.
+fn answers_by<C: Crew>(alloc: Global, crew: &mut C, script: &str) -> Result<Vec<u8>, Fail> {
+    let mut writer = sink_for(alloc, 20_000)?;
+    let mut reader = MemorySource::new(script.as_bytes(), usize::MAX, Failing::Never);
+    match served(alloc, &mut reader, &mut writer, crew)? {
+        Ok(_) => Ok(writer.bytes().to_vec(alloc)?),
+        Err(_) => Err(Fail::new("a script that is not answered")),
+    }
+}
+
+// How often lasting workers, who have a processor each, are asked in a script that is answered so.
 fn asked_in<R: Threads + Wait + Clone + Drop + Send + 'static>(
     rt: &R,
     alloc: Global,
     workers: u32,
     script: &str,
-    answers: &str,
+    answers: &[u8],
 ) -> Result<u32, Fail>
     requires some { 0 < workers }
     requires few { workers ≤ 16 }
@@ -112,27 +126,29 @@ fn asked_in<R: Threads + Wait + Clone + Drop + Send + 'static>(
     let gate = Arc::new(alloc, Counter::new())?;
     let their_gate = Arc::try_clone(&gate)?;
     let mut crew = Pool::start_on(rt.clone()?, alloc, workers, their_gate, workers)?;
-    let mut writer = sink(alloc)?;
-    let mut reader = MemorySource::new(script.as_bytes(), usize::MAX, Failing::Never);
-    let ended = served(alloc, &mut reader, &mut writer, &mut crew)?;
+    let given = answers_by(alloc, &mut crew, script);
     crew.finish();
-    if ended.is_err() || writer.bytes() != answers.as_bytes() {
+    if given?.as_slice() != answers {
         return Err(Fail::new("a script that is answered otherwise"));
     }
     Ok(gate.passed())
 }
 
-/// Three workers, who have a processor each, share the last two intervals.
+/// Three workers share the last two intervals. Their rows and counts are those of one who computes step by step.
 #[test]
 fn workers_share_the_long_road(rt: HostRuntime) -> Result<(), Fail> {
-    let answers = "{\"open\":1}\n{\"horizon\":64}\n{\"horizon\":384}\n";
-    assert!(rt; asked_in(&rt, rt.alloc(), 3, LONG, answers)? == 6);
+    let alloc = rt.alloc();
+    let answers = answers_by(alloc, &mut StepByStep { crew: Alone }, LONG)?;
+    assert!(rt;
+        answers.starts_with(b"{\"open\":1}\n{\"horizon\":64}\n{\"horizon\":384}\n{\"rows\":[\"")
+    );
+    assert!(rt; asked_in(&rt, alloc, 3, LONG, &answers)? == 6);
     Ok(())
 }
 
 /// The caller runs the stored run alone.
 #[test]
 fn nobody_is_asked_in_the_stored_run(rt: HostRuntime) -> Result<(), Fail> {
-    assert!(rt; asked_in(&rt, rt.alloc(), 3, STORED, ANSWERS)? == 0);
+    assert!(rt; asked_in(&rt, rt.alloc(), 3, STORED, ANSWERS.as_bytes())? == 0);
     Ok(())
 }

@@ -162,22 +162,22 @@ fn is_left(alloc: Global, closed: &Option<Closed>, script: &Script) -> bool {
     }
 }
 
-/// Tells whether a store that was just prepared goes as its script says; nothing where it could not be opened.
+/// Tells whether a store that was just prepared goes as its script says.
 pub(crate) fn goes<J: Naming, R: Wait + Drop, W: Wait>(
     rt: &W,
     alloc: Global,
     prepared: Prepared<R>,
     script: &Script,
-) -> Option<bool>
+) -> bool
     requires book { prepared.book ≡ J.book }
     requires replica { prepared.replica ≡ J.replica }
     requires ledger { (prepared.ledger.name ≡ J.name) × (prepared.ledger.parts ≡ J.parts) }
     requires limit { prepared.limit ≡ J.limit }
 {
     let Ok((shared, mut sessions)) = open::<J, R>(prepared) else {
-        return None;
+        return false;
     };
     let well = all_act(rt, alloc, &shared, sessions.as_mut_slice(), script.acts);
     let closed = closed(rt, alloc, shared, sessions, script);
-    Some(well && is_left(alloc, &closed, script))
+    well && is_left(alloc, &closed, script)
 }

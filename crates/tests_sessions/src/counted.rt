@@ -3,11 +3,11 @@
 ghost use Rattle.std.specs.Prelude.{◌≡◌};
 
 use crate::worked::opened_for;
-use crate::writes::{WANT, Write, wrote_by};
+use crate::writes::{Write, wrote_by};
 use road_ends::Meter;
 use road_plan::Object;
 use road_scenario::{Edit, Stamp, Value};
-use road_sessions::{Naming, Prepared, open};
+use road_sessions::{Naming, Prepared, Session, Shared, open};
 use std::alloc::Global;
 use std::marker::Brand;
 use std::sync::Wait;
@@ -39,56 +39,51 @@ const REFUSED: &[(Write, bool, u64)] = &[
     (Write::Advance(101), true, 101),
 ];
 
-// Says whether the writes of the first session of a store are simulated as the table says; nothing where there was no
-// memory.
+// Says whether the writes of a session are simulated as the table says.
+fn are_counted<J: Naming, R: Wait + Drop, W: Wait>(
+    rt: &W,
+    alloc: Global,
+    shared: &Shared<J, R>,
+    session: &mut Session<J>,
+    writes: &[(Write, bool, u64)],
+) -> bool {
+    let mut crew = Counting { calls: 0 };
+    let mut meter = Meter::new();
+    for (write, accepted, steps) in writes {
+        let wrote = wrote_by(rt, alloc, shared, session, write, &mut crew, &mut meter);
+        if wrote.is_ok() != *accepted || crew.calls != *steps || meter.ticks() != *steps {
+            return false;
+        }
+    }
+    true
+}
+
+// Says whether those of the first session of a store are.
 fn counts<J: Naming, R: Wait + Drop, W: Wait>(
     rt: &W,
     alloc: Global,
     prepared: Prepared<R>,
     writes: &[(Write, bool, u64)],
-) -> Option<bool>
+) -> bool
     requires book { prepared.book ≡ J.book }
     requires replica { prepared.replica ≡ J.replica }
     requires ledger { (prepared.ledger.name ≡ J.name) × (prepared.ledger.parts ≡ J.parts) }
     requires limit { prepared.limit ≡ J.limit }
 {
     let Ok((shared, mut sessions)) = open::<J, R>(prepared) else {
-        return None;
+        return false;
     };
-    let session = sessions.get_mut(0)?;
-    let mut crew = Counting { calls: 0 };
-    let mut meter = Meter::new();
-    for (write, accepted, steps) in writes {
-        let wrote = wrote_by(rt, alloc, &shared, session, write, &mut crew, &mut meter);
-        let is_accepted = match wrote {
-            Ok(_wrote) => true,
-            Err(WANT) => return None,
-            Err(_fault) => false,
-        };
-        if is_accepted != *accepted || crew.calls != *steps || meter.ticks() != *steps {
-            return Some(false);
-        }
+    match sessions.get_mut(0) {
+        Some(session) => are_counted(rt, alloc, &shared, session, writes),
+        None => false,
     }
-    Some(true)
 }
 
 // Opens a store for it.
-fn opens<R: Wait + Drop + Copy>(
-    rt: R,
-    alloc: Global,
-    writes: &[(Write, bool, u64)],
-) -> Option<bool> {
+fn runs<R: Wait + Drop + Copy>(rt: R, alloc: Global, writes: &[(Write, bool, u64)]) -> bool {
     match opened_for(rt, alloc, 0, 1, 6) {
         Ok(prepared) => counts::<Brand, R, R>(&rt, alloc, prepared, writes),
-        Err(_) => None,
-    }
-}
-
-// Opens another store where there was no memory.
-fn runs<R: Wait + Drop + Copy>(rt: R, alloc: Global, writes: &[(Write, bool, u64)]) -> bool {
-    match opens(rt, alloc, writes) {
-        Some(well) => well,
-        None => opens(rt, alloc, writes) == Some(true),
+        Err(_) => false,
     }
 }
 

@@ -19,12 +19,11 @@ fn has_edits(alloc: Global, scenario: &Scenario, edits: &[Edit]) -> bool {
     }
 }
 
-// Tells whether an entry of a journal is this. Its edits are listed again where there was no memory.
+// Tells whether an entry of a journal is this.
 fn is_line(alloc: Global, entry: &Entry, line: Line) -> bool {
     match (line, &entry.command) {
         (Line::Took(session, edits), SheetCommand::Take(taken)) => {
-            entry.session == session
-                && (has_edits(alloc, taken, edits) || has_edits(alloc, taken, edits))
+            entry.session == session && has_edits(alloc, taken, edits)
         }
         (Line::Advanced(session, to), SheetCommand::Advance(step)) => {
             entry.session == session && *step == to

@@ -1,11 +1,13 @@
 //! What sessions are shown.
 
-use road_cells::Car;
+use road_cells::{Car, Road};
+use road_ends::{Meter, step_alone};
+use road_plan::{Plan, Settings};
 use road_sessions::{LookFault, Naming, Session, Shared};
 use road_sheet::simulation::{State, row_of};
 use road_sheet::{Sheet, SheetFault};
 use std::alloc::Global;
-use std::sync::Wait;
+use std::sync::{Arc, Wait};
 use tests_plans::{FREE_ROWS, Row};
 
 /// A detector and two steps, and the cars and speeds that it counts from one up to the other.
@@ -14,22 +16,11 @@ pub(crate) type Count = ((u32, u32, u32), Result<(u32, u32), LookFault>);
 /// A step, and the cars that are there.
 pub(crate) type Cars = (u32, Result<&'static [Car], LookFault>);
 
-/// Out of memory in a query.
-const WANT: LookFault = LookFault::Sheet(SheetFault::OutOfMemory);
-
 // Returns the row of a sheet at a step.
 fn row(alloc: Global, sheet: &Sheet, step: u32) -> Result<String, SheetFault> {
     let road = sheet.state(alloc, step)?;
     let state = State { step, road };
     Ok(row_of(alloc, sheet.plan(), sheet.scenario(), &state)?)
-}
-
-// Returns the same, asked for again where there was no memory.
-fn row_again(alloc: Global, sheet: &Sheet, step: u32) -> Result<String, SheetFault> {
-    match row(alloc, sheet, step) {
-        Err(SheetFault::OutOfMemory) => row(alloc, sheet, step),
-        answer => answer,
-    }
 }
 
 /// Rows of the free road from step 0 up to a step, where the limit is 1 from another step on.
@@ -79,20 +70,45 @@ fn row_of_run(run: Run, step: u32) -> &'static str {
     }
 }
 
-/// Tells whether a sheet shows all rows of a run.
+// Returns the road of a run after a step, which one caller computes.
+fn road_after(alloc: Global, plan: &Arc<Plan>, run: Run, step: u32, road: &Road) -> Option<Road> {
+    let mut settings = Settings::of_plan(alloc, plan).ok()?;
+    if step >= run.slow_from {
+        settings.limits = vec![in alloc; 1].ok()?;
+    }
+    if !settings.fits(plan) {
+        return None;
+    }
+    let done = step_alone(alloc, plan, settings, step, road, &mut Meter::new());
+    Some(done.ok()?.road)
+}
+
+// Tells whether a sheet has the cars of a run, with their numbers, which goes from step zero.
+fn has_cars_of_run(alloc: Global, sheet: &Sheet, run: Run) -> Option<bool> {
+    let mut road = Road::empty(alloc);
+    for step in 0..=run.to {
+        if sheet.state(alloc, step).ok()?.cars() != road.cars() {
+            return Some(false);
+        }
+        road = road_after(alloc, sheet.plan(), run, step, &road)?;
+    }
+    Some(true)
+}
+
+/// Tells whether a sheet shows all rows of a run, and its cars.
 pub(crate) fn shows_run(alloc: Global, sheet: &Sheet, run: Run) -> bool {
     for step in 0..=run.to {
         if !shows(alloc, sheet, &[(step, row_of_run(run, step))]) {
             return false;
         }
     }
-    sheet.horizon() == run.to
+    sheet.horizon() == run.to && has_cars_of_run(alloc, sheet, run) == Some(true)
 }
 
 /// Tells whether a sheet shows these rows.
 pub(crate) fn shows(alloc: Global, sheet: &Sheet, rows: &[Row]) -> bool {
     for (step, wanted) in rows {
-        let agrees = match row_again(alloc, sheet, *step) {
+        let agrees = match row(alloc, sheet, *step) {
             Ok(row) => row.as_str() == *wanted,
             Err(_) => false,
         };
@@ -153,11 +169,7 @@ fn shows_cars<J: Naming, R: Wait + Drop>(
         Ok(wanted) => (wanted, Ok(true)),
         Err(fault) => (&[], Err(fault)),
     };
-    let mut answer = has_cars(alloc, shared, session, cars.0, wanted);
-    if answer == Err(WANT) {
-        answer = has_cars(alloc, shared, session, cars.0, wanted);
-    }
-    answer == told
+    has_cars(alloc, shared, session, cars.0, wanted) == told
 }
 
 // Returns what a session is answered that asks for a count.
@@ -180,11 +192,7 @@ fn shows_count<J: Naming, R: Wait + Drop>(
     count: Count,
 ) -> bool {
     let (asked, wanted) = count;
-    let mut answer = counted(alloc, shared, session, asked);
-    if answer == Err(WANT) {
-        answer = counted(alloc, shared, session, asked);
-    }
-    answer == wanted
+    counted(alloc, shared, session, asked) == wanted
 }
 
 /// Tells whether a session that asks for the cars of some steps is answered so.

@@ -29,19 +29,11 @@ pub(crate) fn opened_for<R: Wait + Drop>(
     prepare(rt, alloc, plan, number % 64, sessions, limit)
 }
 
-// Tells whether a store goes as its script says; nothing where it could not be opened.
-fn opens<R: Wait + Drop + Copy>(rt: R, alloc: Global, script: &Script) -> Option<bool> {
+// Tells whether a store goes as its script says.
+fn runs<R: Wait + Drop + Copy>(rt: R, alloc: Global, script: &Script) -> bool {
     match opened_for(rt, alloc, script.number, script.sessions, script.limit) {
         Ok(prepared) => goes::<Brand, R, R>(&rt, alloc, prepared, script),
-        Err(_) => None,
-    }
-}
-
-// Opens it again where there was no memory.
-fn runs<R: Wait + Drop + Copy>(rt: R, alloc: Global, script: &Script) -> bool {
-    match opens(rt, alloc, script) {
-        Some(well) => well,
-        None => opens(rt, alloc, script) == Some(true),
+        Err(_) => false,
     }
 }
 

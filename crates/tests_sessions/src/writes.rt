@@ -21,9 +21,6 @@ pub(crate) enum Write {
 /// What a write is answered: its place in the journal and the reply.
 pub(crate) type Answer = Result<(u64, Reply), WriteFault>;
 
-/// Out of memory in a write.
-pub(crate) const WANT: WriteFault = WriteFault::Replica(ReplicaFault::OutOfMemory);
-
 // Takes edits by a session.
 fn took<J: Naming, R: Wait + Drop, W: Wait, C: Crew>(
     rt: &W,
@@ -36,7 +33,7 @@ fn took<J: Naming, R: Wait + Drop, W: Wait, C: Crew>(
 ) -> Result<Wrote<J>, WriteFault> {
     match Scenario::of_edits(alloc, edits) {
         Ok(edits) => session.take(rt, shared, &edits, crew, meter),
-        Err(_) => Err(WANT),
+        Err(fault) => Err(WriteFault::Replica(ReplicaFault::from(fault))),
     }
 }
 
@@ -62,8 +59,8 @@ pub(crate) fn wrote_by<J: Naming, R: Wait + Drop, W: Wait, C: Crew>(
     }
 }
 
-// Writes by a session alone.
-fn wrote<J: Naming, R: Wait + Drop, W: Wait>(
+/// Writes by a session alone.
+pub(crate) fn written<J: Naming, R: Wait + Drop, W: Wait>(
     rt: &W,
     alloc: Global,
     shared: &Shared<J, R>,
@@ -79,32 +76,6 @@ fn wrote<J: Naming, R: Wait + Drop, W: Wait>(
         &mut Alone,
         &mut Meter::new(),
     )
-}
-
-// Returns the horizon that a session is shown, and the greatest count among its edits.
-fn shown<J: Naming, R: Wait + Drop>(
-    shared: &Shared<J, R>,
-    session: &mut Session<J>,
-) -> Option<(u32, u64)> {
-    match session.look(shared) {
-        Ok(sheet) => Some((sheet.horizon(), sheet.scenario().greatest_count())),
-        Err(_) => None,
-    }
-}
-
-/// Lets a session write. Where there is no memory, and it is shown what it was shown before, it writes again.
-pub(crate) fn written<J: Naming, R: Wait + Drop, W: Wait>(
-    rt: &W,
-    alloc: Global,
-    shared: &Shared<J, R>,
-    session: &mut Session<J>,
-    write: &Write,
-) -> Result<Wrote<J>, WriteFault> {
-    let before = shown(shared, session);
-    match wrote(rt, alloc, shared, session, write) {
-        Err(WANT) if shown(shared, session) == before => wrote(rt, alloc, shared, session, write),
-        answer => answer,
-    }
 }
 
 /// Returns what a write was answered, and its receipt.

@@ -1,6 +1,6 @@
 //! The free road: worked rows, cars and counts, and how many steps each growth of its sheets computes.
 
-use crate::sheets::{Trial, grow, opening};
+use crate::sheets::{Trial, grow, grow_by_runs, opening};
 use road_cells::Car;
 use road_plan::Object;
 use road_scenario::{Edit, Stamp, Value};
@@ -110,26 +110,40 @@ const LATE: &[&[Growth]] = &[
     pairs![(&[edit!(LIMIT, 130, (1, 0), 1)], 0) => (Some(130), 0), (&[], 200) => (None, 70)],
 ];
 
+/// Who computes the steps of a growth, and counts them.
+#[derive(Clone, Copy)]
+enum Way {
+    /// A crew that is asked for the speeds of each step.
+    StepByStep,
+    /// One who runs many steps at once.
+    ByRuns,
+}
+
+const WAYS: [Way; 2] = [Way::StepByStep, Way::ByRuns];
+
 // Returns the sheet that a growth leaves, where it touches that step, and the meter and the crew count those steps.
-fn grown_by(alloc: Global, sheet: &Sheet, growth: &Growth) -> Result<Sheet, Fail> {
-    let ((edits, to), (wanted, counted)) = *growth;
-    let Trial {
-        sheet,
-        touched,
-        steps,
-        calls,
-    } = grow(alloc, sheet, edits, to)?;
-    if (touched, steps, calls) == (wanted, counted, counted) {
-        Ok(sheet)
+fn grown_by(alloc: Global, sheet: &Sheet, way: Way, growth: &Growth) -> Result<Sheet, Fail> {
+    let ((edits, to), wanted) = *growth;
+    let trial = match way {
+        Way::StepByStep => grow(alloc, sheet, edits, to)?,
+        Way::ByRuns => grow_by_runs(alloc, sheet, edits, to)?,
+    };
+    accepted(trial, wanted)
+}
+
+// Returns the sheet of a trial that touches this step, and takes so many steps.
+fn accepted(trial: Trial, (touched, steps): (Option<u32>, u64)) -> Result<Sheet, Fail> {
+    if (trial.touched, trial.steps, trial.counted) == (touched, steps, steps) {
+        Ok(trial.sheet)
     } else {
         Err(Fail::new("another step is touched, or other steps are counted"))
     }
 }
 
 // Returns the sheet that has grown so.
-fn grown_so(alloc: Global, mut sheet: Sheet, growths: &[Growth]) -> Result<Sheet, Fail> {
+fn grown_so(alloc: Global, mut sheet: Sheet, way: Way, growths: &[Growth]) -> Result<Sheet, Fail> {
     for growth in growths {
-        sheet = grown_by(alloc, &sheet, growth)?;
+        sheet = grown_by(alloc, &sheet, way, growth)?;
     }
     Ok(sheet)
 }
@@ -178,31 +192,44 @@ fn sheet_agrees(alloc: Global, sheet: &Sheet, example: &Example) -> Result<bool,
 }
 
 // Tells whether a sheet grows and shows what an example says.
-fn example_agrees(alloc: Global, example: &Example) -> Result<bool, Fail> {
-    let sheet = grown_so(alloc, opening(alloc, &FREE)?, example.growths)?;
+fn example_agrees(alloc: Global, way: Way, example: &Example) -> Result<bool, Fail> {
+    let sheet = grown_so(alloc, opening(alloc, &FREE)?, way, example.growths)?;
     sheet_agrees(alloc, &sheet, example)
 }
 
 #[test]
 fn sheets_of_the_free_road(rt: HostRuntime) -> Result<(), Fail> {
     for (place, example) in EXAMPLES.iter().enumerate() {
-        assert!(rt; example_agrees(rt.alloc(), example)?, "example {place}");
+        for way in WAYS {
+            assert!(rt;
+                example_agrees(rt.alloc(), way, example)?,
+                "example {place}"
+            );
+        }
     }
+    Ok(())
+}
+
+// Lets a sheet grow to step 130, and then so.
+fn grow_late(alloc: Global, way: Way, growths: &[Growth]) -> Result<(), Fail> {
+    let opening = opening(alloc, &FREE)?;
+    let run = grown_by(alloc, &opening, way, &((&[], 130), (None, 130)))?;
+    let _ = grown_so(alloc, run, way, growths)?;
     Ok(())
 }
 
 #[test]
 fn late_limits_compute_from_their_interval_on(rt: HostRuntime) -> Result<(), Fail> {
     for growths in LATE {
-        let sheet = opening(rt.alloc(), &FREE)?;
-        let run = grown_by(rt.alloc(), &sheet, &((&[], 130), (None, 130)))?;
-        let _ = grown_so(rt.alloc(), run, growths)?;
+        for way in WAYS {
+            grow_late(rt.alloc(), way, growths)?;
+        }
     }
     Ok(())
 }
 
 #[test]
 fn a_sheet_of_the_longest_run(rt: HostRuntime) -> Result<(), Fail> {
-    assert!(rt; example_agrees(rt.alloc(), &CLOSED)?);
+    assert!(rt; example_agrees(rt.alloc(), Way::StepByStep, &CLOSED)?);
     Ok(())
 }

@@ -1,14 +1,11 @@
 //! Messages that are made already: posted for their event, they are what the event would have made.
 
-ghost use Rattle.std.specs.Prelude.{◌≡◌, true};
-ghost use Rattle.road_world.specs.Events.{makes_message};
-
 use crate::worlds::{Answer, holds};
 use road_ends::Meter;
 use road_replica::Reply;
 use road_scenario::{Edit, Stamp, Value};
 use road_workers::Alone;
-use road_world::{Event, Message, World, WorldFault};
+use road_world::{Event, Message, Sending, World, WorldFault};
 use std::alloc::Global;
 use std::sync::Arc;
 use std::test::Fail;
@@ -27,15 +24,13 @@ fn opened(alloc: Global) -> Result<World, Fail> {
     Ok(world)
 }
 
-// Makes the message of an event, looks whether it has edits, and posts it; its number.
-fn post(alloc: Global, world: &mut World, event: &Event, has_edits: bool) -> Result<u64, Fail>
-    requires { makes_message event.now ≡ true }
-{
-    let message = world.message_by(alloc, event)?;
-    if has_edits == matches!(&message, Message::Asked(_)) {
+// Makes a message of a replica, looks whether it has edits, and posts it; its number.
+fn post(alloc: Global, world: &mut World, at: u32, sending: Sending) -> Result<u64, Fail> {
+    let message = world.message_by(alloc, at, sending)?;
+    if matches!(sending, Sending::Asked) != matches!(&message, Message::Asked(_)) {
         return Err(Fail::new("another message"));
     }
-    Ok(world.post(event, message)?)
+    Ok(world.post(&sending.event(at), message)?)
 }
 
 /// Replicas that take these messages, and what that is answered: the first are heads.
@@ -50,13 +45,12 @@ fn a_posted_message_is_that_of_its_event(rt: HostRuntime) -> Result<(), Fail> {
     let alloc = rt.alloc();
     let mut world = opened(alloc)?;
     let mut meter = Meter::new();
-    let heads = Event::Heads { at: 1 };
-    let answer = Event::Beyond { at: 0, message: 0 };
-    let no_heads = Event::Beyond { at: 0, message: 1 };
-    assert_eq!(&rt; post(alloc, &mut world, &heads, false)?, 0);
-    assert_eq!(&rt; post(alloc, &mut world, &answer, true)?, 1);
-    assert_eq!(&rt; post(alloc, &mut world, &Event::Send { at: 0 }, true)?, 2);
-    let refused = world.message_by(alloc, &no_heads).err();
+    assert!(&rt; post(alloc, &mut world, 1, Sending::Asked)? == 0);
+    assert!(&rt; post(alloc, &mut world, 0, Sending::Answer { asked: 0 })? == 1);
+    assert!(&rt; post(alloc, &mut world, 0, Sending::Whole)? == 2);
+    let refused = world
+        .message_by(alloc, 0, Sending::Answer { asked: 1 })
+        .err();
     assert!(&rt; refused == Some(WorldFault::NoMessage));
     for (at, message, answer) in TAKEN {
         let event = event!(take(*at, *message));

@@ -1,21 +1,24 @@
--- A run under way by its columns.
-use Rattle.std.specs.Prelude.{◌≡◌, ℕ, ◌+◌, ◌≤◌, Bool, true, List, length}
+-- A run under way by its parts.
+use Rattle.std.specs.Prelude.{◌≡◌, ℕ, ◌*◌, ◌/◌, ◌%◌, ◌≤◌, List, true, false, length}
 use Rattle.std.specs.Arc.{arc_value}
 use Rattle.road_plan.specs.Plan.{IsWithinLimits, Plan}
-use Rattle.road_plan.specs.Settings.{Fits, Settings}
+use Rattle.road_plan.specs.Settings.{Fits}
 use Rattle.road_plan.specs.declared.limits.TheConstants.{GREATEST_HORIZON}
 use Rattle.road_words.specs.Words.{word}
-use Rattle.road_detector.specs.declared.counts.Totals.{Totals}
 use Rattle.road_columns.specs.UnderWay.{UnderWay}
+use Rattle.road_columns.specs.Private.Cars.{road_of}
+use Rattle.road_columns.specs.Private.Counts.{AreCounts, totals_in}
 use Rattle.road_columns.specs.Private.Drawn.{drawn_word}
 use Rattle.road_columns.specs.Private.Entering.{ArePlacesFrom}
-use Rattle.road_columns.specs.Private.Held.{StandOn, road_in}
-use Rattle.road_columns.specs.Private.Spans.{AreCounts, HaveRoom, HaveSpan, totals_in}
+use Rattle.road_columns.specs.Private.Held.{StandOn}
+use Rattle.road_columns.specs.Private.Interval.{HaveIntervalWords, HaveRoom}
+use Rattle.road_columns.specs.Private.Regions.{AreFree}
 use Rattle.road_columns.specs.Private.Step.{AreCarsInColumn, AreRegionsOf, AreSitesOf}
-use Rattle.road_columns.specs.declared.regions.Region.{Region}
-use Rattle.road_columns.specs.declared.step.Extent.{Extent}
+use Rattle.road_columns.specs.declared.cars.CarColumns.{CarColumns}
+use Rattle.road_columns.specs.declared.counts.Counts.{Counts}
+use Rattle.road_columns.specs.declared.interval.IntervalWords.{IntervalWords}
+use Rattle.road_columns.specs.declared.layout.Layout.{Layout}
 use Rattle.road_columns.specs.declared.under_way.UnderWay.TheInside.{Inside}
-use Rattle.road_columns.specs.declared.words.Source.{Source}
 
 -- what it is
 abbrev pub run_of : Inside → UnderWay
@@ -25,33 +28,50 @@ run_of x = record {
   step = x.step;
   lo = x.stretch.first;
   hi = x.stretch.end;
-  road = road_in x.cells.items x.speeds.items x.numbers.items x.extent.head x.extent.tail;
-  totals = totals_in x.passes.items x.totals.items;
+  road = road_of x.cars;
+  totals = totals_in x.counts.passes.items x.counts.totals.items;
 }
 
--- the parts of a run agree: columns hold its road, on the cells from lo to before hi, and what is kept beside them is
--- right before its step; the words of its span are there where `drawn`
-pub record AreRunning (p : Plan) (s : Settings) (t lo hi : ℕ) (source : Source) (drawn : Bool) (extent : Extent)
-    (cells speeds numbers rows beside : List ℕ) (batches inlets : List (List ℕ)) (high16s : List ℕ)
-    (regions : List Region) (sites places passes : List ℕ) (totals : List Totals) : Type 0 where
+-- a layout's regions and sites are those of its plan under its settings
+pub record IsLayout (g : Layout) : Type 0 where
+  pub within : IsWithinLimits g.plan.now
+  pub fits : Fits g.plan.now g.settings.now
+  pub regions_are : AreRegionsOf g.plan.now g.settings.now g.regions.now
+  pub slowing_is : g.slowing ≡ false → AreFree g.regions.now
+  pub sites_are : AreSitesOf g.plan.now g.regions.now g.sites.now
+
+-- cars stand in columns, and the kept places of sites are right; there is memory for the words of an interval
+pub record AreStanding (p : Plan) (sites : List ℕ) (cars : CarColumns) (words : IntervalWords) : Type 0 where
+  pub source_is : (stream place : ℕ) → drawn_word words.source stream place ≡ word p.words stream place
+  pub room : HaveRoom p cars words
+  pub from : 8 ≤ cars.head
+  pub cars_are : AreCarsInColumn p cars.head cars.tail cars.cells.items
+  pub places_are : ArePlacesFrom cars.cells.items cars.head cars.tail sites cars.places.items
+
+-- they are ready at step k of the interval from step `first` on, once n inlets have had their turn: the words are
+-- there, those of the cars where any is slowed
+pub record AreReady (g : Layout) (first k n : ℕ) (cars : CarColumns) (words : IntervalWords) : Type 0 where
+  pub layout : IsLayout g
+  pub standing : AreStanding g.plan.now g.sites.now cars words
+  pub words_are : HaveIntervalWords g.plan.now first k n cars words
+  pub free : words.worded ≡ false → AreFree g.regions.now
+
+-- the parts of a run agree before step t, on the cells from lo to before hi
+pub record AreRunning (p : Plan) (sites : List ℕ) (t lo hi : ℕ) (cars : CarColumns) (words : IntervalWords)
+    (counts : Counts) : Type 0 where
   pub up_to : t ≤ GREATEST_HORIZON
-  pub within : IsWithinLimits p
-  pub fits : Fits p s
   pub on_road : hi ≤ p.cells
-  pub source_is : (stream place : ℕ) → drawn_word source stream place ≡ word p.words stream place
-  pub room : HaveRoom p cells speeds numbers rows beside batches inlets high16s
-  pub regions_are : AreRegionsOf p s regions
-  pub sites_are : AreSitesOf p regions sites
-  pub places_are : ArePlacesFrom cells extent.head extent.tail sites places
-  pub from : 8 ≤ extent.head
-  pub cars : AreCarsInColumn p extent.head extent.tail cells
-  pub stand : StandOn lo hi (road_in cells speeds numbers extent.head extent.tail)
-  pub counts : AreCounts (length p.detectors) t passes totals
-  pub span : drawn ≡ true → HaveSpan p t (length cells + 8) extent.head extent.tail extent.entered extent.worded cells
-      numbers rows beside batches inlets
+  pub standing : AreStanding p sites cars words
+  pub stand : StandOn lo hi (road_of cars)
+  pub counts_are : AreCounts (length p.detectors) t counts.passes.items counts.totals.items
+  pub words_are : words.drawn ≡ true → HaveIntervalWords p (64 * (t / 64)) (t % 64) 0 cars words
 
 -- the parts of this one
-abbrev pub IsRunning : Inside → Type 0
-IsRunning x = AreRunning (arc_value x.plan) (arc_value x.settings) x.step x.stretch.first x.stretch.end x.source x.drawn
-    x.extent x.cells.items x.speeds.items x.numbers.items x.rows.items x.beside.items x.batches.items x.inlets.items
-    x.high16s.items x.regions.items x.sites.items x.places.items x.passes.items x.totals.items
+pub record IsRunning (x : Inside) : Type 0 where
+  pub within : IsWithinLimits (arc_value x.plan)
+  pub fits : Fits (arc_value x.plan) (arc_value x.settings)
+  pub regions_are : AreRegionsOf (arc_value x.plan) (arc_value x.settings) x.kept.regions.items
+  pub slowing_is : x.kept.slowing ≡ false → AreFree x.kept.regions.items
+  pub sites_are : AreSitesOf (arc_value x.plan) x.kept.regions.items x.kept.sites.items
+  pub running : AreRunning (arc_value x.plan) x.kept.sites.items x.step x.stretch.first x.stretch.end x.cars x.words
+      x.counts

@@ -1,6 +1,6 @@
 //! A span, run by the workers of a pool, a stretch of road each; the caller runs one more where it has a processor.
 
-ghost use Rattle.std.specs.Prelude.{◌≡◌, ◌<◌, ◌≤◌, length, vec_len, IfOk, IfSome, IsOk, IsSome, OnOk};
+ghost use Rattle.std.specs.Prelude.{◌≡◌, ◌+◌, ◌<◌, ◌≤◌, length, vec_len, IfOk, IfSome, IsOk, IsSome, OnOk};
 ghost use Rattle.road_plan.specs.declared.limits.TheConstants.{GREATEST_LENGTH, MOST_WORKERS};
 ghost use Rattle.road_cells.specs.Cars.{cars_of};
 ghost use Rattle.road_ends.specs.Span.{span_road};
@@ -15,13 +15,13 @@ use crate::kept_run::KeptRun;
 use crate::pool::job::{Done, Job, Reply, StretchAnswer, StretchJob};
 use crate::pool::messages::{next_done, sent};
 use crate::pool::places::{are_there, places_for};
-use crate::pool::sharing::is_shared;
+use crate::pool::sharing::{Shares, is_shared};
 use crate::pool::side_by_side::{is_run_taken, put_side_by_side};
 use crate::pool::spin::Lookout;
 use crate::pool::{Pool, Worker};
-use crate::stretch::joining::{nothing_run, road_of};
+use crate::stretch::joining::{nothing_run, ran_of};
 use crate::stretch::{StretchRun, road_near, run_stretch, stretch_at};
-use crate::whole::run_whole;
+use crate::whole::run_alone;
 use crossbeam_channel::{Receiver, Sender};
 use road_cells::Road;
 use road_columns::is_runnable;
@@ -51,7 +51,7 @@ impl<R: Wait> Pool<R> {
         let workers = self.workers.len() as u32;
         let own = u32::from(workers < self.processors);
         if workers > self.processors || !is_shared(cars, cells, span.steps(), own + workers) {
-            return Ok(run_whole(alloc, span, road, kept)?);
+            return Ok(run_alone(alloc, span, road, kept)?);
         }
         let whole = Stretch {
             first: 0,
@@ -60,89 +60,60 @@ impl<R: Wait> Pool<R> {
         if !is_runnable(span.plan(), whole, road) {
             return Ok(None);
         }
-        Ok(Some(self.run_by_stretches(alloc, span, road, own, kept)?))
+        let shares = Shares { span, road, own };
+        let run = self.run_side_by_side(alloc, shares, kept)?;
+        Ok(Some(ran_of(span, road, cells, run)))
     }
 
-    // Runs a span by a stretch for each worker, and one for the caller where it helps.
-    fn run_by_stretches(
+    // Runs a span by the stretches of all workers, and the caller's own.
+    #[tactic(auto, using(crate::proofs::OneMore::missing_right))]
+    fn run_side_by_side(
         &mut self,
         alloc: Global,
-        span: &Span,
-        road: &Road,
-        own: u32,
+        shares: Shares,
         kept: &mut KeptRun,
-    ) -> Result<Ran, CrewFault>
-        requires own { own ≤ 1 }
-        requires some { 0 < span.now.steps }
-        requires runnable { IsRunnable 0 span.now.plan.cells span.now.plan road.now }
-        ensures road { IfOk result (λ ran. ran.road ≡ span_road span.now road.now) }
-        ensures totals { IfOk result (λ ran. ran.totals.items ≡ span_totals span.now road.now) }
+    ) -> Result<StretchRun, CrewFault>
+        requires own { shares.own ≤ 1 }
+        requires runnable { IsRunnable 0 shares.span.now.plan.cells shares.span.now.plan shares.road.now }
+        ensures run { IfOk result
+            (IsRunOf 0 shares.entry.span.now.plan.cells shares.entry.span.now shares.entry.road.now) }
         ensures unchanged { self.new ≡ self.old }
     {
         let workers = self.workers.as_slice();
-        let whole = whole_run(
+        let mut places = places_for(alloc, workers.len() as u32)?;
+        let (jobs, all) = send_stretches(&self.rt, alloc, shares, workers);
+        let front = own_run(alloc, shares, workers.len() as u32, kept);
+        take_stretches(
             &self.rt,
-            alloc,
-            span,
-            road,
-            own,
-            workers,
             &self.replies,
             &mut self.lookout,
-            kept,
+            &mut places,
+            jobs,
+            shares,
         )?;
-        Ok(road_of(span, road, span.plan().length(), whole))
+        all?;
+        Ok(put_side_by_side(shares, front, places)?)
     }
-}
-
-// Runs a span by a stretch for each worker, behind the caller's own where it has one.
-#[tactic(auto, using(crate::proofs::OneMore::missing_right))]
-fn whole_run<R: Wait>(
-    rt: &R,
-    alloc: Global,
-    span: &Span,
-    road: &Road,
-    own: u32,
-    workers: &[Worker],
-    replies: &Receiver<Reply>,
-    lookout: &mut Lookout,
-    kept: &mut KeptRun,
-) -> Result<StretchRun, CrewFault>
-    requires own { own ≤ 1 }
-    requires some { 0 < length workers.now }
-    requires few { length workers.now ≤ MOST_WORKERS }
-    requires runnable { IsRunnable 0 span.now.plan.cells span.now.plan road.now }
-    ensures { IfOk result (IsRunOf 0 span.now.plan.cells span.now road.now) }
-{
-    let count = workers.len() as u32;
-    let mut places = places_for(alloc, count)?;
-    let (jobs, all) = send_stretches(rt, alloc, span, road, own, workers);
-    let front = own_run(alloc, span, road, own, own + count, kept);
-    take_stretches(rt, replies, lookout, &mut places, jobs, span, road, own)?;
-    all?;
-    Ok(put_side_by_side(span, road, own, front, places)?)
 }
 
 // Sends each worker its stretch, up to the first that is refused. Returns how many were sent, and whether it was all.
 fn send_stretches<R: Wait>(
     rt: &R,
     alloc: Global,
-    span: &Span,
-    road: &Road,
-    own: u32,
+    shares: Shares,
     workers: &[Worker],
 ) -> (u32, Result<(), CrewFault>)
-    requires own { own ≤ 1 }
+    requires own { shares.own ≤ 1 }
     requires few { length workers.now ≤ MOST_WORKERS }
-    requires runnable { IsRunnable 0 span.now.plan.cells span.now.plan road.now }
+    requires runnable { IsRunnable 0 shares.span.now.plan.cells shares.span.now.plan shares.road.now }
     ensures sent { result.0 ≤ length workers.now }
     ensures all { IsOk result.1 → result.0 ≡ length workers.now }
 {
     let count = workers.len() as u32;
     for worker in 0..count {
-        let stretch = stretch_at(road, span.plan().length(), own + count, own + worker);
+        let stretch = shares.stretch_of(count, worker);
         let jobs = &workers[worker as usize].jobs;
-        if let Err(fault) = send_stretch(rt, alloc, span, road, stretch, jobs) {
+        if let Err(fault) = send_stretch(rt, alloc, shares.span, shares.road, stretch, jobs) {
             return (worker, Err(fault));
         }
     }
@@ -166,25 +137,21 @@ fn send_stretch<R: Wait>(
     sent(jobs.send(rt, Job::Stretch(job)))
 }
 
-// Runs the caller's stretch, the first of so many, in the run that is lent to it. Where it has none, that is nothing.
-fn own_run(
-    alloc: Global,
-    span: &Span,
-    road: &Road,
-    own: u32,
-    count: u32,
-    kept: &mut KeptRun,
-) -> StretchAnswer
-    requires own { own ≤ 1 }
-    requires count { own < count }
-    requires runnable { IsRunnable 0 span.now.plan.cells span.now.plan road.now }
-    ensures { IfOk result
-        (IsRunOf 0 (cut span.now.plan.cells (cars_of road.now) count own) span.now road.now) }
+// Runs the caller's stretch, in front of those of so many workers, in the run that is lent to it. Where it has none, that
+// is nothing.
+fn own_run(alloc: Global, shares: Shares, workers: u32, kept: &mut KeptRun) -> StretchAnswer
+    requires own { shares.own ≤ 1 }
+    requires some { 0 < workers }
+    requires few { workers ≤ MOST_WORKERS }
+    requires runnable { IsRunnable 0 shares.span.now.plan.cells shares.span.now.plan shares.road.now }
+    ensures { IfOk result (IsRunOf 0 (cut shares.entry.span.now.plan.cells (cars_of shares.entry.road.now)
+        (shares.entry.own + workers) shares.entry.own) shares.entry.span.now shares.entry.road.now) }
 {
+    let Shares { span, road, own } = shares;
     if own == 0 {
         return nothing_run(alloc, span);
     }
-    let first = stretch_at(road, span.plan().length(), count, 0);
+    let first = stretch_at(road, span.plan().length(), own + workers, 0);
     run_stretch(alloc, span, road, first, kept)
 }
 
@@ -195,24 +162,22 @@ fn take_stretches<R: Wait>(
     lookout: &mut Lookout,
     places: &mut Vec<Option<StretchAnswer>>,
     workers: u32,
-    span: &Span,
-    road: &Road,
-    own: u32,
+    shares: Shares,
 ) -> Result<(), CrewFault>
     requires few { vec_len places.old ≤ MOST_WORKERS }
     requires workers { workers ≤ vec_len places.old }
-    requires own { own ≤ 1 }
-    requires gathered { AreRun span.now road.now own places.old.items }
+    requires own { shares.own ≤ 1 }
+    requires gathered { AreRun shares.span.now shares.road.now shares.own places.old.items }
     ensures there { OnOk result (AreThere workers places.new.items) }
     ensures count { vec_len places.new ≡ vec_len places.old }
-    ensures gathered { AreRun span.now road.now own places.new.items }
+    ensures gathered { AreRun shares.entry.span.now shares.entry.road.now shares.entry.own places.new.items }
 {
     for _ in rt.forever() {
         if are_there(places.as_slice(), workers) {
             return Ok(());
         }
         if let Done::Stretch(done) = next_done(rt, replies, lookout)? {
-            is_run_taken(places, done, span, road, own);
+            is_run_taken(places, done, shares);
         }
     }
     unreachable!()

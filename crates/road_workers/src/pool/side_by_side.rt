@@ -7,33 +7,32 @@ ghost use Rattle.road_workers.specs.Private.Gathered.{AreRun, AreThere, IsMissin
 ghost use Rattle.road_workers.specs.Private.Stretches.{IsRunOf, cut};
 
 use crate::pool::job::{StretchAnswer, StretchDone};
+use crate::pool::sharing::Shares;
 use crate::stretch::joining::beside;
 use crate::stretch::{is_near, stretch_at};
 use road_cells::Road;
 use road_ends::{Span, Stretch};
 use road_plan::limits::GREATEST_HORIZON;
 
-// Takes what a stretch of this span comes to where it is still missing: it drops doubles and strangers. The caller runs so
-// many stretches itself, the first ones. Answers whether it took it; all other places stay as they were.
+// Takes what a stretch of this span comes to where it is still missing: it drops doubles and strangers. Answers whether it
+// took it; all other places stay as they were.
 pub(super) fn is_run_taken(
     places: &mut Vec<Option<StretchAnswer>>,
     done: StretchDone,
-    span: &Span,
-    road: &Road,
-    own: u32,
+    shares: Shares,
 ) -> bool
     requires few { vec_len places.old ≤ MOST_WORKERS }
-    requires own { own ≤ 1 }
-    requires gathered { AreRun span.now road.now own places.old.items }
+    requires own { shares.own ≤ 1 }
+    requires gathered { AreRun shares.span.now shares.road.now shares.own places.old.items }
     ensures taken { IsTrue result → TakesOne places.old.items done.answer places.new.items }
     ensures dropped { IsFalse result → places.new ≡ places.old }
     ensures count { vec_len places.new ≡ vec_len places.old }
-    ensures gathered { AreRun span.now road.now own places.new.items }
+    ensures gathered { AreRun shares.entry.span.now shares.entry.road.now shares.entry.own places.new.items }
 {
-    let Some(place) = missing_stretch(places.as_slice(), done.stretch, span, road, own) else {
+    let Some(place) = missing_stretch(places.as_slice(), done.stretch, shares) else {
         return false;
     };
-    if !is_asked(&done, span, road) {
+    if !is_asked(&done, shares.span, shares.road) {
         return false;
     }
     let StretchDone { answer, .. } = done;
@@ -45,25 +44,23 @@ pub(super) fn is_run_taken(
 fn missing_stretch(
     places: &[Option<StretchAnswer>],
     stretch: Stretch,
-    span: &Span,
-    road: &Road,
-    own: u32,
+    shares: Shares,
 ) -> Option<usize>
     requires few { length places.now ≤ MOST_WORKERS }
-    requires own { own ≤ 1 }
+    requires own { shares.own ≤ 1 }
     ensures missing { IfSome result (IsMissing places.now) }
-    ensures first { IfSome result
-        (λ w. stretch.first ≡ cut span.now.plan.cells (cars_of road.now) (own + length places.now) (own + w)) }
-    ensures end { IfSome result
-        (λ w. stretch.end ≡ cut span.now.plan.cells (cars_of road.now) (own + length places.now) (own + w + 1)) }
+    ensures first { IfSome result (λ w. stretch.first
+        ≡ cut shares.entry.span.now.plan.cells (cars_of shares.entry.road.now)
+        (shares.entry.own + length places.now) (shares.entry.own + w)) }
+    ensures end { IfSome result (λ w. stretch.end
+        ≡ cut shares.entry.span.now.plan.cells (cars_of shares.entry.road.now)
+        (shares.entry.own + length places.now) (shares.entry.own + w + 1)) }
     ensures order { IfSome result (λ _. stretch.first ≤ stretch.end) }
     ensures short { IfSome result (λ _. stretch.end ≤ GREATEST_LENGTH) }
 {
-    let (cells, workers) = (span.plan().length(), places.len() as u32);
+    let workers = places.len() as u32;
     for worker in 0..workers {
-        if places[worker as usize].is_none()
-            && stretch_at(road, cells, own + workers, own + worker) == stretch
-        {
+        if places[worker as usize].is_none() && shares.stretch_of(workers, worker) == stretch {
             return Some(worker as usize);
         }
     }
@@ -83,23 +80,22 @@ fn is_asked(done: &StretchDone, span: &Span, road: &Road) -> bool
     is_near(&done.near, span, road, done.stretch)
 }
 
-// Puts what the stretches come to one behind the other, the caller's own, so many, in front.
+// Puts what the stretches come to one behind the other, the caller's own in front.
 pub(super) fn put_side_by_side(
-    span: &Span,
-    road: &Road,
-    own: u32,
+    shares: Shares,
     front: StretchAnswer,
     places: Vec<Option<StretchAnswer>>,
 ) -> StretchAnswer
     requires few { vec_len places ≤ MOST_WORKERS }
     requires some { 0 < vec_len places }
-    requires own { own ≤ 1 }
+    requires own { shares.own ≤ 1 }
     requires there { AreThere (vec_len places) places.items }
-    requires gathered { AreRun span.now road.now own places.items }
-    requires front { IfOk front
-        (IsRunOf 0 (cut span.now.plan.cells (cars_of road.now) (own + vec_len places) own) span.now road.now) }
-    ensures { IfOk result (IsRunOf 0 span.now.plan.cells span.now road.now) }
+    requires gathered { AreRun shares.span.now shares.road.now shares.own places.items }
+    requires front { IfOk front (IsRunOf 0 (cut shares.span.now.plan.cells (cars_of shares.road.now)
+        (shares.own + vec_len places) shares.own) shares.span.now shares.road.now) }
+    ensures { IfOk result (IsRunOf 0 shares.entry.span.now.plan.cells shares.entry.span.now shares.entry.road.now) }
 {
+    let Shares { span, road, own } = shares;
     let cells = span.plan().length();
     let count = own + places.len() as u32;
     let mut whole = front;

@@ -67,7 +67,7 @@ fn add(totals: &mut Vec<Totals>, others: &[Totals])
 }
 
 // Makes the road of what all its stretches come to, after a step at least.
-pub(crate) fn road_of(span: &Span, road: &Road, cells: u32, run: StretchRun) -> Ran
+pub(crate) fn ran_of(span: &Span, road: &Road, cells: u32, run: StretchRun) -> Ran
     requires some { 0 < span.now.steps }
     requires cells { cells ≡ span.now.plan.cells }
     requires within { IsWithinLimits span.now.plan }

@@ -1,7 +1,7 @@
 -- One total more.
 use Rattle.std.proofs.Common.{◌∙◌, ◌++◌, [], ◌∷◌, sym, arith}
 use Rattle.std.proofs.lemmas.List.FromFn.{map-range_with_len_more}
-use Rattle.road_columns.specs.Private.Spans.{total_in}
+use Rattle.road_columns.specs.Private.Counts.{total_in}
 use Rattle.road_columns.proofs.counts.totals_now.Goals as goal
 
 pub loop-detector-preserved : goal.loop-detector-preserved

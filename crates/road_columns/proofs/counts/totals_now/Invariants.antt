@@ -2,7 +2,7 @@
 use Rattle.std.proofs.Common.{◌≡◌}
 use Rattle.std.specs.Prelude.{map}
 use Rattle.std.specs.List.{range_with_len}
-use Rattle.road_columns.specs.Private.Spans.{total_in}
+use Rattle.road_columns.specs.Private.Counts.{total_in}
 use Rattle.road_columns.proofs.counts.totals_now.Given as goal
 
 -- the totals so far

@@ -9,5 +9,5 @@ use Rattle.road_columns.proofs.inlets.draw_inlets.Given as goal
 abbrev pub invariant-loop-inlet : goal.invariant-loop-inlet
 invariant-loop-inlet l = record {
   long : length l.batches ≡ length l.fn.batches;
-  words : (i r : ℕ) → i < l.inlet → r < 64 → high16_in l.batches i r ≡ drawn_word l.source (inlet_stream i) (64 * l.span + r) / 65536;
+  words : (i r : ℕ) → i < l.inlet → r < 64 → high16_in l.batches i r ≡ drawn_word l.source (inlet_stream i) (64 * l.interval + r) / 65536;
 }

@@ -7,7 +7,7 @@ use Rattle.road_columns.specs.Private.Motion.{chance_at}
 use Rattle.road_columns.specs.Private.Pieces.{ahead_at, wanted_at}
 use Rattle.road_columns.proofs.PieceWishes.{at_first, at_later, wish_alone, wish_behind, wish_first}
 use Rattle.road_columns.proofs.pieces.advance_between.Goals as goal
-use Rattle.road_columns.proofs.pieces.advance_between.Goals.{then-place-from, else-place-from}
+use Rattle.road_columns.proofs.pieces.advance_between.Goals.{then-place-piece, else-place-piece}
 
 falls_piece : (from front place end to : ℕ) (cells old : List ℕ) → ((q : ℕ) → from ≤ q → q < to → slice_index old q < ahead_at from front old q)
     → ((q : ℕ) → q < end → slice_index cells q ≡ slice_index old q) → from ≤ place → end ≤ to → (q : ℕ) → place + 1 ≤ q → q < end
@@ -31,7 +31,7 @@ advance_in-requires-clause-falling c q above below =
     let some = c.loop-car-test.true in
     let last = inv.last in
     let low = c.requires.low (c.loop-car.car - 1) (omega arith) (omega arith) in
-    falls_piece c.args.from c.args.front (slice_index c.args.beside.now (c.loop-car.car - 1)) c.loop-car.end c.args.to c.loop-car.cells c.args.cells.now c.requires.falling
+    falls_piece c.args.piece.from c.args.front (slice_index c.args.words.now.beside.now (c.loop-car.car - 1)) c.loop-car.end c.args.piece.to c.loop-car.cells c.args.cells.now c.requires.falling
     (λ k less. inv.cells_rest k (inl less)) low inv.to q above below
 
 pub advance_in-requires-in-loop-car-clause-falling : goal.advance_in-requires-in-loop-car-clause-falling
@@ -40,22 +40,22 @@ advance_in-requires-in-loop-car-clause-falling c q above below =
     let some = c.loop-car-test.true in
     let last = inv.last in
     let to = inv.to in
-    let place = slice_index c.args.beside.now (c.loop-car.car - 1) in
+    let place = slice_index c.args.words.now.beside.now (c.loop-car.car - 1) in
     let low = c.requires.low (c.loop-car.car - 1) (omega arith) (omega arith) in
     let high = inv.before (c.loop-car.car - 1) (omega arith) (omega arith) in
     let here = c.advance_in.ensures.other_cells q (inl below) ∙ inv.cells_rest q (inl (omega arith)) in
     let prior = c.advance_in.ensures.other_cells (q - 1) (inl (omega arith)) ∙ inv.cells_rest (q - 1) (inl (omega arith)) in
     let fall = c.requires.falling q (omega arith) (omega arith) in
-    let next = at_first place c.if-place-from.next q (slice_index c.advance_in.new.cells (q - 1)) (omega arith) in
-    elim c.if-place-from.branch [
-      | then-place-from w ↦
-          let more = w.if-place-from.true in
-          let later = at_later c.args.from c.args.front q (slice_index c.args.cells.now (q - 1)) (omega arith) in
-          let back : slice_index c.args.beside.now (c.loop-car.car - 1) - 1 ≡ q - 1 = omega arith in
+    let next = at_first place c.if-place-piece.next q (slice_index c.advance_in.new.cells (q - 1)) (omega arith) in
+    elim c.if-place-piece.branch [
+      | then-place-piece w ↦
+          let more = w.if-place-piece.true in
+          let later = at_later c.args.piece.from c.args.front q (slice_index c.args.cells.now (q - 1)) (omega arith) in
+          let back : slice_index c.args.words.now.beside.now (c.loop-car.car - 1) - 1 ≡ q - 1 = omega arith in
           let is = w.next-is ∙ ap (slice_index c.advance_in.new.cells) back in omega arith
-      | else-place-from w ↦
-          let less = w.if-place-from.false in
-          let first = at_first c.args.from c.args.front q (slice_index c.args.cells.now (q - 1)) (omega arith) in
+      | else-place-piece w ↦
+          let less = w.if-place-piece.false in
+          let first = at_first c.args.piece.from c.args.front q (slice_index c.args.cells.now (q - 1)) (omega arith) in
           let is = w.next-is in omega arith
     ]
 
@@ -66,7 +66,7 @@ loop-car-preserved c =
     let last = inv.last in
     let to = inv.to in
     let first = c.requires.cars in
-    let place = slice_index c.args.beside.now (c.loop-car.car - 1) in
+    let place = slice_index c.args.words.now.beside.now (c.loop-car.car - 1) in
     let low = c.requires.low (c.loop-car.car - 1) (omega arith) (omega arith) in
     let high = inv.before (c.loop-car.car - 1) (omega arith) (omega arith) in
     let one = c.advance_in.ensures in
@@ -79,8 +79,8 @@ loop-car-preserved c =
       as_many_cells = two.as_many_cells ∙ one.as_many_cells ∙ inv.as_many_cells;
       as_many_speeds = two.as_many_speeds ∙ one.as_many_speeds ∙ inv.as_many_speeds;
       before = λ i from less. c.requires.rising.rising i (c.loop-car.car - 1) less (omega arith);
-      after = λ i from less. elim (cases_eq i (c.loop-car.car - 1)) as (λ _. slice_index c.args.beside.now (c.loop-car.car - 1) ≤ slice_index c.args.beside.now i) [
-        | inl same ↦ let here = ap (slice_index c.args.beside.now) same in omega arith
+      after = λ i from less. elim (cases_eq i (c.loop-car.car - 1)) as (λ _. slice_index c.args.words.now.beside.now (c.loop-car.car - 1) ≤ slice_index c.args.words.now.beside.now i) [
+        | inl same ↦ let here = ap (slice_index c.args.words.now.beside.now) same in omega arith
         | inr other ↦ let later = inv.after i (omega arith) less in omega arith
       ];
       cells_rest = λ q away. elim away as (λ _. slice_index c.advance_in-in-loop-car.new.cells q ≡ slice_index c.args.cells.now q) [
@@ -110,29 +110,29 @@ loop-car-preserved c =
             ]
       ];
       speeds_done = λ q from below word right. elim (cases_lt place q) as (λ _. slice_index c.advance_in-in-loop-car.new.speeds q
-          ≡ slowed_speed (wanted_at c.args.from c.args.front c.args.chances.limit c.args.cells.now c.args.speeds.now q) (comes_about word (chance_at (slice_index c.args.speeds.now q) c.args.chances.standing c.args.chances.moving))) [
+          ≡ slowed_speed (wanted_at c.args.piece.from c.args.front c.args.chances.limit c.args.cells.now c.args.speeds.now q) (comes_about word (chance_at (slice_index c.args.speeds.now q) c.args.chances.standing c.args.chances.moving))) [
             | inr here ↦
                 let same : q ≡ place = omega arith in
-                let wish = wish_alone c.args.from c.args.front c.args.chances.limit (place + 1) c.advance_in.new.cells c.args.cells.now c.advance_in.new.speeds c.args.speeds.now
+                let wish = wish_alone c.args.piece.from c.args.front c.args.chances.limit (place + 1) c.advance_in.new.cells c.args.cells.now c.advance_in.new.speeds c.args.speeds.now
                 (λ k less. one.other_cells k (inl less) ∙ inv.cells_rest k (inl (omega arith))) (λ k less. one.other_speeds k (inl less) ∙ inv.speeds_rest k (inl (omega arith)))
-                place q c.if-place-from.next same (omega arith) (next_is q same) in
+                place q c.if-place-piece.next same (omega arith) (next_is q same) in
                 let speed = one.other_speeds q (inl (omega arith)) ∙ inv.speeds_rest q (inl (omega arith)) in
-                let at : c.args.index + (q - place) ≡ c.args.index = omega arith in
-                two.speeds q from (omega arith) word (λ moves. ap (slice_index (slice_index_or c.args.batches.now (c.loop-car.car - 1) [])) at ∙ (right (subst (λ n. 0 < n) wish moves)).own (c.loop-car.car - 1) (omega arith) (sym same))
+                let at : c.args.words.now.index + (q - place) ≡ c.args.words.now.index = omega arith in
+                two.speeds q from (omega arith) word (λ moves. ap (slice_index (slice_index_or c.args.words.now.batches.now (c.loop-car.car - 1) [])) at ∙ (right (subst (λ n. 0 < n) wish moves)).own (c.loop-car.car - 1) (omega arith) (sym same))
                 ∙ (λ i. slowed_speed (wish i) (comes_about word (chance_at (speed i) c.args.chances.standing c.args.chances.moving)))
             | inl after ↦
                 let kept = two.other_speeds q (inr (omega arith)) in
                 elim (cases_lt q c.loop-car.end) as (λ _. slice_index c.advance_in-in-loop-car.new.speeds q
-                ≡ slowed_speed (wanted_at c.args.from c.args.front c.args.chances.limit c.args.cells.now c.args.speeds.now q) (comes_about word (chance_at (slice_index c.args.speeds.now q) c.args.chances.standing c.args.chances.moving))) [
+                ≡ slowed_speed (wanted_at c.args.piece.from c.args.front c.args.chances.limit c.args.cells.now c.args.speeds.now q) (comes_about word (chance_at (slice_index c.args.speeds.now q) c.args.chances.standing c.args.chances.moving))) [
                   | inl inside ↦
-                      let wish = wish_behind c.args.from c.args.front c.args.chances.limit c.loop-car.end c.loop-car.cells c.args.cells.now c.loop-car.speeds c.args.speeds.now
+                      let wish = wish_behind c.args.piece.from c.args.front c.args.chances.limit c.loop-car.end c.loop-car.cells c.args.cells.now c.loop-car.speeds c.args.speeds.now
                       (λ k less. inv.cells_rest k (inl less)) (λ k less. inv.speeds_rest k (inl less)) place q low after inside in
                       let speed = inv.speeds_rest q (inl inside) in
                       let early = c.requires.places (c.loop-car.car - 1) (omega arith) in
                       let at : place + 1 - c.loop-car.car + (q - (place + 1)) ≡ q - c.loop-car.car = omega arith in
-                      kept ∙ one.speeds q (omega arith) inside word (λ moves. ap (slice_index c.args.row.now) at ∙ (right (subst (λ n. 0 < n) wish moves)).in_row c.loop-car.car last
-                      (λ i less. elim (cases_eq i (c.loop-car.car - 1)) as (λ _. slice_index c.args.beside.now i < q) [
-                        | inl same ↦ let is = ap (slice_index c.args.beside.now) same in omega arith
+                      kept ∙ one.speeds q (omega arith) inside word (λ moves. ap (slice_index c.args.words.now.row.now) at ∙ (right (subst (λ n. 0 < n) wish moves)).in_row c.loop-car.car last
+                      (λ i less. elim (cases_eq i (c.loop-car.car - 1)) as (λ _. slice_index c.args.words.now.beside.now i < q) [
+                        | inl same ↦ let is = ap (slice_index c.args.words.now.beside.now) same in omega arith
                         | inr other ↦ let rises = c.requires.rising.rising i (c.loop-car.car - 1) (omega arith) (omega arith) in omega arith
                       ])
                       (λ i from less. let later = inv.after i from less in omega arith))
@@ -142,22 +142,22 @@ loop-car-preserved c =
           ];
     }
   where
-    next_is : (q : ℕ) → q ≡ slice_index c.args.beside.now (c.loop-car.car - 1) → c.if-place-from.next ≡ ahead_at c.args.from c.args.front c.args.cells.now q
+    next_is : (q : ℕ) → q ≡ slice_index c.args.words.now.beside.now (c.loop-car.car - 1) → c.if-place-piece.next ≡ ahead_at c.args.piece.from c.args.front c.args.cells.now q
     next_is q same =
         let inv = c.loop-car.invariant in
         let some = c.loop-car-test.true in
         let last = inv.last in
         let high = inv.before (c.loop-car.car - 1) (omega arith) (omega arith) in
         let low = c.requires.low (c.loop-car.car - 1) (omega arith) (omega arith) in
-        elim c.if-place-from.branch [
-          | then-place-from w ↦
-              let more = w.if-place-from.true in
-              let back : slice_index c.args.beside.now (c.loop-car.car - 1) - 1 ≡ q - 1 = omega arith in
+        elim c.if-place-piece.branch [
+          | then-place-piece w ↦
+              let more = w.if-place-piece.true in
+              let back : slice_index c.args.words.now.beside.now (c.loop-car.car - 1) - 1 ≡ q - 1 = omega arith in
               w.next-is ∙ ap (slice_index c.advance_in.new.cells) back ∙ c.advance_in.ensures.other_cells (q - 1) (inl (omega arith)) ∙ inv.cells_rest (q - 1) (inl (omega arith))
-              ∙ sym (at_later c.args.from c.args.front q (slice_index c.args.cells.now (q - 1)) (omega arith))
-          | else-place-from w ↦
-              let less = w.if-place-from.false in
-              w.next-is ∙ sym (at_first c.args.from c.args.front q (slice_index c.args.cells.now (q - 1)) (omega arith))
+              ∙ sym (at_later c.args.piece.from c.args.front q (slice_index c.args.cells.now (q - 1)) (omega arith))
+          | else-place-piece w ↦
+              let less = w.if-place-piece.false in
+              w.next-is ∙ sym (at_first c.args.piece.from c.args.front q (slice_index c.args.cells.now (q - 1)) (omega arith))
         ]
 
 pub returns-clause-speeds : goal.returns-clause-speeds
@@ -169,13 +169,13 @@ returns-clause-speeds c q from below word right =
     let cars = c.requires.cars in
     let earlier = c.requires.earlier in
     elim (cases_lt q c.loop-car.end) as (λ _. slice_index c.advance_in-2.new.speeds q
-    ≡ slowed_speed (wanted_at c.args.from c.args.front c.args.chances.limit c.args.cells.now c.args.speeds.now q) (comes_about word (chance_at (slice_index c.args.speeds.now q) c.args.chances.standing c.args.chances.moving))) [
+    ≡ slowed_speed (wanted_at c.args.piece.from c.args.front c.args.chances.limit c.args.cells.now c.args.speeds.now q) (comes_about word (chance_at (slice_index c.args.speeds.now q) c.args.chances.standing c.args.chances.moving))) [
       | inl inside ↦
-          let wish = wish_first c.args.from c.args.front c.args.chances.limit c.loop-car.end c.loop-car.cells c.args.cells.now c.loop-car.speeds c.args.speeds.now
+          let wish = wish_first c.args.piece.from c.args.front c.args.chances.limit c.loop-car.end c.loop-car.cells c.args.cells.now c.loop-car.speeds c.args.speeds.now
           (λ k less. inv.cells_rest k (inl less)) (λ k less. inv.speeds_rest k (inl less)) q from inside in
           let speed = inv.speeds_rest q (inl inside) in
-          let at : c.args.from - c.args.first + (q - c.args.from) ≡ q - c.args.first = omega arith in
-          c.advance_in-2.ensures.speeds q from inside word (λ moves. ap (slice_index c.args.row.now) at ∙ (right (subst (λ n. 0 < n) wish moves)).in_row c.args.first cars
+          let at : c.args.piece.from - c.args.piece.first + (q - c.args.piece.from) ≡ q - c.args.piece.first = omega arith in
+          c.advance_in-2.ensures.speeds q from inside word (λ moves. ap (slice_index c.args.words.now.row.now) at ∙ (right (subst (λ n. 0 < n) wish moves)).in_row c.args.piece.first cars
           (λ i less. let before = c.requires.before i less in omega arith)
           (λ i more less. let after = inv.after i (omega arith) less in omega arith))
           ∙ (λ i. slowed_speed (wish i) (comes_about word (chance_at (speed i) c.args.chances.standing c.args.chances.moving)))

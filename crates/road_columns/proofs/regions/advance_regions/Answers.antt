@@ -74,7 +74,7 @@ loop-place-preserved c =
       as_many_cells = ran.as_many_cells ∙ inv.as_many_cells;
       as_many_speeds = ran.as_many_speeds ∙ inv.as_many_speeds;
       before = first.before;
-      after = λ i more less. elim (cases_lt i c.loop-place.last) as (λ _. c.region_from-from.result ≤ slice_index c.args.beside.now i) [
+      after = λ i more less. elim (cases_lt i c.loop-place.last) as (λ _. c.region_from-from.result ≤ slice_index c.args.words.now.beside.now i) [
         | inl one ↦ first.after i more one
         | inr other ↦ let later = inv.after i other less in omega arith
       ];
@@ -97,11 +97,11 @@ loop-place-preserved c =
         | inl same ↦ from_place_on r q same is low
         | inr other ↦ let done = inv.done_from r q (omega arith) is low in omega arith
       ];
-      speeds_done = λ r q less is low word. elim (cases_eq r c.loop-place.place) as (λ _. SpeedIn c.args.regions.now c.args.cells.now c.args.speeds.now c.advance_region.new.speeds c.args.row.now c.args.index c.args.entered c.args.beside.now c.args.batches.now r q word) [
+      speeds_done = λ r q less is low word. elim (cases_eq r c.loop-place.place) as (λ _. SpeedIn c.args.regions.now c.args.cells.now c.args.speeds.now c.advance_region.new.speeds c.args.words.now.row.now c.args.words.now.index c.args.words.now.entered c.args.words.now.beside.now c.args.words.now.batches.now r q word) [
         | inl same ↦
             let ends = ap (slice_index c.args.ends.now) same in
             let before = is.before_end in
-            subst (λ k. SpeedIn c.args.regions.now c.args.cells.now c.args.speeds.now c.advance_region.new.speeds c.args.row.now c.args.index c.args.entered c.args.beside.now c.args.batches.now k q word) (sym same) (speed_here q (from_place_on r q same is low) (omega arith) word)
+            subst (λ k. SpeedIn c.args.regions.now c.args.cells.now c.args.speeds.now c.advance_region.new.speeds c.args.words.now.row.now c.args.words.now.index c.args.words.now.entered c.args.words.now.beside.now c.args.words.now.batches.now k q word) (sym same) (speed_here q (from_place_on r q same is low) (omega arith) word)
         | inr other ↦ λ right.
             let done = inv.done_from r q (omega arith) is low in
             ran.other_speeds q (inr done) ∙ inv.speeds_done r q (omega arith) is low word right
@@ -121,14 +121,14 @@ loop-place-preserved c =
           | inr none ↦ let last = at.last none in omega arith
         ]
 
-    speed_here : (q : ℕ) → c.region_from-from.result ≤ q → q < c.loop-place.to → (word : ℕ) → SpeedIn c.args.regions.now c.args.cells.now c.args.speeds.now c.advance_region.new.speeds c.args.row.now c.args.index c.args.entered c.args.beside.now c.args.batches.now c.loop-place.place q word
+    speed_here : (q : ℕ) → c.region_from-from.result ≤ q → q < c.loop-place.to → (word : ℕ) → SpeedIn c.args.regions.now c.args.cells.now c.args.speeds.now c.advance_region.new.speeds c.args.words.now.row.now c.args.words.now.index c.args.words.now.entered c.args.words.now.beside.now c.args.words.now.batches.now c.loop-place.place q word
     speed_here q above below word right =
         let inv = c.loop-place.invariant in
         let region : Region = region_at c.args.regions.now c.loop-place.place in
         let wish = wish_same region.chances.limit region.block q c.loop-place.cells c.args.cells.now c.loop-place.speeds c.args.speeds.now
         (inv.cells_rest (q - 1) (inl (omega arith))) (inv.cells_rest q (inl below)) (inv.speeds_rest q (inl below)) in
         let speed = inv.speeds_rest q (inl below) in
-        c.advance_region.ensures.speeds q above below word (λ moves. high16_among c.args.row.now c.args.index c.loop-place.last c.args.entered c.args.beside.now c.args.batches.now q (word / 65536) inv.last
+        c.advance_region.ensures.speeds q above below word (λ moves. high16_among c.args.words.now.row.now c.args.words.now.index c.loop-place.last c.args.words.now.entered c.args.words.now.beside.now c.args.words.now.batches.now q (word / 65536) inv.last
         (λ i more less. let later = inv.after i more less in omega arith) (right (subst (λ n. 0 < n) wish moves)))
         ∙ (λ j. slowed_speed (wish j) (comes_about word (chance_at (speed j) region.chances.standing region.chances.moving)))
 

@@ -8,5 +8,5 @@ use Rattle.road_columns.proofs.words.steady_batch.Given as goal
 abbrev pub invariant-loop-index : goal.invariant-loop-index
 invariant-loop-index l = record {
   long : length l.high16s ≡ 64;
-  drawn : (i : ℕ) → i < l.index → slice_index l.high16s i ≡ steady_word l.stream (64 * l.span + place_of i) / 65536;
+  drawn : (i : ℕ) → i < l.index → slice_index l.high16s i ≡ steady_word l.stream (64 * l.interval + place_of i) / 65536;
 }

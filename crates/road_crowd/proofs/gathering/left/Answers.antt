@@ -12,34 +12,34 @@ use Rattle.road_crowd.proofs.gathering.left.Goals as goal
 
 pub shown-requires-clause-simulated : goal.shown-requires-clause-simulated
 shown-requires-clause-simulated g c =
-    let closed = c.in-Ok-close.ensures in
+    let closed = c.in-Ok.ensures in
     ap (λ (s : Sheet). s.horizon)
-    (closed_sheet (arc_value c.args.plan.now) _ _ c.in-Ok-close.closed.journal.items c.in_ok-sessions.sessions.items c.args.shares.now c.args.task.now.to
+    (closed_sheet (arc_value c.args.plan.now) _ _ c.in-Ok.closed.journal.items c.in_ok-sessions.sessions.items c.args.shares.now c.args.task.now.to
     (sym c.requires.named.1 ∙ c.requires.opening) closed.sheet closed.all.1 closed.journal c.in_ok-sessions.ensures c.requires.some)
 
 pub shown-requires-clause-few : goal.shown-requires-clause-few
 shown-requires-clause-few g c =
-    let count = length_of_crowd c.in-Ok-close.closed.journal.items c.in_ok-sessions.sessions.items (shares_of c.args.shares.now) c.args.task.now.to c.in-Ok-close.ensures.journal c.in_ok-sessions.ensures in
+    let count = length_of_crowd c.in-Ok.closed.journal.items c.in_ok-sessions.sessions.items (shares_of c.args.shares.now) c.args.task.now.to c.in-Ok.ensures.journal c.in_ok-sessions.ensures in
     let most = c.requires.within in omega arith
 
 pub returns-clause-edits : goal.returns-clause-edits
 returns-clause-edits g c =
-    let closed = c.in-Ok-close.ensures in
+    let closed = c.in-Ok.ensures in
     subst (λ (s : Sheet). IfOk c.shown.result (λ crowd. crowd.edits.items ≡ items s.edits))
-    (closed_sheet (arc_value c.args.plan.now) _ _ c.in-Ok-close.closed.journal.items c.in_ok-sessions.sessions.items c.args.shares.now c.args.task.now.to
+    (closed_sheet (arc_value c.args.plan.now) _ _ c.in-Ok.closed.journal.items c.in_ok-sessions.sessions.items c.args.shares.now c.args.task.now.to
     (sym c.requires.named.1 ∙ c.requires.opening) closed.sheet closed.all.1 closed.journal c.in_ok-sessions.ensures c.requires.some)
     c.shown.ensures.edits
 
 pub returns-clause-journal : goal.returns-clause-journal
 returns-clause-journal g c =
-    let count = length_of_crowd c.in-Ok-close.closed.journal.items c.in_ok-sessions.sessions.items (shares_of c.args.shares.now) c.args.task.now.to c.in-Ok-close.ensures.journal c.in_ok-sessions.ensures in
+    let count = length_of_crowd c.in-Ok.closed.journal.items c.in_ok-sessions.sessions.items (shares_of c.args.shares.now) c.args.task.now.to c.in-Ok.ensures.journal c.in_ok-sessions.ensures in
     subst (λ (n : ℕ). IfOk c.shown.result (λ crowd. crowd.journal ≡ n)) count c.shown.ensures.journal
 
 pub returns-clause-row : goal.returns-clause-row
 returns-clause-row g c =
-    let closed = c.in-Ok-close.ensures in
+    let closed = c.in-Ok.ensures in
     subst (λ (s : Sheet). IfOk c.shown.result (λ crowd. string_bytes crowd.row ≡ row_at s.plan s.edits c.args.task.now.to))
-    (closed_sheet (arc_value c.args.plan.now) _ _ c.in-Ok-close.closed.journal.items c.in_ok-sessions.sessions.items c.args.shares.now c.args.task.now.to
+    (closed_sheet (arc_value c.args.plan.now) _ _ c.in-Ok.closed.journal.items c.in_ok-sessions.sessions.items c.args.shares.now c.args.task.now.to
     (sym c.requires.named.1 ∙ c.requires.opening) closed.sheet closed.all.1 closed.journal c.in_ok-sessions.ensures c.requires.some)
     c.shown.ensures.row
 

@@ -10,4 +10,4 @@ use Rattle.road_columns.proofs.under_way.UnderWay.row.Goals as goal
 pub row_text-requires : goal.row_text-requires
 row_text-requires c =
     subst (λ a. HaveDigits (cars_of a)) (ap (λ (run : UnderWay). run.road) c.self.view_is ∙ sym c.in_ok-road.ensures)
-    (digits c.self.inside.stretch.first c.self.inside.stretch.end (road_in c.self.inside.cells.items c.self.inside.speeds.items c.self.inside.numbers.items c.self.inside.extent.head c.self.inside.extent.tail) c.self.invariant.stand)
+    (digits c.self.inside.stretch.first c.self.inside.stretch.end (road_in c.self.inside.cars.cells.items c.self.inside.cars.speeds.items c.self.inside.cars.numbers.items c.self.inside.cars.head c.self.inside.cars.tail) c.self.invariant.running.stand)

@@ -1,7 +1,10 @@
 -- A session is seen with the number that it keeps.
-use Rattle.std.proofs.Common.{ap}
+use Rattle.std.proofs.Common.{◌<◌, ℕ, ap, subst}
 use Rattle.road_sessions.specs.Sessions.{Session}
 use Rattle.road_sessions.proofs.session.Session.number.Goals as goal
 
-pub returns : goal.returns
-returns g c = ap (λ (s : Session). s.number) c.self.view_is
+pub returns-clause-number : goal.returns-clause-number
+returns-clause-number g c = ap (λ (s : Session). s.number) c.self.view_is
+
+pub returns-clause-below : goal.returns-clause-below
+returns-clause-below g c = subst (λ (n : ℕ). n < g.J.Ledger.parts) (ap (λ (s : Session). s.number) c.self.view_is) c.self.invariant.3

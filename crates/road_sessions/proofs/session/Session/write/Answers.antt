@@ -15,4 +15,5 @@ invariant_of-self-2 g c =
       session_after_write g.J.Naming.limit r wish s t c.in_ok-place.place c.in_ok-place.reply c.args.meter.now c.serve.new.meter wrote c.self.invariant.0,
       c.serve.ensures.share.0 ∙ c.self.invariant.1,
       (let more = one_more_write g.J.Naming.limit r wish s t c.in_ok-place.place c.in_ok-place.reply c.args.meter.now c.serve.new.meter wrote in let counted = c.in_ok-place.ensures.share.1 in let before = c.self.invariant.2 in omega arith),
+      c.self.invariant.3,
     )

@@ -7,5 +7,5 @@ abbrev pub invariant-loop : goal.invariant-loop
 invariant-loop g l = record {
   goes_on : (goal.iterator-loop g).can_next l.iterator' × (goal.iterator-loop g).is_finite l.iterator';
   count : vec_len l.places ≡ vec_len l.fn.places;
-  gathered : AreRun l.span l.road l.own l.places.items;
+  gathered : AreRun l.shares.span.now l.shares.road.now l.shares.own l.places.items;
 }

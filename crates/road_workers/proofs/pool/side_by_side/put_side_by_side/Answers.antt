@@ -19,9 +19,9 @@ unwrap-requires c =
 pub loop-answer-preserved : goal.loop-answer-preserved
 loop-answer-preserved c =
     let was = c.loop-answer.invariant in
-    let span = c.args.span.now in
-    let road = c.args.road.now in
-    let own = c.args.own in
+    let span = c.args.shares.span.now in
+    let road = c.args.shares.road.now in
+    let own = c.args.shares.own in
     let n = own + vec_len c.args.places in
     let done = length c.loop-answer.yielded in
     let answer = c.in-Some.answer in
@@ -48,11 +48,11 @@ loop-answer-preserved c =
 
 pub returns : goal.returns
 returns c =
-    let span = c.args.span.now in
-    let road = c.args.road.now in
-    let n = c.args.own + vec_len c.args.places in
+    let span = c.args.shares.span.now in
+    let road = c.args.shares.road.now in
+    let n = c.args.shares.own + vec_len c.args.places in
     let none = c.in-None.ensures.steps in
     let count = c.loop-answer.invariant.count in
-    let all : c.args.own + length c.loop-answer.yielded ≡ n = omega arith in
+    let all : c.args.shares.own + length c.loop-answer.yielded ≡ n = omega arith in
     let last = cut-last span.plan.cells road n (let some = c.requires.some in omega arith) in
     subst (λ end. IfOk c.loop-answer.whole (IsRunOf 0 end span road)) (ap (cut span.plan.cells (cars_of road) n) all ∙ last) c.loop-answer.invariant.front

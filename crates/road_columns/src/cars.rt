@@ -1,0 +1,118 @@
+//! The cars of a road in columns.
+
+ghost use Rattle.std.specs.Prelude.{◌≡◌, ◌<◌, ◌≤◌, ◌+◌, ◌-◌, ◌^◌, ℕ, length, slice_index};
+ghost use Rattle.road_columns.specs.Private.Cars.{PutsCar};
+ghost use Rattle.road_columns.specs.Private.Entering.{IsPutIn, place_beside, place_on};
+
+use crate::cutting::NOWHERE;
+
+/// The cars of a road in columns, the one at the far end first: at the places from `head` to before `tail`. In front of
+/// them is a cell that nobody reaches, and behind them the cell 0.
+#[derive(Drop)]
+pub struct CarColumns {
+    pub cells: Vec<u16>,
+    pub speeds: Vec<u8>,
+    pub numbers: Vec<u32>,
+    pub head: usize,
+    pub tail: usize,
+    /// For each site the place of the first car before it.
+    pub places: Vec<u32>,
+}
+
+impl CarColumns {
+    /// Returns how many words a row has: one for each place, and eight more, so that eight columns are written at once.
+    #[inline(always)]
+    pub fn width(&self) -> usize
+        requires { length self.now.cells.items < 2 ^ 32 }
+        ensures { result ≡ length self.now.cells.items + 8 }
+    {
+        self.cells.len() + 8
+    }
+
+    /// Puts a car that stands at a cell into the columns, at a place.
+    #[inline(always)]
+    pub fn put(&mut self, place: usize, cell: u16, number: u32, sites: &[u16])
+        requires order { place ≤ self.old.tail }
+        requires room { self.old.tail + 1 < length self.old.cells.items }
+        requires speeds { length self.old.speeds.items ≡ length self.old.cells.items }
+        requires numbers { length self.old.numbers.items ≡ length self.old.cells.items }
+        requires places { length self.old.places.items ≡ length sites.now }
+        requires few { (d : ℕ) → d < length sites.now → slice_index self.old.places.items d + 1 < 2 ^ 32 }
+        ensures { PutsCar sites.now self.old self.new place cell number }
+    {
+        insert(&mut self.cells, place, self.tail, cell);
+        insert(&mut self.speeds, place, self.tail, 0);
+        insert(&mut self.numbers, place, self.tail, number);
+        move_places(sites, &mut self.places, cell);
+        self.tail += 1;
+        self.cells[self.tail] = 0;
+    }
+}
+
+/// Inserts a value at a place of a column, before `tail`.
+#[inline(always)]
+pub fn insert<T: Copy>(column: &mut Vec<T>, place: usize, tail: usize, value: T)
+    requires order { place ≤ tail }
+    requires room { tail < length column.old.items }
+    ensures long { length column.new.items ≡ length column.old.items }
+    ensures put_in { (d : T) → IsPutIn column.old.items column.new.items place tail value d }
+{
+    if place < tail {
+        column.copy_within(place..tail, place + 1);
+    }
+    column[place] = value;
+}
+
+// Moves the kept places of sites on, where a car enters at a cell.
+#[inline(always)]
+fn move_places(sites: &[u16], places: &mut [u32], cell: u16)
+    requires places { length places.old ≡ length sites.now }
+    requires room { (d : ℕ) → d < length sites.now → slice_index places.old d + 1 < 2 ^ 32 }
+    ensures long { length places.new ≡ length places.old }
+    ensures places { (d : ℕ) → d < length sites.now
+        → slice_index places.new d ≡ place_beside (slice_index sites.now d) cell (slice_index places.old d) }
+{
+    for site in 0..sites.len() {
+        places[site] += u32::from(sites[site] <= cell);
+    }
+}
+
+/// Moves the kept places of sites on after the motion: at most one car passes a site in a step.
+#[inline(always)]
+pub fn move_on(cells: &[u16], sites: &[u16], places: &mut [u32])
+    requires few { length cells.now < 2 ^ 32 }
+    requires places { length places.old ≡ length sites.now }
+    requires within { (d : ℕ) → d < length sites.now → slice_index places.old d < length cells.now }
+    ensures long { length places.new ≡ length places.old }
+    ensures places { (d : ℕ) → d < length sites.now
+        → slice_index places.new d ≡ place_on cells.now (slice_index sites.now d) (slice_index places.old d) }
+{
+    for site in 0..sites.len() {
+        let place = places[site];
+        let passed = cells[place as usize] >= sites[site] && sites[site] > 0;
+        places[site] = place + u32::from(passed);
+    }
+}
+
+/// Lets the first car leave where it has come to the exit. Returns the new head.
+#[inline(always)]
+pub fn leave(cells: &mut [u16], head: usize, tail: usize, exit_start: u32) -> usize
+    requires order { head ≤ tail }
+    requires inside { tail < length cells.old }
+    requires one { (i : ℕ) → head + 1 ≤ i → i < tail → slice_index cells.old i < exit_start }
+    ensures from { head ≤ result }
+    ensures to { result ≤ head + 1 }
+    ensures order { result ≤ tail }
+    ensures long { length cells.new ≡ length cells.old }
+    ensures kept { (i : ℕ) → i < head → slice_index cells.new i ≡ slice_index cells.old i }
+    ensures rest { (i : ℕ) → result ≤ i → slice_index cells.new i ≡ slice_index cells.old i }
+    ensures front { result ≡ head + 1 → slice_index cells.new (result - 1) ≡ 65535 }
+    ensures left { (i : ℕ) → head ≤ i → i < result → exit_start ≤ slice_index cells.old i }
+    ensures stay { (i : ℕ) → result ≤ i → i < tail → slice_index cells.old i < exit_start }
+{
+    if head < tail && u32::from(cells[head]) >= exit_start {
+        cells[head] = NOWHERE;
+        return head + 1;
+    }
+    head
+}

@@ -1,0 +1,45 @@
+//! The cars that pass sites in a step are counted.
+
+ghost use Rattle.std.specs.Prelude.{◌≡◌, ◌<◌, ◌≤◌, ◌+◌, ◌-◌, ◌^◌, ◌*◌, ℕ, length, slice_index, false};
+ghost use Rattle.std.specs.List.{slice_index_or};
+ghost use Rattle.road_columns.specs.Private.Sites.{counted, passes_of};
+
+/// Counts the cars that have passed sites in a step, by the places of the first cars before them: at most one car
+/// passes a site in a step. A car is counted as 65,536, and its speed in cells per step is added; nothing where a site
+/// is not watched.
+#[inline(always)]
+pub fn count(
+    cells: &[u16],
+    speeds: &[u8],
+    sites: &[u16],
+    places: &[u32],
+    watched: &[bool],
+    passes: &mut [u32],
+)
+    requires speeds { length speeds.now ≡ length cells.now }
+    requires few { length cells.now < 2 ^ 32 }
+    requires places { length places.now ≡ length sites.now }
+    requires watched { length watched.now ≡ length sites.now }
+    requires passes { length passes.old ≡ length sites.now }
+    requires within { (d : ℕ) → d < length sites.now → slice_index places.now d < length cells.now }
+    requires room { (d : ℕ) → d < length sites.now → slice_index passes.old d + 65791 < 2 ^ 32 }
+    ensures as_many_passes { length passes.new ≡ length passes.old }
+    ensures passes { (d : ℕ) → d < length sites.now → slice_index passes.new d
+        ≡ slice_index passes.old d
+        + passes_of cells.now speeds.now (slice_index_or watched.now d false) (slice_index sites.now d)
+        (slice_index places.now d) }
+{
+    for site in 0..sites.len() {
+        let place = places[site] as usize;
+        let hit = cells[place] >= sites[site];
+        passes[site] += added(hit, watched[site], speeds[place]);
+    }
+}
+
+#[inline(always)]
+fn added(hit: bool, watched: bool, speed: u8) -> u32
+    ensures value { result ≡ counted hit watched speed }
+    ensures bound { result ≤ 65791 }
+{
+    u32::from(hit & watched) * (65_536 + u32::from(speed))
+}

@@ -1,0 +1,109 @@
+//! The faults by which calls are refused where an allocation fails.
+
+use crate::verdict::{Refusal, Verdict};
+use road_format::{LineFault, PlanLineFault};
+use road_plan::PlanFault;
+use road_replica::ReplicaFault;
+use road_sessions::{LookFault, OpenFault, OutOfMemory, WriteFault};
+use road_sheet::SheetFault;
+use road_workers::CrewFault;
+use road_world::{PlayFault, WorldFault};
+
+// Returns the verdict where this is the fault that is due.
+fn again(is_due: bool) -> Option<Verdict> {
+    if is_due { Some(Verdict::Again) } else { None }
+}
+
+impl Refusal for OutOfMemory {
+    fn due(&self) -> Option<Verdict> {
+        Some(Verdict::Again)
+    }
+}
+
+impl Refusal for CrewFault {
+    fn due(&self) -> Option<Verdict> {
+        Some(match self {
+            CrewFault::OutOfMemory => Verdict::Again,
+            CrewFault::WorkersGone => Verdict::Restarted,
+        })
+    }
+}
+
+impl Refusal for PlanFault {
+    fn due(&self) -> Option<Verdict> {
+        again(matches!(self, PlanFault::OutOfMemory))
+    }
+}
+
+impl Refusal for LineFault {
+    fn due(&self) -> Option<Verdict> {
+        again(matches!(self, LineFault::OutOfMemory))
+    }
+}
+
+impl Refusal for PlanLineFault {
+    fn due(&self) -> Option<Verdict> {
+        match self {
+            PlanLineFault::OutOfMemory => Some(Verdict::Again),
+            PlanLineFault::Plan(fault) => fault.due(),
+            PlanLineFault::NotJson | PlanLineFault::NotAPlan | PlanLineFault::Names => None,
+        }
+    }
+}
+
+impl Refusal for SheetFault {
+    fn due(&self) -> Option<Verdict> {
+        again(matches!(self, SheetFault::OutOfMemory))
+    }
+}
+
+impl Refusal for ReplicaFault {
+    fn due(&self) -> Option<Verdict> {
+        again(matches!(self, ReplicaFault::OutOfMemory))
+    }
+}
+
+impl Refusal for WorldFault {
+    fn due(&self) -> Option<Verdict> {
+        match self {
+            WorldFault::Replica(fault) => fault.due(),
+            WorldFault::NoReplica | WorldFault::NoMessage => None,
+        }
+    }
+}
+
+impl Refusal for PlayFault {
+    fn due(&self) -> Option<Verdict> {
+        match self {
+            PlayFault::OutOfMemory => Some(Verdict::Again),
+        }
+    }
+}
+
+/// The store gives a session no reader where it finds no memory for one.
+impl Refusal for OpenFault {
+    fn due(&self) -> Option<Verdict> {
+        match self {
+            OpenFault::OutOfMemory | OpenFault::NoPlace => Some(Verdict::Again),
+        }
+    }
+}
+
+impl Refusal for WriteFault {
+    fn due(&self) -> Option<Verdict> {
+        match self {
+            WriteFault::Replica(fault) => fault.due(),
+            WriteFault::JournalFull => None,
+        }
+    }
+}
+
+/// A look itself takes no memory: what finds none is the question to the sheet.
+impl Refusal for LookFault {
+    fn due(&self) -> Option<Verdict> {
+        match self {
+            LookFault::Sheet(fault) => fault.due(),
+            LookFault::NotEntered => None,
+        }
+    }
+}

@@ -1,0 +1,266 @@
+// Actions: what is put, changed, taken back, shared and taken, and what is looked at before.
+
+import {ask} from "./asking.mjs";
+import {makers, next, unshared, untaken, words} from "./changes.mjs";
+import {keep, kept} from "./kept.mjs";
+import {isCovered, privateOf} from "./layers.mjs";
+import {linesOf} from "./listing.mjs";
+import {look} from "./looking.mjs";
+import {Road} from "./rows.mjs";
+import {changed, isOwn, store, tell} from "./store.mjs";
+import {plural} from "./units.mjs";
+import {periodShown} from "./view.mjs";
+
+const TIMINGS = 50;             // that are kept
+const LOOKS = 500;              // milliseconds: who shares sooner wants no figures
+const LONGEST_NOTE = 200;
+
+/** Puts a shape, or lays it on a line in the place of what that was. */
+export function put({shape, note, taken = "", old = null}) {
+  const first = Math.min(shape[3], old?.shape?.[3] ?? shape[3]);
+  act({gesture: {note, shape, ...(old ? {layer: old.name} : {})}}, {note, shape, taken, first});
+}
+
+const noted = (what, line) => `${what}: ${words().text(line)}`.slice(0, LONGEST_NOTE);
+
+export function withdraw(line) {
+  if (line.site !== null) {
+    leaveOut(line.site, false);
+    return;
+  }
+  const note = noted("Withdrew", line);
+  act({gesture: {note, layer: line.name, shape: null}}, {note, first: line.shape?.[3]});
+}
+
+export function putOnTop(line) {
+  const note = noted("On top", line);
+  act({gesture: {note, layer: line.name, top: true}}, {note, first: line.shape?.[3]});
+}
+
+/** Lays the shape of an operation again that lost to another. */
+export function putAgain(line, {stamp}) {
+  act({again: {stamp}}, {note: noted("Put again", line)});
+}
+
+/** Leaves out what another site makes, for all once it is shared; or lets it in again. */
+export function leaveOut(site, out = true) {
+  const note = `Site ${site} is ${out ? "left out" : "let in again"}`;
+  act({site: {site, out, note}}, {note});
+}
+
+/** Takes back the last own operation, pending or not, once for each press. */
+export const undoNewest = () => press("undo");
+export const redoNewest = () => press("redo");
+
+const NOTHING = {undo: "There is nothing of yours to undo.",
+                 redo: "There is nothing of yours to redo."};
+const DONE = {undo: "Taken back", redo: "Put again"};
+
+function press(does) {
+  store.presses.push(does);
+  pressed();
+}
+
+/** Does the presses whose aim is known. */
+function pressed() {
+  while (store.presses.length) {
+    const [does] = store.presses;
+    const {[does]: stamp} = next();
+    if (stamp === undefined) return;
+    store.presses.shift();
+    if (stamp === null) tell(NOTHING[does], true);
+    else act({undo: {stamp}}, {note: DONE[does], does});
+  }
+}
+
+/** A command that changes something: it is pending until it is confirmed; its rows are asked for at
+    once where it is known from which step on they are others. */
+function act(command, {note, shape, first, does = "lay", taken = ""}) {
+  const key = crypto.randomUUID();
+  store.pending.set(key, {command, note, shape, first, does, taken});
+  keepPending();
+  store.timings.push({key, began: performance.now()});
+  if (store.timings.length > TIMINGS) store.timings.shift();
+  send(key);
+  if (first !== undefined) store.roads.mine.stale(first);
+  list();
+  look();
+}
+
+/** Keeps what is pending in the tab's storage, or says that it is not kept. */
+export function keepPending() {
+  store.isKept = keep(sessionStorage, store.me.at, store.pending);
+  if (!store.isKept && store.away && store.pending.size) {
+    tell("This tab keeps nothing: close it, and what is pending is lost.", true);
+  }
+}
+
+/** What was pending when this tab was loaded, of the seat that it has again. */
+export function fetchKept() {
+  const {at, acts} = kept(sessionStorage);
+  if (acts.length && at === store.me.at) {
+    store.pending = new Map([...acts, ...store.pending]);
+  } else if (acts.length) {
+    tell(`${plural(acts.length, "change")} of another seat could not be sent, and is lost.`, true);
+    keepPending();
+  }
+}
+
+/** Sends what is pending, in its order; once more after the line broke. */
+export async function send(key) {
+  const {command, note, first = Infinity, taken} = store.pending.get(key);
+  const [[verb, fields]] = Object.entries(command);
+  const timing = store.timings.find((one) => one.key === key) ?? {};
+  const said = await ask({[verb]: {at: store.me.at, key, ...fields}}, {first: true});
+  if (!said) return;
+  store.pending.delete(key);
+  keepPending();
+  timing.confirmed = performance.now();
+  timing.us = said.us;
+  if (!said.refused) {
+    tell(`${note}: done.${taken}`);
+    if (said.touched !== null && said.touched < first) store.roads.mine.stale(said.touched);
+    await takeLayers("mine", said);
+  }
+  pressed();
+  list();
+  look();
+  askPreview();
+}
+
+/** Takes lines that came with an answer; asks for what lies between, where there is something. */
+async function takeLayers(whose, said) {
+  const layers = store.layers[whose];
+  if (said.since === layers.next) layers.take(said);
+  else await refresh(whose);
+}
+
+/** Asks for what a road has got since. */
+export async function refresh(whose) {
+  const layers = store.layers[whose];
+  const at = whose === "mine" ? store.me.at : "shared";
+  for (let more = true; more;) {
+    const from = layers.next;
+    const said = await ask({layers: {at, from}});
+    if (!said || said.refused) return;
+    if (from === 0) layers.lines.clear();
+    layers.take(said);
+    more = said.more;
+  }
+  list();
+}
+
+function list() {
+  store.lines = linesOf(store.layers.mine, store.me.number);
+  changed("lists");
+}
+
+async function share(lines, stamps) {
+  const said = await ask({send: {at: store.me.at, name: "shared", stamps}});
+  if (!said || said.refused) return;
+  tell(`Shared ${plural(lines.length, "change")}.`);
+  if (said.touched !== null) store.roads.shared.stale(said.touched);
+  await Promise.all([refresh("mine"), refresh("shared")]);
+  look();
+}
+
+export async function take() {
+  closeBefore();
+  const covered = coveredOwn();
+  const fresh = untaken();
+  const from = makers(fresh).join(", ");
+  const said = await ask({take: {at: store.me.at, message: "shared"}});
+  if (!said || said.refused) return;
+  if (said.touched !== null) store.roads.mine.stale(said.touched);
+  await takeLayers("mine", said);
+  list();
+  tellTaken(`${plural(fresh.length, "change")}${from ? " of " + from : ""}`, covered);
+  look();
+}
+
+/** Own lines that are covered, by name, with what covers them. */
+const coveredOwn = () => new Map([...store.layers.mine.lines.values()].filter(isOwn)
+  .filter(isCovered).map((line) => [line.name.join(), words().cover(line)]));
+
+/** Says what was taken, and which own lines it covers. */
+function tellTaken(changes, before) {
+  const lost = [...coveredOwn()].filter(([name, cover]) => before.get(name) !== cover);
+  const losses = lost.length
+    ? `${plural(lost.length, "change")} of yours ${lost.length === 1 ? "is" : "are"} covered by `
+      + "them, whole or in part."
+    : "Nothing of yours is covered by them.";
+  tell(`Took ${changes}. ${losses}`, lost.length > 0);
+}
+
+// Before sharing or taking.
+
+/** Opens what sharing these lines, or taking what others shared, would change. */
+export function openBefore(what, lines = []) {
+  const takes = what === "take";
+  const stamps = lines.flatMap(privateOf).map(({stamp}) => stamp);
+  if (!takes && !stamps.length) return;
+  clearTimeout(store.before?.soon);
+  store.before = {whose: store.before?.whose ?? store.whose, takes, lines, stamps, said: null,
+                  layers: null, figures: null};
+  changed("before");
+  askPreview();
+}
+
+export const shareAll = () => openBefore("share", unshared());
+
+/** Asks what it would change: the lines at once, the rows of both roads as they are seen, and the
+    figures a moment later. */
+export async function askPreview() {
+  const {before} = store;
+  if (!before) return;
+  clearTimeout(before.soon);
+  const {takes, stamps} = before;
+  const what = takes ? {what: "take"} : {what: "share", stamps};
+  const said = await ask({preview: {at: store.me.at, ...what}});
+  if (!said || store.before !== before) return;
+  before.said = said;
+  if (!said.refused) {
+    const {length} = store.plan;
+    const base = store.layers[takes ? "mine" : "shared"];
+    before.layers = store.layers.after = base.with(said.layers);
+    for (const name of ["before", "after"]) store.roads[name] = new Road(name, length);
+    store.whose = "both";
+    before.soon = setTimeout(askFigures, LOOKS);
+  }
+  changed("preview");
+  look();
+}
+
+/** Asks for the figures of both roads, counted car by car. */
+async function askFigures() {
+  const {before} = store;
+  const [from, to] = periodShown();
+  if (to <= from) return;
+  const said = await ask({figures: {at: store.me.at, of: "preview", from, to}}, {busy: true});
+  if (!said || store.before !== before) return;
+  if (said.refused === "busy") {
+    before.soon = setTimeout(askFigures, LOOKS);
+    return;
+  }
+  before.figures = {from, to, ...said};
+  changed("preview");
+}
+
+/** Does what is looked at. */
+export function doIt() {
+  const {takes, lines, stamps} = store.before;
+  closeBefore();
+  if (takes) take(); else share(lines, stamps);
+}
+
+export function closeBefore() {
+  if (!store.before) return;
+  const {soon, whose} = store.before;
+  clearTimeout(soon);
+  Object.assign(store, {whose, before: null});
+  for (const name of ["before", "after"]) delete store.roads[name];
+  delete store.layers.after;
+  ask({preview: {at: store.me.at, what: null}});
+  changed("before");
+  look();
+}

@@ -1,0 +1,18 @@
+// Questions to the server.
+
+import {Away} from "./line.mjs";
+import {store, tell} from "./store.mjs";
+
+/** An answer, or null where the line broke; a refusal is told, unless it is that of the `busy` who
+    ask again. `first`: before those that wait. */
+export async function ask(command, {first = false, busy = false} = {}) {
+  try {
+    const said = await store.line.ask(command, first);
+    const asksAgain = busy && said.refused === "busy";
+    if (said.refused && !asksAgain) tell(said.why ?? `Refused: ${said.refused}`, true);
+    return said;
+  } catch (fault) {
+    if (fault instanceof Away) return null;
+    throw fault;
+  }
+}

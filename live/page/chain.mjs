@@ -1,0 +1,16 @@
+// What Z takes back, and what Redo puts again: the last operation, confirmed or pending, once for
+// each press. The server says which confirmed one it is; what is pending follows in its order.
+// A pending act is {key, does: "lay", "undo" or "redo"}. `undefined`: not known before what is
+// pending is confirmed; null: nothing.
+
+export function nextOf({undo, redo}, pending) {
+  const [undos, redos] = [[undo], [redo]];
+  for (const {key, does} of pending) {
+    const from = {undo: undos, redo: redos}[does];
+    if (from && from.length) from.pop();
+    if (does === "undo") redos.push(key);
+    else undos.push(key);
+    if (does === "lay") redos.splice(0, redos.length, null);
+  }
+  return {undo: undos.at(-1), redo: redos.at(-1)};
+}

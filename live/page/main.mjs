@@ -1,0 +1,16 @@
+// The start: each view listens and shows, then the line is made.
+
+import * as before from "./before.mjs";
+import * as figures from "./figures.mjs";
+import * as form from "./form.mjs";
+import * as hands from "./hands.mjs";
+import * as head from "./head.mjs";
+import {connect, takeToken} from "./joining.mjs";
+import * as lists from "./lists.mjs";
+import * as picture from "./picture.mjs";
+import * as save from "./save.mjs";
+
+takeToken();
+addEventListener("hashchange", () => { takeToken(); location.reload(); });
+for (const view of [head, form, picture, hands, lists, before, figures, save]) view.begin();
+connect();

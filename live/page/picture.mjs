@@ -1,0 +1,275 @@
+// View: the diagram. Rows are painted by drawing.js on tiles that are kept until their rows change,
+// and over them the frames of what is in force, the clock, the rectangle that is dragged and the
+// cursor; below it what the colours mean.
+
+import {wordsShown} from "./changes.mjs";
+import {$, choose, element, on} from "./elements.mjs";
+import {drawsSoon, hasDrawn} from "./fetching.mjs";
+import {cellsOf} from "./geometry.mjs";
+import {placeOfLabel} from "./labels.mjs";
+import {SPANS, chooseSpan, paintBy, resized, showRoad, showWholeRoad, zoomBy} from "./looking.mjs";
+import {slowAt, valueText} from "./sentences.mjs";
+import {isOwn, last, layersShown, now, store, when, whoseShown} from "./store.mjs";
+import {HOUR, KMH_A_CELL, LAST_STEP, METRES_A_CELL} from "./units.mjs";
+import {byMeans, everyShown, partShown, viewNow} from "./view.mjs";
+
+const UNIT = unitOf(METRES_A_CELL, 1, true);
+const GREATEST = 5;             // cells a step at the end of the colours, 135 km/h
+const FRAME = {block: "#8f3a00", limit: "#004a9f", slow: "#5b2a86", start: "#5b2a86",
+               inflow: "#0b5d2a", watch: "#333333"};
+const LABEL = "600 13px system-ui, sans-serif";
+const LABEL_HIGH = 17;          // pixels
+const HALO_FROM = 16;           // pixels of a frame that has a white line around it
+const LEAST = 6;                // pixels of a frame that is drawn
+
+const tilesKept = new Tiles();
+
+/** Draws at the next frame of the screen, once. */
+export function draw() {
+  if (!store.plan || !drawsSoon()) return;
+  requestAnimationFrame(() => {
+    drawDiagram();
+    hasDrawn();
+  });
+}
+
+export function drawDiagram() {
+  const view = viewNow();
+  const {context, width, height} = cleared($("diagram"));
+  clip(context, MARGIN.top, width, height - MARGIN.top - MARGIN.bottom);
+  context.fillStyle = NO_ROW;
+  context.fillRect(0, 0, width, height);
+  drawRows(context, view, width, height);
+  const frames = framesShown();
+  fillClosures(context, view, frames);
+  drawAhead(context, view, width, height);
+  const named = areOfSeveral(frames);
+  const labels = frames.map((frame) => drawEdges(context, view, frame, named));
+  if (store.area) drawArea(context, view, store.area);
+  else drawLabels(context, view, frames, labels.filter(Boolean));
+  if (store.cursor) drawFrame(context, view, store.cursor[1], store.cursor[0]);
+  context.restore();
+  drawAxes(context, view, partShown(), UNIT);
+  drawPlan(context, view, store.plan, width);
+  drawWedge(context, view, now(), INK, height);
+}
+
+function drawRows(context, view, width, height) {
+  const every = everyShown();
+  const shown = whoseShown();
+  const [picture, other] = shown.map((whose) => store.roads[whose].level(every));
+  const name = `${shown.join("-")} ${every}`;
+  const part = inView(view, picture, width, height);
+  const how = {tiles: tilesKept, name, greatest: GREATEST};
+  if (other) {
+    paintDifference(context, view, picture, other, part, how);
+    return;
+  }
+  if (byMeans(view)) {
+    paintMeans(context, view, picture, part, how);
+    return;
+  }
+  paintCells(context, view, picture, part, how);
+  paintClosures(context, view, picture, part, how);
+  drawDetails(context, view, picture, null, part, GREATEST);
+}
+
+/** Forgets the tiles in which rows of a road have changed. */
+function repaint() {
+  const {whose, every, steps: [from, to]} = store.repainted;
+  for (const shown of [whose, "mine-shared", "after-before"]) {
+    tilesKept.forget(`${shown} ${every}`, from, to);
+  }
+  draw();
+}
+
+/** The clock, and below it, where it is looked ahead, that this is a forecast. */
+function drawAhead(context, view, width, height) {
+  const top = topOf(view, now());
+  if (top > height) return;
+  context.setLineDash([2, 3]);
+  Object.assign(context, {strokeStyle: "#000000", lineWidth: 1});
+  context.beginPath();
+  context.moveTo(MARGIN.left, top);
+  context.lineTo(width, top);
+  context.stroke();
+  context.setLineDash([]);
+  if (store.ahead > now()) {
+    write(context, "forecast, seen by you alone", width - 12, top + 2, "right");
+  }
+}
+
+/** Text on a white ground. */
+export function write(context, text, left, top, align = "left", colour = "#000000") {
+  Object.assign(context, {font: LABEL, textAlign: "left", textBaseline: "top"});
+  const wide = context.measureText(text).width;
+  const from = align === "right" ? left - wide : left;
+  context.fillStyle = "rgba(255, 255, 255, 0.92)";
+  context.fillRect(from - 3, top, wide + 6, LABEL_HIGH);
+  context.fillStyle = colour;
+  context.fillText(text, from, top + 2);
+}
+
+/** The frames of the road shown, and of shapes that are not confirmed yet. */
+export function framesShown() {
+  const own = {name: [0, store.me.number]};
+  const waiting = [...store.pending.values()]
+    .filter(({shape}) => shape && whoseShown()[0] === "mine")
+    .map(({shape: [kind, first, end, from, to, value]}) =>
+      ({kind, first, last: end, from, to, value, by: own, pending: true}));
+  return [...layersShown().frames, ...waiting];
+}
+
+/** A frame's corners on the canvas: [left, top, right, bottom]. */
+export function cornersOf(view, {kind, first, last, from, to}) {
+  const [start, end] = cellsOf(store.plan, kind, first, last);
+  const [left, right] = [leftOf(view, start), leftOf(view, end)];
+  const [top, bottom] = [topOf(view, from), topOf(view, to ?? LAST_STEP + 1)];
+  const thin = Math.max(0, LEAST - (right - left)) / 2;
+  const low = Math.max(0, LEAST - (bottom - top)) / 2;
+  return [left - thin, top - low, right + thin, bottom + low];
+}
+
+/** Where rows are left out or cells share a pixel, closures are painted whole, as they are put:
+    else a short one is not seen, and a long one has stripes. */
+function fillClosures(context, view, frames) {
+  if (sizeOfCell(view) >= 1 && everyShown() === 1) return;
+  context.fillStyle = BLOCKED;
+  for (const frame of frames.filter(({kind, pending}) => kind === "block" && !pending)) {
+    const [left, top, right, bottom] = cornersOf(view, frame);
+    const end = Math.min(bottom, topOf(view, last() + 1));
+    if (end > top) context.fillRect(left, top, right - left, end - top);
+  }
+}
+
+export const areOfSeveral = (frames) => new Set(frames.map(({by}) => by.name[1])).size > 1;
+
+/** What is written at a frame, with whose line is on top there where frames are of several
+    people. */
+export function labelOf({kind, first, from, value, pending, by}, named) {
+  const slow = kind === "inflow" ? slowAt(layersShown(), first, from) : 0;
+  const text = valueText(store.plan, kind, value, first, slow).toLowerCase();
+  return text + (pending ? " (pending)" : "") + (named ? `, ${wordsShown().name(by)}` : "");
+}
+
+function drawEdges(context, view, frame, named) {
+  const [left, top, right, bottom] = cornersOf(view, frame);
+  const height = $("diagram").clientHeight;
+  if (bottom < MARGIN.top || top > height) return null;
+  const own = isOwn(frame.by);
+  const [upper, lower] = [Math.max(-10, top), Math.min(height + 10, bottom)];
+  const rectangle = [left, upper, right - left, lower - upper];
+  if (Math.min(right - left, bottom - top) > HALO_FROM) {
+    Object.assign(context, {strokeStyle: "rgba(255, 255, 255, 0.85)", lineWidth: 4});
+    context.strokeRect(...rectangle);
+  }
+  context.setLineDash(frame.pending ? [2, 2] : own ? [] : [7, 4]);
+  Object.assign(context, {strokeStyle: FRAME[frame.kind], lineWidth: 2});
+  context.strokeRect(...rectangle);
+  context.setLineDash([]);
+  return {text: labelOf(frame, named), box: [left, top, right, bottom],
+          colour: FRAME[frame.kind]};
+}
+
+/** Writes what frames are, clear of closures and of each other, on what is computed. */
+function drawLabels(context, view, frames, labels) {
+  const {clientWidth, clientHeight} = $("diagram");
+  const lowest = Math.min(clientHeight - MARGIN.bottom, topOf(view, last()));
+  const bounds = [MARGIN.left, MARGIN.top, clientWidth - MARGIN.right, lowest];
+  const taken = frames.filter(({kind}) => kind === "block").map((one) => cornersOf(view, one));
+  context.font = LABEL;
+  for (const {text, box, colour} of labels) {
+    const wide = context.measureText(text).width + 6;
+    const place = placeOfLabel(box, [wide, LABEL_HIGH], bounds, taken);
+    if (!place) continue;
+    const [left, top] = place;
+    taken.push([left, top, left + wide, top + LABEL_HIGH]);
+    write(context, text, left + 3, top, "left", colour);
+  }
+}
+
+/** The rectangle that is dragged, with what it would do; in red where it cannot be done. */
+function drawArea(context, view, area) {
+  const {shape, lines, fault} = area;
+  const [left, top, right, bottom] = cornersOf(view,
+    {kind: shape[0], first: shape[1], last: shape[2], from: shape[3], to: shape[4]});
+  context.fillStyle = fault ? "rgba(160, 0, 0, 0.35)" : "rgba(255, 255, 255, 0.45)";
+  context.fillRect(left, top, right - left, bottom - top);
+  for (const [colour, size] of [["#ffffff", 5], [fault ? "#a00000" : "#000000", 2]]) {
+    Object.assign(context, {strokeStyle: colour, lineWidth: size});
+    context.strokeRect(left, top, right - left, bottom - top);
+  }
+  const said = fault ? [...lines, fault] : lines;
+  context.font = LABEL;
+  const wide = Math.max(...said.map((text) => context.measureText(text).width)) + 14;
+  const [plotWide] = store.plot;
+  const beside = right + 10 + wide < MARGIN.left + plotWide ? right + 10
+    : Math.max(MARGIN.left + 4, left - 10 - wide);
+  const lowest = $("diagram").clientHeight - 24 - LABEL_HIGH * said.length;
+  const upper = Math.max(MARGIN.top + 4, Math.min(top, lowest));
+  said.forEach((text, line) => write(context, text, beside, upper + LABEL_HIGH * line, "left",
+    fault && line === said.length - 1 ? "#a00000" : "#000000"));
+}
+
+// What the colours mean, as a list beside the diagram.
+
+export function legendEntries() {
+  return [...colourEntries(), {text: "inlet", colour: OF_PLAN.inlet},
+          {text: "detector", colour: OF_PLAN.detector},
+          {text: "zones by turns", colour: OF_PLAN.zone}];
+}
+
+function colourEntries() {
+  const closed = {text: "closed", colour: BLOCKED};
+  const unknown = {text: "not computed", colour: NO_ROW};
+  if (store.whose === "both") {
+    const whose = whoseShown()[0] === "after" ? "then" : "mine";
+    return [{text: `${whose} slower`, colour: SLOWER}, {text: "as fast", colour: EMPTY},
+            {text: `${whose} faster`, colour: FASTER}, closed, unknown];
+  }
+  const speeds = Array.from({length: GREATEST + 1}, (_, speed) =>
+    ({text: String(speed * KMH_A_CELL), colour: speedColour(speed, GREATEST)}));
+  return ["km/h:", ...speeds, {text: "no car", colour: EMPTY}, closed, unknown];
+}
+
+function showLegend() {
+  const of = String(whoseShown());
+  if ($("legend").dataset.of === of) return;
+  $("legend").dataset.of = of;
+  $("legend").replaceChildren(...legendEntries().map((entry) => {
+    if (typeof entry === "string") return element("li", entry);
+    const box = element("span", "", {className: "swatch"});
+    box.style.background = entry.colour;
+    return element("li", "", {}, box, entry.text);
+  }));
+}
+
+function showChoices() {
+  choose("whose", store.whose);
+  $("span").value = store.look.span;
+}
+
+export function begin() {
+  for (const span of SPANS) {
+    const text = span < HOUR ? `${span / 60} min` : `${span / HOUR} h`;
+    $("span").append(new Option(text, span, span === HOUR, span === HOUR));
+  }
+  on("whose", "change", ({target}) => showRoad(target.value));
+  on("paint", "change", () => paintBy($("paint").value));
+  on("span", "change", () => chooseSpan(Number($("span").value)));
+  on("closer", "click", () => zoomBy(true));
+  on("farther", "click", () => zoomBy(false));
+  on("wholeRoad", "click", showWholeRoad);
+  when(["rows"], repaint);
+  when(["before", "preview"], () => {
+    tilesKept.clear();          // the roads of a preview are others each time
+    draw();
+  });
+  when(["look", "rows seen", "lists", "area", "cursor"], draw);
+  when(["look"], showLegend);
+  when(["look"], showChoices);
+  const measure = () => resized($("diagram").clientWidth - MARGIN.left - MARGIN.right,
+    $("diagram").clientHeight - MARGIN.top - MARGIN.bottom);
+  measure();
+  new ResizeObserver(measure).observe($("diagram"));
+}

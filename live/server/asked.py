@@ -1,0 +1,178 @@
+"""What a tab asks, taken apart field by field; and refusals, each with a sentence for people.
+
+    with Asked(verb, fields) as asked:
+        step = asked.whole("step")
+    .. a field of another shape, or one that nobody asked for, is `Refused`
+"""
+from __future__ import annotations
+
+import unicodedata
+from typing import Any, Callable
+
+from refusals import GREATEST, Reasons, kind, list_of, put, row_of, shown, value_of, whole
+
+from .journal import packed
+from .layers import Shape
+
+NOT_A_COMMAND = "not a command"
+MOST_EDITS = 1_200  # of a gesture: its line is one import
+LONGEST_NAME, LONGEST_NOTE, LONGEST_KEY = 64, 200, 40
+TOLD = 3  # so many faults of a list are told
+
+
+def whole_or_none(value: Any) -> Any:
+    return iter(()) if value is None else whole(value)
+
+
+EDITS = list_of(row_of(("kind", kind), ("index", whole), ("step", whole), ("value", put)), "edit")
+SHAPE = row_of(("kind", kind), ("first index", whole), ("last index", whole), ("from", whole),
+               ("to", whole_or_none), ("value", whole))
+STAMP = row_of(("count", lambda value: whole(value, 1 << 48)), ("number", lambda value: whole(value, 65_535)))
+
+
+class Refused(Exception):
+    """A refusal: `text` names it, `why` is a sentence, `more` are further fields of the reply."""
+
+    def __init__(self, text: str, why: str, **more: Any) -> None:
+        super().__init__(text)
+        self.text, self.why, self.more = text, why, more
+
+    def reply(self) -> dict[str, Any]:
+        return {"refused": self.text, "why": self.why, **self.more}
+
+
+def not_a_command(why: str) -> Refused:
+    return Refused(NOT_A_COMMAND, why)
+
+
+def words(value: Any, most: int) -> str:
+    """A text that can be shown in a line: no control signs, none that turn its direction, no halves of pairs."""
+    begin = " ".join(str(value)[:8 * most].split())
+    plain = "".join(sign for sign in begin if unicodedata.category(sign)[0] != "C")
+    return plain.strip()[:most]
+
+
+class Asked:
+    """The fields of a command; on leaving, those that were not asked for are refused."""
+
+    def __init__(self, verb: str, fields: Any) -> None:
+        if type(fields) is not dict:
+            raise not_a_command(f"`{verb}` has an object of fields")
+        self.verb, self._fields, self._known = verb, fields, set[str]()
+
+    def __enter__(self) -> Asked:
+        return self
+
+    def __exit__(self, kind_of_fault: object, *_: object) -> None:
+        unknown = [name for name in self._fields if name not in self._known]
+        if kind_of_fault is None and unknown:
+            raise not_a_command(f"`{self.verb}` has no field {shown(unknown[0])}")
+
+    def has(self, name: str) -> bool:
+        self._known.add(name)
+        return name in self._fields
+
+    def raw(self, name: str) -> Any:
+        if not self.has(name):
+            raise not_a_command(f"`{self.verb}` lacks `{name}`")
+        return self._fields[name]
+
+    def _checked(self, name: str, faults: Callable[[Any], Any]) -> Any:
+        value = self.raw(name)
+        if list(faults(value)):
+            told = list(faults(value_of(packed(value).encode())))  # where numbers are as they were written
+            raise not_a_command(f"`{name}`: {'; '.join(told[:TOLD])}")
+        return value
+
+    def whole(self, name: str, least: int = 0, most: int = GREATEST, default: int | None = None) -> int:
+        if default is not None and not self.has(name):
+            return default
+        value: int = self._checked(name, whole)
+        if not least <= value <= most:
+            raise Refused("Range", f"`{name}` is {least} to {most}, not {value}")
+        return value
+
+    def version(self, name: str) -> int:
+        """A number that the server gave; 0 where there is none."""
+        if not self.has(name):
+            return 0
+        value = self._fields[name]
+        if type(value) is not int or not 0 <= value < 1 << 53:
+            raise not_a_command(f"`{name}` is what `next` was")
+        return value
+
+    def number(self, name: str, most: float) -> float:
+        value = self.raw(name)
+        if type(value) not in (int, float) or not 0 <= value <= most:
+            raise Refused("Range", f"`{name}` is 0 to {most}")
+        return float(value)
+
+    def text(self, name: str, most: int, default: str | None = None) -> str:
+        if default is not None and not self.has(name):
+            return default
+        value = self.raw(name)
+        if type(value) is not str:
+            raise not_a_command(f"`{name}`: {shown(value)[:60]} is no text")
+        return words(value, most)
+
+    def key(self, name: str = "key") -> str:
+        """By which a gesture that is sent again is known."""
+        value = self.raw(name)
+        is_key = type(value) is str and 1 <= len(value) <= LONGEST_KEY and value.isascii() and value.isprintable()
+        if not is_key:
+            raise not_a_command(f"`{name}` is a text of 1 to {LONGEST_KEY} ASCII signs, a new one for each gesture")
+        return str(value)
+
+    def called(self, name: str) -> tuple[int, int] | str:
+        """A stamp, or the key of a gesture that may not have one yet."""
+        if type(self.raw(name)) is str:
+            return self.key(name)
+        count, number = self._checked(name, STAMP)
+        return count, number
+
+    def stamps(self) -> set[tuple[int, int]] | None:
+        if not self.has("stamps"):
+            return None
+        return {(count, number) for count, number in self._checked("stamps", list_of(STAMP, "stamp"))}
+
+    def edits(self) -> list[list[Any]]:
+        edits: list[list[Any]] = self._checked("edits", EDITS)
+        if not 1 <= len(edits) <= MOST_EDITS:
+            raise Refused("too many edits" if edits else NOT_A_COMMAND,
+                          f"a gesture has 1 to {MOST_EDITS} edits, not {len(edits)}")
+        if len({tuple(edit[:3]) for edit in edits}) < len(edits):
+            raise not_a_command("an object and step stands twice in a gesture")
+        return edits
+
+    def shape(self) -> Shape:
+        return Shape(*self._checked("shape", SHAPE))
+
+    def is_null(self, name: str) -> bool:
+        return self.has(name) and self._fields[name] is None
+
+    def yes(self, name: str) -> bool:
+        """A field that is true, or not there."""
+        if self.has(name) and type(self._fields[name]) is not bool:
+            raise not_a_command(f"`{name}` is true or false")
+        return bool(self.has(name) and self._fields[name])
+
+    def stretch(self) -> tuple[int, int] | None:
+        """The cells a to b of `cells`; None: all."""
+        if not self.has("cells"):
+            return None
+        first, last = self._checked("cells", row_of(("first cell", whole), ("last cell", whole)))
+        return first, last
+
+    def rest(self) -> dict[str, Any]:
+        """The fields that were not asked for, which now are."""
+        rest = {name: value for name, value in self._fields.items() if name not in self._known}
+        self._known.update(rest)
+        return rest
+
+
+def why_refused(plan: dict[str, Any], at: str, horizon: int, line: bytes, reply: dict[str, Any]) -> str:
+    """The sentence for a line that the program refused."""
+    reasons = Reasons()
+    reasons.hear(packed(plan).encode(), {"open": 1})
+    reasons.hear(packed({"advance": {"at": at, "to": horizon}}).encode(), {"horizon": horizon})
+    return reasons.hear(line, reply) or f"the program refused it: {reply['refused']}"

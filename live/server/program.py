@@ -1,0 +1,144 @@
+"""A running road_lab, asked a line at a time.
+
+    program = await start(command, plan)
+    reply = await program.ask(line)              bytes, without the newline
+    horizon = await program.advance(at, to)      one piece of it
+    await program.close()
+"""
+from __future__ import annotations
+
+import asyncio
+import contextlib
+import json
+import os
+from pathlib import Path
+from typing import Any, Sequence
+
+from .journal import packed
+
+LONGEST_REPLY = 1 << 26
+PIECE = 1_200  # edits of an import, so that its line is at most 65,536 bytes
+STEPS = 2_000  # of an advance, so that others get their turn
+HANGS = 10.0  # seconds in which a program that owes an answer uses no processor, until it is ended
+LOOKS = 8  # in that time
+LONG_ROAD = 4_096  # cells from which on threads pay; where others work, too, more than two do not
+
+
+class Gone(Exception):
+    """The program ended, or does not answer."""
+
+
+class BadPlan(Exception):
+    """The program refused the plan."""
+
+
+def command_of(path: str, plan: dict[str, Any]) -> list[str]:
+    """How the program is started: with threads where they pay, for one long road."""
+    pays = plan["length"] >= LONG_ROAD and (os.cpu_count() or 1) > 2
+    return [path, "--workers", "2"] if pays else [path]
+
+
+def import_lines(at: str, edits: Sequence[Any]) -> list[dict[str, Any]]:
+    """The lines that give a replica these edits."""
+    return [{"import": {"at": at, "edits": edits[begin:begin + PIECE], "form": 2}}
+            for begin in range(0, len(edits), PIECE)]
+
+
+class Program:
+    """A process, how many lines it has read, and of each replica how far it has run and how many of its seat's
+    gestures it has been given; `stale` are those that hold what a former owner of the seat put."""
+
+    def __init__(self, process: asyncio.subprocess.Process) -> None:
+        self._process, self.lines = process, 0
+        self._read = 0  # replies
+        self._watch: asyncio.TimerHandle | None = None
+        self._fault: str | None = None
+        self.horizons: dict[str, int] = {}
+        self.fed: dict[int, int] = {}
+        self.stale: set[int] = set()
+
+    async def ask(self, line: bytes) -> bytes:
+        """The reply to a line; `Gone` where none comes."""
+        return (await self.ask_all([line]))[0]
+
+    async def ask_all(self, lines: Sequence[bytes]) -> list[bytes]:
+        """The replies to lines that are sent at once."""
+        self.lines += len(lines)
+        stdin, stdout = self._process.stdin, self._process.stdout
+        assert stdin is not None and stdout is not None
+        replies: list[bytes] = []
+        try:
+            stdin.write(b"\n".join(lines) + b"\n")
+            self._look(None, 0)
+            while len(replies) < len(lines) and (not replies or replies[-1].endswith(b"\n")):
+                replies.append(await stdout.readline())
+                self._read += 1
+        except (OSError, ValueError) as fault:
+            self.kill()
+            raise Gone(f"the program does not answer: {fault!r}") from None
+        finally:
+            if self._watch is not None:
+                self._watch.cancel()
+        if not replies[-1].endswith(b"\n"):
+            status = await self._process.wait()
+            raise Gone(self._fault or f"the program ended with status {status}")
+        return [reply[:-1] for reply in replies]
+
+    def _look(self, before: object, idle: int) -> None:
+        """Looks now and then whether the program, which owes an answer, does anything; one that hangs is ended."""
+        now = self._done()
+        idle = idle + 1 if now == before else 0
+        if idle >= LOOKS:
+            self._fault = f"the program owed an answer and used no processor for {HANGS:g} seconds"
+            self.kill()
+        else:
+            self._watch = asyncio.get_running_loop().call_later(HANGS / LOOKS, self._look, now, idle)
+
+    def _done(self) -> object:
+        """What differs when the program has done something."""
+        try:
+            said = Path(f"/proc/{self._process.pid}/stat").read_text(encoding="ascii", errors="replace")
+        except OSError:
+            return object()
+        state, *numbers = said.rpartition(")")[2].split()
+        return object() if state == "R" else (self._read, *numbers[10:12])  # the time it used, also by threads
+
+    async def advance(self, at: str, to: int) -> int:
+        """One piece of an advance; how far the replica has run then."""
+        here = self.horizons.get(at, 0)
+        if here < to:
+            reply = await self.ask(packed({"advance": {"at": at, "to": min(to, here + STEPS)}}).encode())
+            self.horizons[at] = json.loads(reply).get("horizon", to)
+        return self.horizons.get(at, 0)
+
+    def kill(self) -> None:
+        with contextlib.suppress(ProcessLookupError):
+            self._process.kill()
+
+    async def close(self) -> None:
+        """Ends the program."""
+        assert self._process.stdin is not None
+        self._process.stdin.close()
+        try:
+            async with asyncio.timeout(5):
+                await self._process.wait()
+        except asyncio.TimeoutError:
+            self.kill()
+            await self._process.wait()
+
+
+async def start(command: list[str], plan: bytes) -> Program:
+    """A program that has read the plan line, or `Gone`, or `BadPlan` with its refusal."""
+    try:
+        process = await asyncio.create_subprocess_exec(
+            *command, stdin=asyncio.subprocess.PIPE, stdout=asyncio.subprocess.PIPE, limit=LONGEST_REPLY,
+            start_new_session=True)
+    except OSError as fault:
+        raise Gone(f"the program cannot be started: {fault}") from None
+    program = Program(process)
+    reply = json.loads(await program.ask(plan))
+    program.lines = 0
+    if "open" not in reply:
+        await program.close()
+        raise BadPlan(reply.get("refused", "?"))
+    return program

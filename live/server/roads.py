@@ -1,0 +1,175 @@
+"""The roads that a seat may ask: its own, the shared one, and the two of its last preview, which a program of their own
+runs beside."""
+from __future__ import annotations
+
+import asyncio
+import json
+import time
+from typing import Any, Protocol
+
+from .asked import Refused
+from .journal import packed
+from .keeper import Keeper, Times
+from .program import Gone, Program, command_of, import_lines, start
+from .turns import MORE, Job
+
+SIDES = ("before", "after")
+MOST_PREVIEWS = 4  # that are run; the one that was asked longest ago goes
+UNUSED = 600.0  # seconds after which one goes
+
+
+class Road(Protocol):
+    """One that can be asked; `job` does a piece of work again as long as it gives `MORE`."""
+
+    name: str
+
+    async def job(self, body: Job) -> Any:
+        """Does a piece of work when the road has run as far as it shall."""
+
+    async def say_all(self, lines: list[bytes], times: Times) -> list[bytes]:
+        """The replies to lines that are sent at once; the first refusal is raised."""
+
+    async def advance(self, to: int) -> int:
+        """Lets the road run so far."""
+
+
+class Replica:
+    """A road that is kept: the own or the shared one, asked in the turn of a seat."""
+
+    def __init__(self, keeper: Keeper, turn: int, index: int) -> None:
+        self._keeper, self._turn, self._index = keeper, turn, index
+        self.name = keeper.state.seats[index].at
+
+    async def job(self, body: Job) -> Any:
+        return await self._keeper.ask(self._turn, (self._index,), body)
+
+    async def say_all(self, lines: list[bytes], times: Times) -> list[bytes]:
+        return await self._keeper.say_all(lines, times)
+
+    async def advance(self, to: int) -> int:
+        wanted = self._keeper.wanted
+        wanted[self._index] = max(to, wanted.get(self._index, 0))
+
+        async def body() -> int:
+            return self._keeper.program.horizons.get(self.name, 0)
+        horizon: int = await self.job(body)
+        return horizon
+
+
+class Preview:
+    """Two roads as they were when they were compared: their edits, and a program once they are asked."""
+
+    def __init__(self, keeper: Keeper, before: list[Any], more: list[Any]) -> None:
+        """The edits that win in one, and those that win over them in the other."""
+        after = {tuple(edit[:3]): edit for edit in [*before, *more]}
+        self._keeper, self.edits = keeper, {"before": before, "after": list(after.values())}
+        self.used = time.monotonic()
+        self._program: Program | None = None
+        self._fed = dict.fromkeys(SIDES, 0)
+        self._wanted = dict.fromkeys(SIDES, 0)
+        self._lock = asyncio.Lock()
+
+    @property
+    def is_idle(self) -> bool:
+        """Whether it has a program that is asked nothing just now."""
+        return self._program is not None and not self._lock.locked()
+
+    async def ready(self, side: str) -> Program:
+        """Its program, when it has the edits of a side and has run as far as it shall."""
+        self.used = time.monotonic()
+        if self._program is None:
+            plan = {**self._keeper.state.plan, "replicas": list(SIDES)}
+            self._program = await start(command_of(self._keeper.path, plan), packed(plan).encode())
+        lines = [packed(line).encode() for line in import_lines(side, self.edits[side])]
+        if lines and not self._fed[side]:
+            await self._program.ask_all(lines)
+            self._fed[side] = 1
+        while await self._program.advance(side, self._wanted[side]) < self._wanted[side]:
+            await asyncio.sleep(0)
+        return self._program
+
+    async def job(self, side: str, body: Job) -> Any:
+        async with self._lock:
+            try:
+                await self.ready(side)
+                while (said := await body()) is MORE:
+                    pass
+                return said
+            except Gone as fault:
+                self.close()
+                raise no_preview() from fault
+
+    async def say_all(self, lines: list[bytes], times: Times) -> list[bytes]:
+        """In a job."""
+        assert self._program is not None
+        began = time.perf_counter()
+        replies = await self._program.ask_all(lines)
+        times["program"] = times.get("program", 0) + time.perf_counter() - began
+        for line, reply in zip(lines, replies):
+            if reply.startswith(b'{"refused"'):
+                self._keeper.refuse(line, json.loads(reply), self._program)
+        return replies
+
+    def wants(self, side: str, to: int) -> None:
+        self._wanted[side] = max(to, self._wanted[side])
+
+    def close(self) -> None:
+        if self._program is not None:
+            self._program.kill()
+        self._program, self._fed = None, dict.fromkeys(SIDES, 0)
+
+
+class Side:
+    """A road of a preview."""
+
+    def __init__(self, preview: Preview, side: str) -> None:
+        self._preview, self.name = preview, side
+
+    async def job(self, body: Job) -> Any:
+        return await self._preview.job(self.name, body)
+
+    async def say_all(self, lines: list[bytes], times: Times) -> list[bytes]:
+        return await self._preview.say_all(lines, times)
+
+    async def advance(self, to: int) -> int:
+        self._preview.wants(self.name, to)
+
+        async def body() -> int:
+            return to
+        horizon: int = await self.job(body)
+        return horizon
+
+
+class Previews:
+    """The last preview of each seat."""
+
+    def __init__(self) -> None:
+        self._of: dict[int, Preview] = {}
+
+    def put(self, index: int, preview: Preview | None) -> None:
+        """In the place of the seat's last one, if any."""
+        old = self._of.pop(index, None)
+        if old is not None:
+            old.close()
+        if preview is not None:
+            self._of[index] = preview
+
+    def get(self, index: int) -> Preview:
+        """The seat's last one; of others those that nobody uses stop."""
+        running = sorted((one for at, one in self._of.items() if one.is_idle and at != index), key=lambda one: one.used)
+        for one in running[:max(0, len(running) + 1 - MOST_PREVIEWS)]:
+            one.close()
+        before = time.monotonic() - UNUSED
+        for at in [at for at, one in self._of.items() if one.used < before and at != index]:
+            self.put(at, None)
+        if index not in self._of:
+            raise no_preview()
+        return self._of[index]
+
+    def close(self) -> None:
+        for index in list(self._of):
+            self.put(index, None)
+
+
+def no_preview() -> Refused:
+    return Refused("no preview", "the two roads are not kept any more: ask for the preview again")

@@ -1,0 +1,126 @@
+"""Messages between sites, sealed by their shared key.
+
+    seal = Seal(folder, key)               key: bytes, or None where sites trust each other wholly
+    payload = seal.sealed(topic, body)
+    folder, body = seal.opened(topic, payload)
+
+A sealed payload is a line of JSON {"folder","time","number","mac"} and the body behind it. The MAC (HMAC, SHA-256) is
+over topic, folder, time in milliseconds, a number that rises, and body: so what is played again, or at another topic,
+is left out. Without a key it is the body alone, as scripts and older sites send it, too; it may begin with its folder.
+"""
+from __future__ import annotations
+
+import collections
+import hashlib
+import hmac
+import json
+import re
+import time
+from pathlib import Path
+from typing import Any, Callable, Dict
+
+from .journal import Broken, packed
+
+LATE = 600.0  # seconds that a sealed message may be on its way, or two clocks apart
+WINDOW = 4_096  # numbers of a folder that may come in another order
+MOST_FOLDERS = 256
+SHORTEST_KEY = 16  # bytes
+FOLDER = re.compile(rb'\{"folder":"([0-9a-f]{1,40})"')
+
+
+class Unsealed(Exception):
+    """A message that does not bear the sites' seal; the text says why."""
+
+
+class Again(Exception):
+    """A message that was there before."""
+
+
+class Late(Exception):
+    """A message that was sent too long ago to know that, or by a clock that is wrong."""
+
+
+def key_of(path: Path) -> bytes:
+    """The sites' shared secret, without spaces around it."""
+    key = path.read_bytes().strip()
+    if len(key) < SHORTEST_KEY:
+        raise Broken(f"{path} has {len(key)} bytes, and {SHORTEST_KEY} are the least for the sites' key")
+    return key
+
+
+class Seen:
+    """The numbers of a folder's messages: each counts once, and the oldest are no longer told apart."""
+
+    def __init__(self) -> None:
+        self._numbers: set[int] = set()
+        self._least = 0
+
+    def is_new(self, number: int) -> bool:
+        if number <= self._least or number in self._numbers:
+            return False
+        self._numbers.add(number)
+        if len(self._numbers) > WINDOW:
+            self._least = sorted(self._numbers)[WINDOW // 2]
+            self._numbers = {one for one in self._numbers if one > self._least}
+        return True
+
+
+class Seal:
+    """What is sent bears it; what comes is asked for it."""
+
+    def __init__(self, folder: str, key: bytes | None, clock: Callable[[], float] = time.time) -> None:
+        self.folder, self.key, self._clock = folder, key, clock
+        self._number = 0
+        self._seen: Dict[str, Seen] = collections.OrderedDict()
+
+    def sealed(self, topic: str, body: bytes) -> bytes:
+        if self.key is None:
+            return body
+        now = int(1_000 * self._clock())
+        self._number = max(self._number + 1, now)
+        head = {"folder": self.folder, "time": now, "number": self._number}
+        return packed({**head, "mac": self._mac(topic, head, body)}).encode() + b"\n" + body
+
+    def opened(self, topic: str, payload: bytes) -> tuple[str, bytes]:
+        """The folder that sent it, empty where it does not say, and the body; `Unsealed`, `Again`, `Late`."""
+        line, there, body = payload.partition(b"\n")
+        head = head_of(line) if there else None
+        if self.key is not None:
+            if head is None:
+                raise Unsealed("it bears no seal")
+            self._check(topic, head, body)
+        if head is not None:
+            return head["folder"], body
+        said = FOLDER.match(payload)
+        return said[1].decode() if said else "", payload
+
+    def _check(self, topic: str, head: dict[str, Any], body: bytes) -> None:
+        if not hmac.compare_digest(self._mac(topic, head, body).encode(), head["mac"].encode()):
+            raise Unsealed("its seal is not that of this site's key")
+        if abs(self._clock() - head["time"] / 1_000) > LATE:
+            raise Late
+        seen = self._seen.pop(head["folder"], None) or Seen()
+        self._seen[head["folder"]] = seen
+        if len(self._seen) > MOST_FOLDERS:
+            del self._seen[next(iter(self._seen))]
+        if not seen.is_new(head["number"]):
+            raise Again
+
+    def _mac(self, topic: str, head: dict[str, Any], body: bytes) -> str:
+        assert self.key is not None
+        told = packed([topic, head["folder"], head["time"], head["number"]]).encode() + b"\n" + body
+        return hmac.new(self.key, told, hashlib.sha256).hexdigest()
+
+
+def head_of(line: bytes) -> dict[str, Any] | None:
+    """The fields of a message's first line, or None where it is no such line."""
+    try:
+        head = json.loads(line)
+    except (ValueError, RecursionError):
+        return None
+    shape = {"folder": str, "time": int, "number": int}
+    if not isinstance(head, dict) or any(type(head.get(name)) is not kind for name, kind in shape.items()):
+        return None
+    is_sane = len(head["folder"]) <= 40 and 0 <= head["time"] < 1 << 53 and 0 <= head["number"] < 1 << 53
+    mac = head.get("mac", "")
+    return {**head, "mac": mac} if is_sane and type(mac) is str and mac.isascii() else None

@@ -1,0 +1,24 @@
+"""What can be set: read in one place, when a server starts."""
+from __future__ import annotations
+
+import os
+from dataclasses import dataclass, fields
+from typing import Mapping
+
+
+@dataclass(frozen=True)
+class Settings:
+    """Each is the default, unless the environment has LIVE_ and its name in capitals."""
+
+    most_lines: int = 900_000  # of a program, which ends at 1,000,000
+    most_undone: int = 1_000  # undoings until the oldest are forgotten
+    most_journal: int = 64 << 20  # bytes until the journal is shortened
+    day: float = 86_400  # seconds after which a seat that nobody uses is free
+    hello: float = 10  # seconds until a tab has shown the token
+
+    @classmethod
+    def of(cls, environment: Mapping[str, str] = os.environ) -> Settings:
+        given = {one.name: environment.get(f"LIVE_{one.name.upper()}") for one in fields(cls)}
+        kinds = {"float": float, "int": int}
+        return cls(**{one.name: kinds[str(one.type)](given[one.name]) for one in fields(cls)
+                      if given[one.name] is not None})

@@ -1,0 +1,155 @@
+"""Bursts of gestures, in each of which a server, its program or the broker is killed, or a folder is restored from an
+older copy, or cloned: what was confirmed is there, no stamp is made twice, and at the end all sites have one road.
+`live/test --all` has twenty bursts of 500 gestures.
+"""
+from __future__ import annotations
+
+import asyncio
+import os
+import random
+import shutil
+import signal
+from pathlib import Path
+from typing import Any
+
+from aiohttp import ClientError
+
+from crashes import PLAN, Engineer, raw_edits
+from running import ALL, PATIENCE, Case, Server, end, new_folder, until
+from server.client import Refused, Seat
+
+ROUNDS, GESTURES = (20, 500) if ALL else (5, 50)
+WAYS = ("server_is_killed", "folder_is_restored", "broker_is_killed", "folder_is_cloned", "program_is_killed")
+
+
+class Bursts(Case):
+    async def asyncSetUp(self) -> None:
+        self.chance = random.Random(1)
+        self.mosquitto = self.broker()
+        self.one, self.two = [self.site(number) for number in "12"]
+        self.engineers = [Engineer(f"e{number}", random.Random(number)) for number in range(3)]
+        self.stamps: dict[tuple[int, ...], str] = {}  # all that were ever confirmed, with their keys
+        self.tom: dict[str, str] = {"name": "Tom"}
+
+    def site(self, number: str) -> Server:
+        return self.server("--broker", self.mosquitto.address, "--site", number, plan=PLAN, LIVE_MILLISECONDS="")
+
+    async def test_bursts(self) -> None:
+        for number in range(ROUNDS):
+            await getattr(self, WAYS[number % len(WAYS)])()
+            for engineer in self.engineers:
+                await self.look(engineer)
+            await self.share(number)
+        await until(self.are_same, "all sites have one road", 5 * PATIENCE)
+        async with self.two.seat(**self.tom) as tom:
+            shared = {tuple(one["stamp"]) for one in await self.gestures(tom, "shared")}
+        for engineer in self.engineers:
+            self.assertLessEqual(engineer.shared, shared)
+        self.assertNotIn("Two changes have one stamp", self.one.said() + self.two.said())
+
+    # What is done in a burst
+
+    async def server_is_killed(self) -> None:
+        await self.burst(self.one, lambda: self.one.again())
+
+    async def program_is_killed(self) -> None:
+        await self.burst(self.one, lambda: os.kill(self.one.program, signal.SIGKILL))
+
+    async def broker_is_killed(self) -> None:
+        def again() -> None:
+            self.mosquitto.kill()
+            self.mosquitto.start()
+        await self.burst(self.one, again)
+
+    async def folder_is_restored(self) -> None:
+        """The folder is that of before the burst; what was shared since comes from the other site."""
+        old = self.copy(self.one.folder)
+        before = [dict(engineer.confirmed) for engineer in self.engineers]
+        await self.burst(self.one, lambda: None)
+        await until(self.are_same, "what was shared is at the other site", 5 * PATIENCE)
+        self.one.kill()
+        shutil.rmtree(self.one.folder)
+        shutil.copytree(old, self.one.folder)
+        self.one.start()
+        for engineer, confirmed in zip(self.engineers, before):
+            engineer.confirmed = confirmed
+            engineer.sent = {key: engineer.sent[key] for key in confirmed}
+
+    async def folder_is_cloned(self) -> None:
+        """A clone runs beside, and none stamps what the other did."""
+        clone = Server(self.copy(self.one.folder), PLAN, "--broker", self.mosquitto.address, LIVE_MILLISECONDS="")
+        self.addCleanup(lambda: end(clone.process))
+        twins = [Engineer(one.name, random.Random(9)) for one in self.engineers]
+        for twin, engineer in zip(twins, self.engineers):
+            twin.key = engineer.key
+        await self.burst(self.one, lambda: None)
+        await self.burst(clone, lambda: None, twins)
+        clone.kill()
+
+    def copy(self, folder: Path) -> Path:
+        copy = new_folder() / "copy"
+        shutil.copytree(folder, copy, ignore=shutil.ignore_patterns("server.log"))
+        return copy
+
+    async def burst(self, server: Server, fault: Any, engineers: list[Engineer] | None = None) -> None:
+        """So many gestures, and the fault at some time between them."""
+        some = engineers or self.engineers
+        left = [GESTURES - self.chance.randrange(GESTURES // 5, GESTURES * 4 // 5)]
+        count = sum(len(one.confirmed) for one in some) + GESTURES
+        tasks = [asyncio.create_task(self.puts(server, one, count, some)) for one in some]
+
+        async def is_time() -> bool:
+            return sum(len(one.confirmed) for one in some) + left[0] >= count
+        await until(is_time, "some gestures are confirmed", 5 * PATIENCE)
+        fault()
+        await asyncio.gather(*tasks)
+
+    async def puts(self, server: Server, engineer: Engineer, count: int, some: list[Engineer]) -> None:
+        """Puts, shares and takes until all have put so many; whoever loses the server comes again."""
+        while sum(len(one.confirmed) for one in some) < count:
+            try:
+                async with engineer.seat(server) as seat:
+                    engineer.key = seat.key
+                    await engineer.burst(seat, lambda: sum(len(one.confirmed) for one in some) >= count)
+            except (ConnectionError, ClientError, Refused):
+                await asyncio.sleep(0.05)
+            self.keep(engineer)
+
+    def keep(self, engineer: Engineer) -> None:
+        """No stamp is made twice, by whatever folder."""
+        for key, stamp in engineer.confirmed.items():
+            self.assertEqual(self.stamps.setdefault(tuple(stamp), key), key)
+
+    # What is so then
+
+    async def look(self, engineer: Engineer) -> None:
+        """Each confirmed gesture is there; what was not confirmed is sent again, and is there once."""
+        async with engineer.seat(self.one) as seat:
+            for key in engineer.sent.keys() - engineer.confirmed.keys():
+                engineer.confirmed[key] = (await seat.ask("gesture", key=key, edits=engineer.sent[key]))["stamp"]
+            self.keep(engineer)
+            held = {tuple(one["stamp"]): raw_edits(one) for one in await self.gestures(seat, seat.at) if "lays" in one}
+            for key, stamp in engineer.confirmed.items():
+                self.assertEqual(held[tuple(stamp)], engineer.sent[key])
+
+    async def gestures(self, seat: Seat, at: str) -> list[Any]:
+        found: list[Any] = []
+        place = 0
+        while True:
+            said = await seat.ask("gestures", **{"at": at, "from": place})
+            found, place = found + said["gestures"], said["next"]
+            if not said["more"]:
+                return found
+
+    async def share(self, number: int) -> None:
+        """Something of the other site."""
+        async with self.two.seat(**self.tom) as tom:
+            self.tom = {"key": tom.key}
+            await tom.ask("gesture", key=f"s{number}", edits=[["limit", 1, number, 2]])
+            await tom.ask("send", name="shared")
+
+    async def are_same(self) -> bool:
+        async with self.one.seat(key=self.engineers[0].key) as here, self.two.seat(**self.tom) as there:
+            self.tom = {"key": there.key}
+            one, other = [(await seat.ask("scenario", at="shared"))["edits"] for seat in (here, there)]
+            return bool(one == other)

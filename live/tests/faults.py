@@ -1,0 +1,313 @@
+"""A fault at each call to the disk, each line of the program, each message, in turn, while people put, take back, share
+and take, others' changes come and the journal is shortened: what was confirmed is there, what was not was told to
+nobody, and nothing hangs. The gate tries some of them, `live/test --all` each.
+"""
+from __future__ import annotations
+
+import asyncio
+import contextlib
+import errno
+import logging
+import os
+import random
+import signal
+from pathlib import Path
+from typing import Any, Coroutine, Iterable
+from unittest import mock
+
+from faulty import Bus, Disk, Here, Message, soon
+from running import ALL, Case, new_folder
+from server.asked import Refused
+from server.journal import read
+from server.program import Program
+from server.state import State
+
+FEW = 7  # of these the gate tries one: odd, so that both kinds of a fault are met
+LINES = ("killed before", "killed after", "stopped")
+
+
+def each(of: Iterable[Any]) -> list[Any]:
+    """All, or one of a few, always the same."""
+    return [one for place, one in enumerate(of) if ALL or place % FEW == FEW // 2]
+
+
+class Story:
+    """Two sites and what is done there, always the same; what was confirmed, refused, told."""
+
+    def __init__(self, disk: Disk | None = None) -> None:
+        self.disk = disk or Disk()
+        self.disk.folder = new_folder()
+        self.disk.after = self._changed
+        self.durable = b""  # what of the journal is on the disk for good
+        self.confirmed: list[tuple[Any, ...]] = []
+        self.refused: list[str] = []
+        self.told: list[tuple[int, int]] = []  # the stamps that others have heard of
+        self.untrue: list[str] = []
+
+    @property
+    def journal(self) -> Path:
+        assert self.disk.folder is not None
+        return self.disk.folder / "journal.jsonl"
+
+    def _changed(self, name: str, _given: Any) -> None:
+        if name == "fsync" and self.journal.exists():
+            self.durable = self.journal.read_bytes()
+
+    async def __aenter__(self) -> Story:
+        self._all = contextlib.AsyncExitStack()
+        self._all.enter_context(self.disk)
+        self.here = await self._all.enter_async_context(Here(self.disk.folder, site=1))
+        self.there = await self._all.enter_async_context(Here(site=2))
+        self.bus = Bus()
+        self.site, self.other = self.bus.site(self.here), self.bus.site(self.there)
+        self.bus.hears = self._hears
+        self.ada, self.ben, self.cleo = await self.here.join("Ada", "Ben", "Cleo")
+        await self.there.join("Sam")
+        self.here.keeper.listeners.on("shared", lambda touched: self._look())
+        self.disk.calls.clear()
+        return self
+
+    async def __aexit__(self, *fault: Any) -> None:
+        await self._all.__aexit__(*fault)
+
+    # What others hear
+
+    def _hears(self, message: Message) -> None:
+        for stamp in stamps_in(message):
+            self._tells(stamp)
+
+    def _look(self) -> None:
+        """What Cleo, who takes nothing, is told."""
+        for change in self.here.lab.news(self.cleo, 1_000)["changes"]:
+            self._tells(tuple(change["stamp"]))
+
+    def _tells(self, stamp: tuple[int, int]) -> None:
+        self.told.append(stamp)
+        if stamp[1] // 64 == 1 and f'"stamp":[{stamp[0]},{stamp[1]}]'.encode() not in self.durable:
+            self.untrue.append(f"{stamp} was told before it was on the disk")
+
+    # What is done
+
+    async def act(self, name: str, act: Coroutine[Any, Any, Any]) -> Any:
+        try:
+            result = await soon(act)
+        except Refused as fault:
+            self.refused.append(f"{name}: {fault.text}")
+            return None
+        self.confirmed.append((name, result))
+        return result
+
+    async def put(self, seat: int, step: int) -> Any:
+        edits = [["limit", seat, step, step % 7], ["block", 50 + seat, step, 1], ["block", 50 + seat, step + 5, 0]]
+        return await self.act(f"put {seat} {step}", self.here.put(seat, *edits, key=f"k{step}"))
+
+    async def undo(self, seat: int, stamp: Any) -> None:
+        if stamp is not None:
+            await self.act(f"undo {seat}", self.here.ask(seat, "undo", key=f"u{stamp[0]}", stamp=list(stamp)))
+
+    async def share(self, seat: int) -> None:
+        await self.act(f"share {seat}", self.here.share(seat))
+
+    async def take(self, seat: int) -> None:
+        await self.act(f"take {seat}", self.here.take(seat))
+
+    async def from_there(self, step: int) -> None:
+        """Sam shares something, and it comes."""
+        await self.there.put(1, ["limit", 5, step, 2])
+        await self.there.share(1)
+        await soon(self.bus.carry())
+
+    async def tell(self) -> None:
+        """All is told, until nothing is left."""
+        await asyncio.sleep(0)
+        self._look()
+        await soon(self.bus.carry())
+
+    async def runs(self) -> None:
+        await self.put(self.ada, 10)
+        second = await self.put(self.ada, 20)
+        await self.put(self.ben, 30)
+        await self.undo(self.ada, second)
+        await self.share(self.ada)
+        await self.tell()
+        await self.take(self.ben)
+        await self.from_there(10)
+        await self.take(self.ada)
+        await asyncio.gather(self.put(self.ada, 40), self.put(self.ben, 50), self.share(self.ben), self.put(self.ada, 60),
+                             self.share(self.ada), self.from_there(20), self.take(self.ben))
+        await soon(self.here.keeper.journal.compact(self.here.keeper.state.entries))
+        await self.put(self.ben, 70)
+        await self.share(self.ben)
+        await self.act("clock", self.here.lab.set_clock(to=100))
+        await self.tell()
+        await self.take(self.ada)
+
+    async def ends(self) -> None:
+        """Without faults all that was shared comes to all."""
+        await soon(self.here.keeper.until_writable())
+        for number in range(12):
+            self.site._sent.clear()
+            self.other._sent.clear()
+            self.site._pauses.clear()
+            self.other._pauses.clear()
+            await soon(self.bus.rounds())
+            if number > 2 and shared(self.here.keeper.state) == shared(self.there.keeper.state):
+                return
+
+    def faults(self, state: State, confirmed: list[tuple[Any, ...]], told: list[tuple[int, int]]) -> list[str]:
+        """What of this is not so in a state."""
+        lacking = [f"{name} is not there" for name, result in confirmed if not is_there(state, name, result)]
+        known = {gesture.stamp for gesture in state.shared.gestures}
+        return lacking + [f"{stamp} was told, and is not there" for stamp in told if stamp[1] // 64 == 1
+                          and stamp not in known]
+
+
+def is_there(state: State, name: str, result: Any) -> bool:
+    verb, *words = name.split()
+    held = {gesture.stamp for gesture in state.seats[int(words[0])].gestures} if words else set()
+    if verb in ("put", "undo"):
+        stamp = result if verb == "put" else result["stamp"]
+        return tuple(stamp) in held
+    if verb == "share":
+        return set(map(tuple, result["stamps"])) <= shared(state)
+    if verb == "take":
+        return {tuple(one["stamp"]) for one in result["changes"]} <= held
+    return state.now >= 100
+
+
+def shared(state: State) -> set[tuple[int, int]]:
+    return {gesture.stamp for gesture in state.shared.gestures if not gesture.is_mending}
+
+
+def stamps_in(message: Message) -> list[tuple[int, int]]:
+    """The stamps of a message with gestures."""
+    import json
+    value = json.loads(message.payload)
+    return [tuple(one["stamp"]) for one in value.get("gestures", [])] + [tuple(edit[3:5]) for edit in value.get("edits", [])]
+
+
+def replayed(path: Path) -> State:
+    state = State()
+    for entry in read(path)[0]:
+        state.apply(entry)
+    return state
+
+
+class Faults(Case):
+    def setUp(self) -> None:
+        logging.disable(logging.CRITICAL)
+        self.addCleanup(logging.disable, logging.NOTSET)
+
+    async def whole(self) -> Story:
+        """Without a fault: all is confirmed."""
+        async with Story() as story:
+            await story.runs()
+            await story.ends()
+        self.assertEqual((story.refused, story.untrue), ([], []))
+        self.assertEqual(shared(story.here.keeper.state), shared(story.there.keeper.state))
+        return story
+
+    def look(self, story: Story, what: str, may_refuse: bool) -> None:
+        """What was confirmed is there, what was told was on the disk, the sites agree; so by the disk alone."""
+        for state in (story.here.keeper.state, replayed(story.journal)):
+            self.assertEqual(story.faults(state, story.confirmed, story.told), [], what)
+            done = sum(len(seat.done) for seat in state.seats[1:])
+            self.assertEqual(done, sum(name.startswith(("put", "undo")) for name, _ in story.confirmed), what)
+        self.assertEqual(story.untrue, [], what)
+        self.assertEqual(shared(story.here.keeper.state), shared(story.there.keeper.state), what)
+        if not may_refuse:
+            self.assertEqual(story.refused, [], what)
+
+    async def test_at_each_call_to_the_disk_once_and_for_good(self) -> None:
+        calls = len((await self.whole()).disk.calls)
+        self.assertGreater(calls, 40)
+        ways = [(number, lasting, fault) for number in range(1, calls + 1)
+                for lasting, fault in ((False, errno.EIO), (True, errno.ENOSPC))]
+        some, refused = each(ways), 0
+        for number, lasting, fault in some:
+            async with Story() as story:
+                story.disk.fault = lambda call, name: fault if call == number or lasting and call > number else None
+                await story.runs()
+                refused += bool(story.refused)
+                story.disk.fault = lambda *_: None
+                await story.ends()
+                self.look(story, f"call {number} and {'all later' if lasting else 'no other'}", True)
+        self.assertGreater(refused, len(some) // 3)
+
+    async def test_without_current_at_each_call_to_the_disk(self) -> None:
+        """What is on the disk for good is there, and of what else was written any part, or zeros."""
+        moments: list[tuple[bytes, bytes, list[Any], list[Any]]] = []
+        async with Story() as story:
+            def moment(name: str, given: Any) -> None:
+                is_more = name == "write" and os.readlink(f"/proc/self/fd/{given[0]}") == str(story.journal)
+                there = story.journal.read_bytes() + (bytes(given[1]) if is_more else b"")
+                moments.append((story.durable, there, [*story.confirmed], [*story.told]))
+            story.disk.before = moment
+            await story.runs()
+        chance, path = random.Random(1), new_folder() / "journal.jsonl"
+        for durable, there, confirmed, told in moments:
+            rest = there[len(durable):] if there.startswith(durable) else b""  # else another was put in its place
+            cut = chance.randrange(len(rest) + 1)
+            tails = {b"", rest, rest[:cut], rest[:cut] + bytes(len(rest) - cut), bytes(cut) + rest[cut:]}
+            for data in {there, *(durable + tail for tail in tails)}:
+                path.write_bytes(data)
+                self.assertEqual(story.faults(replayed(path), confirmed, told), [], data[len(durable):])
+
+    async def test_at_each_line_of_the_program(self) -> None:
+        lines = 0
+        ask_all = Program.ask_all
+
+        async def counted(program: Program, asked: list[bytes]) -> list[bytes]:
+            nonlocal lines
+            lines += 1
+            return await ask_all(program, asked)
+        with mock.patch.object(Program, "ask_all", counted):
+            await self.whole()
+        for number, way in each((number, way) for number in range(1, lines + 1) for way in LINES):
+            async with Story() as story:
+                with mock.patch.object(Program, "ask_all", ends_at(number, way)), mock.patch("server.program.HANGS", 0.4):
+                    await story.runs()
+                await story.ends()
+                self.look(story, f"line {number}, {way}", False)
+
+    async def test_at_each_message(self) -> None:
+        count = len((await self.whole()).bus.seen)
+        for number, way in each((number, way) for number in range(count) for way in ("lost", "twice", "late")):
+            async with Story() as story:
+                story.bus.way = number, way
+                await story.runs()
+                await story.ends()
+                self.look(story, f"message {number}, {way}", False)
+
+    async def test_at_each_call_to_the_disk_of_a_new_folder(self) -> None:
+        """A folder that could not be begun can be begun again."""
+        with Disk() as disk:
+            async with Here():
+                calls = len(disk.calls)
+            for number in range(1, calls + 1):
+                folder, disk.calls[:] = new_folder(), []
+                disk.fault = lambda call, name: errno.EIO if call == number else None
+                with contextlib.suppress(OSError, Refused, Exception):
+                    async with Here(folder):
+                        pass
+                disk.fault = lambda *_: None
+                async with Here(folder) as here:
+                    await here.join("Ada")
+                    await here.put(1, ["limit", 2, 50, 3])
+
+
+def ends_at(number: int, way: str) -> Any:
+    """In the place of `Program.ask_all`: the program ends, or hangs, at the line of this number."""
+    ask_all, count = Program.ask_all, 0
+
+    async def asked(program: Program, lines: list[bytes]) -> list[bytes]:
+        nonlocal count
+        count += 1
+        if count != number:
+            return await ask_all(program, lines)
+        if way == "killed after":
+            asyncio.get_running_loop().call_later(0.001, program.kill)
+        else:
+            os.kill(program._process.pid, signal.SIGKILL if way == "killed before" else signal.SIGSTOP)
+        return await ask_all(program, lines)
+    return asked

@@ -1,0 +1,187 @@
+"""A laboratory in this process whose disk and program can be held up, fail, or end at any call."""
+from __future__ import annotations
+
+import argparse
+import asyncio
+import errno
+import json
+import os
+import secrets
+import threading
+from pathlib import Path
+from typing import Any, Callable, NamedTuple
+from unittest import mock
+
+from running import PATIENCE, SMALL, new_folder, program
+from server import verbs
+from server.asked import Asked
+from server.keeper import Keeper
+from server.lab import Lab
+from server.questions import Questions
+from server.settings import Settings
+from server.sites import Sites
+
+CALLS = ("write", "fsync", "rename", "ftruncate")
+
+
+class Disk:
+    """In the place of `os` in the journal: counts the calls that change a folder, and asks before each."""
+
+    def __init__(self, folder: Path | None = None) -> None:
+        self.folder = folder  # all folders, where there is none
+        self.calls: list[str] = []
+        self.fault: Callable[[int, str], int | None] = lambda number, name: None  # the number of an error, or none
+        self.before: Callable[[str, Any], None] = lambda name, given: None
+        self.after: Callable[[str, Any], None] = lambda name, given: None
+        self.free = threading.Event()  # else each call waits
+        self.free.set()
+
+    def __getattr__(self, name: str) -> Any:
+        return self._asked(name) if name in CALLS else getattr(os, name)
+
+    def _asked(self, name: str) -> Callable[..., Any]:
+        def call(*given: Any) -> Any:
+            path = os.readlink(f"/proc/self/fd/{given[0]}") if isinstance(given[0], int) else str(given[0])
+            if self.folder is not None and not path.startswith(str(self.folder)):
+                return getattr(os, name)(*given)
+            self.free.wait(PATIENCE)
+            self.before(name, given)
+            self.calls.append(name)
+            fault = self.fault(len(self.calls), name)
+            if fault is not None:
+                raise OSError(fault, os.strerror(fault))
+            result = getattr(os, name)(*given)
+            self.after(name, given)
+            return result
+        return call
+
+    def is_full(self, is_so: bool = True) -> None:
+        """Takes nothing, but can be cut."""
+        self.fault = lambda _, name: errno.ENOSPC if is_so and name == "write" else None
+
+    def is_read_only(self, is_so: bool = True) -> None:
+        self.fault = lambda *_: errno.EROFS if is_so else None
+
+    def __enter__(self) -> Disk:
+        self._patch = mock.patch("server.journal.os", self)
+        self._patch.start()
+        return self
+
+    def __exit__(self, *_: object) -> None:
+        self.free.set()
+        self._patch.stop()
+
+
+class Here:
+    """A laboratory without sockets."""
+
+    def __init__(self, folder: Path | None = None, plan: dict[str, Any] | None = None, site: int | None = None) -> None:
+        self.folder, self.plan, self.site = folder or new_folder(), plan or SMALL, site
+        self.keys: dict[int, str] = {}
+
+    async def __aenter__(self) -> Here:
+        self.keeper = Keeper(self.folder, str(program()), Settings.of())
+        self.lab = Lab(self.keeper)
+        self.questions = Questions(self.lab)
+        self.heard: list[Any] = []
+        self.keeper.listeners.on("shared", self.heard.append)
+        await self.lab.open(lambda: {**self.plan}, self.site)
+        return self
+
+    async def __aexit__(self, *_: object) -> None:
+        self.questions.close()
+        await self.keeper.close()
+        if self.keeper._program is not None:
+            await self.keeper.program._process.wait()
+
+    async def join(self, *names: str) -> list[int]:
+        joined = [await self.lab.join(name, "", None) for name in names]
+        self.keys.update(joined)
+        return [index for index, _ in joined]
+
+    async def ask(self, seat: int, verb: str, **fields: Any) -> Any:
+        """What a tab of the seat is answered, or `Refused`."""
+        asked = Asked(verb, {"at": f"seat{seat}", **fields})
+        reply = await verbs.answer(self.lab, self.questions, seat, asked, {})
+        return json.loads(reply) if isinstance(reply, bytes) else reply
+
+    async def put(self, seat: int, *edits: list[Any], key: str | None = None) -> tuple[int, int]:
+        stamp: tuple[int, int] = (await self.ask(seat, "gesture", key=key or secrets.token_hex(8), edits=list(edits)))["stamp"]
+        return stamp
+
+    async def share(self, seat: int) -> Any:
+        return await self.ask(seat, "send", name="shared")
+
+    async def take(self, seat: int) -> Any:
+        return await self.ask(seat, "take", message="shared")
+
+    def entries(self) -> list[Any]:
+        """What the disk holds."""
+        from server.journal import read
+        return read(self.folder / "journal.jsonl")[0]
+
+
+async def soon(waited_for: Any) -> Any:
+    """What comes while nothing keeps it; else the test fails."""
+    return await asyncio.wait_for(waited_for, PATIENCE)
+
+
+class Message(NamedTuple):
+    topic: str
+    payload: bytes
+
+
+class Bus:
+    """A broker in this process, with which nothing happens by itself: what was sent waits until it is carried."""
+
+    def __init__(self) -> None:
+        self.sites: list[Sites] = []
+        self.sent: list[Message] = []
+        self.seen: list[Message] = []
+        self.hears: Callable[[Message], None] = lambda message: None
+        self.way: tuple[int, str] = -1, ""  # of which message what becomes: it is lost, comes twice, or late
+
+    def site(self, here: Here, key: Path | None = None) -> Sites:
+        """A site that is connected."""
+        options = argparse.Namespace(broker="127.0.0.1:1", broker_user=None, broker_authority=None, site_key=key)
+        with mock.patch.object(Sites, "_new_client", lambda _: self):
+            site = Sites(here.lab, lambda: None, options)
+        site._loop, site._connected = asyncio.get_running_loop(), True
+        here.keeper.listeners.on("shared", lambda touched: site.shared())
+        self.sites.append(site)
+        return site
+
+    def publish(self, topic: str, payload: bytes, qos: int) -> None:
+        message = Message(topic, payload)
+        self.hears(message)
+        self.sent.append(message)
+
+    async def carry(self) -> None:
+        """All that was sent comes to all, and what they send by it."""
+        late: list[Message] = []
+        while self.sent or late:
+            message = self.sent.pop(0) if self.sent else late.pop()
+            way = self.way[1] if len(self.seen) == self.way[0] else ""
+            self.seen.append(message)
+            if way == "late" and self.sent:
+                late.append(message)
+            for site in self.sites * {"": 1, "lost": 0, "twice": 2, "late": int(message not in late)}[way]:
+                await self.give(site, message)
+
+    async def give(self, site: Sites, message: Message) -> None:
+        """As the broker's thread does."""
+        await asyncio.get_running_loop().run_in_executor(None, site._on_message, None, None, message)
+        await asyncio.sleep(0)
+
+    async def rounds(self, count: int = 1) -> None:
+        """All say who they are, and what they hold."""
+        for _ in range(count):
+            for site in self.sites:
+                await site.announce()
+            await self.carry()
+
+
+def told(site: Sites) -> str:
+    """What people are told of it, once or for good."""
+    state = site.state()
+    return " | ".join([*state["told"], *state["stays"]])

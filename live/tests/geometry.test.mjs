@@ -1,0 +1,113 @@
+// What lies where on the road of live/plan.json: 800 cells in zones of 50, inlets at 0 and 200.
+
+import assert from "node:assert/strict";
+import {readFileSync} from "node:fs";
+import {test} from "node:test";
+
+import {cellsOf, edgeNear, isTooLate, objectsIn, objectsNearest, rectangleBetween, shapeWithEdge,
+        snapped, zonesIn} from "../page/geometry.mjs";
+
+const PLAN = JSON.parse(readFileSync(new URL("../plan.json", import.meta.url), "utf8"));
+
+test("objects lie in cells", () => {
+  assert.deepEqual([PLAN.length, PLAN.zone], [800, 50]);
+  assert.deepEqual(PLAN.inlets.map(([cell]) => cell), [0, 200]);
+  assert.deepEqual(cellsOf(PLAN, "limit", 7, 8), [350, 450]);
+  assert.deepEqual(cellsOf({...PLAN, length: 790}, "slow", 15, 15), [750, 790]);
+  assert.deepEqual(cellsOf(PLAN, "block", 24, 24), [24, 25]);
+  assert.deepEqual(cellsOf(PLAN, "inflow", 1, 1), [200, 201]);
+  assert.deepEqual(cellsOf(PLAN, "watch", 0, 0), [PLAN.detectors[0], PLAN.detectors[0] + 1]);
+});
+
+test("a stretch of cells has objects", () => {
+  assert.deepEqual(objectsIn(PLAN, "limit", [360, 430]), [7, 8]);
+  assert.deepEqual(objectsIn(PLAN, "limit", [350, 450]), [7, 8]);
+  assert.deepEqual(objectsIn(PLAN, "limit", [350, 351]), [7, 7]);
+  assert.deepEqual(objectsIn(PLAN, "block", [8, 24]), [8, 23]);
+  assert.deepEqual(objectsIn(PLAN, "inflow", [190, 500]), [1, 1]);
+  assert.deepEqual(objectsIn(PLAN, "inflow", [90, 500]), [0, 0]);
+});
+
+test("a stretch in figures goes to the nearest bounds of zones", () => {
+  // 3.375 km is cell 450, nearer to 3.5 km (466.7) than 3.75 (500) is; 3.4 to 3.5 lies in one zone.
+  for (const [cells, objects] of [[[400, 467], [8, 8]], [[453, 467], [9, 9]], [[448, 455], [9, 9]],
+                                  [[773, 800], [15, 15]], [[0, 800], [0, 15]],
+                                  [[400, 450], [8, 8]]]) {
+    assert.deepEqual(objectsNearest(PLAN, "limit", cells), objects, `${cells}`);
+  }
+  assert.deepEqual(objectsNearest(PLAN, "block", [440, 440]), [440, 440]);
+});
+
+test("a rectangle between two places has the objects and the time between them", () => {
+  const between = (kind, one, other, how) =>
+    Object.values(rectangleBetween(PLAN, kind, one, other, how)).slice(0, 4);
+  assert.deepEqual(between("block", [25, 24], [24, 12]), [24, 24, 12, 24]);
+  assert.deepEqual(between("block", [-3, -5], [2, 1]), [0, 1, 0, 1]);
+  assert.deepEqual(between("block", [900, 7], [810, 7]), [799, 799, 7, 8]);
+  assert.deepEqual(between("limit", [430, 1800], [430, 1800], {open: true}), [8, 8, 1800, null]);
+  assert.deepEqual(between("inflow", [190, 0], [20, 9]), [1, 1, 0, 9]);
+});
+
+test("a drag takes zones of which at least half is covered; all with a key held", () => {
+  // Zones have 50 cells, 375 m: half a kilometre is 66 cells.
+  for (const [cells, half, all] of [
+    [[360, 426], [7, 8], [7, 8]],         // 40 of zone 7, 26 of zone 8
+    [[376, 442], [8, 8], [7, 8]],         // 24 of zone 7, 42 of zone 8
+    [[375, 425], [7, 8], [7, 8]],         // 25 of each
+    [[340, 424], [7, 7], [6, 8]],         // 10, 50, 24
+    [[400, 424], null, [8, 8]],
+    [[440, 460], null, [8, 9]],           // 10 of each
+    [[0, 800], [0, 15], [0, 15]]]) {
+    assert.deepEqual(zonesIn(PLAN, cells, false), half, `${cells}`);
+    assert.deepEqual(zonesIn(PLAN, cells, true), all, `${cells}`);
+  }
+  // The last zone may be shorter: here it has 40 cells.
+  assert.deepEqual(zonesIn({...PLAN, length: 790}, [769, 790], false), [15, 15]);
+  const few = (how) => rectangleBetween(PLAN, "limit", [400, 0], [424, 60], how).few;
+  assert.ok(few());
+  assert.ok(!few({all: true}));
+  assert.ok(!rectangleBetween(PLAN, "block", [400, 0], [401, 60]).few);
+});
+
+test("places snap to 25 m and to round seconds, unless they are to be exact", () => {
+  const place = [401.4, 1213];
+  assert.deepEqual(snapped(place, {span: 3600, scale: 1, exact: false}), [400, 1200]);
+  assert.deepEqual(snapped(place, {span: 900, scale: 1, exact: false}), [400, 1210]);
+  assert.deepEqual(snapped(place, {span: 150, scale: 9, exact: false}), [401, 1213]);
+  assert.deepEqual(snapped([401.6, 1213.4], {span: 3600, scale: 1, exact: true}), [402, 1213]);
+});
+
+test("an edge is drawn to a place, at least one cell and one step from the other", () => {
+  const shape = ["block", 24, 30, 12, 24, 1];
+  const drawn = (edge, place) => shapeWithEdge(PLAN, shape, edge, place);
+  assert.deepEqual(drawn("bottom", [0, 30]), ["block", 24, 30, 12, 30, 1]);
+  assert.deepEqual(drawn("bottom", [0, 5]), ["block", 24, 30, 12, 13, 1]);
+  assert.deepEqual(drawn("top", [0, 30]), ["block", 24, 30, 23, 24, 1]);
+  assert.deepEqual(drawn("left", [40, 0]), ["block", 30, 30, 12, 24, 1]);
+  assert.deepEqual(drawn("right", [2000, 0]), ["block", 24, 799, 12, 24, 1]);
+  const limit = (edge, cell, all) =>
+    shapeWithEdge(PLAN, ["limit", 7, 8, 0, null, 2], edge, [cell, 0], all).slice(1, 3);
+  assert.deepEqual(limit("right", 475), [7, 9]);
+  assert.deepEqual(limit("right", 474), [7, 8]);
+  assert.deepEqual(limit("right", 460, true), [7, 9]);
+  assert.deepEqual(limit("right", 10), [7, 7]);
+  assert.deepEqual(limit("left", 325), [6, 8]);
+  assert.deepEqual(limit("left", 449), [8, 8]);
+  const demand = ["inflow", 0, 0, 0, 60, 9];
+  assert.deepEqual(shapeWithEdge(PLAN, demand, "right", [90, 0]), demand);
+});
+
+test("an edge is taken within so many pixels", () => {
+  const corners = [100, 200, 300, 400];
+  assert.equal(edgeNear(corners, [200, 403], 6, false), "bottom");
+  assert.equal(edgeNear(corners, [200, 403], 6, true), undefined);
+  assert.equal(edgeNear(corners, [97, 300], 6, false), "left");
+  assert.equal(edgeNear(corners, [200, 300], 6, false), undefined);
+  assert.equal(edgeNear(corners, [200, 407], 6, false), undefined);
+});
+
+test("the clock ends at step 1,048,575", () => {
+  assert.ok(!isTooLate(["block", 0, 0, 0, 1048575, 1]));
+  assert.ok(isTooLate(["block", 0, 0, 0, 1048576, 1]));
+  assert.ok(isTooLate(["block", 0, 0, 1048576, null, 1]));
+});

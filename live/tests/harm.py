@@ -1,0 +1,205 @@
+"""Sites and tabs that mean harm: what they say is checked and bounded, and who floods is not heard."""
+from __future__ import annotations
+
+import json
+import random
+from typing import Any, Iterator
+from unittest import mock
+
+from faulty import Bus, Here, soon, told
+from running import ALL, Case
+from server import stamps, verbs
+from server.asked import Asked, Refused
+from server.sites import Floods
+
+JUNK: list[Any] = [None, True, -1, 0, 1, 5, 119, 1 << 20, 1 << 48, 10 ** 30, 0.5, "", "block", "k", "shared", "before", "x" * 300, [], {},
+        [[]], [1, 65]]
+
+
+def asked_well(number: int) -> list[tuple[str, dict[str, Any]]]:
+    """What a tab may ask."""
+    made = {"key": f"{number}", "note": ""}
+    former = f"{number - 1}"
+    return [
+        ("gesture", {**made, "shape": ["block", 60, 61, number % 90, None, 1]}),
+        ("gesture", {**made, "layer": former, "shape": None, "top": True}),
+        ("gesture", {**made, "edits": [["limit", 1, number % 90, 3], ["block", 7, 5, None]]}),
+        ("undo", {**made, "stamp": former}), ("again", {"key": f"{number}", "stamp": [1, 65]}),
+        ("site", {**made, "site": 2, "out": True}), ("send", {"name": "shared", "stamps": [[1, 65]]}),
+        ("take", {"message": "shared"}), ("layers", {"from": 0}), ("gestures", {"from": 0}), ("advance", {"to": 60}),
+        ("diagram", {"from": 0, "to": 20, "every": 1, "cells": [0, 50]}), ("cells", {"step": 5}), ("cars", {"step": 5}),
+        ("count", {"detector": 1, "from": 0, "to": 5}), ("counts", {"from": 0, "to": 5, "each": 1}), ("scenario", {}),
+        ("sums", {"from": 0, "to": 60}), ("preview", {"what": "share", "stamps": [[1, 65]]}), ("seats", {}),
+        ("csv", {"what": "counts", "from": 0, "to": 5, "each": 1}), ("csv", {"what": "changes"}), ("clock", {"rate": 0})]
+
+
+def places_in(value: Any) -> Iterator[tuple[Any, Any]]:
+    """All places in a message: the list or object, and where in it."""
+    keys: Any = value if isinstance(value, dict) else range(len(value)) if isinstance(value, list) else ()
+    for key in list(keys):
+        yield value, key
+        yield from places_in(value[key])
+
+
+class Bounds(Case):
+    async def test_who_floods_is_not_heard_for_a_while_and_named(self) -> None:
+        bus = Bus()
+        one, two = [await self.enterAsyncContext(Here(site=number)) for number in (1, 2)]
+        first, second = bus.site(one), bus.site(two)
+        now = [0.0]
+        first._floods = Floods(lambda: now[0])
+        await bus.rounds()
+        with mock.patch("server.sites.BURST", 20), mock.patch("server.sites.A_SECOND", 1):
+            first._floods = Floods(lambda: now[0])
+            for _ in range(30):
+                second._present()
+            await bus.carry()
+            self.assertIn("Site 2 sends too much: it is not heard for 30 seconds", " ".join(first.state()["stays"]))
+            await two.join("Ben")
+            await two.put(1, ["limit", 2, 50, 3])
+            await two.share(1)
+            await bus.carry()
+            self.assertEqual(len(one.lab.state.shared.gestures), 0)
+            now[0] += 31
+            second._sent.clear()
+            await bus.rounds(3)
+            self.assertEqual(len(one.lab.state.shared.gestures), 1)
+            self.assertNotIn("too much", " ".join(first.state()["stays"]))
+
+    async def test_shapes_and_edits_of_sites_are_checked_against_the_plan(self) -> None:
+        here = await self.enterAsyncContext(Here(site=1))
+        site = Bus().site(here)
+        stamp = [stamps.next_count(0, stamps.milliseconds(), 0), 70 * 64 + 1]
+
+        def put(*shape: Any, name: Any = stamp, height: Any = stamp, was: Any = None) -> dict[str, Any]:
+            return {"lays": [[name, list(shape), height, was, [0, 0]]], "edits": []}
+
+        def raw(*edit: Any) -> dict[str, Any]:
+            return {"lays": [[list(edit[:3]), edit[3], stamp, None, [0, 0]]], "edits": [list(edit)]}
+        good = {**put("block", 60, 61, 30, None, 1), "edits": [["block", 60, 30, 1], ["block", 61, 30, 1]]}
+        for wrong in (
+                put("block", 0, 120, 30, None, 1), put("limit", 6, 6, 30, None, 3), put("block", 61, 60, 30, None, 1),
+                put("block", 60, 60, 1 << 20, None, 1), put("block", 60, 60, 30, 30, 1), put("block", 60, 60, 30, 1 << 20, 1),
+                put("block", 60, 60, 30, None, 2), put("limit", 1, 1, 30, None, 10), put("bloc", 60, 60, 30, None, 1),
+                put("block", 60, 60, -1, None, 1), put("block", 60, 60, 0.5, None, 1), put("block", "60", 60, 30, None, 1),
+                put("block", 60, 60, 30, None, 1, height=[stamp[0] + 1, 1]),
+                put("block", 60, 60, 30, None, 1, name=[stamp[0] + 1, 1]),
+                put("block", 60, 60, 30, None, 1, was=["block", 0, 10 ** 9, 0, None, 1]), put("block", 60, 60, 30, None),
+                put("block", 60, 60, 30, None, 1, name="x"), put("block", 60, 60, 30, None, 1, height=None),
+                raw("block", 120, 30, 1), raw("limit", 1, 30, 10), raw("what", 1, 30, 1), raw("limit", 1, 1 << 20, 1),
+                *({"lays": lays, "edits": []} for lays in (good["lays"] * 1_201, [], {}, [7])),
+                {"lays": good["lays"], "edits": [["limit", 99, 30, 3]]}, {"lays": good["lays"]}, {"known": -1, "edits": []},
+                {"known": 5, "edits": [["block", 999, 30, 1]]},
+                *({**good, "stamp": other} for other in ([stamp[0], 70_000], [stamp[0], 3], [1 << 49, 70], "x"))):
+            site._told.clear()
+            body = json.dumps({"form": 2, "gestures": [{"stamp": stamp, "who": "Eve", **wrong}]}).encode()
+            await site._came(f"road/{site._road}/layers", "", body)
+            self.assertEqual((len(site._told), here.lab.state.shared.gestures), (1, []), wrong)
+            self.assertIn("was left out", site._told[0])
+        body = json.dumps({"form": 2, "gestures": [{"stamp": stamp, "who": "Eve", **good}]}).encode()
+        await site._came(f"road/{site._road}/layers", "", body)
+        self.assertEqual([one.who for one in here.lab.state.shared.gestures if not one.is_mending], ["Eve"])
+
+    async def test_whatever_is_changed_in_a_message_is_taken_or_told(self) -> None:
+        """And the program takes all that the server took."""
+        here = await self.enterAsyncContext(Here(site=1))
+        site, chance = Bus().site(here), random.Random(1)
+        with mock.patch("logging.error") as error, mock.patch("logging.exception", error):
+            for number in range(600 if ALL else 200):
+                stamp = [stamps.next_count(number, stamps.milliseconds(), 0), 70 * 64 + 1]
+                gesture = {"stamp": stamp, "who": "Eve", "note": "", "when": 1, "title": "", "undoes": None,
+                           "edits": [["block", 60, 30, 1], ["limit", 1, 20, 3]],
+                           "lays": [[stamp, ["block", 60, 61, 30, None, 1], stamp, None, [0, 0]],
+                                    [["limit", 1, 20], 3, stamp, None, [0, 0]]]}
+                message: dict[str, Any] = {"form": 2, "gestures": [gesture], "who": "Eve", "title": ""}
+                places = list(places_in(message))
+                for _ in range(chance.randrange(1, 3)):
+                    parent, key = chance.choice(places)
+                    parent[key] = chance.choice([*JUNK, "\ud800"])
+                topic = chance.choice(["layers", "layers", "edits", "sum"])
+                await site._came(f"road/{site._road}/{topic}", "f", json.dumps(message).encode())
+        self.assertEqual(error.call_args_list, [])
+        reply = await here.keeper.ask(0, (0,), lambda: here.keeper.say(b'{"scenario":{"at":"shared"}}', {}))
+        self.assertEqual(sorted(json.loads(reply)["edits"]), sorted(here.lab.state.shared.scenario()))
+        self.assertGreater(len(here.lab.state.shared.gestures), 10)
+
+    async def test_what_strangers_say_of_themselves_is_bounded(self) -> None:
+        bus = Bus()
+        here = await self.enterAsyncContext(Here(site=1))
+        site = bus.site(here)
+        for number in range(1_100):
+            name = f"{number}" + "x" * 5_000
+            for topic, value in (("road/sites", {"site": number % 1_000 + 2, "road": name, "run": name}),
+                                 (f"road/{site._road}/sum", {"sum": name, "numbers": {}})):
+                await site._came(topic, "", json.dumps({"folder": name, **value}).encode())
+        for kept in (site._sites, site._sums, site._pauses, here.lab.state.bound):
+            self.assertLessEqual(len(kept), 1_024)
+        self.assertLess(len(json.dumps(site.state())), 100_000)
+        for number in (0, -1, 1_024, True, "7", None, 1 << 70):
+            await site._came("road/sites", "", json.dumps({"folder": "f", "site": number, "road": "r"}).encode())
+        self.assertIn("it says of no site who it is", told(site))
+
+    async def test_what_does_not_come_back_is_sent_again_after_growing_pauses(self) -> None:
+        bus = Bus()
+        here = await self.enterAsyncContext(Here(site=1))
+        site = bus.site(here)
+        await here.join("Ada")
+        await here.put(1, ["limit", 2, 50, 3])
+        sent = []
+        with mock.patch("server.sites.time.monotonic", lambda: now[0]):
+            now = [1_000.0]
+            await here.share(1)
+            for _ in range(1_000):
+                site._send_unsent()
+                sent += [now[0]] * len([one for one in bus.sent if one.topic.endswith("layers")])
+                bus.sent.clear()
+                now[0] += 3
+        gaps = [later - sooner for sooner, later in zip(sent, sent[1:])]
+        self.assertEqual(gaps[:4], [3, 6, 12, 24])
+        self.assertEqual((max(gaps), gaps), (300, sorted(gaps)))
+
+    async def test_a_site_that_lacks_much_is_told_piece_by_piece(self) -> None:
+        bus = Bus()
+        one, two = [await self.enterAsyncContext(Here(site=number)) for number in (1, 2)]
+        bus.site(one)
+        await one.join("Ada")
+        for step in range(25):
+            await one.put(1, ["limit", 2, step, 3])
+        await one.share(1)
+        await bus.carry()
+        bus.site(two)
+        with mock.patch("server.sites.AT_ONCE", 10):
+            counts = []
+            for _ in range(6):
+                bus.seen.clear()
+                await bus.rounds()
+                told = [json.loads(each.payload) for each in bus.seen if each.topic.endswith("layers")]
+                counts.append(sum(len(each["gestures"]) for each in told))
+        self.assertEqual((counts, len(two.lab.state.shared.gestures)), ([0, 10, 10, 5, 0, 0], 25))
+
+
+class Tabs(Case):
+    async def test_whatever_a_tab_asks_is_answered_or_refused(self) -> None:
+        """By a sentence, and the program takes all that the server took."""
+        here = await self.enterAsyncContext(Here(site=1))
+        chance = random.Random(1)
+        await here.join("Eve")
+        refused = 0
+        with mock.patch("logging.error") as error:
+            for number in range(1_500 if ALL else 400):
+                verb, fields = chance.choice(asked_well(number))
+                asked = {"command": {"at": "seat1", **fields} if verb not in ("seats", "clock") else fields}
+                for _ in range(chance.randrange(3)):
+                    parent, key = chance.choice(list(places_in(asked["command"])) or [(asked, "command")])
+                    parent[key] = chance.choice(JUNK)
+                try:
+                    await soon(verbs.answer(here.lab, here.questions, 1, Asked(verb, asked["command"]), {}))
+                except Refused as fault:
+                    refused += 1
+                    self.assertGreater(len(fault.why), 10)
+        self.assertEqual(error.call_args_list, [])
+        self.assertTrue(100 < refused < number - 100, refused)
+        for seat in (0, 1):
+            line = json.dumps({"scenario": {"at": here.lab.state.seats[seat].at}}).encode()
+            reply = await here.keeper.ask(1, (seat,), lambda: here.keeper.say(line, {}))
+            self.assertEqual(sorted(json.loads(reply)["edits"], key=str), sorted(here.lab.state.seats[seat].scenario(), key=str))

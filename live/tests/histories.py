@@ -1,0 +1,353 @@
+"""Layers: random histories of sites and seats, beside what the gestures say step by step; and cases that may surprise."""
+from __future__ import annotations
+
+import json
+import random
+import unittest
+from typing import Any, Iterable
+
+from server.layers import Laid, Lays, Shape, is_raw
+from server.operations import again, changed, gesture_of, put, raised, undoing
+from server.state import Gesture, Seat, State, raw_lays
+from running import ALL
+
+PLAN: dict[str, Any] = {
+    "length": 10, "exit": 1, "zone": 1, "zones": [[5 if index < 6 else 4, 1] for index in range(10)],
+    "inlets": [[index, 2] for index in range(8)], "detectors": [1, 2, 3], "words": 7, "replicas": ["road"]}
+STEPS = 30
+HISTORIES = 400 if ALL else 25
+OF_KINDS = {"block": "length", "limit": "zones", "slow": "zones", "start": "zones", "inflow": "inlets", "watch": "detectors"}
+
+Values = dict[tuple[str, int, int], Any]
+
+
+class Oracle:
+    """What holds step by step: by the operations alone, and by the program's rule for edits."""
+
+    def __init__(self, plan: dict[str, Any], last: int) -> None:
+        self.last = last
+        self.there = {kind: plan[name] if kind == "block" else len(plan[name]) for kind, name in OF_KINDS.items()}
+        self.base: dict[str, Any] = {
+            "block": lambda index: 0, "watch": lambda index: 1, "start": lambda index: None,
+            "limit": lambda index: plan["zones"][index][0], "slow": lambda index: plan["zones"][index][1],
+            "inflow": lambda index: plan["inlets"][index][1]}
+
+    def by_layers(self, gestures: Iterable[Gesture]) -> Values:
+        """Each object's value at each step: of the layers that stand and cover it the highest one's."""
+        top: dict[Any, tuple[Any, Laid]] = {}
+        for gesture in gestures:
+            for name, laid in gesture.lays.items():
+                if name not in top or top[name][0] < gesture.stamp:
+                    top[name] = gesture.stamp, laid
+        standing = [(name, laid.height, laid.shape) for name, (_, laid) in top.items() if laid.shape]
+        values: Values = {}
+        for kind, count in self.there.items():
+            for index in range(count):
+                here = [(height, shape) for name, height, shape in standing if not is_raw(name) and shape.kind == kind
+                        and shape.first <= index <= shape.last]
+                raw = sorted((name[2], height, shape.value) for name, height, shape in standing
+                             if is_raw(name) and name[:2] == (kind, index))
+                for step in range(self.last + 1):
+                    over = [(height, shape.value) for height, shape in here
+                            if shape.begin <= step and (shape.end is None or step < shape.end)]
+                    over += [(height, value) for at, height, value in raw if at <= step][-1:]
+                    values[kind, index, step] = max(over)[1] if over else self.base[kind](index)
+        return with_slow(values)
+
+    def by_edits(self, gestures: Iterable[Gesture]) -> Values:
+        """The same as the program has it: the latest edit that is not withdrawn, of those that win."""
+        best: dict[Any, Any] = {}
+        for gesture in gestures:
+            for kind, index, step, value in gesture.edits:
+                own = gesture.stamp, value is not None, value or 0
+                if (kind, index, step) not in best or best[kind, index, step] < own:
+                    best[kind, index, step] = own
+        values: Values = {}
+        for kind, count in self.there.items():
+            for index in range(count):
+                value = self.base[kind](index)
+                for step in range(self.last + 1):
+                    _, is_number, number = best.get((kind, index, step), (0, False, 0))
+                    value = values[kind, index, step] = number if is_number else value
+        return with_slow(values)
+
+
+def with_slow(values: Values) -> Values:
+    """Cars that start have, where nothing else is said, the slowing chance of their zone."""
+    return {key: values["slow", key[1], key[2]] if value is None else value for key, value in values.items()}
+
+
+ORACLE = Oracle(PLAN, STEPS + 13)
+THERE, by_layers, by_edits = ORACLE.there, ORACLE.by_layers, ORACLE.by_edits
+
+
+class Site:
+    """A server without a program: its state, and the messages that it has sent."""
+
+    def __init__(self, number: int, seats: int) -> None:
+        self.state = State()
+        self.state.apply({"lab": {"plan": PLAN, "site": number, "folder": "f", "form": 2}})
+        self.entries: list[Any] = [{"lab": {"plan": PLAN, "site": number, "folder": "f", "form": 2}}]
+        self.out: list[list[Any]] = []
+        self.seats = [self.state.seats[1 + at] for at in range(seats)]
+        for seat in (self.state.shared, *self.seats):
+            self.state.mend_at_start(seat)
+
+    def make(self, kind: str, **value: Any) -> Any:
+        """Makes an entry as a journal would have it."""
+        entry = json.loads(json.dumps({kind: value}))
+        self.state.make(entry)
+        self.entries.append(json.loads(json.dumps(entry)))
+        return self.entries[-1][kind]
+
+    def does(self, seat: Seat, lays: Lays, **told: Any) -> Gesture:
+        stamp = self.state.stamp(seat)
+        assert all(laid.height <= stamp for laid in lays.values())
+        self.make("gesture", seat=seat.index, **gesture_of(seat, stamp, lays, **told).written())
+        return seat.gestures[-1]
+
+    def shares(self, seat: Seat, gestures: list[Gesture]) -> None:
+        said = self.make("share", seat=seat.index, stamps=[one.stamp for one in gestures])
+        self.out.append([*(one.written() for one in gestures), *([said["mending"]] if "mending" in said else [])])
+
+    def takes(self, seat: Seat) -> None:
+        self.make("take", seat=seat.index, upto=len(self.state.shared.gestures))
+
+    def came(self, message: list[Any]) -> None:
+        known = self.state.by_stamp
+        fresh = [one for one in message if tuple(one["stamp"]) not in known]
+        if fresh:
+            said = self.make("came", gestures=fresh)
+            if "mending" in said:
+                self.out.append([said["mending"]])
+
+
+    def answers(self) -> bool:
+        """All sites hold the same operations: what was doubted is mended; whether there was anything."""
+        mending = self.state.answer_all()
+        if mending is None:
+            return False
+        self.entries.append({"came": {"gestures": [mending.written()]}})
+        self.out.append([mending.written()])
+        return True
+
+
+def random_shape(r: random.Random, kind: str | None = None) -> Shape:
+    kind = kind or r.choice(list(THERE))
+    first, begin = r.randrange(THERE[kind]), r.randrange(STEPS)
+    value = r.randrange(2) if kind in ("block", "watch") else r.randrange(6)
+    end = None if r.random() < 0.25 else begin + 1 + r.randrange(12)
+    return Shape(kind, first, min(THERE[kind] - 1, first + r.randrange(5)), begin, end, value)
+
+
+def random_lays(r: random.Random, site: Site, seat: Seat) -> Lays:
+    """What somebody, or a script, does."""
+    stamp, what = site.state.stamp(seat), r.random()
+    if what < 0.35 or not seat.lines:
+        return put(stamp, random_shape(r))
+    if what < 0.5:
+        kind = r.choice(list(THERE))
+        index = r.randrange(THERE[kind])
+        steps = r.sample(range(STEPS), r.randrange(1, 4))
+        return raw_lays(stamp, [(kind, index, step, None if r.random() < 0.3 else r.randrange(2)) for step in steps])
+    line = r.choice(list(seat.lines))
+    if what < 0.7:
+        return changed(seat, stamp, line, random_shape(r), r.random() < 0.3)
+    if what < 0.8:
+        return raised(seat, stamp, line)
+    return changed(seat, stamp, line, None, False)
+
+
+class Histories(unittest.TestCase):
+    """One to three sites, each with one or two seats; messages late, twice, in any order."""
+
+    def check(self, seat: Seat) -> None:
+        """The road by the program's rule is that of the layers."""
+        if not seat.doubts:
+            self.assertEqual(self.differ(by_layers(seat.gestures), by_edits(seat.gestures)), {})
+
+    def differ(self, one: Values, other: Values) -> Any:
+        return {key: (one[key], other[key]) for key in one if one[key] != other[key]}
+
+    def act(self, r: random.Random, site: Site, seat: Seat) -> None:
+        before = by_edits(seat.gestures)
+        lays = random_lays(r, site, seat)
+        if not lays:
+            return
+        gesture = site.does(seat, lays)
+        if r.random() < 0.3:
+            back = site.does(seat, undoing(seat, gesture), undoes=gesture.stamp)
+            self.assertEqual(self.differ(by_edits(seat.gestures), before), {})
+            if r.random() < 0.5:
+                site.does(seat, undoing(seat, back), undoes=back.stamp)
+        elif r.random() < 0.2:
+            old = r.choice([one for one in seat.gestures if one.lays])
+            lays = undoing(seat, old) if r.random() < 0.5 else again(site.state.stamp(seat), old)
+            if lays:
+                site.does(seat, lays)
+        elif r.random() < 0.1:
+            site.state.forget(seat, r.randrange(4))
+        self.check(seat)
+
+    def share(self, r: random.Random, site: Site, seat: Seat) -> None:
+        some = site.state.shareable(seat, None)
+        if r.random() < 0.4:
+            some = [one for one in site.state.private(seat) if r.random() < 0.5]
+        if some:
+            site.shares(seat, some)
+            self.check(site.state.shared)
+
+    def deliver(self, r: random.Random, sites: list[Site], to: Site, heard: set[Any], whole: bool = False) -> bool:
+        """Some messages of others, in any order, some of them twice; whether there was a new one."""
+        some = [(sites.index(site), at) for site in sites if site is not to for at in range(len(site.out))
+                if (sites.index(to), sites.index(site), at) not in heard or r.random() < 0.1]
+        some = some if whole else [one for one in some if r.random() < 0.6]
+        r.shuffle(some)
+        fresh = [one for one in some if (sites.index(to), *one) not in heard]
+        for number, at in some:
+            heard.add((sites.index(to), number, at))
+            to.came(sites[number].out[at])
+        return bool(fresh)
+
+    def history(self, seed: int) -> None:
+        r = random.Random(seed)
+        sites = [Site(number + 1, r.randrange(1, 3)) for number in range(r.randrange(1, 4))]
+        heard: set[Any] = set()
+        for _ in range(r.randrange(10, 60)):
+            site = r.choice(sites)
+            seat, what = r.choice(site.seats), r.random()
+            if what < 0.5:
+                self.act(r, site, seat)
+            elif what < 0.7:
+                self.share(r, site, seat)
+            elif what < 0.85:
+                site.takes(seat)
+                self.check(seat)
+            else:
+                self.deliver(r, sites, site, heard)
+                self.check(site.state.shared)
+        self.at_the_end(r, sites, heard)
+
+    def at_the_end(self, r: random.Random, sites: list[Site], heard: set[Any]) -> None:
+        """All is shared and exchanged: all sites have one road, that of the layers, and so has each seat that takes."""
+        for site in sites:
+            for seat in site.seats:
+                rest = site.state.private(seat)
+                if rest:
+                    site.shares(seat, rest)
+        here = sites[1:] if len(sites) > 1 and r.random() < 0.3 else sites  # one may hear nothing any more
+        rounds = 0
+        while any([self.deliver(r, sites, site, heard, True) for site in here]) or any(map(Site.answers, here)):
+            rounds += 1
+            self.assertLess(rounds, 40, "they mend each other")
+        shared = [site.state.shared for site in here]
+        values = by_layers(shared[0].gestures)
+        for one in shared:
+            self.assertEqual(one.road.layers, shared[0].road.layers)
+            self.assertEqual(one.scenario(), shared[0].scenario())
+            self.assertEqual(self.differ(values, by_edits(one.gestures)), {})
+        for site in here:
+            for seat in site.seats:
+                site.takes(seat)
+                self.check(seat)
+                self.assertEqual(self.differ(values, by_edits(seat.gestures)), {})
+            self.starts_again(site)
+
+    def starts_again(self, site: Site) -> None:
+        """By its journal, and by the shortened one: the same roads, though no journal has a seat's mendings."""
+        for entries in (site.entries, json.loads(json.dumps(list(site.state.entries())))):
+            state = State()
+            for entry in entries:
+                state.apply(json.loads(json.dumps(entry)))
+            self.assertIsNone(state.mend_at_start(state.shared))
+            self.assertEqual(state.shared.scenario(), site.state.shared.scenario())
+            for seat in site.seats:
+                fresh = state.seats[seat.index]
+                state.mend_at_start(fresh)
+                self.check(fresh)
+                self.assertEqual(self.differ(by_edits(fresh.gestures), by_edits(seat.gestures)), {})
+
+    def test_random_histories(self) -> None:
+        for seed in range(HISTORIES):
+            with self.subTest(seed=seed):
+                self.history(seed)
+
+
+def limits(seat: Seat, zone: int = 3) -> list[tuple[int, int]]:
+    """The stretches of time of a zone's limit, (value, from) each."""
+    values, found = by_edits(seat.gestures), []
+    for step in range(ORACLE.last + 1):
+        if not found or found[-1][0] != values["limit", zone, step]:
+            found.append((values["limit", zone, step], step))
+    return found
+
+
+class Cases(unittest.TestCase):
+    """What may surprise, and is settled by a rule."""
+
+    def setUp(self) -> None:
+        self.one, self.other = Site(1, 1), Site(2, 1)
+        self.ada, self.ben = self.one.seats[0], self.other.seats[0]
+
+    def put(self, site: Site, begin: int, end: int | None, value: int) -> Gesture:
+        seat = site.seats[0]
+        return site.does(seat, put(site.state.stamp(seat), Shape("limit", 3, 3, begin, end, value)))
+
+    def raw(self, step: int, value: int | None) -> Gesture:
+        return self.one.does(self.ada, raw_lays(self.one.state.stamp(self.ada), [("limit", 3, step, value)]))
+
+    def test_a_newer_raw_edit_covers_shapes_up_to_the_next_one(self) -> None:
+        frame = self.put(self.one, 20, 25, 3)
+        self.raw(15, 1)
+        self.assertEqual(limits(self.ada), [(5, 0), (1, 15)])
+        self.raw(10, 2)  # among raw edits the order of making does not count
+        self.assertEqual(limits(self.ada), [(5, 0), (2, 10), (1, 15)])
+        self.one.does(self.ada, raised(self.ada, self.one.state.stamp(self.ada), frame.stamp))
+        self.assertEqual(limits(self.ada), [(5, 0), (2, 10), (1, 15), (3, 20), (1, 25)])
+        self.raw(15, None)
+        self.assertEqual(limits(self.ada), [(5, 0), (2, 10), (3, 20), (2, 25)])
+
+    def test_two_changes_of_one_shape_give_one_shape(self) -> None:
+        base = self.put(self.one, 5, 15, 1)
+        self.one.shares(self.ada, [base])
+        self.other.came(self.one.out[0])
+        self.other.takes(self.ben)
+        for site, seat, shape in ((self.one, self.ada, Shape("limit", 3, 3, 5, 20, 1)),
+                                  (self.other, self.ben, Shape("limit", 3, 3, 2, 15, 1))):
+            site.shares(seat, [site.does(seat, changed(seat, site.state.stamp(seat), base.stamp, shape, False))])
+        self.one.came(self.other.out[0])
+        self.other.came(self.one.out[1])
+        for site in (self.one, self.other):
+            self.assertEqual(limits(site.state.shared), [(5, 0), (1, 2), (5, 15)])  # the greater number's, and not both
+
+    def test_sites_that_lack_an_operation_each_do_not_mend_each_other_for_ever(self) -> None:
+        base = self.put(self.one, 5, 15, 1)
+        self.one.shares(self.ada, [base])
+        for site, seat, value in ((self.one, self.ada, 2), (self.other, self.ben, 3)):
+            site.came(self.one.out[0])
+            site.takes(seat)
+            site.shares(seat, [self.put(site, 8, 15, value)])
+        kept = self.one.out.pop(), self.other.out.pop()  # of which neither hears
+        stray = [{"stamp": [50, 250], "known": 0, "edits": [["limit", 3, 8, 0]], "who": "x"}]  # both are to mend
+        out = {site: [stray] for site in (self.one, self.other)}
+        sent = 0
+        while any(out.values()):
+            for site, others in ((self.one, self.other), (self.other, self.one)):
+                messages, out[site] = out[site], []
+                for message in messages:
+                    before = len(site.out)
+                    site.came(message)
+                    out[others] += site.out[before:]
+                    sent += len(site.out) - before
+            self.assertLess(sent, 10)
+        self.one.came(kept[1])
+        self.other.came(kept[0])
+        while self.one.answers() or self.other.answers():
+            self.one.came(self.other.out[-1])
+            self.other.came(self.one.out[-1])
+        for site in (self.one, self.other):
+            self.assertEqual(limits(site.state.shared), [(5, 0), (1, 5), (3, 8), (5, 15)])
+
+
+if __name__ == "__main__":
+    unittest.main()

@@ -1,0 +1,197 @@
+// Lines of changes, what of them is in force, and what the lists say of them. The lines are written
+// as the server would tell them.
+
+import assert from "node:assert/strict";
+import {readFileSync} from "node:fs";
+import {test} from "node:test";
+
+import {Layers, lostOf, privateOf} from "../page/layers.mjs";
+import {Words, affectedBy, historyOf, linesOf} from "../page/listing.mjs";
+
+const PLAN = JSON.parse(readFileSync(new URL("../plan.json", import.meta.url), "utf8"));
+const [ADA, BEN] = [65, 66];
+
+/** A line that one put, shared unless it is said otherwise; `parts` are [from, to, by]. */
+function line(name, who, shape, parts, more = {}) {
+  const [kind, first, last, , , value] = shape;
+  const put = {stamp: name, who, note: "put", when: 0, does: "put", shared: true, lost: null};
+  return {name, shape, kind, who, note: "put", when: 0, standing: true, shared: true,
+          shown: parts.map(([from, to, by]) => [kind, first, last, from, to, value, by]),
+          operations: [put], ...more};
+}
+
+const AS = ["limit", 4, 5, 1200, 2400, 2];
+const BS = ["limit", 4, 5, 1500, 1800, 3];
+const ada = (parts, more) => line([1, ADA], "Ada", AS, parts, more);
+const ben = (parts, more) => line([2, BEN], "Ben", BS, parts, more);
+
+function road(...lines) {
+  const layers = new Layers(PLAN);
+  layers.take({layers: lines, next: 7, undo: [2, BEN], redo: null});
+  return layers;
+}
+
+const COVERED = [[1200, 1500, null], [1500, 1800, [2, BEN]], [1800, 2400, null]];
+
+test("what is in force has frames and values; what is covered has none", () => {
+  const layers = road(ada(COVERED), ben([[1500, 1800, null]]));
+  assert.deepEqual(layers.frames.map(({from, to, value, by}) => [from, to, value, by.who]),
+                   [[1200, 1500, 2, "Ada"], [1800, 2400, 2, "Ada"], [1500, 1800, 3, "Ben"]]);
+  assert.deepEqual([1199, 1200, 1499, 1500, 1799, 1800, 2399, 2400].map((step) =>
+    layers.valueAt("limit", 4, step)), [5, 2, 2, 3, 3, 2, 2, 5]);
+  assert.equal(layers.valueAt("limit", 6, 1300), 5);
+  assert.equal(layers.valueAt("block", 4, 1300), 0);
+  assert.equal(layers.valueAt("start", 4, 1300), null);
+});
+
+test("a line replaces the one of its name; one that is gone leaves the list", () => {
+  const layers = road(ada([[1200, 2400, null]]));
+  layers.take({layers: [ada(COVERED), ben([[1500, 1800, null]])], next: 9, undo: null, redo: null});
+  assert.deepEqual([layers.next, layers.undo, layers.lines.size], [9, null, 2]);
+  layers.take({layers: [{name: [2, BEN], gone: true}], next: 10});
+  assert.deepEqual([...layers.lines.keys()], ["1,65"]);
+  const other = layers.with([ben([[1500, 1800, null]])]);
+  assert.equal(other.lines.size, 2);
+  assert.equal(layers.lines.size, 1);
+});
+
+test("what is not of this road is left out, whatever it is", () => {
+  const parts = [["limit", 4, 5, 0, 60, 2, null], ["limit", 4, 99, 0, 60, 2, null],
+                 ["speed", 0, 0, 0, 60, 2, null], ["limit", -1, 2, 0, 60, 2, null],
+                 ["limit", 5, 4, 0, 60, 2, null], ["limit", 4, 5, 60, 60, 2, null],
+                 ["limit", 4, 5, 0, 60, "2", null], ["inflow", 2, 2, 0, null, 9, null], "limit", null];
+  const layers = road({...ada([]), shape: ["watch", 9, 9, 0, null, 1], shown: parts,
+                       edits: [["block", 800, 0, 1], ["block", 799, 0, 1]]});
+  const found = layers.line([1, ADA]);
+  assert.deepEqual(found.shown, [parts[0]]);
+  assert.ok(found.isRaw);
+  assert.deepEqual(found.edits, [["block", 799, 0, 1]]);
+  assert.equal(layers.frames.length, 1);
+  assert.deepEqual(road({...ada([]), shown: "all"}).frames, []);
+});
+
+test("a site that is left out has a line, and nothing of it is drawn", () => {
+  const out = {...ada([]), kind: "site", shape: ["site", 3, 3, 0, null, 1],
+               shown: [["site", 3, 3, 0, null, 1, null]], isRaw: false};
+  const layers = road(out);
+  assert.deepEqual([layers.frames, layers.line([1, ADA]).site], [[], 3]);
+  assert.equal(new Words(layers, ADA).text(layers.line([1, ADA])), "Site 3 is left out");
+});
+
+test("edits that are one rectangle have its shape, so that they can be changed", () => {
+  const of = (...shown) => road({...ada([]), shape: null, note: "", shown,
+                                 edits: [["block", 100, 600, 1]]}).line([1, ADA]);
+  const closure = ["block", 100, 101, 600, 700, 1];
+  const [one, two] = [of([...closure, null], ["block", 100, 101, 700, null, 0, null]),
+                      of([...closure, null], ["block", 100, 100, 800, null, 1, null])];
+  assert.deepEqual([one.shape, one.isRaw], [closure, true]);
+  assert.equal(two.shape, null);
+  assert.equal(new Words(road(), ADA).text(one),
+               "Whole road closed 0.75\u20130.765 km, 0:10:00\u20130:11:40");
+  assert.equal(new Words(road(), ADA).text(two), "Whole road closed 0.75\u20130.757 km, from "
+    + "0:10:00 on");
+});
+
+test("an edit that sets what the plan has needs no frame, a shape that does has one", () => {
+  const edit = line([3, ADA], "Cron", ["limit", 4, 4, 0, null, 5], [[0, null, null]]);
+  assert.deepEqual(road({...edit, shape: null, edits: [["limit", 4, 0, 5]]}).frames, []);
+  assert.equal(road(edit).frames.length, 1);
+});
+
+test("a line says where it is in force, and what covers it", () => {
+  const layers = road(ada(COVERED), ben([[1500, 1800, null]]));
+  const said = (number, name) => new Words(layers, number).cover(layers.line(name));
+  assert.equal(said(ADA, [1, ADA]), "In force 0:20:00\u20130:25:00; covered 0:25:00\u20130:30:00 by "
+    + "Ben's limit of 81 km/h; in force 0:30:00\u20130:40:00.");
+  assert.match(said(BEN, [1, ADA]), /by your limit of 81 km\/h/);
+  assert.equal(said(ADA, [2, BEN]), "");
+});
+
+test("a line that is wholly covered says so", () => {
+  const over = line([3, BEN], "Ben", ["limit", 0, 15, 0, null, 1], [[0, null, null]]);
+  const layers = road(ada([[1200, 2400, [3, BEN]]]), over);
+  assert.equal(new Words(layers, ADA).cover(layers.line([1, ADA])),
+               "Wholly covered by Ben's limit of 27 km/h.");
+});
+
+test("places are said where parts of the road differ", () => {
+  const shown = [["limit", 4, 4, 1200, 2400, 2, null], ["limit", 5, 5, 1200, 2400, 2, [2, BEN]]];
+  const layers = road({...ada([]), shown}, ben([[1500, 1800, null]]));
+  assert.equal(new Words(layers, ADA).cover(layers.line([1, ADA])),
+    "In force 1.5\u20131.875 km, 0:20:00\u20130:40:00; covered 1.875\u20132.25 km, "
+    + "0:20:00\u20130:40:00 by Ben's limit of 81 km/h.");
+});
+
+test("of many parts four are told", () => {
+  const parts = Array.from({length: 9}, (_, turn) =>
+    [1200 + 60 * turn, 1260 + 60 * turn, turn % 2 ? [2, BEN] : null]);
+  const layers = road(ada(parts), ben([[1500, 1800, null]]));
+  assert.match(new Words(layers, ADA).cover(layers.line([1, ADA])), /; and 5 more\.$/);
+});
+
+test("the lists have what stands and what is not shared, newest first", () => {
+  const change = {stamp: [5, ADA], who: "Ada", note: "changed", when: 0, does: "change",
+                  shared: false, lost: null};
+  const mine = ada([[1200, 2400, null]]);
+  mine.operations.push(change);
+  const withdrawn = {...ben([]), standing: false, shape: null};
+  const lines = linesOf(road(mine, ben([[1500, 1800, null]])), ADA);
+  assert.deepEqual(lines.map(({text, state, where}) => [text, state, where]),
+    [["54 km/h, 1.5\u20132.25 km, 0:20:00\u20130:40:00", "private", "own"],
+     ["81 km/h, 1.5\u20132.25 km, 0:25:00\u20130:30:00", "shared", "held"]]);
+  assert.deepEqual(privateOf(mine), [change]);
+  assert.deepEqual(linesOf(road(withdrawn), ADA), []);
+  withdrawn.operations.push({stamp: [6, ADA], who: "Ada", note: "Withdrew: it", when: 0,
+                             does: "withdraw", shared: false, lost: null});
+  assert.deepEqual(linesOf(road(withdrawn), ADA).map(({text, where}) => [text, where]),
+                   [["Withdrew: it", "own"]]);
+});
+
+test("edits that were changed have one line: that of the shape in their place", () => {
+  const edits = {...ada([]), standing: false, shape: null};
+  const done = {stamp: [9, ADA], who: "Ada", note: "", when: 0, does: "put", shared: false,
+                lost: null};
+  edits.operations = [...edits.operations, {...done, does: "edits"}];
+  const shape = {...ada([[1200, 2400, null]]), name: [9, ADA], operations: [done]};
+  assert.deepEqual(linesOf(road(edits, shape), ADA).map(({line: {name}}) => name), [[9, ADA]]);
+});
+
+test("all that was done is listed, withdrawals too", () => {
+  const withdrawn = {...ben([]), standing: false, shape: null, note: "81 km/h"};
+  withdrawn.operations = [...withdrawn.operations,
+    {stamp: [6, ADA], who: "Ada", note: "Withdrew: 81 km/h", when: 0, does: "withdraw",
+     shared: true, lost: null}];
+  const layers = road(ada(COVERED), withdrawn);
+  assert.deepEqual(historyOf(layers, ADA).map(({text, meta}) => [text, meta]),
+    [["Withdrew: 81 km/h", "you, withdrawn"], ["put", "Ben, put"], ["put", "you, put"]]);
+  assert.match(historyOf(layers, ADA)[2].cover, /^In force 0:20:00\u20130:25:00; covered/);
+});
+
+test("who lost to another at the same time is told, until it is laid again", () => {
+  const mine = ben([]);
+  mine.operations = [...mine.operations,
+    {stamp: [5, BEN], who: "Ben", note: "", when: 0, does: "change", shared: true, lost: [5, 67]},
+    {stamp: [5, 67], who: "Cleo", note: "", when: 0, does: "withdraw", shared: true, lost: null}];
+  Object.assign(mine, {standing: false, shape: null});
+  const [one] = linesOf(road(mine), BEN);
+  assert.equal(one.lost, "Cleo withdrew it at the same time, a moment later.");
+  assert.deepEqual(lostOf(mine, BEN).mine.stamp, [5, BEN]);
+  assert.equal(lostOf(mine, ADA), null);
+  mine.operations.push({stamp: [6, BEN], who: "Ben", note: "", when: 0, does: "put", shared: true,
+                        lost: null});
+  assert.equal(lostOf(mine, BEN), null);
+});
+
+test("before it is done it is said what would be covered, and what would be in force again", () => {
+  const was = [["limit", 4, 5, 1200, 2400, 2, null]];
+  const layers = road().with([{...ada(COVERED), was}, {...ben([[1500, 1800, null]]), was: null}]);
+  const [after, said] = [[...layers.lines.values()], new Words(layers, ADA)];
+  assert.deepEqual(affectedBy(after).map((one) => said.effect(one)),
+    ["you: 54 km/h, 1.5\u20132.25 km, 0:20:00\u20130:40:00 \u2013 then: in force "
+     + "0:20:00\u20130:25:00; covered 0:25:00\u20130:30:00 by Ben's limit of 81 km/h; in force "
+     + "0:30:00\u20130:40:00."]);
+  const effect = (line) => said.effect(road(line).line(line.name));
+  assert.match(effect(ada([[1200, 2400, null]])), /then: in force whole\.$/);
+  assert.match(effect({...ada([]), standing: false}), /then: withdrawn\.$/);
+  assert.deepEqual(affectedBy([{...ada([]), shown: was, was}]), []);
+});

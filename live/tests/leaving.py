@@ -1,0 +1,179 @@
+"""What a site made and makes is left out for all, by whoever has the token, and comes back."""
+from __future__ import annotations
+
+import contextlib
+import json
+import random
+import secrets
+from typing import Any, Iterable
+
+from faulty import Bus, Here, Message
+from road_lab import Edit, Plan, RoadLab
+from running import ALL, SMALL, Case
+from server import stamps
+from server.asked import Refused
+
+CELLS, STEPS = range(50, 56), range(0, 30, 5)
+
+
+def by_shapes(gestures: Iterable[Any]) -> dict[tuple[int, int], int]:
+    """The same by the rules alone: of what counts the greatest stamp says what a layer is, the highest layer what holds."""
+    outs: dict[int, bool] = {}
+    for one in sorted(gestures, key=lambda each: each.stamp):
+        for name, laid in one.lays.items():
+            if name[0] == "site" and not outs.get(one.stamp[1] // 64):
+                outs[name[1]] = laid.shape is not None
+    layers: dict[Any, Any] = {}
+    for one in sorted(gestures, key=lambda each: each.stamp):
+        if not outs.get(one.stamp[1] // 64):
+            layers.update((name, laid) for name, laid in one.lays.items() if name[0] != "site")
+    standing = sorted((laid.height, laid.shape) for laid in layers.values() if laid.shape is not None)
+    found = {(cell, step): 0 for cell in CELLS for step in range(50)}
+    for _, (_, first, last, begin, end, value) in standing:
+        found.update(((cell, step), value) for cell in range(first, last + 1) for step in range(begin, end))
+    return found
+
+
+class LeftOut(Case):
+    """What a site made and makes is left out for all, and comes back."""
+
+    async def asyncSetUp(self) -> None:
+        self.bus = Bus()
+        self.here = [await self.enterAsyncContext(Here(site=number)) for number in (1, 2, 3)]
+        self.sites = [self.bus.site(here) for here in self.here]
+        for here in self.here:
+            await here.join(f"of site {here.site}")
+            await here.lab.set_clock(to=100)
+
+    async def shape(self, place: int, *shape: Any, **more: Any) -> Any:
+        """A shared gesture of a site."""
+        here = self.here[place]
+        said = await here.ask(1, "gesture", key=secrets.token_hex(8), note="", shape=list(shape), **more)
+        await self.share(place)
+        return list(said["stamp"])
+
+    async def share(self, place: int) -> None:
+        await self.here[place].share(1)
+        await self.bus.carry()
+        await self.bus.rounds(2)
+
+    async def rows(self, here: Here, at: str = "shared") -> list[str]:
+        await here.ask(1, "advance", at=at, to=100)
+        rows: list[str] = (await here.ask(1, "diagram", at=at, **{"from": 0, "to": 100}))["rows"]
+        return rows
+
+    def road(self, *edits: tuple[Any, ...]) -> list[str]:
+        """The rows of a road by these edits alone."""
+        with RoadLab(Plan(**{**SMALL, "replicas": ["A"]})) as lab:
+            lab.take_in("A", [Edit.read([kind, index, step, 1, 64, value]) for kind, index, step, value in edits])
+            lab.advance("A", 100)
+            rows: list[str] = lab.diagram("A", 0, 100)
+            return rows
+
+    async def test_what_a_site_made_and_makes_is_left_out_for_all_and_comes_back(self) -> None:
+        limit, closure = ("limit", 1, 20, 2), (("block", 60, 30, 1), ("block", 60, 50, 0))
+        later = ("block", 80, 10, 1)
+        await self.shape(0, "limit", 1, 1, 20, None, 2)
+        stamp = await self.shape(2, "block", 60, 60, 30, 50, 1)
+        await self.here[1].take(1)
+        await self.everywhere(self.road(limit, *closure))
+
+        said = await self.here[1].ask(1, "site", key="out", site=3, out=True)
+        self.assertEqual(await self.rows(self.here[1], "seat1"), self.road(limit))  # private at first
+        await self.everywhere(self.road(limit, *closure))
+        await self.share(1)
+        await self.everywhere(self.road(limit))
+
+        await self.shape(2, "block", 80, 80, 10, None, 1)  # what it sends from then on
+        mending = {"stamp": [stamps.next_count(0, stamps.milliseconds(), 0), 3 * 64], "known": 10 ** 9,
+                   "edits": [["block", 20, 5, 1]], "who": "mended", "note": "", "when": 1}
+        await self.bus.give(self.sites[0], Message(f"road/{self.sites[0]._road}/layers", json.dumps(
+            {"form": 2, "gestures": [mending]}).encode()))
+        await self.bus.rounds(4)
+        await self.everywhere(self.road(limit))
+        key, = self.here[1].keys.values()
+        await self.here[1].keeper.close()
+        again = await self.enterAsyncContext(Here(self.here[1].folder))  # so by its journal
+        self.assertEqual(await self.rows(again), self.road(limit))
+        await again.keeper.close()
+        self.here[1] = await self.enterAsyncContext(Here(self.here[1].folder))
+        self.bus.sites[1] = self.sites[1] = Bus.site(self.bus, self.here[1])
+        del self.bus.sites[-1]
+        self.assertEqual((await self.here[1].lab.join("", key, None))[0], 1)
+
+        await self.here[1].ask(1, "undo", key="in", stamp=list(said["stamp"]))
+        await self.share(1)
+        await self.everywhere(self.road(limit, *closure, later))
+        await self.here[2].ask(1, "gesture", key="w", note="", layer=stamp, shape=None)
+        await self.share(2)
+        await self.everywhere(self.road(limit, later))
+
+    async def everywhere(self, rows: list[str]) -> None:
+        for place, here in enumerate(self.here, 1):
+            self.assertEqual(await self.rows(here), rows, f"site {place}")
+
+    async def test_random_histories_give_the_road_of_the_shapes_that_count(self) -> None:
+        """The same at all sites, whoever is left out when, and in whatever order that comes."""
+        for seed in range(24 if ALL else 3):
+            chance = random.Random(seed)
+            for number in range(24):
+                place = chance.randrange(3)
+                with contextlib.suppress(Refused):
+                    await self.act(self.here[place], chance, f"{seed} {number}")
+                if chance.random() < 0.3:
+                    chance.shuffle(self.bus.sent)
+                    await self.bus.carry()
+            for here in self.here:
+                await here.share(1)
+            for _ in range(8):
+                await self.bus.carry()
+                for site in self.sites:
+                    site._sent.clear()
+                    site._pauses.clear()
+                await self.bus.rounds(2)
+            numbers = [await self.numbers(here) for here in self.here]
+            self.assertEqual(numbers, [by_shapes(here.lab.state.shared.gestures) for here in self.here], seed)
+            self.assertEqual(numbers, [numbers[0]] * 3, seed)
+
+    async def act(self, here: Here, chance: random.Random, key: str) -> None:
+        what, first, begin = chance.random(), chance.choice(CELLS), chance.choice(STEPS)
+        if what < 0.4:
+            shape = ["block", first, chance.randint(first, CELLS[-1]), begin, begin + chance.randint(1, 20), chance.randint(0, 1)]
+            await here.ask(1, "gesture", key=key, note="", shape=shape)
+        elif what < 0.6:
+            other = 1 + here.lab.state.site % 3
+            await here.ask(1, "site", key=key, site=chance.choice([other, 1 + other % 3]), out=chance.random() < 0.6)
+        elif what < 0.75:
+            made = [one.stamp for one in here.lab.state.seats[1].gestures if one.lays]
+            await here.ask(1, "undo", key=key, note="", stamp=list(chance.choice(made or [(1, 1)])))
+        elif what < 0.85:
+            await here.take(1)
+        else:
+            await here.share(1)
+
+    async def numbers(self, here: Here) -> dict[tuple[int, int], int]:
+        """Which cells are closed at which steps of the shared road, by what wins in the program."""
+        reply = await here.keeper.ask(0, (0,), lambda: here.keeper.say(b'{"scenario":{"at":"shared"}}', {}))
+        puts: dict[int, dict[int, int]] = {cell: {} for cell in CELLS}
+        for kind, cell, step, _, _, value in json.loads(reply)["edits"]:
+            if kind == "block" and value is not None:
+                puts[cell][step] = value
+        return {(cell, step): next((puts[cell][at] for at in range(step, -1, -1) if at in puts[cell]), 0)
+                for cell in CELLS for step in range(50)}
+
+    async def test_who_is_left_out_lets_nobody_in(self) -> None:
+        await self.shape(2, "block", 60, 60, 30, None, 1)
+        await self.here[0].ask(1, "site", key="out", site=3, out=True)
+        await self.share(0)
+        for place, site, out in ((2, 1, True), (2, 2, True), (1, 3, True)):
+            await self.here[place].ask(1, "site", key=f"{site}", site=site, out=out)
+            await self.share(place)
+        await self.shape(0, "limit", 1, 1, 20, None, 2)
+        await self.everywhere(self.road(("limit", 1, 20, 2)))
+        with self.assertRaisesRegex(Refused, "own site"):
+            await self.here[2].ask(1, "site", key="own", site=3, out=False)
+        for wrong in (["site", 0, 0], ["site", 3, 1], ["site", "3", 0], ["site", 1_024, 0], ["site", 3]):
+            lays = [[wrong, 1, [9, 70], None, [0, 0]]]
+            body = json.dumps({"form": 2, "gestures": [{"stamp": [9, 70], "lays": lays, "edits": []}]}).encode()
+            await self.bus.give(self.sites[0], Message(f"road/{self.sites[0]._road}/layers", body))
+            self.assertNotIn((9, 70), self.here[0].lab.state.by_stamp)

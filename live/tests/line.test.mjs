@@ -1,0 +1,96 @@
+// The line to the server, by sockets that a test opens, answers and breaks.
+
+import assert from "node:assert/strict";
+import {test} from "node:test";
+
+import {Away, Line, TAKEN_OVER} from "../page/line.mjs";
+
+/** A line that stands, what it sent, what it was told, and waits that it made. */
+function standing() {
+  const found = {sockets: [], sent: [], heard: [], lost: [], waits: []};
+  const line = new Line({
+    open: () => {
+      const socket = {readyState: 1, send: (text) => found.sent.push(JSON.parse(text)),
+                      close: () => { socket.isClosed = true; }};
+      found.sockets.push(socket);
+      return socket;
+    },
+    greet: () => line.stands(),
+    hear: (value) => found.heard.push(value),
+    lost: (...words) => found.lost.push(words),
+    later: (act, wait) => found.waits.push([act, wait]),
+  });
+  line.connect();
+  found.sockets[0].onopen();
+  return {line, found};
+}
+
+const answer = (found, value) => found.sockets.at(-1).onmessage({data: JSON.stringify(value)});
+
+test("an answer goes to its question, and what has no number is heard", async () => {
+  const {line, found} = standing();
+  const [one, other] = [line.ask({cells: {step: 1}}), line.ask({cells: {step: 2}})];
+  assert.deepEqual(found.sent, [{id: 1, cells: {step: 1}}, {id: 2, cells: {step: 2}}]);
+  answer(found, {clock: {now: 5}});
+  answer(found, {id: 2, cells: "b"});
+  answer(found, {id: 1, cells: "a"});
+  answer(found, {id: 9, cells: "nobody's"});
+  assert.equal((await one).cells, "a");
+  assert.equal((await other).cells, "b");
+  assert.deepEqual(found.heard, [{clock: {now: 5}}]);
+});
+
+test("six questions are open, and what comes first goes before those that wait", async () => {
+  const {line, found} = standing();
+  for (let step = 1; step <= 7; step++) line.ask({cells: {step}});
+  line.ask({gesture: {key: "k"}}, true);
+  assert.equal(found.sent.length, 6);
+  answer(found, {id: 3});
+  assert.deepEqual(found.sent.at(-1), {id: 7, gesture: {key: "k"}});
+  answer(found, {id: 1});
+  assert.deepEqual(found.sent.at(-1), {id: 8, cells: {step: 7}});
+});
+
+test("what comes first keeps its own order, whatever its number", () => {
+  const {line, found} = standing();
+  for (let step = 1; step <= 7; step++) line.ask({cells: {step}});
+  for (let key = 1; key <= 9; key++) line.ask({gesture: {key}}, true);
+  for (let id = 1; id <= 16; id++) answer(found, {id});
+  const keys = found.sent.filter(({gesture}) => gesture).map(({gesture}) => gesture.key);
+  assert.deepEqual(keys, [1, 2, 3, 4, 5, 6, 7, 8, 9]);
+  assert.deepEqual(found.sent.at(-1), {id: 16, cells: {step: 7}});
+});
+
+test("a break ends what was asked, and it is tried again after growing waits", async () => {
+  const {line, found} = standing();
+  const asked = Array.from({length: 8}, (_, step) => line.ask({cells: {step}}));
+  found.sockets[0].onclose({code: 1006, reason: ""});
+  for (const one of asked) await assert.rejects(one, Away);
+  await assert.rejects(line.ask({cells: {step: 0}}), Away);
+  for (let turn = 0; turn < 6; turn++) {
+    found.waits.at(-1)[0]();
+    found.sockets.at(-1).onclose({code: 1006, reason: ""});
+  }
+  assert.deepEqual(found.waits.map(([, wait]) => wait), [200, 400, 800, 1600, 3200, 5000, 5000]);
+  assert.ok(found.lost.every(([again]) => again));
+  found.waits.at(-1)[0]();
+  found.sockets.at(-1).onopen();
+  found.sockets.at(-1).onclose({code: 1006, reason: ""});
+  assert.equal(found.waits.at(-1)[1], 200);     // it stood in between
+});
+
+test("what was closed for good is not tried again", () => {
+  for (const code of [1008, 4000, TAKEN_OVER]) {
+    const {found} = standing();
+    found.sockets[0].onclose({code, reason: "why"});
+    assert.deepEqual([found.waits, found.lost], [[], [[false, "why", code]]]);
+  }
+});
+
+test("a line that rests is not lost, and can be asked for a name alone", async () => {
+  const {line, found} = standing();
+  line.rest();
+  assert.ok(found.sockets[0].isClosed);
+  assert.equal(found.sockets[0].onclose, null);
+  assert.deepEqual(found.lost, []);
+});

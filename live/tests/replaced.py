@@ -1,0 +1,53 @@
+"""A program that ends or hangs is replaced, one that is busy is not."""
+from __future__ import annotations
+
+import asyncio
+import json
+import os
+import signal
+from typing import Any
+from unittest import mock
+
+from faulty import Here, soon
+from running import SMALL, Case, program
+from server.program import start
+
+LONG = {**SMALL, "length": 8_000, "zone": 1_000, "zones": [[5, 6_554]] * 8}
+
+
+def state_of(process: int) -> str:
+    with open(f"/proc/{process}/stat", encoding="ascii") as file:
+        return file.read().rpartition(")")[2].split()[0]
+
+
+class Programs(Case):
+    async def test_one_that_hangs_is_replaced_and_people_are_told(self) -> None:
+        async with Here() as here:
+            keeper = here.keeper
+            ada, = await here.join("Ada")
+            stamp = await here.put(ada, ["limit", 2, 50, 3])
+            told: list[Any] = []
+            keeper.listeners.on("program", lambda: told.append((keeper.changes, keeper.why_changed)))
+            os.kill(keeper.program._process.pid, signal.SIGSTOP)
+            with mock.patch("server.program.HANGS", 1.0):
+                reply = await soon(keeper.ask(ada, (ada,), lambda: keeper.say(b'{"scenario":{"at":"seat1"}}', {})))
+            self.assertEqual(json.loads(reply)["edits"], [["limit", 2, 50, *stamp, 3]])
+            self.assertEqual(told, [(1, "the program owed an answer and used no processor for 1 seconds")])
+
+    async def test_one_that_was_killed_is_replaced_and_people_are_told(self) -> None:
+        async with Here() as here:
+            keeper = here.keeper
+            ada, = await here.join("Ada")
+            os.kill(keeper.program._process.pid, signal.SIGKILL)
+            await here.put(ada, ["limit", 2, 50, 3])
+            self.assertEqual((keeper.changes, keeper.why_changed), (1, "the program ended with status -9"))
+
+    async def test_one_that_is_busy_is_not_replaced(self) -> None:
+        """It works for much longer than one that hangs is waited for."""
+        here = await start([str(program())], json.dumps({**LONG, "replicas": ["A"]}).encode())
+        self.addAsyncCleanup(here.close)
+        with mock.patch("server.program.HANGS", 0.2):
+            began = asyncio.get_running_loop().time()
+            reply = await soon(here.ask(b'{"advance":{"at":"A","to":400000}}'))
+            self.assertEqual(json.loads(reply), {"horizon": 400_000})
+            self.assertGreater(asyncio.get_running_loop().time() - began, 0.4)

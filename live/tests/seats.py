@@ -1,0 +1,107 @@
+"""Who gets which seat when many come at once, and a clock that goes slowly or fast."""
+from __future__ import annotations
+
+import asyncio
+from typing import Any
+from unittest import mock
+
+from faulty import Here, soon
+from running import Case
+from server import verbs
+from server.asked import Asked, Refused
+
+
+class Seats(Case):
+    async def asyncSetUp(self) -> None:
+        self.here = await self.enterAsyncContext(Here())
+        self.time = 1_000_000.0
+
+    async def together(self, *names: str) -> list[Any]:
+        """The seats of those who come at once, or why they get none."""
+        said = await soon(asyncio.gather(*(self.here.lab.join(name, "", None) for name in names), return_exceptions=True))
+        return [one.text if isinstance(one, Refused) else one[0] for one in said]
+
+    async def test_no_two_get_one_seat_or_one_name(self) -> None:
+        seats = await self.together(*(f"n{number}" for number in range(60)))
+        self.assertEqual(sorted(seats), list(range(1, 61)))
+        self.assertEqual(sorted(map(str, await self.together("Ada", "Ada", "Ada"))), ["61", "NameTaken", "NameTaken"])
+        for seat in (3, 5):
+            await self.here.lab.give_back(seat)
+            self.here.keeper.here.discard(seat)
+        # Each free seat but 62 and 63 was somebody's, and the program still holds what they put.
+        self.assertEqual(len(set(await self.together("Ben", "Cleo", "Dan", "Eve"))), 4)
+        self.assertEqual(await self.together("Fay"), ["all seats are taken"])
+
+    async def test_of_two_who_take_a_seat_over_one_gets_it(self) -> None:
+        index, = await self.here.join("Ada")
+        self.here.keeper.here.discard(index)
+        lab = self.here.lab
+        said = await asyncio.gather(*(lab.join("", "", index) for _ in range(2)), return_exceptions=True)
+        self.assertEqual([getattr(one, "text", "seat") for one in said], ["seat", "seat is connected"])
+
+    async def test_a_freed_seats_changes_bear_the_name_of_who_made_them(self) -> None:
+        ada, = await self.here.join("Ada")
+        await self.here.put(ada, ["limit", 2, 50, 3])
+        await self.here.share(ada)
+        await self.here.lab.give_back(ada)
+        self.here.keeper.here.discard(ada)
+        others = await self.here.join(*(f"n{number}" for number in range(63)))  # one of them has her seat
+        self.assertIn(ada, others)
+        for keeper in (self.here.keeper, None):
+            if keeper is None:  # and after a start
+                await self.here.keeper.close()
+                self.here = await self.enterAsyncContext(Here(self.here.folder))
+            line, = (await self.here.ask(others[0], "layers", at="shared"))["layers"]
+            self.assertEqual([line["who"], line["operations"][0]["who"]], ["Ada", "Ada"])
+            self.assertIn(",Ada,", (await self.here.ask(ada, "csv", at="shared", what="changes"))["csv"])
+
+    async def test_whole_lists_take_their_turn(self) -> None:
+        """What a seat asks before is done first, and so are others while it waits."""
+        keeper, is_free = self.here.keeper, asyncio.Event()
+        ada, ben = await self.here.join("Ada", "Ben")
+        busy = keeper.turns.ask(ada, is_free.wait)
+        asked = [asyncio.create_task(self.here.ask(ada, verb, **more)) for verb, more in (
+            ("layers", {}), ("gestures", {}), ("csv", {"what": "changes"}), ("scenario", {}))]
+        asked.append(asyncio.create_task(verbs.answer(self.here.lab, self.here.questions, ada, Asked("seats", {}), {})))
+        await asyncio.sleep(0.2)
+        self.assertEqual([one for one in asked if one.done()], [])
+        is_free.set()
+        await soon(asyncio.gather(busy, *asked))
+        self.assertEqual((await self.here.ask(ben, "layers"))["layers"], [])
+
+    async def test_no_question_reaches_further_than_a_clock_may_be_set(self) -> None:
+        ada, = await self.here.join("Ada")
+        now = self.here.keeper.now()
+        for verb, more in (("advance", {"to": now + 36_001}), ("transcript", {"from": 0, "to": now + 36_001}),
+                           ("figures", {"of": "mine", "from": 0, "to": now + 36_001})):
+            with self.assertRaisesRegex(Refused, "too far ahead"):
+                await self.here.ask(ada, verb, **more)
+        with self.assertRaisesRegex(Refused, "Range"):
+            await self.here.lab.set_clock(to=now + 36_001)
+
+    async def clock(self, rate: float, seconds: float) -> int:
+        """How far a clock of this rate goes in some seconds."""
+        keeper, lab = self.here.keeper, self.here.lab
+        with mock.patch("server.keeper.time.monotonic", lambda: self.time):
+            await lab.set_clock(rate=rate)
+            before = keeper.now()
+            for _ in range(int(seconds)):
+                self.time += 1
+                lab._keep_clock()
+                await keeper.journal.settled()
+                await asyncio.sleep(0)
+            return keeper.now() - before
+
+    async def test_rates_may_have_a_fraction(self) -> None:
+        for rate, steps in ((0.3, 30), (0.5, 50), (1.5, 150), (0.01, 1)):
+            self.assertAlmostEqual(await self.clock(rate, 100), steps, delta=1)
+
+    async def test_a_fast_clock_stops_in_an_hour_and_says_so(self) -> None:
+        told: list[Any] = []
+        self.here.keeper.listeners.on("clock", lambda: told.append(self.here.keeper.clock()))
+        self.assertEqual(await self.clock(60, 100), 6_000)
+        self.assertEqual(await self.clock(600, 5), 3_000)
+        self.assertEqual(told[-1], {"rate": 600, "now": 6_000, "stop": 9_600})
+        self.assertEqual(await self.clock(500, 20), 3_600)  # again from where it is
+        self.assertEqual(told[-1], {"rate": 0, "now": 12_600})
+        self.assertEqual(self.here.keeper.state.rate, 0)

@@ -1,0 +1,45 @@
+// The house: only actions change the store, and modules that are to be pure touch no page.
+
+import assert from "node:assert/strict";
+import {readFileSync, readdirSync} from "node:fs";
+import {test} from "node:test";
+
+const PAGE = new URL("../page/", import.meta.url);
+const SOURCES = new Map(readdirSync(PAGE).filter((name) => name.endsWith(".mjs")).map((name) =>
+  [name.replace(".mjs", ""), readFileSync(new URL(name, PAGE), "utf8")]));
+const ACTIONS = ["acting", "drafting", "fetching", "joining", "looking", "store"];
+const PURE = ["chain", "geometry", "kept", "labels", "layers", "line", "listing", "rows", "sentences",
+              "stamps", "units"];
+const importsOf = (source) =>
+  [...source.matchAll(/from "\.\/(\w+)\.mjs"/g)].map(([, name]) => name);
+
+test("only actions change the store", () => {
+  const writes = new RegExp([
+    /\bstore(?:\.\w+)*(?:\[\w+\])?\s*(?:[-+*|&?]{0,2}=[^=>]|\+\+|--)/, /Object\.assign\(store/,
+    /\bstore\.[\w.]+\.(?:push|pop|set|delete|splice)\(/].map(({source}) => source).join("|"));
+  for (const [name, source] of SOURCES) {
+    if (!ACTIONS.includes(name)) assert.doesNotMatch(source, writes, name);
+  }
+  for (const name of ACTIONS) assert.match(SOURCES.get(name), writes, name);
+});
+
+test("actions know no view, and touch no element", () => {
+  for (const name of ACTIONS) {
+    assert.doesNotMatch(SOURCES.get(name), /document\.|\belements\.mjs/, name);
+    for (const other of importsOf(SOURCES.get(name))) {
+      assert.doesNotMatch(SOURCES.get(other), /^export function begin\(/m, `${name}: ${other}`);
+    }
+  }
+});
+
+test("pure modules import pure ones alone", () => {
+  for (const name of PURE) {
+    const others = importsOf(SOURCES.get(name));
+    assert.deepEqual(others.filter((other) => !PURE.includes(other)), [], name);
+    assert.doesNotMatch(SOURCES.get(name), /\bdocument\.|\bstore\./, name);
+  }
+});
+
+test("each module says what it is", () => {
+  for (const [name, source] of SOURCES) assert.match(source, /^\/\/ [A-Z].*/, name);
+});

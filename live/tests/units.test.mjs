@@ -1,0 +1,85 @@
+// Cells and steps in an engineer's units.
+
+import assert from "node:assert/strict";
+import {readFileSync} from "node:fs";
+import {test} from "node:test";
+
+import {cellOfKm, chanceOfDemand, dayText, demandOfChance, durationText, kmText, limitText,
+        mostDemand, plural, signedText, stepOfText, timeText} from "../page/units.mjs";
+
+test("a cell is 7.5 m, a cell a step 27 km/h", () => {
+  assert.equal(kmText(400), "3");
+  assert.equal(kmText(1), "0.007");     // as 0.0075 is written with three digits
+  assert.equal(cellOfKm(3), 400);
+  assert.equal(cellOfKm(0.18), 24);
+  assert.deepEqual([0, 2, 5].map(limitText), ["0 km/h", "54 km/h", "135 km/h"]);
+});
+
+test("times of the clock are written and read alike", () => {
+  for (const [step, text] of [[0, "0:00:00"], [59, "0:00:59"], [3661, "1:01:01"],
+                              [360000, "100:00:00"]]) {
+    assert.equal(timeText(step), text);
+    assert.equal(stepOfText(text), step);
+  }
+  assert.equal(stepOfText("20"), 1200);
+  assert.equal(stepOfText("0,5"), 30);
+  assert.equal(stepOfText(" 0:20 "), 1200);
+  for (const text of ["", "soon", "1:60", "1:2", "-5", "0:20:61", "1:00:00:00"]) {
+    assert.ok(Number.isNaN(stepOfText(text)), text);
+  }
+  assert.deepEqual([30, 60, 90, 600].map(durationText), ["30 s", "1 min", "90 s", "10 min"]);
+});
+
+test("differences have a sign, unless they are nothing as written", () => {
+  assert.equal(signedText(1234.56, 1), "+1,234.6");
+  assert.equal(signedText(-0.5, 1), "\u22120.5");
+  assert.equal(signedText(-0.04, 1), "0");
+  assert.equal(plural(1, "change"), "1 change");
+  assert.equal(plural(1200, "change"), "1,200 changes");
+});
+
+test("a day is told where it is not today", () => {
+  assert.equal(dayText(0), "");
+  const now = Math.floor(Date.now() / 1000);
+  assert.ok(!dayText(now).includes(" ") || /[AP]M$/.test(dayText(now)));
+  assert.ok(dayText(now - 3 * 86400).length > dayText(now).length);
+});
+
+/** The rows of the table of docs/TRAFFIC of inflow chances: p, the chances, and the most cars an hour. */
+function tableOfTraffic() {
+  const text = readFileSync(new URL("../../docs/TRAFFIC.md", import.meta.url), "utf8");
+  const fraction = (cell) => cell.split("/").map(Number).reduce((one, other) => one / other);
+  return text.split("\n").filter((line) => /^\| (0|0\.1|1\/4|1\/2) \|/.test(line)).map((line) => {
+    const cells = line.split("|").slice(1, -1).map((cell) => cell.trim());
+    const chances = cells.slice(1, 6).map((one) => (one ? Number(one) : null));
+    return {slow: fraction(cells[0]), chances,
+            most: Number(cells[6].split(" ")[0].replace(",", ""))};
+  });
+}
+
+test("demands have the chances of the table of docs/TRAFFIC", () => {
+  const rows = tableOfTraffic();
+  assert.equal(rows.length, 4);
+  for (const {slow, chances, most} of rows) {
+    assert.equal(mostDemand(slow), most);
+    [500, 1000, 1250, 1500, 1700].forEach((cars, column) => {
+      if (chances[column] === null) return;
+      assert.ok(Math.abs(chanceOfDemand(cars, slow) - chances[column]) < 1e-9, `${slow} ${cars}`);
+      assert.ok(Math.abs(demandOfChance(chances[column], slow) - cars) < 0.5, `${slow} ${cars}`);
+    });
+    assert.equal(chanceOfDemand(0, slow), 0);
+    assert.ok(Number.isNaN(chanceOfDemand(most + 1, slow)));
+    assert.ok(Number.isNaN(chanceOfDemand(-1, slow)));
+  }
+});
+
+test("between the table's chances demands rise, and above them there is none", () => {
+  let before = 0;
+  for (let cars = 50; cars <= 1600; cars += 50) {
+    const chance = chanceOfDemand(cars, 0.05);
+    assert.ok(chance > before && chance <= 1, `${cars}`);
+    before = chance;
+  }
+  assert.ok(Number.isNaN(mostDemand(0.51)));
+  assert.ok(Number.isNaN(demandOfChance(0.3, 0.6)));
+});
