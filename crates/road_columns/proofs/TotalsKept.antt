@@ -1,4 +1,4 @@
--- The totals of detectors, kept with the counts of a span.
+-- The totals of detectors, kept with the counts of an interval.
 use Rattle.std.specs.Prelude.{◌≡◌, ℕ, zero, suc, ◌+◌, ◌*◌, ◌/◌, ◌%◌, ◌<◌, ◌≤◌, List, ◌∷◌, length, map, slice_index}
 use Rattle.std.proofs.Common.{sym, ap, subst, ◌∙◌, arith, refl}
 use Rattle.std.specs.List.{range_with_len, slice_index_or}
@@ -59,18 +59,18 @@ totals_added passes passes' totals totals' many long added empty =
 pub counted_most : (k n : ℕ) → k ≤ 64 → IsOfSteps k n → ((unpacked n).cars ≤ k) × ((unpacked n).speeds ≤ 9 * k)
 counted_most k n early is = let few = is.few in let short = is.short in ((omega arith), few)
 
--- counts of one step more, in the same span or in the next one
+-- counts of one step more, in the same interval or in the next one
 module _ (n t : ℕ) (passes passes' : List ℕ) (totals totals' : List Totals) (each : length passes' ≡ n) (totals_each : length totals' ≡ n) where
   pub counts_on : t % 64 < 63 → ((d : ℕ) → d < n → IsOfSteps (t % 64 + 1) (slice_index passes' d))
       → ((d : ℕ) → d < n → (slice_index_or totals' d no_totals).cars ≤ 64 * (t / 64)) → ((d : ℕ) → d < n → (slice_index_or totals' d no_totals).speeds ≤ 576 * (t / 64))
       → AreCounts n (t + 1) passes' totals'
-  counts_on early of_span cars speeds =
+  counts_on early of_past cars speeds =
       let next : t % 64 + 1 ≡ (t + 1) % 64 = omega arith in
       let same : (t + 1) / 64 ≡ t / 64 = omega arith in
       record {
         passes_each = each;
         totals_each = totals_each;
-        of_interval = λ d below. subst (λ k. IsOfSteps k (slice_index passes' d)) next (of_span d below);
+        of_interval = λ d below. subst (λ k. IsOfSteps k (slice_index passes' d)) next (of_past d below);
         cars_before = λ d below. let most = cars d below in omega arith;
         speeds_before = λ d below. let most = speeds d below in omega arith;
       }
@@ -80,7 +80,7 @@ module _ (n t : ℕ) (passes passes' : List ℕ) (totals totals' : List Totals) 
       → ((d : ℕ) → d < n → slice_index_or totals' d no_totals ≡ plus (slice_index_or totals d no_totals) (unpacked (slice_index passes d)))
       → ((d : ℕ) → d < n → slice_index passes' d ≡ 0)
       → AreCounts n (t + 1) passes' totals'
-  counts_added last long of_span cars speeds added empty =
+  counts_added last long of_past cars speeds added empty =
       let first : (t + 1) % 64 ≡ 0 = omega arith in
       let next : (t + 1) / 64 ≡ t / 64 + 1 = omega arith in
       record {
@@ -89,11 +89,11 @@ module _ (n t : ℕ) (passes passes' : List ℕ) (totals totals' : List Totals) 
         of_interval = λ d below. let none = empty d below in record { few = omega arith; short = omega arith };
         cars_before = λ d below.
             let before = cars d below in
-            let most = (counted_most 64 (slice_index passes d) (omega arith) (of_span d below)).0 in
+            let most = (counted_most 64 (slice_index passes d) (omega arith) (of_past d below)).0 in
             let sum = ap (λ (x : Totals). x.cars) (added d below) in omega arith;
         speeds_before = λ d below.
             let before = speeds d below in
-            let most = (counted_most 64 (slice_index passes d) (omega arith) (of_span d below)).1 in
+            let most = (counted_most 64 (slice_index passes d) (omega arith) (of_past d below)).1 in
             let sum = ap (λ (x : Totals). x.speeds) (added d below) in omega arith;
       }
 
