@@ -139,10 +139,14 @@ class Sites:
         """What tabs are told: the sites with which it exchanges, what was told once, and what is so and stays."""
         self._forget_silent()
         return {"state": "connected" if self._connected else "away", "unsent": len(self._unsent()),
-                "sites": [{"site": site.number, "when": int(site.when)} for site in self._sites.values()
-                          if site.road == self._road and site.number != self._keeper.state.site and not site.is_silent],
+                "sites": [{"site": site.number, "when": int(site.when)} for site in self._others()],
                 "told": list(self._told), "stays": list(itertools.islice(self._stays(), MOST_STAY)),
                 "sealed": self._seal.key is not None, "left_out": self._left_out}
+
+    def _others(self) -> list[Site]:
+        """The sites with which it exchanges."""
+        return [site for site in self._sites.values() if site.road == self._road and not site.is_silent
+                and site.number != self._keeper.state.site]
 
     def _stays(self) -> Iterator[str]:
         """What is so, in sentences."""
@@ -302,6 +306,8 @@ class Sites:
         await self._take_early()
         unsent = self._keeper.state.unsent
         self._sent = {gesture: when for gesture, when in self._sent.items() if gesture in unsent}
+        if self._keeper.state.shared.doubts and not self._others():
+            await self._lab.answer()  # nobody is there who may hold more
         if self._may_send():
             self._publish(f"road/{self._road}/sum", {"sum": await self._sum(),
                                                      "numbers": self._numbers()}, 0)
