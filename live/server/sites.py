@@ -96,6 +96,7 @@ class Sites:
         self._pauses: dict[str, Pause] = {}  # of a folder
         self._disputed: dict[int, str] = {}  # numbers that a folder has that they are not bound to, and their own
         self._early: list[Any] = []  # messages that are taken when their day has come
+        self._taking: asyncio.Future[None] | None = None
         self._floods = Floods()
         self._left_out = 0  # messages without a seal
         self._counted: tuple[State, int, dict[str, int]] = lab.state, 0, {}
@@ -303,7 +304,9 @@ class Sites:
         """Says who this is and what it holds, sends what has not come back, and takes what has waited."""
         self._present()
         self._send_unsent()
-        await self._take_early()
+        if self._early and (self._taking is None or self._taking.done()):
+            self._taking = asyncio.ensure_future(self._take_early())
+            await asyncio.wait([self._taking], timeout=EVERY)  # the disk may take for ever
         unsent = self._keeper.state.unsent
         self._sent = {gesture: when for gesture, when in self._sent.items() if gesture in unsent}
         if self._keeper.state.shared.doubts and not self._others():
@@ -315,10 +318,11 @@ class Sites:
 
     async def _sum(self) -> str:
         """A hash of what wins at the shared replica, by the program."""
-        key = self._keeper.state, len(self._keeper.state.shared.gestures)
+        key = self._keeper.state, self._keeper.confirmed
         if self._summed is None or self._summed[0] != key:
             line = packed({"scenario": {"at": "shared"}}).encode()
-            reply = await self._keeper.truly(lambda: self._keeper.ask(SHARED, (SHARED,), lambda: self._keeper.say(line, {})))
+            reply = await self._keeper.truly(
+                lambda: self._keeper.ask(SHARED, (SHARED,), lambda: self._keeper.say(line, {})), "nothing")
             self._summed = key, hashlib.sha256(reply).hexdigest()[:16]
         return self._summed[1]
 
