@@ -119,6 +119,15 @@ class LeftOut(Case):
         await self.share(2)
         await self.everywhere(self.road(limit, later))
 
+    async def test_who_left_a_site_out_for_all_has_the_road_without_it_after_a_start(self) -> None:
+        """It took what that site made, and not yet that it is left out on the shared road."""
+        await self.shape(2, "block", 52, 53, 30, 45, 1)
+        await self.here[1].take(1)
+        await self.here[1].ask(1, "site", key="out", site=3, out=True)
+        await self.share(1)
+        self.assertEqual(set(by_shapes(self.here[1].lab.state.seats[1].gestures).values()), {0})
+        self.starts_again(self.here[1], "left out")
+
     async def everywhere(self, rows: list[str]) -> None:
         for place, here in enumerate(self.here, 1):
             self.assertEqual(await self.rows(here), rows, f"site {place}")
