@@ -1,9 +1,7 @@
 -- Lemmas.
 pub mod LaneWords
 pub mod Uppers
-pub mod ColumnExit
 pub mod CountedPasses
-pub mod PieceSpeeds
 pub mod PackedCars
 pub mod EnteredWords
 pub mod ColumnMotion
