@@ -16,6 +16,7 @@ PLAN: dict[str, Any] = {
     "inlets": [[index, 2] for index in range(8)], "detectors": [1, 2, 3], "words": 7, "replicas": ["road"]}
 STEPS = 30
 HISTORIES = 400 if ALL else 25
+ORDERS = 1_000 if ALL else 50
 OF_KINDS = {"block": "length", "limit": "zones", "slow": "zones", "start": "zones", "inflow": "inlets", "watch": "detectors"}
 
 Values = dict[tuple[str, int, int], Any]
@@ -120,7 +121,6 @@ class Site:
             said = self.make("came", gestures=fresh)
             if "mending" in said:
                 self.out.append([said["mending"]])
-
 
     def answers(self) -> bool:
         """All sites hold the same operations: what was doubted is mended; whether there was anything."""
@@ -271,6 +271,78 @@ class Histories(unittest.TestCase):
         for seed in range(HISTORIES):
             with self.subTest(seed=seed):
                 self.history(seed)
+
+
+class Orders(unittest.TestCase):
+    """Two to five sites that share what meets on few objects, and a stranger who mends as he likes; each message comes to
+    each site alone, in any order, and some operations come late."""
+
+    def order(self, seed: int) -> None:
+        r = random.Random(seed)
+        sites = [Site(number + 1, 1) for number in range(r.randrange(2, 6))]
+        self.sent = dict.fromkeys(sites, 0)
+        self.way: list[tuple[Site, list[Any]]] = []
+        self.late: list[tuple[Site, list[Any]]] = []
+        for number in range(r.randrange(5, 40)):
+            site, what = r.choice(sites), r.random()
+            if what < 0.4:
+                seat = site.seats[0]
+                shape = random_shape(r, r.choice(["limit", "slow", "start"]))
+                lines = [line for line in seat.lines if seat.road.laid(line).shape]
+                stamp = site.state.stamp(seat)
+                lays = put(stamp, shape) if r.random() < 0.5 or not lines else changed(
+                    seat, stamp, r.choice(lines), r.choice([None, shape]), r.random() < 0.3)
+                site.shares(seat, [site.does(seat, lays)])
+            elif what < 0.5:
+                site.takes(site.seats[0])
+            elif what < 0.55:
+                edits = [["limit", r.randrange(10), r.randrange(STEPS), r.choice([None, 0, 3])] for _ in range(3)]
+                known = r.choice([0, 3, 10 ** 9])
+                stray = {"stamp": [r.randrange(1, 200), 64 * 9 + number], "known": known, "edits": edits, "who": "x"}
+                self.way += [(to, [stray]) for to in sites]
+            else:
+                self.one_comes(r, sites)
+            self.send(r, sites)
+        self.quiet(r, sites)
+        self.way, self.late = self.late, []
+        self.quiet(r, sites)
+        while any([site.answers() for site in sites]):
+            self.send(r, sites)
+            self.quiet(r, sites)
+        for site in sites:
+            shared = site.state.shared
+            self.assertEqual(shared.road.layers, sites[0].state.shared.road.layers)
+            self.assertEqual(shared.scenario(), sites[0].state.shared.scenario())
+            self.assertEqual(by_layers(shared.gestures), by_edits(shared.gestures))
+
+    def send(self, r: random.Random, sites: list[Site]) -> None:
+        """What is new goes to all others; of operations some go late."""
+        for site in sites:
+            for message in site.out[self.sent[site]:]:
+                for to in sites:
+                    is_late = "lays" in message[0] and r.random() < 0.2
+                    if to is not site:
+                        (self.late if is_late else self.way).append((to, message))
+            self.sent[site] = len(site.out)
+
+    def one_comes(self, r: random.Random, sites: list[Site]) -> None:
+        if not self.way:
+            return
+        to, message = self.way.pop(r.randrange(len(self.way)))
+        to.came(message)
+        answers = to.out[self.sent[to]:]
+        if "known" in message[0]:  # so that no two answer each other for ever
+            self.assertTrue(all(one["known"] > message[0]["known"] for answer in answers for one in answer))
+        self.send(r, sites)
+
+    def quiet(self, r: random.Random, sites: list[Site]) -> None:
+        while self.way:
+            self.one_comes(r, sites)
+
+    def test_mendings_end_and_all_sites_have_the_road_of_the_shapes(self) -> None:
+        for seed in range(ORDERS):
+            with self.subTest(seed=seed):
+                self.order(seed)
 
 
 def limits(seat: Seat, zone: int = 3) -> list[tuple[int, int]]:
