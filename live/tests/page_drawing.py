@@ -14,7 +14,6 @@ from running import program
 from selenium.webdriver.common.action_chains import ActionChains
 from selenium.webdriver.common.by import By
 from selenium.webdriver.common.keys import Keys
-from selenium.webdriver.support.ui import Select
 
 
 class OnePicture(BrowserCase):
@@ -130,7 +129,7 @@ class OneFreeway(BrowserCase):
         tab, = self.open(FREEWAY)
         tab.run_an_hour()
         tab.tool("limit")
-        Select(tab.part("limit")).select_by_value("2")
+        tab.choose("limit", "2")
         tab.in_figures(kmFrom="1.5", kmTo="2.2", timeFrom="0:18", timeTo="0:36:30")
         tab.tool("inflow")
         tab.in_figures(demand="1500", timeFrom="10", timeTo="20")
@@ -139,7 +138,7 @@ class OneFreeway(BrowserCase):
         tab.tool("start")
         tab.in_figures(start="50", kmFrom="0.4", kmTo="0.5", timeFrom="0:05", timeTo="0:10")
         tab.tool("watch")
-        Select(tab.part("site")).select_by_value("2")
+        tab.choose("site", "2")
         tab.in_figures(timeFrom="0:30", timeTo="0:40")
         gestures = gestures_of(self.server)
         # The demand by README's table for p = 0.1: 0.588 of 65,536; the plan's p is 6,554 of 65,536.
@@ -230,7 +229,7 @@ class OneFreeway(BrowserCase):
         tab, = self.open(FREEWAY)
         tab.tool("limit")
         for limit, begin, end in (("2", "0:10", "0:30"), ("3", "0:20", "0:40")):
-            Select(tab.part("limit")).select_by_value(limit)
+            tab.choose("limit", limit)
             tab.in_figures(kmFrom="0", kmTo="0.3", timeFrom=begin, timeTo=end)
         # The later one has all of its rectangle: the end of the earlier one is withdrawn, and comes back as its own.
         self.assertEqual(edits_of(gestures_of(self.server)[1]),
@@ -386,7 +385,7 @@ class OneFreeway(BrowserCase):
         tab, = self.open(FREEWAY)
         tab.run_an_hour()
         for seconds in (36000, 3600, 14400, 7200, 3600):
-            Select(tab.part("span")).select_by_value(str(seconds))
+            tab.choose("span", str(seconds))
             tab.settled()
             self.assertEqual(tab.text("period"), "0:00:00 to 1:00:00", seconds)
 
@@ -430,7 +429,7 @@ class OneFreeway(BrowserCase):
         tab.show(60)
         tab.tool("limit")
         for limit, begin in (("2", "0:00:20"), ("3", "0:00:10"), ("1", "0:00:20")):
-            Select(tab.part("limit")).select_by_value(limit)
+            tab.choose("limit", limit)
             tab.in_figures(kmFrom="0", kmTo="0.3", timeFrom=begin, timeTo="0:00:40")
         tab.tool("start")
         tab.in_figures(kmFrom="0", kmTo="0.3", timeFrom="0:00:20", timeTo="0:00:30")

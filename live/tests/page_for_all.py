@@ -5,7 +5,6 @@ from browsers import FREEWAY, BrowserCase
 from selenium.webdriver.common.action_chains import ActionChains
 from selenium.webdriver.common.by import By
 from selenium.webdriver.common.keys import Keys
-from selenium.webdriver.support.ui import Select
 
 
 class ForAll(BrowserCase):
@@ -183,7 +182,7 @@ class ForAll(BrowserCase):
         tab.driver.execute_cdp_cmd("Emulation.setEmulatedMedia",
                                    {"features": [{"name": "prefers-reduced-motion", "value": "reduce"}]})
         self.addCleanup(tab.driver.execute_cdp_cmd, "Emulation.setEmulatedMedia", {"features": []})
-        Select(tab.part("span")).select_by_value("300")
+        tab.choose("span", "300")
         tab.press("60×")
         seen, now = set[int](), 0
         while now < 600:

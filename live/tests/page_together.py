@@ -10,7 +10,6 @@ from running import Broker, Server
 from selenium.webdriver.common.action_chains import ActionChains
 from selenium.webdriver.common.by import By
 from selenium.webdriver.common.keys import Keys
-from selenium.webdriver.support.ui import Select
 
 
 ACTIVE = "const one = document.activeElement; return one.getAttribute('aria-label') || one.textContent.trim() || one.id"
@@ -70,7 +69,7 @@ class TwoTabs(BrowserCase):
 
     def limit(self, tab: Tab, limit: str, begin: str, end: str) -> None:
         tab.tool("limit")
-        Select(tab.part("limit")).select_by_value(limit)
+        tab.choose("limit", limit)
         tab.in_figures(kmFrom="0", kmTo="0.3", timeFrom=begin, timeTo=end)
 
     def value_at(self, tab: Tab, kind: str, index: int, *steps: int) -> list[int]:
@@ -275,7 +274,7 @@ class TwoTabs(BrowserCase):
         ada.press("Change: 54 km/h")
         values = [ada.part(name).get_attribute("value") for name in ("limit", "kmFrom", "kmTo", "timeFrom", "timeTo")]
         self.assertEqual(values, ["2", "4.125", "4.5", "1:30:00", ""])
-        Select(ada.part("limit")).select_by_value("3")
+        ada.choose("limit", "3")
         ada.in_figures(timeTo="1:40")
         # In the place of zone 11's limit from 1:30 on: another, which ends; the plan's is 5.
         self.assertEqual(edits_of(gestures_of(self.server)[-1]), [["limit", 11, 5400, 3], ["limit", 11, 6000, 5]])
@@ -368,7 +367,7 @@ class TwoTabs(BrowserCase):
         ada.press_in("#apply")
         ada.until(lambda: ada.lines("own") == ["54 km/h, 0–0.3 km, from 0:20:00 on pending"], "pending")
         for limit in ("0", "1", "3", "4", "5", "6", "7"):  # more than go out at once
-            Select(ada.part("limit")).select_by_value(limit)
+            ada.choose("limit", limit)
             ada.press_in("#apply")
         ada.keys("z", "z")
         self.server.start()
@@ -389,7 +388,7 @@ class TwoTabs(BrowserCase):
         ada.until(lambda: "is kept in this tab, also when it is loaded anew" in ada.text("said"), "it is told")
         ada.tool("limit")
         for limit in ("1", "2"):
-            Select(ada.part("limit")).select_by_value(limit)
+            ada.choose("limit", limit)
             for ident, text in (("kmFrom", "0"), ("kmTo", "0.3"), ("timeFrom", "0:20")):
                 ada.part(ident).clear()
                 ada.part(ident).send_keys(text)
@@ -489,7 +488,7 @@ class ThreeTabs(BrowserCase):
         tabs[0].run_an_hour()
         for index, tab in enumerate(tabs):
             tab.tool("limit")
-            Select(tab.part("limit")).select_by_value(str(index + 1))
+            tab.choose("limit", str(index + 1))
             for name, text in (("kmFrom", str(index)), ("kmTo", str(index + 2)), ("timeFrom", "0:20"), ("timeTo", "0:40")):
                 tab.part(name).send_keys(text)
         for tab in tabs:
