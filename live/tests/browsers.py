@@ -11,12 +11,10 @@ from unittest import TestCase as Test
 
 from running import Server, free_port, new_folder
 from selenium import webdriver
-from selenium.common.exceptions import StaleElementReferenceException
 from selenium.webdriver.chrome.service import Service
 from selenium.webdriver.common.action_chains import ActionChains
 from selenium.webdriver.common.by import By
 from selenium.webdriver.common.keys import Keys
-from selenium.webdriver.support.ui import Select
 
 LIVE = Path(__file__).resolve().parent.parent
 TOP = LIVE.parent
@@ -39,6 +37,79 @@ MODULES_KNOWN = """
     return Promise.all(arguments[0].map((name) => import(`/page/${name}`))).then((modules) => {
       for (const {begin, ...names} of modules) Object.assign(window, names);
       window.hasModules = true;
+    });"""
+
+# What befell a page, for whom a test fails: where the pointer and the keys went, what moved under them, what it saved.
+RECORDER = """
+    window.befell = [];
+    const named = (one) => !one?.tagName ? String(one) : `<${one.tagName.toLowerCase()}${one.id && " #" + one.id}> `
+      + `${one.getAttribute("aria-label") || one.textContent.trim().replace(/\\s+/g, " ").slice(0, 40)}`;
+    const record = (what) => {
+      if (befell.push(`${(performance.now() / 1000).toFixed(2)} s: ${what}`) > 40) befell.shift();
+    };
+    for (const kind of ["pointerdown", "pointerup", "click", "submit", "change", "keydown"]) {
+      addEventListener(kind, (event) => record(`${kind} ${event.isTrusted ? "" : "by a script "}at `
+        + `${event.clientX === undefined ? event.key ?? "" : [event.clientX, event.clientY]} on ${named(event.target)}`), true);
+    }
+    addEventListener("error", ({message}) => record(`error ${message}`));
+    addEventListener("unhandledrejection", ({reason}) => record(`unhandled ${reason}`));
+    new PerformanceObserver((list) => {
+      for (const {sources, value} of list.getEntries()) {
+        record(`moved by ${value.toFixed(3)}: ${sources.map(({node, previousRect, currentRect}) =>
+          `${named(node)} from ${Math.round(previousRect.y)} to ${Math.round(currentRect.y)}`).join("; ")}`);
+      }
+    }).observe({type: "layout-shift", buffered: true});
+    const {click} = HTMLElement.prototype;
+    HTMLElement.prototype.click = function () {
+      if (this.download) record(`saves ${this.download}`);
+      return click.call(this);
+    };"""
+
+# Finds what is called so in a part, or the part itself, which can be pressed and nothing lies over.
+FOUND = """
+    const [name, within] = arguments;
+    const one = [...document.querySelectorAll(`:is(${within}):is(button, summary), :is(${within}) button`)].find((one) =>
+      one.checkVisibility() && !one.disabled && (one.ariaLabel || one.textContent.trim()).startsWith(name));
+    if (!one) return false;
+    one.scrollIntoView({block: "center"});
+    const {left, top, width, height} = one.getBoundingClientRect();
+    const over = document.elementFromPoint(left + width / 2, top + height / 2);
+    window.over = one.contains(over) ? "" : `over ${name} lies ${over?.outerHTML.slice(0, 80)}`;
+    if (window.over) return false;
+    one.focus();"""
+FOCUS = FOUND + "return true;"
+PRESS = FOUND + "one.click(); return true;"
+TRUTH = """
+    const {store} = window;
+    const shown = (id) => { const one = document.getElementById(id);
+                            return one ? `${id}${one.checkVisibility() ? "" : " (hidden)"}: ${one.textContent.trim().replace(/\\s+/g, " ")}` : id; };
+    return [document.title, ...["said", "line", "clock", "news", "own", "held", "before"].map(shown),
+            `save: ${document.getElementById("save")?.open}`, `hidden: ${document.hidden}, focus: ${document.hasFocus()}`,
+            ...(store?.line ? [`open: ${JSON.stringify([...store.line.open.values()].map(({command}) => command))}, `
+              + `waits: ${store.line.waits()}, pending: ${store.pending.size}, asking: ${store.asking}, `
+              + `drawing: ${store.drawing}, idle: ${store.idle}, figures: ${store.figures.asking}`] : []),
+            window.over ?? "", "what befell it:", ...(window.befell ?? [])];"""
+
+
+IF_KNOWN = "if (!window.hasModules && document.getElementById('diagram')) return null;"
+
+# Whether the page is quiet: looked at as often as the page itself can, for a second at the longest.
+SETTLED = """
+    const [done] = arguments;
+    import("/page/store.mjs").then(({store}) => {
+      const isQuiet = () => store.pending.size === 0 && store.asking === 0 && !store.line.waits()
+        && [...store.line.open.values()].every(({command}) => command.figures)
+        && !store.drawing && !store.idle && !store.figures.asking;
+      const end = performance.now() + 1000;
+      let since = null;
+      const look = () => {
+        const now = performance.now();
+        since = isQuiet() ? since ?? now : null;
+        if (since !== null && now > since + 100) requestAnimationFrame(() => done(true));
+        else if (now > end) done(false);
+        else setTimeout(look, 10);
+      };
+      look();
     });"""
 
 
@@ -75,7 +146,9 @@ class Tab:
         options.add_experimental_option("prefs", {"download.default_directory": str(downloads)})
         options.set_capability("goog:loggingPrefs", {"browser": "ALL"})
         self.driver = webdriver.Chrome(options=options, service=Service(shutil.which("chromedriver")))
-        self.driver.set_script_timeout(PATIENCE)
+        self.driver.set_script_timeout(2 * PATIENCE)
+        self.driver.execute_cdp_cmd("Page.addScriptToEvaluateOnNewDocument", {"source": RECORDER})
+        self.downloads = downloads
 
     def join(self, server: Server, name: str) -> Tab:
         self.driver.get("about:blank")
@@ -89,9 +162,12 @@ class Tab:
 
     def script(self, text: str, *words: Any) -> Any:
         """What a script returns, in which the names of the page's modules are known."""
-        if not self.driver.execute_script("return window.hasModules ?? !document.getElementById('diagram')"):
+        text = f"{IF_KNOWN} return [(function () {{{text}\n}}).apply(null, arguments)];"
+        said = self.driver.execute_script(text, *words)
+        if said is None:
             self.driver.execute_script(MODULES_KNOWN, MODULES)
-        return self.driver.execute_script(text, *words)
+            said = self.driver.execute_script(text, *words)
+        return said[0]
 
     def part(self, ident: str) -> Any:
         return self.driver.find_element(By.ID, ident)
@@ -106,16 +182,17 @@ class Tab:
             if holds():
                 return
             time.sleep(0.03)
-        said = self.driver.find_element(By.TAG_NAME, "body").text[:400]
-        raise AssertionError(f"waited in vain: {what}; the page says: {said}")
+        raise AssertionError(f"waited in vain: {what}\n{self.truth()}")
+
+    def truth(self) -> str:
+        """What the page shows, knows and went through, for who reads of a test that failed."""
+        seen = self.driver.execute_script(TRUTH)
+        console = [entry["message"] for entry in self.driver.get_log("browser")]
+        return "\n".join([*seen, f"console: {console}", f"saved: {sorted(one.name for one in self.downloads.iterdir())}"])
 
     def settled(self) -> None:
-        """Waits until all is confirmed, asked for and drawn, and the figures say it."""
-        self.until(lambda: self.script("return store.pending.size === 0 && store.asking === 0 && !store.line.waits() && "
-                                       "[...store.line.open.values()].every(({command}) => command.figures) && "
-                                       "!store.drawing && !store.idle && !store.figures.asking"), "quiet")
-        self.driver.execute_async_script("const done = arguments[0];"
-                                         "setTimeout(() => requestAnimationFrame(() => done()), 200)")
+        """Waits until all is confirmed, asked for and drawn, the figures say it, and it stays so for a moment."""
+        self.until(lambda: self.driver.execute_async_script(SETTLED), "quiet")
 
     def lines(self, ident: str) -> list[str]:
         """The lines of a list: what was done, and its state."""
@@ -130,29 +207,47 @@ class Tab:
     # What is done
 
     def press(self, name: str, within: str = "body") -> None:
-        """Presses the button that is called so, once it is there."""
-        self.until(lambda: self._pressed(name, within), f"a button {name} in {within}")
+        """Presses the button that is called so, once it is there and nothing lies over it: in the page itself, where
+        nothing moves meanwhile, as it may between a look and a click from outside."""
+        self.until(lambda: self.script(PRESS, name, within), f"a button {name} in {within}")
 
-    def _pressed(self, name: str, within: str) -> bool:
-        one = self.script("""
-            const one = [...document.querySelectorAll(`${arguments[1]} button`)].find((one) => one.checkVisibility()
-              && !one.disabled && (one.ariaLabel || one.textContent.trim()).startsWith(arguments[0]));
-            one?.scrollIntoView({block: "center"});
-            return one ?? null;""", name, within)
-        if one is None:
-            return False
-        try:
-            one.click()
-        except StaleElementReferenceException:  # the list was shown anew just then
-            return False
-        return True
+    def press_in(self, ident: str) -> None:
+        """Presses the only or the first button of a part, or the part where it is one."""
+        self.until(lambda: self.script(PRESS, "", ident), f"the button of {ident}")
+
+    def open_part(self, ident: str) -> None:
+        """Opens what is folded."""
+        self.until(lambda: self.script(PRESS, "", f"#{ident} > summary"), f"to open {ident}")
+
+    def save(self, name: str, file: str) -> Path:
+        """Saves by the menu, and gives the file. A browser lets a page save once for each press of a person: by a key."""
+        if self.part("save").get_attribute("open") is None:
+            self.open_part("save")
+        self.until(lambda: self.script(FOCUS, name, "#save"), f"a button {name}")
+        ActionChains(self.driver, duration=0).send_keys(Keys.ENTER).perform()
+        path = self.downloads / file
+        self.until(path.exists, file)
+        return path
 
     def tool(self, kind: str) -> None:
         self.script("document.querySelector(`input[name=tool][value=${arguments[0]}]`).click()", kind)
 
+    def choose(self, ident: str, value: str) -> None:
+        """Chooses from a list."""
+        self.fill(**{ident: value})
+
+    def fill(self, **fields: str) -> None:
+        """Writes into fields, and chooses from lists."""
+        self.script("""
+            for (const [ident, value] of Object.entries(arguments[0])) {
+              $(ident).value = value;
+              if ($(ident).value !== value) throw new Error(`${ident} takes no ${value}`);
+              for (const kind of ["input", "change"]) $(ident).dispatchEvent(new Event(kind, {bubbles: true}));
+            }""", fields)
+
     def show(self, seconds: int) -> None:
         """Shows so many seconds, from the first row on."""
-        Select(self.part("span")).select_by_value(str(seconds))
+        self.choose("span", str(seconds))
         self.keys(Keys.HOME)
         self.settled()
 
@@ -191,10 +286,8 @@ class Tab:
 
     def in_figures(self, **fields: str) -> None:
         """Fills the form and applies it."""
-        for ident, text in fields.items():
-            self.part(ident).clear()
-            self.part(ident).send_keys(text)
-        self.part("apply").click()
+        self.fill(**fields)
+        self.press_in("#apply")
         self.settled()
 
     def share_all(self) -> None:

@@ -14,7 +14,6 @@ from running import program
 from selenium.webdriver.common.action_chains import ActionChains
 from selenium.webdriver.common.by import By
 from selenium.webdriver.common.keys import Keys
-from selenium.webdriver.support.ui import Select
 
 
 class OnePicture(BrowserCase):
@@ -78,7 +77,7 @@ class OnePicture(BrowserCase):
 
     def test_the_table_has_the_mean_speeds(self) -> None:
         tab = self.closed_by_a_drag()
-        tab.part("asTable").find_element(By.TAG_NAME, "summary").click()
+        tab.open_part("asTable")
         tab.settled()
         cells = tab.script("return [...document.querySelectorAll('#speeds tbody tr:first-child td')].map((one) => one.textContent)")
         # Ten stretches of four cells in the first minute, by the rows of the level that is shown.
@@ -94,10 +93,7 @@ class OnePicture(BrowserCase):
         tab = self.closed_by_a_drag()
         tab.keys(Keys.ARROW_LEFT)
         self.assertIsNotNone(tab.script("return store.cursor"))
-        tab.part("save").find_element(By.TAG_NAME, "summary").click()
-        tab.press("Picture of the diagram")
-        path = self.downloads / "diagram.png"
-        tab.until(path.exists, "the picture")
+        path = tab.save("Picture of the diagram", "diagram.png")
         self.assertIsNotNone(tab.script("return store.cursor"))
         # All pixels are those of the diagram without its cursor, below a caption and above the legend.
         above, below, same = tab.driver.execute_async_script("""
@@ -133,7 +129,7 @@ class OneFreeway(BrowserCase):
         tab, = self.open(FREEWAY)
         tab.run_an_hour()
         tab.tool("limit")
-        Select(tab.part("limit")).select_by_value("2")
+        tab.choose("limit", "2")
         tab.in_figures(kmFrom="1.5", kmTo="2.2", timeFrom="0:18", timeTo="0:36:30")
         tab.tool("inflow")
         tab.in_figures(demand="1500", timeFrom="10", timeTo="20")
@@ -142,7 +138,7 @@ class OneFreeway(BrowserCase):
         tab.tool("start")
         tab.in_figures(start="50", kmFrom="0.4", kmTo="0.5", timeFrom="0:05", timeTo="0:10")
         tab.tool("watch")
-        Select(tab.part("site")).select_by_value("2")
+        tab.choose("site", "2")
         tab.in_figures(timeFrom="0:30", timeTo="0:40")
         gestures = gestures_of(self.server)
         # The demand by README's table for p = 0.1: 0.588 of 65,536; the plan's p is 6,554 of 65,536.
@@ -233,7 +229,7 @@ class OneFreeway(BrowserCase):
         tab, = self.open(FREEWAY)
         tab.tool("limit")
         for limit, begin, end in (("2", "0:10", "0:30"), ("3", "0:20", "0:40")):
-            Select(tab.part("limit")).select_by_value(limit)
+            tab.choose("limit", limit)
             tab.in_figures(kmFrom="0", kmTo="0.3", timeFrom=begin, timeTo=end)
         # The later one has all of its rectangle: the end of the earlier one is withdrawn, and comes back as its own.
         self.assertEqual(edits_of(gestures_of(self.server)[1]),
@@ -389,7 +385,7 @@ class OneFreeway(BrowserCase):
         tab, = self.open(FREEWAY)
         tab.run_an_hour()
         for seconds in (36000, 3600, 14400, 7200, 3600):
-            Select(tab.part("span")).select_by_value(str(seconds))
+            tab.choose("span", str(seconds))
             tab.settled()
             self.assertEqual(tab.text("period"), "0:00:00 to 1:00:00", seconds)
 
@@ -422,10 +418,7 @@ class OneFreeway(BrowserCase):
         tab, = self.open(FREEWAY, ("=1+1,Ada",))
         tab.tool("limit")
         tab.in_figures(kmFrom="0", kmTo="0.3", timeFrom="0:20", timeTo="")
-        tab.part("save").find_element(By.TAG_NAME, "summary").click()
-        tab.press("Changes as CSV")
-        path = self.downloads / "changes.csv"
-        tab.until(path.exists, "the file")
+        path = tab.save("Changes as CSV", "changes.csv")
         text = path.read_text(encoding="utf-8")
         self.assertIn("'=1+1,Ada", text)
         self.assertIn("54 km/h, 0–0.375 km, from 0:20:00 on", text)
@@ -436,22 +429,31 @@ class OneFreeway(BrowserCase):
         tab.show(60)
         tab.tool("limit")
         for limit, begin in (("2", "0:00:20"), ("3", "0:00:10"), ("1", "0:00:20")):
-            Select(tab.part("limit")).select_by_value(limit)
+            tab.choose("limit", limit)
             tab.in_figures(kmFrom="0", kmTo="0.3", timeFrom=begin, timeTo="0:00:40")
         tab.tool("start")
         tab.in_figures(kmFrom="0", kmTo="0.3", timeFrom="0:00:20", timeTo="0:00:30")
         tab.press("Withdraw")
         tab.settled()
-        tab.part("save").find_element(By.TAG_NAME, "summary").click()
-        transcript, script = self.downloads / "transcript.jsonl", self.downloads / "script.jsonl"
-        tab.press("Transcript")
-        tab.until(transcript.exists, "the transcript")
-        tab.press("Script")
-        tab.until(script.exists, "the script")
+        transcript, script = tab.save("Transcript", "transcript.jsonl"), tab.save("Script", "script.jsonl")
         ran = subprocess.run([program()], input=script.read_bytes(), stdout=subprocess.PIPE, check=True)
         lines = transcript.read_text(encoding="utf-8").splitlines()
         self.assertEqual(lines[0::2], script.read_text(encoding="utf-8").splitlines())
         self.assertEqual(lines[1::2], ran.stdout.decode().splitlines())
+
+    def test_what_is_saved_waits_for_figures(self) -> None:
+        tab, = self.open(FREE_ROAD)
+        tab.run_an_hour()
+        refused = tab.driver.execute_async_script("""
+            const done = arguments[0];
+            const asked = {at: store.me.at, of: "mine", from: 0, to: 3600};
+            ask({figures: asked});
+            ask({figures: asked}, {busy: true}).then(({refused}) => {
+              $("saveTranscript").click();
+              done(refused);
+            });""")
+        self.assertEqual(refused, "busy")  # one at a time
+        tab.until((self.downloads / "transcript.jsonl").exists, "the transcript")
 
     def test_the_viewer_opens_the_transcript(self) -> None:
         tab, = self.open(FREE_ROAD)
@@ -459,10 +461,7 @@ class OneFreeway(BrowserCase):
         tab.show(60)
         tab.tool("block")
         tab.in_figures(kmFrom="0.18", kmTo="0.187", timeFrom="0:00:12", timeTo="0:00:24")
-        tab.part("save").find_element(By.TAG_NAME, "summary").click()
-        tab.press("Transcript")
-        path = self.downloads / "transcript.jsonl"
-        tab.until(path.exists, "the transcript")
+        path = tab.save("Transcript", "transcript.jsonl")
         tab.driver.get((TOP / "viewer" / "index.html").as_uri())
         tab.part("files0").send_keys(str(path))
         tab.until(lambda: tab.script("return shown.pictures[0]?.rows.length") == 61, "the picture")

@@ -5,7 +5,6 @@ from browsers import FREEWAY, BrowserCase
 from selenium.webdriver.common.action_chains import ActionChains
 from selenium.webdriver.common.by import By
 from selenium.webdriver.common.keys import Keys
-from selenium.webdriver.support.ui import Select
 
 
 class ForAll(BrowserCase):
@@ -126,7 +125,7 @@ class ForAll(BrowserCase):
     def test_the_menu_is_seen_whole(self) -> None:
         tab, = self.open(FREEWAY)
         tab.script("$('others').textContent = ', with Benjamin and Cleopatra'")  # who make the head wider
-        tab.part("save").find_element(By.TAG_NAME, "summary").click()
+        tab.open_part("save")
         self.addCleanup(tab.driver.execute_cdp_cmd, "Emulation.clearDeviceMetricsOverride", {})
         for width in (320, 520, 600, 768, 1000, 1200, 1300, 1366, 1500):
             tab.driver.execute_cdp_cmd("Emulation.setDeviceMetricsOverride",
@@ -183,7 +182,7 @@ class ForAll(BrowserCase):
         tab.driver.execute_cdp_cmd("Emulation.setEmulatedMedia",
                                    {"features": [{"name": "prefers-reduced-motion", "value": "reduce"}]})
         self.addCleanup(tab.driver.execute_cdp_cmd, "Emulation.setEmulatedMedia", {"features": []})
-        Select(tab.part("span")).select_by_value("300")
+        tab.choose("span", "300")
         tab.press("60×")
         seen, now = set[int](), 0
         while now < 600:
