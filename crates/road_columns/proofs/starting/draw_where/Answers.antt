@@ -1,5 +1,5 @@
 -- The words of all cars are what columns need.
-use Rattle.std.proofs.Common.{◌*◌, ◌+◌, ◌-◌, ◌≡◌, length, slice_index, slice_range, [], sym, ap, subst, arith}
+use Rattle.std.proofs.Common.{◌*◌, ◌+◌, length, slice_index, slice_range, [], sym, subst, arith}
 use Rattle.road_columns.specs.Private.Drawn.{drawn_word}
 use Rattle.road_columns.specs.Private.LooseWords.{HaveLooseWords}
 use Rattle.road_columns.specs.Private.Rows.{AreWords}
