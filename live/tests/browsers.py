@@ -378,7 +378,7 @@ class BrowserCase(Test):
 
     def tearDown(self) -> None:
         for path in self.downloads.iterdir():
-            path.unlink()
+            path.unlink(missing_ok=True)
         for name, tab in zip(self.names, self.tabs):
             if SCREENSHOTS:
                 tab.driver.save_screenshot(os.path.join(SCREENSHOTS, f"{self._testMethodName}_{name}.png"))
