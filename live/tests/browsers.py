@@ -119,9 +119,9 @@ def example_rows(which: int) -> list[str]:
         return [reply["rows"] for reply in map(json.loads, replies) if "rows" in reply][which]
 
 
-def free_server(plan: dict[str, Any], *more: str) -> Server:
+def free_server(plan: dict[str, Any], *more: str, **environment: str) -> Server:
     """A server at a port that stays the same when it is started again."""
-    return Server(None, plan, "--port", str(free_port()), *more)
+    return Server(None, plan, "--port", str(free_port()), *more, **environment)
 
 
 def gestures_of(server: Server) -> list[dict[str, Any]]:
@@ -199,6 +199,16 @@ class Tab:
         found = self.script("return [...document.querySelectorAll(`#${arguments[0]} > li > .note`)]"
                             ".map((one) => one.textContent)", ident)
         return [" ".join(one.split()) for one in found]
+
+    def covers(self, ident: str) -> list[str]:
+        """What the lines of a list say of what covers them."""
+        return self.script("return [...document.querySelectorAll(`#${arguments[0]} > li > .loss`)].map((one) => "
+                           "one.textContent)", ident)
+
+    def value_at(self, kind: str, index: int, *steps: int) -> list[int]:
+        """What holds on the own road, as the page says it."""
+        return self.script("return arguments[2].map((step) => store.layers.mine.valueAt(arguments[0], arguments[1], step))",
+                           kind, index, steps)
 
     def faults(self) -> list[str]:
         return [entry["message"] for entry in self.driver.get_log("browser")
@@ -290,6 +300,12 @@ class Tab:
         self.press_in("#apply")
         self.settled()
 
+    def limit(self, limit: str, begin: str, end: str) -> None:
+        """Puts a limit on the whole of a short road."""
+        self.tool("limit")
+        self.choose("limit", limit)
+        self.in_figures(kmFrom="0", kmTo="0.3", timeFrom=begin, timeTo=end)
+
     def share_all(self) -> None:
         self.press("Share all")
         self.press("Share now")
@@ -354,15 +370,15 @@ class BrowserCase(Test):
             cls.tabs.append(Tab(cls.downloads))
             cls.addClassCleanup(cls.tabs[-1].driver.quit)
 
-    def open(self, plan: dict[str, Any], names: tuple[str, ...] | None = None, *more: str) -> list[Tab]:
+    def open(self, plan: dict[str, Any], names: tuple[str, ...] | None = None, *more: str, **environment: str) -> list[Tab]:
         """A server with this plan and these words more, and a tab for each name."""
-        self.server = free_server(plan, *more)
+        self.server = free_server(plan, *more, **environment)
         self.addCleanup(self.server.kill)
         return [tab.join(self.server, name) for tab, name in zip(self.tabs, names or self.names)]
 
     def tearDown(self) -> None:
         for path in self.downloads.iterdir():
-            path.unlink()
+            path.unlink(missing_ok=True)
         for name, tab in zip(self.names, self.tabs):
             if SCREENSHOTS:
                 tab.driver.save_screenshot(os.path.join(SCREENSHOTS, f"{self._testMethodName}_{name}.png"))
