@@ -221,8 +221,8 @@ fn no_gate(alloc: Global) -> Result<Arc<NoGate>, OutOfMemory> {
     Ok(Arc::new(alloc, NoGate)?)
 }
 
-// What each worker is given when it starts: the gate that it passes, its end of the channel of replies, and how it looks
-// for a job before it sleeps.
+// What each worker is given when it starts: the gate that it passes, its end of the channel of replies, and how it
+// looks for a job before it sleeps.
 #[derive(Drop)]
 struct Outfit<G> {
     gate: Arc<G>,

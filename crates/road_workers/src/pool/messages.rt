@@ -14,8 +14,8 @@ use crate::pool::spin::Lookout;
 use crossbeam_channel::{Receiver, RecvError, SendError};
 use std::sync::Wait;
 
-// Where the caller of a pool waits for its workers: its end of the channel of replies, and how it looks for one before it
-// sleeps.
+// Where the caller of a pool waits for its workers: its end of the channel of replies, and how it looks for a reply
+// before it sleeps.
 #[derive(Drop)]
 pub(super) struct Inbox {
     pub replies: Receiver<Reply>,

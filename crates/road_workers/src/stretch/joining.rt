@@ -13,8 +13,8 @@ use road_detector::{Ran, Totals};
 use road_ends::{OutOfMemory, Span, Stretch};
 use std::alloc::Global;
 
-// What stretches side by side come to, from the first cell on: their cars in one list, and what each detector has counted,
-// those elsewhere nothing.
+// What stretches side by side come to, from the first cell on: their cars in one list, and what each detector has
+// counted, those elsewhere nothing.
 #[derive(Drop)]
 pub(crate) struct Joined {
     pub cars: Vec<Car>,
@@ -32,7 +32,8 @@ pub(crate) fn nothing_joined(alloc: Global, span: &Span) -> Result<Joined, OutOf
     })
 }
 
-// Begins with what the first stretch comes to, which ends before a cell: its list of cars is kept, without those farther on.
+// Begins with what the first stretch comes to, which ends before a cell: its list of cars is kept, without those that
+// stand farther on.
 pub(crate) fn first_joined(ran: Ran, end: u32) -> Joined
     ensures { (span : Span) (a : Array) → IsRunOf 0 end span a ran → IsJoined end span a result }
 {
