@@ -34,6 +34,7 @@ RUNNING = asyncio.Semaphore(1)
 WAITING: list[int] = []  # seats for which a road is run beside, or will be
 MOST_WAITING = 8
 BEHIND = 64  # cells behind an inlet that are driven for what it is asked for
+NICE = "10"
 SEEN = 8  # steps after which it is looked who is on them: at 9 cells a step nobody leaves them sooner
 
 
@@ -54,7 +55,7 @@ async def of(index: int, asked: dict[str, Any]) -> dict[str, Any]:
     """The figures of two roads, for a seat."""
     async with alone(index):
         process = await asyncio.create_subprocess_exec(
-            sys.executable, "-m", __name__, stdin=asyncio.subprocess.PIPE, stdout=asyncio.subprocess.PIPE,
+            *gently(__name__), stdin=asyncio.subprocess.PIPE, stdout=asyncio.subprocess.PIPE,
             start_new_session=True, cwd=LIVE)
         try:
             async with asyncio.timeout(PATIENCE):
@@ -66,6 +67,11 @@ async def of(index: int, asked: dict[str, Any]) -> dict[str, Any]:
         raise Refused("failed", "the figures failed; the server's log says why")
     said: dict[str, Any] = json.loads(out)
     return said
+
+
+def gently(module: str) -> list[str]:
+    """Runs a module of this package as a program for which nobody who edits waits longer."""
+    return ["nice", "-n", NICE, sys.executable, "-m", module]
 
 
 # The program
@@ -153,12 +159,16 @@ def on_free_road(asked: dict[str, Any], edits: list[Any], inlet: int) -> int:
     chance = plan["inlets"][inlet][1]
     road = {**plan, "length": inlet + BEHIND, "exit": 1, "zone": inlet + BEHIND, "zones": [plan["zones"][zone]],
             "inlets": [*([other, 0] for other in range(inlet)), [inlet, chance]], "detectors": [], "replicas": ["road"]}
-    kept = {("inflow", inlet): inlet, ("slow", zone): 0}
-    puts = [[kind, kept[kind, index], *rest] for kind, index, *rest in edits if (kind, index) in kept]
-    driven = [road, *import_lines("road", puts), {"advance": {"at": "road", "to": last}}]
+    driven = [road, *import_lines("road", asking(plan, edits, inlet)), {"advance": {"at": "road", "to": last}}]
     seen = [{"cars": {"at": "road", "step": step}} for step in [*range(first, last, SEEN), last]]
     numbers = {int(number) for reply in said(asked, [*driven, *seen])[len(driven):] for number in NUMBER.findall(reply)}
     return sum(first <= entry_of(number) < last for number in numbers)
+
+
+def asking(plan: dict[str, Any], edits: list[Any], inlet: int) -> list[Any]:
+    """The edits by which it is decided what an inlet is asked for, as they are on its short road."""
+    kept = {("inflow", inlet): inlet, ("slow", plan["inlets"][inlet][0] // plan["zone"]): 0}
+    return [[kind, kept[kind, index], *rest] for kind, index, *rest in edits if (kind, index) in kept]
 
 
 def said(asked: dict[str, Any], lines: list[Any]) -> list[bytes]:
