@@ -36,9 +36,11 @@ function showBefore() {
   const titles = takes ? titlesOf(store.news) : "";
   $("beforeBody").replaceChildren(element("p", titles, {hidden: !titles}),
     listOf(changes), element("div", "", {id: "beforeCovers"}),
-    element("h3", takes ? "What it would change on your road"
-      : "What it would change on the shared road"),
-    element("div", "", {id: "beforeFigures"}),
+    element("div", "", {className: "asks"},
+      element("h3", takes ? "What it would change on your road"
+        : "What it would change on the shared road"),
+      element("p", "", {id: "beforeDays", className: "days"})),
+    element("div", "", {id: "beforeOver"}), element("div", "", {id: "beforeFigures"}),
     element("p", "", {className: "buttons"},
       button(takes ? "Take now" : "Share now", doIt), button("Not now", closeBefore)));
   $("before").hidden = false;

@@ -30,6 +30,7 @@ export const store = {
   presses: [],                  // of Z and Redo, until it is known what they take back
   changing: null,               // the line whose figures stand in the form
   before: null,                 // what is looked at before sharing or taking
+  days: null,                   // what is asked over many days: {of, key, done, said}
   timings: [],                  // of the last gestures, in milliseconds
 
   // What is looked at.
