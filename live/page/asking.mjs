@@ -3,6 +3,8 @@
 import {Away} from "./line.mjs";
 import {store, tell} from "./store.mjs";
 
+const BUSY = 1000;              // milliseconds until it is asked again of one who was busy
+
 /** An answer, or null where the line broke; a refusal is told, unless it is a `quiet` one.
     `first`: before those that wait. */
 export async function ask(command, {first = false, quiet = []} = {}) {
@@ -14,5 +16,15 @@ export async function ask(command, {first = false, quiet = []} = {}) {
   } catch (fault) {
     if (fault instanceof Away) return null;
     throw fault;
+  }
+}
+
+/** An answer as by `ask`, of one who may be busy with what the page itself asked: it is asked again
+    until there is one. */
+export async function askUntilFree(command) {
+  for (;;) {
+    const said = await ask(command, {quiet: ["busy"]});
+    if (said?.refused !== "busy") return said;
+    await new Promise((done) => { setTimeout(done, BUSY); });
   }
 }

@@ -35,14 +35,14 @@ function showBefore() {
   $("beforeTitle").textContent = `${takes ? "Take" : "Share"} ${plural(changes.length, "change")}?`;
   const titles = takes ? titlesOf(store.news) : "";
   $("beforeBody").replaceChildren(element("p", titles, {hidden: !titles}),
-    listOf(changes), element("div", "", {id: "beforeCovers"}),
+    listOf(changes), element("p", "", {className: "buttons"},
+      button(takes ? "Take now" : "Share now", doIt), button("Not now", closeBefore)),
+    element("div", "", {id: "beforeCovers"}),
     element("div", "", {className: "asks"},
       element("h3", takes ? "What it would change on your road"
         : "What it would change on the shared road"),
       element("p", "", {id: "beforeDays", className: "days"})),
-    element("div", "", {id: "beforeOver"}), element("div", "", {id: "beforeFigures"}),
-    element("p", "", {className: "buttons"},
-      button(takes ? "Take now" : "Share now", doIt), button("Not now", closeBefore)));
+    element("div", "", {id: "beforeOver"}), element("div", "", {id: "beforeFigures"}));
   $("before").hidden = false;
   $("before").focus();
   showPreview();

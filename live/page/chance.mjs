@@ -23,7 +23,8 @@ const cell = (text, small) => element("td", text, {}, element("small", small));
 /** The table, with the roads in the order of the one that it stands for. */
 function tableOf({from, to, figures}, isPreview) {
   const sides = isPreview ? ["before", "after"] : ["after", "before"];
-  const heads = isPreview ? ["now", "then", "change"] : ["mine", "shared", "mine \u2212\u00a0shared"];
+  const heads = isPreview ? ["now", "then", "change"]
+    : ["mine", "shared", "mine \u2212\u00a0shared"];
   const lines = figures.map((one) => row(headCell(nameOf(one), "row"),
     ...sides.map((side) => cell(meanText(one[side]), halfText(one[side]))),
     cell(changeText(one.difference), sureText(one.difference))));

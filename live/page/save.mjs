@@ -1,7 +1,7 @@
 // View: the menu that saves: the diagram as a picture, what the viewer opens and road_lab runs
 // again, and tables for a spreadsheet.
 
-import {ask} from "./asking.mjs";
+import {ask, askUntilFree} from "./asking.mjs";
 import {withoutCursor} from "./drafting.mjs";
 import {$, download, on} from "./elements.mjs";
 import {drawDiagram, legendEntries} from "./picture.mjs";
@@ -59,11 +59,11 @@ function savePicture() {
     where something was refused. */
 async function transcriptLines() {
   tell("Saving …");
-  const [from, to] = periodShown();
+  const [at, [from, to]] = [roadShown(), periodShown()];
   const pieces = [];
   let next = 0;
   do {
-    const said = await ask({transcript: {at: roadShown(), from, to, ...(next ? {next} : {})}});
+    const said = await askUntilFree({transcript: {at, from, to, ...(next ? {next} : {})}});
     if (!said || said.refused) return null;
     pieces.push(said.lines);
     next = said.next;

@@ -51,9 +51,30 @@ export function when(parts, show) {
   for (const part of parts) watchers.set(part, [...(watchers.get(part) ?? []), show]);
 }
 
-/** Tells the views of parts that these have changed. */
+// What moves buttons, or makes them anew.
+const MOVES = ["clock", "days", "figures", "line", "lists", "news", "others", "preview", "said",
+               "sites", "stays"];
+let held = null;                // of these what has changed while a button is held down
+
+/** Tells the views of parts that these have changed: those that move buttons once none is held
+    down, so that what is pressed is there until it is let go. */
 export function changed(...parts) {
-  for (const show of new Set(parts.flatMap((part) => watchers.get(part) ?? []))) show();
+  const waits = held ? parts.filter((part) => MOVES.includes(part)) : [];
+  for (const part of waits) held.add(part);
+  const told = parts.filter((part) => !waits.includes(part));
+  for (const show of new Set(told.flatMap((part) => watchers.get(part) ?? []))) show();
+}
+
+/** A button is held down. */
+export function hold() {
+  held ??= new Set();
+}
+
+/** It was let go. */
+export function letGo() {
+  const parts = held ?? [];
+  held = null;
+  changed(...parts);
 }
 
 /** Says something in the page's one live region. */

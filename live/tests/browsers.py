@@ -11,7 +11,6 @@ from unittest import TestCase as Test
 
 from running import Server, free_port, new_folder
 from selenium import webdriver
-from selenium.common.exceptions import StaleElementReferenceException
 from selenium.webdriver.chrome.service import Service
 from selenium.webdriver.common.action_chains import ActionChains
 from selenium.webdriver.common.by import By
@@ -40,6 +39,57 @@ MODULES_KNOWN = """
       for (const {begin, ...names} of modules) Object.assign(window, names);
       window.hasModules = true;
     });"""
+
+# What befell a page, for whom a test fails: where the pointer and the keys went, what moved under them, what it saved.
+RECORDER = """
+    window.befell = [];
+    const named = (one) => !one?.tagName ? String(one) : `<${one.tagName.toLowerCase()}${one.id && " #" + one.id}> `
+      + `${one.getAttribute("aria-label") || one.textContent.trim().replace(/\\s+/g, " ").slice(0, 40)}`;
+    const record = (what) => {
+      if (befell.push(`${(performance.now() / 1000).toFixed(2)} s: ${what}`) > 40) befell.shift();
+    };
+    for (const kind of ["pointerdown", "pointerup", "click", "submit", "change", "keydown"]) {
+      addEventListener(kind, (event) => record(`${kind} ${event.isTrusted ? "" : "by a script "}at `
+        + `${event.clientX === undefined ? event.key ?? "" : [event.clientX, event.clientY]} on ${named(event.target)}`), true);
+    }
+    addEventListener("error", ({message}) => record(`error ${message}`));
+    addEventListener("unhandledrejection", ({reason}) => record(`unhandled ${reason}`));
+    new PerformanceObserver((list) => {
+      for (const {sources, value} of list.getEntries()) {
+        record(`moved by ${value.toFixed(3)}: ${sources.map(({node, previousRect, currentRect}) =>
+          `${named(node)} from ${Math.round(previousRect.y)} to ${Math.round(currentRect.y)}`).join("; ")}`);
+      }
+    }).observe({type: "layout-shift", buffered: true});
+    const {click} = HTMLElement.prototype;
+    HTMLElement.prototype.click = function () {
+      if (this.download) record(`saves ${this.download}`);
+      return click.call(this);
+    };"""
+
+# Finds what is called so in a part, or the part itself, which can be pressed and nothing lies over.
+FOUND = """
+    const [name, within] = arguments;
+    const one = [...document.querySelectorAll(`:is(${within}):is(button, summary), :is(${within}) button`)].find((one) =>
+      one.checkVisibility() && !one.disabled && (one.ariaLabel || one.textContent.trim()).startsWith(name));
+    if (!one) return false;
+    one.scrollIntoView({block: "center"});
+    const {left, top, width, height} = one.getBoundingClientRect();
+    const over = document.elementFromPoint(left + width / 2, top + height / 2);
+    window.over = one.contains(over) ? "" : `over ${name} lies ${over?.outerHTML.slice(0, 80)}`;
+    if (window.over) return false;
+    one.focus();"""
+FOCUS = FOUND + "return true;"
+PRESS = FOUND + "one.click(); return true;"
+TRUTH = """
+    const {store} = window;
+    const shown = (id) => { const one = document.getElementById(id);
+                            return one ? `${id}${one.checkVisibility() ? "" : " (hidden)"}: ${one.textContent.trim().replace(/\\s+/g, " ")}` : id; };
+    return [document.title, ...["said", "line", "clock", "news", "own", "held", "before"].map(shown),
+            `save: ${document.getElementById("save")?.open}`, `hidden: ${document.hidden}, focus: ${document.hasFocus()}`,
+            ...(store?.line ? [`open: ${JSON.stringify([...store.line.open.values()].map(({command}) => command))}, `
+              + `waits: ${store.line.waits()}, pending: ${store.pending.size}, asking: ${store.asking}, `
+              + `drawing: ${store.drawing}, idle: ${store.idle}, figures: ${store.figures.asking}`] : []),
+            window.over ?? "", "what befell it:", ...(window.befell ?? [])];"""
 
 
 def example_rows(which: int) -> list[str]:
@@ -76,6 +126,8 @@ class Tab:
         options.set_capability("goog:loggingPrefs", {"browser": "ALL"})
         self.driver = webdriver.Chrome(options=options, service=Service(shutil.which("chromedriver")))
         self.driver.set_script_timeout(PATIENCE)
+        self.driver.execute_cdp_cmd("Page.addScriptToEvaluateOnNewDocument", {"source": RECORDER})
+        self.downloads = downloads
 
     def join(self, server: Server, name: str) -> Tab:
         self.driver.get("about:blank")
@@ -106,13 +158,18 @@ class Tab:
             if holds():
                 return
             time.sleep(0.03)
-        said = self.driver.find_element(By.TAG_NAME, "body").text[:400]
-        raise AssertionError(f"waited in vain: {what}; the page says: {said}")
+        raise AssertionError(f"waited in vain: {what}\n{self.truth()}")
+
+    def truth(self) -> str:
+        """What the page shows, knows and went through, for who reads of a test that failed."""
+        seen = self.driver.execute_script(TRUTH)
+        console = [entry["message"] for entry in self.driver.get_log("browser")]
+        return "\n".join([*seen, f"console: {console}", f"saved: {sorted(one.name for one in self.downloads.iterdir())}"])
 
     def settled(self) -> None:
         """Waits until all is confirmed, asked for and drawn, and the figures say it."""
         self.until(lambda: self.script("return store.pending.size === 0 && store.asking === 0 && !store.line.waits() && "
-                                       "[...store.line.open.values()].every(({command}) => command.figures) && "
+                                       "[...store.line.open.values()].every(({command}) => command.figures ?? command.days) && "
                                        "!store.drawing && !store.idle && !store.figures.asking"), "quiet")
         self.driver.execute_async_script("const done = arguments[0];"
                                          "setTimeout(() => requestAnimationFrame(() => done()), 200)")
@@ -130,22 +187,27 @@ class Tab:
     # What is done
 
     def press(self, name: str, within: str = "body") -> None:
-        """Presses the button that is called so, once it is there."""
-        self.until(lambda: self._pressed(name, within), f"a button {name} in {within}")
+        """Presses the button that is called so, once it is there and nothing lies over it: in the page itself, where
+        nothing moves meanwhile, as it may between a look and a click from outside."""
+        self.until(lambda: self.script(PRESS, name, within), f"a button {name} in {within}")
 
-    def _pressed(self, name: str, within: str) -> bool:
-        one = self.script("""
-            const one = [...document.querySelectorAll(`${arguments[1]} button`)].find((one) => one.checkVisibility()
-              && !one.disabled && (one.ariaLabel || one.textContent.trim()).startsWith(arguments[0]));
-            one?.scrollIntoView({block: "center"});
-            return one ?? null;""", name, within)
-        if one is None:
-            return False
-        try:
-            one.click()
-        except StaleElementReferenceException:  # the list was shown anew just then
-            return False
-        return True
+    def press_in(self, ident: str) -> None:
+        """Presses the only or the first button of a part, or the part where it is one."""
+        self.until(lambda: self.script(PRESS, "", ident), f"the button of {ident}")
+
+    def open_part(self, ident: str) -> None:
+        """Opens what is folded."""
+        self.until(lambda: self.script(PRESS, "", f"#{ident} > summary"), f"to open {ident}")
+
+    def save(self, name: str, file: str) -> Path:
+        """Saves by the menu, and gives the file. A browser lets a page save once for each press of a person: by a key."""
+        if self.part("save").get_attribute("open") is None:
+            self.open_part("save")
+        self.until(lambda: self.script(FOCUS, name, "#save"), f"a button {name}")
+        ActionChains(self.driver, duration=0).send_keys(Keys.ENTER).perform()
+        path = self.downloads / file
+        self.until(path.exists, file)
+        return path
 
     def tool(self, kind: str) -> None:
         self.script("document.querySelector(`input[name=tool][value=${arguments[0]}]`).click()", kind)
@@ -194,7 +256,7 @@ class Tab:
         for ident, text in fields.items():
             self.part(ident).clear()
             self.part(ident).send_keys(text)
-        self.part("apply").click()
+        self.press_in("#apply")
         self.settled()
 
     def share_all(self) -> None:

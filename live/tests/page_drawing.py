@@ -78,7 +78,7 @@ class OnePicture(BrowserCase):
 
     def test_the_table_has_the_mean_speeds(self) -> None:
         tab = self.closed_by_a_drag()
-        tab.part("asTable").find_element(By.TAG_NAME, "summary").click()
+        tab.open_part("asTable")
         tab.settled()
         cells = tab.script("return [...document.querySelectorAll('#speeds tbody tr:first-child td')].map((one) => one.textContent)")
         # Ten stretches of four cells in the first minute, by the rows of the level that is shown.
@@ -94,10 +94,7 @@ class OnePicture(BrowserCase):
         tab = self.closed_by_a_drag()
         tab.keys(Keys.ARROW_LEFT)
         self.assertIsNotNone(tab.script("return store.cursor"))
-        tab.part("save").find_element(By.TAG_NAME, "summary").click()
-        tab.press("Picture of the diagram")
-        path = self.downloads / "diagram.png"
-        tab.until(path.exists, "the picture")
+        path = tab.save("Picture of the diagram", "diagram.png")
         self.assertIsNotNone(tab.script("return store.cursor"))
         # All pixels are those of the diagram without its cursor, below a caption and above the legend.
         above, below, same = tab.driver.execute_async_script("""
@@ -422,10 +419,7 @@ class OneFreeway(BrowserCase):
         tab, = self.open(FREEWAY, ("=1+1,Ada",))
         tab.tool("limit")
         tab.in_figures(kmFrom="0", kmTo="0.3", timeFrom="0:20", timeTo="")
-        tab.part("save").find_element(By.TAG_NAME, "summary").click()
-        tab.press("Changes as CSV")
-        path = self.downloads / "changes.csv"
-        tab.until(path.exists, "the file")
+        path = tab.save("Changes as CSV", "changes.csv")
         text = path.read_text(encoding="utf-8")
         self.assertIn("'=1+1,Ada", text)
         self.assertIn("54 km/h, 0–0.375 km, from 0:20:00 on", text)
@@ -442,16 +436,25 @@ class OneFreeway(BrowserCase):
         tab.in_figures(kmFrom="0", kmTo="0.3", timeFrom="0:00:20", timeTo="0:00:30")
         tab.press("Withdraw")
         tab.settled()
-        tab.part("save").find_element(By.TAG_NAME, "summary").click()
-        transcript, script = self.downloads / "transcript.jsonl", self.downloads / "script.jsonl"
-        tab.press("Transcript")
-        tab.until(transcript.exists, "the transcript")
-        tab.press("Script")
-        tab.until(script.exists, "the script")
+        transcript, script = tab.save("Transcript", "transcript.jsonl"), tab.save("Script", "script.jsonl")
         ran = subprocess.run([program()], input=script.read_bytes(), stdout=subprocess.PIPE, check=True)
         lines = transcript.read_text(encoding="utf-8").splitlines()
         self.assertEqual(lines[0::2], script.read_text(encoding="utf-8").splitlines())
         self.assertEqual(lines[1::2], ran.stdout.decode().splitlines())
+
+    def test_what_is_saved_waits_for_figures(self) -> None:
+        tab, = self.open(FREE_ROAD)
+        tab.run_an_hour()
+        refused = tab.driver.execute_async_script("""
+            const done = arguments[0];
+            const asked = {at: store.me.at, of: "mine", from: 0, to: 3600};
+            ask({figures: asked});
+            ask({figures: asked}, {busy: true}).then(({refused}) => {
+              $("saveTranscript").click();
+              done(refused);
+            });""")
+        self.assertEqual(refused, "busy")  # one at a time
+        tab.until((self.downloads / "transcript.jsonl").exists, "the transcript")
 
     def test_the_viewer_opens_the_transcript(self) -> None:
         tab, = self.open(FREE_ROAD)
@@ -459,10 +462,7 @@ class OneFreeway(BrowserCase):
         tab.show(60)
         tab.tool("block")
         tab.in_figures(kmFrom="0.18", kmTo="0.187", timeFrom="0:00:12", timeTo="0:00:24")
-        tab.part("save").find_element(By.TAG_NAME, "summary").click()
-        tab.press("Transcript")
-        path = self.downloads / "transcript.jsonl"
-        tab.until(path.exists, "the transcript")
+        path = tab.save("Transcript", "transcript.jsonl")
         tab.driver.get((TOP / "viewer" / "index.html").as_uri())
         tab.part("files0").send_keys(str(path))
         tab.until(lambda: tab.script("return shown.pictures[0]?.rows.length") == 61, "the picture")

@@ -126,7 +126,7 @@ class ForAll(BrowserCase):
     def test_the_menu_is_seen_whole(self) -> None:
         tab, = self.open(FREEWAY)
         tab.script("$('others').textContent = ', with Benjamin and Cleopatra'")  # who make the head wider
-        tab.part("save").find_element(By.TAG_NAME, "summary").click()
+        tab.open_part("save")
         self.addCleanup(tab.driver.execute_cdp_cmd, "Emulation.clearDeviceMetricsOverride", {})
         for width in (320, 520, 600, 768, 1000, 1200, 1300, 1366, 1500):
             tab.driver.execute_cdp_cmd("Emulation.setDeviceMetricsOverride",

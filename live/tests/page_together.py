@@ -118,6 +118,21 @@ class TwoTabs(BrowserCase):
         self.assertEqual(ben.lines("own"), ["Withdrew: 54 km/h, 0–0.3 km, 0:25:00–0:30:00 private"])
         self.assertEqual(self.value_at(ben, "limit", 0, 1200, 1500, 1800, 2400), [1, 1, 1, 3])
 
+    def test_what_is_pressed_stays_until_it_is_let_go(self) -> None:
+        ada, ben = self.open(FREE_ROAD)
+        self.limit(ben, "1", "0:20", "0:30")
+        ben.share_all()
+        ada.until(lambda: ada.text("news").startswith("Ben shared 1 change."), "news")
+        ada.settled()
+        ActionChains(ada.driver, duration=0).click_and_hold(ada.part("news").find_element(By.TAG_NAME, "button")).perform()
+        self.assertEqual(ada.script("return document.querySelector('#news button:active')?.textContent"), "Take")
+        self.limit(ben, "2", "0:40", "0:50")
+        ben.share_all()
+        ada.until(lambda: ada.script("return store.news.text") == "Ben shared 2 changes.", "more news")
+        self.assertTrue(ada.text("news").startswith("Ben shared 1 change."))
+        ActionChains(ada.driver, duration=0).release().perform()
+        ada.until(lambda: ada.text("said") == "Took 2 changes of Ben. Nothing of yours is covered by them.", "taken")
+
     def test_two_who_lay_one_line_at_once(self) -> None:
         ada, ben = self.open(FREE_ROAD)
         ada.run_an_hour()
@@ -350,11 +365,11 @@ class TwoTabs(BrowserCase):
         ada.part("timeFrom").send_keys("0:20")
         ada.part("kmFrom").send_keys("0")
         ada.part("kmTo").send_keys("0.3")
-        ada.part("apply").click()
+        ada.press_in("#apply")
         ada.until(lambda: ada.lines("own") == ["54 km/h, 0–0.3 km, from 0:20:00 on pending"], "pending")
         for limit in ("0", "1", "3", "4", "5", "6", "7"):  # more than go out at once
             Select(ada.part("limit")).select_by_value(limit)
-            ada.part("apply").click()
+            ada.press_in("#apply")
         ada.keys("z", "z")
         self.server.start()
         ada.until(lambda: len(ada.lines("own")) == 6 and "pending" not in ada.text("own"), "confirmed")
@@ -378,7 +393,7 @@ class TwoTabs(BrowserCase):
             for ident, text in (("kmFrom", "0"), ("kmTo", "0.3"), ("timeFrom", "0:20")):
                 ada.part(ident).clear()
                 ada.part(ident).send_keys(text)
-            ada.part("apply").click()
+            ada.press_in("#apply")
         self.server.start()
         ada.driver.refresh()
         wanted = [f"{speed} km/h, 0–0.3 km, from 0:20:00 on private" for speed in (54, 27)]
@@ -391,7 +406,7 @@ class TwoTabs(BrowserCase):
         ada.tool("limit")
         for ident, text in (("kmFrom", "0"), ("kmTo", "0.3"), ("timeFrom", "0:20")):
             ada.part(ident).send_keys(text)
-        ada.part("apply").click()
+        ada.press_in("#apply")
         self.assertIn("what is pending is lost", ada.text("said"))
         ada.driver.get("about:blank")
 
@@ -402,7 +417,7 @@ class TwoTabs(BrowserCase):
         there = Server(None, FREE_ROAD, "--broker", broker.address, "--site", "2")
         self.addCleanup(there.kill)
         ada.until(lambda: ada.text("line") == "connected, with 1 other site, trusted wholly", "the other site")
-        ada.part("sites").find_element(By.TAG_NAME, "summary").click()
+        ada.open_part("sites")
         ada.press("Leave out: site 2")
         ada.until(lambda: ada.lines("own") == ["Site 2 is left out private"], "site 2 is left out")
         ada.press("Withdraw: Site 2")
@@ -478,7 +493,7 @@ class ThreeTabs(BrowserCase):
             for name, text in (("kmFrom", str(index)), ("kmTo", str(index + 2)), ("timeFrom", "0:20"), ("timeTo", "0:40")):
                 tab.part(name).send_keys(text)
         for tab in tabs:
-            tab.part("apply").click()
+            tab.press_in("#apply")
         for tab in tabs:
             tab.settled()
             tab.share_all()
