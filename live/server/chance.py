@@ -23,9 +23,9 @@ from .program import import_lines
 if TYPE_CHECKING:
     from days import Comparison, Day
     from intervals import Estimate
-    from road_lab import RoadLab
 
 DAYS = 20
+SIDES = "before", "after"
 HOURS, LOST = "vehicle_hours", "lost"
 
 
@@ -113,7 +113,7 @@ def main() -> None:
     from days import compared, over_days
     from scripts import Fault
     before, after = ([asked["plan"], *import_lines("road", asked[side]), {"advance": {"at": "road", "to": asked["last"]}}]
-                     for side in ("before", "after"))
+                     for side in SIDES)
     try:
         days = over_days(before, after, asked["days"], progress=lambda done, _: tell({"done": done}),
                          counted=functools.partial(of_day, asked))
@@ -141,30 +141,29 @@ def told(one: Comparison) -> dict[str, Any]:
             "others": one.others}
 
 
-def of_day(asked: dict[str, Any], labs: list[RoadLab], at: str | None, seed: int, _seconds: float) -> Day:
-    """The figures of a day, both roads side by side."""
+def of_day(asked: dict[str, Any], _pairs: Any, _at: str | None, seed: int, _seconds: float) -> Day:
+    """The figures of a day, as they are told of one day alone."""
     from days import Day
-    from scripts import journeys
-    wanted = demands({**asked, "plan": {**asked["plan"], "words": seed}})
-    sides = []
-    for lab, run, cars in zip(labs, journeys(labs, at), wanted):
-        counts = [list(lab.count("road", detector, asked["first"], asked["last"]))
-                  for detector in range(len(asked["plan"]["detectors"]))]
-        found = figures.road_of(asked, figures.Run(counts, run), cars)
-        sides.append({HOURS: found["vehicle_hours"], LOST: float(sum(found["lost"])),
-                      **{f"cars {detector}": float(passed) for detector, (passed, _) in enumerate(counts)}})
-    return Day(seed, *sides)
+    of_seed = {**asked, "plan": {**asked["plan"], "words": seed}}
+    runs = [figures.run_of(of_seed, asked[side], 0) for side in SIDES]
+    return Day(seed, *(of_road(of_seed, run, wanted) for run, wanted in zip(runs, demands(of_seed))))
+
+
+def of_road(asked: dict[str, Any], run: figures.Run, wanted: list[int]) -> dict[str, float]:
+    found = figures.road_of(asked, run, wanted)
+    return {HOURS: found["vehicle_hours"], LOST: float(sum(found["lost"])),
+            **{f"cars {detector}": float(passed) for detector, (passed, _) in enumerate(run.counts)}}
 
 
 def demands(asked: dict[str, Any]) -> list[list[int]]:
     """How many cars each inlet is asked for on both roads; once, where no edit makes them differ."""
-    of_road: list[list[int]] = [[], []]
+    edits = [asked[side] for side in SIDES]
+    found: list[list[int]] = [[], []]
     for inlet in range(len(asked["plan"]["inlets"])):
-        edits = [asked[side] for side in ("before", "after")]
         first, second = (figures.asking(asked["plan"], one, inlet) for one in edits)
-        of_road[0].append(figures.on_free_road(asked, edits[0], inlet))
-        of_road[1].append(of_road[0][-1] if first == second else figures.on_free_road(asked, edits[1], inlet))
-    return of_road
+        found[0].append(figures.on_free_road(asked, edits[0], inlet))
+        found[1].append(found[0][-1] if first == second else figures.on_free_road(asked, edits[1], inlet))
+    return found
 
 
 if __name__ == "__main__":

@@ -127,12 +127,13 @@ def road_of(asked: dict[str, Any], run: Run, wanted: list[int]) -> dict[str, Any
 def run_of(asked: dict[str, Any], edits: list[Any], start: int) -> Run:
     """The road by these edits. All lines go to the program at once: a wait for each reply would take far longer where the
     machine has other work."""
-    from delay import Journeys
+    from delay import Journeys, meetings
     plan, first, last = asked["plan"], asked["first"], asked["last"]
     is_short = (last - start + 1) * plan["length"] <= MOST_CELLS
     counts = [{"count": {"at": "road", "detector": detector, "from": first, "to": last}}
               for detector in range(len(plan["detectors"]))]
-    cars = [{"cars": {"at": "road", "step": step}} for step in range(start, last + 1) if is_short]
+    steps = meetings(plan, start, last) if is_short else []
+    cars = [{"cars": {"at": "road", "step": step}} for step in steps]
     rows = [{"diagram": {"at": "road", "from": begin, "to": min(last, begin + MOST_ROWS - 1)}}
             for begin in range(start, last + 1, MOST_ROWS) if is_short]
     driven = [plan, *import_lines("road", edits), {"advance": {"at": "road", "to": last}}]
@@ -141,8 +142,8 @@ def run_of(asked: dict[str, Any], edits: list[Any], start: int) -> Run:
     pairs = [[one["cars"], one["speeds"]] for one in map(json.loads, counted)]
     if not is_short:
         return Run(pairs, None)
-    states = (map(int, NUMBER.findall(reply)) for reply in drove)
-    return Run(pairs, Journeys.read(states, [row.decode() for reply in shown for row in of_diagram(reply)], start))
+    states = {step: list(map(int, NUMBER.findall(reply))) for step, reply in zip(steps, drove)}
+    return Run(pairs, Journeys.met(states, [row.decode() for reply in shown for row in of_diagram(reply)]))
 
 
 def demand(asked: dict[str, Any], edits: list[Any]) -> list[int]:

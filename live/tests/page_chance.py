@@ -3,8 +3,8 @@ from __future__ import annotations
 
 from browsers import FREE_ROAD, BrowserCase, Tab, before_rows
 
-# 300 m, a car in some two steps, drivers who dawdle by a seed.
-SEEDED = {**FREE_ROAD, "words": 1, "zones": [[3, 6_554]], "inlets": [[0, 30_000]]}
+# 1.5 km, a car in some three steps, drivers who dawdle by a seed.
+SEEDED = {**FREE_ROAD, "length": 200, "zone": 200, "words": 1, "zones": [[3, 6_554]], "inlets": [[0, 30_000]]}
 
 
 def over_days(tab: Tab, within: str) -> dict[str, list[str]]:
@@ -24,25 +24,27 @@ def numbers(cell: str) -> list[float]:
 class TwoTabs(BrowserCase):
     """Two browsers."""
 
+    def run_a_quarter(self, tab: Tab) -> None:
+        tab.script("ask({clock: {to: 900}})")
+        tab.until(lambda: tab.text("clock") == "0:15:00", "the clock")
+        tab.show(900)
+
     def closed(self, tab: Tab) -> None:
         tab.tool("block")
-        tab.in_figures(kmFrom="0.18", kmTo="0.19", timeFrom="0:10", timeTo="0:12")
+        tab.in_figures(kmFrom="0.18", kmTo="0.19", timeFrom="0:05", timeTo="0:07")
 
     def test_mine_beside_shared_and_what_is_looked_at_before(self) -> None:
         ada, _ = self.open(SEEDED)
-        ada.run_an_hour()
-        ada.show(3600)
+        self.run_a_quarter(ada)
         self.closed(ada)
         ada.press("Over 20 days")
         ada.until(lambda: " of 20 days" in ada.text("days"), "how far it is")
         found = over_days(ada, "#over")
         self.assertFalse(ada.part("oneDay").is_displayed())
         self.assertEqual(list(found), ["Vehicle hours", "Lost demand, cars", "Cars at 0.21 km"])
-        self.assertIn("Over 20 days, 0:00:00 to 1:00:00", ada.text("over"))
+        self.assertIn("Over 20 days, 0:00:00 to 0:15:00", ada.text("over"))
         mine, shared, more = map(numbers, found["Vehicle hours"])
         self.assertAlmostEqual(more[0], mine[0] - shared[0], delta=0.11)
-        # 24 cells before the closure hold as many cars for two minutes: 0.8 vehicle hours at the most.
-        self.assertTrue(0.2 < more[0] < 1.5 and 0 < more[1] < more[0], more)
         # Some 0.4 cars come in a second: in two minutes 50, but those that stand before it.
         lost = numbers(found["Lost demand, cars"][2])
         self.assertTrue(5 < lost[0] < 60 and lost[1] < lost[0], lost)
@@ -58,13 +60,12 @@ class TwoTabs(BrowserCase):
         ada.press("Not now")
         self.closed(ada)  # another road: the answer was of the one before
         ada.until(lambda: ada.part("oneDay").is_displayed(), "one day")
-        self.assertEqual(ada.lines("own"), ["Whole road closed 0.18–0.188 km, 0:10:00–0:12:00 private"] * 2)
+        self.assertEqual(ada.lines("own"), ["Whole road closed 0.18–0.188 km, 0:05:00–0:07:00 private"] * 2)
 
     def test_it_is_stopped_and_who_asks_is_told(self) -> None:
         ada, ben = self.open(SEEDED)
-        ada.run_an_hour()
         for tab in (ada, ben):
-            tab.show(3600)
+            self.run_a_quarter(tab)
         ada.press("Over 20 days")
         ada.until(lambda: " of 20 days" in ada.text("days"), "it runs")
         ben.press("Over 20 days")
@@ -78,8 +79,7 @@ class TwoTabs(BrowserCase):
 
     def test_a_road_of_one_day_says_so(self) -> None:
         ada, = self.open(FREE_ROAD, ("Ada",))
-        ada.run_an_hour()
-        ada.show(3600)
+        self.run_a_quarter(ada)
         ada.press("Over 20 days")
         ada.until(lambda: "it has one day" in ada.text("said"), "it is told")
         self.assertEqual(ada.text("days"), "Over 20 days")

@@ -33,8 +33,8 @@ class Day(NamedTuple):
     after: dict[str, float]
 
 
-Counted = Callable[[list[RoadLab], Optional[str], int, float], Day]
-"""The figures of a day, by both roads, the replica, the seed, and the seconds of a step."""
+Counted = Callable[[list[tuple[str, Script]], Optional[str], int, float], Day]
+"""The figures of a day, by both scripts with their names, the replica, the seed, and the seconds of a step."""
 
 
 class Comparison(NamedTuple):
@@ -68,7 +68,7 @@ def over_days(before: Script, after: Script, days: int, at: str | None = None, s
         raise Fault("the plan has steady words, which are drawn by no seed: all days are one")
     found: list[Day] = []
     with ProcessPoolExecutor(min(days, len(os.sched_getaffinity(0)))) as pool:
-        running = [pool.submit(run_day, pairs, at, (first + one) % SEEDS, seconds, counted or figures) for one in range(days)]
+        running = [pool.submit(run_day, pairs, at, (first + one) % SEEDS, seconds, counted or figures_of) for one in range(days)]
         try:
             for ended in as_completed(running):
                 found.append(day_of(ended.result()))
@@ -87,13 +87,17 @@ def day_of(found: Day | str) -> Day:
 
 def run_day(pairs: list[tuple[str, Script]], at: str | None, seed: int, seconds: float, counted: Counted) -> Day | str:
     """A day, in a process of its own; else what is wrong with it."""
-    labs: list[RoadLab] = []
     try:
-        for name, (plan, *commands) in pairs:
-            labs.append(edited(name, [{**plan, "words": seed}, *commands]))
-        return counted(labs, at, seed, seconds)
+        return counted([(name, [{**plan, "words": seed}, *commands]) for name, (plan, *commands) in pairs], at, seed, seconds)
     except (Fault, Refused, Ended, NoProgram, ValueError, ArithmeticError) as fault:
         return f"seed {seed}: {fault}"
+
+
+def figures_of(pairs: list[tuple[str, Script]], at: str | None, seed: int, seconds: float) -> Day:
+    labs: list[RoadLab] = []
+    try:
+        labs += (edited(name, script) for name, script in pairs)
+        return figures(labs, at, seed, seconds)
     finally:
         for lab in labs:
             lab.close()
