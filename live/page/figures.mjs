@@ -11,6 +11,7 @@ import {HOUR, KMH_A_CELL, kmText, plural, signedText, timeText, whole} from "./u
 import {everyShown} from "./view.mjs";
 
 const AWAITED = "\u2026";
+const AS_WIDE = "0,000/h, 000 km/h";    // as what is awaited, and not seen
 const NOT_FOLLOWED = "\u2013";  // where a run is too long to follow each car
 const LOST = 0.05;              // of what an inlet is asked for: more that is lost is warned of
 const CAUGHT = 120;             // steps of a closure at whose end it is looked who stands in it
@@ -24,12 +25,13 @@ function flowCell([cars, speeds], seconds) {
   return element("td", whole(cars), {}, element("small", text));
 }
 
-/** A line for each detector, as high before its figures are there. */
+/** A line for each detector, as wide and high before its figures are there. */
 function detectorRows() {
   const {period, counts} = store.figures;
   const head = (cell) => headCell(`Cars at ${kmText(cell)} km`, "row");
   if (!counts) {
-    const awaited = () => element("td", AWAITED, {}, element("small", "\u00a0"));
+    const awaited = () => element("td", AWAITED, {},
+      element("small", AS_WIDE, {className: "awaited"}));
     return store.plan.detectors.map((cell) => row(head(cell), awaited(), awaited(),
       element("td", AWAITED)));
   }

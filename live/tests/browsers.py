@@ -15,7 +15,6 @@ from selenium.webdriver.chrome.service import Service
 from selenium.webdriver.common.action_chains import ActionChains
 from selenium.webdriver.common.by import By
 from selenium.webdriver.common.keys import Keys
-from selenium.webdriver.support.ui import Select
 
 LIVE = Path(__file__).resolve().parent.parent
 TOP = LIVE.parent
@@ -92,15 +91,37 @@ TRUTH = """
             window.over ?? "", "what befell it:", ...(window.befell ?? [])];"""
 
 
+IF_KNOWN = "if (!window.hasModules && document.getElementById('diagram')) return null;"
+
+# Whether the page is quiet: looked at as often as the page itself can, for a second at the longest.
+SETTLED = """
+    const [done] = arguments;
+    import("/page/store.mjs").then(({store}) => {
+      const isQuiet = () => store.pending.size === 0 && store.asking === 0 && !store.line.waits()
+        && [...store.line.open.values()].every(({command}) => command.figures ?? command.days)
+        && !store.drawing && !store.idle && !store.figures.asking;
+      const end = performance.now() + 1000;
+      let since = null;
+      const look = () => {
+        const now = performance.now();
+        since = isQuiet() ? since ?? now : null;
+        if (since !== null && now > since + 100) requestAnimationFrame(() => done(true));
+        else if (now > end) done(false);
+        else setTimeout(look, 10);
+      };
+      look();
+    });"""
+
+
 def example_rows(which: int) -> list[str]:
     """The rows of a diagram of the example: 0 closed from step 12 on, 1 from 12 to 24; both begin at step 12, or 24."""
     with open(TOP / "examples" / "closed_cell.out", encoding="utf-8") as replies:
         return [reply["rows"] for reply in map(json.loads, replies) if "rows" in reply][which]
 
 
-def free_server(plan: dict[str, Any], *more: str) -> Server:
+def free_server(plan: dict[str, Any], *more: str, **environment: str) -> Server:
     """A server at a port that stays the same when it is started again."""
-    return Server(None, plan, "--port", str(free_port()), *more)
+    return Server(None, plan, "--port", str(free_port()), *more, **environment)
 
 
 def gestures_of(server: Server) -> list[dict[str, Any]]:
@@ -125,7 +146,7 @@ class Tab:
         options.add_experimental_option("prefs", {"download.default_directory": str(downloads)})
         options.set_capability("goog:loggingPrefs", {"browser": "ALL"})
         self.driver = webdriver.Chrome(options=options, service=Service(shutil.which("chromedriver")))
-        self.driver.set_script_timeout(PATIENCE)
+        self.driver.set_script_timeout(2 * PATIENCE)
         self.driver.execute_cdp_cmd("Page.addScriptToEvaluateOnNewDocument", {"source": RECORDER})
         self.downloads = downloads
 
@@ -141,9 +162,12 @@ class Tab:
 
     def script(self, text: str, *words: Any) -> Any:
         """What a script returns, in which the names of the page's modules are known."""
-        if not self.driver.execute_script("return window.hasModules ?? !document.getElementById('diagram')"):
+        text = f"{IF_KNOWN} return [(function () {{{text}\n}}).apply(null, arguments)];"
+        said = self.driver.execute_script(text, *words)
+        if said is None:
             self.driver.execute_script(MODULES_KNOWN, MODULES)
-        return self.driver.execute_script(text, *words)
+            said = self.driver.execute_script(text, *words)
+        return said[0]
 
     def part(self, ident: str) -> Any:
         return self.driver.find_element(By.ID, ident)
@@ -167,18 +191,24 @@ class Tab:
         return "\n".join([*seen, f"console: {console}", f"saved: {sorted(one.name for one in self.downloads.iterdir())}"])
 
     def settled(self) -> None:
-        """Waits until all is confirmed, asked for and drawn, and the figures say it."""
-        self.until(lambda: self.script("return store.pending.size === 0 && store.asking === 0 && !store.line.waits() && "
-                                       "[...store.line.open.values()].every(({command}) => command.figures ?? command.days) && "
-                                       "!store.drawing && !store.idle && !store.figures.asking"), "quiet")
-        self.driver.execute_async_script("const done = arguments[0];"
-                                         "setTimeout(() => requestAnimationFrame(() => done()), 200)")
+        """Waits until all is confirmed, asked for and drawn, the figures say it, and it stays so for a moment."""
+        self.until(lambda: self.driver.execute_async_script(SETTLED), "quiet")
 
     def lines(self, ident: str) -> list[str]:
         """The lines of a list: what was done, and its state."""
         found = self.script("return [...document.querySelectorAll(`#${arguments[0]} > li > .note`)]"
                             ".map((one) => one.textContent)", ident)
         return [" ".join(one.split()) for one in found]
+
+    def covers(self, ident: str) -> list[str]:
+        """What the lines of a list say of what covers them."""
+        return self.script("return [...document.querySelectorAll(`#${arguments[0]} > li > .loss`)].map((one) => "
+                           "one.textContent)", ident)
+
+    def value_at(self, kind: str, index: int, *steps: int) -> list[int]:
+        """What holds on the own road, as the page says it."""
+        return self.script("return arguments[2].map((step) => store.layers.mine.valueAt(arguments[0], arguments[1], step))",
+                           kind, index, steps)
 
     def faults(self) -> list[str]:
         return [entry["message"] for entry in self.driver.get_log("browser")
@@ -212,9 +242,22 @@ class Tab:
     def tool(self, kind: str) -> None:
         self.script("document.querySelector(`input[name=tool][value=${arguments[0]}]`).click()", kind)
 
+    def choose(self, ident: str, value: str) -> None:
+        """Chooses from a list."""
+        self.fill(**{ident: value})
+
+    def fill(self, **fields: str) -> None:
+        """Writes into fields, and chooses from lists."""
+        self.script("""
+            for (const [ident, value] of Object.entries(arguments[0])) {
+              $(ident).value = value;
+              if ($(ident).value !== value) throw new Error(`${ident} takes no ${value}`);
+              for (const kind of ["input", "change"]) $(ident).dispatchEvent(new Event(kind, {bubbles: true}));
+            }""", fields)
+
     def show(self, seconds: int) -> None:
         """Shows so many seconds, from the first row on."""
-        Select(self.part("span")).select_by_value(str(seconds))
+        self.choose("span", str(seconds))
         self.keys(Keys.HOME)
         self.settled()
 
@@ -253,11 +296,15 @@ class Tab:
 
     def in_figures(self, **fields: str) -> None:
         """Fills the form and applies it."""
-        for ident, text in fields.items():
-            self.part(ident).clear()
-            self.part(ident).send_keys(text)
+        self.fill(**fields)
         self.press_in("#apply")
         self.settled()
+
+    def limit(self, limit: str, begin: str, end: str) -> None:
+        """Puts a limit on the whole of a short road."""
+        self.tool("limit")
+        self.choose("limit", limit)
+        self.in_figures(kmFrom="0", kmTo="0.3", timeFrom=begin, timeTo=end)
 
     def share_all(self) -> None:
         self.press("Share all")
@@ -323,9 +370,9 @@ class BrowserCase(Test):
             cls.tabs.append(Tab(cls.downloads))
             cls.addClassCleanup(cls.tabs[-1].driver.quit)
 
-    def open(self, plan: dict[str, Any], names: tuple[str, ...] | None = None, *more: str) -> list[Tab]:
+    def open(self, plan: dict[str, Any], names: tuple[str, ...] | None = None, *more: str, **environment: str) -> list[Tab]:
         """A server with this plan and these words more, and a tab for each name."""
-        self.server = free_server(plan, *more)
+        self.server = free_server(plan, *more, **environment)
         self.addCleanup(self.server.kill)
         return [tab.join(self.server, name) for tab, name in zip(self.tabs, names or self.names)]
 

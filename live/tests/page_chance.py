@@ -1,7 +1,10 @@
 """Is it the change, or chance? Two browsers that ask over 20 days."""
 from __future__ import annotations
 
-from browsers import FREE_ROAD, BrowserCase, Tab, before_rows
+import subprocess
+
+from browsers import FREE_ROAD, TOP, BrowserCase, Tab, before_rows
+from running import new_folder
 
 # 1.5 km, a car in some three steps, drivers who dawdle by a seed.
 SEEDED = {**FREE_ROAD, "length": 200, "zone": 200, "words": 1, "zones": [[3, 6_554]], "inlets": [[0, 30_000]]}
@@ -76,6 +79,24 @@ class TwoTabs(BrowserCase):
         self.assertNotIn("stopped", ada.text("said"))
         ben.press("Over 20 days")
         self.assertEqual(over_days(ben, "#over")["Vehicle hours"][2], "0 the same each day")
+
+    def test_what_is_saved_of_both_roads_is_compared_as_it_is(self) -> None:
+        ada, = self.open(SEEDED, ("Ada",))
+        self.run_a_quarter(ada)
+        self.closed(ada)
+        saved = [ada.save("Script", "script_mine.jsonl")]
+        ada.script("document.querySelector('input[name=whose][value=shared]').click()")
+        ada.settled()
+        saved.append(ada.save("Script", "script_shared.jsonl"))
+        hours = ada.script("return [...document.querySelectorAll('#figures tbody tr')].find((line) => "
+                           "line.firstChild.textContent === 'Vehicle hours').lastChild.textContent")
+        for words in ([], ["--days", "2"]):
+            ran = subprocess.run([TOP / "recipes" / "delay" / "run", *words, "--out", new_folder(), *reversed(saved)],
+                                 stdout=subprocess.PIPE, stderr=subprocess.PIPE, text=True, check=False)
+            self.assertEqual(ran.returncode, 0, ran.stderr)
+            if not words:
+                rows = dict(line.rsplit(",", 1) for line in ran.stdout.splitlines() if line.startswith("by the cars in all"))
+                self.assertEqual([f"{float(value):+.1f}" for value in rows.values()], [hours.replace("−", "-")])
 
     def test_a_road_of_one_day_says_so(self) -> None:
         ada, = self.open(FREE_ROAD, ("Ada",))
