@@ -1,16 +1,16 @@
 // View: is it the change, or chance? What is compared is asked over many days: their progress, and
 // means with their intervals in the place of the figures of one day.
 
-import {DAYS, askDays, daysShown, dropDays, dropOldDays} from "./days.mjs";
+import {askDays, daysAsked, daysShown, dropDays, dropOldDays} from "./days.mjs";
 import {$, button, element, headCell, row} from "./elements.mjs";
 import {changeText, halfText, meanText, sureText} from "./estimates.mjs";
 import {store, when} from "./store.mjs";
 import {kmText, timeText} from "./units.mjs";
 
-const OVER = `Over ${DAYS} days`;
-const READ = `Means of ${DAYS} days: each has drivers of its own, the same on both roads. \u00b1 `
-  + "reaches to both ends of the 95 % interval; where that of a difference has 0 in it, the "
-  + "difference may be chance.";
+const overText = () => `Over ${daysAsked()} days`;
+const readText = () => `Means of ${daysAsked()} days: each has drivers of its own, the same on both `
+  + "roads. \u00b1 reaches to both ends of the 95 % interval; where that of a difference has 0 in "
+  + "it, the difference may be chance.";
 const NAMES = {vehicle_hours: "Vehicle hours", lost: "Lost demand, cars"};
 
 function nameOf({name}) {
@@ -29,7 +29,7 @@ function tableOf({from, to, figures}, isPreview) {
     ...sides.map((side) => cell(meanText(one[side]), halfText(one[side]))),
     cell(changeText(one.difference), sureText(one.difference))));
   return element("table", "", {className: "over"},
-    element("caption", `${OVER}, ${timeText(from)} to ${timeText(to)}`),
+    element("caption", `${overText()}, ${timeText(from)} to ${timeText(to)}`),
     element("thead", "", {}, row(element("td"), ...heads.map((head) => headCell(head)))),
     element("tbody", "", {}, ...lines));
 }
@@ -38,15 +38,15 @@ function tableOf({from, to, figures}, isPreview) {
 function showAsking(place) {
   const days = daysShown();
   if (!place.children.length) {
-    place.append(element("progress", "", {max: DAYS, ariaLabel: "Days done"}), element("span"),
+    place.append(element("progress", "", {ariaLabel: "Days done"}), element("span"),
       button("", () => (daysShown() ? dropDays() : askDays())));
   }
   const [progress, said, does] = place.children;
   const isRunning = Boolean(days && !days.said);
   progress.hidden = said.hidden = !isRunning;
-  progress.value = days?.done ?? 0;
-  said.textContent = isRunning ? `${days.done} of ${DAYS} days` : "";
-  does.textContent = isRunning ? "Stop" : days ? "One day" : OVER;
+  Object.assign(progress, {max: daysAsked(), value: days?.done ?? 0});
+  said.textContent = isRunning ? `${days.done} of ${daysAsked()} days` : "";
+  does.textContent = isRunning ? "Stop" : days ? "One day" : overText();
 }
 
 function showDays() {
@@ -59,11 +59,11 @@ function showDays() {
   $(one).hidden = Boolean(said);
   $(table).replaceChildren(...(said ? [
     element("div", "", {className: "scrolled"}, tableOf(said, isPreview)),
-    element("p", READ, {className: "hint"})] : []));
+    element("p", readText(), {className: "hint"})] : []));
 }
 
 export function begin() {
-  when(["days", "before"], showDays);
+  when(["days", "before", "me"], showDays);
   when(["lists"], dropOldDays);
   showDays();
 }

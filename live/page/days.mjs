@@ -4,7 +4,8 @@ import {ask} from "./asking.mjs";
 import {changed, store, tell} from "./store.mjs";
 import {periodShown} from "./view.mjs";
 
-export const DAYS = 20;         // that the server runs
+/** How many days the server runs. */
+export const daysAsked = () => store.most.days;
 
 /** By what it is known whether both roads are still those that were asked about. */
 const keyNow = () => [store.layers.mine.next, store.layers.shared.next].join();
@@ -52,5 +53,5 @@ export function dropDays() {
 export function dropOldDays() {
   if (!store.days || store.days.key === keyNow()) return;
   dropDays();
-  tell(`A road has changed: what was asked over ${DAYS} days was of the one before.`);
+  tell(`A road has changed: what was asked over ${daysAsked()} days was of the one before.`);
 }

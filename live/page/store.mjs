@@ -8,7 +8,7 @@ export const store = {
   line: null,                   // the Line to the server
   lineText: ["connecting", false],   // what is said of it, and whether it is away
   me: null,                     // this tab's seat: {at, seat, number, name}
-  most: {rows: 1024, bytes: 1e6},    // of an answer
+  most: {rows: 1024, bytes: 1e6, days: 20},   // of an answer
   others: [],                   // names of who else is here
   wishes: null,                 // as whom to join
   hello: null,                  // what is asked before joining: {why, free}; null where all is said

@@ -24,7 +24,6 @@ if TYPE_CHECKING:
     from days import Comparison, Day
     from intervals import Estimate
 
-DAYS = 20
 SIDES = "before", "after"
 HOURS, LOST = "vehicle_hours", "lost"
 

@@ -229,14 +229,14 @@ class Questions:
         """The same over many days, with the mean of each figure, and how sure it is; or the end of that question."""
         if of is None:
             return {"stopped": self._chance.stop(index)}
-        plan, listeners = self._keeper.state.plan, self._keeper.listeners
+        plan, listeners, days = self._keeper.state.plan, self._keeper.listeners, self._keeper.settings.days
         if type(plan["words"]) is not int:
             raise Refused("one day", "the words of this road are steady, drawn by no seed: it has one day, and its figures are "
                           "those of each")
         if (last + 1) * plan["length"] > figures.MOST_CELLS:
-            raise Refused("too long", f"{chance.DAYS} days of so long a road and time are too many: {chance.DAYS} days end at "
-                          f"{clock(figures.MOST_CELLS // plan['length'] - 1)} at the latest here")
-        question = self._chance.begin(index, chance.DAYS, lambda other: self._keeper.state.seats[other].name)
+            raise Refused("too long", f"this is too long to follow each car over {days} days: on this road they end at "
+                          f"{clock(figures.MOST_CELLS // plan['length'] - 1)} at the latest")
+        question = self._chance.begin(index, days, lambda other: self._keeper.state.seats[other].name)
         try:
             asked = await self._both(index, own, of, first, last)
             said = await question.answer(asked, lambda: listeners.tell("days", index, question.done, question.days))

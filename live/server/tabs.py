@@ -247,7 +247,8 @@ class Tabs:
                 "form": FORM, "site": state.site, "plan": {**state.plan, "replicas": []},
                 "horizon": self.lab.keeper.wanted.get(index, 0), **self.lab.keeper.clock(), "ahead": AHEAD,
                 "time": round(time.time(), 3),
-                "most": {"edits": MOST_EDITS, "rows": MOST_ROWS, "bytes": MOST_BYTES}, "broker": self.broker(),
+                "most": {"edits": MOST_EDITS, "rows": MOST_ROWS, "bytes": MOST_BYTES,
+                         "days": self.lab.keeper.settings.days}, "broker": self.broker(),
                 "trouble": self.lab.keeper.trouble, "standing": self._standing}
 
     def arrived(self, tab: Tab) -> None:

@@ -6,11 +6,11 @@ import os
 import statistics
 from pathlib import Path
 from typing import Any
-from unittest import mock
 
 from faulty import Here, soon
 from running import SMALL, Case, new_folder, program, until
 from server.asked import Refused
+from server.settings import Settings
 
 T_OF_2 = 4.302653  # Student's t for 95 % and 2 degrees of freedom, from a printed table
 SPAN = {"from": 20, "to": 200}
@@ -30,6 +30,9 @@ class Days(Case):
         self.here = await self.enterAsyncContext(Here())
         self.here.keeper.listeners.on("days", lambda *news: self.heard.append(news))
         self.ada, self.ben = await self.here.join("Ada", "Ben")
+
+    def over(self, days: int) -> None:
+        self.here.keeper.settings = Settings(days=days)
 
     async def change(self, here: Here, seat: int) -> None:
         """A jam that reaches the inlets, and at one of them another demand."""
@@ -56,8 +59,8 @@ class Days(Case):
                    **{f"cars {at}": [[day[side]["detectors"][at][0] for day in days] for side in ("before", "after")]
                       for at in range(3)}}
         await self.change(self.here, self.ada)
-        with mock.patch("server.chance.DAYS", 3):
-            said = await soon(self.here.ask(self.ada, "days", of="mine", **SPAN))
+        self.over(3)
+        said = await soon(self.here.ask(self.ada, "days", of="mine", **SPAN))
         self.assertEqual((said["from"], said["to"], said["days"]), (20, 200, 3))
         self.assertEqual([one["name"] for one in said["figures"]], list(of_days))
         self.assertGreater(sum(of_days["lost"][1]), sum(of_days["lost"][0]))
@@ -74,8 +77,8 @@ class Days(Case):
         await self.change(self.here, self.ada)
         await self.here.ask(self.ada, "preview", what="share")
         entries = self.here.entries()
-        with mock.patch("server.chance.DAYS", 2):
-            of_both = [await soon(self.here.ask(self.ada, "days", of=of, **SPAN)) for of in ("preview", "mine")]
+        self.over(2)
+        of_both = [await soon(self.here.ask(self.ada, "days", of=of, **SPAN)) for of in ("preview", "mine")]
         self.assertEqual(*of_both)
         self.assertEqual(self.here.entries(), entries)
 
@@ -90,8 +93,8 @@ class Days(Case):
         before = self.here.keeper.path
         self.here.keeper.path, wrote = self.program_that(
             f'echo "$(nice) $(grep Cpus_allowed_list /proc/self/status | cut -f2)" >> $WROTE; exec {program()}')
-        with mock.patch("server.chance.DAYS", 2):
-            await soon(self.here.ask(self.ada, "days", of="mine", **SPAN))
+        self.over(2)
+        await soon(self.here.ask(self.ada, "days", of="mine", **SPAN))
         niceness, places = zip(*(line.split() for line in wrote.read_text().splitlines()))
         self.assertEqual(set(niceness), {str(os.nice(0) + 10)})
         mine = os.sched_getaffinity(0)
@@ -142,8 +145,8 @@ class Days(Case):
         self.here.questions.left(self.ada)
         await self.ended(question, processes)
         self.here.keeper.path = str(program())
-        with mock.patch("server.chance.DAYS", 2):  # and another may ask
-            await soon(self.here.ask(self.ben, "days", of="mine", **SPAN))
+        self.over(2)  # and another may ask
+        await soon(self.here.ask(self.ben, "days", of="mine", **SPAN))
 
 
 class Leaving(Case):
