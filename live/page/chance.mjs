@@ -8,9 +8,9 @@ import {store, when} from "./store.mjs";
 import {kmText, timeText} from "./units.mjs";
 
 const overText = () => `Over ${daysAsked()} days`;
-const readText = () => `Means of ${daysAsked()} days: each has drivers of its own, the same on both `
-  + "roads. \u00b1 reaches to both ends of the 95 % interval; where that of a difference has 0 in "
-  + "it, the difference may be chance.";
+const readText = () => `Means of ${daysAsked()} days: each has drivers of its own, the same on `
+  + "both roads. \u00b1 reaches to both ends of the 95 % interval; where that of a difference has "
+  + "0 in it, the difference may be chance.";
 const NAMES = {vehicle_hours: "Vehicle hours", lost: "Lost demand, cars"};
 
 function nameOf({name}) {
