@@ -24,6 +24,7 @@ if TYPE_CHECKING:
     from days import Comparison, Day
     from intervals import Estimate
 
+NICE = 10
 SIDES = "before", "after"
 HOURS, LOST = "vehicle_hours", "lost"
 
@@ -39,7 +40,7 @@ class Question:
     async def answer(self, asked: dict[str, Any], progress: Callable[[], None]) -> dict[str, Any]:
         """The figures; `progress` is called after each day."""
         self._process = await asyncio.create_subprocess_exec(
-            *figures.gently(__name__), stdin=asyncio.subprocess.PIPE, stdout=asyncio.subprocess.PIPE,
+            *figures.gently(__name__, NICE), stdin=asyncio.subprocess.PIPE, stdout=asyncio.subprocess.PIPE,
             start_new_session=True, cwd=LIVE)
         if self.is_stopped:
             self.stop()

@@ -34,7 +34,7 @@ RUNNING = asyncio.Semaphore(1)
 WAITING: list[int] = []  # seats for which a road is run beside, or will be
 MOST_WAITING = 8
 BEHIND = 64  # cells behind an inlet that are driven for what it is asked for
-NICE = "10"
+NICE = 5  # less than who edits, and more than what takes long
 SEEN = 8  # steps after which it is looked who is on them: at 9 cells a step nobody leaves them sooner
 
 
@@ -69,9 +69,9 @@ async def of(index: int, asked: dict[str, Any]) -> dict[str, Any]:
     return said
 
 
-def gently(module: str) -> list[str]:
+def gently(module: str, nice: int = NICE) -> list[str]:
     """Runs a module of this package as a program for which nobody who edits waits longer."""
-    return ["nice", "-n", NICE, sys.executable, "-m", module]
+    return ["nice", "-n", str(nice), sys.executable, "-m", module]
 
 
 # The program

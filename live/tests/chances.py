@@ -103,7 +103,7 @@ class Days(Case):
         self.assertEqual(allowed, mine - {min(mine)} if len(mine) > 1 else mine)
         wrote.unlink()  # and so are the figures of a day
         await soon(self.here.ask(self.ada, "figures", of="mine", **SPAN))
-        self.assertEqual({line.split()[0] for line in wrote.read_text().splitlines()}, {str(os.nice(0) + 10)})
+        self.assertEqual({line.split()[0] for line in wrote.read_text().splitlines()}, {str(os.nice(0) + 5)})
         self.here.keeper.path = before
 
     async def asks(self, seat: int) -> tuple[asyncio.Future[Any], list[int]]:
