@@ -10,6 +10,8 @@ import {store, when, whoseShown} from "./store.mjs";
 import {HOUR, KMH_A_CELL, kmText, plural, signedText, timeText, whole} from "./units.mjs";
 import {everyShown} from "./view.mjs";
 
+const AWAITED = "\u2026";
+const AS_WIDE = "0,000/h, 000 km/h";    // as what is awaited, and not seen
 const NOT_FOLLOWED = "\u2013";  // where a run is too long to follow each car
 const LOST = 0.05;              // of what an inlet is asked for: more that is lost is warned of
 const CAUGHT = 120;             // steps of a closure at whose end it is looked who stands in it
@@ -23,12 +25,18 @@ function flowCell([cars, speeds], seconds) {
   return element("td", whole(cars), {}, element("small", text));
 }
 
+/** A line for each detector, as wide and high before its figures are there. */
 function detectorRows() {
-  const [from, to] = store.figures.period ?? [0, 0];
-  if (!store.figures.counts || to <= from) return [];
-  const [mine, shared] = store.figures.counts;
-  return store.plan.detectors.map((cell, index) => row(
-    headCell(`Cars at ${kmText(cell)} km`, "row"),
+  const {period, counts} = store.figures;
+  const head = (cell) => headCell(`Cars at ${kmText(cell)} km`, "row");
+  if (!counts) {
+    const awaited = () => element("td", AWAITED, {},
+      element("small", AS_WIDE, {className: "awaited"}));
+    return store.plan.detectors.map((cell) => row(head(cell), awaited(), awaited(),
+      element("td", AWAITED)));
+  }
+  const [[mine, shared], [from, to]] = [counts, period];
+  return store.plan.detectors.map((cell, index) => row(head(cell),
     ...[mine, shared].map((one) => flowCell(one[index], to - from)),
     element("td", signedText(mine[index][0] - shared[index][0]))));
 }
@@ -42,7 +50,7 @@ function hoursOf(whose, period) {
 }
 
 /** A row of two values and their difference; `none` where they are not there. */
-function sumRow(name, [one, other], digits, none = "\u2026") {
+function sumRow(name, [one, other], digits, none = AWAITED) {
   const text = (value) => (value === null ? none
     : value.toLocaleString("en", {minimumFractionDigits: digits, maximumFractionDigits: digits}));
   const difference = one === null || other === null ? none : signedText(one - other, digits);
@@ -52,7 +60,7 @@ function sumRow(name, [one, other], digits, none = "\u2026") {
 
 /** The delay of mine beside shared, of the cars that drive on both. */
 function delayRow(exact) {
-  const text = !exact ? "\u2026" : typeof exact.delay_hours === "number"
+  const text = !exact ? AWAITED : typeof exact.delay_hours === "number"
     ? signedText(exact.delay_hours, 1) : NOT_FOLLOWED;
   return row(headCell("Delay, vehicle hours", "row"), element("td", ""), element("td", ""),
     element("td", text));
@@ -162,7 +170,7 @@ function showSpeeds([from, to]) {
 
 export function begin() {
   on("asTable", "toggle", () => { if (store.plan) reckon(); });
-  when(["figures"], showFigures);
+  when(["plan", "figures"], showFigures);
   when(["before"], () => {
     $("figuresPart").hidden = $("warnings").hidden = Boolean(store.before);
   });

@@ -4,7 +4,7 @@ import {$, button, element, on, showList} from "./elements.mjs";
 import {leaveOut} from "./acting.mjs";
 import {join} from "./joining.mjs";
 import {backToClock, followIt, lookAhead, runAnHour, setRate} from "./looking.mjs";
-import {now, store, when} from "./store.mjs";
+import {hold, letGo, now, store, when} from "./store.mjs";
 import {dayText, plural, timeText} from "./units.mjs";
 
 const RATES = [0, 1, 10, 60, 600];
@@ -82,7 +82,18 @@ function showHello() {
   $("name").focus();
 }
 
+/** What is pressed stays where it is, and what it is, until it is let go. */
+function holdPressed() {
+  addEventListener("pointerdown", ({button: which, target}) => {
+    if (which === 0 && target.closest("button, summary")) hold();
+  });
+  for (const kind of ["pointerup", "pointercancel", "blur"]) {
+    addEventListener(kind, () => setTimeout(letGo));    // behind the click
+  }
+}
+
 export function begin() {
+  holdPressed();
   for (const rate of RATES) {
     const one = button(rate ? `${rate}×` : "Pause", () => setRate(rate));
     one.dataset.rate = rate;

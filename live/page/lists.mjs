@@ -85,11 +85,11 @@ function showNews() {
     if (had) $("held").focus();
     return;
   }
-  if (section.dataset.text === text && section.children.length) return;
-  section.dataset.text = text;
-  section.replaceChildren(element("p", text), element("p", "", {className: "buttons"},
-    button("Take", take), button("Look first", () => openBefore("take"))));
-  if (had) section.querySelector("button").focus();
+  if (section.children.length) section.firstChild.textContent = text;
+  else {
+    section.append(element("p", text), element("p", "", {className: "buttons"},
+      button("Take", take), button("Look first", () => openBefore("take"))));
+  }
 }
 
 export function begin() {

@@ -1,7 +1,7 @@
 // View: the menu that saves: the diagram as a picture, what the viewer opens and road_lab runs
 // again, and tables for a spreadsheet.
 
-import {ask} from "./asking.mjs";
+import {ask, askUntilFree} from "./asking.mjs";
 import {withoutCursor} from "./drafting.mjs";
 import {$, download, on} from "./elements.mjs";
 import {drawDiagram, legendEntries} from "./picture.mjs";
@@ -59,11 +59,11 @@ function savePicture() {
     where something was refused. */
 async function transcriptLines() {
   tell("Saving …");
-  const [from, to] = periodShown();
+  const [at, [from, to]] = [roadShown(), periodShown()];
   const pieces = [];
   let next = 0;
   do {
-    const said = await ask({transcript: {at: roadShown(), from, to, ...(next ? {next} : {})}});
+    const said = await askUntilFree({transcript: {at, from, to, ...(next ? {next} : {})}});
     if (!said || said.refused) return null;
     pieces.push(said.lines);
     next = said.next;
@@ -80,12 +80,13 @@ async function saveTranscript() {
     + "1 second a step.");
 }
 
-/** Saves the commands alone; road_lab answers them as the transcript has it. */
+/** Saves the commands alone, named by the road; road_lab answers them as the transcript has it. */
 async function saveScript() {
+  const name = `script_${roadShown() === "shared" ? "shared" : "mine"}.jsonl`;
   const lines = await transcriptLines();
   if (!lines) return;
-  download(lines.filter((_, index) => index % 2 === 0), "script.jsonl", "application/jsonl");
-  tell("Saved script.jsonl: run road_lab < script.jsonl.");
+  download(lines.filter((_, index) => index % 2 === 0), name, "application/jsonl");
+  tell(`Saved ${name}: road_lab runs it, and recipes/delay compares mine and the shared one.`);
 }
 
 /** Saves a table that the server makes. */

@@ -8,7 +8,7 @@ export const store = {
   line: null,                   // the Line to the server
   lineText: ["connecting", false],   // what is said of it, and whether it is away
   me: null,                     // this tab's seat: {at, seat, number, name}
-  most: {rows: 1024, bytes: 1e6},    // of an answer
+  most: {rows: 1024, bytes: 1e6, days: 20},   // of an answer
   others: [],                   // names of who else is here
   wishes: null,                 // as whom to join
   hello: null,                  // what is asked before joining: {why, free}; null where all is said
@@ -30,6 +30,7 @@ export const store = {
   presses: [],                  // of Z and Redo, until it is known what they take back
   changing: null,               // the line whose figures stand in the form
   before: null,                 // what is looked at before sharing or taking
+  days: null,                   // what is asked over many days: {of, key, done, said}
   timings: [],                  // of the last gestures, in milliseconds
 
   // What is looked at.
@@ -50,9 +51,30 @@ export function when(parts, show) {
   for (const part of parts) watchers.set(part, [...(watchers.get(part) ?? []), show]);
 }
 
-/** Tells the views of parts that these have changed. */
+// What moves buttons, or makes them anew.
+const MOVES = ["clock", "days", "figures", "line", "lists", "news", "others", "preview", "said",
+               "sites", "stays"];
+let held = null;                // of these what has changed while a button is held down
+
+/** Tells the views of parts that these have changed: those that move buttons once none is held
+    down, so that what is pressed is there until it is let go. */
 export function changed(...parts) {
-  for (const show of new Set(parts.flatMap((part) => watchers.get(part) ?? []))) show();
+  const waits = held ? parts.filter((part) => MOVES.includes(part)) : [];
+  for (const part of waits) held.add(part);
+  const told = parts.filter((part) => !waits.includes(part));
+  for (const show of new Set(told.flatMap((part) => watchers.get(part) ?? []))) show();
+}
+
+/** A button is held down. */
+export function hold() {
+  held ??= new Set();
+}
+
+/** It was let go. */
+export function letGo() {
+  const parts = held ?? [];
+  held = null;
+  changed(...parts);
 }
 
 /** Says something in the page's one live region. */

@@ -11,12 +11,10 @@ from unittest import TestCase as Test
 
 from running import Server, free_port, new_folder
 from selenium import webdriver
-from selenium.common.exceptions import StaleElementReferenceException
 from selenium.webdriver.chrome.service import Service
 from selenium.webdriver.common.action_chains import ActionChains
 from selenium.webdriver.common.by import By
 from selenium.webdriver.common.keys import Keys
-from selenium.webdriver.support.ui import Select
 
 LIVE = Path(__file__).resolve().parent.parent
 TOP = LIVE.parent
@@ -41,6 +39,88 @@ MODULES_KNOWN = """
       window.hasModules = true;
     });"""
 
+IF_KNOWN = "if (!window.hasModules && document.getElementById('diagram')) return null;"
+
+# Finds what is called so in a part, or the part itself, where it can be pressed and nothing lies over it.
+FOUND = """
+    const [name, within] = arguments;
+    const one = [...document.querySelectorAll(`:is(${within}):is(button, summary), :is(${within}) button`)]
+      .find((one) => one.checkVisibility() && !one.disabled
+        && (one.ariaLabel || one.textContent.trim()).startsWith(name));
+    if (!one) return false;
+    one.scrollIntoView({block: "center"});
+    const {left, top, width, height} = one.getBoundingClientRect();
+    const over = document.elementFromPoint(left + width / 2, top + height / 2);
+    window.over = one.contains(over) ? "" : `over ${name} lies ${over?.outerHTML.slice(0, 80)}`;
+    if (window.over) return false;
+    one.focus();"""
+FOCUS = FOUND + "return true;"
+PRESS = FOUND + "one.click(); return true;"
+
+# Whether the page is quiet: looked at as often as the page itself can, for a second at the longest.
+SETTLED = """
+    const [done] = arguments;
+    import("/page/store.mjs").then(({store}) => {
+      const isQuiet = () => store.pending.size === 0 && store.asking === 0 && !store.line.waits()
+        && [...store.line.open.values()].every(({command}) => command.figures ?? command.days)
+        && !store.drawing && !store.idle && !store.figures.asking;
+      const end = performance.now() + 1000;
+      let since = null;
+      const look = () => {
+        const now = performance.now();
+        since = isQuiet() ? since ?? now : null;
+        if (since !== null && now > since + 100) requestAnimationFrame(() => done(true));
+        else if (now > end) done(false);
+        else setTimeout(look, 10);
+      };
+      look();
+    });"""
+
+# What befalls a page: where pointer and keys go, what moves under them, what it saves.
+RECORDER = """{
+    window.befell = [];
+    const shortly = (one) => one.getAttribute("aria-label")
+      || one.textContent.trim().replace(/\\s+/g, " ").slice(0, 40);
+    const named = (one) => (one?.tagName
+      ? `<${one.tagName.toLowerCase()}${one.id && " #" + one.id}> ${shortly(one)}` : String(one));
+    const record = (what) => {
+      if (befell.push(`${(performance.now() / 1000).toFixed(2)} s: ${what}`) > 40) befell.shift();
+    };
+    for (const kind of ["pointerdown", "pointerup", "click", "submit", "change", "keydown"]) {
+      addEventListener(kind, ({clientX: x, clientY: y, isTrusted, key = "", target}) => {
+        if (kind === "keydown" && key.length === 1 && target.matches("input")) return;
+        const by = isTrusted ? "" : " by a script";
+        record(`${kind}${by} at ${x === undefined ? key : [x, y]} on ${named(target)}`);
+      }, true);
+    }
+    addEventListener("error", ({message}) => record(`error ${message}`));
+    addEventListener("unhandledrejection", ({reason}) => record(`unhandled ${reason}`));
+    new PerformanceObserver((list) => {
+      const moves = list.getEntries().flatMap(({sources}) => sources).map(({node, previousRect, currentRect}) =>
+        `${named(node)} from ${Math.round(previousRect.y)} to ${Math.round(currentRect.y)}`);
+      record(`moved: ${moves.join("; ")}`);
+    }).observe({type: "layout-shift", buffered: true});
+    const {click} = HTMLElement.prototype;
+    HTMLElement.prototype.click = function () {
+      if (this.download) record(`saves ${this.download}`);
+      return click.call(this);
+    };
+}"""
+# What a page shows, knows and went through.
+TRUTH = """
+    const {store} = window;
+    const shown = (id) => {
+      const one = document.getElementById(id);
+      return `${id}${one?.checkVisibility() ? "" : " (hidden)"}: ${one?.textContent.trim().replace(/\\s+/g, " ")}`;
+    };
+    const {line, pending, asking, drawing, idle, figures} = store ?? {};
+    return [document.title, ...["said", "line", "clock", "news", "own", "held", "before"].map(shown),
+            `save is open: ${document.getElementById("save")?.open}`,
+            `is hidden: ${document.hidden}, has the focus: ${document.hasFocus()}`,
+            JSON.stringify({open: line && [...line.open.values()].map(({command}) => command), waits: line?.waits(),
+                            pending: pending?.size, asking, drawing, idle, figures: figures?.asking}),
+            window.over ?? "", "what befell it:", ...(window.befell ?? [])];"""
+
 
 def example_rows(which: int) -> list[str]:
     """The rows of a diagram of the example: 0 closed from step 12 on, 1 from 12 to 24; both begin at step 12, or 24."""
@@ -48,9 +128,9 @@ def example_rows(which: int) -> list[str]:
         return [reply["rows"] for reply in map(json.loads, replies) if "rows" in reply][which]
 
 
-def free_server(plan: dict[str, Any], *more: str) -> Server:
+def free_server(plan: dict[str, Any], *more: str, **environment: str) -> Server:
     """A server at a port that stays the same when it is started again."""
-    return Server(None, plan, "--port", str(free_port()), *more)
+    return Server(None, plan, "--port", str(free_port()), *more, **environment)
 
 
 def gestures_of(server: Server) -> list[dict[str, Any]]:
@@ -75,7 +155,9 @@ class Tab:
         options.add_experimental_option("prefs", {"download.default_directory": str(downloads)})
         options.set_capability("goog:loggingPrefs", {"browser": "ALL"})
         self.driver = webdriver.Chrome(options=options, service=Service(shutil.which("chromedriver")))
-        self.driver.set_script_timeout(PATIENCE)
+        self.driver.set_script_timeout(2 * PATIENCE)
+        self.driver.execute_cdp_cmd("Page.addScriptToEvaluateOnNewDocument", {"source": RECORDER})
+        self.downloads = downloads
 
     def join(self, server: Server, name: str) -> Tab:
         self.driver.get("about:blank")
@@ -89,9 +171,12 @@ class Tab:
 
     def script(self, text: str, *words: Any) -> Any:
         """What a script returns, in which the names of the page's modules are known."""
-        if not self.driver.execute_script("return window.hasModules ?? !document.getElementById('diagram')"):
+        text = f"{IF_KNOWN} return [(function () {{{text}\n}}).apply(null, arguments)];"
+        said = self.driver.execute_script(text, *words)
+        if said is None:
             self.driver.execute_script(MODULES_KNOWN, MODULES)
-        return self.driver.execute_script(text, *words)
+            said = self.driver.execute_script(text, *words)
+        return said[0]
 
     def part(self, ident: str) -> Any:
         return self.driver.find_element(By.ID, ident)
@@ -106,22 +191,34 @@ class Tab:
             if holds():
                 return
             time.sleep(0.03)
-        said = self.driver.find_element(By.TAG_NAME, "body").text[:400]
-        raise AssertionError(f"waited in vain: {what}; the page says: {said}")
+        raise AssertionError(f"waited in vain: {what}\n{self.truth()}")
+
+    def truth(self) -> str:
+        """What the page shows, knows and went through, for who reads of a test that failed."""
+        seen = self.driver.execute_script(TRUTH)
+        console = [entry["message"] for entry in self.driver.get_log("browser")]
+        saved = sorted(path.name for path in self.downloads.iterdir())
+        return "\n".join([*seen, f"console: {console}", f"saved: {saved}"])
 
     def settled(self) -> None:
-        """Waits until all is confirmed, asked for and drawn, and the figures say it."""
-        self.until(lambda: self.script("return store.pending.size === 0 && store.asking === 0 && !store.line.waits() && "
-                                       "[...store.line.open.values()].every(({command}) => command.figures) && "
-                                       "!store.drawing && !store.idle && !store.figures.asking"), "quiet")
-        self.driver.execute_async_script("const done = arguments[0];"
-                                         "setTimeout(() => requestAnimationFrame(() => done()), 200)")
+        """Waits until all is confirmed, asked for and drawn, the figures say it, and it stays so for a moment."""
+        self.until(lambda: self.driver.execute_async_script(SETTLED), "quiet")
 
     def lines(self, ident: str) -> list[str]:
         """The lines of a list: what was done, and its state."""
         found = self.script("return [...document.querySelectorAll(`#${arguments[0]} > li > .note`)]"
                             ".map((one) => one.textContent)", ident)
         return [" ".join(one.split()) for one in found]
+
+    def covers(self, ident: str) -> list[str]:
+        """What the lines of a list say of what covers them."""
+        return self.script("return [...document.querySelectorAll(`#${arguments[0]} > li > .loss`)].map((one) => "
+                           "one.textContent)", ident)
+
+    def value_at(self, kind: str, index: int, *steps: int) -> list[int]:
+        """What holds on the own road, as the page says it."""
+        return self.script("const [kind, index, steps] = arguments;"
+                           "return steps.map((step) => store.layers.mine.valueAt(kind, index, step))", kind, index, steps)
 
     def faults(self) -> list[str]:
         return [entry["message"] for entry in self.driver.get_log("browser")
@@ -130,29 +227,47 @@ class Tab:
     # What is done
 
     def press(self, name: str, within: str = "body") -> None:
-        """Presses the button that is called so, once it is there."""
-        self.until(lambda: self._pressed(name, within), f"a button {name} in {within}")
+        """Presses the button that is called so, once it is there and nothing lies over it: in the page itself, where
+        nothing moves meanwhile, as it may between a look and a click from outside."""
+        self.until(lambda: self.script(PRESS, name, within), f"a button {name} in {within}")
 
-    def _pressed(self, name: str, within: str) -> bool:
-        one = self.script("""
-            const one = [...document.querySelectorAll(`${arguments[1]} button`)].find((one) => one.checkVisibility()
-              && !one.disabled && (one.ariaLabel || one.textContent.trim()).startsWith(arguments[0]));
-            one?.scrollIntoView({block: "center"});
-            return one ?? null;""", name, within)
-        if one is None:
-            return False
-        try:
-            one.click()
-        except StaleElementReferenceException:  # the list was shown anew just then
-            return False
-        return True
+    def press_in(self, ident: str) -> None:
+        """Presses the only or the first button of a part, or the part where it is one."""
+        self.until(lambda: self.script(PRESS, "", ident), f"the button of {ident}")
+
+    def open_part(self, ident: str) -> None:
+        """Opens what is folded."""
+        self.until(lambda: self.script(PRESS, "", f"#{ident} > summary"), f"to open {ident}")
+
+    def save(self, name: str, file: str) -> Path:
+        """Saves by the menu, and gives the file; by a key, since a browser lets a page save once for each press."""
+        if self.part("save").get_attribute("open") is None:
+            self.open_part("save")
+        self.until(lambda: self.script(FOCUS, name, "#save"), f"a button {name}")
+        ActionChains(self.driver, duration=0).send_keys(Keys.ENTER).perform()
+        path = self.downloads / file
+        self.until(path.exists, file)
+        return path
 
     def tool(self, kind: str) -> None:
         self.script("document.querySelector(`input[name=tool][value=${arguments[0]}]`).click()", kind)
 
+    def choose(self, ident: str, value: str) -> None:
+        """Chooses from a list."""
+        self.fill(**{ident: value})
+
+    def fill(self, **fields: str) -> None:
+        """Writes into fields, and chooses from lists."""
+        self.script("""
+            for (const [ident, value] of Object.entries(arguments[0])) {
+              $(ident).value = value;
+              if ($(ident).value !== value) throw new Error(`${ident} takes no ${value}`);
+              for (const kind of ["input", "change"]) $(ident).dispatchEvent(new Event(kind, {bubbles: true}));
+            }""", fields)
+
     def show(self, seconds: int) -> None:
         """Shows so many seconds, from the first row on."""
-        Select(self.part("span")).select_by_value(str(seconds))
+        self.choose("span", str(seconds))
         self.keys(Keys.HOME)
         self.settled()
 
@@ -191,11 +306,15 @@ class Tab:
 
     def in_figures(self, **fields: str) -> None:
         """Fills the form and applies it."""
-        for ident, text in fields.items():
-            self.part(ident).clear()
-            self.part(ident).send_keys(text)
-        self.part("apply").click()
+        self.fill(**fields)
+        self.press_in("#apply")
         self.settled()
+
+    def limit(self, limit: str, begin: str, end: str) -> None:
+        """Puts a limit on the whole of a short road."""
+        self.tool("limit")
+        self.choose("limit", limit)
+        self.in_figures(kmFrom="0", kmTo="0.3", timeFrom=begin, timeTo=end)
 
     def share_all(self) -> None:
         self.press("Share all")
@@ -261,15 +380,16 @@ class BrowserCase(Test):
             cls.tabs.append(Tab(cls.downloads))
             cls.addClassCleanup(cls.tabs[-1].driver.quit)
 
-    def open(self, plan: dict[str, Any], names: tuple[str, ...] | None = None, *more: str) -> list[Tab]:
+    def open(self, plan: dict[str, Any], names: tuple[str, ...] | None = None, *more: str,
+             **environment: str) -> list[Tab]:
         """A server with this plan and these words more, and a tab for each name."""
-        self.server = free_server(plan, *more)
+        self.server = free_server(plan, *more, **environment)
         self.addCleanup(self.server.kill)
         return [tab.join(self.server, name) for tab, name in zip(self.tabs, names or self.names)]
 
     def tearDown(self) -> None:
         for path in self.downloads.iterdir():
-            path.unlink()
+            path.unlink(missing_ok=True)
         for name, tab in zip(self.names, self.tabs):
             if SCREENSHOTS:
                 tab.driver.save_screenshot(os.path.join(SCREENSHOTS, f"{self._testMethodName}_{name}.png"))

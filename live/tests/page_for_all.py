@@ -5,7 +5,12 @@ from browsers import FREEWAY, BrowserCase
 from selenium.webdriver.common.action_chains import ActionChains
 from selenium.webdriver.common.by import By
 from selenium.webdriver.common.keys import Keys
-from selenium.webdriver.support.ui import Select
+
+
+SHARE_NOW = """
+    const {top, bottom} = [...document.querySelectorAll("#before button")]
+      .find((one) => one.textContent === "Share now").getBoundingClientRect();
+    return [top, bottom];"""
 
 
 class ForAll(BrowserCase):
@@ -65,15 +70,28 @@ class ForAll(BrowserCase):
                                        {"width": width, "height": height, "deviceScaleFactor": 1, "mobile": False})
             tab.settled()
             tab.script("window.scrollTo(0, 0)")
-            tab.script("$('shareAll').click()")
+            first = tab.script("$('shareAll').click();" + SHARE_NOW)
             tab.until(lambda: tab.script("return document.querySelector('#before table') !== null"), "the figures")
             tab.settled()
-            top, bottom = tab.script("""
-                const one = [...document.querySelectorAll("#before button")].find((one) => one.textContent === "Share now");
-                const {top, bottom} = one.getBoundingClientRect();
-                return [top, bottom];""")
+            top, bottom = tab.script(SHARE_NOW)
             self.assertTrue(0 <= top < bottom <= height, (width, top, bottom))
+            self.assertEqual([top, bottom], first)  # what comes since moves no button
             tab.press("Not now")
+
+    def test_figures_move_nothing_when_they_come(self) -> None:
+        tab, = self.open(FREEWAY)
+        high = "return $('figuresPart').getBoundingClientRect().height"
+        draws_nothing = tab.driver.execute_cdp_cmd("Page.addScriptToEvaluateOnNewDocument",
+                                                   {"source": "requestAnimationFrame = () => 0"})  # and asks for no figures
+        tab.driver.refresh()
+        tab.until(lambda: tab.text("me") == "Ada (seat 1)", "the seat")
+        before = tab.script(high)
+        tab.driver.execute_cdp_cmd("Page.removeScriptToEvaluateOnNewDocument", draws_nothing)
+        tab.driver.refresh()
+        tab.until(lambda: tab.text("me") == "Ada (seat 1)", "the seat")
+        tab.run_an_hour()
+        self.assertEqual(tab.script("return document.querySelectorAll('.awaited').length"), 0)
+        self.assertEqual(tab.script(high), before)
 
     def test_all_is_in_sight_beside_the_picture(self) -> None:
         tab, = self.open(FREEWAY)
@@ -81,6 +99,7 @@ class ForAll(BrowserCase):
         tab.tool("block")
         tab.in_figures(kmFrom="3", kmTo="3.15", timeFrom="0:20", timeTo="0:30")
         tab.script("$('others').textContent = ', with Benjamin, Cleopatra and Dorothea'")
+        tab.script("$('stays').replaceChildren()")  # what is wrong, as that a program is unproved, takes a line of its own
         self.addCleanup(tab.driver.execute_cdp_cmd, "Emulation.clearDeviceMetricsOverride", {})
         for width, height in ((1366, 768), (1920, 1080)):
             tab.driver.execute_cdp_cmd("Emulation.setDeviceMetricsOverride",
@@ -126,7 +145,7 @@ class ForAll(BrowserCase):
     def test_the_menu_is_seen_whole(self) -> None:
         tab, = self.open(FREEWAY)
         tab.script("$('others').textContent = ', with Benjamin and Cleopatra'")  # who make the head wider
-        tab.part("save").find_element(By.TAG_NAME, "summary").click()
+        tab.open_part("save")
         self.addCleanup(tab.driver.execute_cdp_cmd, "Emulation.clearDeviceMetricsOverride", {})
         for width in (320, 520, 600, 768, 1000, 1200, 1300, 1366, 1500):
             tab.driver.execute_cdp_cmd("Emulation.setDeviceMetricsOverride",
@@ -183,7 +202,7 @@ class ForAll(BrowserCase):
         tab.driver.execute_cdp_cmd("Emulation.setEmulatedMedia",
                                    {"features": [{"name": "prefers-reduced-motion", "value": "reduce"}]})
         self.addCleanup(tab.driver.execute_cdp_cmd, "Emulation.setEmulatedMedia", {"features": []})
-        Select(tab.part("span")).select_by_value("300")
+        tab.choose("span", "300")
         tab.press("60×")
         seen, now = set[int](), 0
         while now < 600:

@@ -1,0 +1,51 @@
+// Questions to a server that is busy, or away.
+
+import assert from "node:assert/strict";
+import {test} from "node:test";
+
+import {ask, askUntilFree} from "../page/asking.mjs";
+import {Away} from "../page/line.mjs";
+import {store} from "../page/store.mjs";
+
+/** A line that gives these answers, one after the other, and what it was asked. */
+function answering(...answers) {
+  const asked = [];
+  store.said = ["", false];
+  store.line = {ask: async (command) => {
+    asked.push(command);
+    const answer = answers.shift();
+    if (answer instanceof Error) throw answer;
+    return answer;
+  }};
+  return asked;
+}
+
+const BUSY = {refused: "busy", why: "another road is run"};
+const settled = () => new Promise((done) => { setImmediate(done); });
+
+test("a refusal is told", async () => {
+  answering(BUSY);
+  assert.deepEqual(await ask({figures: {}}), BUSY);
+  assert.deepEqual(store.said, ["another road is run", true]);
+});
+
+test("one who is busy is asked again until there is an answer, and nothing is told", async (t) => {
+  t.mock.timers.enable({apis: ["setTimeout"]});
+  const asked = answering(BUSY, BUSY, {lines: "a"});
+  const said = askUntilFree({transcript: {}});
+  for (const count of [1, 2, 3]) {
+    await settled();
+    assert.equal(asked.length, count);
+    t.mock.timers.tick(1000);
+  }
+  assert.deepEqual(await said, {lines: "a"});
+  assert.deepEqual(store.said, ["", false]);
+});
+
+test("other refusals, and a line that breaks, end it", async () => {
+  answering({refused: "Range", why: "too long"});
+  assert.equal((await askUntilFree({transcript: {}})).refused, "Range");
+  assert.deepEqual(store.said, ["too long", true]);
+  answering(new Away("the line broke"));
+  assert.equal(await askUntilFree({transcript: {}}), null);
+});

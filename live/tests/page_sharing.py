@@ -1,0 +1,236 @@
+"""Two browsers on one road: share, look first, take, overruled, put again, undo."""
+from __future__ import annotations
+
+from browsers import FREE_ROAD, FREEWAY, BrowserCase, before_rows, example_rows
+from selenium.webdriver.common.action_chains import ActionChains
+from selenium.webdriver.common.by import By
+from selenium.webdriver.common.keys import Keys
+
+
+class Sharing(BrowserCase):
+    """Two browsers."""
+
+    def test_shared_looked_at_and_taken(self) -> None:
+        ada, ben = self.open(FREE_ROAD)
+        ada.run_an_hour()
+        for tab in (ada, ben):
+            tab.show(60)
+        ada.tool("block")
+        ada.drag((24.3, 12.1), (25.2, 24.1))
+        self.assertFalse(ben.part("news").is_displayed())
+        ada.press("Share all")
+        ada.settled()
+        self.assertIn("Nothing would be covered.", ada.text("beforeBody"))
+        self.assertIn("then sloweras fastthen faster", ada.text("legend"))
+        jam = ada.pixel(17.5, 22.5)
+        ada.press("Share now")
+        ben.until(lambda: "Ada shared 1 change." in ben.text("news"), "news")
+        ben.press("Look first")
+        ben.settled()
+        self.assertFalse(ben.part("news").is_displayed())  # "Take now" is asked: there is one way to take
+        self.assertIn("Whole road closed 0.18–0.188 km, 0:00:12–0:00:24 Ada, ", ben.text("beforeBody"))
+        # In the cells 15 to 19 of the steps 20 to 24 Ada's cars have, by the example's rows, the speeds 3, 1, 3, 0, 3, 0, 0,
+        # 2, 0, 0, 3, 0, 0, 0, and Ben's drive 3: hers are slower, by half of the scale, which is a middling red;
+        # for both, as the legend says.
+        red, green, blue = ben.pixel(17.5, 22.5)
+        self.assertTrue(green < 160 and green < blue < red, (red, green, blue))
+        self.assertEqual((red, green, blue), jam)
+        self.assertIn("then sloweras fastthen faster", ben.text("legend"))
+        ben.press("Take now")
+        ben.until(lambda: ben.text("said") == "Took 1 change of Ada. Nothing of yours is covered by them.", "taken")
+        ben.settled()
+        ben.script("store.layers.mine.frames = []; draw()")
+        ben.settled()
+        wanted = example_rows(0)[:12] + example_rows(1)[-17:]
+        self.assertEqual(ben.signs(12, len(wanted), 40), wanted)
+        self.assertEqual(ben.lines("held"), ["Whole road closed 0.18–0.188 km, 0:00:12–0:00:24 shared"])
+
+    def test_covered_and_put_on_top(self) -> None:
+        ada, ben = self.open(FREE_ROAD)
+        ada.run_an_hour()
+        ada.limit("1", "0:20", "0:40")
+        ada.share_all()
+        ben.take()
+        ben.limit("2", "0:25", "0:30")
+        ben.share_all()
+        ada.take()
+        self.assertEqual(ada.text("said"), "Took 1 change of Ben. 1 change of yours is covered by them, whole or in part.")
+        self.assertIn("27 km/h, 0–0.3 km, 0:20:00–0:40:00 shared", ada.lines("held"))
+        self.assertEqual(ada.covers("held"), ["In force 0:20:00–0:25:00; covered 0:25:00–0:30:00 by Ben's limit of "
+                                                    "54 km/h; in force 0:30:00–0:40:00."])
+        self.assertEqual(ada.value_at("limit", 0, 1199, 1200, 1499, 1500, 1799, 1800, 2399, 2400),
+                         [3, 1, 1, 2, 2, 1, 1, 3])
+        ada.press("Put on top: 27 km/h")
+        ada.settled()
+        self.assertEqual(ada.lines("own"), ["27 km/h, 0–0.3 km, 0:20:00–0:40:00 private"])
+        self.assertEqual(ada.covers("held"), ["Wholly covered by your limit of 27 km/h."])
+        self.assertEqual(ada.value_at("limit", 0, 1200, 1500, 1800, 2400), [1, 1, 1, 3])
+        ada.press("Share all")
+        ada.until(lambda: "then: wholly covered by your limit" in ada.text("beforeBody"), "who is covered")
+        self.assertIn("Ben: 54 km/h, 0–0.3 km, 0:25:00–0:30:00 – then: wholly covered by your limit of 27 km/h.",
+                      ada.text("beforeBody"))
+        ada.press("Share now")
+        ada.settled()
+        ben.take()
+        self.assertEqual(ben.covers("held"), ["Wholly covered by Ada's limit of 27 km/h."])
+        # What is wholly covered can be withdrawn all the same; nothing of the road is other than before.
+        ben.press("Withdraw: 54 km/h")
+        ben.settled()
+        self.assertEqual(ben.covers("held"), [])
+        self.assertEqual(ben.lines("own"), ["Withdrew: 54 km/h, 0–0.3 km, 0:25:00–0:30:00 private"])
+        self.assertEqual(ben.value_at("limit", 0, 1200, 1500, 1800, 2400), [1, 1, 1, 3])
+
+    def test_what_is_pressed_stays_until_it_is_let_go(self) -> None:
+        ada, ben = self.open(FREE_ROAD)
+        ben.limit("1", "0:20", "0:30")
+        ben.share_all()
+        ada.until(lambda: ada.text("news").startswith("Ben shared 1 change."), "news")
+        ada.settled()
+        ActionChains(ada.driver, duration=0).click_and_hold(ada.part("news").find_element(By.TAG_NAME, "button")).perform()
+        self.assertEqual(ada.script("return document.querySelector('#news button:active')?.textContent"), "Take")
+        ben.limit("2", "0:40", "0:50")
+        ben.share_all()
+        ada.until(lambda: ada.script("return store.news.text") == "Ben shared 2 changes.", "more news")
+        self.assertTrue(ada.text("news").startswith("Ben shared 1 change."))
+        ActionChains(ada.driver, duration=0).release().perform()
+        ada.until(lambda: ada.text("said") == "Took 2 changes of Ben. Nothing of yours is covered by them.", "taken")
+
+    def test_two_who_lay_one_line_at_once(self) -> None:
+        ada, ben = self.open(FREE_ROAD)
+        ada.run_an_hour()
+        ada.limit("1", "0:20", "0:30")
+        ada.share_all()
+        ben.take()
+        ada.press("Change: 27 km/h")
+        ada.in_figures(timeTo="0:35")
+        ben.press("Withdraw: 27 km/h")
+        ben.settled()
+        ada.share_all()
+        ben.share_all()
+        ada.take()
+        # Ben's is the later one.
+        self.assertEqual(ada.value_at("limit", 0, 1200, 2000), [3, 3])
+        self.assertEqual(ada.covers("held"), ["Ben withdrew it at the same time, a moment later."])
+        ada.press("Put mine again")
+        ada.settled()
+        self.assertEqual(ada.value_at("limit", 0, 1200, 2000, 2100), [1, 1, 3])
+        self.assertEqual(ada.lines("own"), ["27 km/h, 0–0.3 km, 0:20:00–0:35:00 private"])
+
+    def test_who_withdraws_one_of_two_closures_opens_what_it_alone_closed(self) -> None:
+        ada, ben = self.open(FREE_ROAD)
+        ada.run_an_hour()
+        ada.tool("block")
+        ada.in_figures(kmFrom="0.15", kmTo="0.21", timeFrom="0:20", timeTo="0:50")
+        ada.share_all()
+        ben.take()
+        ben.tool("block")
+        ben.in_figures(kmFrom="0.15", kmTo="0.18", timeFrom="0:10", timeTo="0:35")
+        self.assertEqual(ben.value_at("block", 20, 599, 600, 1200, 2099, 2100, 2999, 3000), [0, 1, 1, 1, 1, 1, 0])
+        labels = "return framesShown().map((one, _, all) => labelOf(one, areOfSeveral(all))).sort()"
+        # A frame has the name of who made what is on top there.
+        self.assertEqual(set(ben.script(labels)), {"whole road closed, you", "whole road closed, Ada"})
+        ben.share_all()
+        ada.take()
+        self.assertEqual(set(ada.script(labels)), {"whole road closed, you", "whole road closed, Ben"})
+        ada.press("Withdraw: Whole road closed 0.15–0.21 km")
+        ada.settled()
+        for cell, values in ((20, [0, 1, 1, 1, 0, 0]), (27, [0, 0, 0, 0, 0, 0])):
+            self.assertEqual(ada.value_at("block", cell, 599, 600, 1200, 2099, 2100, 2999), values)
+        self.assertEqual(set(ada.script(labels)), {"whole road closed"})
+        ada.share_all()
+        ben.take()
+        for tab in (ada, ben):
+            self.assertEqual(tab.value_at("block", 20, 600, 2100), [1, 0])
+        rows = [tab.script("return store.roads.mine.level(everyShown()).rows.filter(Boolean)") for tab in (ada, ben)]
+        self.assertEqual(*rows)
+
+    def test_picture_sentences_and_table_are_of_the_same_two_roads(self) -> None:
+        ada, ben = self.open(FREEWAY)
+        ada.run_an_hour()
+        for tab, first, last in ((ada, "4.5", "4.6"), (ben, "3", "3.1")):
+            tab.tool("block")
+            tab.in_figures(kmFrom=first, kmTo=last, timeFrom="0:20", timeTo="0:30")
+        ada.tool("block")
+        ada.in_figures(kmFrom="1.05", kmTo="1.2", timeFrom="0:20", timeTo="0:30")
+        ben.share_all()
+        ada.until(lambda: ada.part("news").is_displayed(), "news")
+        # The jams before the closures, half way down: at cell 590 her own, at cell 390 Ben's, at cell 125 what she shares.
+        own, his, shared = (590, 1700), (390, 1700), (125, 1700)
+        jam = lambda tab, place: (lambda red, green, blue: green < 130 and red > 150)(*tab.pixel(*place))
+        for what, wanted in (("Share…: Whole road closed 1.05", [False, False, True]), ("Look first", [False, True, False])):
+            ada.press(what)
+            ada.settled()
+            self.assertEqual([jam(ada, place) for place in (own, his, shared)], wanted, what)
+            rows = before_rows(ada)
+            steps = ada.driver.execute_async_script("""
+                const done = arguments[0];
+                Promise.all(["before", "after"].map((at) => ask({sums: {at, from: 0, to: 3600}}))).then((said) =>
+                  done(said.map(({sums}) => sums.reduce((one, other) => one + other, 0))));""")
+            self.assertEqual([round(one / 3600, 1) for one in steps], list(rows["Vehicle hours"][:2]))
+            ada.press("Not now")
+            ada.settled()
+        self.assertEqual(ada.faults(), [])
+
+    def test_what_is_taken_back_and_put_again(self) -> None:
+        ada, _ = self.open(FREE_ROAD)
+        ada.limit("1", "0:20", "")
+        ada.limit("2", "0:20", "")
+        first, second = "27 km/h, 0–0.3 km, from 0:20:00 on", "54 km/h, 0–0.3 km, from 0:20:00 on"
+        self.assertEqual(ada.lines("own"), [f"{second} private", f"{first} private"])
+        for held in ([f"{first} private"], []):
+            ada.keys("z")
+            ada.settled()
+            self.assertEqual(ada.lines("own"), held)
+        ActionChains(ada.driver, duration=0).key_down(Keys.SHIFT).send_keys("z").key_up(Keys.SHIFT).perform()
+        ada.settled()
+        self.assertEqual(ada.lines("own"), [f"{first} private"])
+        ada.press("Redo")
+        ada.settled()
+        self.assertEqual(sorted(ada.lines("own")), [f"{first} private", f"{second} private"])
+        self.assertEqual(ada.value_at("limit", 0, 1200), [2])
+        self.assertFalse(ada.part("redo").is_enabled())
+        ada.keys("z", "z")
+        ada.settled()
+        self.assertEqual(ada.lines("own"), [])
+        ada.limit("4", "0:30", "")
+        self.assertFalse(ada.part("redo").is_enabled())
+        # What is shared is taken back by Z, too: for oneself, until that is shared.
+        ada.share_all()
+        ada.press("Withdraw", "#held")
+        ada.settled()
+        self.assertEqual(ada.lines("own"), ["Withdrew: 108 km/h, 0–0.3 km, from 0:30:00 on private"])
+        ada.keys("z")
+        ada.settled()
+        self.assertEqual(ada.value_at("limit", 0, 1800), [4])
+        self.assertNotIn("Withdrew: Withdrew", ada.text("own"))
+        self.assertEqual(ada.faults(), [])
+
+    def test_a_part_is_looked_at_before_it_is_shared(self) -> None:
+        ada, _ = self.open(FREE_ROAD)
+        ada.run_an_hour()
+        ada.limit("1", "0:20", "0:30")
+        ada.limit("2", "0:40", "0:50")
+        ada.press("Share…: 27 km/h")
+        rows = before_rows(ada)
+        self.assertEqual(list(rows), ["Vehicle hours", "Cars let in", "Lost demand, cars",
+                                      "Delay of cars in both, vehicle hours", "Cars an hour at 0.21 km"])
+        # A car every other step drives over the 39 cells at 3 cells a step, and in ten of sixty minutes at 1.
+        self.assertAlmostEqual(rows["Vehicle hours"][0], 1_800 * 13 / 3_600, delta=0.5)
+        self.assertAlmostEqual(rows["Vehicle hours"][1], 1_500 * 13 / 3_600 + 300 * 39 / 3_600, delta=0.5)
+        ada.press("Share now")
+        ada.settled()
+        self.assertEqual([text[-7:] for text in ada.lines("own") + ada.lines("held")], ["private", " shared"])
+
+    def test_what_taking_costs_is_said_before(self) -> None:
+        ada, ben = self.open(FREE_ROAD)
+        ada.run_an_hour()
+        ada.limit("1", "0:20", "0:30")
+        ada.share_all()
+        ben.limit("2", "0:40", "0:50")
+        ben.press("Look first")
+        # As in the test above: ten minutes at a third of the speed, beside ten at two thirds.
+        free, slow, middle = (cars / 3_600 for cars in (300 * 13, 300 * 39, 300 * 19.5))
+        now, then, _ = before_rows(ben)["Vehicle hours"]
+        self.assertAlmostEqual(now, 5 * free + middle, delta=0.5)
+        self.assertAlmostEqual(then, 4 * free + middle + slow, delta=0.5)
+        self.assertEqual(ben.faults(), [])
