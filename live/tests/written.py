@@ -281,28 +281,31 @@ class Stalled(Case):
         there = await self.enterAsyncContext(Here(site=2))
         first, second = bus.site(self.here), bus.site(there)
         await bus.rounds(2)
+        await self.here.put(self.ada, ["limit", 3, 70, 4])
+        await self.here.share(self.ada)
+        await bus.carry()
         await self.here.put(self.ada, [*LIMIT, 3])
         await self.stalls("fsync")
         share = asyncio.create_task(self.here.share(self.ada))
         layers = asyncio.create_task(self.here.ask(self.ben, "layers", at="shared"))
         await self.is_told(1)
-        await self.looks(1)
+        await self.looks(2)
         second._sites.clear()
         await soon(first.announce())
         first._tell_what_may_lack("another", {})
         told = [one for one in bus.sent if one.topic.endswith("layers")]
-        self.assertEqual([len(json.loads(one.payload)["gestures"]) for one in told], [1])  # what is on the disk
+        self.assertEqual([len(json.loads(one.payload)["gestures"]) for one in told], [2])  # what is on the disk
         bus.sent = [one for one in bus.sent if one not in told]
         await soon(bus.carry())
         self.assertEqual([one["site"] for one in second.state()["sites"]], [1])  # it is there all the same
-        self.assertEqual(len(there.lab.state.shared.gestures), 1)
+        self.assertEqual(len(there.lab.state.shared.gestures), 2)
         self.assertEqual([one for one in (share, layers) if one.done()], [])
         self.held.set()
         await soon(share)
-        self.assertEqual(len((await soon(layers))["layers"]), 2)
+        self.assertEqual(len((await soon(layers))["layers"]), 3)
         await soon(bus.carry())
-        self.assertEqual(len(there.lab.state.shared.gestures), 2)
-        await self.looks(2)
+        self.assertEqual(len(there.lab.state.shared.gestures), 3)
+        await self.looks(3)
 
     async def test_a_stalled_try_of_a_disk_that_took_nothing_and_a_stalled_compaction(self) -> None:
         self.disk.is_full()
