@@ -107,7 +107,7 @@ class Reader:
 
     async def shares(self) -> None:
         own = [stamp for stamp in self.held if stamp[1] == self.seat.welcome["number"]]
-        some = {} if self.chance.random() < 0.6 else {"stamps": [one for one in own if self.chance.random() < 0.5][:50]}
+        some: dict[str, Any] = {} if self.chance.random() < 0.6 else {"stamps": [one for one in own if self.chance.random() < 0.5][:50]}
         await self.seat.ask("send", name="shared", **some)
 
     async def takes(self) -> None:

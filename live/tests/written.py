@@ -224,7 +224,7 @@ class Stalled(Case):
         held.clear()
         self.disk.free = threading.Event()
         self.disk.free.set()
-        self.disk.before = lambda name, given: name in names and held.wait()  # without an end, but that of the test
+        self.disk.before = lambda name, given: held.wait() and None if name in names else None  # until the test lets it
         self.addCleanup(held.set)
         self.held = held
 
