@@ -107,8 +107,8 @@ class Reader:
 
     async def shares(self) -> None:
         own = [stamp for stamp in self.held if stamp[1] == self.seat.welcome["number"]]
-        some: dict[str, Any] = {} if self.chance.random() < 0.6 else {"stamps": [one for one in own if self.chance.random() < 0.5][:50]}
-        await self.seat.ask("send", name="shared", **some)
+        some = [one for one in own if self.chance.random() < 0.5][:50]
+        await self.seat.ask("send", name="shared", **({} if self.chance.random() < 0.6 else {"stamps": some}))
 
     async def takes(self) -> None:
         looked, after = None, None

@@ -224,7 +224,11 @@ class Stalled(Case):
         held.clear()
         self.disk.free = threading.Event()
         self.disk.free.set()
-        self.disk.before = lambda name, given: held.wait() and None if name in names else None  # until the test lets it
+
+        def waits(name: str, _given: Any) -> None:
+            if name in names:
+                held.wait()  # without an end, but that of the test
+        self.disk.before = waits
         self.addCleanup(held.set)
         self.held = held
 
