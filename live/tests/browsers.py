@@ -62,7 +62,7 @@ SETTLED = """
     const [done] = arguments;
     import("/page/store.mjs").then(({store}) => {
       const isQuiet = () => store.pending.size === 0 && store.asking === 0 && !store.line.waits()
-        && [...store.line.open.values()].every(({command}) => command.figures)
+        && [...store.line.open.values()].every(({command}) => command.figures ?? command.days)
         && !store.drawing && !store.idle && !store.figures.asking;
       const end = performance.now() + 1000;
       let since = null;
