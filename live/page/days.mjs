@@ -12,7 +12,7 @@ const keyNow = () => [store.layers.mine.next, store.layers.shared.next].join();
 
 /** What is compared: the roads of what is looked at before sharing or taking, else mine and the
     shared one. */
-const comparedNow = () => (store.before ? "preview" : "mine");
+export const comparedNow = () => (store.before ? "preview" : "mine");
 
 /** The question of what is compared; null where there is none. */
 export const daysShown = () => (store.days?.of === comparedNow() ? store.days : null);
