@@ -1,6 +1,7 @@
 // The line to the server: questions with a number, their answers, and what is told without asking.
 
 const MOST_OPEN = 6;            // the server refuses a ninth question that waits
+const MOST_FIRST = 3;           // of these: a disk may take long, and looking goes on
 const FIRST_WAIT = 200;         // milliseconds before it is tried again, doubled up to the last
 const LAST_WAIT = 5000;
 const OPEN = 1;                 // the state of a socket that can be written to
@@ -34,15 +35,17 @@ export class Line {
   ask(command, first = false) {
     return new Promise((done, fail) => {
       if (!this.greeted && !command.hello && !command.seats) return fail(new Away("no line"));
-      const question = {command, done, fail};
+      const question = {command, done, fail, first};
       (first ? this.first : this.queue).push(question);
       this.send();
     });
   }
 
   send() {
-    while (this.waits() && this.open.size < MOST_OPEN && this.socket.readyState === OPEN) {
-      const question = this.first.shift() ?? this.queue.shift();
+    while (this.open.size < MOST_OPEN && this.socket.readyState === OPEN) {
+      const acts = [...this.open.values()].filter(({first}) => first).length;
+      const question = (acts < MOST_FIRST && this.first.shift()) || this.queue.shift();
+      if (!question) return;
       const id = ++this.number;
       this.open.set(id, question);
       this.socket.send(JSON.stringify({id, ...question.command}));

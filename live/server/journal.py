@@ -18,6 +18,7 @@ import json
 import logging
 import os
 import re
+import time
 import zlib
 from pathlib import Path
 from typing import Any, Callable, Iterable, Iterator
@@ -149,6 +150,7 @@ class Journal:
         self._waiting: list[tuple[str, Then, asyncio.Future[None]]] = []
         self._last: asyncio.Future[None] | None = None
         self._writer: asyncio.Future[None] | None = None
+        self._began: float | None = None  # when the disk was asked what it has not answered
         self._file = appended(path)
         torn = os.fstat(self._file).st_size - size
         if torn > 0:
@@ -169,19 +171,22 @@ class Journal:
             self._writer = asyncio.ensure_future(self._write_all())
         return done
 
+    def waits(self, seconds: float) -> bool:
+        """Whether the disk has owed an answer for so long."""
+        return self._began is not None and time.monotonic() - self._began > seconds
+
     async def settled(self) -> None:
         """Waits until all that was written so far is on the disk; `NotWritten` where it was not taken."""
         if self._last is not None:
             await asyncio.shield(self._last)
 
     async def _write_all(self) -> None:
-        loop = asyncio.get_running_loop()
         try:
             while self._waiting and self.fault is None:
                 batch, self._waiting = self._waiting, []
                 data = b"".join(line_of(text, place == 0) for place, (text, _, _) in enumerate(batch))
                 try:
-                    await loop.run_in_executor(None, self._append, data)
+                    await self._asks(self._append, data)
                 except OSError as fault:
                     self._waiting = batch + self._waiting
                     self._failed(fault)
@@ -192,6 +197,14 @@ class Journal:
                         done.set_result(None)
         finally:
             self._writer = None
+
+    async def _asks(self, does: Callable[..., None], *given: Any) -> None:
+        """Lets the disk do something, beside all else."""
+        self._began = time.monotonic()
+        try:
+            await asyncio.get_running_loop().run_in_executor(None, does, *given)
+        finally:
+            self._began = None
 
     def _failed(self, fault: OSError) -> None:
         self.fault = f"the disk does not take it ({fault.strerror})"
@@ -221,7 +234,7 @@ class Journal:
     async def mend(self, entry: Entry) -> None:
         """Tries the disk by an entry, and as much more as a gesture may be: once that is there, and cut off again, all
         else is taken. OSError where it is not."""
-        await asyncio.get_running_loop().run_in_executor(None, self._mend, entry)
+        await self._asks(self._mend, entry)
         self.fault = None
 
     def _mend(self, entry: Entry) -> None:
@@ -239,14 +252,13 @@ class Journal:
             await asyncio.wait([self._writer])
 
     async def _replace(self, entries: list[Entry]) -> None:
-        run = asyncio.get_running_loop().run_in_executor
         try:
-            await run(None, self._rewrite, entries)
+            await self._asks(self._rewrite, entries)
         except OSError as fault:
             logging.warning("the journal stays as long as it is: %s", fault)
         else:
             try:
-                await run(None, sync_folder, self.path.parent)
+                await self._asks(sync_folder, self.path.parent)
             except OSError as fault:  # the old one may stand there again
                 self._failed(fault)
         await self._write_all()

@@ -27,6 +27,8 @@ from .turns import MORE, Job, Turns
 
 KEPT = 20  # of a seat's gestures that were taken back in private
 LONGEST_PAUSE = 60.0  # seconds between two tries of a disk that took nothing
+STALLS = 5.0  # seconds without an answer of the disk, of which people are told
+A_MOMENT = 1.0  # seconds that a try of the disk may keep others waiting
 LAST_STEP = 1_048_576
 SHARED = 0
 Times = Dict[str, float]
@@ -56,7 +58,9 @@ class Keeper:
         self.changes = 0  # of the program
         self.why_changed: str | None = None  # for people, where it was not to be
         self.undone = 0  # gestures that were taken back since the oldest were forgotten
-        self.trouble: str | None = None
+        self._trouble: str | None = None
+        self._is_stalled = False
+        self._try: asyncio.Future[str | None] | None = None  # of a disk that took nothing
         self.confirmed = 0  # so many of the shared gestures are on the disk: of no others anybody is told
         self._forgotten = 0  # failures of the journal after which what was not written was forgotten
         self.since = time.monotonic()
@@ -93,7 +97,7 @@ class Keeper:
         self.since = time.monotonic()
         self._forget()
         self._program = await self._start()
-        self.tasks = [asyncio.ensure_future(self.turns.run())]
+        self.tasks = [asyncio.ensure_future(self.turns.run()), asyncio.ensure_future(self._watch_disk())]
         return not entries
 
     async def _rewrite(self) -> None:
@@ -153,6 +157,23 @@ class Keeper:
 
     # The disk
 
+    @property
+    def trouble(self) -> str | None:
+        """What is wrong with it, for people."""
+        if self._trouble is None and self._is_stalled:
+            return (f"the disk has not answered for {STALLS:g} seconds: what is put is pending until it does, and what was "
+                    f"confirmed can be looked at")
+        return self._trouble
+
+    async def _watch_disk(self) -> None:
+        """Tells when it takes very long, and when that is over; it may take for ever."""
+        while True:
+            await asyncio.sleep(STALLS / 10)
+            if self.journal.waits(STALLS) != self._is_stalled:
+                self._is_stalled = not self._is_stalled
+                logging.warning("the disk %s", "does not answer" if self._is_stalled else "has answered")
+                self.listeners.tell("trouble")
+
     def _check_disk(self) -> None:
         if self.journal.fault is not None:
             raise NotKept(self.journal.fault)
@@ -163,12 +184,25 @@ class Keeper:
             return
         if self.journal.failures != self._forgotten:
             raise NotKept(self.journal.fault)
+        if self._try is None or self._try.done():
+            self._try = asyncio.ensure_future(self._try_disk())
+        elif self.journal.waits(A_MOMENT):
+            raise NotKept("the disk does not answer")
+        if not (await asyncio.wait([self._try], timeout=A_MOMENT))[0]:
+            raise NotKept("the disk does not answer")
+        fault = self._try.result()
+        if fault is not None:
+            raise NotKept(fault)
+
+    async def _try_disk(self) -> str | None:
+        """Why it does not take anything, where it does not; in the time of others, since it may take for ever."""
         try:
             await self.journal.mend({"clock": self.clock()})
         except OSError as fault:
-            raise NotKept(f"the disk does not take it ({fault.strerror})") from None
-        self.trouble = None
+            return f"the disk does not take it ({fault.strerror})"
+        self._trouble = None
         self.listeners.tell("trouble")
+        return None
 
     async def until_writable(self) -> None:
         """While the disk takes nothing it is tried after a growing while."""
@@ -190,7 +224,7 @@ class Keeper:
         confirmed can be looked at from then on, whether the disk takes more or not."""
         failures = self.journal.failures
         logging.error("%s: back to what is written", self.journal.fault)
-        self.trouble = self.journal.fault
+        self._trouble = self.journal.fault
         self.listeners.tell("trouble")
         try:
             entries = await asyncio.get_running_loop().run_in_executor(None, self.journal.confirmed)
@@ -292,11 +326,12 @@ class Keeper:
         """One piece of what a replica of this program lacks; whether it lacks nothing."""
         seat, fed = self.state.seats[index], program.fed.get(index, 0)
         self.state.mend_at_start(seat)
-        if fed >= len(seat.gestures):
+        upto = self._upto(index)
+        if fed >= upto:
             to = self.wanted.get(index, 0)
             return program.horizons.get(seat.at, 0) >= to or await program.advance(seat.at, to) >= to
         edits: list[Any] = []
-        while fed < len(seat.gestures) and (not edits or len(edits) + len(seat.gestures[fed].edits) <= PIECE):
+        while fed < upto and (not edits or len(edits) + len(seat.gestures[fed].edits) <= PIECE):
             edits += seat.gestures[fed].imported()
             fed += 1
         lines = [packed(line).encode() for line in import_lines(seat.at, edits)]
@@ -324,14 +359,14 @@ class Keeper:
         """Whether a shared gesture is on the disk."""
         return self.state.shared.holds.get(gesture, self.confirmed) < self.confirmed
 
-    async def truly(self, look: Callable[[], Awaitable[Any]], waits: bool = True) -> Any:
-        """What `look` gives, once all that it may have seen is on the disk (where it `waits`); it looks anew where that
-        was not taken."""
+    async def truly(self, look: Callable[[], Awaitable[Any]], may_see: str = "all") -> Any:
+        """What `look` gives, once what it may have seen of others is on the disk: nothing, what was `shared`, or `all`; it
+        looks anew where that was not taken."""
         while True:
             failures = self.journal.failures
             try:
                 found = await look()
-                if waits:
+                if may_see == "all" or may_see == "shared" and self.confirmed < len(self.state.shared.gestures):
                     await self.journal.settled()
             except (NotKept, NotWritten):
                 if failures == self._forgotten == self.journal.failures:
@@ -367,7 +402,11 @@ class Keeper:
         began = time.perf_counter()
         await self._bring(self.program, index)
         times["program"] = times.get("program", 0) + time.perf_counter() - began
-        return self.program.fed.get(index, 0) >= len(self.state.seats[index].gestures)
+        return self.program.fed.get(index, 0) >= self._upto(index)
+
+    def _upto(self, index: int) -> int:
+        """So many gestures the program's replica of a seat shall hold: of what was shared those on the disk."""
+        return self.confirmed if index == SHARED else len(self.state.seats[index].gestures)
 
     def now(self) -> int:
         """The step of the clock."""

@@ -16,7 +16,7 @@ from typing import Any, Awaitable, Callable, Iterable, Union
 from .asked import Refused
 from .checks import Checks
 from .journal import NotWritten
-from .keeper import LAST_STEP, SHARED, Keeper, NotKept, Times
+from .keeper import A_MOMENT, LAST_STEP, SHARED, Keeper, NotKept, Times
 from .layers import SITE, Laid, Lays, Shape, Stamp
 from .lines import lines_since, operation_of
 from .operations import again, changed, gesture_of, put, raised, undoable, undoing
@@ -71,6 +71,7 @@ class Lab:
         self.keeper = keeper
         self._clocks: set[asyncio.Future[None]] = set()  # that are being written
         self._joins = asyncio.Lock()
+        self._kept_seats: list[dict[str, Any]] = []
         self._pending: dict[tuple[int, str], list[asyncio.Future[None]]] = {}  # by seat and key: what is being written
 
     async def open(self, plan: Callable[[], dict[str, Any]], site: int | None) -> bool:
@@ -113,7 +114,7 @@ class Lab:
     def _keep_clock(self) -> None:
         """Writes down how late it is; what is less than a step goes on."""
         clock, before = self.keeper.clock(), self.state.now
-        if self._clocks:
+        if self._clocks or self.keeper.journal.waits(A_MOMENT):
             return
         if clock["now"] > before:
             self.keeper.record({"clock": clock})
@@ -148,6 +149,19 @@ class Lab:
         """Who has a seat, for people."""
         return [{"seat": seat.index, "at": seat.at, "name": seat.name, "here": seat.index in self.keeper.here,
                  "private": len(self.state.shareable(seat, None))} for seat in self.state.seats[1:] if seat.key]
+
+    async def seats_kept(self, turn: int | None = None) -> list[dict[str, Any]]:
+        """The same, in a seat's turn or at once, when it is on the disk; while that does not answer as it was before."""
+        async def look() -> list[dict[str, Any]]:
+            return self.seats()
+        asked = asyncio.ensure_future(self.keeper.truly(
+            look if turn is None else lambda: self.keeper.ask(turn, (), look)))
+        while not (await asyncio.wait([asked], timeout=A_MOMENT))[0]:
+            if self._kept_seats and self.keeper.journal.waits(A_MOMENT):
+                asked.cancel()
+                return [{**one, "here": one["seat"] in self.keeper.here} for one in self._kept_seats]
+        self._kept_seats = asked.result()
+        return self._kept_seats
 
     async def join(self, name: str, key: str, take: int | None) -> tuple[int, str]:
         """The seat of a tab that was here, one that is taken over, or a new one; and the key by which to come again."""

@@ -96,6 +96,7 @@ class Sites:
         self._pauses: dict[str, Pause] = {}  # of a folder
         self._disputed: dict[int, str] = {}  # numbers that a folder has that they are not bound to, and their own
         self._early: list[Any] = []  # messages that are taken when their day has come
+        self._taking: asyncio.Future[None] | None = None
         self._floods = Floods()
         self._left_out = 0  # messages without a seal
         self._counted: tuple[State, int, dict[str, int]] = lab.state, 0, {}
@@ -139,10 +140,14 @@ class Sites:
         """What tabs are told: the sites with which it exchanges, what was told once, and what is so and stays."""
         self._forget_silent()
         return {"state": "connected" if self._connected else "away", "unsent": len(self._unsent()),
-                "sites": [{"site": site.number, "when": int(site.when)} for site in self._sites.values()
-                          if site.road == self._road and site.number != self._keeper.state.site and not site.is_silent],
+                "sites": [{"site": site.number, "when": int(site.when)} for site in self._others()],
                 "told": list(self._told), "stays": list(itertools.islice(self._stays(), MOST_STAY)),
                 "sealed": self._seal.key is not None, "left_out": self._left_out}
+
+    def _others(self) -> list[Site]:
+        """The sites with which it exchanges."""
+        return [site for site in self._sites.values() if site.road == self._road and not site.is_silent
+                and site.number != self._keeper.state.site]
 
     def _stays(self) -> Iterator[str]:
         """What is so, in sentences."""
@@ -299,9 +304,13 @@ class Sites:
         """Says who this is and what it holds, sends what has not come back, and takes what has waited."""
         self._present()
         self._send_unsent()
-        await self._take_early()
+        if self._early and (self._taking is None or self._taking.done()):
+            self._taking = asyncio.ensure_future(self._take_early())
+            await asyncio.wait([self._taking], timeout=EVERY)  # the disk may take for ever
         unsent = self._keeper.state.unsent
         self._sent = {gesture: when for gesture, when in self._sent.items() if gesture in unsent}
+        if self._keeper.state.shared.doubts and not self._others():
+            await self._lab.answer()  # nobody is there who may hold more
         if self._may_send():
             self._publish(f"road/{self._road}/sum", {"sum": await self._sum(),
                                                      "numbers": self._numbers()}, 0)
@@ -309,10 +318,11 @@ class Sites:
 
     async def _sum(self) -> str:
         """A hash of what wins at the shared replica, by the program."""
-        key = self._keeper.state, len(self._keeper.state.shared.gestures)
+        key = self._keeper.state, self._keeper.confirmed
         if self._summed is None or self._summed[0] != key:
             line = packed({"scenario": {"at": "shared"}}).encode()
-            reply = await self._keeper.truly(lambda: self._keeper.ask(SHARED, (SHARED,), lambda: self._keeper.say(line, {})))
+            reply = await self._keeper.truly(
+                lambda: self._keeper.ask(SHARED, (SHARED,), lambda: self._keeper.say(line, {})), "nothing")
             self._summed = key, hashlib.sha256(reply).hexdigest()[:16]
         return self._summed[1]
 

@@ -357,11 +357,8 @@ class Tabs:
             self._tell_all("seats", await self.seats())
 
     async def seats(self) -> list[dict[str, Any]]:
-        """Who has a seat, when it is on the disk."""
-        async def look() -> list[dict[str, Any]]:
-            return self.lab.seats()
-        found: list[dict[str, Any]] = await self.lab.keeper.truly(look)
-        return found
+        """Who has a seat."""
+        return await self.lab.seats_kept()
 
     def _news(self, touched: int | None) -> None:
         for tab in self._all:

@@ -14,7 +14,8 @@ from .state import Seat
 
 ALL = frozenset[str]()  # it is of no road
 OWN = frozenset({"own"})
-KEPT = frozenset({"own", "shared"})
+SHARED_ROAD = frozenset({"shared"})
+KEPT = OWN | SHARED_ROAD
 ROADS = KEPT | frozenset(SIDES)
 
 
@@ -40,12 +41,13 @@ class Call:
 
 @dataclass(frozen=True)
 class Verb:
-    """A command; `waits` where the answer may show what others did, which is told once it is on the disk."""
+    """A command. `lists` are the roads of which the answer may show what others did by what is held, which is told once it
+    is on the disk; the program holds of what was shared what is there."""
 
     of: frozenset[str]
     reads: Callable[[Asked], dict[str, Any]]
     does: Callable[..., Awaitable[Reply]]
-    waits: bool = False
+    lists: frozenset[str] = frozenset()
 
 
 async def answer(lab: Lab, questions: Questions, index: int, asked: Asked, times: Times) -> Reply:
@@ -56,9 +58,10 @@ async def answer(lab: Lab, questions: Questions, index: int, asked: Asked, times
     call = Call(lab, questions, index, where(lab, index, asked, verb), times)
     with asked:
         fields = verb.reads(asked)
-    if verb.of in (ALL, OWN) and not verb.waits:
+    if verb.of in (ALL, OWN) and not verb.lists:
         return await verb.does(call, **fields)
-    reply: Reply = await lab.keeper.truly(lambda: verb.does(call, **fields), waits=verb.waits or call.at == "shared")
+    may_see = "shared" if call.at in verb.lists else "nothing"
+    reply: Reply = await lab.keeper.truly(lambda: verb.does(call, **fields), may_see)
     return reply
 
 
@@ -233,10 +236,7 @@ async def edits(call: Call, edits: list[Any]) -> Reply:
 
 
 async def seats(call: Call) -> Reply:
-    async def body() -> Reply:
-        return {"seats": call.lab.seats()}
-    reply: Reply = await call.lab.keeper.ask(call.index, (), body)
-    return reply
+    return {"seats": await call.lab.seats_kept(call.index)}
 
 
 async def tables(call: Call, what: str, **fields: Any) -> Reply:
@@ -247,7 +247,7 @@ async def tables(call: Call, what: str, **fields: Any) -> Reply:
 
 VERBS: dict[str, Verb] = {
     # Of no road
-    "seats": Verb(ALL, nothing, seats, waits=True),
+    "seats": Verb(ALL, nothing, seats),
     "clock": Verb(ALL, a_clock, set_clock),
     # The own road is changed, shared, taken
     "gesture": Verb(OWN, a_gesture, makes),
@@ -269,12 +269,12 @@ VERBS: dict[str, Verb] = {
     "sums": Verb(ROADS, steps, of_road("sums")),
     "counts": Verb(ROADS, some_counts, of_road("counts")),
     # Lists, and what would be
-    "layers": Verb(KEPT, lambda asked: {"version": asked.version("from")}, of_seat("layers")),
-    "gestures": Verb(KEPT, lambda asked: {"first": asked.whole("from", default=0)}, of_seat("gestures")),
-    "preview": Verb(OWN, a_preview, of_seat("preview"), waits=True),
-    "figures": Verb(OWN, a_comparison, of_seat("figures"), waits=True),
-    "days": Verb(OWN, many_days, of_seat("days"), waits=True),
+    "layers": Verb(KEPT, lambda asked: {"version": asked.version("from")}, of_seat("layers"), SHARED_ROAD),
+    "gestures": Verb(KEPT, lambda asked: {"first": asked.whole("from", default=0)}, of_seat("gestures"), SHARED_ROAD),
+    "preview": Verb(OWN, a_preview, of_seat("preview"), OWN),
+    "figures": Verb(OWN, a_comparison, of_seat("figures"), OWN),
+    "days": Verb(OWN, many_days, of_seat("days"), OWN),
     # What is saved
-    "transcript": Verb(KEPT, a_transcript, of_seat("transcript")),
-    "csv": Verb(KEPT, a_table, tables),
+    "transcript": Verb(KEPT, a_transcript, of_seat("transcript"), SHARED_ROAD),
+    "csv": Verb(KEPT, a_table, tables, SHARED_ROAD),
 }

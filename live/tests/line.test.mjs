@@ -51,6 +51,18 @@ test("six questions are open, and what comes first goes before those that wait",
   assert.deepEqual(found.sent.at(-1), {id: 8, cells: {step: 7}});
 });
 
+test("of acts without an answer three are open, and looking goes on", () => {
+  const {line, found} = standing();
+  for (let key = 1; key <= 9; key++) line.ask({gesture: {key}}, true);
+  for (let step = 1; step <= 3; step++) line.ask({cells: {step}});
+  assert.deepEqual(found.sent.map(({gesture}) => gesture?.key), [1, 2, 3, undefined, undefined, undefined]);
+  answer(found, {id: 5});
+  line.ask({cells: {step: 4}});
+  assert.deepEqual(found.sent.at(-1), {id: 7, cells: {step: 4}});
+  answer(found, {id: 1});
+  assert.deepEqual(found.sent.at(-1), {id: 8, gesture: {key: 4}});
+});
+
 test("what comes first keeps its own order, whatever its number", () => {
   const {line, found} = standing();
   for (let step = 1; step <= 7; step++) line.ask({cells: {step}});
@@ -58,7 +70,8 @@ test("what comes first keeps its own order, whatever its number", () => {
   for (let id = 1; id <= 16; id++) answer(found, {id});
   const keys = found.sent.filter(({gesture}) => gesture).map(({gesture}) => gesture.key);
   assert.deepEqual(keys, [1, 2, 3, 4, 5, 6, 7, 8, 9]);
-  assert.deepEqual(found.sent.at(-1), {id: 16, cells: {step: 7}});
+  assert.deepEqual(found.sent[9], {id: 10, cells: {step: 7}});
+  assert.equal(found.sent.length, 16);
 });
 
 test("a break ends what was asked, and it is tried again after growing waits", async () => {

@@ -161,6 +161,21 @@ class Strangers(Case):
         roads = [await self.shared(here) for here, _ in sites]
         self.assertEqual(roads, [roads[0]] * 5)
 
+    async def test_who_is_alone_mends_what_others_mended_by_more_than_it_holds(self) -> None:
+        (one, first), (_, second) = await self.here(1), await self.here(2)
+        await self.bus.rounds(2)
+        stamp = await self.put(one, "limit", 2, 50, 3)
+        await self.bus.carry()
+        mending = {"stamp": [stamp[0] + 1, 7 * 64], "known": 10 ** 9, "edits": [["limit", 2, 50, 1]], "who": "mended", "note": "",
+                   "when": 1}
+        body = json.dumps({"form": 2, "gestures": [mending]}).encode()
+        await self.bus.give(first, Message(f"road/{first._road}/layers", body))
+        await first.announce()
+        self.assertEqual([edit[5] for edit in await self.shared(one)], [1])  # of what another may lack it is not known
+        self.leave(second)
+        await first.announce()
+        self.assertEqual([edit[5] for edit in await self.shared(one)], [3])
+
     # Clocks
 
     async def test_what_is_more_than_a_day_ahead_is_told_and_taken_when_its_day_has_come(self) -> None:

@@ -3,10 +3,11 @@ from __future__ import annotations
 
 import asyncio
 import errno
+import threading
 from typing import Any, Coroutine
 from unittest import mock
 
-from faulty import Disk, Here, soon
+from faulty import Bus, Disk, Here, soon
 from running import Case, until
 from server.asked import Refused
 from server.program import Program
@@ -122,20 +123,25 @@ class Written(Case):
             self.here.heard.clear()
             share = await self.begun(self.here.share(self.ada))
             looks = [asyncio.create_task(self.here.ask(cleo, verb, at="shared", **more)) for verb, more in (
-                ("scenario", {}), ("layers", {}), ("csv", {"what": "changes"}), ("diagram", {"from": 0, "to": 0}))]
+                ("layers", {}), ("gestures", {}), ("csv", {"what": "changes"}))]
             self.assertEqual((lab.news(cleo, 9)["size"], lab.news(cleo, 9)["shares"][1:]), (1, []))
             first = asyncio.create_task(self.first(cleo))
+            self.assertEqual(await self.edits(cleo), 1)  # the road is asked, and is what is there
             await asyncio.sleep(0.2)
-            self.assertEqual([look for look in looks if look.done()], [])
+            self.assertEqual([look for look in (*looks, first) if look.done()], [])
             self.assertEqual(self.here.heard, [])
             self.goes_on(fault)
-            scenario, layers, table, _ = [await soon(look) for look in looks]
-            self.assertEqual([len(scenario["edits"]), len(layers["layers"]), table["csv"].count("\n") - 1], [edits] * 3)
+            layers, gestures, table = [await soon(look) for look in looks]
+            self.assertEqual([len(layers["layers"]), len(gestures["gestures"]), table["csv"].count("\n") - 1], [edits] * 3)
             if fault:
                 self.assertEqual(await self.refused(share), "not written")
             else:
                 await soon(share)
-            self.assertEqual((lab.news(cleo, 9)["size"], (await soon(first))["size"]), (edits, edits))
+            self.assertEqual((lab.news(cleo, 9)["size"], (await soon(first))["size"], await self.edits(cleo)), (edits,) * 3)
+
+    async def edits(self, seat: int) -> int:
+        """How many win on the shared road."""
+        return len((await soon(self.here.ask(seat, "scenario", at="shared")))["edits"])
 
     async def first(self, seat: int) -> Any:
         """What `Look first` shows."""
@@ -189,3 +195,131 @@ class Written(Case):
         self.assertEqual(keeper.changes, 1)
         self.assertEqual(await soon(lab.join("", self.here.keys[self.ada], None)), (self.ada, self.here.keys[self.ada]))
         self.assertEqual(await self.refused(lab.join("Cleo", "", None)), "not written")
+
+
+class Stalled(Case):
+    """A disk that takes very long, or for ever, at each call that changes a folder."""
+
+    async def asyncSetUp(self) -> None:
+        self.disk = self.enterContext(Disk())
+        for name, seconds in (("STALLS", 0.3), ("A_MOMENT", 0.2)):
+            self.enterContext(mock.patch(f"server.keeper.{name}", seconds))
+        self.enterContext(mock.patch("server.lab.A_MOMENT", 0.2))
+        self.here = await self.enterAsyncContext(Here(site=1))
+        self.keeper = self.here.keeper
+        self.told: list[Any] = []
+        self.keeper.listeners.on("trouble", lambda: self.told.append(self.keeper.trouble))
+        self.ada, self.ben = await self.here.join("Ada", "Ben")
+        await self.here.put(self.ben, ["limit", 1, 50, 4])
+        await self.here.share(self.ben)
+        await self.here.take(self.ben)
+        await self.here.put(self.ben, ["limit", 1, 60, 3])
+        await self.here.lab.seats_kept()
+
+    async def stalls(self, *names: str) -> None:
+        """From the next such call on."""
+        held = self.disk.free
+        held.clear()
+        self.disk.free = threading.Event()
+        self.disk.free.set()
+        self.disk.before = lambda name, given: name in names and held.wait()  # without an end, but that of the test
+        self.addCleanup(held.set)
+        self.held = held
+
+    async def is_told(self, count: int) -> None:
+        async def is_so() -> bool:
+            return len(self.told) >= count
+        await until(is_so, "people are told")
+        self.assertEqual(len(self.told), count)
+
+    async def looks(self, edits: int) -> None:
+        """Who reads goes on, and sees what is confirmed."""
+        ben, ask = self.ben, self.here.ask
+        self.assertEqual(len((await soon(ask(ben, "scenario", at="shared")))["edits"]), edits)
+        for at in (f"seat{ben}", "shared"):
+            for verb, fields in (("advance", {"to": 20}), ("diagram", {"from": 0, "to": 9}), ("cars", {"step": 3})):
+                await soon(ask(ben, verb, at=at, **fields))
+        await soon(ask(ben, "layers"))
+        for turn in (ben, None):
+            self.assertEqual([one["name"] for one in await soon(self.here.lab.seats_kept(turn))], ["Ada", "Ben"])
+
+    async def test_what_is_put_is_pending_and_all_else_goes_on(self) -> None:
+        await self.here.lab.set_clock(rate=60)
+        for names in (("write",), ("fsync",)):
+            self.told.clear()
+            await self.stalls(*names)
+            before = len([one for one in self.here.entries() if "gesture" in one])
+            gestures = [asyncio.create_task(self.here.put(seat, [*LIMIT, 3])) for seat in (self.ada, self.ben, self.ada)]
+            joins = asyncio.create_task(self.here.lab.join(f"Cleo {names}", "", None))
+            await self.is_told(1)
+            self.assertIn("the disk has not answered for", self.told[0])
+            now = self.keeper.now()
+            await self.looks(1)
+            for verb, fields in (("layers", {"at": "shared"}), ("preview", {"what": "share"}), ("figures", {
+                    "of": "mine", "from": 0, "to": 9})):
+                await soon(self.here.ask(self.ben, verb, **fields))
+            self.assertEqual((await soon(self.here.take(self.ben)))["size"], 0)
+            await asyncio.sleep(3)
+            self.assertGreater(self.keeper.now(), now + 100)
+            self.assertLess(len(self.keeper.journal._waiting), 6)  # the clock does not pile up
+            self.assertEqual([one for one in (*gestures, joins) if one.done()], [])
+            self.held.set()
+            stamps = [await soon(one) for one in gestures]
+            index, _ = await soon(joins)
+            await soon(self.here.ask(index, "leave"))
+            self.here.lab.leave(index)
+            await self.is_told(2)
+            self.assertIsNone(self.told[1])
+            held = [tuple(one["gesture"]["stamp"]) for one in self.here.entries() if "gesture" in one]
+            self.assertEqual(held[before:], stamps)
+            self.assertEqual(self.keeper.changes, 0)  # of the program
+
+    async def test_who_reads_the_shared_road_goes_on_while_a_share_is_pending(self) -> None:
+        bus = Bus()
+        there = await self.enterAsyncContext(Here(site=2))
+        first, second = bus.site(self.here), bus.site(there)
+        await bus.rounds(2)
+        await self.here.put(self.ada, [*LIMIT, 3])
+        await self.stalls("fsync")
+        share = asyncio.create_task(self.here.share(self.ada))
+        layers = asyncio.create_task(self.here.ask(self.ben, "layers", at="shared"))
+        await self.is_told(1)
+        await self.looks(1)
+        second._sites.clear()
+        await soon(first.announce())
+        await soon(bus.carry())
+        self.assertEqual([one["site"] for one in second.state()["sites"]], [1])  # it is there all the same
+        self.assertEqual(len(there.lab.state.shared.gestures), 1)
+        self.assertEqual([one for one in (share, layers) if one.done()], [])
+        self.held.set()
+        await soon(share)
+        self.assertEqual(len((await soon(layers))["layers"]), 2)
+        await soon(bus.carry())
+        self.assertEqual(len(there.lab.state.shared.gestures), 2)
+        await self.looks(2)
+
+    async def test_a_stalled_try_of_a_disk_that_took_nothing_and_a_stalled_compaction(self) -> None:
+        self.disk.is_full()
+        with self.assertRaises(Refused):
+            await self.here.put(self.ada, [*LIMIT, 3])
+        self.disk.is_full(False)
+        await self.stalls("fsync")
+        for _ in range(3):
+            with self.assertRaisesRegex(Refused, "not written"):
+                await soon(self.here.put(self.ada, [*LIMIT, 3]))
+            await self.looks(1)
+        self.held.set()
+        await soon(self.keeper.until_writable())
+        await soon(self.here.put(self.ada, [*LIMIT, 3], key="k"))
+        for name in ("rename", "fsync"):
+            await self.stalls(name)
+            compacted = asyncio.create_task(self.keeper.journal.compact(self.keeper.state.entries))
+            await asyncio.sleep(0.1)
+            gesture = asyncio.create_task(self.here.put(self.ada, [*LIMIT, 4]))
+            await asyncio.sleep(0.4)
+            await self.looks(1)
+            self.assertFalse(compacted.done() or gesture.done())
+            self.held.set()
+            await soon(compacted)
+            stamp = await soon(gesture)
+            self.assertIn(stamp, [tuple(one["gesture"]["stamp"]) for one in self.here.entries() if "gesture" in one])

@@ -37,12 +37,6 @@ module _ (g : Layout) (first k i : ℕ) (cars : CarColumns) (words : IntervalWor
       let few = are.words_are.few in
       let size = are.standing.room.cells_each in omega arith
 
-  pub room_beside : words.entered < length words.beside.items
-  room_beside =
-      let most = interval_room (length g.plan.now.inlets) k early in
-      let few = are.words_are.few_beside in
-      let size = are.standing.room.beside_each in omega arith
-
   pub site_is : i < length g.sites.now
   site_is = let many = are.layout.sites_are.as_many in omega arith
 
@@ -61,24 +55,6 @@ module _ (g : Layout) (first k i : ℕ) (cars : CarColumns) (words : IntervalWor
   inlet_word t now batch index read at =
       let many = are.standing.room.inlets_each in
       (λ j. slice_index (read j) (at j)) ∙ are.words_are.inlet_words i k (omega arith) early ∙ ap (λ u. word g.plan.now.words (inlet_stream i) u / 65536) now
-
-  -- all stays
-  pub still_ready : AreReady g first k (i + 1) cars words
-  still_ready =
-      let few = are.words_are.few in
-      let few_beside = are.words_are.few_beside in
-      record {
-        layout = are.layout;
-        standing = are.standing;
-        words_are = record {
-          few = omega arith;
-          few_beside = omega arith;
-          entered = are.words_are.entered;
-          of_cars = are.words_are.of_cars;
-          inlet_words = are.words_are.inlet_words;
-        };
-        free = are.free;
-      }
 
   module _ (t lo hi : ℕ) (a : Array) (on : AreAllOn (with_first_entries lo hi i g.plan.now g.settings.now t a) cars) where
     pub closed_on : (is_between lo hi (inlet_cell g.plan.now.inlets i) && is_admitting g.plan.now g.settings.now t (inlet_cell g.plan.now.inlets i) i) ≡ false

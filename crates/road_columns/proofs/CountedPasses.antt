@@ -31,10 +31,6 @@ abbrev pub alone : Bool → ℕ → List ℕ
 alone true v = v ∷ []
 alone false v = []
 
-with_first : (b : Bool) (x : Drive) (xs : List Drive) → List ℕ
-with_first true x xs = x.speed ∷ map (λ (y : Drive). y.speed) xs
-with_first false x xs = map (λ (y : Drive). y.speed) xs
-
 module _ (site : ℕ) where
   none_pass : (xs : List Drive) → ((k : ℕ) (d : Drive) → k < length xs → is_passing site (slice_index_or xs k d) ≡ false) → passing_speeds site xs ≡ []
   none_pass [] none = refl

@@ -46,9 +46,6 @@ module _ (cells vs new : List ℕ) (head tail : ℕ) (order : head ≤ tail) (be
       (moved : (i : ℕ) → head ≤ i → i < tail → slice_index new i ≡ slice_index cells i + slice_index vs i)
       (apart : (i : ℕ) → head ≤ i → i + 1 < tail → slice_index new (i + 1) < slice_index cells i)
       (are : (i : ℕ) → head ≤ i → i < tail → slice_index vs i ≡ slice_index (speeds p s t b) (mirrored (tail - head) (i - head))) where
-    many : length (slice_range cells head tail) ≡ tail - head
-    many = range_long cells head tail within
-
     long_new : length (slice_range new head tail) ≡ length (slice_range cells head tail)
     long_new = range_long new head tail within' ∙ sym (range_long cells head tail within)
 

@@ -1,9 +1,7 @@
 -- Lemmas.
 pub mod LaneWords
 pub mod Uppers
-pub mod ColumnExit
 pub mod CountedPasses
-pub mod PieceSpeeds
 pub mod PackedCars
 pub mod EnteredWords
 pub mod ColumnMotion
@@ -46,6 +44,7 @@ pub mod CarsEntered
 pub mod HeldLists
 pub mod HighWords
 pub mod HeldCars
+pub mod RowsMarked
 pub mod ShiftedColumns
 pub mod IntervalStarts
 pub mod StretchSteps

@@ -1,12 +1,8 @@
--- A vector that is made, and one that is written through a slice.
-use Rattle.std.specs.Prelude.{◌≡◌, ℕ, List, Vec, length}
-use Rattle.std.specs.Vec.{vec_len, with_items}
+-- A vector that is written through a slice.
+use Rattle.std.specs.Prelude.{◌≡◌, List, Vec, length}
+use Rattle.std.specs.Vec.{with_items}
 use Rattle.std.proofs.Common.{sym, ap, ◌∙◌}
 use Rattle.std.proofs.lemmas.List.{with_items_is}
-
--- it has as many elements as it is long
-pub made : {X Z : Type 0} (v : Vec X Z) (n : ℕ) → vec_len v ≡ n → length v.items ≡ n
-made v n is = sym v.ok.0 ∙ is
 
 -- it has what was written, as many as before
 pub refilled : {X Z : Type 0} (v : Vec X Z) (old ws : List X) → old ≡ v.items → length ws ≡ length old → (with_items v ws).items ≡ ws

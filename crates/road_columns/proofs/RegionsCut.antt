@@ -29,16 +29,6 @@ pub record AreRegionsUpTo (p : Plan) (s : Settings) (regions : List Region) (end
   pub inner : (r : ℕ) → r + 1 < length regions → IsRegionTo p s (region_at regions r) (region_at regions (r + 1)).first
   pub last : (r : ℕ) → r + 1 ≡ length regions → IsRegionTo p s (region_at regions r) end
 
--- none
-pub no_regions : (p : Plan) (s : Settings) → AreRegionsUpTo p s [] 0
-no_regions p s = record {
-  begin = λ some. absurd (omega arith);
-  none = λ _. refl;
-  on_road = λ r below. absurd (omega arith);
-  inner = λ r below. absurd (omega arith);
-  last = λ r is. absurd (omega arith);
-}
-
 kept_at : (regions : List Region) (region d : Region) (r : ℕ) → r < length regions → slice_index_or (regions ++ (region ∷ [])) r d ≡ slice_index_or regions r d
 kept_at [] region d r below = absurd (omega arith)
 kept_at (x ∷ regions) region d zero below = refl

@@ -35,13 +35,6 @@ zone_up_to width c end wide to = elim (cases_lt (end / width) (c / width)) as (�
   | inr more ↦ more
 ]
 
--- a cell lies before the next block
-pub before_block : (blocks : List ℕ) (c reached block : ℕ) → c ≤ 65536 → ArePartedAt blocks c reached → IsNthOrNowhere (length blocks) reached (slice_index blocks reached) block → c < block
-before_block blocks c reached block low parted is = elim (cases_lt reached (length blocks)) as (λ _. c < block) [
-  | inl more ↦ let ahead = parted.ahead reached (omega arith) more in let here = is.here more in omega arith
-  | inr last ↦ let far = is.none last in omega arith
-]
-
 -- the free cells in front of a car are those before the next car and the next block
 pub free_ahead : (blocks : List ℕ) (a : Array) (k reached next block : ℕ) → length a ≤ 65536 → k < length (cars_of a) → IsNonDecreasing blocks → ArePartedAt blocks (cell_at (cars_of a) k) reached
     → IsNthOrNowhere (length (cars_of a)) (k + 1) (cell_at (cars_of a) (k + 1)) next → IsNthOrNowhere (length blocks) reached (slice_index blocks reached) block

@@ -12,7 +12,7 @@ use Rattle.road_columns.specs.Private.Entering.{ArePlacesFrom}
 use Rattle.road_columns.specs.Private.Regions.{region_at}
 use Rattle.road_columns.specs.Private.Step.{AreRegionsOf, AreSitesOf}
 use Rattle.road_columns.specs.declared.regions.Region.{Region}
-use Rattle.road_columns.proofs.ColumnPlaces.{range_at, range_long, same_place}
+use Rattle.road_columns.proofs.ColumnPlaces.{range_at, same_place}
 use Rattle.road_columns.proofs.EnteredLists.{all_at}
 
 -- places that rise are at least as many as stand before them
@@ -29,12 +29,6 @@ stand_before n tail beside batches order i below = all_at (λ car. car.place < t
 module _ (p : Plan) (regions : List Region) (sites : List ℕ) (are : AreSitesOf p regions sites) where
   -- the places of the regions, as a part of all
   module _ (cells places : List ℕ) (head tail : ℕ) (kept : ArePlacesFrom cells head tail sites places) (start : ℕ) (starts : start ≡ length p.inlets + length p.detectors) where
-    pub ends_long : length (slice_range places start (length sites)) ≡ length regions
-    ends_long =
-        let many = are.as_many in
-        let each = kept.as_many in
-        let range = range_long places start (length sites) (omega arith) in omega arith
-
     end_at : (r : ℕ) → r < length regions → slice_index (slice_range places start (length sites)) r ≡ slice_index places (start + r)
     end_at r below = let many = are.as_many in range_at places start (length sites) r (omega arith)
 

@@ -1,11 +1,11 @@
 -- The totals of detectors, kept with the counts of an interval.
-use Rattle.std.specs.Prelude.{◌≡◌, ℕ, zero, suc, ◌+◌, ◌*◌, ◌/◌, ◌%◌, ◌<◌, ◌≤◌, List, ◌∷◌, length, map, slice_index}
-use Rattle.std.proofs.Common.{sym, ap, subst, ◌∙◌, arith, refl}
+use Rattle.std.specs.Prelude.{◌≡◌, ℕ, zero, suc, ◌+◌, ◌<◌, ◌≤◌, List, ◌∷◌, length, map, slice_index}
+use Rattle.std.proofs.Common.{sym, ap, ◌∙◌, arith, refl}
 use Rattle.std.specs.List.{range_with_len, slice_index_or}
 use Rattle.std.proofs.lemmas.List.FromFn.{get_or-map-range_with_len, length-map-range_with_len}
 use Rattle.road_detector.specs.Passes.{no_totals, plus}
 use Rattle.road_detector.specs.declared.counts.Totals.{Totals}
-use Rattle.road_columns.specs.Private.Sites.{IsOfSteps, unpacked}
+use Rattle.road_columns.specs.Private.Sites.{unpacked}
 use Rattle.road_columns.specs.Private.Counts.{AreCounts, total_in, totals_in}
 
 -- functions that agree give the same list
@@ -38,64 +38,6 @@ totals_more passes passes' totals more many counted =
     ∙ plus_together (slice_index_or totals d no_totals) (unpacked (slice_index passes d)) (more d)
     ∙ ap (λ x. plus x (more d)) (sym (total_at passes totals d (omega arith))))
     ∙ ap (λ n. map (λ d. plus (slice_index_or (totals_in passes totals) d no_totals) (more d)) (range_with_len 0 n)) (sym (totals_long passes totals))
-
--- counts that are added to the totals leave them as they were
-pub totals_added : (passes passes' : List ℕ) (totals totals' : List Totals) → length totals ≡ length passes → length totals' ≡ length totals
-    → ((d : ℕ) → d < length passes → slice_index_or totals' d no_totals ≡ plus (slice_index_or totals d no_totals) (unpacked (slice_index passes d)))
-    → ((d : ℕ) → d < length passes → slice_index passes' d ≡ 0)
-    → totals_in passes' totals' ≡ totals_in passes totals
-totals_added passes passes' totals totals' many long added empty =
-    ap (λ n. map (total_in passes' totals') (range_with_len 0 n)) long
-    ∙ same_list (total_in passes' totals') (total_in passes totals) 0 (length totals)
-    (λ d from to. (λ i. plus (added d (omega arith) i) (unpacked (empty d (omega arith) i))) ∙ nothing_more (total_in passes totals d))
-  where
-    nothing_more : (x : Totals) → plus x (unpacked 0) ≡ x
-    nothing_more x =
-        let cars : x.cars + 0 ≡ x.cars = omega arith in
-        let speeds : x.speeds + 0 ≡ x.speeds = omega arith in
-        (λ i. record { cars = cars i; speeds = speeds i })
-
--- what a count of so many steps comes to at most
-pub counted_most : (k n : ℕ) → k ≤ 64 → IsOfSteps k n → ((unpacked n).cars ≤ k) × ((unpacked n).speeds ≤ 9 * k)
-counted_most k n early is = let few = is.few in let short = is.short in ((omega arith), few)
-
--- counts of one step more, in the same interval or in the next one
-module _ (n t : ℕ) (passes passes' : List ℕ) (totals totals' : List Totals) (each : length passes' ≡ n) (totals_each : length totals' ≡ n) where
-  pub counts_on : t % 64 < 63 → ((d : ℕ) → d < n → IsOfSteps (t % 64 + 1) (slice_index passes' d))
-      → ((d : ℕ) → d < n → (slice_index_or totals' d no_totals).cars ≤ 64 * (t / 64)) → ((d : ℕ) → d < n → (slice_index_or totals' d no_totals).speeds ≤ 576 * (t / 64))
-      → AreCounts n (t + 1) passes' totals'
-  counts_on early of_past cars speeds =
-      let next : t % 64 + 1 ≡ (t + 1) % 64 = omega arith in
-      let same : (t + 1) / 64 ≡ t / 64 = omega arith in
-      record {
-        passes_each = each;
-        totals_each = totals_each;
-        of_interval = λ d below. subst (λ k. IsOfSteps k (slice_index passes' d)) next (of_past d below);
-        cars_before = λ d below. let most = cars d below in omega arith;
-        speeds_before = λ d below. let most = speeds d below in omega arith;
-      }
-
-  pub counts_added : t % 64 ≡ 63 → length passes ≡ n → ((d : ℕ) → d < n → IsOfSteps 64 (slice_index passes d))
-      → ((d : ℕ) → d < n → (slice_index_or totals d no_totals).cars ≤ 64 * (t / 64)) → ((d : ℕ) → d < n → (slice_index_or totals d no_totals).speeds ≤ 576 * (t / 64))
-      → ((d : ℕ) → d < n → slice_index_or totals' d no_totals ≡ plus (slice_index_or totals d no_totals) (unpacked (slice_index passes d)))
-      → ((d : ℕ) → d < n → slice_index passes' d ≡ 0)
-      → AreCounts n (t + 1) passes' totals'
-  counts_added last long of_past cars speeds added empty =
-      let first : (t + 1) % 64 ≡ 0 = omega arith in
-      let next : (t + 1) / 64 ≡ t / 64 + 1 = omega arith in
-      record {
-        passes_each = each;
-        totals_each = totals_each;
-        of_interval = λ d below. let none = empty d below in record { few = omega arith; short = omega arith };
-        cars_before = λ d below.
-            let before = cars d below in
-            let most = (counted_most 64 (slice_index passes d) (omega arith) (of_past d below)).0 in
-            let sum = ap (λ (x : Totals). x.cars) (added d below) in omega arith;
-        speeds_before = λ d below.
-            let before = speeds d below in
-            let most = (counted_most 64 (slice_index passes d) (omega arith) (of_past d below)).1 in
-            let sum = ap (λ (x : Totals). x.speeds) (added d below) in omega arith;
-      }
 
 -- counts begin anew
 module _ (n t : ℕ) (passes : List ℕ) (totals : List Totals) (each : length passes ≡ n) (totals_each : length totals ≡ n)

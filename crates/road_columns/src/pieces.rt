@@ -19,10 +19,8 @@ pub struct StepWords<'a> {
     pub beside: &'a [u32],
     /// their words,
     pub batches: &'a [Batch],
-    /// where each batch has that of the step,
+    /// and where each batch has that of the step.
     pub index: usize,
-    /// and how many they are.
-    pub entered: usize,
 }
 
 /// Cars side by side: at the places from `from` to before `to`, of which those of index `first` to before `last` have
@@ -35,40 +33,50 @@ pub struct Piece {
     pub last: usize,
 }
 
-/// Moves the cars at the places from `from` to before `to`, whose words stand in a row from the column `at` on.
+/// A platoon: the cars at the places from `from` to before `to`, with their words side by side in a row from the
+/// column `at` on.
+#[derive(Clone, Copy)]
+pub struct Platoon {
+    pub from: usize,
+    pub to: usize,
+    pub at: usize,
+}
+
+/// Moves the cars of a platoon.
 #[inline(always)]
 pub fn advance_in(
     cells: &mut [u16],
     speeds: &mut [u8],
     row: &[u16],
-    from: usize,
-    to: usize,
-    at: usize,
+    cars: Platoon,
     chances: Chances,
     front: u16,
 )
     requires limit { chances.limit ≤ GREATEST_SPEED }
-    requires order { from ≤ to }
-    requires within { to ≤ length cells.old }
+    requires order { cars.from ≤ cars.to }
+    requires within { cars.to ≤ length cells.old }
     requires speeds { length speeds.old ≡ length cells.old }
-    requires row { at + (to - from) ≤ length row.now }
-    requires falling { (q : ℕ) → from ≤ q → q < to → slice_index cells.old q < ahead_at from front cells.old q }
+    requires row { cars.at + (cars.to - cars.from) ≤ length row.now }
+    requires falling { (q : ℕ) → cars.from ≤ q → q < cars.to
+        → slice_index cells.old q < ahead_at cars.from front cells.old q }
     ensures as_many_cells { length cells.new ≡ length cells.old }
     ensures as_many_speeds { length speeds.new ≡ length speeds.old }
-    ensures other_cells { (q : ℕ) → (q < from) ⊎ (to ≤ q) → slice_index cells.new q ≡ slice_index cells.old q }
-    ensures other_speeds { (q : ℕ) → (q < from) ⊎ (to ≤ q) → slice_index speeds.new q ≡ slice_index speeds.old q }
-    ensures cells { (q : ℕ) → from ≤ q → q < to → slice_index cells.new q
+    ensures other_cells { (q : ℕ) → (q < cars.from) ⊎ (cars.to ≤ q)
+        → slice_index cells.new q ≡ slice_index cells.old q }
+    ensures other_speeds { (q : ℕ) → (q < cars.from) ⊎ (cars.to ≤ q)
+        → slice_index speeds.new q ≡ slice_index speeds.old q }
+    ensures cells { (q : ℕ) → cars.from ≤ q → q < cars.to → slice_index cells.new q
         ≡ slice_index cells.old q + slice_index speeds.new q }
-    ensures speeds { (q : ℕ) → from ≤ q → q < to → (word : ℕ)
-        → (0 < wanted_at from front chances.limit cells.old speeds.old q → slice_index row.now (at + (q - from))
-        ≡ word / 65536)
-        → slice_index speeds.new q ≡ slowed_speed (wanted_at from front chances.limit cells.old speeds.old q)
+    ensures speeds { (q : ℕ) → cars.from ≤ q → q < cars.to → (word : ℕ)
+        → (0 < wanted_at cars.from front chances.limit cells.old speeds.old q
+        → slice_index row.now (cars.at + (q - cars.from)) ≡ word / 65536)
+        → slice_index speeds.new q ≡ slowed_speed (wanted_at cars.from front chances.limit cells.old speeds.old q)
         (comes_about word (chance_at (slice_index speeds.old q) chances.standing chances.moving)) }
 {
     advance(
-        &mut cells[from..to],
-        &mut speeds[from..to],
-        &row[at..at + (to - from)],
+        &mut cells[cars.from..cars.to],
+        &mut speeds[cars.from..cars.to],
+        &row[cars.at..cars.at + (cars.to - cars.from)],
         chances,
         front,
     );
@@ -121,42 +129,30 @@ pub fn advance_between(
     while car > piece.first {
         let place = words.beside[car - 1] as usize;
         let ahead = cells[place];
-        advance_in(
-            cells,
-            speeds,
-            words.row,
-            place + 1,
-            end,
-            place + 1 - car,
-            chances,
-            ahead,
-        );
+        let behind = Platoon {
+            from: place + 1,
+            to: end,
+            at: place + 1 - car,
+        };
+        advance_in(cells, speeds, words.row, behind, chances, ahead);
         let next = if place > piece.from {
             cells[place - 1]
         } else {
             front
         };
-        advance_in(
-            cells,
-            speeds,
-            &words.batches[car - 1],
-            place,
-            place + 1,
-            words.index,
-            chances,
-            next,
-        );
+        let alone = Platoon {
+            from: place,
+            to: place + 1,
+            at: words.index,
+        };
+        advance_in(cells, speeds, &words.batches[car - 1], alone, chances, next);
         end = place;
         car -= 1;
     }
-    advance_in(
-        cells,
-        speeds,
-        words.row,
-        piece.from,
-        end,
-        piece.from - piece.first,
-        chances,
-        front,
-    );
+    let rest = Platoon {
+        from: piece.from,
+        to: end,
+        at: piece.from - piece.first,
+    };
+    advance_in(cells, speeds, words.row, rest, chances, front);
 }

@@ -30,65 +30,66 @@ pub fn are_slowing(regions: &[Region]) -> bool
     regions.iter().any(|region| region.chances.standing > 0 || region.chances.moving > 0)
 }
 
-/// Moves the cars at the places from `head` to before `tail`, region by region from the near end on. `ends` has for
-/// each region the place of the first car before it. The cell at the place before `head` is one that nobody reaches.
+/// Moves the cars of a piece, region by region from the near end on. `ends` has for each region the place of the first
+/// car before it. The cell at the place before the piece is one that nobody reaches.
 #[inline(never)]
 pub fn advance_regions(
     cells: &mut [u16],
     speeds: &mut [u8],
     words: &StepWords,
-    head: usize,
-    tail: usize,
+    piece: Piece,
     regions: &[Region],
     ends: &[u32],
 )
     requires limits { (r : ℕ) → r < length regions.now → (region_at regions.now r).chances.limit ≤ GREATEST_SPEED }
     requires index { words.now.index < 64 }
-    requires low { 0 < head }
-    requires order { head ≤ tail }
-    requires within { tail ≤ length cells.old }
+    requires low { 0 < piece.from }
+    requires order { piece.from ≤ piece.to }
+    requires within { piece.to ≤ length cells.old }
     requires speeds { length speeds.old ≡ length cells.old }
-    requires row { tail ≤ length words.now.row.now }
-    requires beside { words.now.entered ≤ length words.now.beside.now }
+    requires row { piece.to ≤ length words.now.row.now }
+    requires beside { piece.last ≤ length words.now.beside.now }
     requires batches { length words.now.batches.now ≡ length words.now.beside.now }
-    requires rising { ArePlacesRising words.now.entered words.now.beside.now }
-    requires below_tail { (i : ℕ) → i < words.now.entered → slice_index words.now.beside.now i < tail }
-    requires places { (i : ℕ) → i < words.now.entered → i ≤ slice_index words.now.beside.now i }
-    requires falling { AreFalling cells.old head tail }
-    requires front { head < tail → slice_index cells.old head < slice_index cells.old (head - 1) }
+    requires rising { ArePlacesRising piece.last words.now.beside.now }
+    requires high { (i : ℕ) → i < piece.last → slice_index words.now.beside.now i < piece.to }
+    requires places { (i : ℕ) → i < piece.last → i ≤ slice_index words.now.beside.now i }
+    requires falling { AreFalling cells.old piece.from piece.to }
+    requires front { piece.from < piece.to → slice_index cells.old piece.from < slice_index cells.old (piece.from - 1) }
     requires ends { length ends.now ≡ length regions.now }
     requires some { 0 < length regions.now }
-    requires last_end { slice_index ends.now 0 ≡ tail }
-    requires ends_from { (r : ℕ) → r < length regions.now → head ≤ slice_index ends.now r }
+    requires last_end { slice_index ends.now 0 ≡ piece.to }
+    requires ends_from { (r : ℕ) → r < length regions.now → piece.from ≤ slice_index ends.now r }
     requires ends_fall { (r : ℕ) → r + 1 < length regions.now → slice_index ends.now (r + 1) ≤ slice_index ends.now r }
-    requires blocks { (r q : ℕ) → IsOfRegion (length regions.now) ends.now r q → head ≤ q
+    requires blocks { (r q : ℕ) → IsOfRegion (length regions.now) ends.now r q → piece.from ≤ q
         → slice_index cells.old q < (region_at regions.now r).block }
     ensures as_many_cells { length cells.new ≡ length cells.old }
     ensures as_many_speeds { length speeds.new ≡ length speeds.old }
-    ensures other_cells { (q : ℕ) → (q < head) ⊎ (tail ≤ q) → slice_index cells.new q ≡ slice_index cells.old q }
-    ensures other_speeds { (q : ℕ) → (q < head) ⊎ (tail ≤ q) → slice_index speeds.new q ≡ slice_index speeds.old q }
-    ensures cells { (q : ℕ) → head ≤ q → q < tail → slice_index cells.new q
+    ensures other_cells { (q : ℕ) → (q < piece.from) ⊎ (piece.to ≤ q)
+        → slice_index cells.new q ≡ slice_index cells.old q }
+    ensures other_speeds { (q : ℕ) → (q < piece.from) ⊎ (piece.to ≤ q)
+        → slice_index speeds.new q ≡ slice_index speeds.old q }
+    ensures cells { (q : ℕ) → piece.from ≤ q → q < piece.to → slice_index cells.new q
         ≡ slice_index cells.old q + slice_index speeds.new q }
-    ensures speeds { (r q : ℕ) → IsOfRegion (length regions.now) ends.now r q → head ≤ q → (word : ℕ) →
+    ensures speeds { (r q : ℕ) → IsOfRegion (length regions.now) ends.now r q → piece.from ≤ q → (word : ℕ) →
         let region = region_at regions.now r in
         let wish = wish_at region.chances.limit region.block cells.old speeds.old q in
-        (0 < wish → IsHigh16At words.now.row.now words.now.index words.now.entered words.now.beside.now
+        (0 < wish → IsHigh16At words.now.row.now words.now.index piece.last words.now.beside.now
         words.now.batches.now q (word / 65536))
         → slice_index speeds.new q ≡ slowed_speed wish
         (comes_about word (chance_at (slice_index speeds.old q) region.chances.standing region.chances.moving)) }
 {
-    let mut last = words.entered;
-    let mut to = tail;
+    let mut last = piece.last;
+    let mut to = piece.to;
     for place in 0..regions.len() {
-        let from = region_from(ends, place, head);
+        let from = region_from(ends, place, piece.from);
         let first = first_from(words.beside, last, from);
-        let piece = Piece {
+        let part = Piece {
             from,
             to,
             first,
             last,
         };
-        advance_region(cells, speeds, words, piece, regions[place]);
+        advance_region(cells, speeds, words, part, regions[place]);
         last = first;
         to = from;
     }

@@ -64,13 +64,5 @@ fn draw_where(slowing: bool, source: Source, interval: u32, cars: &CarColumns, r
     if !slowing {
         return;
     }
-    draw(
-        source,
-        interval,
-        &cars.cells[cars.head..cars.tail],
-        &cars.numbers[cars.head..cars.tail],
-        rows,
-        cars.width(),
-        cars.head,
-    );
+    draw(source, interval, cars, rows);
 }

@@ -19,7 +19,7 @@ use crate::entering::enter;
 use crate::interval::IntervalWords;
 use crate::layout::Layout;
 use crate::passing::count;
-use crate::pieces::StepWords;
+use crate::pieces::{Piece, StepWords};
 use crate::regions::advance_regions;
 use crate::starting::make_ready;
 use crate::words::index_at;
@@ -119,14 +119,18 @@ fn advance_cars(layout: &Layout, step: u32, cars: &mut CarColumns, words: &Inter
         beside: &words.beside,
         batches: &words.batches,
         index: index_at(row),
-        entered: words.entered,
+    };
+    let all = Piece {
+        from: cars.head,
+        to: cars.tail,
+        first: 0,
+        last: words.entered,
     };
     advance_regions(
         &mut cars.cells,
         &mut cars.speeds,
         &now,
-        cars.head,
-        cars.tail,
+        all,
         layout.regions,
         &cars.places[firsts..layout.sites.len()],
     );

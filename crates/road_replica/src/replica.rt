@@ -127,17 +127,6 @@ impl Replica {
 
     // ---- the named causes for which writes are refused
 
-    /// Returns the cause for which the replica would refuse to make an edit; none where it would not, but for lost
-    /// workers or out of memory.
-    pub fn edit_fault(&self, local: LocalEdit) -> Option<ReplicaFault>
-        ensures { result ≡ refusals.edit_fault self.now local.object local.step local.value }
-    {
-        match self.edit_made(local).fault(self.sheet.plan()) {
-            Some(fault) => Some(made_fault(fault)),
-            None => None,
-        }
-    }
-
     /// Returns the cause for which the replica would refuse to take a scenario; none where its edits fit the plan.
     pub fn take_fault(&self, scenario: &Scenario) -> Option<ReplicaFault>
         ensures fault { result ≡ refusals.take_fault self.now.sheet.plan scenario.now }

@@ -1,6 +1,6 @@
 //! States of a run, and their rows.
 
-ghost use Rattle.std.specs.Prelude.{◌≡◌, IfOk, [], string_bytes};
+ghost use Rattle.std.specs.Prelude.{◌≡◌, IfOk, string_bytes};
 ghost use Rattle.std.specs.Arc.{arc_value};
 ghost use Rattle.road_scenario.specs.Faults.{AreInRange};
 ghost use Rattle.road_sheet.specs.Shown.{run_at, row_at};
@@ -20,19 +20,6 @@ pub struct State {
     pub step: u32,
     /// The road.
     pub road: Road,
-}
-
-impl State {
-    /// Returns the empty road of step 0.
-    pub fn opening(alloc: Global) -> State
-        ensures step { result.step ≡ 0 }
-        ensures road { result.road ≡ [] }
-    {
-        State {
-            step: 0,
-            road: Road::empty(alloc),
-        }
-    }
 }
 
 /// Writes the row of a state, with the blocks of its step.

@@ -1,4 +1,3 @@
--- Lemmas on words and their batches, and worked examples.
+-- Lemmas on words, and worked examples.
 pub mod WordSizes
-pub mod BatchesOfWords
 mod Examples

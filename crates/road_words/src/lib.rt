@@ -10,8 +10,6 @@
 //! let is_slowed = word >> 16 < chance;
 //! // Words that were not drawn move no other: this one is the same whatever was asked before.
 //! let later = words.word(48, 6);
-//! // The upper 16 bits of its words in the steps 64 to 127, drawn at once.
-//! let high16s = words.batch(48, 64);
 //! ```
 #![tactic(auto)]
 
@@ -23,4 +21,4 @@ mod words;
 pub use chacha::ChaChaWords;
 pub use plan_words::PlanWords;
 pub use steady::SteadyWords;
-pub use words::{BATCH_WORDS, Words};
+pub use words::Words;

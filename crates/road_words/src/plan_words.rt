@@ -1,11 +1,11 @@
 //! The words that a plan names, of either kind.
 
-ghost use Rattle.std.specs.Prelude.{◌≡◌, ◌<◌, ◌+◌, ◌/◌, ℕ, slice_index};
+ghost use Rattle.std.specs.Prelude.{◌≡◌, ℕ};
 ghost use Rattle.road_words.specs.Words.{word};
 
 use crate::chacha::ChaChaWords;
 use crate::steady::SteadyWords;
-use crate::words::{BATCH_WORDS, Words};
+use crate::words::Words;
 use road_plan::{Plan, WordKind};
 
 /// The words that a plan names.
@@ -23,30 +23,9 @@ impl PlanWords {
         ensures { (stream place : ℕ) →
             ⟦<PlanWords as Words>⟧.word_of result stream place ≡ word plan.now.words stream place }
     {
-        PlanWords::of_kind(plan.words())
-    }
-
-    /// Makes the words of this kind. It takes no memory.
-    pub fn of_kind(kind: WordKind) -> Self
-        ensures { (stream place : ℕ) →
-            ⟦<PlanWords as Words>⟧.word_of result stream place ≡ word kind stream place }
-    {
-        match kind {
+        match plan.words() {
             WordKind::Seeded(seed) => PlanWords::Seeded(ChaChaWords::new(seed)),
             WordKind::Steady => PlanWords::Steady(SteadyWords),
-        }
-    }
-
-    /// Draws the upper 16 bits of the words of a stream at the places from `first` on, which one generator gives at
-    /// once. It takes no memory.
-    #[inline(always)]
-    pub fn batch(&self, stream: u64, first: u32) -> [u16; BATCH_WORDS]
-        ensures { (i : ℕ) → i < BATCH_WORDS →
-            slice_index result i ≡ ⟦<PlanWords as Words>⟧.word_of self.now stream (first + i) / 65536 }
-    {
-        match self {
-            PlanWords::Seeded(words) => words.batch(stream, first),
-            PlanWords::Steady(words) => words.batch(stream, first),
         }
     }
 }

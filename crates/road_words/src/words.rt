@@ -2,9 +2,6 @@
 
 ghost use Rattle.std.specs.Prelude.{◌≡◌, ℕ};
 
-/// How many words, one after another in a stream, are drawn at once.
-pub const BATCH_WORDS: usize = 64;
-
 /// A source of random words.
 pub trait Words {
     /// The word for each stream and place.

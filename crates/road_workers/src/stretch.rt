@@ -16,18 +16,10 @@ use crate::kept_run::KeptRun;
 use crate::stretch::cutting::cut_out;
 use crate::whole::{is_taken_up, make_steps, run_of};
 use road_cells::{Car, GREATEST_SPEED, Road};
-use road_detector::Totals;
+use road_detector::Ran;
 use road_ends::{OutOfMemory, Span, Stretch, are_same_cars};
 use road_plan::Plan;
 use std::alloc::Global;
-
-// What the steps of a span come to on a stretch: its cars after them, and what each detector has counted, those outside
-// it nothing.
-#[derive(Drop)]
-pub(crate) struct StretchRun {
-    pub cars: Vec<Car>,
-    pub totals: Vec<Totals>,
-}
 
 // Returns the stretch at a place of so many side by side, of a road of so many cells: they have about as many cars each.
 pub(crate) fn stretch_at(road: &Road, cells: u32, count: u32, place: u32) -> Stretch
@@ -53,18 +45,18 @@ pub(crate) fn has_site(stretch: Stretch, plan: &Plan, detector: usize) -> bool
 }
 
 // Runs a stretch for all steps of a span, from the cars on it, and for each step 9 cells farther behind it and ahead, in
-// a run that is kept.
+// a run that is kept. The road that it gives is right on the stretch, and its detectors elsewhere have counted nothing.
 pub(crate) fn run_stretch(
     alloc: Global,
     span: &Span,
     road: &Road,
     stretch: Stretch,
     kept: &mut KeptRun,
-) -> Result<StretchRun, OutOfMemory>
+) -> Result<Ran, OutOfMemory>
     requires order { stretch.first ≤ stretch.end }
     requires short { stretch.end ≤ GREATEST_LENGTH }
     requires runnable { IsRunnable 0 span.now.plan.cells span.now.plan road.now }
-    ensures { IfOk result (λ done. IsRunOf stretch.first stretch.end span.now road.now done) }
+    ensures { IfOk result (λ ran. IsRunOf stretch.first stretch.end span.now road.now ran) }
 {
     let near = road_near(alloc, span, road, stretch)?;
     let run = run_near(alloc, span, &near, stretch, kept)?;
@@ -78,20 +70,20 @@ pub(crate) fn run_near(
     near: &Road,
     stretch: Stretch,
     kept: &mut KeptRun,
-) -> Result<StretchRun, OutOfMemory>
+) -> Result<Ran, OutOfMemory>
     requires order { stretch.first ≤ stretch.end }
     requires short { stretch.end ≤ GREATEST_LENGTH }
     requires runnable { IsRunnableNear stretch.first stretch.end span.now near.now }
-    ensures { IfOk result (λ done. IsRunOf stretch.first stretch.end span.now near.now done) }
+    ensures { IfOk result (λ ran. IsRunOf stretch.first stretch.end span.now near.now ran) }
 {
     let mut run = run_of(alloc, span, kept.run.take())?;
     if !is_taken_up(alloc, span, with_margins(span, stretch), near, &mut run)? {
         unreachable!();
     }
     make_steps(span, &mut run);
-    let done = cut_out(alloc, span, near, stretch, &run)?;
+    let ran = cut_out(alloc, span, near, stretch, &run)?;
     kept.run = Some(run);
-    Ok(done)
+    Ok(ran)
 }
 
 // Returns a stretch with the cells behind it and ahead that may matter there in the steps of a span, as far as the road

@@ -99,14 +99,6 @@ impl World {
         &self.plan
     }
 
-    /// Returns how many replicas the world has: at most 64.
-    pub fn replica_count(&self) -> u32
-        ensures count { result ≡ length self.now.replicas }
-        ensures few { length self.now.replicas ≤ MOST_REPLICAS }
-    {
-        self.replicas.len() as u32
-    }
-
     /// Returns the replica of a number, if the world has it.
     pub fn replica(&self, number: u32) -> Option<&Replica>
         ensures there { IsSome result ↔ (number < length self.now.replicas) }

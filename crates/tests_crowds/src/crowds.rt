@@ -51,6 +51,6 @@ pub(crate) fn left<R: Threads + Wait, G: Gate + Sync>(
 }
 
 /// Tells whether a crowd left these edits, so many writes and this row.
-pub(crate) fn is_left(left: &Crowd, edits: &[Edit], journal: u32, row: &str) -> bool {
+pub(crate) fn has_left(left: &Crowd, edits: &[Edit], journal: u32, row: &str) -> bool {
     left.edits.as_slice() == edits && left.journal == journal && left.row.as_str() == row
 }

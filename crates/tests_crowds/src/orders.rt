@@ -1,6 +1,6 @@
 //! Many orders of the same writes leave the same.
 
-use crate::crowds::{block_and_withdrawal, edit, is_left, left};
+use crate::crowds::{block_and_withdrawal, edit, has_left, left};
 use road_plan::Object;
 use road_scenario::{Edit, Value};
 use road_workers::NoGate;
@@ -36,7 +36,7 @@ fn the_greater_withdrawal_wins(rt: HostRuntime) -> Result<(), Fail> {
     let withdrawal = edit(Object::Block(8), 4, 2, 64, Value::Withdrawn);
     for _ in 0..TIMES {
         let left = left(&rt, alloc, shares.as_slice(), 6, &NoGate)?;
-        assert!(rt; is_left(&left, &[withdrawal], 4, "0..2...2...."));
+        assert!(rt; has_left(&left, &[withdrawal], 4, "0..2...2...."));
     }
     Ok(())
 }
@@ -53,7 +53,7 @@ fn forty_edits_in_four_orders(rt: HostRuntime) -> Result<(), Fail> {
     let by_step = limits_from(alloc, 0)?;
     for _ in 0..TIMES {
         let left = left(&rt, alloc, shares.as_slice(), 6, &NoGate)?;
-        assert!(rt; is_left(&left, by_step.as_slice(), 164, "0..2..2....."));
+        assert!(rt; has_left(&left, by_step.as_slice(), 164, "0..2..2....."));
     }
     Ok(())
 }

@@ -1,6 +1,6 @@
 //! Worked crowds, and what no crowd may hold.
 
-use crate::crowds::{edit, free_road, is_left, left};
+use crate::crowds::{edit, free_road, has_left, left};
 use road_plan::Object;
 use road_replica::{ReplicaFault, shares_fault};
 use road_scenario::{Edit, Value};
@@ -12,7 +12,7 @@ fn an_empty_share_advances(rt: HostRuntime) -> Result<(), Fail> {
     let alloc = rt.alloc();
     let shares: Vec<Vec<Edit>> = vec![in alloc; Vec::new(alloc)]?;
     let left = left(&rt, alloc, shares.as_slice(), 0, &NoGate)?;
-    assert!(rt; is_left(&left, &[], 1, "............"));
+    assert!(rt; has_left(&left, &[], 1, "............"));
     Ok(())
 }
 

@@ -389,7 +389,7 @@ fn is_entry(alloc: Global, entry: &Entry, (session, command): &(u32, Command)) -
 }
 
 // Answers whether a closed store has this journal, and shows this.
-fn is_left(
+fn is_closed_with(
     alloc: Global,
     closed: &Closed,
     journal: &[(u32, Command)],
@@ -413,8 +413,8 @@ fn judged_closed(
     let SessionCase(_, _, before, after, journal) = *case;
     let is_right = match verdict {
         Verdict::Wrong(_) | Verdict::Left => return Some(verdict),
-        Verdict::Refused => is_left(alloc, closed, journal.split_last()?.1, &before)?,
-        _ => is_left(alloc, closed, journal, &after)?,
+        Verdict::Refused => is_closed_with(alloc, closed, journal.split_last()?.1, &before)?,
+        _ => is_closed_with(alloc, closed, journal, &after)?,
     };
     Some(accepted(verdict, is_right))
 }

@@ -146,10 +146,9 @@ fn draw_message(alloc: Global, portrait: &mut Portrait, message: &Message) -> Op
     }
 }
 
-// Draws a world, which has no more messages than the exchange has events.
+// Draws a world of three replicas, which has no more messages than the exchange has events.
 fn draw_world(alloc: Global, portrait: &mut Portrait, world: &World) -> Option<()> {
-    portrait.draw_number(u64::from(world.replica_count()))?;
-    for at in 0..world.replica_count() {
+    for at in 0..3 {
         portrait.draw_sheet(alloc, world.replica(at)?.sheet())?;
     }
     for number in 0..EXCHANGE.len() {
@@ -188,7 +187,7 @@ fn is_after(alloc: Global, world: &World, list: &[Told]) -> Option<bool> {
     let last = count
         .checked_sub(1)
         .is_none_or(|last| world.message(last).is_some());
-    let mut shows = world.replica_count() == 3 && last && world.message(count).is_none();
+    let mut shows = world.replica(3).is_none() && last && world.message(count).is_none();
     for at in 0..3 {
         let sheet = world.replica(at)?.sheet();
         shows = shows && shows_row(alloc, sheet, sheet.horizon(), row_after(list, at))?;

@@ -26,7 +26,12 @@ const WRITES: &[Write] = &[
 ];
 
 // Tells whether a replica is left as it was by a write whose crew fails after some calls.
-fn is_left(alloc: Global, replica: &mut Replica, write: Write, calls: u64) -> Result<bool, Fail> {
+fn is_unchanged_by(
+    alloc: Global,
+    replica: &mut Replica,
+    write: Write,
+    calls: u64,
+) -> Result<bool, Fail> {
     let mut crew = Leaving::after(calls);
     let mut meter = Meter::new();
     let answer = written(alloc, replica, write, &mut crew, &mut meter);
@@ -38,17 +43,17 @@ fn is_left(alloc: Global, replica: &mut Replica, write: Write, calls: u64) -> Re
     )
 }
 
-// Tells whether a replica of the free road with the lower limit is.
-fn leaves_it(alloc: Global, write: Write, calls: u64) -> Result<bool, Fail> {
+// Tells whether such a write changes nothing of the replica of the free road with the lower limit.
+fn changes_nothing(alloc: Global, write: Write, calls: u64) -> Result<bool, Fail> {
     let mut replica = replica_after(alloc, 0, BEFORE)?;
-    is_left(alloc, &mut replica, write, calls)
+    is_unchanged_by(alloc, &mut replica, write, calls)
 }
 
 #[test]
 fn lost_workers_leave_the_replica(rt: HostRuntime) -> Result<(), Fail> {
     for &write in WRITES {
         for calls in 0..6 {
-            assert!(&rt; leaves_it(rt.alloc(), write, calls)?);
+            assert!(&rt; changes_nothing(rt.alloc(), write, calls)?);
         }
     }
     Ok(())
@@ -102,9 +107,9 @@ fn is_at(alloc: Global, replica: &Replica, stage: &Shown) -> Result<bool, Fail> 
     Ok(is && replica.totals(alloc, 0, 0, horizon)? == stage.totals)
 }
 
-// Tells whether a write is answered so, where the crew may fail once before it: the replica is then as it was, and the
+// Tells whether a write is answered so in the end, where the crew may fail once before it: the replica is then as it was, and the
 // same write is answered as if the crew had not failed.
-fn is_answered(
+fn is_answered_at_last(
     alloc: Global,
     replica: &mut Replica,
     crew: &mut Leaving,
@@ -125,26 +130,33 @@ fn is_answered(
 }
 
 // Tells whether the run of a replica is answered as ever by a crew that fails once.
-fn is_run_by(alloc: Global, replica: &mut Replica, crew: &mut Leaving) -> Result<bool, Fail> {
+fn outlives_a_loss_by(
+    alloc: Global,
+    replica: &mut Replica,
+    crew: &mut Leaving,
+) -> Result<bool, Fail> {
     for (step, stage) in RUN.iter().zip(STAGES) {
-        if !is_answered(alloc, replica, crew, *step, stage)? {
+        if !is_answered_at_last(alloc, replica, crew, *step, stage)? {
             return Ok(false);
         }
     }
     Ok(crew.gone == 1 && is_at(alloc, replica, &LAST_STAGE)?)
 }
 
-// Tells whether that of a new replica is, by a crew that fails after some calls.
-fn is_run(alloc: Global, calls: u64) -> Result<bool, Fail> {
+// Tells whether the run of a new replica is so answered, by a crew that fails after some calls.
+fn outlives_a_loss_after(alloc: Global, calls: u64) -> Result<bool, Fail> {
     let mut replica = opened(alloc, 0)?;
     let mut crew = Leaving::after(calls);
-    is_run_by(alloc, &mut replica, &mut crew)
+    outlives_a_loss_by(alloc, &mut replica, &mut crew)
 }
 
 #[test]
 fn a_run_and_its_late_edit_outlive_a_worker_lost_at_any_call(rt: HostRuntime) -> Result<(), Fail> {
     for calls in 0..12 {
-        assert!(&rt; is_run(rt.alloc(), calls)?, "after {calls} calls");
+        assert!(&rt;
+            outlives_a_loss_after(rt.alloc(), calls)?,
+            "after {calls} calls"
+        );
     }
     Ok(())
 }

@@ -51,49 +51,6 @@ fn seeded_words_are_those_of_another_program(rt: HostRuntime) {
     }
 }
 
-/// Returns the upper 16 bits that a batch, drawn from some places before a place on, has of the word at that place;
-/// none where the batch cannot begin so.
-fn high16_of(words: &PlanWords, stream: u64, place: u64, before: u8) -> Option<u16> {
-    let first = u32::try_from(place.checked_sub(u64::from(before))?).ok()?;
-    words.batch(stream, first).get(usize::from(before)).copied()
-}
-
-#[test]
-fn batches_have_the_high16s_of_another_program(rt: HostRuntime) {
-    for (seed, stream, place, want) in CHACHA_WORDS {
-        let words = PlanWords::Seeded(ChaChaWords::new(*seed));
-        for before in [0u8, 1, 15, 16, 63] {
-            if let Some(high16) = high16_of(&words, *stream, *place, before) {
-                assert_eq!(rt;
-                    u32::from(high16),
-                    *want >> 16,
-                    "seed {seed}, stream {stream}, place {place}, {before}"
-                );
-            }
-        }
-    }
-}
-
-#[test]
-fn steady_rows_follow_the_line(rt: HostRuntime) {
-    for (stream, place, upper, _) in STEADY_WORDS {
-        for before in [0u8, 1, 5] {
-            if let Some(high16) = high16_of(
-                &PlanWords::Steady(SteadyWords),
-                *stream,
-                *place,
-                before,
-            ) {
-                assert_eq!(rt;
-                    u32::from(high16),
-                    *upper,
-                    "stream {stream}, place {place}, {before}"
-                );
-            }
-        }
-    }
-}
-
 /// The words that a plan names, and the word at place 1 of stream 16.
 const NAMED_WORDS: &[(WordKind, u32)] = &[
     (WordKind::Seeded(7), 2_155_941_584),

@@ -93,8 +93,8 @@ fn lists(alloc: Global, scenario: &Scenario, edits: &[Edit]) -> Result<bool, Out
     Ok(listed.as_slice() == edits)
 }
 
-// Tells whether a replica was left so by the edits that came.
-fn is_left(
+// Tells whether a scenario lists, touches and counts after a merge what its row says.
+fn is_merged(
     alloc: Global,
     merge: &Merge,
     before: &Scenario,
@@ -109,33 +109,33 @@ fn is_left(
     )
 }
 
-// Tells whether a replica is left as a row says by a scenario that comes.
-fn joins(
+// Tells whether a scenario merges with another into what a row says.
+fn merges(
     alloc: Global,
     merge: &Merge,
     before: &Scenario,
     come: &Scenario,
 ) -> Result<bool, OutOfMemory> {
     let after = before.joined(come)?;
-    is_left(alloc, merge, before, &after)
+    is_merged(alloc, merge, before, &after)
 }
 
-// Tells whether it is by the edits of the row.
-fn comes_to(alloc: Global, merge: &Merge, before: &Scenario) -> Result<bool, OutOfMemory> {
+// Tells whether it merges with the edits of the row so.
+fn merges_row_into(alloc: Global, merge: &Merge, before: &Scenario) -> Result<bool, OutOfMemory> {
     let come = scenario(alloc, merge.0.1)?;
-    joins(alloc, merge, before, &come)
+    merges(alloc, merge, before, &come)
 }
 
-// Tells whether the edits of a row come to a replica as they should.
-fn comes(alloc: Global, merge: &Merge) -> Result<bool, OutOfMemory> {
+// Tells whether the two lists of edits of a row merge into what it says.
+fn row_merges(alloc: Global, merge: &Merge) -> Result<bool, OutOfMemory> {
     let before = scenario(alloc, merge.0.0)?;
-    comes_to(alloc, merge, &before)
+    merges_row_into(alloc, merge, &before)
 }
 
 #[test]
 fn edits_come_to_a_replica(rt: HostRuntime) -> Result<(), Fail> {
     for (row, merge) in MERGES.iter().enumerate() {
-        assert!(rt; comes(rt.alloc(), merge)?, "row {row}");
+        assert!(rt; row_merges(rt.alloc(), merge)?, "row {row}");
     }
     Ok(())
 }

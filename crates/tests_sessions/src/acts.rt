@@ -152,7 +152,7 @@ pub(crate) fn all_act<J: Naming, R: Wait + Drop, W: Wait>(
 }
 
 // Tells whether what is left has this journal and these rows.
-fn is_left(alloc: Global, closed: &Option<Closed>, script: &Script) -> bool {
+fn is_closed_as_scripted(alloc: Global, closed: &Option<Closed>, script: &Script) -> bool {
     match closed {
         Some(closed) => {
             is_journal(alloc, &closed.journal, script.journal)
@@ -179,5 +179,5 @@ pub(crate) fn goes<J: Naming, R: Wait + Drop, W: Wait>(
     };
     let well = all_act(rt, alloc, &shared, sessions.as_mut_slice(), script.acts);
     let closed = closed(rt, alloc, shared, sessions, script);
-    well && is_left(alloc, &closed, script)
+    well && is_closed_as_scripted(alloc, &closed, script)
 }

@@ -140,8 +140,13 @@ fn accepted(trial: Trial, (touched, steps): (Option<u32>, u64)) -> Result<Sheet,
     }
 }
 
-// Returns the sheet that has grown so.
-fn grown_so(alloc: Global, mut sheet: Sheet, way: Way, growths: &[Growth]) -> Result<Sheet, Fail> {
+// Returns the sheet that all growths leave, one after another.
+fn grown_by_all(
+    alloc: Global,
+    mut sheet: Sheet,
+    way: Way,
+    growths: &[Growth],
+) -> Result<Sheet, Fail> {
     for growth in growths {
         sheet = grown_by(alloc, &sheet, way, growth)?;
     }
@@ -193,7 +198,7 @@ fn sheet_agrees(alloc: Global, sheet: &Sheet, example: &Example) -> Result<bool,
 
 // Tells whether a sheet grows and shows what an example says.
 fn example_agrees(alloc: Global, way: Way, example: &Example) -> Result<bool, Fail> {
-    let sheet = grown_so(alloc, opening(alloc, &FREE)?, way, example.growths)?;
+    let sheet = grown_by_all(alloc, opening(alloc, &FREE)?, way, example.growths)?;
     sheet_agrees(alloc, &sheet, example)
 }
 
@@ -210,11 +215,11 @@ fn sheets_of_the_free_road(rt: HostRuntime) -> Result<(), Fail> {
     Ok(())
 }
 
-// Lets a sheet grow to step 130, and then so.
+// Lets a sheet grow to step 130, and then by these growths.
 fn grow_late(alloc: Global, way: Way, growths: &[Growth]) -> Result<(), Fail> {
     let opening = opening(alloc, &FREE)?;
     let run = grown_by(alloc, &opening, way, &((&[], 130), (None, 130)))?;
-    let _ = grown_so(alloc, run, way, growths)?;
+    let _ = grown_by_all(alloc, run, way, growths)?;
     Ok(())
 }
 

@@ -5,6 +5,7 @@ ghost use Rattle.std.specs.Prelude.{◌<◌, length};
 ghost use Rattle.road_sheet.specs.QueryCaches.{IsCacheOf};
 
 use crate::sheets::{grow, opening};
+use road_cells::Road;
 use road_detector::{Totals, passes};
 use road_ends::{Meter, OutOfMemory, step_alone};
 use road_plan::{Object, WordKind};
@@ -133,6 +134,14 @@ fn go_on(
     Ok(totals)
 }
 
+// Returns the empty road of step 0.
+fn first_state(alloc: Global) -> State {
+    State {
+        step: 0,
+        road: Road::empty(alloc),
+    }
+}
+
 // Copies a state.
 fn copied(state: &State) -> Result<State, OutOfMemory> {
     Ok(State {
@@ -185,8 +194,8 @@ fn states_agree(alloc: Global, sheet: &Sheet, first: &State, steps: &[u32]) -> R
     states_agree_from(alloc, sheet, &mut cache, &mut last, steps)
 }
 
-// Tells whether a detector counts so in some steps of a sheet: asked twice by a cache, and by none.
-fn counts_so_by(
+// Tells whether a cache that is asked twice, and a sheet without one, give what a detector counted in some steps.
+fn cache_counts(
     alloc: Global,
     sheet: &Sheet,
     cache: &mut QueryCache,
@@ -203,8 +212,8 @@ fn counts_so_by(
     Ok(cached == counted && again == counted && fresh == counted)
 }
 
-// Tells whether a detector counts so in some steps of a sheet, by a new cache and by none.
-fn counts_so(
+// Tells whether a new cache, and a sheet without one, give what a detector counted in some steps.
+fn detector_counts(
     alloc: Global,
     sheet: &Sheet,
     detector: u32,
@@ -212,7 +221,7 @@ fn counts_so(
     counted: Totals,
 ) -> Result<bool, SheetFault> {
     let mut cache = QueryCache::new();
-    counts_so_by(alloc, sheet, &mut cache, detector, steps, counted)
+    cache_counts(alloc, sheet, &mut cache, detector, steps, counted)
 }
 
 // Tells whether what a detector counts in some steps is what it counts in them in the run that goes on from its first
@@ -227,7 +236,7 @@ fn totals_agree(
     let mut state = copied(first)?;
     let _ = go_on(alloc, sheet, &mut state, detector, from)?;
     let counted = go_on(alloc, sheet, &mut state, detector, to)?;
-    Ok(counts_so(alloc, sheet, detector, (from, to), counted)?)
+    Ok(detector_counts(alloc, sheet, detector, (from, to), counted)?)
 }
 
 // Tells whether a sheet agrees with the run from its first state: its states, and what a detector counts from a random
@@ -298,7 +307,7 @@ fn script_agrees(alloc: Global, seed: u64) -> Result<bool, Fail> {
     let words = words_of(seed);
     let mut sheet = opening(alloc, &Parts { words, ..MIXED })?;
     let dice = Dice { seed, steps: STEPS };
-    all_agree(alloc, &mut sheet, &State::opening(alloc), dice)
+    all_agree(alloc, &mut sheet, &first_state(alloc), dice)
 }
 
 #[test]
@@ -320,7 +329,7 @@ fn opened_late(alloc: Global, seed: u64) -> Result<Sheet, Fail> {
 // first of these steps, so all of them have one run up to there.
 fn late_script_agrees(alloc: Global, seed: u64) -> Result<bool, Fail> {
     let mut sheet = opened_late(alloc, seed)?;
-    let mut first = State::opening(alloc);
+    let mut first = first_state(alloc);
     let _ = go_on(alloc, &sheet, &mut first, 0, 1_048_384)?;
     let dice = Dice {
         seed,
@@ -412,7 +421,7 @@ fn steps_agree(alloc: Global, sheet: &Sheet, cache: &mut QueryCache) -> Result<b
     requires { IsCacheOf sheet.now cache.old }
     ensures { IsCacheOf sheet.now cache.new }
 {
-    let mut state = State::opening(alloc);
+    let mut state = first_state(alloc);
     for step in 0..sheet.horizon() {
         if !step_agrees(alloc, sheet, cache, &mut state)? {
             return Ok(false);

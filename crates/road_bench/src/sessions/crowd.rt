@@ -102,7 +102,7 @@ fn left<J: Naming, R: Wait + Drop>(
 }
 
 // Answers whether what is left has the merge of all writes as its journal.
-fn is_left(alloc: Global, closed: &Option<Closed>, count: u32) -> Result<bool, OutOfMemory> {
+fn has_merge(alloc: Global, closed: &Option<Closed>, count: u32) -> Result<bool, OutOfMemory> {
     match closed {
         Some(closed) => is_merge(alloc, &closed.journal, count),
         None => Ok(false),
@@ -117,7 +117,7 @@ fn leaves_merge<J: Naming, R: Wait + Drop>(
     count: u32,
 ) -> Result<bool, OutOfMemory> {
     let closed = left(shared, sessions);
-    is_left(alloc, &closed, count)
+    has_merge(alloc, &closed, count)
 }
 
 // Answers whether the journal is the merge of all writes, once all sessions have worked.

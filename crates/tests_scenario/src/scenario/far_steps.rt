@@ -68,7 +68,12 @@ fn each_edit_acts_from_its_own_step_on(rt: HostRuntime) -> Result<(), Fail> {
 
 // Tells whether an edit that comes touches its own step, after all of the others stand as they did, and whether it is
 // listed in its place.
-fn comes(alloc: Global, whole: &[Edit], others: &[Edit], edit: &Edit) -> Result<bool, OutOfMemory> {
+fn touches_its_step(
+    alloc: Global,
+    whole: &[Edit],
+    others: &[Edit],
+    edit: &Edit,
+) -> Result<bool, OutOfMemory> {
     let held = scenario(alloc, others)?;
     let one = scenario(alloc, &[*edit])?;
     let joined = held.joined(&one)?;
@@ -86,7 +91,7 @@ fn each_edit_touches_its_own_step(rt: HostRuntime) -> Result<(), Fail> {
     for edit in &whole {
         let others = edits_without(rt.alloc(), Some(edit.step))?;
         assert!(rt;
-            comes(rt.alloc(), &whole, &others, edit)?,
+            touches_its_step(rt.alloc(), &whole, &others, edit)?,
             "step {}",
             edit.step
         );

@@ -111,8 +111,8 @@ fn looks_at(
     Ok(())
 }
 
-// Checks that the edits of a row come to those that were held.
-fn comes(
+// Compares with the plain program what the edits of a row make of those that were held.
+fn compare_row(
     rt: &impl Abort,
     alloc: Global,
     plan: &Plan,
@@ -127,7 +127,7 @@ fn comes(
 fn the_plain_program_agrees(rt: HostRuntime) -> Result<(), Fail> {
     let plan = plan_of(rt.alloc(), &FREE)?;
     for row in MERGES.iter().enumerate() {
-        comes(&rt, rt.alloc(), &plan, row)?;
+        compare_row(&rt, rt.alloc(), &plan, row)?;
     }
     Ok(())
 }

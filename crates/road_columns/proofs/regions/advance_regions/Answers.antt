@@ -35,7 +35,7 @@ advance_region-requires-clause-falling c q above below =
     let inv = c.loop-place.invariant in
     let low = c.region_from-from.ensures.low in
     let high = inv.high in
-    let fall = falls c.args.head c.args.tail q c.args.cells.now c.requires.low c.requires.falling c.requires.front (omega arith) (omega arith) in
+    let fall = falls c.args.piece.from c.args.piece.to q c.args.cells.now c.requires.low c.requires.falling c.requires.front (omega arith) (omega arith) in
     let here = inv.cells_rest q (inl below) in
     let ahead = inv.cells_rest (q - 1) (inl (omega arith)) in omega arith
 
@@ -46,7 +46,7 @@ advance_region-requires-clause-block c q above below =
     let long = c.requires.ends in
     let low = c.region_from-from.ensures.low in
     let to = inv.to_is (omega arith) in
-    let block = c.requires.blocks c.loop-place.place q (of_place (length c.args.regions.now) c.loop-place.place c.region_from-from.result c.args.head q c.args.ends.now long (omega arith) (omega arith) above c.region_from-from.ensures.next) (omega arith) in
+    let block = c.requires.blocks c.loop-place.place q (of_place (length c.args.regions.now) c.loop-place.place c.region_from-from.result c.args.piece.from q c.args.ends.now long (omega arith) (omega arith) above c.region_from-from.ensures.next) (omega arith) in
     let here = inv.cells_rest q (inl below) in omega arith
 
 pub loop-place-preserved : goal.loop-place-preserved
@@ -97,18 +97,18 @@ loop-place-preserved c =
         | inl same ↦ from_place_on r q same is low
         | inr other ↦ let done = inv.done_from r q (omega arith) is low in omega arith
       ];
-      speeds_done = λ r q less is low word. elim (cases_eq r c.loop-place.place) as (λ _. SpeedIn c.args.regions.now c.args.cells.now c.args.speeds.now c.advance_region.new.speeds c.args.words.now.row.now c.args.words.now.index c.args.words.now.entered c.args.words.now.beside.now c.args.words.now.batches.now r q word) [
+      speeds_done = λ r q less is low word. elim (cases_eq r c.loop-place.place) as (λ _. SpeedIn c.args.regions.now c.args.cells.now c.args.speeds.now c.advance_region.new.speeds c.args.words.now.row.now c.args.words.now.index c.args.piece.last c.args.words.now.beside.now c.args.words.now.batches.now r q word) [
         | inl same ↦
             let ends = ap (slice_index c.args.ends.now) same in
             let before = is.before_end in
-            subst (λ k. SpeedIn c.args.regions.now c.args.cells.now c.args.speeds.now c.advance_region.new.speeds c.args.words.now.row.now c.args.words.now.index c.args.words.now.entered c.args.words.now.beside.now c.args.words.now.batches.now k q word) (sym same) (speed_here q (from_place_on r q same is low) (omega arith) word)
+            subst (λ k. SpeedIn c.args.regions.now c.args.cells.now c.args.speeds.now c.advance_region.new.speeds c.args.words.now.row.now c.args.words.now.index c.args.piece.last c.args.words.now.beside.now c.args.words.now.batches.now k q word) (sym same) (speed_here q (from_place_on r q same is low) (omega arith) word)
         | inr other ↦ λ right.
             let done = inv.done_from r q (omega arith) is low in
             ran.other_speeds q (inr done) ∙ inv.speeds_done r q (omega arith) is low word right
       ];
     }
   where
-    from_place_on : (r q : ℕ) → r ≡ c.loop-place.place → IsOfRegion (length c.args.regions.now) c.args.ends.now r q → c.args.head ≤ q → c.region_from-from.result ≤ q
+    from_place_on : (r q : ℕ) → r ≡ c.loop-place.place → IsOfRegion (length c.args.regions.now) c.args.ends.now r q → c.args.piece.from ≤ q → c.region_from-from.result ≤ q
     from_place_on r q same is low =
         let long = c.requires.ends in
         let at = c.region_from-from.ensures in
@@ -121,14 +121,14 @@ loop-place-preserved c =
           | inr none ↦ let last = at.last none in omega arith
         ]
 
-    speed_here : (q : ℕ) → c.region_from-from.result ≤ q → q < c.loop-place.to → (word : ℕ) → SpeedIn c.args.regions.now c.args.cells.now c.args.speeds.now c.advance_region.new.speeds c.args.words.now.row.now c.args.words.now.index c.args.words.now.entered c.args.words.now.beside.now c.args.words.now.batches.now c.loop-place.place q word
+    speed_here : (q : ℕ) → c.region_from-from.result ≤ q → q < c.loop-place.to → (word : ℕ) → SpeedIn c.args.regions.now c.args.cells.now c.args.speeds.now c.advance_region.new.speeds c.args.words.now.row.now c.args.words.now.index c.args.piece.last c.args.words.now.beside.now c.args.words.now.batches.now c.loop-place.place q word
     speed_here q above below word right =
         let inv = c.loop-place.invariant in
         let region : Region = region_at c.args.regions.now c.loop-place.place in
         let wish = wish_same region.chances.limit region.block q c.loop-place.cells c.args.cells.now c.loop-place.speeds c.args.speeds.now
         (inv.cells_rest (q - 1) (inl (omega arith))) (inv.cells_rest q (inl below)) (inv.speeds_rest q (inl below)) in
         let speed = inv.speeds_rest q (inl below) in
-        c.advance_region.ensures.speeds q above below word (λ moves. high16_among c.args.words.now.row.now c.args.words.now.index c.loop-place.last c.args.words.now.entered c.args.words.now.beside.now c.args.words.now.batches.now q (word / 65536) inv.last
+        c.advance_region.ensures.speeds q above below word (λ moves. high16_among c.args.words.now.row.now c.args.words.now.index c.loop-place.last c.args.piece.last c.args.words.now.beside.now c.args.words.now.batches.now q (word / 65536) inv.last
         (λ i more less. let later = inv.after i more less in omega arith) (right (subst (λ n. 0 < n) wish moves)))
         ∙ (λ j. slowed_speed (wish j) (comes_about word (chance_at (speed j) region.chances.standing region.chances.moving)))
 

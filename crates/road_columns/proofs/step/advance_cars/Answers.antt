@@ -18,8 +18,8 @@ advance_regions-requires-clause-places c =
     subst (λ xs. (i : ℕ) → i < c.args.words.now.entered → i ≤ slice_index xs i) (sym c.deref-2.ensures.value)
     (rises_from c.args.words.now.entered c.args.words.now.beside.items c.requires.ready.words_are.entered.rising)
 
-pub advance_regions-requires-clause-below_tail : goal.advance_regions-requires-clause-below_tail
-advance_regions-requires-clause-below_tail c =
+pub advance_regions-requires-clause-high : goal.advance_regions-requires-clause-high
+advance_regions-requires-clause-high c =
     subst (λ xs. (i : ℕ) → i < c.args.words.now.entered → slice_index xs i < c.args.cars.now.tail) (sym c.deref-2.ensures.value)
     (stand_before c.args.words.now.entered c.args.cars.now.tail c.args.words.now.beside.items c.args.words.now.batches.items c.requires.ready.words_are.entered.in_order)
 

@@ -1,0 +1,223 @@
+"""A reader's hour: two seats on each of two sites put, change, raise, withdraw and take back closures and limits that overlap,
+look first, share some or all, and take, all at once, while servers and broker are killed. After each round each seat's road
+is, row by row, that of the shapes that stand by what the seat did and was told that it took, and its list says who covers
+whom; all of that is worked out here, from the rules alone.
+"""
+from __future__ import annotations
+
+import asyncio
+import random
+from typing import Any, NamedTuple
+
+from server.client import Refused, Seat
+from road_lab import Plan, RoadLab
+from running import ALL, SMALL, Case, Server, until
+
+LAST = 80
+PLAN = {**SMALL, "length": 60, "zones": [[4, 9_000]] * 3, "inlets": [[0, 30_000], [25, 9_000]], "detectors": [20, 45]}
+BASE = {"block": 0, "limit": 4}
+THERE = {"block": 60, "limit": 3}
+HOURS, ROUNDS = (12 if ALL else 1), (20 if ALL else 6)
+
+Stamp = tuple[int, int]
+Laid = tuple["list[Any] | None", Stamp]  # a shape, and its height
+Lays = dict[Stamp, Laid]
+NOTHING: Laid = (None, (0, 0))
+
+
+class Made(NamedTuple):
+    """What an operation laid, and what was there before."""
+
+    lays: Lays
+    was: Lays
+
+
+class Reader:
+    """A seat, and what it holds."""
+
+    def __init__(self, server: Server, seat: Seat, chance: random.Random, made: dict[Stamp, Made]) -> None:
+        self.server, self.seat, self.chance, self.made = server, seat, chance, made
+        self.held: set[Stamp] = set()
+        self.count = 0
+
+    def layers(self) -> dict[Stamp, tuple[Stamp, Laid]]:
+        """Of each layer what the latest operation laid, with its stamp."""
+        return {name: (stamp, laid) for stamp in sorted(self.held) for name, laid in self.made[stamp].lays.items()}
+
+    def standing(self) -> list[tuple[Stamp, Stamp, list[Any]]]:
+        """Height, name and shape of what stands, the highest first."""
+        return sorted(((height, name, shape) for name, (_, (shape, height)) in self.layers().items() if shape), reverse=True)
+
+    # What it does
+
+    async def acts(self, count: int) -> None:
+        for _ in range(count):
+            self.count += 1
+            what = self.chance.random()
+            try:
+                if what < 0.3:
+                    await self.lays("gesture", lambda stamp: {stamp: (shape, stamp)}, shape=(shape := self.shape()))
+                elif what < 0.75:
+                    await self.acts_on(self.chance.choice([*self.layers()] or [None]))
+                elif what < 0.87:
+                    await self.shares()
+                else:
+                    await self.takes()
+            except Refused as fault:
+                if fault.reply["refused"] != "nothing to take back":
+                    raise
+
+    def shape(self) -> list[Any]:
+        kind = self.chance.choice(["block", "block", "limit"])
+        first, begin = self.chance.randrange(THERE[kind]), self.chance.randrange(0, LAST, 5)
+        end = None if self.chance.random() < 0.2 else begin + self.chance.randrange(1, 40)
+        value = self.chance.random() < 0.9 if kind == "block" else self.chance.randrange(5)
+        return [kind, first, min(THERE[kind] - 1, first + self.chance.randrange(12)), begin, end, int(value)]
+
+    async def lays(self, verb: str, lays: Any, **fields: Any) -> None:
+        before = self.layers()
+        key = f"{self.seat.at}-{self.count}"
+        stamp = tuple((await self.seat.ask(verb, key=key, **fields))["stamp"])
+        laid = lays(stamp)
+        self.made[stamp] = Made(laid, {name: before[name][1] if name in before else NOTHING for name in laid})
+        self.held.add(stamp)
+
+    async def acts_on(self, name: Stamp | None) -> None:
+        """Something that is done to what is there."""
+        if name is None:
+            return
+        shape, height = self.layers()[name][1]
+        what = self.chance.choice(["change", "change", "top", "withdraw", "withdraw", "undo", "again"])
+        if what == "change":
+            new = self.shape()
+            if shape is not None and self.chance.random() < 0.5:  # an end is dragged
+                new = [*shape[:4], shape[3] + self.chance.randrange(1, 40), shape[5]]
+            await self.lays("gesture", lambda stamp: {name: (new, height if shape else stamp)}, layer=name, shape=new)
+        elif what == "withdraw":
+            await self.lays("gesture", lambda stamp: {name: (None, height)}, layer=name, shape=None)
+        elif what == "top":
+            await self.lays("gesture", lambda stamp: {name: (shape, stamp)}, layer=name, top=True)
+        else:
+            old = self.chance.choice(sorted(self.held))
+            before = self.layers()
+            back = {one: laid for one, laid in self.made[old].was.items() if before[one][0] == old}
+            again = {one: laid for one, (laid, _) in self.made[old].lays.items()}
+            await self.lays(what, lambda stamp: back if what == "undo" else {one: (laid, stamp) for one, laid in again.items()},
+                            stamp=old)
+
+    async def shares(self) -> None:
+        own = [stamp for stamp in self.held if stamp[1] == self.seat.welcome["number"]]
+        some = {} if self.chance.random() < 0.6 else {"stamps": [one for one in own if self.chance.random() < 0.5][:50]}
+        await self.seat.ask("send", name="shared", **some)
+
+    async def takes(self) -> None:
+        looked, after = None, None
+        if self.chance.random() < 0.5:
+            looked = (await self.seat.ask("preview", what="take"))["size"]
+            after = await self.rows("after")
+        said = await self.seat.ask("take", message="shared")
+        assert said["size"] == len(said["changes"]), "all that was taken is told"
+        self.held.update(tuple(one["stamp"]) for one in said["changes"])
+        if looked is not None and looked == said["size"]:
+            assert await self.rows(self.seat.at) == after, "the road is not what was looked at first"
+
+    async def rows(self, at: str) -> list[str]:
+        await self.seat.ask("advance", at=at, to=LAST)
+        rows: list[str] = (await self.seat.ask("diagram", at=at, **{"from": 0, "to": LAST}))["rows"]
+        return rows
+
+    # What is so
+
+    def covering(self, kind: str, index: int, step: int) -> tuple[Stamp, list[Any]] | None:
+        return next(((name, shape) for _, name, shape in self.standing_now if shape[0] == kind
+                     and shape[1] <= index <= shape[2] and shape[3] <= step and (shape[4] is None or step < shape[4])), None)
+
+    async def look(self, case: Case) -> list[str]:
+        """The road, and the list, beside what stands."""
+        self.standing_now = self.standing()
+        tops = {(kind, index, step): self.covering(kind, index, step) for kind, there in THERE.items() for index in range(there)
+                for step in range(LAST + 1)}
+        with RoadLab(Plan(**{**PLAN, "replicas": ["A"]})) as lab:
+            for (kind, index, step), top in tops.items():
+                value = top[1][5] if top else BASE[kind]
+                before = tops.get((kind, index, step - 1)) if step else None
+                if value != (before[1][5] if before else BASE[kind]):
+                    lab.edit("A", (kind, index), step, value)
+            lab.advance("A", LAST)
+            rows = await self.rows(self.seat.at)
+            case.assertEqual(rows, lab.diagram("A", 0, LAST), self.seat.at)
+        lines = {tuple(one["name"]): one for one in await self.list()}
+        case.assertEqual({name for name, one in lines.items() if one.get("standing")}, {one[1] for one in self.standing_now})
+        for name, line in lines.items():
+            found = {(kind, index, step): by for kind, first, last, since, end, _, by in line.get("shown", ())
+                     for index in range(first, last + 1) for step in range(since, min(LAST + 1, end or LAST + 1))}
+            wanted = {}
+            for _, kind, first, last, since, end, _ in ((1, *shape) for _, one, shape in self.standing_now if one == name):
+                for index in range(first, last + 1):
+                    for step in range(since, min(LAST + 1, end or LAST + 1)):
+                        top = tops[kind, index, step]
+                        wanted[kind, index, step] = None if top is None or top[0] == name else list(top[0])
+            case.assertEqual(found, wanted, f"{self.seat.at}: the line {name}")
+        return rows
+
+    async def list(self) -> list[Any]:
+        found: list[Any] = []
+        place, more = 0, True
+        while more:
+            said = await self.seat.ask("layers", **{"from": place})
+            found, place, more = found + said["layers"], said["next"], said["more"]
+        return found
+
+
+class Readers(Case):
+    async def test_no_road_is_wrong_in_an_hour(self) -> None:
+        for seed in range(HOURS):
+            await self.hour(seed, ROUNDS)
+
+    async def hour(self, seed: int, rounds: int) -> None:
+        chance = random.Random(seed)
+        self.mosquitto = self.broker(keeps=bool(seed % 2))
+        sites = [self.server("--broker", self.mosquitto.address, "--site", number, plan=PLAN, LIVE_MILLISECONDS="")
+                 for number in "12"]
+        made: dict[Stamp, Made] = {}
+        readers = [Reader(site, await self.enterAsyncContext(site.seat(name)), random.Random(f"{seed} {name} {number}"), made)
+                   for number, site in enumerate(sites) for name in ("Ada", "Ben")]
+        for reader in readers:
+            await reader.seat.say("clock", to=LAST)
+        for number in range(rounds):
+            if number % 4 == 2:
+                self.mosquitto.kill()
+            await asyncio.gather(*(reader.acts(chance.randrange(4, 12)) for reader in readers))
+            if number % 4 == 2:
+                self.mosquitto.start()
+            if number % 4 == 3:
+                await self.killed(chance.choice(sites), readers)
+            for reader in readers:
+                await reader.look(self)
+            if number % 3 == 2:
+                await self.all_have_all(readers)
+
+    async def killed(self, site: Server, readers: list[Reader]) -> None:
+        site.again()
+        for reader in readers:
+            if reader.server is site:
+                reader.seat = await self.enterAsyncContext(site.seat(key=reader.seat.key))
+
+    async def all_have_all(self, readers: list[Reader]) -> None:
+        """All is shared, exchanged and taken: there is one road."""
+        for reader in readers:
+            await reader.seat.ask("send", name="shared")
+
+        async def are_same() -> bool:
+            one, other = [(await reader.seat.ask("scenario", at="shared"))["edits"] for reader in readers[::2]]
+            return bool(one == other) and not any([await self.unsent(reader) for reader in readers[::2]])
+        await until(are_same, "both sites have the same")
+        for reader in readers:
+            await reader.takes()
+        roads = [await reader.look(self) for reader in readers]
+        roads += [await reader.rows("shared") for reader in readers[::2]]
+        self.assertEqual(roads, [roads[0]] * len(roads))
+
+    async def unsent(self, reader: Reader) -> int:
+        told = [one["broker"] for one in reader.seat.told if one.get("broker")]
+        return int(told[-1]["unsent"]) if told else int((reader.seat.welcome["broker"] or {"unsent": 1})["unsent"])
