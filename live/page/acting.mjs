@@ -237,7 +237,8 @@ async function askFigures() {
   const {before} = store;
   const [from, to] = periodShown();
   if (to <= from) return;
-  const said = await ask({figures: {at: store.me.at, of: "preview", from, to}}, {quiet: ["busy"]});
+  const said = await ask({figures: {at: store.me.at, of: "preview", from, to}},
+    {quiet: ["busy"], stands: () => store.before === before});
   if (!said || store.before !== before) return;
   if (said.refused === "busy") {
     before.soon = setTimeout(askFigures, LOOKS);

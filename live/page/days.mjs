@@ -26,7 +26,8 @@ export async function askDays() {
   const days = {of: comparedNow(), key: keyNow(), done: 0, said: null};
   store.days = days;
   changed("days");
-  const said = await ask({days: {at: store.me.at, of: days.of, from, to}}, {quiet: ["stopped"]});
+  const said = await ask({days: {at: store.me.at, of: days.of, from, to}},
+    {stands: () => store.days === days});
   if (store.days !== days) return;
   if (said && !said.refused) days.said = said;
   else store.days = null;

@@ -85,6 +85,8 @@ class TwoTabs(BrowserCase):
         ada.take()
         ada.tool("block")
         ada.in_figures(kmFrom="3", kmTo="3.15", timeFrom="0:50", timeTo="0:55")
+        ada.press("Share…: Whole road closed")
+        ada.press("Share now")
         ada.press("Withdraw: Whole road closed")
         ada.settled()
         ada.open_part("past")
