@@ -53,6 +53,7 @@ export function dropDays() {
 /** Drops what is of other roads than there are now. */
 export function dropOldDays() {
   if (!store.days || store.days.key === keyNow()) return;
+  const {said} = store.days;
   dropDays();
-  tell(`A road has changed: what was asked over ${daysAsked()} days was of the one before.`);
+  if (!said) tell(`A road has changed: the question over ${daysAsked()} days was stopped.`);
 }

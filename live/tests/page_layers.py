@@ -2,7 +2,9 @@
 from __future__ import annotations
 
 import csv
+import os
 from pathlib import Path
+from unittest import mock
 
 from browsers import FREEWAY, BrowserCase, Tab
 from selenium.webdriver.common.action_chains import ActionChains
@@ -101,6 +103,34 @@ class TwoTabs(BrowserCase):
         covered = [row["covered"] for row in rows if row["covered"]]
         self.assertEqual(len(covered), 1)
         self.assertIn("0:25:00 to 0:30:00 by Ben: ", covered[0])
+
+    def test_figures_are_whole_beside_the_picture(self) -> None:
+        """Four digits on both roads, a warning that makes the column scroll, and over many days."""
+        with mock.patch.dict(os.environ, {"LIVE_DAYS": "2"}):
+            ada, _ = self.open(FREEWAY)
+        ada.run_an_hour()
+        ada.tool("block")
+        ada.in_figures(kmFrom="3", kmTo="3.15", timeFrom="0:20", timeTo="0:30")
+        self.addCleanup(ada.driver.execute_cdp_cmd, "Emulation.clearDeviceMetricsOverride", {})
+        for place in ("figures", "over"):
+            if place == "over":
+                ada.press("Over 2 days")
+            ada.until(lambda: ada.script("return $(arguments[0]).querySelector('td') !== null", place), "figures")
+            for width, height in ((1366, 768), (1920, 1080)):
+                ada.driver.execute_cdp_cmd("Emulation.setDeviceMetricsOverride",
+                                           {"width": width, "height": height, "deviceScaleFactor": 1, "mobile": False})
+                ada.until(lambda: "…" not in ada.text("figures"), "the lost demand")
+                ada.settled()
+                more = ada.script("return [...document.querySelectorAll('aside .scrolled')].filter((one) => one.clientWidth)"
+                                  ".map((one) => one.scrollWidth - one.clientWidth)")
+                self.assertEqual(more, [0], (place, width))
+                bottom = ada.script("""
+                    document.querySelector("aside").scrollTo(0, 0);
+                    return [...document.querySelectorAll("aside tr")].filter((one) => one.checkVisibility()).at(-1)
+                      .getBoundingClientRect().bottom;""")
+                self.assertLessEqual(bottom, height, (place, width))
+                who = ada.script("const {scrollWidth, clientWidth} = $('who'); return scrollWidth - clientWidth")
+                self.assertEqual((who, ada.text("who")), (0, "You are Ada (seat 1), with Ben"), width)
 
     def test_figures_are_saved_as_they_are_shown(self) -> None:
         ada, _ = self.open(FREEWAY)
