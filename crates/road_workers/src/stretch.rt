@@ -1,12 +1,13 @@
 //! Stretches of road, each of which is run alone for the steps of a span: no car drives farther in a step than 9 cells,
 //! nor looks farther.
 
-ghost use Rattle.std.specs.Prelude.{◌≡◌, ◌<◌, ◌≤◌, ◌+◌, ◌-◌, ◌*◌, length, min, IfOk, IsTrue};
+ghost use Rattle.std.specs.Prelude.{◌≡◌, ◌<◌, ◌≤◌, ◌+◌, ◌-◌, ◌*◌, length, min, IfOk, IfSome, IsSome, IsTrue};
 ghost use Rattle.road_plan.specs.declared.limits.TheConstants.{GREATEST_HORIZON, GREATEST_LENGTH};
 ghost use Rattle.road_cells.specs.Cars.{cars_of, cell_at};
 ghost use Rattle.road_cells.specs.declared.car.TheConstants.{GREATEST_SPEED};
 ghost use Rattle.road_ends.specs.Laws.{AgreeNear};
 ghost use Rattle.road_columns.specs.UnderWay.{IsRunnable};
+ghost use Rattle.road_workers.specs.Private.RunsUnderWay.{IsReady};
 ghost use Rattle.road_workers.specs.Private.Stretches.{IsRunnableNear, IsRunOf, cars_between, cut, has_site};
 
 pub(crate) mod cutting;
@@ -14,8 +15,9 @@ pub(crate) mod joining;
 
 use crate::kept_run::KeptRun;
 use crate::stretch::cutting::cut_out;
-use crate::whole::{is_taken_up, make_steps, run_of};
+use crate::whole::{begun_on, is_taken_up, kept_of, make_steps};
 use road_cells::{Car, GREATEST_SPEED, Road};
+use road_columns::UnderWay;
 use road_detector::Ran;
 use road_ends::{OutOfMemory, Span, Stretch, are_same_cars};
 use road_plan::Plan;
@@ -76,14 +78,37 @@ pub(crate) fn run_near(
     requires runnable { IsRunnableNear stretch.first stretch.end span.now near.now }
     ensures { IfOk result (λ ran. IsRunOf stretch.first stretch.end span.now near.now ran) }
 {
-    let mut run = run_of(alloc, span, kept.run.take())?;
-    if !is_taken_up(alloc, span, with_margins(span, stretch), near, &mut run)? {
+    let kept_run = kept_of(span, kept.run.take());
+    let Some(mut run) = run_on(alloc, span, with_margins(span, stretch), near, kept_run)? else {
         unreachable!();
-    }
+    };
     make_steps(span, &mut run);
     let ran = cut_out(alloc, span, near, stretch, &run)?;
     kept.run = Some(run);
     Ok(ran)
+}
+
+// Returns a run that stands before the steps of a span on the cells of a stretch, under its settings: this one of its
+// plan takes the road up there, or else a new one begins. None where it cannot have a car of the road.
+fn run_on(
+    alloc: Global,
+    span: &Span,
+    stretch: Stretch,
+    near: &Road,
+    kept: Option<UnderWay>,
+) -> Result<Option<UnderWay>, OutOfMemory>
+    requires plan { IfSome kept (λ run. run.plan ≡ span.now.plan) }
+    requires on_road { stretch.end ≤ span.now.plan.cells }
+    ensures ready { IfOk result (λ run. IfSome run (IsReady stretch.first stretch.end span.now near.now)) }
+    ensures some { IfOk result (λ run. IsRunnable stretch.first stretch.end span.now.plan near.now → IsSome run) }
+{
+    let Some(mut run) = kept else {
+        return begun_on(alloc, span, stretch, near);
+    };
+    if !is_taken_up(alloc, span, stretch, near, &mut run)? {
+        return Ok(None);
+    }
+    Ok(Some(run))
 }
 
 // Returns a stretch with the cells behind it and ahead that may matter there in the steps of a span, as far as the road
