@@ -149,7 +149,11 @@ class Bursts(Case):
             await tom.ask("send", name="shared")
 
     async def are_same(self) -> bool:
+        """Both sites hold the same gestures, those that others cover too, and the same edits."""
         async with self.one.seat(key=self.engineers[0].key) as here, self.two.seat(**self.tom) as there:
             self.tom = {"key": there.key}
+            one, other = [{tuple(one["stamp"]) for one in await self.gestures(seat, "shared")} for seat in (here, there)]
+            if one != other:
+                return False
             one, other = [(await seat.ask("scenario", at="shared"))["edits"] for seat in (here, there)]
             return bool(one == other)
