@@ -2,6 +2,7 @@
 
 import {ask} from "./asking.mjs";
 import {makers, next, unshared, untaken, words} from "./changes.mjs";
+import {daysShown, dropDays} from "./days.mjs";
 import {keep, kept} from "./kept.mjs";
 import {isCovered, privateOf} from "./layers.mjs";
 import {linesOf} from "./listing.mjs";
@@ -236,7 +237,7 @@ async function askFigures() {
   const {before} = store;
   const [from, to] = periodShown();
   if (to <= from) return;
-  const said = await ask({figures: {at: store.me.at, of: "preview", from, to}}, {busy: true});
+  const said = await ask({figures: {at: store.me.at, of: "preview", from, to}}, {quiet: ["busy"]});
   if (!said || store.before !== before) return;
   if (said.refused === "busy") {
     before.soon = setTimeout(askFigures, LOOKS);
@@ -257,6 +258,7 @@ export function closeBefore() {
   if (!store.before) return;
   const {soon, whose} = store.before;
   clearTimeout(soon);
+  if (daysShown()) dropDays();
   Object.assign(store, {whose, before: null});
   for (const name of ["before", "after"]) delete store.roads[name];
   delete store.layers.after;

@@ -5,13 +5,13 @@ import {store, tell} from "./store.mjs";
 
 const BUSY = 1000;              // milliseconds until it is asked again of one who was busy
 
-/** An answer, or null where the line broke; a refusal is told, unless it is that of the `busy` who
-    ask again. `first`: before those that wait. */
-export async function ask(command, {first = false, busy = false} = {}) {
+/** An answer, or null where the line broke; a refusal is told, unless it is a `quiet` one.
+    `first`: before those that wait. */
+export async function ask(command, {first = false, quiet = []} = {}) {
   try {
     const said = await store.line.ask(command, first);
-    const asksAgain = busy && said.refused === "busy";
-    if (said.refused && !asksAgain) tell(said.why ?? `Refused: ${said.refused}`, true);
+    const isTold = said.refused && !quiet.includes(said.refused);
+    if (isTold) tell(said.why ?? `Refused: ${said.refused}`, true);
     return said;
   } catch (fault) {
     if (fault instanceof Away) return null;
@@ -23,7 +23,7 @@ export async function ask(command, {first = false, busy = false} = {}) {
     until there is one. */
 export async function askUntilFree(command) {
   for (;;) {
-    const said = await ask(command, {busy: true});
+    const said = await ask(command, {quiet: ["busy"]});
     if (said?.refused !== "busy") return said;
     await new Promise((done) => { setTimeout(done, BUSY); });
   }

@@ -36,11 +36,12 @@ function showBefore() {
   const titles = takes ? titlesOf(store.news) : "";
   $("beforeBody").replaceChildren(element("p", titles, {hidden: !titles}),
     listOf(changes), element("p", "", {className: "buttons"},
-      button(takes ? "Take now" : "Share now", doIt), button("Not now", closeBefore)),
+      button(takes ? "Take now" : "Share now", doIt), button("Not now", closeBefore),
+      element("span", "", {id: "beforeDays", className: "days"})),
     element("div", "", {id: "beforeCovers"}),
     element("h3", takes ? "What it would change on your road"
       : "What it would change on the shared road"),
-    element("div", "", {id: "beforeFigures"}));
+    element("div", "", {id: "beforeOver"}), element("div", "", {id: "beforeFigures"}));
   $("before").hidden = false;
   $("before").focus();
   showPreview();
@@ -64,9 +65,9 @@ function coversOf(lines, said) {
   const below = lines.filter((line) => !line.was && said.cover(line))
     .map((line) => said.effect(line));
   const all = [...affected, ...below];
+  if (!all.length) return [element("p", "Nothing would be covered.")];
   return [element("h3", "What covers what"),
-          all.length ? element("ul", "", {}, ...all.map((text) => element("li", text)))
-            : element("p", "Nothing would be covered.")];
+          element("ul", "", {}, ...all.map((text) => element("li", text)))];
 }
 
 const sum = (numbers) => numbers.reduce((one, other) => one + other, 0);

@@ -173,7 +173,7 @@ async function askExact(period) {
   if (key === figures.exactKey || figures.counting || store.before) return;
   const [from, to] = period;
   figures.counting = true;
-  const said = await ask({figures: {at: store.me.at, of: "mine", from, to}}, {busy: true});
+  const said = await ask({figures: {at: store.me.at, of: "mine", from, to}}, {quiet: ["busy"]});
   figures.counting = false;
   if (said?.refused === "busy") setTimeout(reckon, BUSY);
   if (!said || said.refused) return;

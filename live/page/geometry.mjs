@@ -122,6 +122,13 @@ export function shapeWithEdge(plan, shape, edge, [cell, step], all = false) {
   return [kind, ...objects, from, to, value];
 }
 
+/** The object and the step of a shape that are nearest to a place, [cell, step]. */
+export function nearestIn({zone}, [kind, first, last, from, to], [cell, step]) {
+  const index = OF_ZONES.includes(kind) ? cell / zone : kind === "block" ? cell : first;
+  return [within(Math.floor(index), first, last),
+          within(Math.floor(step), from, (to ?? Infinity) - 1)];
+}
+
 /** The edge of a rectangle [left, top, right, bottom] that is nearer to a place than so many
     pixels; undefined where none is. Without an end it has no lower one. */
 export function edgeNear([left, top, right, bottom], [x, y], near, isOpen) {

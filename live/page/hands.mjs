@@ -7,7 +7,8 @@ import {applyArea, beginCorner, beginDrag, chooseTool, dropArea, endDrag, hasMov
         showArea} from "./drafting.mjs";
 import {$, on} from "./elements.mjs";
 import {valueOfTool} from "./form.mjs";
-import {edgeNear, rectangleBetween, shapeWithEdge, snapped} from "./geometry.mjs";
+import {edgeNear, nearestIn, rectangleBetween, shapeWithEdge, snapped} from "./geometry.mjs";
+import {isInForce} from "./layers.mjs";
 import {followIt, moveBy, moveTo, showRoad, zoomBy} from "./looking.mjs";
 import {cornersOf} from "./picture.mjs";
 import {isOwn, layersShown, store, tell, when, whoseShown} from "./store.mjs";
@@ -36,7 +37,8 @@ const placeOf = ({offsetX, offsetY}) => {
 
 const shapeFrame = ([kind, first, last, from, to]) => ({kind, first, last, from, to});
 
-/** The own line of which an edge is at a place, with the edge's name; null where none is. */
+/** The own line of which an edge is at a place, with the edge's name; null where none is, or what
+    lies above it is in force there. */
 function edgeAt(x, y) {
   const view = viewNow();
   const own = [...store.layers.mine.lines.values()]
@@ -44,7 +46,8 @@ function edgeAt(x, y) {
   for (const line of own) {
     const corners = cornersOf(view, shapeFrame(line.shape));
     const edge = edgeNear(corners, [x, y], AT_EDGE, line.shape[4] === null);
-    if (edge) return {line, edge};
+    const inside = nearestIn(store.plan, line.shape, [cellAt(view, x), stepAt(view, y)]);
+    if (edge && isInForce(line, ...inside)) return {line, edge};
   }
   return null;
 }

@@ -3,6 +3,7 @@
 import {look} from "./looking.mjs";
 import {askPreview, fetchKept, keepPending, refresh, send} from "./acting.mjs";
 import {untaken} from "./changes.mjs";
+import {hearDays} from "./days.mjs";
 import {Layers} from "./layers.mjs";
 import {Line, TAKEN_OVER} from "./line.mjs";
 import {Road} from "./rows.mjs";
@@ -160,6 +161,7 @@ const HEARD = {
     Object.assign(store, {toldByBroker: newest, stays, sites: sites ?? []});
     changed("stays", "sites");
   },
+  days: hearDays,
   trouble(text) {
     if (text) tell(text, true);
     else if (store.trouble) tell("The server's trouble is over.");

@@ -3,6 +3,7 @@
 
 const APART = 4;                // pixels between a label and what it stands beside
 const FARTHEST = 200;           // pixels above or below its frame
+const TOUCH = 2;                // pixels between frames that touch
 
 const meet = ([left, top, right, bottom], other) =>
   left < other[2] && other[0] < right && top < other[3] && other[1] < bottom;
@@ -23,6 +24,30 @@ function candidates([left, top, right, bottom], [wide, high], [, upper, , lowest
     }
   }
   return [...near, ...far];
+}
+
+const sizeOf = ({box: [left, top, right, bottom]}) => (right - left) * (bottom - top);
+
+const touch = ([left, top, right, bottom], other) =>
+  meet([left - TOUCH, top - TOUCH, right + TOUCH, bottom + TOUCH], other);
+
+/** Of labels {text, box, line} that say the same of one line, or of frames that touch, the one
+    whose frame is the largest. */
+export function onceEach(labels) {
+  const groups = new Map();     // by text: {label, lines, boxes}
+  for (const label of [...labels].sort((one, other) => sizeOf(other) - sizeOf(one))) {
+    const alike = groups.get(label.text) ?? [];
+    const group = alike.find(({lines, boxes}) =>
+      lines.has(label.line) || boxes.some((box) => touch(label.box, box)));
+    if (group) {
+      group.lines.add(label.line);
+      group.boxes.push(label.box);
+    } else {
+      groups.set(label.text, [...alike,
+        {label, lines: new Set([label.line]), boxes: [label.box]}]);
+    }
+  }
+  return [...groups.values()].flat().map(({label}) => label);
 }
 
 /** The place [left, top] of a label of a size that belongs to a frame, within bounds and clear of

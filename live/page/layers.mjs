@@ -94,6 +94,10 @@ export function lostOf({operations}, number) {
   return theirs ? {mine, theirs} : null;
 }
 
+/** Whether a line is in force on an object at a step. */
+export const isInForce = ({shown}, index, step) => shown.some(([, first, last, from, to, , by]) =>
+  by === null && first <= index && index <= last && from <= step && (to === null || step < to));
+
 /** Whether anything of a line is covered by another. */
 export const isCovered = ({standing, shown}) =>
   standing && shown.some(([, , , , , , by]) => by !== null);

@@ -1,6 +1,7 @@
 // The start: each view listens and shows, then the line is made.
 
 import * as before from "./before.mjs";
+import * as chance from "./chance.mjs";
 import * as figures from "./figures.mjs";
 import * as form from "./form.mjs";
 import * as hands from "./hands.mjs";
@@ -12,5 +13,5 @@ import * as save from "./save.mjs";
 
 takeToken();
 addEventListener("hashchange", () => { takeToken(); location.reload(); });
-for (const view of [head, form, picture, hands, lists, before, figures, save]) view.begin();
+for (const view of [head, form, picture, hands, lists, before, figures, chance, save]) view.begin();
 connect();

@@ -6,9 +6,10 @@ import {wordsShown} from "./changes.mjs";
 import {$, choose, element, on} from "./elements.mjs";
 import {drawsSoon, hasDrawn} from "./fetching.mjs";
 import {cellsOf} from "./geometry.mjs";
-import {placeOfLabel} from "./labels.mjs";
+import {onceEach, placeOfLabel} from "./labels.mjs";
 import {SPANS, chooseSpan, paintBy, resized, showRoad, showWholeRoad, zoomBy} from "./looking.mjs";
 import {slowAt, valueText} from "./sentences.mjs";
+import {keyOf} from "./stamps.mjs";
 import {isOwn, last, layersShown, now, store, when, whoseShown} from "./store.mjs";
 import {HOUR, KMH_A_CELL, LAST_STEP, METRES_A_CELL} from "./units.mjs";
 import {byMeans, everyShown, partShown, viewNow} from "./view.mjs";
@@ -46,7 +47,7 @@ export function drawDiagram() {
   const named = areOfSeveral(frames);
   const labels = frames.map((frame) => drawEdges(context, view, frame, named));
   if (store.area) drawArea(context, view, store.area);
-  else drawLabels(context, view, frames, labels.filter(Boolean));
+  else drawLabels(context, view, frames, onceEach(labels.filter(Boolean)));
   if (store.cursor) drawFrame(context, view, store.cursor[1], store.cursor[0]);
   context.restore();
   drawAxes(context, view, partShown(), UNIT);
@@ -168,7 +169,7 @@ function drawEdges(context, view, frame, named) {
   context.strokeRect(...rectangle);
   context.setLineDash([]);
   return {text: labelOf(frame, named), box: [left, top, right, bottom],
-          colour: FRAME[frame.kind]};
+          colour: FRAME[frame.kind], line: frame.pending ? frame : keyOf(frame.by.name)};
 }
 
 /** Writes what frames are, clear of closures and of each other, on what is computed. */

@@ -80,12 +80,13 @@ async function saveTranscript() {
     + "1 second a step.");
 }
 
-/** Saves the commands alone; road_lab answers them as the transcript has it. */
+/** Saves the commands alone, named by the road; road_lab answers them as the transcript has it. */
 async function saveScript() {
+  const name = `script_${roadShown() === "shared" ? "shared" : "mine"}.jsonl`;
   const lines = await transcriptLines();
   if (!lines) return;
-  download(lines.filter((_, index) => index % 2 === 0), "script.jsonl", "application/jsonl");
-  tell("Saved script.jsonl: run road_lab < script.jsonl.");
+  download(lines.filter((_, index) => index % 2 === 0), name, "application/jsonl");
+  tell(`Saved ${name}: road_lab runs it, and recipes/delay compares mine and the shared one.`);
 }
 
 /** Saves a table that the server makes. */

@@ -8,7 +8,7 @@ export const store = {
   line: null,                   // the Line to the server
   lineText: ["connecting", false],   // what is said of it, and whether it is away
   me: null,                     // this tab's seat: {at, seat, number, name}
-  most: {rows: 1024, bytes: 1e6},    // of an answer
+  most: {rows: 1024, bytes: 1e6, days: 20},   // of an answer
   others: [],                   // names of who else is here
   wishes: null,                 // as whom to join
   hello: null,                  // what is asked before joining: {why, free}; null where all is said
@@ -30,6 +30,7 @@ export const store = {
   presses: [],                  // of Z and Redo, until it is known what they take back
   changing: null,               // the line whose figures stand in the form
   before: null,                 // what is looked at before sharing or taking
+  days: null,                   // what is asked over many days: {of, key, done, said}
   timings: [],                  // of the last gestures, in milliseconds
 
   // What is looked at.
@@ -51,8 +52,8 @@ export function when(parts, show) {
 }
 
 // What moves buttons, or makes them anew.
-const MOVES = ["clock", "figures", "line", "lists", "news", "others", "preview", "said", "sites",
-               "stays"];
+const MOVES = ["clock", "days", "figures", "line", "lists", "news", "others", "preview", "said",
+               "sites", "stays"];
 let held = null;                // of these what has changed while a button is held down
 
 /** Tells the views of parts that these have changed: those that move buttons once none is held

@@ -34,6 +34,7 @@ RUNNING = asyncio.Semaphore(1)
 WAITING: list[int] = []  # seats for which a road is run beside, or will be
 MOST_WAITING = 8
 BEHIND = 64  # cells behind an inlet that are driven for what it is asked for
+NICE = 5  # less than who edits, and more than what takes long
 SEEN = 8  # steps after which it is looked who is on them: at 9 cells a step nobody leaves them sooner
 
 
@@ -54,7 +55,7 @@ async def of(index: int, asked: dict[str, Any]) -> dict[str, Any]:
     """The figures of two roads, for a seat."""
     async with alone(index):
         process = await asyncio.create_subprocess_exec(
-            sys.executable, "-m", __name__, stdin=asyncio.subprocess.PIPE, stdout=asyncio.subprocess.PIPE,
+            *gently(__name__), stdin=asyncio.subprocess.PIPE, stdout=asyncio.subprocess.PIPE,
             start_new_session=True, cwd=LIVE)
         try:
             async with asyncio.timeout(PATIENCE):
@@ -66,6 +67,11 @@ async def of(index: int, asked: dict[str, Any]) -> dict[str, Any]:
         raise Refused("failed", "the figures failed; the server's log says why")
     said: dict[str, Any] = json.loads(out)
     return said
+
+
+def gently(module: str, nice: int = NICE) -> list[str]:
+    """Runs a module of this package as a program for which nobody who edits waits longer."""
+    return ["nice", "-n", str(nice), sys.executable, "-m", module]
 
 
 # The program
@@ -121,12 +127,13 @@ def road_of(asked: dict[str, Any], run: Run, wanted: list[int]) -> dict[str, Any
 def run_of(asked: dict[str, Any], edits: list[Any], start: int) -> Run:
     """The road by these edits. All lines go to the program at once: a wait for each reply would take far longer where the
     machine has other work."""
-    from delay import Journeys
+    from delay import Journeys, meetings
     plan, first, last = asked["plan"], asked["first"], asked["last"]
     is_short = (last - start + 1) * plan["length"] <= MOST_CELLS
     counts = [{"count": {"at": "road", "detector": detector, "from": first, "to": last}}
               for detector in range(len(plan["detectors"]))]
-    cars = [{"cars": {"at": "road", "step": step}} for step in range(start, last + 1) if is_short]
+    steps = meetings(plan, start, last) if is_short else []
+    cars = [{"cars": {"at": "road", "step": step}} for step in steps]
     rows = [{"diagram": {"at": "road", "from": begin, "to": min(last, begin + MOST_ROWS - 1)}}
             for begin in range(start, last + 1, MOST_ROWS) if is_short]
     driven = [plan, *import_lines("road", edits), {"advance": {"at": "road", "to": last}}]
@@ -135,8 +142,8 @@ def run_of(asked: dict[str, Any], edits: list[Any], start: int) -> Run:
     pairs = [[one["cars"], one["speeds"]] for one in map(json.loads, counted)]
     if not is_short:
         return Run(pairs, None)
-    states = (map(int, NUMBER.findall(reply)) for reply in drove)
-    return Run(pairs, Journeys.read(states, [row.decode() for reply in shown for row in of_diagram(reply)], start))
+    states = {step: list(map(int, NUMBER.findall(reply))) for step, reply in zip(steps, drove)}
+    return Run(pairs, Journeys.met(states, [row.decode() for reply in shown for row in of_diagram(reply)]))
 
 
 def demand(asked: dict[str, Any], edits: list[Any]) -> list[int]:
@@ -153,12 +160,16 @@ def on_free_road(asked: dict[str, Any], edits: list[Any], inlet: int) -> int:
     chance = plan["inlets"][inlet][1]
     road = {**plan, "length": inlet + BEHIND, "exit": 1, "zone": inlet + BEHIND, "zones": [plan["zones"][zone]],
             "inlets": [*([other, 0] for other in range(inlet)), [inlet, chance]], "detectors": [], "replicas": ["road"]}
-    kept = {("inflow", inlet): inlet, ("slow", zone): 0}
-    puts = [[kind, kept[kind, index], *rest] for kind, index, *rest in edits if (kind, index) in kept]
-    driven = [road, *import_lines("road", puts), {"advance": {"at": "road", "to": last}}]
+    driven = [road, *import_lines("road", asking(plan, edits, inlet)), {"advance": {"at": "road", "to": last}}]
     seen = [{"cars": {"at": "road", "step": step}} for step in [*range(first, last, SEEN), last]]
     numbers = {int(number) for reply in said(asked, [*driven, *seen])[len(driven):] for number in NUMBER.findall(reply)}
     return sum(first <= entry_of(number) < last for number in numbers)
+
+
+def asking(plan: dict[str, Any], edits: list[Any], inlet: int) -> list[Any]:
+    """The edits by which it is decided what an inlet is asked for, as they are on its short road."""
+    kept = {("inflow", inlet): inlet, ("slow", plan["inlets"][inlet][0] // plan["zone"]): 0}
+    return [[kind, kept[kind, index], *rest] for kind, index, *rest in edits if (kind, index) in kept]
 
 
 def said(asked: dict[str, Any], lines: list[Any]) -> list[bytes]:

@@ -4,13 +4,13 @@ from __future__ import annotations
 import json
 from typing import Any, Union
 
-from . import figures, rows, saving
+from . import chance, figures, rows, saving
 from .asked import Refused
 from .journal import packed
 from .keeper import LAST_STEP, Times
 from .lab import AHEAD, Lab
 from .layers import Stamp
-from .lines import line_of, shown_of, table
+from .lines import clock, line_of, shown_of, table
 from .program import LONG_ROAD
 from .roads import SIDES, Preview, Previews, Replica, Road, Side
 from .state import Seat
@@ -31,7 +31,7 @@ class Questions:
 
     def __init__(self, lab: Lab) -> None:
         self._lab, self._keeper = lab, lab.keeper
-        self._previews = Previews()
+        self._previews, self._chance = Previews(), chance.Questions()
         self._saved: tuple[int, list[str]] = -1, []  # the seat that saved last, and its transcript
 
     def road(self, index: int, at: str) -> Road:
@@ -42,10 +42,12 @@ class Questions:
 
     def close(self) -> None:
         self._previews.close()
+        self._chance.stop()
 
     def left(self, index: int) -> None:
         """A tab of this seat has gone."""
         self._previews.put(index, None)
+        self._chance.stop(index)
 
     async def plain(self, road: Road, times: Times, verb: str, fields: dict[str, Any]) -> bytes:
         """What the program answers."""
@@ -206,6 +208,11 @@ class Questions:
 
     async def figures(self, index: int, own: Seat, of: str, first: int, last: int) -> Reply:
         """What two roads differ by: those of the preview, or the shared and the own one."""
+        asked = await self._both(index, own, of, first, last)
+        return {"from": first, "to": last, **await figures.of(index, asked)}
+
+    async def _both(self, index: int, own: Seat, of: str, first: int, last: int) -> dict[str, Any]:
+        """What a program is asked that runs both roads beside."""
         if first >= last:
             raise Refused("Range", f"`from` {first} is not below `to` {last}")
         self._reaches(last)
@@ -215,9 +222,27 @@ class Questions:
             return {"before": state.shared.scenario(), "after": own.scenario()}
         edits: dict[str, Any] = self._previews.get(index).edits if of == "preview" else await self._keeper.ask(
             index, (0, index), body)
-        plan = {**state.plan, "replicas": ["road"]}
-        return {"from": first, "to": last, **await figures.of(
-            index, {"plan": plan, "first": first, "last": last, "program": self._keeper.path, **edits})}
+        return {"plan": {**state.plan, "replicas": ["road"]}, "first": first, "last": last, "program": self._keeper.path,
+                **edits}
+
+    async def days(self, index: int, own: Seat, of: str | None, first: int, last: int) -> Reply:
+        """The same over many days, with the mean of each figure, and how sure it is; or the end of that question."""
+        if of is None:
+            return {"stopped": self._chance.stop(index)}
+        plan, listeners, days = self._keeper.state.plan, self._keeper.listeners, self._keeper.settings.days
+        if type(plan["words"]) is not int:
+            raise Refused("one day", "the words of this road are steady, drawn by no seed: it has one day, and its figures are "
+                          "those of each")
+        if (last + 1) * plan["length"] > figures.MOST_CELLS:
+            raise Refused("too long", f"this is too long to follow each car over {days} days: on this road they end at "
+                          f"{clock(figures.MOST_CELLS // plan['length'] - 1)} at the latest")
+        question = self._chance.begin(index, days, lambda other: self._keeper.state.seats[other].name)
+        try:
+            asked = await self._both(index, own, of, first, last)
+            said = await question.answer(asked, lambda: listeners.tell("days", index, question.done, question.days))
+        finally:
+            self._chance.end(question)
+        return {"from": first, "to": last, **said}
 
     # What is saved
 

@@ -14,6 +14,7 @@ class Settings:
     most_undone: int = 1_000  # undoings until the oldest are forgotten
     most_journal: int = 64 << 20  # bytes until the journal is shortened
     day: float = 86_400  # seconds after which a seat that nobody uses is free
+    days: int = 20  # of a question over many: seeds, each with drivers of its own
     hello: float = 10  # seconds until a tab has shown the token
 
     @classmethod

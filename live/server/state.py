@@ -182,7 +182,7 @@ class Seat:
         self.is_mended = False  # since the start
         self.edits = Index()  # of seat 0 what was shared; of others what was not
         self.outs: frozenset[int] = frozenset()  # sites of which nothing counts
-        self._of_sites: list[Gesture] = []  # that leave sites out, or let them in again
+        self.of_sites: list[Gesture] = []  # that leave sites out, or let them in again
         self._tried: list[Gesture] = []
 
     @property
@@ -218,8 +218,8 @@ class Seat:
         for line in lines:
             self.lines.setdefault(line, []).append(gesture)
         if is_of_sites(gesture):
-            self._of_sites = [*self._of_sites, gesture]
-            outs = outs_of(self._of_sites)
+            self.of_sites = [*self.of_sites, gesture]
+            outs = outs_of(self.of_sites)
             if outs != self.outs:
                 return self._lay_anew(outs), set(self.lines)
         return (set() if self.is_out(gesture) else self.road.lay(gesture.stamp, gesture.lays)), lines
@@ -245,7 +245,7 @@ class Seat:
     def trying(self, gestures: Iterable[Gesture]) -> Iterator[tuple[set[Stretch], set[Stamp]]]:
         """For a while the layers are as if these operations were held; where that changes something, and which lines."""
         stretches, lines = set[Stretch](), set[Stamp]()
-        before = self.road, self.lines, self.outs, self._of_sites
+        before = self.road, self.lines, self.outs, self.of_sites
         self.road, self.lines = self.road.copy(), {line: [*some] for line, some in self.lines.items()}
         try:
             for gesture in gestures:
@@ -255,7 +255,7 @@ class Seat:
                 lines |= what
             yield stretches, lines
         finally:
-            self.road, self.lines, self.outs, self._of_sites = before
+            self.road, self.lines, self.outs, self.of_sites = before
             self._tried = []
 
     def line_of(self, name: Name) -> Stamp | None:
@@ -302,7 +302,7 @@ class Seat:
         for gesture in self.gestures:
             if not self.is_out(gesture):
                 self.road.lay(gesture.stamp, {name: gesture.lays[name] for name in gesture.lays.keys() & names})
-        self._of_sites = [gesture for gesture in self._of_sites if gesture not in gone]
+        self.of_sites = [gesture for gesture in self.of_sites if gesture not in gone]
         self.lines = {line: [one for one in some if one not in gone] for line, some in self.lines.items()}
         self.lines = {line: some for line, some in self.lines.items() if some}
         self.marks = {line: version for line, version in self.marks.items() if line in self.lines}
@@ -587,12 +587,14 @@ class State:
         return common(with_starts(touched), with_starts(self._own_stretches(seat))) | self._doubtful(came)
 
     def _own_stretches(self, seat: Seat) -> set[Stretch]:
-        """Where a seat's road may be other than what it took of the shared one."""
-        stretches = set[Stretch]()
-        for gesture in seat.gestures:
-            if gesture not in self.shared.holds or site_of(gesture) in seat.outs ^ self.shared.outs:
-                stretches |= gesture.where | standing(gesture.lays, seat, self.shared)
-        return stretches
+        """Where a seat's road may be other than what it took of the shared one: what it shared since is mended there by what it
+        has not taken."""
+        places = self.shared.holds
+        outs = seat.outs ^ outs_of(one for one in self.shared.of_sites if places[one] < seat.upto)
+        own = [one for one in seat.gestures if places.get(one, seat.upto) >= seat.upto or site_of(one) in outs]
+        names = {name for one in own for name in one.lays}
+        shapes = [one.lays[name].shape for one in seat.gestures for name in one.lays.keys() & names]
+        return {stretch_of(shape) for shape in shapes if shape is not None}.union(*(one.where for one in own))
 
     def _doubtful(self, gestures: Iterable[Gesture]) -> set[Stretch]:
         """Where there are mendings of other sites among these, which the shared road may have left unanswered."""

@@ -219,6 +219,7 @@ class Tabs:
         listeners.on("shared", self._news)
         listeners.on("seats", self._seats)
         listeners.on("clock", self._clock)
+        listeners.on("days", self._days)
         listeners.on("trouble", lambda: self._tell_all("trouble", keeper.trouble))
         listeners.on("program", lambda: self._tell_all("program", {"changes": keeper.changes, "why": keeper.why_changed}))
         self._ticks = asyncio.ensure_future(self._tick())
@@ -236,6 +237,7 @@ class Tabs:
         for other in self._all:
             if other.index == index:
                 other.index = None
+                self._questions.left(index)
                 other.let_go(4000, "this seat is open in another tab")
         tab.index = index
         self.lab.keeper.here.add(index)
@@ -245,7 +247,8 @@ class Tabs:
                 "form": FORM, "site": state.site, "plan": {**state.plan, "replicas": []},
                 "horizon": self.lab.keeper.wanted.get(index, 0), **self.lab.keeper.clock(), "ahead": AHEAD,
                 "time": round(time.time(), 3),
-                "most": {"edits": MOST_EDITS, "rows": MOST_ROWS, "bytes": MOST_BYTES}, "broker": self.broker(),
+                "most": {"edits": MOST_EDITS, "rows": MOST_ROWS, "bytes": MOST_BYTES,
+                         "days": self.lab.keeper.settings.days}, "broker": self.broker(),
                 "trouble": self.lab.keeper.trouble, "standing": self._standing}
 
     def arrived(self, tab: Tab) -> None:
@@ -338,6 +341,12 @@ class Tabs:
 
     def _clock(self) -> None:
         self._tell_all("clock", self.lab.keeper.clock())
+
+    def _days(self, index: int, done: int, days: int) -> None:
+        """How many days of its question are done."""
+        for tab in self._all:
+            if tab.index == index:
+                tab.tell("days", {"done": done, "days": days})
 
     def _seats(self) -> None:
         if any(tab.index is not None for tab in self._all):

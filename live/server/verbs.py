@@ -152,6 +152,13 @@ def a_comparison(asked: Asked) -> dict[str, Any]:
     return {"of": asked.raw("of"), **steps(asked)}
 
 
+def many_days(asked: Asked) -> dict[str, Any]:
+    """A comparison over many days; of null ends the one that runs."""
+    if asked.is_null("of"):
+        return {"of": None, "first": 0, "last": 0}
+    return a_comparison(asked)
+
+
 def a_clock(asked: Asked) -> dict[str, Any]:
     return {"rate": asked.number("rate", FASTEST)} if asked.has("rate") else {"to": asked.whole("to")}
 
@@ -266,6 +273,7 @@ VERBS: dict[str, Verb] = {
     "gestures": Verb(KEPT, lambda asked: {"first": asked.whole("from", default=0)}, of_seat("gestures"), SHARED_ROAD),
     "preview": Verb(OWN, a_preview, of_seat("preview"), OWN),
     "figures": Verb(OWN, a_comparison, of_seat("figures"), OWN),
+    "days": Verb(OWN, many_days, of_seat("days"), OWN),
     # What is saved
     "transcript": Verb(KEPT, a_transcript, of_seat("transcript"), SHARED_ROAD),
     "csv": Verb(KEPT, a_table, tables, SHARED_ROAD),

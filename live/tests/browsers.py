@@ -39,37 +39,14 @@ MODULES_KNOWN = """
       window.hasModules = true;
     });"""
 
-# What befell a page, for whom a test fails: where the pointer and the keys went, what moved under them, what it saved.
-RECORDER = """
-    window.befell = [];
-    const named = (one) => !one?.tagName ? String(one) : `<${one.tagName.toLowerCase()}${one.id && " #" + one.id}> `
-      + `${one.getAttribute("aria-label") || one.textContent.trim().replace(/\\s+/g, " ").slice(0, 40)}`;
-    const record = (what) => {
-      if (befell.push(`${(performance.now() / 1000).toFixed(2)} s: ${what}`) > 40) befell.shift();
-    };
-    for (const kind of ["pointerdown", "pointerup", "click", "submit", "change", "keydown"]) {
-      addEventListener(kind, (event) => record(`${kind} ${event.isTrusted ? "" : "by a script "}at `
-        + `${event.clientX === undefined ? event.key ?? "" : [event.clientX, event.clientY]} on ${named(event.target)}`), true);
-    }
-    addEventListener("error", ({message}) => record(`error ${message}`));
-    addEventListener("unhandledrejection", ({reason}) => record(`unhandled ${reason}`));
-    new PerformanceObserver((list) => {
-      for (const {sources, value} of list.getEntries()) {
-        record(`moved by ${value.toFixed(3)}: ${sources.map(({node, previousRect, currentRect}) =>
-          `${named(node)} from ${Math.round(previousRect.y)} to ${Math.round(currentRect.y)}`).join("; ")}`);
-      }
-    }).observe({type: "layout-shift", buffered: true});
-    const {click} = HTMLElement.prototype;
-    HTMLElement.prototype.click = function () {
-      if (this.download) record(`saves ${this.download}`);
-      return click.call(this);
-    };"""
+IF_KNOWN = "if (!window.hasModules && document.getElementById('diagram')) return null;"
 
-# Finds what is called so in a part, or the part itself, which can be pressed and nothing lies over.
+# Finds what is called so in a part, or the part itself, where it can be pressed and nothing lies over it.
 FOUND = """
     const [name, within] = arguments;
-    const one = [...document.querySelectorAll(`:is(${within}):is(button, summary), :is(${within}) button`)].find((one) =>
-      one.checkVisibility() && !one.disabled && (one.ariaLabel || one.textContent.trim()).startsWith(name));
+    const one = [...document.querySelectorAll(`:is(${within}):is(button, summary), :is(${within}) button`)]
+      .find((one) => one.checkVisibility() && !one.disabled
+        && (one.ariaLabel || one.textContent.trim()).startsWith(name));
     if (!one) return false;
     one.scrollIntoView({block: "center"});
     const {left, top, width, height} = one.getBoundingClientRect();
@@ -79,26 +56,13 @@ FOUND = """
     one.focus();"""
 FOCUS = FOUND + "return true;"
 PRESS = FOUND + "one.click(); return true;"
-TRUTH = """
-    const {store} = window;
-    const shown = (id) => { const one = document.getElementById(id);
-                            return one ? `${id}${one.checkVisibility() ? "" : " (hidden)"}: ${one.textContent.trim().replace(/\\s+/g, " ")}` : id; };
-    return [document.title, ...["said", "line", "clock", "news", "own", "held", "before"].map(shown),
-            `save: ${document.getElementById("save")?.open}`, `hidden: ${document.hidden}, focus: ${document.hasFocus()}`,
-            ...(store?.line ? [`open: ${JSON.stringify([...store.line.open.values()].map(({command}) => command))}, `
-              + `waits: ${store.line.waits()}, pending: ${store.pending.size}, asking: ${store.asking}, `
-              + `drawing: ${store.drawing}, idle: ${store.idle}, figures: ${store.figures.asking}`] : []),
-            window.over ?? "", "what befell it:", ...(window.befell ?? [])];"""
-
-
-IF_KNOWN = "if (!window.hasModules && document.getElementById('diagram')) return null;"
 
 # Whether the page is quiet: looked at as often as the page itself can, for a second at the longest.
 SETTLED = """
     const [done] = arguments;
     import("/page/store.mjs").then(({store}) => {
       const isQuiet = () => store.pending.size === 0 && store.asking === 0 && !store.line.waits()
-        && [...store.line.open.values()].every(({command}) => command.figures)
+        && [...store.line.open.values()].every(({command}) => command.figures ?? command.days)
         && !store.drawing && !store.idle && !store.figures.asking;
       const end = performance.now() + 1000;
       let since = null;
@@ -111,6 +75,51 @@ SETTLED = """
       };
       look();
     });"""
+
+# What befalls a page: where pointer and keys go, what moves under them, what it saves.
+RECORDER = """{
+    window.befell = [];
+    const shortly = (one) => one.getAttribute("aria-label")
+      || one.textContent.trim().replace(/\\s+/g, " ").slice(0, 40);
+    const named = (one) => (one?.tagName
+      ? `<${one.tagName.toLowerCase()}${one.id && " #" + one.id}> ${shortly(one)}` : String(one));
+    const record = (what) => {
+      if (befell.push(`${(performance.now() / 1000).toFixed(2)} s: ${what}`) > 40) befell.shift();
+    };
+    for (const kind of ["pointerdown", "pointerup", "click", "submit", "change", "keydown"]) {
+      addEventListener(kind, ({clientX: x, clientY: y, isTrusted, key = "", target}) => {
+        if (kind === "keydown" && key.length === 1 && target.matches("input")) return;
+        const by = isTrusted ? "" : " by a script";
+        record(`${kind}${by} at ${x === undefined ? key : [x, y]} on ${named(target)}`);
+      }, true);
+    }
+    addEventListener("error", ({message}) => record(`error ${message}`));
+    addEventListener("unhandledrejection", ({reason}) => record(`unhandled ${reason}`));
+    new PerformanceObserver((list) => {
+      const moves = list.getEntries().flatMap(({sources}) => sources).map(({node, previousRect, currentRect}) =>
+        `${named(node)} from ${Math.round(previousRect.y)} to ${Math.round(currentRect.y)}`);
+      record(`moved: ${moves.join("; ")}`);
+    }).observe({type: "layout-shift", buffered: true});
+    const {click} = HTMLElement.prototype;
+    HTMLElement.prototype.click = function () {
+      if (this.download) record(`saves ${this.download}`);
+      return click.call(this);
+    };
+}"""
+# What a page shows, knows and went through.
+TRUTH = """
+    const {store} = window;
+    const shown = (id) => {
+      const one = document.getElementById(id);
+      return `${id}${one?.checkVisibility() ? "" : " (hidden)"}: ${one?.textContent.trim().replace(/\\s+/g, " ")}`;
+    };
+    const {line, pending, asking, drawing, idle, figures} = store ?? {};
+    return [document.title, ...["said", "line", "clock", "news", "own", "held", "before"].map(shown),
+            `save is open: ${document.getElementById("save")?.open}`,
+            `is hidden: ${document.hidden}, has the focus: ${document.hasFocus()}`,
+            JSON.stringify({open: line && [...line.open.values()].map(({command}) => command), waits: line?.waits(),
+                            pending: pending?.size, asking, drawing, idle, figures: figures?.asking}),
+            window.over ?? "", "what befell it:", ...(window.befell ?? [])];"""
 
 
 def example_rows(which: int) -> list[str]:
@@ -188,7 +197,8 @@ class Tab:
         """What the page shows, knows and went through, for who reads of a test that failed."""
         seen = self.driver.execute_script(TRUTH)
         console = [entry["message"] for entry in self.driver.get_log("browser")]
-        return "\n".join([*seen, f"console: {console}", f"saved: {sorted(one.name for one in self.downloads.iterdir())}"])
+        saved = sorted(path.name for path in self.downloads.iterdir())
+        return "\n".join([*seen, f"console: {console}", f"saved: {saved}"])
 
     def settled(self) -> None:
         """Waits until all is confirmed, asked for and drawn, the figures say it, and it stays so for a moment."""
@@ -207,8 +217,8 @@ class Tab:
 
     def value_at(self, kind: str, index: int, *steps: int) -> list[int]:
         """What holds on the own road, as the page says it."""
-        return self.script("return arguments[2].map((step) => store.layers.mine.valueAt(arguments[0], arguments[1], step))",
-                           kind, index, steps)
+        return self.script("const [kind, index, steps] = arguments;"
+                           "return steps.map((step) => store.layers.mine.valueAt(kind, index, step))", kind, index, steps)
 
     def faults(self) -> list[str]:
         return [entry["message"] for entry in self.driver.get_log("browser")
@@ -230,7 +240,7 @@ class Tab:
         self.until(lambda: self.script(PRESS, "", f"#{ident} > summary"), f"to open {ident}")
 
     def save(self, name: str, file: str) -> Path:
-        """Saves by the menu, and gives the file. A browser lets a page save once for each press of a person: by a key."""
+        """Saves by the menu, and gives the file; by a key, since a browser lets a page save once for each press."""
         if self.part("save").get_attribute("open") is None:
             self.open_part("save")
         self.until(lambda: self.script(FOCUS, name, "#save"), f"a button {name}")
@@ -370,7 +380,8 @@ class BrowserCase(Test):
             cls.tabs.append(Tab(cls.downloads))
             cls.addClassCleanup(cls.tabs[-1].driver.quit)
 
-    def open(self, plan: dict[str, Any], names: tuple[str, ...] | None = None, *more: str, **environment: str) -> list[Tab]:
+    def open(self, plan: dict[str, Any], names: tuple[str, ...] | None = None, *more: str,
+             **environment: str) -> list[Tab]:
         """A server with this plan and these words more, and a tab for each name."""
         self.server = free_server(plan, *more, **environment)
         self.addCleanup(self.server.kill)

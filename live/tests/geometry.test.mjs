@@ -4,8 +4,8 @@ import assert from "node:assert/strict";
 import {readFileSync} from "node:fs";
 import {test} from "node:test";
 
-import {cellsOf, edgeNear, isTooLate, objectsIn, objectsNearest, rectangleBetween, shapeWithEdge,
-        snapped, zonesIn} from "../page/geometry.mjs";
+import {cellsOf, edgeNear, isTooLate, nearestIn, objectsIn, objectsNearest, rectangleBetween,
+        shapeWithEdge, snapped, zonesIn} from "../page/geometry.mjs";
 
 const PLAN = JSON.parse(readFileSync(new URL("../plan.json", import.meta.url), "utf8"));
 
@@ -110,4 +110,13 @@ test("the clock ends at step 1,048,575", () => {
   assert.ok(!isTooLate(["block", 0, 0, 0, 1048575, 1]));
   assert.ok(isTooLate(["block", 0, 0, 0, 1048576, 1]));
   assert.ok(isTooLate(["block", 0, 0, 1048576, null, 1]));
+});
+
+test("what of a shape is nearest to a place", () => {
+  const limit = ["limit", 4, 5, 1200, 2400, 2];
+  assert.deepEqual(nearestIn(PLAN, limit, [199, 1190.4]), [4, 1200]);
+  assert.deepEqual(nearestIn(PLAN, limit, [260.5, 1300.7]), [5, 1300]);
+  assert.deepEqual(nearestIn(PLAN, limit, [303, 2404]), [5, 2399]);
+  assert.deepEqual(nearestIn(PLAN, ["block", 10, 20, 0, null, 1], [9.8, 5000]), [10, 5000]);
+  assert.deepEqual(nearestIn(PLAN, ["inflow", 1, 1, 60, 90, 9], [190, 70]), [1, 70]);
 });

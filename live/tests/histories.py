@@ -44,15 +44,15 @@ class Oracle:
         values: Values = {}
         for kind, count in self.there.items():
             for index in range(count):
-                here = [(height, shape) for name, height, shape in standing if not is_raw(name) and shape.kind == kind
+                here = [(height, 2, name, shape) for name, height, shape in standing if not is_raw(name) and shape.kind == kind
                         and shape.first <= index <= shape.last]
                 raw = sorted((name[2], height, shape.value) for name, height, shape in standing
                              if is_raw(name) and name[:2] == (kind, index))
                 for step in range(self.last + 1):
-                    over = [(height, shape.value) for height, shape in here
+                    over = [(*rank, shape.value) for *rank, shape in here
                             if shape.begin <= step and (shape.end is None or step < shape.end)]
-                    over += [(height, value) for at, height, value in raw if at <= step][-1:]
-                    values[kind, index, step] = max(over)[1] if over else self.base[kind](index)
+                    over += [(height, 3, (), value) for at, height, value in raw if at <= step][-1:]  # above one that is as high
+                    values[kind, index, step] = max(over)[-1] if over else self.base[kind](index)
         return with_slow(values)
 
     def by_edits(self, gestures: Iterable[Gesture]) -> Values:
@@ -90,6 +90,7 @@ class Site:
         self.state.apply({"lab": {"plan": PLAN, "site": number, "folder": "f", "form": 2}})
         self.entries: list[Any] = [{"lab": {"plan": PLAN, "site": number, "folder": "f", "form": 2}}]
         self.out: list[list[Any]] = []
+        self.lengths = [0]  # of what was shared, after each entry
         self.seats = [self.state.seats[1 + at] for at in range(seats)]
         for seat in (self.state.shared, *self.seats):
             self.state.mend_at_start(seat)
@@ -99,6 +100,7 @@ class Site:
         entry = json.loads(json.dumps({kind: value}))
         self.state.make(entry)
         self.entries.append(json.loads(json.dumps(entry)))
+        self.lengths.append(len(self.state.shared.gestures))
         return self.entries[-1][kind]
 
     def does(self, seat: Seat, lays: Lays, **told: Any) -> Gesture:
@@ -111,8 +113,10 @@ class Site:
         said = self.make("share", seat=seat.index, stamps=[one.stamp for one in gestures])
         self.out.append([*(one.written() for one in gestures), *([said["mending"]] if "mending" in said else [])])
 
-    def takes(self, seat: Seat) -> None:
-        self.make("take", seat=seat.index, upto=len(self.state.shared.gestures))
+    def takes(self, seat: Seat, late: int = 1) -> None:
+        """All that was shared; or what of it was so some entries ago, and the rest is not on the disk yet."""
+        upto = self.lengths[-min(late, len(self.lengths))]
+        self.make("take", seat=seat.index, upto=max(seat.upto, upto))
 
     def came(self, message: list[Any]) -> None:
         known = self.state.by_stamp
@@ -128,6 +132,7 @@ class Site:
         if mending is None:
             return False
         self.entries.append({"came": {"gestures": [mending.written()]}})
+        self.lengths.append(len(self.state.shared.gestures))
         self.out.append([mending.written()])
         return True
 
@@ -216,13 +221,15 @@ class Histories(unittest.TestCase):
         for _ in range(r.randrange(10, 60)):
             site = r.choice(sites)
             seat, what = r.choice(site.seats), r.random()
-            if what < 0.5:
+            if what < 0.45:
                 self.act(r, site, seat)
-            elif what < 0.7:
+            elif what < 0.6:
                 self.share(r, site, seat)
-            elif what < 0.85:
-                site.takes(seat)
+            elif what < 0.75:
+                site.takes(seat, r.choice([1, 1, 1, 2, 4]))
                 self.check(seat)
+            elif what < 0.85 and not site.state.shared.doubts:
+                self.starts_again(site)
             else:
                 self.deliver(r, sites, site, heard)
                 self.check(site.state.shared)
@@ -391,6 +398,47 @@ class Cases(unittest.TestCase):
         self.other.came(self.one.out[1])
         for site in (self.one, self.other):
             self.assertEqual(limits(site.state.shared), [(5, 0), (1, 2), (5, 15)])  # the greater number's, and not both
+
+    def again(self) -> Seat:
+        """Ada's seat after a start: by the journal, which has no seat's mendings."""
+        state = State()
+        for entry in self.one.entries:
+            state.apply(json.loads(json.dumps(entry)))
+        self.assertIsNone(state.mend_at_start(state.shared))
+        state.mend_at_start(state.seats[1])
+        return state.seats[1]
+
+    def test_a_seat_that_shared_and_did_not_take_has_its_road_after_a_start(self) -> None:
+        """What meets what it took was mended there, and on the shared road by what it has not taken."""
+        wide = self.put(self.other, 5, 30, 1)
+        self.other.shares(self.ben, [wide])
+        for _ in range(3):
+            self.put(self.one, 40, 41, 0)
+        narrow = self.put(self.one, 10, 20, 2)
+        self.one.came(self.other.out[0])
+        self.one.takes(self.ada)
+        self.one.shares(self.ada, [narrow])
+        self.assertEqual(limits(self.ada)[:4], [(5, 0), (1, 5), (2, 10), (1, 20)])
+        self.assertEqual(limits(self.again()), limits(self.ada))
+
+    def test_a_seat_that_withdrew_what_others_change_has_its_road_after_a_start(self) -> None:
+        """They change it twice, of which it took the first."""
+        base = self.put(self.one, 5, 15, 1)
+        self.one.shares(self.ada, [base])
+        self.other.came(self.one.out[0])
+        self.other.takes(self.ben)
+        for _ in range(9):
+            self.put(self.one, 40, 41, 0)
+        self.one.does(self.ada, changed(self.ada, self.one.state.stamp(self.ada), base.stamp, None, False))
+        for begin, end in ((20, 25), (1, 3)):
+            shape = Shape("limit", 3, 3, begin, end, 1)
+            self.other.shares(self.ben, [self.other.does(self.ben, changed(
+                self.ben, self.other.state.stamp(self.ben), base.stamp, shape, False))])
+            self.one.came(self.other.out[-1])
+            if begin == 20:
+                self.one.takes(self.ada)
+        self.assertEqual(limits(self.ada), [(5, 0), (0, 40), (5, 41)])
+        self.assertEqual(limits(self.again()), limits(self.ada))
 
     def test_sites_that_lack_an_operation_each_do_not_mend_each_other_for_ever(self) -> None:
         base = self.put(self.one, 5, 15, 1)

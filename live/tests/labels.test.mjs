@@ -3,7 +3,7 @@
 import assert from "node:assert/strict";
 import {test} from "node:test";
 
-import {placeOfLabel} from "../page/labels.mjs";
+import {onceEach, placeOfLabel} from "../page/labels.mjs";
 
 const BOUNDS = [60, 50, 960, 550];
 const SIZE = [180, 17];
@@ -48,4 +48,20 @@ test("labels of frames at one place stand under or beside each other", () => {
     assert.ok(taken.every((box) => !meets(place, box)));
     taken.push([...place, place[0] + SIZE[0], place[1] + SIZE[1]]);
   }
+});
+
+test("three pieces of one line have one label, at the largest of them", () => {
+  const piece = (top, bottom) => ({text: "54 km/h", box: [100, top, 300, bottom], line: "7,65"});
+  const other = {text: "27 km/h", box: [100, 140, 300, 160], line: "8,65"};
+  const labels = [piece(100, 140), piece(160, 220), piece(260, 280)];
+  assert.deepEqual(onceEach([labels[0], other, labels[1], labels[2]]).map(({box}) => box),
+                   [labels[1].box, other.box]);
+});
+
+test("three changes side by side that say the same have one label, others their own", () => {
+  const zone = (number, text = "54 km/h") =>
+    ({text, box: [100 + 50 * number, 100, 150 + 50 * number, 200], line: String(number)});
+  assert.equal(onceEach([zone(0), zone(1), zone(2)]).length, 1);
+  assert.equal(onceEach([zone(0), zone(2)]).length, 2);
+  assert.equal(onceEach([zone(0), zone(1, "27 km/h"), zone(2)]).length, 3);
 });

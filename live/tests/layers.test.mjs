@@ -5,7 +5,7 @@ import assert from "node:assert/strict";
 import {readFileSync} from "node:fs";
 import {test} from "node:test";
 
-import {Layers, lostOf, privateOf} from "../page/layers.mjs";
+import {Layers, isInForce, lostOf, privateOf} from "../page/layers.mjs";
 import {Words, affectedBy, historyOf, linesOf} from "../page/listing.mjs";
 
 const PLAN = JSON.parse(readFileSync(new URL("../plan.json", import.meta.url), "utf8"));
@@ -42,6 +42,15 @@ test("what is in force has frames and values; what is covered has none", () => {
   assert.equal(layers.valueAt("limit", 6, 1300), 5);
   assert.equal(layers.valueAt("block", 4, 1300), 0);
   assert.equal(layers.valueAt("start", 4, 1300), null);
+});
+
+test("a line is in force where nothing lies above it", () => {
+  const found = road(ada(COVERED)).line([1, ADA]);
+  assert.deepEqual([1199, 1200, 1499, 1500, 1799, 1800, 2399, 2400].map((step) =>
+    isInForce(found, 5, step)), [false, true, true, false, false, true, true, false]);
+  assert.deepEqual([3, 4, 5, 6].map((zone) => isInForce(found, zone, 1300)),
+                   [false, true, true, false]);
+  assert.ok(isInForce(road(ada([[1200, null, null]])).line([1, ADA]), 4, 99999));
 });
 
 test("a line replaces the one of its name; one that is gone leaves the list", () => {

@@ -12,6 +12,7 @@ from road_lab import Edit, Plan, RoadLab
 from running import ALL, SMALL, Case
 from server import stamps
 from server.asked import Refused
+from server.state import State
 
 CELLS, STEPS = range(50, 56), range(0, 30, 5)
 
@@ -32,6 +33,16 @@ def by_shapes(gestures: Iterable[Any]) -> dict[tuple[int, int], int]:
     for _, (_, first, last, begin, end, value) in standing:
         found.update(((cell, step), value) for cell in range(first, last + 1) for step in range(begin, end))
     return found
+
+
+def closed(edits: Iterable[Any]) -> dict[tuple[int, int], int]:
+    """Which cells are closed at which steps, by what wins."""
+    puts: dict[int, dict[int, int]] = {cell: {} for cell in CELLS}
+    for kind, cell, step, _, _, value in edits:
+        if kind == "block" and value is not None:
+            puts[cell][step] = value
+    return {(cell, step): next((puts[cell][at] for at in range(step, -1, -1) if at in puts[cell]), 0)
+            for cell in CELLS for step in range(50)}
 
 
 class LeftOut(Case):
@@ -108,13 +119,22 @@ class LeftOut(Case):
         await self.share(2)
         await self.everywhere(self.road(limit, later))
 
+    async def test_who_left_a_site_out_for_all_has_the_road_without_it_after_a_start(self) -> None:
+        """It took what that site made, and not yet that it is left out on the shared road."""
+        await self.shape(2, "block", 52, 53, 30, 45, 1)
+        await self.here[1].take(1)
+        await self.here[1].ask(1, "site", key="out", site=3, out=True)
+        await self.share(1)
+        self.assertEqual(set(by_shapes(self.here[1].lab.state.seats[1].gestures).values()), {0})
+        self.starts_again(self.here[1], "left out")
+
     async def everywhere(self, rows: list[str]) -> None:
         for place, here in enumerate(self.here, 1):
             self.assertEqual(await self.rows(here), rows, f"site {place}")
 
     async def test_random_histories_give_the_road_of_the_shapes_that_count(self) -> None:
         """The same at all sites, whoever is left out when, and in whatever order that comes."""
-        for seed in range(24 if ALL else 3):
+        for seed in range(24 if ALL else 8):
             chance = random.Random(seed)
             for number in range(24):
                 place = chance.randrange(3)
@@ -123,6 +143,8 @@ class LeftOut(Case):
                 if chance.random() < 0.3:
                     chance.shuffle(self.bus.sent)
                     await self.bus.carry()
+                if chance.random() < 0.7:
+                    self.starts_again(self.here[place], f"{seed} {number}")
             for here in self.here:
                 await here.share(1)
             for _ in range(8):
@@ -134,6 +156,15 @@ class LeftOut(Case):
             numbers = [await self.numbers(here) for here in self.here]
             self.assertEqual(numbers, [by_shapes(here.lab.state.shared.gestures) for here in self.here], seed)
             self.assertEqual(numbers, [numbers[0]] * 3, seed)
+
+    def starts_again(self, here: Here, what: str) -> None:
+        """By its journal the seat has the road of the shapes that count."""
+        state = State()
+        for entry in here.entries():
+            state.apply(entry)
+        for seat in (state.shared, state.seats[1]):
+            state.mend_at_start(seat)
+            self.assertEqual(closed(seat.scenario()), by_shapes(seat.gestures), f"{what} {seat.at}")
 
     async def act(self, here: Here, chance: random.Random, key: str) -> None:
         what, first, begin = chance.random(), chance.choice(CELLS), chance.choice(STEPS)
@@ -154,12 +185,7 @@ class LeftOut(Case):
     async def numbers(self, here: Here) -> dict[tuple[int, int], int]:
         """Which cells are closed at which steps of the shared road, by what wins in the program."""
         reply = await here.keeper.ask(0, (0,), lambda: here.keeper.say(b'{"scenario":{"at":"shared"}}', {}))
-        puts: dict[int, dict[int, int]] = {cell: {} for cell in CELLS}
-        for kind, cell, step, _, _, value in json.loads(reply)["edits"]:
-            if kind == "block" and value is not None:
-                puts[cell][step] = value
-        return {(cell, step): next((puts[cell][at] for at in range(step, -1, -1) if at in puts[cell]), 0)
-                for cell in CELLS for step in range(50)}
+        return closed(json.loads(reply)["edits"])
 
     async def test_who_is_left_out_lets_nobody_in(self) -> None:
         await self.shape(2, "block", 60, 60, 30, None, 1)

@@ -194,7 +194,7 @@ class OneFreeway(BrowserCase):
         tab.in_figures(kmFrom="0", kmTo="0.3", timeFrom="0:00:20", timeTo="0:00:30")
         tab.press("Withdraw")
         tab.settled()
-        transcript, script = tab.save("Transcript", "transcript.jsonl"), tab.save("Script", "script.jsonl")
+        transcript, script = tab.save("Transcript", "transcript.jsonl"), tab.save("Script", "script_mine.jsonl")
         ran = subprocess.run([program()], input=script.read_bytes(), stdout=subprocess.PIPE, check=True)
         lines = transcript.read_text(encoding="utf-8").splitlines()
         self.assertEqual(lines[0::2], script.read_text(encoding="utf-8").splitlines())
@@ -207,7 +207,7 @@ class OneFreeway(BrowserCase):
             const done = arguments[0];
             const asked = {at: store.me.at, of: "mine", from: 0, to: 3600};
             ask({figures: asked});
-            ask({figures: asked}, {busy: true}).then(({refused}) => {
+            ask({figures: asked}, {quiet: ["busy"]}).then(({refused}) => {
               $("saveTranscript").click();
               done(refused);
             });""")

@@ -1,4 +1,4 @@
-"""Two and three browsers on one road: the shell, the keyboard, other seats and sites, three at once; a server that died."""
+"""Two and three browsers on one road: beside a shell and other sites, by the keyboard alone; a server that died."""
 from __future__ import annotations
 
 import asyncio

@@ -7,9 +7,9 @@ import {test} from "node:test";
 const PAGE = new URL("../page/", import.meta.url);
 const SOURCES = new Map(readdirSync(PAGE).filter((name) => name.endsWith(".mjs")).map((name) =>
   [name.replace(".mjs", ""), readFileSync(new URL(name, PAGE), "utf8")]));
-const ACTIONS = ["acting", "drafting", "fetching", "joining", "looking", "store"];
-const PURE = ["chain", "geometry", "kept", "labels", "layers", "line", "listing", "rows", "sentences",
-              "stamps", "units"];
+const ACTIONS = ["acting", "days", "drafting", "fetching", "joining", "looking", "store"];
+const PURE = ["chain", "estimates", "geometry", "kept", "labels", "layers", "line", "listing",
+              "rows", "sentences", "stamps", "units"];
 const importsOf = (source) =>
   [...source.matchAll(/from "\.\/(\w+)\.mjs"/g)].map(([, name]) => name);
 

@@ -213,7 +213,7 @@ def section_puts(told: list[str], figures: Figures, road: Road) -> Iterator[Put]
         zones = covered[section] = zones_of(section, road)
         name = f"the section from km {section.first:g} to {section.last:g}"
         whole_steps(told, name, section.begin, section.end)
-        if not 0 <= section.first < section.last <= figures.length or not section.begin < section.end:
+        if not 0 <= section.first < section.last <= figures.length or not 0 <= section.begin < section.end:
             raise Fault(f"{name}, minute {section.begin:g} to {section.end:g}: from is before to, and both on the road")
         first, last = kilometres(zones[0] * road.zone), kilometres(min((zones[-1] + 1) * road.zone, road.length))
         if abs(first - section.first) > 1e-9 or abs(last - section.last) > 1e-9:
@@ -249,11 +249,27 @@ def stalled_puts(told: list[str], figures: Figures, road: Road) -> Iterator[Put]
     for car in figures.stalled:
         cell = place(told, "the stalled car at", car.at, road.length)
         whole_steps(told, f"the stalled car at km {car.at:g}", car.begin, car.end)
-        if not car.begin < car.end:
+        if not 0 <= car.begin < car.end:
             raise Fault(f"the stalled car at km {car.at:g} stands from minute {car.begin:g} to {car.end:g}")
         yield "block", cell, steps(car.begin), 1
         if steps(car.end) < road.minutes:
             yield "block", cell, steps(car.end), 0
+
+
+Shape = tuple[str, int, int, int, int, int]
+"""A value of the objects `first` to `last` of a kind, from a step to another."""
+
+
+def shapes(figures: Figures, road: Road) -> Iterator[Shape]:
+    """Sections and stalled cars as they are put on top of each other."""
+    for section in figures.sections:
+        zones = zones_of(section, road)
+        given = {"limit": (section.limit, limit), "slow": (section.slowing, part), "start": (section.start, part)}
+        for kind, (value, made) in given.items():
+            if value is not None:
+                yield kind, zones[0], zones[-1], steps(section.begin), steps(section.end), made(value)
+    for car in figures.stalled:
+        yield "block", cells(car.at), cells(car.at), steps(car.begin), steps(car.end), 1
 
 
 # What is changed afterwards

@@ -12,13 +12,13 @@ from __future__ import annotations
 
 import os
 from concurrent.futures import ProcessPoolExecutor, as_completed
-from typing import Callable, NamedTuple, Sequence
+from typing import Callable, NamedTuple, Optional, Sequence
 
 from delay import delay, vehicle_hours
 from intervals import Estimate, estimate, others, paired, unpaired
 from programs import NoProgram
 from road_lab import Bar, Ended, Refused, RoadLab
-from scripts import Fault, Script, edited, journeys, same_road
+from scripts import Fault, Script, edited, journeys, replica, same_road
 
 SEEDS = 1 << 64
 DAYS = range(2, 1_001)
@@ -31,6 +31,10 @@ class Day(NamedTuple):
     seed: int
     before: dict[str, float]
     after: dict[str, float]
+
+
+Counted = Callable[[list[tuple[str, Script]], Optional[str], int, float], Day]
+"""The figures of a day, by both scripts with their names, the replica, the seed, and the seconds of a step."""
 
 
 class Comparison(NamedTuple):
@@ -46,25 +50,25 @@ class Comparison(NamedTuple):
 
 
 def over_days(before: Script, after: Script, days: int, at: str | None = None, seconds: float = 1.0,
-              names: Sequence[str] = NAMES, progress: Callable[[int, int], None] | None = None) -> list[Day]:
-    """Runs both scripts by so many seeds, side by side on all processors, for the replica `at` or the plan's first one, with steps
+              names: Sequence[str] = NAMES, progress: Callable[[int, int], None] | None = None,
+              counted: Counted | None = None) -> list[Day]:
+    """Runs both scripts by so many seeds, side by side on all processors, for the replica `at` or each plan's first one, with steps
     of so many seconds. After each day `progress` is told the days done and all of them; without it a bar is drawn where standard
-    error is a terminal. Fault: so many days are not run, the plan has no seed, the scripts are of two plans, or one of them is
-    refused, by its name in `names`. Refused: there is no such replica."""
+    error is a terminal. `counted` gives a day's figures in the place of these. Fault: so many days are not run, the plan has no
+    seed, the scripts are of two plans, or one of them is refused, by its name in `names`. Refused: there is no such replica."""
     if days not in DAYS:
         raise Fault(f"days are {DAYS[0]} to {DAYS[-1]:,}, not {days:,}")
     pairs = list(zip(names, (before, after)))
     for name, script in pairs:
         with edited(name, script) as lab:
-            lab.advance(at or script[0]["replicas"][0], 0)  # (what is refused by one seed is so by all)
+            lab.advance(replica(lab, at), 0)  # (what is refused by one seed is so by all)
     same_road(before[0], after[0])
     first, bar = before[0]["words"], Bar("days")
     if not isinstance(first, int):
         raise Fault("the plan has steady words, which are drawn by no seed: all days are one")
     found: list[Day] = []
-    of_plan: str = at or before[0]["replicas"][0]
     with ProcessPoolExecutor(min(days, len(os.sched_getaffinity(0)))) as pool:
-        running = [pool.submit(run_day, pairs, of_plan, (first + one) % SEEDS, seconds) for one in range(days)]
+        running = [pool.submit(run_day, pairs, at, (first + one) % SEEDS, seconds, counted or figures_of) for one in range(days)]
         try:
             for ended in as_completed(running):
                 found.append(day_of(ended.result()))
@@ -81,21 +85,25 @@ def day_of(found: Day | str) -> Day:
     return found
 
 
-def run_day(pairs: list[tuple[str, Script]], at: str, seed: int, seconds: float) -> Day | str:
+def run_day(pairs: list[tuple[str, Script]], at: str | None, seed: int, seconds: float, counted: Counted) -> Day | str:
     """A day, in a process of its own; else what is wrong with it."""
-    labs: list[RoadLab] = []
     try:
-        for name, (plan, *commands) in pairs:
-            labs.append(edited(name, [{**plan, "words": seed}, *commands]))
-        return figures(labs, at, seed, seconds)
+        return counted([(name, [{**plan, "words": seed}, *commands]) for name, (plan, *commands) in pairs], at, seed, seconds)
     except (Fault, Refused, Ended, NoProgram, ValueError, ArithmeticError) as fault:
         return f"seed {seed}: {fault}"
+
+
+def figures_of(pairs: list[tuple[str, Script]], at: str | None, seed: int, seconds: float) -> Day:
+    labs: list[RoadLab] = []
+    try:
+        labs += (edited(name, script) for name, script in pairs)
+        return figures(labs, at, seed, seconds)
     finally:
         for lab in labs:
             lab.close()
 
 
-def figures(labs: list[RoadLab], at: str, seed: int, seconds: float) -> Day:
+def figures(labs: list[RoadLab], at: str | None, seed: int, seconds: float) -> Day:
     runs = journeys(labs, at)
     through = delay(runs[0], runs[1]).through
     found: dict[str, list[float]] = {
@@ -104,7 +112,7 @@ def figures(labs: list[RoadLab], at: str, seed: int, seconds: float) -> Day:
         "cars that came in (fewer: lost demand)": [len(run.last) for run in runs]}
     places: list[list[int]] = [lab.plan["detectors"] for lab in labs]
     for cell in (cell for cell in places[0] if cell in places[1]):
-        found[f"cars at cell {cell}"] = [lab.count(at, of.index(cell), 0, run.horizon).cars
+        found[f"cars at cell {cell}"] = [lab.count(replica(lab, at), of.index(cell), 0, run.horizon).cars
                                          for lab, of, run in zip(labs, places, runs)]
     return Day(seed, *({name: values[which] for name, values in found.items()} for which in (0, 1)))
 

@@ -16,7 +16,7 @@ from __future__ import annotations
 
 from collections import Counter
 from dataclasses import dataclass
-from typing import TYPE_CHECKING, Callable, Iterable, NamedTuple
+from typing import TYPE_CHECKING, Any, Callable, Iterable, NamedTuple
 
 if TYPE_CHECKING:
     from road_lab import RoadLab
@@ -46,6 +46,12 @@ def vehicle_hours(steps: int, seconds: float = 1.0) -> float:
     return steps * seconds / 3_600
 
 
+def meetings(plan: dict[str, Any], first: int, to: int) -> list[int]:
+    """The first and the last row, and so many between them that each car stands in one."""
+    far = plan["length"] - plan["exit"] - max(cell for cell, _ in plan["inlets"])
+    return [*range(first, to, max(far // FASTEST, 1)), to]
+
+
 @dataclass(frozen=True)
 class Journeys:
     """The cars of a run, from a row on: of each number the last row in which it stands, how many cars each row
@@ -70,11 +76,8 @@ class Journeys:
     @classmethod
     def of(cls, lab: RoadLab, at: str, to: int, first: int = 0) -> Journeys:
         """Asks a replica for its rows up to a step, which it has simulated, and for its cars so often that each car is met."""
-        plan = lab.plan
-        far = plan["length"] - plan["exit"] - max(cell for cell, _ in plan["inlets"])
-        steps = [*range(first, to, max(far // FASTEST, 1)), to]
-        return cls.met({step: [car for car, _, _ in lab.command("cars", at, step=step)["cars"]] for step in steps},
-                       lab.diagram(at, first, to))
+        return cls.met({step: [car for car, _, _ in lab.command("cars", at, step=step)["cars"]]
+                        for step in meetings(lab.plan, first, to)}, lab.diagram(at, first, to))
 
     @classmethod
     def met(cls, states: dict[int, list[int]], rows: Iterable[str]) -> Journeys:

@@ -53,7 +53,12 @@ def edited(name: Path | str, script: Script) -> RoadLab:
     return lab
 
 
-def journeys(labs: list[RoadLab], at: str) -> list[Journeys]:
+def replica(lab: RoadLab, at: str | None) -> str:
+    """The replica `at`, or the plan's first one: two scripts may name theirs each as it likes."""
+    return at or lab.plan["replicas"][0]
+
+
+def journeys(labs: list[RoadLab], at: str | None) -> list[Journeys]:
     """Both runs up to the later one's horizon."""
-    horizon = max(lab.advance(at, 0) for lab in labs)
-    return [Journeys.of(lab, at, lab.advance(at, horizon)) for lab in labs]
+    horizon = max(lab.advance(replica(lab, at), 0) for lab in labs)
+    return [Journeys.of(lab, replica(lab, at), lab.advance(replica(lab, at), horizon)) for lab in labs]

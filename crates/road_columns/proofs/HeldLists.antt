@@ -42,7 +42,7 @@ module _ (cell speed number : ℕ → ℕ) where
       )
 
   -- a cell is one of the cars', or none's
-  find : (n c : ℕ) → ((i : ℕ) × (i < n) × (cell i ≡ c)) ⊎ ((i : ℕ) → i < n → cell i ≢ c)
+  pub find : (n c : ℕ) → ((i : ℕ) × (i < n) × (cell i ≡ c)) ⊎ ((i : ℕ) → i < n → cell i ≢ c)
   find zero c = inr (λ i below. absurd (omega arith))
   find (suc m) c = elim (cases_eq (cell m) c) as (λ _. ((i : ℕ) × (i < suc m) × (cell i ≡ c)) ⊎ ((i : ℕ) → i < suc m → cell i ≢ c)) [
     | inl here ↦ inl (m, (omega arith), here)

@@ -44,6 +44,7 @@ pub mod CarsEntered
 pub mod HeldLists
 pub mod HighWords
 pub mod HeldCars
+pub mod RowsMarked
 pub mod ShiftedColumns
 pub mod IntervalStarts
 pub mod StretchSteps

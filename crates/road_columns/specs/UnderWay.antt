@@ -68,14 +68,18 @@ stepped run = record {
 abbrev pub nothing_counted : Plan → List Totals
 nothing_counted p = map (λ d. no_totals) (range_with_len 0 (length p.detectors))
 
--- a run of a plan that begins on its whole road, which is empty
-abbrev pub begun : Plan → Settings → UnderWay
-begun p s = record {
+-- a run of a plan that begins at a step on a road, on the cells from lo to before hi
+abbrev pub begun_on : Plan → Settings → ℕ → ℕ → ℕ → Array → UnderWay
+begun_on p s t lo hi a = record {
   plan = p;
   settings = s;
-  step = 0;
-  lo = 0;
-  hi = p.cells;
-  road = [];
+  step = t;
+  lo = lo;
+  hi = hi;
+  road = a;
   totals = nothing_counted p;
 }
+
+-- one that begins on its whole road, which is empty
+abbrev pub begun : Plan → Settings → UnderWay
+begun p s = begun_on p s 0 0 p.cells []

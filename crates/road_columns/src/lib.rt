@@ -30,6 +30,7 @@ mod motion;
 mod passing;
 mod pieces;
 mod regions;
+mod row_text;
 mod shifting;
 mod starting;
 mod step;

@@ -1,12 +1,14 @@
 //! A run under way, whose road stands in columns.
 
-ghost use Rattle.std.specs.Prelude.{◌≡◌, ◌↔◌, ◌<◌, ◌≤◌, ◌+◌, ◌*◌, ◌^◌, ℕ, [], length, false};
-ghost use Rattle.std.specs.Prelude.{IfOk, OnOk, OnErr, IsFalse, IsTrue};
+ghost use Rattle.std.specs.Prelude.{◌≡◌, ◌↔◌, ◌<◌, ◌≤◌, ◌+◌, ◌*◌, ◌^◌, ℕ, length, false};
+ghost use Rattle.std.specs.Prelude.{IfOk, IfSome, IsSome, OnOk, OnErr, IsFalse, IsTrue};
 ghost use Rattle.std.specs.Arc.{arc_value};
+ghost use Rattle.std.specs.List.{All};
 ghost use Rattle.std.specs.String.{string_bytes};
 ghost use Rattle.road_plan.specs.Plan.{exit_start};
 ghost use Rattle.road_plan.specs.Settings.{Fits};
 ghost use Rattle.road_words.specs.Words.{word};
+ghost use Rattle.road_cells.specs.Cars.{AreRising, array_of};
 ghost use Rattle.road_plan.specs.declared.limits.TheConstants.{GREATEST_HORIZON};
 ghost use Rattle.road_ends.specs.Row.{row_of};
 ghost use Rattle.road_detector.specs.Passes.{no_totals};
@@ -14,7 +16,7 @@ ghost use Rattle.road_columns.specs.Private.Cars.{road_of};
 ghost use Rattle.road_columns.specs.Private.Drawn.{drawn_word};
 ghost use Rattle.road_columns.specs.Private.Entering.{ArePlacesFrom};
 ghost use Rattle.road_columns.specs.Private.Step.{AreCarsInColumn};
-ghost use Rattle.road_columns.specs.UnderWay.{IsAt, IsRunnable, begun, nothing_counted, stepped};
+ghost use Rattle.road_columns.specs.UnderWay.{CanRun, IsAt, IsRunnable, begun, begun_on, nothing_counted, stepped};
 
 use crate::cars::CarColumns;
 use crate::counts::{Counts, clear_counts, totals_now};
@@ -22,11 +24,12 @@ use crate::finding::find_places;
 use crate::holding::{can_hold, hold, is_held, road_held};
 use crate::interval::IntervalWords;
 use crate::layout::{Kept, Layout};
+use crate::row_text::text_of;
 use crate::shifting::FIRST;
 use crate::step::run_step;
 use crate::words::{INTERVAL, Source};
 use road_cells::{Car, GREATEST_SPEED, Road};
-use road_detector::{Totals, row_text};
+use road_detector::Totals;
 use road_ends::{OutOfMemory, Stretch, are_same_settings, is_same_plan};
 use road_plan::{Plan, Settings};
 use std::alloc::Global;
@@ -81,18 +84,68 @@ impl UnderWay {
         requires fits { Fits (arc_value plan) (arc_value settings) }
         ensures { IfOk result (λ run. run ≡ begun (arc_value plan) (arc_value settings)) }
     {
-        let kept = Kept::of(alloc, &plan, &settings)?;
-        let cars = columns_for(alloc, &plan, &kept.sites)?;
-        let words = words_for(alloc, &plan, cars.width())?;
-        let counts = Counts::of(alloc, plan.detectors().len())?;
+        let nobody: [Car; 0] = [];
         let end = plan.length();
+        UnderWay::of_cars(alloc, plan, settings, 0, Stretch { first: 0, end }, &nobody)
+    }
+
+    /// Begins a run of a plan on a road, at a step, on the cells of a stretch, as [`UnderWay::take_up`] goes on from it:
+    /// `None` where that would answer `false`. It takes all memory that its steps need. The settings must fit the plan.
+    ///
+    /// # Errors
+    ///
+    /// `OutOfMemory` where an allocation failed.
+    pub fn begin_on(
+        alloc: Global,
+        plan: Arc<Plan>,
+        settings: Arc<Settings>,
+        step: u32,
+        stretch: Stretch,
+        road: &Road,
+    ) -> Result<Option<UnderWay>, OutOfMemory>
+        requires fits { Fits (arc_value plan) (arc_value settings) }
+        requires up_to { step ≤ GREATEST_HORIZON }
+        requires on_road { stretch.end ≤ (arc_value plan).cells }
+        ensures begun { IfOk result (λ begun. IfSome begun (λ run. run
+            ≡ begun_on (arc_value plan) (arc_value settings) step stretch.first stretch.end road.now)) }
+        ensures runnable { IfOk result (λ begun. IsSome begun
+            ↔ IsRunnable stretch.first stretch.end (arc_value plan) road.now) }
+    {
+        if !is_runnable(&plan, stretch, road) {
+            return Ok(None);
+        }
+        let run = UnderWay::of_cars(alloc, plan, settings, step, stretch, road.cars())?;
+        Ok(Some(run))
+    }
+
+    // Begins a run of a plan with these cars, which it can have.
+    fn of_cars(
+        alloc: Global,
+        plan: Arc<Plan>,
+        settings: Arc<Settings>,
+        step: u32,
+        stretch: Stretch,
+        cars: &[Car],
+    ) -> Result<UnderWay, OutOfMemory>
+        requires fits { Fits (arc_value plan) (arc_value settings) }
+        requires up_to { step ≤ GREATEST_HORIZON }
+        requires on_road { stretch.end ≤ (arc_value plan).cells }
+        requires rise { AreRising cars.now }
+        requires can_run { All (CanRun stretch.first stretch.end (exit_start (arc_value plan))) cars.now }
+        ensures { IfOk result (λ run. run ≡ begun_on (arc_value plan) (arc_value settings) step stretch.first stretch.end
+            (array_of cars.now)) }
+    {
+        let kept = Kept::of(alloc, &plan, &settings)?;
+        let columns = columns_for(alloc, &plan, &kept.sites, cars)?;
+        let words = words_for(alloc, &plan, columns.width())?;
+        let counts = Counts::of(alloc, plan.detectors().len())?;
         Ok(UnderWay {
             plan,
             settings,
-            step: 0,
-            stretch: Stretch { first: 0, end },
+            step,
+            stretch,
             kept,
-            cars,
+            cars: columns,
             words,
             counts,
         })
@@ -116,15 +169,8 @@ impl UnderWay {
         requires fits { Fits self.old.plan (arc_value settings) }
         requires up_to { step ≤ GREATEST_HORIZON }
         requires on_road { stretch.end ≤ self.old.plan.cells }
-        ensures taken { IfOk result (λ taken. IsTrue taken → self.new ≡ record {
-          plan = self.old.plan;
-          settings = arc_value settings;
-          step = step;
-          lo = stretch.first;
-          hi = stretch.end;
-          road = road.now;
-          totals = nothing_counted self.old.plan;
-        }) }
+        ensures taken { IfOk result (λ taken. IsTrue taken → self.new
+            ≡ begun_on self.old.plan (arc_value settings) step stretch.first stretch.end road.now) }
         ensures runnable { IfOk result (λ taken. IsTrue taken
             ↔ IsRunnable stretch.first stretch.end self.old.plan road.now) }
         ensures refused { IfOk result (λ taken. IsFalse taken → self.new ≡ self.old) }
@@ -226,13 +272,12 @@ impl UnderWay {
     ///
     /// # Errors
     ///
-    /// `OutOfMemory` where an allocation failed.
+    /// `OutOfMemory` where its one allocation failed.
     pub fn row(&self, alloc: Global) -> Result<String, OutOfMemory>
         ensures { IfOk result (λ text. string_bytes text
             ≡ row_of self.now.plan.cells self.now.settings.blocks self.now.road) }
     {
-        let road = self.road(alloc)?;
-        row_text(alloc, &road, self.settings.blocks(), self.plan.length())
+        text_of(alloc, &self.plan, self.settings.blocks(), &self.cars)
     }
 
     /// Lists what each detector has counted.
@@ -293,18 +338,26 @@ impl UnderWay {
     }
 }
 
-// Makes columns for all cars before a plan's exit and those that enter in an interval. No car is in them.
-fn columns_for(alloc: Global, plan: &Plan, sites: &[u16]) -> Result<CarColumns, OutOfMemory>
-    ensures cells { IfOk result (λ cars. length cars.cells.items
+// Makes columns for all cars before a plan's exit and those that enter in an interval. These cars are in them.
+fn columns_for(
+    alloc: Global,
+    plan: &Plan,
+    sites: &[u16],
+    cars: &[Car],
+) -> Result<CarColumns, OutOfMemory>
+    requires rise { AreRising cars.now }
+    requires before_exit { All (λ car. car.cell < exit_start plan.now) cars.now }
+    requires short_numbers { All (λ car. car.number < 2 ^ 32) cars.now }
+    ensures cells { IfOk result (λ columns. length columns.cells.items
         ≡ exit_start plan.now + 64 * length plan.now.inlets + 9) }
-    ensures short { IfOk result (λ cars. length cars.cells.items < 65520) }
-    ensures speeds { IfOk result (λ cars. length cars.speeds.items ≡ length cars.cells.items) }
-    ensures numbers { IfOk result (λ cars. length cars.numbers.items ≡ length cars.cells.items) }
-    ensures head { IfOk result (λ cars. cars.head ≡ FIRST) }
-    ensures cars { IfOk result (λ cars. AreCarsInColumn plan.now cars.head cars.tail cars.cells.items) }
-    ensures places { IfOk result (λ cars. ArePlacesFrom cars.cells.items cars.head cars.tail sites.now
-        cars.places.items) }
-    ensures road { IfOk result (λ cars. road_of cars ≡ []) }
+    ensures short { IfOk result (λ columns. length columns.cells.items < 65520) }
+    ensures speeds { IfOk result (λ columns. length columns.speeds.items ≡ length columns.cells.items) }
+    ensures numbers { IfOk result (λ columns. length columns.numbers.items ≡ length columns.cells.items) }
+    ensures head { IfOk result (λ columns. columns.head ≡ FIRST) }
+    ensures cars { IfOk result (λ columns. AreCarsInColumn plan.now columns.head columns.tail columns.cells.items) }
+    ensures places { IfOk result (λ columns. ArePlacesFrom columns.cells.items columns.head columns.tail sites.now
+        columns.places.items) }
+    ensures road { IfOk result (λ columns. road_of columns ≡ array_of cars.now) }
 {
     let length = (plan.length() - plan.exit()) as usize
         + INTERVAL * plan.inlets().len()
@@ -314,8 +367,7 @@ fn columns_for(alloc: Global, plan: &Plan, sites: &[u16]) -> Result<CarColumns, 
     let mut speeds = vec![in alloc; 0u8; length]?;
     let mut numbers = vec![in alloc; 0u32; length]?;
     let mut places = vec![in alloc; 0u32; sites.len()]?;
-    let nobody: [Car; 0] = [];
-    let tail = hold(&nobody, &mut cells, &mut speeds, &mut numbers);
+    let tail = hold(cars, &mut cells, &mut speeds, &mut numbers);
     find_places(&cells, FIRST, tail, sites, &mut places);
     Ok(CarColumns {
         cells,

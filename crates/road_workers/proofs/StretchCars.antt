@@ -1,21 +1,23 @@
 -- The cars of a stretch: they depend on the cells near it alone, and stretches side by side are the road.
-use Rattle.std.specs.Prelude.{◌≡◌, ℕ, zero, suc, ◌+◌, ◌-◌, ◌<◌, ◌≤◌, ◌&&◌, Bool, true, false, if◌then◌else◌, List, [], ◌∷◌, map, nat_le, nat_lt, slice_index, refl}
+use Rattle.std.specs.Prelude.{◌≡◌, ℕ, zero, suc, ◌+◌, ◌-◌, ◌<◌, ◌≤◌, ◌&&◌, Bool, true, false, if◌then◌else◌, List, [], ◌∷◌, drop, map, nat_le, nat_lt, slice_index, take, refl}
 use Rattle.std.specs.List.{range_with_len}
 use Rattle.std.specs.declared.option.Option.{Option}
 use Rattle.std.proofs.Common.{sym, ap, subst, ◌∙◌, arith}
 use Rattle.std.proofs.lemmas.Bool.Decides.{nat_tests}
 use Rattle.road_cells.specs.Array.{Array, Vehicle, vehicle_at}
-use Rattle.road_cells.specs.Cars.{AreRising, AreRisingFrom, array_of, cars_from, vehicle_among}
+use Rattle.road_cells.specs.Cars.{AreRising, AreRisingFrom, array_of, cars_before, cars_from, cars_of, vehicle_among}
 use Rattle.road_cells.specs.declared.car.Car.{Car}
 use Rattle.road_cells.proofs.CarLists.{vehicle_at-array_of, vehicle_among-cars_from, rise-cars_from}
+use Rattle.road_cells.proofs.CarsBefore.{before-none}
+use Rattle.road_cells.proofs.CarsBetween.{found_between}
 use Rattle.road_ends.specs.Laws.{AgreeBetween, AgreeNear}
 use Rattle.road_ends.specs.Span.{Span, span_road}
 use Rattle.road_ends.proofs.CellsNearby.{depend_on_cells_nearby}
 use Rattle.road_detector.specs.Passes.{no_totals, total_from}
 use Rattle.road_detector.specs.declared.counts.Totals.{Totals}
+use Rattle.road_detector.specs.declared.ran.Ran.{Ran}
 use Rattle.road_detector.proofs.TotalsFrom.{total-nearby}
 use Rattle.road_workers.specs.Private.Stretches.{cars_between, has_site, AreTotalsOn, IsRunOf}
-use Rattle.road_workers.specs.declared.stretch.StretchRun.{StretchRun}
 
 -- what a function gives at n numbers from a on
 place : (f : ℕ → Option Vehicle) (n a j : ℕ) → j < n → vehicle_at (map f (range_with_len a n)) j ≡ f (a + j)
@@ -48,6 +50,15 @@ same_places f g (suc n) a same = λ i. same a (omega arith) (omega arith) i ∷ 
 pub same_cars : (lo hi : ℕ) (x y : Array) → lo ≤ hi → AgreeBetween lo hi x y → cars_between lo hi x ≡ cars_between lo hi y
 same_cars lo hi x y order agree = ap (cars_from lo) (same_places (vehicle_at x) (vehicle_at y) (hi - lo) lo (λ c le lt. agree.same c le (omega arith)))
 
+-- the cars before a cell are those between the first cell and it
+pub first_cars : (a : Array) (end : ℕ) → take (cars_before end (cars_of a)) (cars_of a) ≡ cars_between 0 end a
+first_cars a end =
+    let none = before-none 0 0 (cars_of a) (omega arith) (rise-cars_from 0 a) in
+    let all : cars_before end (cars_of a) ≡ cars_before end (cars_of a) - 0 = omega arith in
+    ap (λ n. take n (cars_of a)) all
+    ∙ (λ i. take (cars_before end (cars_of a) - sym none i) (drop (sym none i) (cars_of a)))
+    ∙ found_between a 0 end (omega arith)
+
 -- what is near a stretch gives its cars after the steps of a span
 pub stretch_cars : (lo hi : ℕ) (span : Span) (near a : Array) → lo ≤ hi → AgreeNear span.steps lo hi near a
     → cars_between lo hi (span_road span near) ≡ cars_between lo hi (span_road span a)
@@ -74,9 +85,9 @@ stretch_totals lo hi span near a totals agree are = record {
     by d false is = refl
 
 -- so a stretch that was run from what is near it was run
-pub run-nearby : (lo hi : ℕ) (span : Span) (near a : Array) (done : StretchRun) → lo ≤ hi → AgreeNear span.steps lo hi near a
-    → IsRunOf lo hi span near done → IsRunOf lo hi span a done
-run-nearby lo hi span near a done order agree run = record {
+pub run-nearby : (lo hi : ℕ) (span : Span) (near a : Array) (ran : Ran) → lo ≤ hi → AgreeNear span.steps lo hi near a
+    → IsRunOf lo hi span near ran → IsRunOf lo hi span a ran
+run-nearby lo hi span near a ran order agree run = record {
   cars = run.cars ∙ stretch_cars lo hi span near a order agree;
-  totals = stretch_totals lo hi span near a done.totals.items agree run.totals;
+  totals = stretch_totals lo hi span near a ran.totals.items agree run.totals;
 }

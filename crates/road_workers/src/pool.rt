@@ -25,10 +25,11 @@ use crate::faults::CrewFault;
 use crate::gate::{Gate, NoGate};
 use crate::kept_run::KeptRun;
 use crate::pool::job::{Job, Reply};
+use crate::pool::messages::Inbox;
 use crate::pool::spin::{Lookout, processors_of};
 use crate::pool::stepping::speeds_by;
 use crate::pool::working::{Ends, work};
-use crossbeam_channel::{Receiver, Sender, bounded};
+use crossbeam_channel::{Sender, bounded};
 use road_cells::Road;
 use road_detector::Ran;
 use road_ends::{OutOfMemory, Span, StepInput};
@@ -54,9 +55,7 @@ pub struct Pool<R> {
     rt: R,
     workers: Vec<Worker>,
     // It has room for a reply of each worker.
-    replies: Receiver<Reply>,
-    // How the caller looks for a reply before it sleeps.
-    lookout: Lookout,
+    inbox: Inbox,
     // How many processors its threads have.
     processors: u32,
     // How often it has answered `WorkersGone`. After the first time no worker is asked.
@@ -131,18 +130,25 @@ impl<R: Threads + Wait + Clone + Drop + Send + 'static> Pool<R> {
     {
         let mut started = Vec::with_capacity(alloc, workers as usize)?;
         let (reply, replies) = bounded(alloc, workers as usize)?;
-        let lookout = Lookout::of(workers, processors);
-        let all = start_workers(&rt, alloc, workers, lookout, &gate, &reply, &mut started);
-        drop(reply);
+        let inbox = Inbox {
+            replies,
+            lookout: Lookout::of(workers + 1, processors),
+        };
+        let outfit = Outfit {
+            gate,
+            replies: reply,
+            lookout: Lookout::of(workers, processors),
+        };
+        let all = start_workers(&rt, alloc, workers, &outfit, &mut started);
+        drop(outfit);
         if let Err(fault) = all {
-            finish_workers(&rt, replies, started);
+            finish_workers(&rt, inbox, started);
             return Err(fault);
         }
         Ok(Pool {
             rt,
             workers: started,
-            replies,
-            lookout: Lookout::of(workers + 1, processors),
+            inbox,
             processors,
             gone: 0,
         })
@@ -153,10 +159,10 @@ impl<R: Threads + Wait + Clone + Drop + Send + 'static> Pool<R> {
         let Pool {
             rt,
             workers,
-            replies,
+            inbox,
             ..
         } = self;
-        finish_workers(&rt, replies, workers);
+        finish_workers(&rt, inbox, workers);
     }
 }
 
@@ -178,8 +184,7 @@ impl<R: Wait> Crew for Pool<R> {
                 alloc,
                 input,
                 self.workers.as_slice(),
-                &self.replies,
-                &mut self.lookout,
+                &mut self.inbox,
             )
         };
         self.gone = gone_after(&answer, self.gone);
@@ -216,7 +221,16 @@ fn no_gate(alloc: Global) -> Result<Arc<NoGate>, OutOfMemory> {
     Ok(Arc::new(alloc, NoGate)?)
 }
 
-// Starts the workers in their order, up to the first that cannot be started. Each looks for a job before it sleeps.
+// What each worker is given when it starts: the gate that it passes, its end of the channel of replies, and how it
+// looks for a job before it sleeps.
+#[derive(Drop)]
+struct Outfit<G> {
+    gate: Arc<G>,
+    replies: Sender<Reply>,
+    lookout: Lookout,
+}
+
+// Starts the workers in their order, up to the first that cannot be started.
 fn start_workers<
     R: Threads + Wait + Clone + Drop + Send + 'static,
     G: Gate + Drop + Send + Sync + 'static,
@@ -224,16 +238,14 @@ fn start_workers<
     rt: &R,
     alloc: Global,
     workers: u32,
-    lookout: Lookout,
-    gate: &Arc<G>,
-    replies: &Sender<Reply>,
+    outfit: &Outfit<G>,
     started: &mut Vec<Worker>,
 ) -> Result<(), CrewFault>
     requires { vec_len started.old ≡ 0 }
     ensures { IsOk result → vec_len started.new ≡ workers }
 {
     for worker in 0..workers {
-        let new = start_worker(rt, alloc, worker, lookout, gate, replies)?;
+        let new = start_worker(rt, alloc, worker, outfit)?;
         if started.push(new).is_err() {
             return Err(CrewFault::OutOfMemory);
         }
@@ -241,25 +253,18 @@ fn start_workers<
     Ok(())
 }
 
-// Starts a worker, which looks for a job before it sleeps.
+// Starts a worker.
 fn start_worker<
     R: Threads + Wait + Clone + Drop + Send + 'static,
     G: Gate + Drop + Send + Sync + 'static,
->(
-    rt: &R,
-    alloc: Global,
-    worker: u32,
-    lookout: Lookout,
-    gate: &Arc<G>,
-    replies: &Sender<Reply>,
-) -> Result<Worker, CrewFault> {
+>(rt: &R, alloc: Global, worker: u32, outfit: &Outfit<G>) -> Result<Worker, CrewFault> {
     let (jobs, their_jobs) = bounded(alloc, 1)?;
     let ends = Ends {
         jobs: their_jobs,
-        replies: replies.clone()?,
-        lookout,
+        replies: outfit.replies.clone()?,
+        lookout: outfit.lookout,
     };
-    let gate = Arc::try_clone(gate)?;
+    let gate = Arc::try_clone(&outfit.gate)?;
     let their_rt = rt.clone()?;
     let started = thread::spawn(rt, move || work(&their_rt, alloc, worker, &*gate, &ends));
     match started {
@@ -270,8 +275,8 @@ fn start_worker<
 
 // Closes the workers' channels, and joins their threads. That of replies is closed first, so that none waits for room
 // for its last word.
-fn finish_workers<R: Threads>(rt: &R, replies: Receiver<Reply>, workers: Vec<Worker>) {
-    drop(replies);
+fn finish_workers<R: Threads>(rt: &R, inbox: Inbox, workers: Vec<Worker>) {
+    drop(inbox);
     for worker in workers {
         let Worker { jobs, thread } = worker;
         drop(jobs);

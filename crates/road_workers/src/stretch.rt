@@ -1,12 +1,13 @@
 //! Stretches of road, each of which is run alone for the steps of a span: no car drives farther in a step than 9 cells,
 //! nor looks farther.
 
-ghost use Rattle.std.specs.Prelude.{◌≡◌, ◌<◌, ◌≤◌, ◌+◌, ◌-◌, ◌*◌, length, min, IfOk, IsTrue};
+ghost use Rattle.std.specs.Prelude.{◌≡◌, ◌<◌, ◌≤◌, ◌+◌, ◌-◌, ◌*◌, length, min, IfOk, IfSome, IsSome, IsTrue};
 ghost use Rattle.road_plan.specs.declared.limits.TheConstants.{GREATEST_HORIZON, GREATEST_LENGTH};
 ghost use Rattle.road_cells.specs.Cars.{cars_of, cell_at};
 ghost use Rattle.road_cells.specs.declared.car.TheConstants.{GREATEST_SPEED};
 ghost use Rattle.road_ends.specs.Laws.{AgreeNear};
 ghost use Rattle.road_columns.specs.UnderWay.{IsRunnable};
+ghost use Rattle.road_workers.specs.Private.RunsUnderWay.{IsReady};
 ghost use Rattle.road_workers.specs.Private.Stretches.{IsRunnableNear, IsRunOf, cars_between, cut, has_site};
 
 pub(crate) mod cutting;
@@ -14,20 +15,13 @@ pub(crate) mod joining;
 
 use crate::kept_run::KeptRun;
 use crate::stretch::cutting::cut_out;
-use crate::whole::{is_taken_up, make_steps, run_of};
+use crate::whole::{begun_on, is_taken_up, kept_of, make_steps};
 use road_cells::{Car, GREATEST_SPEED, Road};
-use road_detector::Totals;
+use road_columns::UnderWay;
+use road_detector::Ran;
 use road_ends::{OutOfMemory, Span, Stretch, are_same_cars};
 use road_plan::Plan;
 use std::alloc::Global;
-
-// What the steps of a span come to on a stretch: its cars after them, and what each detector has counted, those outside
-// it nothing.
-#[derive(Drop)]
-pub(crate) struct StretchRun {
-    pub cars: Vec<Car>,
-    pub totals: Vec<Totals>,
-}
 
 // Returns the stretch at a place of so many side by side, of a road of so many cells: they have about as many cars each.
 pub(crate) fn stretch_at(road: &Road, cells: u32, count: u32, place: u32) -> Stretch
@@ -53,18 +47,18 @@ pub(crate) fn has_site(stretch: Stretch, plan: &Plan, detector: usize) -> bool
 }
 
 // Runs a stretch for all steps of a span, from the cars on it, and for each step 9 cells farther behind it and ahead, in
-// a run that is kept.
+// a run that is kept. The road that it gives is right on the stretch, and its detectors elsewhere have counted nothing.
 pub(crate) fn run_stretch(
     alloc: Global,
     span: &Span,
     road: &Road,
     stretch: Stretch,
     kept: &mut KeptRun,
-) -> Result<StretchRun, OutOfMemory>
+) -> Result<Ran, OutOfMemory>
     requires order { stretch.first ≤ stretch.end }
     requires short { stretch.end ≤ GREATEST_LENGTH }
     requires runnable { IsRunnable 0 span.now.plan.cells span.now.plan road.now }
-    ensures { IfOk result (λ done. IsRunOf stretch.first stretch.end span.now road.now done) }
+    ensures { IfOk result (λ ran. IsRunOf stretch.first stretch.end span.now road.now ran) }
 {
     let near = road_near(alloc, span, road, stretch)?;
     let run = run_near(alloc, span, &near, stretch, kept)?;
@@ -78,20 +72,43 @@ pub(crate) fn run_near(
     near: &Road,
     stretch: Stretch,
     kept: &mut KeptRun,
-) -> Result<StretchRun, OutOfMemory>
+) -> Result<Ran, OutOfMemory>
     requires order { stretch.first ≤ stretch.end }
     requires short { stretch.end ≤ GREATEST_LENGTH }
     requires runnable { IsRunnableNear stretch.first stretch.end span.now near.now }
-    ensures { IfOk result (λ done. IsRunOf stretch.first stretch.end span.now near.now done) }
+    ensures { IfOk result (λ ran. IsRunOf stretch.first stretch.end span.now near.now ran) }
 {
-    let mut run = run_of(alloc, span, kept.run.take())?;
-    if !is_taken_up(alloc, span, with_margins(span, stretch), near, &mut run)? {
+    let kept_run = kept_of(span, kept.run.take());
+    let Some(mut run) = run_on(alloc, span, with_margins(span, stretch), near, kept_run)? else {
         unreachable!();
-    }
+    };
     make_steps(span, &mut run);
-    let done = cut_out(alloc, span, near, stretch, &run)?;
+    let ran = cut_out(alloc, span, near, stretch, &run)?;
     kept.run = Some(run);
-    Ok(done)
+    Ok(ran)
+}
+
+// Returns a run that stands before the steps of a span on the cells of a stretch, under its settings: this one of its
+// plan takes the road up there, or else a new one begins. None where it cannot have a car of the road.
+fn run_on(
+    alloc: Global,
+    span: &Span,
+    stretch: Stretch,
+    near: &Road,
+    kept: Option<UnderWay>,
+) -> Result<Option<UnderWay>, OutOfMemory>
+    requires plan { IfSome kept (λ run. run.plan ≡ span.now.plan) }
+    requires on_road { stretch.end ≤ span.now.plan.cells }
+    ensures ready { IfOk result (λ run. IfSome run (IsReady stretch.first stretch.end span.now near.now)) }
+    ensures some { IfOk result (λ run. IsRunnable stretch.first stretch.end span.now.plan near.now → IsSome run) }
+{
+    let Some(mut run) = kept else {
+        return begun_on(alloc, span, stretch, near);
+    };
+    if !is_taken_up(alloc, span, stretch, near, &mut run)? {
+        return Ok(None);
+    }
+    Ok(Some(run))
 }
 
 // Returns a stretch with the cells behind it and ahead that may matter there in the steps of a span, as far as the road

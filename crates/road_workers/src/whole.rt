@@ -1,6 +1,6 @@
 //! A span of the whole road, run by one thread alone.
 
-ghost use Rattle.std.specs.Prelude.{◌≡◌, ◌+◌, ◌≤◌, IfOk, IfSome, IsSome, IsSomeAnd, IsTrue, Ok, OnOk};
+ghost use Rattle.std.specs.Prelude.{◌≡◌, ◌+◌, ◌≤◌, IfOk, IfSome, IsSome, IsSomeAnd, IsTrue, OnOk, Some};
 ghost use Rattle.std.specs.Arc.{arc_value};
 ghost use Rattle.road_plan.specs.Plan.{Plan};
 ghost use Rattle.road_plan.specs.declared.limits.TheConstants.{GREATEST_HORIZON};
@@ -36,32 +36,64 @@ pub(crate) fn run_alone(
     if span.steps() == 0 {
         return Ok(None);
     }
-    let mut run = run_of(alloc, span, kept.run.take())?;
-    if !is_ready(alloc, span, road, &mut run)? {
+    let kept_run = kept_of(span, kept.run.take());
+    let Some(mut run) = ready_run(alloc, span, road, kept_run)? else {
         return Ok(None);
-    }
+    };
     let ran = ran_on(alloc, span, road, &mut run)?;
     kept.run = Some(run);
     Ok(Some(ran))
 }
 
-// Returns a run of a span's plan: the one that is kept, where it is of it.
-pub(crate) fn run_of(
-    alloc: Global,
-    span: &Span,
-    kept: Option<UnderWay>,
-) -> Result<UnderWay, OutOfMemory>
-    ensures plan { IfOk result (λ run. run.plan ≡ span.now.plan) }
-    ensures goes_on { IfSome kept (λ run. run.plan ≡ span.now.plan → result ≡ Ok run) }
+// Returns the run that is kept, where it is of a span's plan.
+pub(crate) fn kept_of(span: &Span, kept: Option<UnderWay>) -> Option<UnderWay>
+    ensures plan { IfSome result (λ run. run.plan ≡ span.now.plan) }
+    ensures goes_on { IfSome kept (λ run. run.plan ≡ span.now.plan → result ≡ Some run) }
 {
     match kept {
-        Some(run) if run.is_of(span.plan()) => Ok(run),
-        _ => {
-            let plan = Arc::try_clone(span.plan())?;
-            let settings = Arc::try_clone(span.settings())?;
-            UnderWay::new(alloc, plan, settings)
-        }
+        Some(run) if run.is_of(span.plan()) => Some(run),
+        _ => None,
     }
+}
+
+// Returns a run that stands before the steps of a span on the whole road, under its settings: this one of its plan, or
+// else a new one. None where it cannot have a car of the road.
+fn ready_run(
+    alloc: Global,
+    span: &Span,
+    road: &Road,
+    kept: Option<UnderWay>,
+) -> Result<Option<UnderWay>, OutOfMemory>
+    requires { IfSome kept (λ run. run.plan ≡ span.now.plan) }
+    ensures ready { IfOk result (λ run. IfSome run (IsReady 0 span.now.plan.cells span.now road.now)) }
+    ensures some { IfOk result (λ run. IsRunnable 0 span.now.plan.cells span.now.plan road.now → IsSome run) }
+{
+    let Some(mut run) = kept else {
+        let end = span.plan().length();
+        return begun_on(alloc, span, Stretch { first: 0, end }, road);
+    };
+    if !is_ready(alloc, span, road, &mut run)? {
+        return Ok(None);
+    }
+    Ok(Some(run))
+}
+
+// Begins a run on the cells of a stretch, before the steps of a span and under its settings. None where it cannot have a
+// car of the road.
+pub(crate) fn begun_on(
+    alloc: Global,
+    span: &Span,
+    stretch: Stretch,
+    road: &Road,
+) -> Result<Option<UnderWay>, OutOfMemory>
+    requires { stretch.end ≤ span.now.plan.cells }
+    ensures ready { IfOk result (λ run. IfSome run (IsReady stretch.first stretch.end span.now road.now)) }
+    ensures some { IfOk result (λ run. IsRunnable stretch.first stretch.end span.now.plan road.now → IsSome run) }
+{
+    prove!(span.steps() <= GREATEST_HORIZON);
+    let plan = Arc::try_clone(span.plan())?;
+    let settings = Arc::try_clone(span.settings())?;
+    UnderWay::begin_on(alloc, plan, settings, span.step(), stretch, road)
 }
 
 // Makes a run stand before the steps of a span, under its settings: where it does not go on, it takes the road up.

@@ -9,9 +9,9 @@ use Rattle.road_cells.specs.Array.{Array}
 use Rattle.road_cells.specs.Cars.{cars_of}
 use Rattle.road_ends.specs.Input.{StepInput}
 use Rattle.road_ends.specs.Span.{Span}
+use Rattle.road_detector.specs.declared.ran.Ran.{Ran}
 use Rattle.road_workers.specs.Private.Pieces.{speeds_of_worker}
 use Rattle.road_workers.specs.Private.Stretches.{IsRunOf, cut}
-use Rattle.road_workers.specs.declared.stretch.StretchRun.{StretchRun}
 
 -- no worker has answered yet
 abbrev pub AreMissing : {A : Type 0} → List (Option A) → Type 0
@@ -47,7 +47,7 @@ AreGathered input places = AreRight (IsAnswerOf input (length places)) places
 
 -- what a worker answered: what its stretch comes to, or out of memory
 abbrev pub StretchAnswer : Type 0
-StretchAnswer = Result StretchRun AllocError
+StretchAnswer = Result Ran AllocError
 
 -- it is what the stretch at place w of n comes to, where there is something
 abbrev pub IsRunAt : Span → Array → ℕ → ℕ → StretchAnswer → Type 0

@@ -13,8 +13,9 @@ use Rattle.road_ends.specs.Run.{road_after_steps}
 use Rattle.road_ends.specs.Span.{Span, span_road}
 use Rattle.road_detector.specs.Passes.{no_totals, passes_at, total_from}
 use Rattle.road_detector.specs.declared.counts.Totals.{Totals}
+use Rattle.road_detector.specs.declared.ran.Ran.{Ran}
 use Rattle.road_columns.specs.UnderWay.{IsRunnable}
-use Rattle.road_workers.specs.declared.stretch.StretchRun.{StretchRun}
+use Rattle.road_workers.specs.declared.stretch.joining.Joined.{Joined}
 
 -- the cars of an array at the cells from lo to before hi
 abbrev pub cars_between : ℕ → ℕ → Array → List Car
@@ -42,10 +43,15 @@ pub record AreTotalsOn (lo hi : ℕ) (span : Span) (k : ℕ) (a : Array) (totals
   pub each : length totals ≡ length span.plan.detectors
   pub counted : (d : ℕ) → d < length totals → slice_index_or totals d no_totals ≡ total_on lo hi span k a d
 
--- a stretch was run: its cars are those of the road after the span, and its detectors have counted all of it
-pub record IsRunOf (lo hi : ℕ) (span : Span) (a : Array) (done : StretchRun) : Type 0 where
-  pub cars : done.cars.items ≡ cars_between lo hi (span_road span a)
-  pub totals : AreTotalsOn lo hi span span.steps a done.totals.items
+-- a stretch was run: on it stand the cars of the road after the span, and its detectors have counted all of it
+pub record IsRunOf (lo hi : ℕ) (span : Span) (a : Array) (ran : Ran) : Type 0 where
+  pub cars : cars_between lo hi ran.road ≡ cars_between lo hi (span_road span a)
+  pub totals : AreTotalsOn lo hi span span.steps a ran.totals.items
+
+-- stretches side by side were run, from the first cell to before hi: their cars, and what their detectors have counted
+pub record IsJoined (hi : ℕ) (span : Span) (a : Array) (joined : Joined) : Type 0 where
+  pub cars : joined.cars.items ≡ cars_between 0 hi (span_road span a)
+  pub totals : AreTotalsOn 0 hi span span.steps a joined.totals.items
 
 -- a run can have the cars near a stretch: up to 9 cells behind it and ahead for each step of a span
 abbrev pub IsRunnableNear : ℕ → ℕ → Span → Array → Type 0

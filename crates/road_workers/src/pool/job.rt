@@ -10,8 +10,9 @@ ghost use Rattle.road_workers.specs.Private.Stretches.{IsRunnableNear, IsRunOf};
 
 use crate::kept_run::KeptRun;
 use crate::piece::{Piece, PieceAnswer};
-use crate::stretch::{StretchRun, run_near};
+use crate::stretch::run_near;
 use road_cells::Road;
+use road_detector::Ran;
 use road_ends::{OutOfMemory, Span, StepInput, Stretch};
 use std::alloc::Global;
 use std::sync::Arc;
@@ -69,8 +70,8 @@ pub(crate) struct StretchJob {
     ghost runnable: { IsRunnableNear stretch.first stretch.end span near } by { Prim.hlevel props },
 }
 
-// What a stretch comes to, or out of memory.
-pub(crate) type StretchAnswer = Result<StretchRun, OutOfMemory>;
+// What a stretch comes to, with the cars of its margins, or out of memory.
+pub(crate) type StretchAnswer = Result<Ran, OutOfMemory>;
 
 // A stretch, from the road of the cars near it, with what a worker answered: what it comes to by the definition, or out
 // of memory.
@@ -80,7 +81,7 @@ pub(crate) struct StretchDone {
     pub near: Road,
     pub stretch: Stretch,
     pub answer: StretchAnswer,
-    ghost right: { IfOk answer (λ run. IsRunOf stretch.first stretch.end span near run) } by { Prim.hlevel props },
+    ghost right: { IfOk answer (λ ran. IsRunOf stretch.first stretch.end span near ran) } by { Prim.hlevel props },
 }
 
 impl Job {

@@ -14,6 +14,14 @@ use crate::pool::spin::Lookout;
 use crossbeam_channel::{Receiver, RecvError, SendError};
 use std::sync::Wait;
 
+// Where the caller of a pool waits for its workers: its end of the channel of replies, and how it looks for a reply
+// before it sleeps.
+#[derive(Drop)]
+pub(super) struct Inbox {
+    pub replies: Receiver<Reply>,
+    pub lookout: Lookout,
+}
+
 // Returns why a job was not sent, where it was not: its worker has gone, or there was no memory for it.
 pub(super) fn sent(given: Result<(), SendError<Job>>) -> Result<(), CrewFault>
     ensures sent { given ≡ Ok tt → result ≡ Ok tt }
@@ -29,15 +37,11 @@ pub(super) fn sent(given: Result<(), SendError<Job>>) -> Result<(), CrewFault>
 
 // Waits until a worker says what its job came to. Where one says in its place that it has gone, or all have gone, that is
 // the answer.
-pub(super) fn next_done<R: Wait>(
-    rt: &R,
-    replies: &Receiver<Reply>,
-    lookout: &mut Lookout,
-) -> Result<Done, CrewFault>
+pub(super) fn next_done<R: Wait>(rt: &R, inbox: &mut Inbox) -> Result<Done, CrewFault>
     ensures { IfErr result (λ fault. fault ≡ Fault.WorkersGone) }
 {
-    lookout.spin_for_message(replies);
-    told(replies.recv(rt))
+    inbox.lookout.spin_for_message(&inbox.replies);
+    told(inbox.replies.recv(rt))
 }
 
 // Returns what was said, where something was.

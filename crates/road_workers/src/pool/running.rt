@@ -8,25 +8,24 @@ ghost use Rattle.road_detector.specs.Passes.{span_totals};
 ghost use Rattle.road_columns.specs.UnderWay.{IsRunnable};
 ghost use Rattle.road_workers.specs.Crews.{CanBeRun};
 ghost use Rattle.road_workers.specs.Private.Gathered.{AreRun, AreThere};
-ghost use Rattle.road_workers.specs.Private.Stretches.{IsRunOf, cut};
+ghost use Rattle.road_workers.specs.Private.Stretches.{IsJoined, cut};
 
 use crate::faults::CrewFault;
 use crate::kept_run::KeptRun;
-use crate::pool::job::{Done, Job, Reply, StretchAnswer, StretchJob};
-use crate::pool::messages::{next_done, sent};
+use crate::pool::job::{Done, Job, StretchAnswer, StretchJob};
+use crate::pool::messages::{Inbox, next_done, sent};
 use crate::pool::places::{are_there, places_for};
 use crate::pool::sharing::{Shares, is_shared};
 use crate::pool::side_by_side::{is_run_taken, put_side_by_side};
-use crate::pool::spin::Lookout;
 use crate::pool::{Pool, Worker};
-use crate::stretch::joining::{nothing_run, ran_of};
-use crate::stretch::{StretchRun, road_near, run_stretch, stretch_at};
+use crate::stretch::joining::{Joined, first_joined, nothing_joined, ran_of};
+use crate::stretch::{road_near, run_stretch, stretch_at};
 use crate::whole::run_alone;
-use crossbeam_channel::{Receiver, Sender};
+use crossbeam_channel::Sender;
 use road_cells::Road;
 use road_columns::is_runnable;
 use road_detector::Ran;
-use road_ends::{Span, Stretch};
+use road_ends::{OutOfMemory, Span, Stretch};
 use std::alloc::Global;
 use std::sync::Wait;
 
@@ -61,8 +60,8 @@ impl<R: Wait> Pool<R> {
             return Ok(None);
         }
         let shares = Shares { span, road, own };
-        let run = self.run_side_by_side(alloc, shares, kept)?;
-        Ok(Some(ran_of(span, road, cells, run)))
+        let joined = self.run_side_by_side(alloc, shares, kept)?;
+        Ok(Some(ran_of(span, road, cells, joined)))
     }
 
     // Runs a span by the stretches of all workers, and the caller's own.
@@ -72,27 +71,20 @@ impl<R: Wait> Pool<R> {
         alloc: Global,
         shares: Shares,
         kept: &mut KeptRun,
-    ) -> Result<StretchRun, CrewFault>
+    ) -> Result<Joined, CrewFault>
         requires own { shares.own ≤ 1 }
         requires runnable { IsRunnable 0 shares.span.now.plan.cells shares.span.now.plan shares.road.now }
-        ensures run { IfOk result
-            (IsRunOf 0 shares.entry.span.now.plan.cells shares.entry.span.now shares.entry.road.now) }
+        ensures joined { IfOk result
+            (IsJoined shares.entry.span.now.plan.cells shares.entry.span.now shares.entry.road.now) }
         ensures unchanged { self.new ≡ self.old }
     {
         let workers = self.workers.as_slice();
         let mut places = places_for(alloc, workers.len() as u32)?;
         let (jobs, all) = send_stretches(&self.rt, alloc, shares, workers);
         let front = own_run(alloc, shares, workers.len() as u32, kept);
-        take_stretches(
-            &self.rt,
-            &self.replies,
-            &mut self.lookout,
-            &mut places,
-            jobs,
-            shares,
-        )?;
+        take_stretches(&self.rt, &mut self.inbox, &mut places, jobs, shares)?;
         all?;
-        Ok(put_side_by_side(shares, front, places)?)
+        Ok(put_side_by_side(shares, front?, places)?)
     }
 }
 
@@ -139,27 +131,32 @@ fn send_stretch<R: Wait>(
 
 // Runs the caller's stretch, in front of those of so many workers, in the run that is lent to it. Where it has none, that
 // is nothing.
-fn own_run(alloc: Global, shares: Shares, workers: u32, kept: &mut KeptRun) -> StretchAnswer
+fn own_run(
+    alloc: Global,
+    shares: Shares,
+    workers: u32,
+    kept: &mut KeptRun,
+) -> Result<Joined, OutOfMemory>
     requires own { shares.own ≤ 1 }
     requires some { 0 < workers }
     requires few { workers ≤ MOST_WORKERS }
     requires runnable { IsRunnable 0 shares.span.now.plan.cells shares.span.now.plan shares.road.now }
-    ensures { IfOk result (IsRunOf 0 (cut shares.entry.span.now.plan.cells (cars_of shares.entry.road.now)
+    ensures { IfOk result (IsJoined (cut shares.entry.span.now.plan.cells (cars_of shares.entry.road.now)
         (shares.entry.own + workers) shares.entry.own) shares.entry.span.now shares.entry.road.now) }
 {
     let Shares { span, road, own } = shares;
     if own == 0 {
-        return nothing_run(alloc, span);
+        return nothing_joined(alloc, span);
     }
     let first = stretch_at(road, span.plan().length(), own + workers, 0);
-    run_stretch(alloc, span, road, first, kept)
+    let ran = run_stretch(alloc, span, road, first, kept)?;
+    Ok(first_joined(ran, first.end))
 }
 
 // Takes what so many workers, from the first on, answer for this span. What comes twice or from elsewhere is dropped.
 fn take_stretches<R: Wait>(
     rt: &R,
-    replies: &Receiver<Reply>,
-    lookout: &mut Lookout,
+    inbox: &mut Inbox,
     places: &mut Vec<Option<StretchAnswer>>,
     workers: u32,
     shares: Shares,
@@ -176,7 +173,7 @@ fn take_stretches<R: Wait>(
         if are_there(places.as_slice(), workers) {
             return Ok(());
         }
-        if let Done::Stretch(done) = next_done(rt, replies, lookout)? {
+        if let Done::Stretch(done) = next_done(rt, inbox)? {
             is_run_taken(places, done, shares);
         }
     }

@@ -4,14 +4,14 @@ ghost use Rattle.std.specs.Prelude.{◌≡◌, ◌+◌, ◌<◌, ◌≤◌, leng
 ghost use Rattle.road_plan.specs.declared.limits.TheConstants.{GREATEST_LENGTH, MOST_WORKERS};
 ghost use Rattle.road_cells.specs.Cars.{cars_of};
 ghost use Rattle.road_workers.specs.Private.Gathered.{AreRun, AreThere, IsMissing, TakesOne};
-ghost use Rattle.road_workers.specs.Private.Stretches.{IsRunOf, cut};
+ghost use Rattle.road_workers.specs.Private.Stretches.{IsJoined, IsRunOf, cut};
 
 use crate::pool::job::{StretchAnswer, StretchDone};
 use crate::pool::sharing::Shares;
-use crate::stretch::joining::beside;
+use crate::stretch::joining::{Joined, beside, with_room};
 use crate::stretch::{is_near, stretch_at};
 use road_cells::Road;
-use road_ends::{Span, Stretch};
+use road_ends::{OutOfMemory, Span, Stretch};
 use road_plan::limits::GREATEST_HORIZON;
 
 // Takes what a stretch of this span comes to where it is still missing: it drops doubles and strangers. Answers whether it
@@ -83,22 +83,22 @@ fn is_asked(done: &StretchDone, span: &Span, road: &Road) -> bool
 // Puts what the stretches come to one behind the other, the caller's own in front.
 pub(super) fn put_side_by_side(
     shares: Shares,
-    front: StretchAnswer,
+    front: Joined,
     places: Vec<Option<StretchAnswer>>,
-) -> StretchAnswer
+) -> Result<Joined, OutOfMemory>
     requires few { vec_len places ≤ MOST_WORKERS }
     requires some { 0 < vec_len places }
     requires own { shares.own ≤ 1 }
     requires there { AreThere (vec_len places) places.items }
     requires gathered { AreRun shares.span.now shares.road.now shares.own places.items }
-    requires front { IfOk front (IsRunOf 0 (cut shares.span.now.plan.cells (cars_of shares.road.now)
-        (shares.own + vec_len places) shares.own) shares.span.now shares.road.now) }
-    ensures { IfOk result (IsRunOf 0 shares.entry.span.now.plan.cells shares.entry.span.now shares.entry.road.now) }
+    requires front { IsJoined (cut shares.span.now.plan.cells (cars_of shares.road.now)
+        (shares.own + vec_len places) shares.own) shares.span.now shares.road.now front }
+    ensures { IfOk result (IsJoined shares.entry.span.now.plan.cells shares.entry.span.now shares.entry.road.now) }
 {
+    let mut whole = with_room(front, cars_behind(places.as_slice(), shares));
     let Shares { span, road, own } = shares;
     let cells = span.plan().length();
     let count = own + places.len() as u32;
-    let mut whole = front;
     let mut place = own;
     for answer in places {
         let stretch = stretch_at(road, cells, count, place);
@@ -108,21 +108,37 @@ pub(super) fn put_side_by_side(
     whole
 }
 
+// Counts the cars that stand on the stretches of all workers after the span.
+fn cars_behind(places: &[Option<StretchAnswer>], shares: Shares) -> usize
+    requires few { length places.now ≤ MOST_WORKERS }
+    requires own { shares.own ≤ 1 }
+{
+    let workers = places.len() as u32;
+    let mut cars = 0usize;
+    for worker in 0..workers {
+        if let Some(Ok(ran)) = &places[worker as usize] {
+            let stretch = shares.stretch_of(workers, worker);
+            cars = cars.saturating_add(ran.road.between(stretch.first, stretch.end).len());
+        }
+    }
+    cars
+}
+
 // Puts what a stretch comes to behind what all before it come to.
 fn put_behind(
     span: &Span,
     road: &Road,
     stretch: Stretch,
-    front: StretchAnswer,
+    front: Result<Joined, OutOfMemory>,
     next: StretchAnswer,
-) -> StretchAnswer
+) -> Result<Joined, OutOfMemory>
     requires order { stretch.first ≤ stretch.end }
-    requires front { IfOk front (IsRunOf 0 stretch.first span.now road.now) }
+    requires front { IfOk front (IsJoined stretch.first span.now road.now) }
     requires next { IfOk next (IsRunOf stretch.first stretch.end span.now road.now) }
-    ensures { IfOk result (IsRunOf 0 stretch.end span.now road.now) }
+    ensures { IfOk result (IsJoined stretch.end span.now road.now) }
 {
     prove!(span.steps() <= GREATEST_HORIZON);
     let front = front?;
     let next = next?;
-    beside(span, road, 0, stretch, front, next)
+    beside(span, road, stretch, front, next)
 }

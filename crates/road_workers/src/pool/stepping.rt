@@ -11,11 +11,10 @@ use crate::faults::CrewFault;
 use crate::piece::{Piece, PieceAnswer, cars_in, list_for};
 use crate::pool::Worker;
 use crate::pool::gathering::{is_taken, put_together};
-use crate::pool::job::{Done, Job, PieceJob, Reply};
-use crate::pool::messages::{next_done, sent};
+use crate::pool::job::{Done, Job, PieceJob};
+use crate::pool::messages::{Inbox, next_done, sent};
 use crate::pool::places::{are_there, places_for};
-use crate::pool::spin::Lookout;
-use crossbeam_channel::{Receiver, Sender};
+use crossbeam_channel::Sender;
 use road_ends::StepInput;
 use std::alloc::Global;
 use std::sync::{Arc, Wait};
@@ -27,8 +26,7 @@ pub(super) fn speeds_by<R: Wait>(
     alloc: Global,
     input: &Arc<StepInput>,
     workers: &[Worker],
-    replies: &Receiver<Reply>,
-    lookout: &mut Lookout,
+    inbox: &mut Inbox,
 ) -> Result<Vec<u8>, CrewFault>
     requires some { 0 < length workers.now }
     requires few { length workers.now ≤ MOST_WORKERS }
@@ -39,7 +37,7 @@ pub(super) fn speeds_by<R: Wait>(
     let whole = list_for(alloc, count, cars)?;
     let mut places = places_for(alloc, count)?;
     let (jobs, all) = send_jobs(rt, input, workers, cars);
-    take_pieces(rt, replies, lookout, &mut places, jobs, input, cars)?;
+    take_pieces(rt, inbox, &mut places, jobs, input, cars)?;
     all?;
     Ok(put_together(whole, places, input)?)
 }
@@ -83,8 +81,7 @@ fn send_job<R: Wait>(
 // Takes what so many workers, from the first on, answer for this step. What comes twice or from elsewhere is dropped.
 fn take_pieces<R: Wait>(
     rt: &R,
-    replies: &Receiver<Reply>,
-    lookout: &mut Lookout,
+    inbox: &mut Inbox,
     places: &mut Vec<Option<PieceAnswer>>,
     workers: u32,
     input: &StepInput,
@@ -103,7 +100,7 @@ fn take_pieces<R: Wait>(
         if are_there(places.as_slice(), workers) {
             return Ok(());
         }
-        if let Done::Piece(done) = next_done(rt, replies, lookout)? {
+        if let Done::Piece(done) = next_done(rt, inbox)? {
             is_taken(places, done, input, cars);
         }
     }

@@ -1,26 +1,26 @@
-//! What a run comes to on a stretch, cut out of what it comes to with its margins.
+//! What a run with its margins comes to on a stretch.
 
 ghost use Rattle.std.specs.Prelude.{◌≡◌, ℕ, ◌<◌, ◌≤◌, length, slice_index_or, if◌then◌else◌, IfOk};
 ghost use Rattle.road_detector.specs.Passes.{no_totals};
 ghost use Rattle.road_workers.specs.Private.RunsUnderWay.{IsAfter};
 ghost use Rattle.road_workers.specs.Private.Stretches.{IsRunOf, has_site};
 
-use crate::stretch::{StretchRun, has_site};
+use crate::stretch::has_site;
 use road_cells::Road;
 use road_columns::UnderWay;
-use road_detector::Totals;
+use road_detector::{Ran, Totals};
 use road_ends::{OutOfMemory, Span, Stretch};
 use road_plan::Plan;
 use std::alloc::Global;
 
-// Takes the cars of a stretch, and what its detectors have counted, out of a run that has made the steps of a span.
+// Takes the road, and what the detectors of a stretch have counted, out of a run that has made the steps of a span.
 pub(crate) fn cut_out(
     alloc: Global,
     span: &Span,
     near: &Road,
     stretch: Stretch,
     run: &UnderWay,
-) -> Result<StretchRun, OutOfMemory>
+) -> Result<Ran, OutOfMemory>
     requires order { stretch.first ≤ stretch.end }
     requires after { IsAfter stretch.first stretch.end span.now span.now.steps near.now run.now }
     ensures { IfOk result (IsRunOf stretch.first stretch.end span.now near.now) }
@@ -28,9 +28,7 @@ pub(crate) fn cut_out(
     let mut totals = run.totals(alloc)?;
     forget_outside(&mut totals, span.plan(), stretch);
     let road = run.road(alloc)?;
-    let mut cars = Vec::new(alloc);
-    cars.extend_from_slice(road.between(stretch.first, stretch.end))?;
-    Ok(StretchRun { cars, totals })
+    Ok(Ran { road, totals })
 }
 
 // Forgets what detectors have counted whose sites are not on a stretch.

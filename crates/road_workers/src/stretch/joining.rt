@@ -4,50 +4,76 @@ ghost use Rattle.std.specs.Prelude.{◌≡◌, ℕ, ◌+◌, ◌<◌, ◌≤◌,
 ghost use Rattle.road_plan.specs.declared.limits.TheConstants.{GREATEST_HORIZON};
 ghost use Rattle.road_plan.specs.Plan.{IsWithinLimits};
 ghost use Rattle.road_cells.specs.Array.{Array};
-ghost use Rattle.road_ends.specs.Span.{span_road};
+ghost use Rattle.road_ends.specs.Span.{Span, span_road};
 ghost use Rattle.road_detector.specs.Passes.{no_totals, plus, span_totals};
-ghost use Rattle.road_workers.specs.Private.Stretches.{IsRunOf};
+ghost use Rattle.road_workers.specs.Private.Stretches.{IsJoined, IsRunOf};
 
-use crate::stretch::StretchRun;
-use road_cells::Road;
+use road_cells::{Car, Road};
 use road_detector::{Ran, Totals};
 use road_ends::{OutOfMemory, Span, Stretch};
 use std::alloc::Global;
 
+// What stretches side by side come to, from the first cell on: their cars in one list, and what each detector has
+// counted, those elsewhere nothing.
+#[derive(Drop)]
+pub(crate) struct Joined {
+    pub cars: Vec<Car>,
+    pub totals: Vec<Totals>,
+}
+
 // Makes what no stretch at all comes to, before the first cell.
-pub(crate) fn nothing_run(alloc: Global, span: &Span) -> Result<StretchRun, OutOfMemory>
-    ensures { IfOk result (λ run. (a : Array) → IsRunOf 0 0 span.now a run) }
+pub(crate) fn nothing_joined(alloc: Global, span: &Span) -> Result<Joined, OutOfMemory>
+    ensures { IfOk result (λ joined. (a : Array) → IsJoined 0 span.now a joined) }
 {
     let detectors = span.plan().detectors().len();
-    Ok(StretchRun {
+    Ok(Joined {
         cars: Vec::new(alloc),
         totals: vec![in alloc; Totals { cars: 0, speeds: 0 }; detectors]?,
     })
 }
 
-// Puts what a stretch comes to behind what those before it, which begin at the cell `first`, come to.
+// Begins with what the first stretch comes to, which ends before a cell: its list of cars is kept, without those that
+// stand farther on.
+pub(crate) fn first_joined(ran: Ran, end: u32) -> Joined
+    ensures { (span : Span) (a : Array) → IsRunOf 0 end span a ran → IsJoined end span a result }
+{
+    let Ran { road, totals } = ran;
+    let there = road.cars_before(end);
+    let mut cars = road.into_cars();
+    cars.truncate(there);
+    Joined { cars, totals }
+}
+
+// Makes room for so many more cars.
+pub(crate) fn with_room(joined: Joined, more: usize) -> Result<Joined, OutOfMemory>
+    ensures { (end : ℕ) (span : Span) (a : Array) → IsJoined end span a joined → IfOk result (IsJoined end span a) }
+{
+    let Joined { mut cars, totals } = joined;
+    cars.reserve(more)?;
+    Ok(Joined { cars, totals })
+}
+
+// Puts what a stretch comes to behind what those before it come to: of each of its cars a copy.
 pub(crate) fn beside(
     span: &Span,
     road: &Road,
-    first: u32,
     stretch: Stretch,
-    front: StretchRun,
-    run: StretchRun,
-) -> Result<StretchRun, OutOfMemory>
-    requires begins { first ≤ stretch.first }
+    front: Joined,
+    ran: Ran,
+) -> Result<Joined, OutOfMemory>
     requires order { stretch.first ≤ stretch.end }
     requires within_limit { span.now.step + span.now.steps ≤ GREATEST_HORIZON }
-    requires front { IsRunOf first stretch.first span.now road.now front }
-    requires run { IsRunOf stretch.first stretch.end span.now road.now run }
-    ensures { IfOk result (λ both. IsRunOf first stretch.end span.now road.now both) }
+    requires front { IsJoined stretch.first span.now road.now front }
+    requires ran { IsRunOf stretch.first stretch.end span.now road.now ran }
+    ensures { IfOk result (λ both. IsJoined stretch.end span.now road.now both) }
 {
-    let StretchRun {
+    let Joined {
         mut cars,
         mut totals,
     } = front;
-    cars.extend_from_slice(&run.cars)?;
-    add(&mut totals, &run.totals);
-    Ok(StretchRun { cars, totals })
+    cars.extend_from_slice(ran.road.between(stretch.first, stretch.end))?;
+    add(&mut totals, &ran.totals);
+    Ok(Joined { cars, totals })
 }
 
 // Adds what each detector has counted elsewhere.
@@ -67,15 +93,15 @@ fn add(totals: &mut Vec<Totals>, others: &[Totals])
 }
 
 // Makes the road of what all its stretches come to, after a step at least.
-pub(crate) fn ran_of(span: &Span, road: &Road, cells: u32, run: StretchRun) -> Ran
+pub(crate) fn ran_of(span: &Span, road: &Road, cells: u32, joined: Joined) -> Ran
     requires some { 0 < span.now.steps }
     requires cells { cells ≡ span.now.plan.cells }
     requires within { IsWithinLimits span.now.plan }
-    requires run { IsRunOf 0 cells span.now road.now run }
+    requires joined { IsJoined cells span.now road.now joined }
     ensures road { result.road ≡ span_road span.now road.now }
     ensures totals { result.totals.items ≡ span_totals span.now road.now }
 {
-    let StretchRun { cars, totals } = run;
+    let Joined { cars, totals } = joined;
     Ran {
         road: Road::of(cars),
         totals,

@@ -4,7 +4,7 @@ use Rattle.std.specs.Vec.Iter.{into_iter_items}
 use Rattle.std.proofs.lemmas.List.{length-append}
 use Rattle.road_cells.specs.Cars.{cars_of}
 use Rattle.road_workers.specs.Private.Gathered.{IsRunAt}
-use Rattle.road_workers.specs.Private.Stretches.{IsRunOf, cut}
+use Rattle.road_workers.specs.Private.Stretches.{IsJoined, cut}
 use Rattle.road_workers.proofs.Cuts.{cut-last}
 use Rattle.road_workers.proofs.OneMore.{get_or_next}
 use Rattle.road_workers.proofs.pool.side_by_side.put_side_by_side.Goals as goal
@@ -43,7 +43,7 @@ loop-answer-preserved c =
           let on : done + (k + 1) ≡ length (c.loop-answer.yielded ++ answer ∷ []) + k = omega arith in
           subst (λ w. IfSome (slice_index_or (into_iter_items c.next.new.self) k d) (IsRunAt span road n (own + w))) on
           (subst (λ p. IfSome p (IsRunAt span road n (own + (done + (k + 1))))) same (was.rest (k + 1) d (omega arith)));
-      front = subst (λ end. IfOk c.put_behind-whole.result (IsRunOf 0 end span road)) (end ∙ ap (cut span.plan.cells (cars_of road) n) at) c.put_behind-whole.ensures;
+      front = subst (λ end. IfOk c.put_behind-whole.result (IsJoined end span road)) (end ∙ ap (cut span.plan.cells (cars_of road) n) at) c.put_behind-whole.ensures;
     }
 
 pub returns : goal.returns
@@ -55,4 +55,4 @@ returns c =
     let count = c.loop-answer.invariant.count in
     let all : c.args.shares.own + length c.loop-answer.yielded ≡ n = omega arith in
     let last = cut-last span.plan.cells road n (let some = c.requires.some in omega arith) in
-    subst (λ end. IfOk c.loop-answer.whole (IsRunOf 0 end span road)) (ap (cut span.plan.cells (cars_of road) n) all ∙ last) c.loop-answer.invariant.front
+    subst (λ end. IfOk c.loop-answer.whole (IsJoined end span road)) (ap (cut span.plan.cells (cars_of road) n) all ∙ last) c.loop-answer.invariant.front

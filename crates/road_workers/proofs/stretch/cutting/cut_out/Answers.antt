@@ -1,5 +1,5 @@
--- The cars of the road after the span, between the ends of the stretch, and the counts there.
-use Rattle.std.proofs.Common.{◌-◌, ◌++◌, length, ap, subst, sym, if◌then◌else◌, ◌∙◌, arith}
+-- On the stretch the road is that after the span, and so are the counts.
+use Rattle.std.proofs.Common.{◌-◌, length, ap, subst, sym, if◌then◌else◌, ◌∙◌, arith}
 use Rattle.std.specs.List.{slice_index_or}
 use Rattle.road_ends.specs.Laws.{AgreeBetween}
 use Rattle.road_ends.specs.Span.{span_road}
@@ -18,8 +18,7 @@ returns c =
     let counted = c.in_ok-totals.ensures in
     let plan_is = c.deref.ensures ∙ c.plan.ensures.plan in
     record {
-      cars = c.in_ok-extend_from_slice.ensures.items ∙ ap (λ cars. cars ++ c.between.result.now) c.new-cars.ensures.items ∙ c.between.ensures
-          ∙ same_cars first end c.in_ok-road.road (span_road span c.args.near.now) c.requires.order
+      cars = same_cars first end c.in_ok-road.road (span_road span c.args.near.now) c.requires.order
           (subst (λ r. AgreeBetween first end r (span_road span c.args.near.now)) (sym c.in_ok-road.ensures)
           (at_end (span.steps - span.steps) first end c.args.run.now.road (span_road span c.args.near.now) (omega arith) after.road));
       totals = record {

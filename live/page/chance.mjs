@@ -1,0 +1,69 @@
+// View: is it the change, or chance? What is compared is asked over many days: their progress, and
+// means with their intervals in the place of the figures of one day.
+
+import {askDays, daysAsked, daysShown, dropDays, dropOldDays} from "./days.mjs";
+import {$, button, element, headCell, row} from "./elements.mjs";
+import {changeText, halfText, meanText, sureText} from "./estimates.mjs";
+import {store, when} from "./store.mjs";
+import {kmText, timeText} from "./units.mjs";
+
+const overText = () => `Over ${daysAsked()} days`;
+const readText = () => `Means of ${daysAsked()} days: each has drivers of its own, the same on `
+  + "both roads. \u00b1 reaches to both ends of the 95 % interval; where that of a difference has "
+  + "0 in it, the difference may be chance.";
+const NAMES = {vehicle_hours: "Vehicle hours", lost: "Lost demand, cars"};
+
+function nameOf({name}) {
+  const [, detector] = name.split(" ");
+  return NAMES[name] ?? `Cars at ${kmText(store.plan.detectors[detector])} km`;
+}
+
+const cell = (text, small) => element("td", text, {}, element("small", small));
+
+/** The table, with the roads in the order of the one that it stands for. */
+function tableOf({from, to, figures}, isPreview) {
+  const sides = isPreview ? ["before", "after"] : ["after", "before"];
+  const heads = isPreview ? ["now", "then", "change"]
+    : ["mine", "shared", "mine \u2212\u00a0shared"];
+  const lines = figures.map((one) => row(headCell(nameOf(one), "row"),
+    ...sides.map((side) => cell(meanText(one[side]), halfText(one[side]))),
+    cell(changeText(one.difference), sureText(one.difference))));
+  return element("table", "", {className: "over"},
+    element("caption", `${overText()}, ${timeText(from)} to ${timeText(to)}`),
+    element("thead", "", {}, row(element("td"), ...heads.map((head) => headCell(head)))),
+    element("tbody", "", {}, ...lines));
+}
+
+/** One button that asks, stops and goes back, and beside it how far it is. */
+function showAsking(place) {
+  const days = daysShown();
+  if (!place.children.length) {
+    place.append(element("progress", "", {ariaLabel: "Days done"}), element("span"),
+      button("", () => (daysShown() ? dropDays() : askDays())));
+  }
+  const [progress, said, does] = place.children;
+  const isRunning = Boolean(days && !days.said);
+  progress.hidden = said.hidden = !isRunning;
+  Object.assign(progress, {max: daysAsked(), value: days?.done ?? 0});
+  said.textContent = isRunning ? `${days.done} of ${daysAsked()} days` : "";
+  does.textContent = isRunning ? "Stop" : days ? "One day" : overText();
+}
+
+function showDays() {
+  const isPreview = Boolean(store.before);
+  const [asking, table, one] = isPreview ? ["beforeDays", "beforeOver", "beforeFigures"]
+    : ["days", "over", "oneDay"];
+  if (!$(asking)) return;
+  showAsking($(asking));
+  const said = daysShown()?.said;
+  $(one).hidden = Boolean(said);
+  $(table).replaceChildren(...(said ? [
+    element("div", "", {className: "scrolled"}, tableOf(said, isPreview)),
+    element("p", readText(), {className: "hint"})] : []));
+}
+
+export function begin() {
+  when(["days", "before", "me"], showDays);
+  when(["lists"], dropOldDays);
+  showDays();
+}

@@ -1,0 +1,109 @@
+"""The road of a new folder: a plan line, or a freeway in km, of which recipes/freeway makes a plan line and shapes."""
+from __future__ import annotations
+
+import json
+import os
+import subprocess
+import sys
+from dataclasses import dataclass, field
+from pathlib import Path
+from typing import Any
+
+from .asked import Asked, Refused
+from .journal import Broken
+from .lab import Lab
+from .layers import Shape
+
+FREEWAY = Path(__file__).resolve().parents[2] / "recipes" / "freeway" / "run"
+OF_A_PLAN = {"zones", "inlets"}  # that no freeway in km has
+DOING = " .."  # ends a line of progress
+
+
+@dataclass(frozen=True)
+class Planned:
+    """A plan line, what is put and shared from the first on, and who is said to have done so."""
+
+    plan: dict[str, Any]
+    shapes: list[Shape] = field(default_factory=list)
+    name: str = ""
+
+
+def read(path: Path) -> Any:
+    try:
+        text = path.read_bytes()
+    except OSError as fault:
+        raise Broken(f"no plan at {path}: {fault.strerror}") from None
+    try:
+        value = json.loads(text)
+    except (ValueError, RecursionError) as fault:
+        raise Broken(f"{path} is no plan line, and no freeway in km: {fault}") from None
+    if type(value) is not dict:
+        raise Broken(f"{path} is no plan line, and no freeway in km: it is no object of JSON")
+    return value
+
+
+def is_freeway(value: dict[str, Any]) -> bool:
+    return not OF_A_PLAN & value.keys()
+
+
+def planned(path: Path, program: str) -> Planned:
+    """What a file has; `Broken` says why it cannot be read. For a freeway it is measured, for some seconds, by which chances
+    its demand comes in."""
+    value = read(path)
+    if not is_freeway(value):
+        return Planned(value)
+    said = by_recipe(path, program)
+    try:
+        return Planned(said["plan"], [shape_of(one) for one in said["shapes"]], path.name)
+    except Refused as fault:
+        raise Broken(f"{path}: {fault.why}") from None
+
+
+def by_recipe(path: Path, program: str) -> Any:
+    """The plan and the shapes of a freeway in km; what has to be other than it says is told."""
+    said: list[str] = []
+    command = [sys.executable, str(FREEWAY), "--plan", str(path.resolve())]
+    with subprocess.Popen(command, stdout=subprocess.PIPE, stderr=subprocess.PIPE, text=True,
+                          env={**os.environ, "ROAD_LAB": os.path.abspath(program)}) as process:
+        assert process.stdout is not None and process.stderr is not None
+        for line in process.stderr:
+            if line.rstrip().endswith(DOING):
+                print(line, end="", file=sys.stderr, flush=True)
+            else:
+                said.append(line.strip())
+        found = process.stdout.read()
+    if process.returncode:
+        raise Broken(f"{path} is no plan line, and no freeway in km: {' '.join(said[-1:])}")
+    for line in said:
+        print(line, file=sys.stderr, flush=True)
+    return json.loads(found)
+
+
+def shape_of(value: Any) -> Shape:
+    """A shape, checked as that of a tab."""
+    shape: Shape = Asked("gesture", {"shape": value}).shape()
+    return shape
+
+
+def is_another(path: Path, plan: dict[str, Any], kept: Path) -> bool:
+    """Whether a file is of another road than a folder, which keeps a freeway in km beside its plan."""
+    value = read(path)
+    if is_freeway(value):
+        return not kept.exists() or bool(read(kept) != value)
+    return bool({**value, "replicas": 0} != {**plan, "replicas": 0})
+
+
+async def lay(lab: Lab, road: Planned) -> None:
+    """Puts and shares what a freeway begins with, by a seat that is free again afterwards."""
+    if not road.shapes:
+        return
+    index, _ = await lab.join(road.name[:64], "", None)
+    try:
+        for number, shape in enumerate(road.shapes):
+            await lab.puts(index, {}, key=f"plan {number}", note="", shape=shape)
+        await lab.share(index, {}, stamps=None, title="")
+        await lab.give_back(index)
+    except Refused as fault:
+        raise Broken(f"{road.name}: {fault.why}") from None
+    finally:
+        lab.leave(index)

@@ -1,0 +1,171 @@
+"""Two roads over many days: their means and intervals, one such question at a time, gently, and ended with who asks."""
+from __future__ import annotations
+
+import asyncio
+import os
+import statistics
+from pathlib import Path
+from typing import Any
+
+from faulty import Here, soon
+from running import SMALL, Case, new_folder, program, until
+from server.asked import Refused
+from server.settings import Settings
+
+T_OF_2 = 4.302653  # Student's t for 95 % and 2 degrees of freedom, from a printed table
+SPAN = {"from": 20, "to": 200}
+
+
+def runs(process: int) -> bool:
+    """Whether a process is there and has not ended."""
+    try:
+        return Path(f"/proc/{process}/stat").read_text(encoding="ascii").rpartition(")")[2].split()[0] != "Z"
+    except OSError:
+        return False
+
+
+class Days(Case):
+    async def asyncSetUp(self) -> None:
+        self.heard: list[Any] = []
+        self.here = await self.enterAsyncContext(Here())
+        self.here.keeper.listeners.on("days", lambda *news: self.heard.append(news))
+        self.ada, self.ben = await self.here.join("Ada", "Ben")
+
+    def over(self, days: int) -> None:
+        self.here.keeper.settings = Settings(days=days)
+
+    async def change(self, here: Here, seat: int) -> None:
+        """A jam that reaches the inlets, and at one of them another demand."""
+        await here.put(seat, ["block", 50, 60, 1], ["block", 50, 150, 0], ["inflow", 1, 30, 20_000])
+
+    def program_that(self, does: str) -> tuple[str, Path]:
+        """A program in the place of road_lab, that writes into a file beside."""
+        folder = new_folder()
+        path, wrote = folder / "road_lab", folder / "wrote"
+        path.write_text(f"#!/bin/sh\nexport WROTE={wrote}\n{does}\n", encoding="utf-8")
+        path.chmod(0o755)
+        return str(path), wrote
+
+    async def test_means_and_intervals_are_those_of_the_days(self) -> None:
+        """Each day is a road of its own, with another seed, asked for its figures."""
+        days = []
+        for words in (1, 2, 3):
+            async with Here(plan={**SMALL, "words": words}) as here:
+                seat, = await here.join("Ada")
+                await self.change(here, seat)
+                days.append(await here.ask(seat, "figures", of="mine", **SPAN))
+        of_days = {"vehicle_hours": [[day[side]["vehicle_hours"] for day in days] for side in ("before", "after")],
+                   "lost": [[sum(day[side]["lost"]) for day in days] for side in ("before", "after")],
+                   **{f"cars {at}": [[day[side]["detectors"][at][0] for day in days] for side in ("before", "after")]
+                      for at in range(3)}}
+        await self.change(self.here, self.ada)
+        self.over(3)
+        said = await soon(self.here.ask(self.ada, "days", of="mine", **SPAN))
+        self.assertEqual((said["from"], said["to"], said["days"]), (20, 200, 3))
+        self.assertEqual([one["name"] for one in said["figures"]], list(of_days))
+        self.assertGreater(sum(of_days["lost"][1]), sum(of_days["lost"][0]))
+        for one in said["figures"]:
+            before, after = of_days[one["name"]]
+            for side, values in (("before", before), ("after", after),
+                                 ("difference", [late - early for early, late in zip(before, after)])):
+                half = T_OF_2 * statistics.stdev(values) / 3 ** 0.5
+                self.assertAlmostEqual(one[side][0], statistics.mean(values), 6, (one["name"], side))
+                self.assertAlmostEqual(one[side][1], half, 4, (one["name"], side))
+        self.assertEqual(self.heard, [(self.ada, done, 3) for done in (1, 2, 3)])
+
+    async def test_a_preview_is_compared_too_and_nothing_is_written(self) -> None:
+        await self.change(self.here, self.ada)
+        await self.here.ask(self.ada, "preview", what="share")
+        entries = self.here.entries()
+        self.over(2)
+        of_both = [await soon(self.here.ask(self.ada, "days", of=of, **SPAN)) for of in ("preview", "mine")]
+        self.assertEqual(*of_both)
+        self.assertEqual(self.here.entries(), entries)
+
+    async def test_steady_words_have_one_day(self) -> None:
+        async with Here(plan={**SMALL, "words": "steady"}) as here:
+            seat, = await here.join("Ada")
+            with self.assertRaises(Refused) as caught:
+                await here.ask(seat, "days", of="mine", **SPAN)
+        self.assertIn("steady, drawn by no seed: it has one day", caught.exception.why)
+
+    async def test_it_is_nice_and_leaves_a_processor_free(self) -> None:
+        before = self.here.keeper.path
+        self.here.keeper.path, wrote = self.program_that(
+            f'echo "$(nice) $(grep Cpus_allowed_list /proc/self/status | cut -f2)" >> $WROTE; exec {program()}')
+        self.over(2)
+        await soon(self.here.ask(self.ada, "days", of="mine", **SPAN))
+        niceness, places = zip(*(line.split() for line in wrote.read_text().splitlines()))
+        self.assertEqual(set(niceness), {str(os.nice(0) + 10)})
+        mine = os.sched_getaffinity(0)
+        allowed = set().union(*(range(int(part.split("-")[0]), int(part.split("-")[-1]) + 1)
+                                for part in places[0].split(",")))
+        self.assertEqual(allowed, mine - {min(mine)} if len(mine) > 1 else mine)
+        wrote.unlink()  # and so are the figures of a day
+        await soon(self.here.ask(self.ada, "figures", of="mine", **SPAN))
+        self.assertEqual({line.split()[0] for line in wrote.read_text().splitlines()}, {str(os.nice(0) + 5)})
+        self.here.keeper.path = before
+
+    async def asks(self, seat: int) -> tuple[asyncio.Future[Any], list[int]]:
+        """A question that has no answer, and the processes that run for it."""
+        self.here.keeper.path, wrote = self.program_that("echo $$ >> $WROTE; exec sleep 1000")
+        question = asyncio.ensure_future(self.here.ask(seat, "days", of="mine", **SPAN))
+
+        async def begun() -> bool:
+            return wrote.exists() and wrote.read_text().endswith("\n")
+        await until(begun, "it runs", 20)
+        return question, list(map(int, wrote.read_text().split()))
+
+    async def ended(self, question: asyncio.Future[Any], processes: list[int]) -> None:
+        with self.assertRaises(Refused) as caught:
+            await soon(question)
+        self.assertEqual(caught.exception.text, "stopped")
+
+        async def gone() -> bool:
+            return not any(map(runs, processes))
+        await until(gone, "nothing runs for it any more", 20)
+
+    async def test_one_question_at_a_time_and_who_asks_is_told(self) -> None:
+        question, processes = await self.asks(self.ada)
+        with self.assertRaises(Refused) as caught:
+            await soon(self.here.ask(self.ben, "days", of="mine", **SPAN))
+        self.assertEqual(caught.exception.text, "busy")
+        self.assertIn("Ada asks about 20 days just now, of which 0 are done", caught.exception.why)
+        self.assertEqual(await soon(self.here.ask(self.ben, "days", of=None)), {"stopped": False})
+        await soon(self.here.put(self.ben, ["limit", 2, 50, 3]))  # who edits does not wait for it
+        other, more = await self.asks(self.ada)  # her next one takes its place
+        await self.ended(question, processes)
+        self.assertEqual(await soon(self.here.ask(self.ada, "days", of=None)), {"stopped": True})
+        await self.ended(other, more)
+
+    async def test_it_ends_when_who_asks_leaves(self) -> None:
+        question, processes = await self.asks(self.ada)
+        self.here.questions.left(self.ben)
+        self.assertFalse(question.done())
+        self.here.questions.left(self.ada)
+        await self.ended(question, processes)
+        self.here.keeper.path = str(program())
+        self.over(2)  # and another may ask
+        await soon(self.here.ask(self.ben, "days", of="mine", **SPAN))
+
+
+class Leaving(Case):
+    async def test_a_tab_that_goes_is_one_who_leaves(self) -> None:
+        server = self.server()
+        async with server.seat("Ben") as ben:
+            async with server.seat("Ada") as ada:
+                await ada.say("clock", to=3_600)
+                await ben.ask("advance", to=3_600)
+                asked = asyncio.ensure_future(ada.reply("days", at=ada.at, of="mine", **{"from": 0, "to": 3_600}))
+                await ada.reply("ping")  # (what she asks is begun in its order)
+                busy = await self.refusal(ben)
+                self.assertIn("Ada asks about 20 days", busy)
+                asked.cancel()
+
+            async def free() -> bool:
+                return (await self.refusal(ben)) == ""
+            await until(free, "she has left", 20)
+
+    async def refusal(self, seat: Any) -> str:
+        said = await seat.reply("days", at=seat.at, of="mine", **{"from": 0, "to": 60})
+        return str(said.get("why", ""))

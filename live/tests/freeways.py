@@ -1,0 +1,84 @@
+"""The road of a new folder: a plan line, or a freeway in km with its works, and files that are neither."""
+from __future__ import annotations
+
+import json
+import subprocess
+import sys
+from importlib.machinery import SourceFileLoader
+from pathlib import Path
+from typing import Any
+
+from running import LIVE, SMALL, Case, new_folder, program
+
+FREEWAY = LIVE.parent / "recipes" / "freeway"
+KM: dict[str, Any] = {
+    "length": 1.5, "main": 900, "ramps": [], "minutes": 15, "stretch": [0.3, 0.6], "detectors": [0.75],
+    "sections": [{"first": 0.9, "last": 1.2, "begin": 4, "end": 8, "limit": 54, "slowing": 0.4}, [1.05, 1.2, 5, 6, 27]],
+    "stalled": [[0.6, 9, 10]]}
+
+
+class Freeways(Case):
+    async def test_a_freeway_in_km_is_the_recipes_road(self) -> None:
+        """Rows beside those of the edits that the recipe makes of the same figures."""
+        server = self.server(plan=KM)
+        async with server.seat() as ada:
+            await ada.ask("take", message="shared")
+            await ada.say("clock", to=900)
+            await ada.ask("advance", to=900)
+            rows = (await ada.ask("diagram", **{"from": 0, "to": 900}))["rows"]
+            plan = {**ada.welcome["plan"], "replicas": ["A"]}
+            lines = (await ada.ask("layers", at="shared", **{"from": 0}))["layers"]
+            self.assertEqual({line["who"] for line in lines}, {"plan.json"})
+            self.assertEqual(len(lines), 4)
+            self.assertEqual([one["name"] for one in (await ada.say("seats"))["seats"]], ["Ada"])
+        puts = self.of_recipe(server.folder / "plan.json").puts
+        script = [plan, *({"edit": {"at": "A", "object": [kind, index], "step": step, "value": value}}
+                          for kind, index, step, value in puts),
+                  {"advance": {"at": "A", "to": 900}}, {"diagram": {"at": "A", "from": 0, "to": 900}}]
+        ran = subprocess.run([program()], input="".join(json.dumps(line) + "\n" for line in script).encode(),
+                             stdout=subprocess.PIPE, check=True)
+        self.assertEqual(rows, json.loads(ran.stdout.splitlines()[-1])["rows"])
+        self.assertTrue(any("#" in row for row in rows) and plan["inlets"][0][1] > 0)
+        # The same file again starts the same road, at once; another one is told.
+        server.stop()
+        server.start()
+        self.assertNotIn("another plan", server.said())
+        server.stop()
+        (server.folder / "plan.json").write_text(json.dumps({**KM, "main": 800}), encoding="utf-8")
+        server.start()
+        self.assertIn("has another plan than", server.said())
+
+    def of_recipe(self, path: Path) -> Any:
+        """The recipe's road in cells and steps."""
+        for folder in (FREEWAY, FREEWAY.parent / "python"):
+            sys.path.insert(0, str(folder))
+            self.addCleanup(sys.path.remove, str(folder))
+        run = SourceFileLoader("run_of_freeway", str(FREEWAY / "run")).load_module()
+        return run.roads_of(run.FIGURES.replaced(path), None)[0]
+
+    def test_what_cannot_be_read_is_refused_and_leaves_nothing(self) -> None:
+        free: dict[str, Any] = {**KM, "main": 0}
+        for text, said in (
+                ("", "is no plan line, and no freeway in km"), ("[1]", "it is no object of JSON"),
+                ('{"length": 3}', "has no sections"), (json.dumps({**free, "lanes": 3}), "has 'lanes': the figures are"),
+                (json.dumps({**free, "ramps": [[7, 100]]}), "the ramp at 7 km is not on the road"),
+                (json.dumps({**free, "sections": [[1, 0.9, 4, 8, 54]]}), "from is before to"),
+                (json.dumps({**free, "sections": [[0.9, 1.2, -4, 8, 54]]}), "minute -4 to 8: from is before to"),
+                (json.dumps({**SMALL, "zones": [[12, 0]]}), "the program refuses the plan")):
+            folder = new_folder()
+            (folder / "road.json").write_text(text, encoding="utf-8")
+            ran = subprocess.run([LIVE / "serve", "--folder", folder / "new", "--port", "0", folder / "road.json"],
+                                 stdout=subprocess.PIPE, stderr=subprocess.PIPE, text=True, timeout=100, check=False)
+            self.assertEqual(ran.returncode, 1, ran.stderr)
+            self.assertIn("live/serve: ", ran.stderr.splitlines()[-1])
+            self.assertIn(said, ran.stderr.splitlines()[-1])
+            self.assertNotIn("Traceback", ran.stderr)
+            self.assertEqual([path.name for path in folder.iterdir()], ["road.json"], said)
+
+    def test_a_folder_that_was_there_stays(self) -> None:
+        folder = new_folder()
+        (folder / "mine").write_text("kept", encoding="utf-8")
+        ran = subprocess.run([LIVE / "serve", "--folder", folder, "--port", "0", folder / "none.json"],
+                             stderr=subprocess.PIPE, text=True, timeout=100, check=False)
+        self.assertIn("no plan at", ran.stderr)
+        self.assertEqual((folder / "mine").read_text(encoding="utf-8"), "kept")

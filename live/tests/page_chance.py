@@ -1,0 +1,113 @@
+"""Is it the change, or chance? Two browsers that ask over many days: 6 here, 20 without the setting."""
+from __future__ import annotations
+
+import os
+import subprocess
+from typing import Any
+from unittest import mock
+
+from browsers import FREE_ROAD, TOP, BrowserCase, Tab, before_rows
+from running import new_folder
+
+# 1.5 km, a car in some three steps, drivers who dawdle by a seed.
+SEEDED = {**FREE_ROAD, "length": 200, "zone": 200, "words": 1, "zones": [[3, 6_554]], "inlets": [[0, 30_000]]}
+
+
+def over_days(tab: Tab, within: str) -> dict[str, list[str]]:
+    """The table over many days, once it is there: each cell with its small line."""
+    tab.until(lambda: tab.script("return document.querySelector(`${arguments[0]} .over`) !== null", within), "the days")
+    rows = tab.script("return [...document.querySelectorAll(`${arguments[0]} .over tbody tr`)].map((line) => "
+                      "[...line.children].map((one) => one.innerText.replace('\\n', ' ')))", within)
+    return {name: cells for name, *cells in rows}
+
+
+def numbers(cell: str) -> list[float]:
+    """A mean, and how far its interval reaches."""
+    mean, _, half = cell.split(",")[0].partition(" ± ") if "may" in cell else cell.replace(",", "").partition(" ± ")
+    return [float(part.replace("−", "-").replace("+", "").replace(",", "")) for part in (mean, half)]
+
+
+class TwoTabs(BrowserCase):
+    """Two browsers."""
+
+    def over_six(self, plan: dict[str, Any]) -> list[Tab]:
+        with mock.patch.dict(os.environ, {"LIVE_DAYS": "6"}):
+            return self.open(plan)
+
+    def run_a_quarter(self, tab: Tab) -> None:
+        tab.script("ask({clock: {to: 900}})")
+        tab.until(lambda: tab.text("clock") == "0:15:00", "the clock")
+        tab.show(900)
+
+    def closed(self, tab: Tab) -> None:
+        tab.tool("block")
+        tab.in_figures(kmFrom="0.18", kmTo="0.19", timeFrom="0:05", timeTo="0:07")
+
+    def test_mine_beside_shared_and_what_is_looked_at_before(self) -> None:
+        ada, _ = self.over_six(SEEDED)
+        self.run_a_quarter(ada)
+        self.closed(ada)
+        ada.press("Over 6 days")
+        ada.until(lambda: " of 6 days" in ada.text("days"), "how far it is")
+        found = over_days(ada, "#over")
+        self.assertFalse(ada.part("oneDay").is_displayed())
+        self.assertEqual(list(found), ["Vehicle hours", "Lost demand, cars", "Cars at 0.21 km"])
+        self.assertIn("Over 6 days, 0:00:00 to 0:15:00", ada.text("over"))
+        mine, shared, more = map(numbers, found["Vehicle hours"])
+        self.assertAlmostEqual(more[0], mine[0] - shared[0], delta=0.11)
+        # Some 0.4 cars come in a second: in two minutes 50, but those that stand before it.
+        lost = numbers(found["Lost demand, cars"][2])
+        self.assertTrue(5 < lost[0] < 60 and lost[1] < lost[0], lost)
+        # Both roads have the drivers of a day, so the difference is far surer than either.
+        self.assertLess(numbers(found["Cars at 0.21 km"][2])[1], numbers(found["Cars at 0.21 km"][1])[1])
+        ada.press("Share…: Whole road closed")
+        before_rows(ada)
+        ada.press("Over 6 days", "#before")
+        before = over_days(ada, "#before")
+        self.assertEqual(before["Vehicle hours"], [found["Vehicle hours"][place] for place in (1, 0, 2)])
+        ada.press("One day", "#before")
+        self.assertTrue(ada.part("beforeFigures").is_displayed())
+        ada.press("Not now")
+        self.closed(ada)  # another road: the answer was of the one before
+        ada.until(lambda: ada.part("oneDay").is_displayed(), "one day")
+        self.assertEqual(ada.lines("own"), ["Whole road closed 0.18–0.188 km, 0:05:00–0:07:00 private"] * 2)
+
+    def test_it_is_stopped_and_who_asks_is_told(self) -> None:
+        ada, ben = self.over_six(SEEDED)
+        for tab in (ada, ben):
+            self.run_a_quarter(tab)
+        ada.press("Over 6 days")
+        ada.until(lambda: " of 6 days" in ada.text("days"), "it runs")
+        ben.press("Over 6 days")
+        ben.until(lambda: "Ada asks about 6 days just now" in ben.text("said"), "he is told who asks")
+        self.assertEqual(ben.text("days"), "Over 6 days")
+        ada.press("Stop")
+        ada.until(lambda: ada.text("days") == "Over 6 days", "it is stopped")
+        self.assertNotIn("stopped", ada.text("said"))
+        ben.press("Over 6 days")
+        self.assertEqual(over_days(ben, "#over")["Vehicle hours"][2], "0 the same each day")
+
+    def test_what_is_saved_of_both_roads_is_compared_as_it_is(self) -> None:
+        ada, = self.over_six(SEEDED)[:1]
+        self.run_a_quarter(ada)
+        self.closed(ada)
+        saved = [ada.save("Script", "script_mine.jsonl")]
+        ada.script("document.querySelector('input[name=whose][value=shared]').click()")
+        ada.settled()
+        saved.append(ada.save("Script", "script_shared.jsonl"))
+        hours = ada.script("return [...document.querySelectorAll('#figures tbody tr')].find((line) => "
+                           "line.firstChild.textContent === 'Vehicle hours').lastChild.textContent")
+        for words in ([], ["--days", "2"]):
+            ran = subprocess.run([TOP / "recipes" / "delay" / "run", *words, "--out", new_folder(), *reversed(saved)],
+                                 stdout=subprocess.PIPE, stderr=subprocess.PIPE, text=True, check=False)
+            self.assertEqual(ran.returncode, 0, ran.stderr)
+            if not words:
+                rows = dict(line.rsplit(",", 1) for line in ran.stdout.splitlines() if line.startswith("by the cars in all"))
+                self.assertEqual([f"{float(value):+.1f}" for value in rows.values()], [hours.replace("−", "-")])
+
+    def test_a_road_of_one_day_says_so(self) -> None:
+        ada, = self.over_six(FREE_ROAD)[:1]
+        self.run_a_quarter(ada)
+        ada.press("Over 6 days")
+        ada.until(lambda: "it has one day" in ada.text("said"), "it is told")
+        self.assertEqual(ada.text("days"), "Over 6 days")
